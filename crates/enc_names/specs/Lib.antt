@@ -1,0 +1,3 @@
+pub mod LabelEntries
+pub mod Labels
+pub mod Names

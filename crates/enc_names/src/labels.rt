@@ -1,0 +1,98 @@
+//! Labels: the texts by which a client names an encoding.
+ghost use Rattle.std.specs.Prelude.{◌≡◌, IfOk, IsOkUnless};
+ghost use Rattle.enc_names.specs.LabelEntries.{table_of};
+ghost use Rattle.enc_names.specs.Labels.{labels_of, lookup_in, matches, name_labels};
+
+use crate::encoding::Encoding;
+use std::alloc::{AllocError, Global};
+use std::marker::Model;
+
+/// Why labels could not be had.
+#[derive(Clone, Copy, PartialEq, Eq, Debug)]
+pub enum LabelFault {
+    /// A growth of memory was refused.
+    OutOfMemory,
+}
+
+impl From<AllocError> for LabelFault {
+    ghost use Rattle.std.specs.Prelude.{◌≡◌};
+    ghost use Rattle.enc_names.specs.declared.labels.LabelFault.TheVariants.{OutOfMemory};
+
+    ghost from_gives = { λ _ fault. fault ≡ OutOfMemory };
+
+    fn from(_: AllocError) -> LabelFault {
+        LabelFault::OutOfMemory
+    }
+}
+
+/// One label and the encoding that it names.
+#[derive(Drop)]
+struct Label {
+    text: String,
+    encoding: Encoding,
+}
+
+/// Labels in the order in which they count. Contracts see the list of their texts' bytes, each
+/// with its encoding.
+#[derive(Drop)]
+pub struct Labels {
+    entries: Vec<Label>,
+}
+
+impl Model for Labels {
+    ghost use Rattle.enc_names.specs.Labels.{LabelTable};
+
+    ghost Value = { LabelTable };
+
+    ghost use Rattle.enc_names.specs.LabelEntries.{table_of};
+
+    ghost view = { λ s. table_of s.entries.items };
+}
+
+impl Labels {
+    /// The 40 names of the encodings as their own labels, and no other label.
+    pub fn names(alloc: Global) -> Result<Labels, LabelFault>
+        ensures ok { IfOk result (λ labels. labels ≡ name_labels) }
+        ensures err { IsOkUnless result LabelFault.OutOfMemory }
+    {
+        let entries = names_of(alloc, &Encoding::ALL)?;
+        Ok(Labels { entries })
+    }
+
+    /// The encoding of the first label that is the given text, once ASCII whitespace is stripped
+    /// from the text's ends and letters are compared without ASCII case (Encoding Standard, "get
+    /// an encoding").
+    pub fn lookup(&self, label: &[u8]) -> Option<Encoding>
+        ensures { result ≡ lookup_in self.now label.now }
+    {
+        for entry in &self.entries {
+            if is_label(label, entry.text.as_bytes()) {
+                return Some(entry.encoding);
+            }
+        }
+        None
+    }
+}
+
+/// Each encoding's name as its label.
+fn names_of(alloc: Global, encodings: &[Encoding]) -> Result<Vec<Label>, LabelFault>
+    ensures ok { IfOk result (λ entries. table_of entries.items ≡ labels_of encodings.now) }
+    ensures err { IsOkUnless result LabelFault.OutOfMemory }
+{
+    let mut entries = Vec::new(alloc);
+    for encoding in encodings {
+        let text = String::from_str(alloc, encoding.name())?;
+        let encoding = *encoding;
+        entries
+            .push(Label { text, encoding })
+            .map_err(AllocError::from)?;
+    }
+    Ok(entries)
+}
+
+/// Whether the text looked up is this label.
+fn is_label(text: &[u8], label: &[u8]) -> bool
+    ensures { result ≡ matches text.now label.now }
+{
+    text.trim_ascii().eq_ignore_ascii_case(label)
+}

@@ -1,0 +1,16 @@
+//! Names of encodings and their labels, Unicode scalar values, and places in a document's bytes.
+#![tactic(auto)]
+
+mod encoding;
+#[cfg(test)]
+mod examples;
+mod labels;
+mod place;
+mod scalar;
+#[cfg(test)]
+mod tests;
+
+pub use encoding::Encoding;
+pub use labels::{LabelFault, Labels};
+pub use place::Place;
+pub use scalar::Scalar;

@@ -1,0 +1,111 @@
+use crate::{Encoding, Labels, Place, Scalar};
+use std::test::Fail;
+
+/// The names of the Encoding Standard's table, in its order.
+const NAMES: [&str; 40] = [
+    "UTF-8",
+    "IBM866",
+    "ISO-8859-2",
+    "ISO-8859-3",
+    "ISO-8859-4",
+    "ISO-8859-5",
+    "ISO-8859-6",
+    "ISO-8859-7",
+    "ISO-8859-8",
+    "ISO-8859-8-I",
+    "ISO-8859-10",
+    "ISO-8859-13",
+    "ISO-8859-14",
+    "ISO-8859-15",
+    "ISO-8859-16",
+    "KOI8-R",
+    "KOI8-U",
+    "macintosh",
+    "windows-874",
+    "windows-1250",
+    "windows-1251",
+    "windows-1252",
+    "windows-1253",
+    "windows-1254",
+    "windows-1255",
+    "windows-1256",
+    "windows-1257",
+    "windows-1258",
+    "x-mac-cyrillic",
+    "GBK",
+    "gb18030",
+    "Big5",
+    "EUC-JP",
+    "ISO-2022-JP",
+    "Shift_JIS",
+    "EUC-KR",
+    "replacement",
+    "UTF-16BE",
+    "UTF-16LE",
+    "x-user-defined",
+];
+
+#[test]
+fn forty_names_in_the_order_of_the_table(rt: HostRuntime) {
+    for (encoding, name) in Encoding::ALL.iter().zip(NAMES) {
+        assert_eq!(rt; encoding.name(), name);
+    }
+}
+
+#[test]
+fn each_name_is_a_label_in_any_case(rt: HostRuntime) -> Result<(), Fail> {
+    let labels = Labels::names(rt.alloc())?;
+    for (encoding, name) in Encoding::ALL.iter().zip(NAMES) {
+        assert_eq!(rt; labels.lookup(name.as_bytes()), Some(*encoding), "{name}");
+        let lower = name.to_ascii_lowercase(rt.alloc())?;
+        assert_eq!(rt; labels.lookup(lower.as_bytes()), Some(*encoding), "{lower}");
+        let upper = name.to_ascii_uppercase(rt.alloc())?;
+        assert_eq!(rt; labels.lookup(upper.as_bytes()), Some(*encoding), "{upper}");
+    }
+    Ok(())
+}
+
+#[test]
+fn label_in_whitespace_and_unknown_label(rt: HostRuntime) -> Result<(), Fail> {
+    let labels = Labels::names(rt.alloc())?;
+    let cases: [(&[u8], Option<Encoding>); 6] = [
+        (b" Shift_JIS\t", Some(Encoding::ShiftJis)),
+        (b"\t\n\x0c\r utf-8 \r\x0c\n\t", Some(Encoding::Utf8)),
+        (b"sjis", None),
+        (b"\x0butf-8", None),
+        (b"", None),
+        (b"utf-8\x00", None),
+    ];
+    for (label, wanted) in cases {
+        assert_eq!(rt; labels.lookup(label), wanted);
+    }
+    Ok(())
+}
+
+#[test]
+fn scalar_values_leave_out_surrogates(rt: HostRuntime) {
+    let cases = [
+        (0, true),
+        (0xd7ff, true),
+        (0xd800, false),
+        (0xdfff, false),
+        (0xe000, true),
+        (0x10ffff, true),
+        (0x110000, false),
+        (u32::MAX, false),
+    ];
+    for (value, is_scalar) in cases {
+        let scalar = Scalar::new(value);
+        assert_eq!(rt; scalar.is_some(), is_scalar, "{value:x}");
+        if let Some(scalar) = scalar {
+            assert_eq!(rt; scalar.get(), value);
+            assert_eq!(rt; Scalar::from(scalar.to_char()), scalar);
+        }
+    }
+}
+
+#[test]
+fn place_is_its_two_ends(rt: HostRuntime) {
+    let place = Place { from: 2, to: 5 };
+    assert_eq!(rt; (place.from, place.to), (2, 5));
+}
