@@ -1,0 +1,4 @@
+pub mod Running
+pub mod Driving
+pub mod Showing
+pub mod Collecting

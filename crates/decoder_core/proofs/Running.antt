@@ -1,0 +1,222 @@
+-- The laws of runs, for every table with falling weight.
+use Rattle.std.proofs.Common.{◌≡◌, ◌≢◌, ℕ, zero, suc, ◌+◌, ◌*◌, ◌<◌, List, [], ◌∷◌, ◌++◌, length, Some, refl, sym, ap, ◌∙◌, subst, arith, append_assoc, length-append, ◌⊎◌, inl, inr}
+use Rattle.decoder_core.specs.declared.item.Ended.{Ended}
+use Rattle.decoder_core.specs.declared.handler.Answer.{Answer}
+use Rattle.decoder_core.specs.declared.handler.Answer.TheVariants.{Nothing, Gives, Finished}
+use Rattle.decoder_core.specs.Queue.{Table, Runs, Fed, Falls, front, turn_at, queue_after, told, turns, run, fed_after, feed_for, feed, further, finished, nothing, gives}
+
+-- ---- one answer
+
+told-same : (a : Answer) (left : ℕ) (x y : List Ended) → (a ≢ Finished → x ≡ y) → told a left x ≡ told a left y
+told-same Nothing left x y same = same (λ e. cc)
+told-same (Gives i) left x y same = ap (λ (out : List Ended). record { item = i; back = left } ∷ out) (same (λ e. cc))
+told-same Finished left x y same = refl
+
+fed-same : {S : Type 0} (a : Answer) (left : ℕ) (next : S) (x y : Fed S) → (a ≢ Finished → x ≡ y) → fed_after a left next x ≡ fed_after a left next y
+fed-same Nothing left next x y same = same (λ e. cc)
+fed-same (Gives i) left next x y same = ap (λ (f : Fed _). fed_after (Gives i) left next f) (same (λ e. cc))
+fed-same Finished left next x y same = refl
+
+-- what two feeds in a row do: n bytes are behind the first
+abbrev joined : {S : Type 0} → ℕ → Fed S → (S → Fed S) → Fed S
+joined n x then = record { state = (then x.state).state; items = further n x.items ++ (then x.state).items }
+
+fed-joined : {S : Type 0} (a : Answer) (left n : ℕ) (next : S) (x : Fed S) (then : S → Fed S) → a ≢ Finished
+    → fed_after a (left + n) next (joined n x then) ≡ joined n (fed_after a left next x) then
+fed-joined Nothing left n next x then going = refl
+fed-joined (Gives i) left n next x then going = refl
+fed-joined Finished left n next x then going = absurd (going refl)
+
+told-joined : {S : Type 0} (a : Answer) (left n : ℕ) (next : S) (x : Fed S) (then : S → List Ended) → a ≢ Finished
+    → told a (left + n) (further n x.items ++ then x.state) ≡ further n (fed_after a left next x).items ++ then (fed_after a left next x).state
+told-joined Nothing left n next x then going = refl
+told-joined (Gives i) left n next x then going = refl
+told-joined Finished left n next x then going = absurd (going refl)
+
+module _ {S : Type 0} (table : Table S) (f : Falls table) where
+  -- ---- the number of turns
+
+  turns-enough : (n m : ℕ) (s : S) (q : List ℕ) → 8 * length q + f.held s < n → 8 * length q + f.held s < m → turns table n s q ≡ turns table m s q
+  unfolding turns
+  turns-enough zero m s q less _ = absurd (omega arith)
+  turns-enough (suc n) zero s q _ less = absurd (omega arith)
+  turns-enough (suc n) (suc m) s q below_n below_m =
+      told-same (turn_at table s q).answer (length (queue_after table s q)) _ _
+      (λ going.
+      let fall = f.falls s q going in
+      turns-enough n m (turn_at table s q).state (queue_after table s q) (omega arith) (omega arith))
+
+  pub run-turn : (s : S) (q : List ℕ)
+      → run table s q ≡ told (turn_at table s q).answer (length (queue_after table s q)) (run table (turn_at table s q).state (queue_after table s q))
+  unfolding run turns
+  run-turn s q =
+      let one : 8 * length q + 32 ≡ suc (8 * length q + 31) = omega arith in
+      ap (λ n. turns table n s q) one
+      ∙ told-same (turn_at table s q).answer (length (queue_after table s q)) _ _
+      (λ going.
+      let fall = f.falls s q going in
+      let here = f.small s in
+      let there = f.small (turn_at table s q).state in
+      turns-enough (8 * length q + 31) (8 * length (queue_after table s q) + 32) (turn_at table s q).state (queue_after table s q) (omega arith) (omega arith))
+
+  -- ---- the function and the relation
+
+  runs-on : (s : S) (q : List ℕ) (out : List Ended) (a : Answer) → (turn_at table s q).answer ≡ a
+      → (a ≢ Finished → Runs table (turn_at table s q).state (queue_after table s q) out)
+      → Runs table s q (told a (length (queue_after table s q)) out)
+  runs-on s q out Nothing is later = nothing is (later (λ e. cc))
+  runs-on s q out (Gives i) is later = gives is (later (λ e. cc))
+  runs-on s q out Finished is later = finished is
+
+  run_is-within : (n : ℕ) (s : S) (q : List ℕ) → 8 * length q + f.held s < n → Runs table s q (run table s q)
+  run_is-within zero s q less = absurd (omega arith)
+  run_is-within (suc n) s q less =
+      subst (λ (out : List Ended). Runs table s q out) (sym (run-turn s q))
+      (runs-on s q _ (turn_at table s q).answer refl
+      (λ going.
+      let fall = f.falls s q going in
+      run_is-within n (turn_at table s q).state (queue_after table s q) (omega arith)))
+
+  pub run_is : (s : S) (q : List ℕ) → Runs table s q (run table s q)
+  run_is s q = run_is-within (suc (8 * length q + f.held s)) s q (omega arith)
+
+  pub run_only : {s : S} {q : List ℕ} {out : List Ended} → Runs table s q out → out ≡ run table s q
+  run_only {s = s} {q = q} (finished is) =
+      sym (run-turn s q ∙ ap (λ (a : Answer). told a (length (queue_after table s q)) (run table (turn_at table s q).state (queue_after table s q))) is)
+  run_only {s = s} {q = q} (nothing is later) =
+      run_only later
+      ∙ sym (run-turn s q ∙ ap (λ (a : Answer). told a (length (queue_after table s q)) (run table (turn_at table s q).state (queue_after table s q))) is)
+  run_only {s = s} {q = q} (gives {i = i} is later) =
+      ap (λ (out : List Ended). record { item = i; back = length (queue_after table s q) } ∷ out) (run_only later)
+      ∙ sym (run-turn s q ∙ ap (λ (a : Answer). told a (length (queue_after table s q)) (run table (turn_at table s q).state (queue_after table s q))) is)
+
+  -- ---- feeding
+
+  feed-enough : (n m : ℕ) (s : S) (q : List ℕ) → 8 * length q + f.held s < n → 8 * length q + f.held s < m → feed_for table n s q ≡ feed_for table m s q
+  unfolding feed_for
+  feed-enough zero m s q less _ = absurd (omega arith)
+  feed-enough (suc n) zero s q _ less = absurd (omega arith)
+  feed-enough (suc n) (suc m) s [] below_n below_m = refl
+  feed-enough (suc n) (suc m) s (b ∷ q) below_n below_m =
+      fed-same (table s (Some b)).answer (length (queue_after table s (b ∷ q))) (table s (Some b)).state _ _
+      (λ going.
+      let fall = f.falls s (b ∷ q) going in
+      feed-enough n m (table s (Some b)).state (queue_after table s (b ∷ q)) (omega arith) (omega arith))
+
+  pub feed-nil : (s : S) → feed table s [] ≡ record { state = s; items = [] }
+  unfolding feed feed_for
+  feed-nil s = refl
+
+  pub feed-turn : (s : S) (b : ℕ) (q : List ℕ)
+      → feed table s (b ∷ q)
+      ≡ fed_after (table s (Some b)).answer (length (queue_after table s (b ∷ q))) (table s (Some b)).state
+      (feed table (table s (Some b)).state (queue_after table s (b ∷ q)))
+  unfolding feed feed_for
+  feed-turn s b q =
+      let one : 8 * length (b ∷ q) + 32 ≡ suc (8 * length (b ∷ q) + 31) = omega arith in
+      ap (λ n. feed_for table n s (b ∷ q)) one
+      ∙ fed-same (table s (Some b)).answer (length (queue_after table s (b ∷ q))) (table s (Some b)).state _ _
+      (λ going.
+      let fall = f.falls s (b ∷ q) going in
+      let here = f.small s in
+      let there = f.small (table s (Some b)).state in
+      feed-enough (8 * length (b ∷ q) + 31) (8 * length (queue_after table s (b ∷ q)) + 32) (table s (Some b)).state (queue_after table s (b ∷ q))
+      (omega arith) (omega arith))
+
+  -- ---- a decoder that is finished before the end
+
+  pub done-run : (s : S) (b : ℕ) → (table s (Some b)).answer ≡ Finished → (q : List ℕ) → run table (table s (Some b)).state q ≡ []
+  done-run s b is q =
+      run-turn (table s (Some b)).state q
+      ∙ ap (λ (a : Answer). told a (length (queue_after table (table s (Some b)).state q)) (run table (turn_at table (table s (Some b)).state q).state (queue_after table (table s (Some b)).state q))) (f.stays s b is (front q)).0
+
+  pub done-feed : (s : S) (b : ℕ) → (table s (Some b)).answer ≡ Finished → (q : List ℕ) → feed table (table s (Some b)).state q ≡ record { state = (table s (Some b)).state; items = [] }
+  done-feed s b is [] = feed-nil (table s (Some b)).state
+  done-feed s b is (c ∷ q) =
+      feed-turn (table s (Some b)).state c q
+      ∙ ap (λ (a : Answer). fed_after a (length (queue_after table (table s (Some b)).state (c ∷ q))) (table (table s (Some b)).state (Some c)).state (feed table (table (table s (Some b)).state (Some c)).state (queue_after table (table s (Some b)).state (c ∷ q)))) (f.stays s b is (Some c)).0
+      ∙ ap (λ (t : S). record { state = t; items = [] }) (f.stays s b is (Some c)).1
+
+  -- ---- two queues in a row
+
+  feed-over : (s : S) (b : ℕ) (q : List ℕ) → (table s (Some b)).answer ≡ Finished → feed table s (b ∷ q) ≡ record { state = (table s (Some b)).state; items = [] }
+  feed-over s b q over =
+      feed-turn s b q
+      ∙ ap (λ (a : Answer). fed_after a (length (queue_after table s (b ∷ q))) (table s (Some b)).state (feed table (table s (Some b)).state (queue_after table s (b ∷ q)))) over
+
+  run-over : (s : S) (b : ℕ) (q : List ℕ) → (table s (Some b)).answer ≡ Finished → run table s (b ∷ q) ≡ []
+  run-over s b q over =
+      run-turn s (b ∷ q) ∙ ap (λ (a : Answer). told a (length (queue_after table s (b ∷ q))) (run table (table s (Some b)).state (queue_after table s (b ∷ q)))) over
+
+  pub fed_items-told : (a : Answer) (left : ℕ) (next : S) (x : Fed S) → (fed_after a left next x).items ≡ told a left x.items
+  fed_items-told Nothing left next x = refl
+  fed_items-told (Gives i) left next x = refl
+  fed_items-told Finished left next x = refl
+
+  pub fed_state-on : (a : Answer) (left : ℕ) (next : S) (x : Fed S) → a ≢ Finished → (fed_after a left next x).state ≡ x.state
+  fed_state-on Nothing left next x going = refl
+  fed_state-on (Gives i) left next x going = refl
+  fed_state-on Finished left next x going = absurd (going refl)
+
+  decide : (a : Answer) → (a ≡ Finished) ⊎ (a ≢ Finished)
+  decide Nothing = inr (λ e. cc)
+  decide (Gives i) = inr (λ e. cc)
+  decide Finished = inl refl
+
+  -- the queue after a turn, where more bytes stand behind the queue
+  behind-more : (s : S) (b : ℕ) (q rest : List ℕ) → queue_after table s (b ∷ (q ++ rest)) ≡ queue_after table s (b ∷ q) ++ rest
+  behind-more s b q rest = sym (append_assoc (table s (Some b)).back q rest)
+
+  feed-append-within : (n : ℕ) (s : S) (q rest : List ℕ) → 8 * length q + f.held s < n
+      → feed table s (q ++ rest) ≡ joined (length rest) (feed table s q) (λ (t : S). feed table t rest)
+  feed-append-within zero s q rest less = absurd (omega arith)
+  feed-append-within (suc n) s [] rest less = ap (λ (x : Fed S). joined (length rest) x (λ (t : S). feed table t rest)) (sym (feed-nil s))
+  feed-append-within (suc n) s (b ∷ q) rest less =
+      let next = (table s (Some b)).state in
+      let left = queue_after table s (b ∷ q) in
+      elim (decide (table s (Some b)).answer) [
+        | inl over ↦
+            feed-over s b (q ++ rest) over ∙ sym (done-feed s b over rest) ∙ ap (λ (x : Fed S). joined (length rest) x (λ (t : S). feed table t rest)) (sym (feed-over s b q over))
+        | inr going ↦
+            let fall = f.falls s (b ∷ q) going in
+            let more : length (left ++ rest) ≡ length left + length rest = length-append left rest in
+            feed-turn s b (q ++ rest)
+            ∙ ap (λ (x : List ℕ). fed_after (table s (Some b)).answer (length x) next (feed table next x)) (behind-more s b q rest)
+            ∙ ap (λ (k : ℕ). fed_after (table s (Some b)).answer k next (feed table next (left ++ rest))) more
+            ∙ ap (λ (x : Fed S). fed_after (table s (Some b)).answer (length left + length rest) next x) (feed-append-within n next left rest (omega arith))
+            ∙ fed-joined (table s (Some b)).answer (length left) (length rest) next (feed table next left) (λ (t : S). feed table t rest) going
+            ∙ ap (λ (x : Fed S). joined (length rest) x (λ (t : S). feed table t rest)) (sym (feed-turn s b q))
+      ]
+
+  pub feed-append : (s : S) (q rest : List ℕ)
+      → feed table s (q ++ rest)
+      ≡ record {
+        state = (feed table (feed table s q).state rest).state;
+        items = further (length rest) (feed table s q).items ++ (feed table (feed table s q).state rest).items;
+      }
+  feed-append s q rest = feed-append-within (suc (8 * length q + f.held s)) s q rest (omega arith)
+
+  run_feed-within : (n : ℕ) (s : S) (q rest : List ℕ) → 8 * length q + f.held s < n
+      → run table s (q ++ rest) ≡ further (length rest) (feed table s q).items ++ run table (feed table s q).state rest
+  run_feed-within zero s q rest less = absurd (omega arith)
+  run_feed-within (suc n) s [] rest less = ap (λ (x : Fed S). further (length rest) x.items ++ run table x.state rest) (sym (feed-nil s))
+  run_feed-within (suc n) s (b ∷ q) rest less =
+      let next = (table s (Some b)).state in
+      let left = queue_after table s (b ∷ q) in
+      elim (decide (table s (Some b)).answer) [
+        | inl over ↦
+            run-over s b (q ++ rest) over ∙ sym (done-run s b over rest) ∙ ap (λ (x : Fed S). further (length rest) x.items ++ run table x.state rest) (sym (feed-over s b q over))
+        | inr going ↦
+            let fall = f.falls s (b ∷ q) going in
+            let more : length (left ++ rest) ≡ length left + length rest = length-append left rest in
+            run-turn s (b ∷ (q ++ rest))
+            ∙ ap (λ (x : List ℕ). told (table s (Some b)).answer (length x) (run table next x)) (behind-more s b q rest)
+            ∙ ap (λ (k : ℕ). told (table s (Some b)).answer k (run table next (left ++ rest))) more
+            ∙ ap (λ (x : List Ended). told (table s (Some b)).answer (length left + length rest) x) (run_feed-within n next left rest (omega arith))
+            ∙ told-joined (table s (Some b)).answer (length left) (length rest) next (feed table next left) (λ (t : S). run table t rest) going
+            ∙ ap (λ (x : Fed S). further (length rest) x.items ++ run table x.state rest) (sym (feed-turn s b q))
+      ]
+
+  pub run_feed : (s : S) (q rest : List ℕ)
+      → run table s (q ++ rest) ≡ further (length rest) (feed table s q).items ++ run table (feed table s q).state rest
+  run_feed s q rest = run_feed-within (suc (8 * length q + f.held s)) s q rest (omega arith)

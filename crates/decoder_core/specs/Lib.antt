@@ -1,0 +1,14 @@
+pub mod Alone
+pub mod ByCases
+pub mod Collected
+pub mod Counts
+pub mod Few
+pub mod Held
+pub mod Pending
+pub mod Placed
+pub mod Queue
+pub mod Seen
+pub mod Shown
+pub mod Text
+pub mod Utf8
+pub mod Utf8Laws

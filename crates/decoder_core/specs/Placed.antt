@@ -1,0 +1,10 @@
+-- Places of items in a document.
+use Rattle.std.specs.Prelude.{ℕ, ◌-◌, List, [], ◌∷◌}
+use Rattle.decoder_core.specs.declared.item.Ended.{Ended}
+use Rattle.decoder_core.specs.declared.placed.Placed.{Placed}
+
+-- the items of a run over a queue of `total` bytes: each ends at the length less what is left behind it, and begins where the one before
+-- ends, the first at `from`
+abbrev pub places : ℕ → ℕ → List Ended → List Placed
+places total from [] = []
+places total from (e ∷ es) = record { item = e.item; from = from; to = total - e.back } ∷ places total (total - e.back) es

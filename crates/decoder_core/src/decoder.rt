@@ -1,0 +1,62 @@
+//! Decoders, one byte at a time.
+ghost use Rattle.std.specs.Prelude.{◌≡◌, ℕ, Bool, true, List, [], ◌∷◌, Option, IfSome};
+ghost use Rattle.decoder_core.specs.Alone.{alone};
+ghost use Rattle.decoder_core.specs.Queue.{Turn, Falls, run, feed};
+
+use crate::item::Item;
+use crate::items::Items;
+
+/// What one step does: the next state, and the items that it gives, each with the number of bytes
+/// read so far that lie behind its end.
+#[derive(Drop)]
+pub struct Step<S> {
+    pub state: S,
+    pub items: Items,
+}
+
+/// A step that gives at most one item, behind whose end no byte lies.
+#[derive(Clone, Copy, PartialEq, Eq, Debug)]
+pub struct Simple<S> {
+    pub state: S,
+    pub item: Option<Item>,
+}
+
+/// A decoder of the Encoding Standard whose bytes come one at a time: bytes that a handler puts
+/// back are kept in the state, so none is ever handed back. Steps over the bytes of a document and
+/// then `finish` give the Standard's run. A decoder is made by a `Handler`.
+pub trait Decoder {
+    /// Where a decoder stands between two bytes.
+    type State: Copy + Eq;
+
+    ghost table: { Self → Self.State → Option ℕ → Turn Self.State };
+
+    ghost initial: { Self → Self.State };
+
+    /// The state before the first byte.
+    fn start(&self) -> Self::State
+        ensures { result ≡ initial self.now };
+
+    /// Takes one byte.
+    fn step(&self, state: Self::State, byte: u8) -> Step<Self::State>
+        ensures state { result.state ≡ (feed (table self.now) state (byte ∷ [])).state }
+        ensures items { result.items ≡ (feed (table self.now) state (byte ∷ [])).items };
+
+    /// The same step in a small form, where it has one and the decoder knows it at once; most
+    /// steps of most decoders do. `None` says nothing of the step.
+    fn simple_step(&self, state: Self::State, byte: u8) -> Option<Simple<Self::State>>
+        ensures state { IfSome result (λ simple. simple.state ≡ (feed (table self.now) state (byte ∷ [])).state) }
+        ensures items { IfSome result (λ simple. alone simple.item ≡ (feed (table self.now) state (byte ∷ [])).items) }
+    {
+        let _ = (state, byte);
+        None
+    }
+
+    /// Takes the end: the items that are still to come. The state is the one that was given.
+    fn finish(&self, state: Self::State) -> Step<Self::State>
+        ensures state { result.state ≡ state }
+        ensures items { result.items ≡ run (table self.now) state [] };
+
+    ghost ends: { (d : Self) → Falls (table d) };
+
+    ghost exact: { (a b : Self.State) → Self.State.eq a b ≡ true → a ≡ b };
+}

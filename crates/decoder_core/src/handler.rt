@@ -1,0 +1,51 @@
+//! Handlers: one turn of a decoder as the Encoding Standard states it.
+ghost use Rattle.std.specs.Prelude.{◌≡◌, ℕ, Bool, true, Option};
+ghost use Rattle.decoder_core.specs.Queue.{Turn, Falls};
+ghost use Rattle.decoder_core.specs.Counts.{Counts};
+ghost use Rattle.decoder_core.specs.Few.{bytes_of};
+
+use crate::few::Few;
+use crate::item::Item;
+
+/// What a handler answers (Encoding Standard, "Encodings"): continue, an item, or finished.
+#[derive(Clone, Copy, PartialEq, Eq, Debug)]
+pub enum Answer {
+    Nothing,
+    Gives(Item),
+    Finished,
+}
+
+/// What one turn of a handler does: the next state, its answer, and the bytes put back.
+#[derive(Clone, Copy, PartialEq, Eq, Debug)]
+pub struct Handled<S> {
+    pub state: S,
+    pub answer: Answer,
+    pub back: Few,
+}
+
+/// A decoder's handler, as the Encoding Standard states it for each encoding. Each handler is a
+/// `Decoder`.
+pub trait Handler {
+    /// Where a decoder stands between two turns.
+    type State: Copy + Eq;
+
+    ghost table: { Self → Self.State → Option ℕ → Turn Self.State };
+
+    ghost initial: { Self → Self.State };
+
+    /// The state before the first turn.
+    fn start_state(&self) -> Self::State
+        ensures { result ≡ initial self.now };
+
+    /// One turn, which reads a byte or (`None`) the end of the queue.
+    fn turn(&self, state: Self::State, byte: Option<u8>) -> Handled<Self::State>
+        ensures state { result.state ≡ (table self.now state byte).state }
+        ensures answer { result.answer ≡ (table self.now state byte).answer }
+        ensures back { bytes_of result.back ≡ (table self.now state byte).back };
+
+    ghost ends: { (d : Self) → Falls (table d) };
+
+    ghost counts: { (d : Self) → Counts (table d) };
+
+    ghost exact: { (a b : Self.State) → Self.State.eq a b ≡ true → a ≡ b };
+}

@@ -1,0 +1,18 @@
+//! Items: what a decoder gives.
+use enc_names::Scalar;
+
+/// What one turn of a decoder gives (Encoding Standard, "Encodings": one or more code points, or
+/// error). An error stands for U+FFFD in the decoded text.
+#[derive(Clone, Copy, PartialEq, Eq, Debug)]
+pub enum Item {
+    One(Scalar),
+    Two(Scalar, Scalar),
+    Error,
+}
+
+/// An item and the number of bytes read so far that lie behind the item's end.
+#[derive(Clone, Copy, PartialEq, Eq, Debug)]
+pub struct Ended {
+    pub item: Item,
+    pub back: u8,
+}

@@ -1,0 +1,99 @@
+//! The items of one step.
+ghost use Rattle.decoder_core.specs.Alone.{alone};
+ghost use Rattle.std.specs.Prelude.{◌≡◌, ◌+◌, ◌<◌, ◌++◌, [], ◌∷◌, length};
+
+use crate::item::{Ended, Item};
+use std::marker::Model;
+
+/// The storage of a short list: of most steps it is empty or one item, and only then are no eight
+/// pairs written.
+#[derive(Drop)]
+pub enum Held {
+    Zero,
+    One(Ended),
+    More(Many),
+}
+
+/// The first `len` of eight places.
+#[derive(Drop)]
+pub struct Many {
+    pub all: [Ended; 8],
+    pub len: u8,
+}
+
+/// The items of one step, at most eight. Contracts see the list.
+#[derive(Drop)]
+pub struct Items {
+    held: Held,
+}
+
+impl Model for Items {
+    ghost use Rattle.std.specs.Prelude.{List};
+    ghost use Rattle.decoder_core.specs.declared.item.Ended.{Ended};
+    ghost use Rattle.decoder_core.specs.Held.{held_list, HeldFits};
+
+    ghost Value = { List Ended };
+
+    ghost view = { λ s. held_list s.held };
+
+    ghost invariant = { λ s. HeldFits s.held };
+}
+
+impl Items {
+    /// No item.
+    pub fn none() -> Items
+        ensures { result ≡ [] }
+    {
+        Items { held: Held::Zero }
+    }
+
+    /// One item, with the number of bytes read so far that lie behind its end.
+    pub fn one(item: Item, back: u8) -> Items
+        ensures { result ≡ record { item = item; back = back } ∷ [] }
+    {
+        Items {
+            held: Held::One(Ended { item, back }),
+        }
+    }
+
+    /// The item, if there is one, with no byte behind its end.
+    pub fn alone(item: Option<Item>) -> Items
+        ensures { result ≡ alone item }
+    {
+        match item {
+            Some(item) => Items::one(item, 0),
+            None => Items::none(),
+        }
+    }
+
+    /// Adds an item behind the others.
+    pub fn push(&mut self, item: Item, back: u8)
+        requires { length self.old < 8 }
+        ensures { self.new ≡ self.old ++ record { item = item; back = back } ∷ [] }
+    {
+        let next = Ended { item, back };
+        match &mut self.held {
+            Held::Zero => self.held = Held::One(next),
+            Held::One(first) => {
+                let mut all = [next; 8];
+                all[0] = *first;
+                self.held = Held::More(Many { all, len: 2 });
+            }
+            Held::More(many) => {
+                many.all[many.len as usize] = next;
+                many.len += 1;
+            }
+        }
+    }
+
+    /// The items in order.
+    pub fn as_slice(&self) -> &[Ended]
+        ensures { result.now ≡ self.now }
+    {
+        match &self.held {
+            Held::Zero => &[],
+            Held::One(only) => std::slice::from_ref(only),
+            Held::More(many) => &many.all[..many.len as usize],
+        }
+    }
+}

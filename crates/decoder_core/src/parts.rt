@@ -1,0 +1,66 @@
+//! Decoding of bytes that come in parts.
+ghost use Rattle.std.specs.Prelude.{◌≡◌, ℕ, ◌+◌, ◌-◌, ◌^◌, ◌<◌, ◌≤◌, min, length, [], IfOk, OnOk};
+ghost use Rattle.decoder_core.specs.Queue.{feed, run};
+ghost use Rattle.decoder_core.specs.Placed.{places};
+ghost use Rattle.decoder_core.specs.Collected.{Collected, collect, further_on};
+ghost use Rattle.decoder_core.specs.Seen.{seen_of};
+
+use crate::collector::Collector;
+use crate::counts::Meter;
+use crate::decoder::Decoder;
+use crate::memory::OutOfMemory;
+use crate::piece::{give, run_piece};
+use crate::placed::Placed;
+use std::alloc::Global;
+
+/// Decodes the bytes in parts of the given lengths, the last part being what is left: whatever the
+/// parts are, the answer is the Standard's run over all the bytes, with each item's place.
+pub fn decode_parts<D: Decoder>(
+    alloc: Global,
+    decoder: &D,
+    bytes: &[u8],
+    lengths: &[usize],
+    meter: &mut Meter,
+) -> Result<Vec<Placed>, OutOfMemory>
+    ensures items { IfOk result (λ all. all.items ≡ places (length bytes.now) 0 (run (D.table decoder.now) (D.initial decoder.now) bytes.now)) }
+    ensures meter { OnOk result (meter.new ≡ min (meter.old + length bytes.now) (2 ^ 64 - 1)) }
+    ensures meter_least { meter.old ≤ meter.new }
+    ensures meter_most { meter.new ≤ min (meter.old + length bytes.now) (2 ^ 64 - 1) }
+{
+    let mut collector = Collector {
+        all: Vec::new(alloc),
+        base: 0,
+        from: 0,
+    };
+    let mut state = decoder.start();
+    let mut rest = bytes;
+    'parts: for length in lengths {
+        let (part, later) = rest.split_at((*length).min(rest.len()));
+        state = decode_part(decoder, state, part, &mut collector, meter)?;
+        rest = later;
+    }
+    state = decode_part(decoder, state, rest, &mut collector, meter)?;
+    let last = decoder.finish(state);
+    give(last.items.as_slice(), 0, state, &mut collector)?;
+    Ok(collector.all)
+}
+
+/// Decodes the next part.
+fn decode_part<D: Decoder>(
+    decoder: &D,
+    state: D::State,
+    part: &[u8],
+    collector: &mut Collector,
+    meter: &mut Meter,
+) -> Result<D::State, OutOfMemory>
+    requires { collector.old.base + length part.now < 2 ^ 64 }
+    ensures state { IfOk result (λ after. after ≡ (feed (D.table decoder.now) state part.now).state) }
+    ensures items { OnOk result (seen_of collector.new ≡ further_on (collector.old.base + length part.now) (collect (collector.old.base + length part.now) (seen_of collector.old) (feed (D.table decoder.now) state part.now).items)) }
+    ensures meter { OnOk result (meter.new ≡ min (meter.old + length part.now) (2 ^ 64 - 1)) }
+    ensures meter_least { meter.old ≤ meter.new }
+    ensures meter_most { meter.new ≤ min (meter.old + length part.now) (2 ^ 64 - 1) }
+{
+    let after = run_piece(decoder, state, part, collector, meter)?;
+    collector.base += part.len() as u64;
+    Ok(after)
+}

@@ -1,0 +1,288 @@
+//! Worked examples of UTF-8: computed by the definitions, and decoded whole, in two parts for each
+//! cut, and step by step.
+ghost use Rattle.std.specs.Prelude.{◌≡◌, List, [], ◌∷◌};
+ghost use Rattle.enc_names.specs.declared.place.Place.{Place};
+ghost use Rattle.decoder_core.specs.declared.item.Item.TheVariants.{One, Error};
+ghost use Rattle.decoder_core.specs.Queue.{run};
+ghost use Rattle.decoder_core.specs.Placed.{places};
+ghost use Rattle.decoder_core.specs.Text.{code_points, error_places};
+ghost use Rattle.decoder_core.specs.Utf8.{utf8, utf8_start};
+
+use crate::counts::Meter;
+use crate::decoder::Decoder;
+use crate::item::{Ended, Item};
+use crate::items::Items;
+use crate::laws::one_run;
+use crate::makers::meter;
+use crate::memory::OutOfMemory;
+use crate::parts::decode_parts;
+use crate::piece::run_piece;
+use crate::placed::Placed;
+use crate::sink::Sink;
+use crate::utf8::{Utf8Decoder, Utf8State};
+use enc_names::Scalar;
+use std::alloc::{AllocError, Global};
+
+#[tactic(auto, unfolding(crate::specs::Queue::run, crate::specs::Queue::turns))]
+fn no_byte_gives_nothing()
+    ensures { places 0 0 (run utf8 utf8_start []) ≡ [] }
+{}
+
+#[tactic(auto, unfolding(crate::specs::Queue::run, crate::specs::Queue::turns))]
+fn cut_sequence_then_letter()
+    ensures { places 3 0 (run utf8 utf8_start (0xE2 ∷ 0x82 ∷ 0x41 ∷ [])) ≡ record { item = Error; from = 0; to = 2 } ∷ record { item = One 0x41; from = 2; to = 3 } ∷ [] }
+{}
+
+#[tactic(auto, unfolding(crate::specs::Queue::run, crate::specs::Queue::turns))]
+fn cut_sequence_at_the_end()
+    ensures { places 3 0 (run utf8 utf8_start (0xF0 ∷ 0x9F ∷ 0x98 ∷ [])) ≡ record { item = Error; from = 0; to = 3 } ∷ [] }
+{}
+
+#[tactic(auto, unfolding(crate::specs::Queue::run, crate::specs::Queue::turns))]
+fn overlong_nul()
+    ensures { places 2 0 (run utf8 utf8_start (0xC0 ∷ 0x80 ∷ [])) ≡ record { item = Error; from = 0; to = 1 } ∷ record { item = Error; from = 1; to = 2 } ∷ [] }
+{}
+
+#[tactic(auto, unfolding(crate::specs::Queue::run, crate::specs::Queue::turns))]
+fn text_and_error_places()
+    ensures text { code_points (places 3 0 (run utf8 utf8_start (0xE2 ∷ 0x82 ∷ 0x41 ∷ []))) ≡ 0xFFFD ∷ 0x41 ∷ [] }
+    ensures errors { error_places (places 3 0 (run utf8 utf8_start (0xE2 ∷ 0x82 ∷ 0x41 ∷ []))) ≡ record { from = 0; to = 2 } ∷ [] }
+{}
+
+/// An item's code point, or `None` for an error, and its place.
+type Row = (Option<char>, u64, u64);
+
+fn placed(row: &Row) -> Placed {
+    let item = match row.0 {
+        Some(code_point) => Item::One(Scalar::from(code_point)),
+        None => Item::Error,
+    };
+    Placed {
+        item,
+        from: row.1,
+        to: row.2,
+    }
+}
+
+fn is_as_listed(found: &[Placed], rows: &[Row]) -> bool {
+    found.len() == rows.len()
+        && found
+            .iter()
+            .zip(rows.iter())
+            .all(|(a, row)| *a == placed(row))
+}
+
+/// Whether the bytes decode to these rows whole, and in two parts for each cut.
+fn decode_to(alloc: Global, bytes: &[u8], rows: &[Row]) -> Result<bool, AllocError> {
+    let mut count = meter();
+    let whole = decode_parts(alloc, &Utf8Decoder, bytes, &[], &mut count)?;
+    let mut same = is_as_listed(whole.as_slice(), rows);
+    for cut in 0..bytes.len() {
+        let parts = decode_parts(alloc, &Utf8Decoder, bytes, &[cut], &mut count)?;
+        same = same && is_as_listed(parts.as_slice(), rows);
+    }
+    Ok(same)
+}
+
+#[test]
+fn no_byte(rt: HostRuntime) -> Result<(), AllocError> {
+    assert!(rt; decode_to(rt.alloc(), &[], &[])?);
+    Ok(())
+}
+
+#[test]
+fn cut_sequence_then_a(rt: HostRuntime) -> Result<(), AllocError> {
+    assert!(rt;
+        decode_to(
+            rt.alloc(),
+            &[0xE2, 0x82, 0x41],
+            &[(None, 0, 2), (Some('A'), 2, 3)]
+        )?
+    );
+    Ok(())
+}
+
+#[test]
+fn cut_sequence_then_the_end(rt: HostRuntime) -> Result<(), AllocError> {
+    assert!(rt; decode_to(rt.alloc(), &[0xF0, 0x9F, 0x98], &[(None, 0, 3)])?);
+    Ok(())
+}
+
+#[test]
+fn overlong_form_of_nul(rt: HostRuntime) -> Result<(), AllocError> {
+    assert!(rt; decode_to(rt.alloc(), &[0xC0, 0x80], &[(None, 0, 1), (None, 1, 2)])?);
+    Ok(())
+}
+
+#[test]
+fn one_character_of_each_length(rt: HostRuntime) -> Result<(), AllocError> {
+    let rows = [
+        (Some('a'), 0, 1),
+        (Some('\u{E9}'), 1, 3),
+        (Some('\u{20AC}'), 3, 6),
+        (Some('\u{1F600}'), 6, 10),
+    ];
+    assert!(rt; decode_to(rt.alloc(), "a\u{E9}\u{20AC}\u{1F600}".as_bytes(), &rows)?);
+    Ok(())
+}
+
+/// Unicode, chapter 3, "U+FFFD for Non-Shortest Form Sequences".
+#[test]
+fn non_shortest_forms(rt: HostRuntime) -> Result<(), AllocError> {
+    let bytes = [0xC0, 0xAF, 0xE0, 0x80, 0xBF, 0xF0, 0x81, 0x82, 0x41];
+    let rows = [
+        (None, 0, 1),
+        (None, 1, 2),
+        (None, 2, 3),
+        (None, 3, 4),
+        (None, 4, 5),
+        (None, 5, 6),
+        (None, 6, 7),
+        (None, 7, 8),
+        (Some('A'), 8, 9),
+    ];
+    assert!(rt; decode_to(rt.alloc(), &bytes, &rows)?);
+    Ok(())
+}
+
+/// Unicode, chapter 3, "U+FFFD for Ill-Formed Sequences for Surrogates".
+#[test]
+fn surrogates(rt: HostRuntime) -> Result<(), AllocError> {
+    let bytes = [0xED, 0xA0, 0x80, 0xED, 0xBF, 0xBF, 0xED, 0xAF, 0x41];
+    let rows = [
+        (None, 0, 1),
+        (None, 1, 2),
+        (None, 2, 3),
+        (None, 3, 4),
+        (None, 4, 5),
+        (None, 5, 6),
+        (None, 6, 7),
+        (None, 7, 8),
+        (Some('A'), 8, 9),
+    ];
+    assert!(rt; decode_to(rt.alloc(), &bytes, &rows)?);
+    Ok(())
+}
+
+/// Unicode, chapter 3, "U+FFFD for Other Ill-Formed Sequences".
+#[test]
+fn above_10ffff_and_lone_trail_bytes(rt: HostRuntime) -> Result<(), AllocError> {
+    let bytes = [0xF4, 0x91, 0x92, 0x93, 0xFF, 0x41, 0x80, 0xBF, 0x42];
+    let rows = [
+        (None, 0, 1),
+        (None, 1, 2),
+        (None, 2, 3),
+        (None, 3, 4),
+        (None, 4, 5),
+        (Some('A'), 5, 6),
+        (None, 6, 7),
+        (None, 7, 8),
+        (Some('B'), 8, 9),
+    ];
+    assert!(rt; decode_to(rt.alloc(), &bytes, &rows)?);
+    Ok(())
+}
+
+/// Unicode, chapter 3, "U+FFFD for Truncated Sequences".
+#[test]
+fn truncated_sequences(rt: HostRuntime) -> Result<(), AllocError> {
+    let bytes = [0xE1, 0x80, 0xE2, 0xF0, 0x91, 0x92, 0xF1, 0xBF, 0x41];
+    let rows = [
+        (None, 0, 2),
+        (None, 2, 3),
+        (None, 3, 6),
+        (None, 6, 8),
+        (Some('A'), 8, 9),
+    ];
+    assert!(rt; decode_to(rt.alloc(), &bytes, &rows)?);
+    Ok(())
+}
+
+#[test]
+fn a_step_gives_an_item_before_its_byte(rt: HostRuntime) {
+    let pending = Utf8Decoder.step(Utf8Decoder.start(), 0xE2).state;
+    let step = Utf8Decoder.step(pending, 0x41);
+    assert!(rt; step.state == Utf8Decoder.start());
+    let items = step.items.as_slice();
+    let a = Item::One(Scalar::from('A'));
+    let wanted = [
+        Ended {
+            item: Item::Error,
+            back: 1,
+        },
+        Ended { item: a, back: 0 },
+    ];
+    assert!(rt; items.iter().eq(wanted.iter()));
+    assert!(rt;
+        Utf8Decoder.finish(pending).items.as_slice().len() == 1,
+        "one error"
+    );
+    one_run(&Utf8Decoder);
+}
+
+#[test]
+fn eight_items(rt: HostRuntime) {
+    let mut items = Items::none();
+    for back in 0..8 {
+        items.push(Item::Error, back);
+    }
+    let backs = items.as_slice().iter().map(|e| e.back);
+    assert!(rt; backs.eq(0..8));
+}
+
+/// Takes so many items and then refuses.
+#[derive(Drop)]
+struct Bounded {
+    room: u8,
+    ends: [i64; 4],
+}
+
+impl<S: Copy> Sink<S> for Bounded {
+    ghost Seen = { Unit {0} };
+
+    ghost seen = { λ _. tt };
+
+    ghost taken = { λ _ _. tt };
+
+    fn item(&mut self, _item: Item, end: i64, _after: S) -> Result<(), OutOfMemory> {
+        if self.room == 0 {
+            return Err(AllocError);
+        }
+        self.room -= 1;
+        self.ends[3 - self.room as usize % 4] = end;
+        Ok(())
+    }
+}
+
+#[test]
+fn a_refusing_sink_stops_the_run(rt: HostRuntime) {
+    let mut sink = Bounded {
+        room: 2,
+        ends: [0; 4],
+    };
+    let mut count = meter();
+    let outcome = run_piece(
+        &Utf8Decoder,
+        Utf8Decoder.start(),
+        b"abcd",
+        &mut sink,
+        &mut count,
+    );
+    assert!(rt; outcome.is_err());
+    assert_eq!(rt; sink.ends, [0, 0, 1, 2]);
+    assert!(rt; count.decoded() <= 4);
+}
+
+#[test]
+fn ends_are_counted_from_the_piece(rt: HostRuntime) {
+    let mut sink = Bounded {
+        room: 4,
+        ends: [0; 4],
+    };
+    let mut count = meter();
+    let pending = Utf8Decoder.step(Utf8Decoder.start(), 0xE2).state;
+    let outcome = run_piece(&Utf8Decoder, pending, b"ab", &mut sink, &mut count);
+    assert!(rt; outcome.is_ok());
+    assert_eq!(rt; sink.ends, [0, 1, 2, 0]);
+    assert_eq!(rt; count.decoded(), 2);
+}

@@ -1,0 +1,135 @@
+//! How a decoder is made of its handler: turns are taken until the bytes at hand are used up.
+ghost use Rattle.std.specs.Prelude.{◌≡◌, [], ◌∷◌, IfSome};
+ghost use Rattle.decoder_core.specs.Alone.{alone};
+ghost use Rattle.decoder_core.specs.Queue.{run, feed};
+
+use crate::decoder::{Decoder, Simple, Step};
+use crate::few::Few;
+use crate::handler::{Answer, Handled, Handler};
+use crate::items::Items;
+
+impl<H: Handler> Decoder for H {
+    type State = H::State;
+
+    ghost table = { λ d. H.table d };
+
+    ghost initial = { λ d. H.initial d };
+
+    fn start(&self) -> H::State {
+        self.start_state()
+    }
+
+    fn step(&self, state: H::State, byte: u8) -> Step<H::State> {
+        step_by(self, state, byte)
+    }
+
+    fn simple_step(&self, state: H::State, byte: u8) -> Option<Simple<H::State>> {
+        simple_by(self, state, byte)
+    }
+
+    fn finish(&self, state: H::State) -> Step<H::State> {
+        finish_by(self, state)
+    }
+
+    ghost ends = { λ d. H.ends d };
+
+    ghost exact = { H.exact };
+}
+
+/// One step. Most turns put nothing back, and then the step is that turn.
+fn step_by<H: Handler>(handler: &H, state: H::State, byte: u8) -> Step<H::State>
+    ensures state { result.state ≡ (feed (H.table handler.now) state (byte ∷ [])).state }
+    ensures items { result.items ≡ (feed (H.table handler.now) state (byte ∷ [])).items }
+{
+    match simple_by(handler, state, byte) {
+        Some(Simple { state: next, item }) => Step {
+            state: next,
+            items: Items::alone(item),
+        },
+        None => turns_over(handler, state, byte),
+    }
+}
+
+/// One step, if it is one turn.
+fn simple_by<H: Handler>(handler: &H, state: H::State, byte: u8) -> Option<Simple<H::State>>
+    ensures state { IfSome result (λ simple. simple.state ≡ (feed (H.table handler.now) state (byte ∷ [])).state) }
+    ensures items { IfSome result (λ simple. alone simple.item ≡ (feed (H.table handler.now) state (byte ∷ [])).items) }
+{
+    let Handled {
+        state: next,
+        answer,
+        back,
+    } = handler.turn(state, Some(byte));
+    match (answer, back) {
+        (Answer::Nothing, Few::Zero) => Some(Simple {
+            state: next,
+            item: None,
+        }),
+        (Answer::Gives(item), Few::Zero) => Some(Simple {
+            state: next,
+            item: Some(item),
+        }),
+        (Answer::Finished, _) => Some(Simple {
+            state: next,
+            item: None,
+        }),
+        _ => None,
+    }
+}
+
+/// One step by as many turns as it takes to read all that is put back.
+fn turns_over<H: Handler>(handler: &H, state: H::State, byte: u8) -> Step<H::State>
+    ensures state { result.state ≡ (feed (H.table handler.now) state (byte ∷ [])).state }
+    ensures items { result.items ≡ (feed (H.table handler.now) state (byte ∷ [])).items }
+{
+    let mut state = state;
+    let mut queue = Few::One(byte);
+    let mut items = Items::none();
+    'turns: loop {
+        let (read, rest) = queue.split();
+        let Some(byte) = read else {
+            return Step { state, items };
+        };
+        let Handled {
+            state: next,
+            answer,
+            back,
+        } = handler.turn(state, Some(byte));
+        state = next;
+        match answer {
+            Answer::Nothing => queue = back.before(rest),
+            Answer::Gives(item) => {
+                queue = back.before(rest);
+                items.push(item, queue.count());
+            }
+            Answer::Finished => return Step { state, items },
+        }
+    }
+}
+
+/// The end: turns until the handler is finished.
+fn finish_by<H: Handler>(handler: &H, state: H::State) -> Step<H::State>
+    ensures state { result.state ≡ state }
+    ensures items { result.items ≡ run (H.table handler.now) state [] }
+{
+    let mut reached = state;
+    let mut queue = Few::Zero;
+    let mut items = Items::none();
+    'turns: loop {
+        let (byte, rest) = queue.split();
+        let Handled {
+            state: next,
+            answer,
+            back,
+        } = handler.turn(reached, byte);
+        reached = next;
+        match answer {
+            Answer::Nothing => queue = back.before(rest),
+            Answer::Gives(item) => {
+                queue = back.before(rest);
+                items.push(item, queue.count());
+            }
+            Answer::Finished => return Step { state, items },
+        }
+    }
+}

@@ -1,0 +1,182 @@
+//! The UTF-8 decoder.
+ghost use Rattle.std.specs.Prelude.{◌≡◌, ℕ, ◌+◌, ◌-◌, ◌*◌, ◌≤◌, ◌<◌};
+ghost use Rattle.std.specs.Char.{IsScalar};
+ghost use Rattle.decoder_core.specs.Utf8.{Utf8, utf8, utf8_start, utf8_first, utf8_begins, utf8_trail};
+ghost use Rattle.decoder_core.specs.Pending.{IsPending};
+ghost use Rattle.decoder_core.specs.Few.{bytes_of};
+ghost use Rattle.decoder_core.specs.Utf8Laws.{utf8_falls, utf8_counts};
+ghost use Rattle.std.proofs.Common.{rules};
+
+use crate::few::Few;
+use crate::handler::{Answer, Handled, Handler};
+use crate::item::Item;
+use enc_names::Scalar;
+use std::marker::Model;
+
+/// Where the UTF-8 decoder stands between two bytes. Contracts see the Standard's five values.
+#[derive(Clone, Copy, PartialEq, Eq, Debug)]
+pub struct Utf8State {
+    code_point: u32,
+    seen: u8,
+    needed: u8,
+    lower: u8,
+    upper: u8,
+}
+
+impl Model for Utf8State {
+    ghost use Rattle.decoder_core.specs.Utf8.{Utf8};
+    ghost use Rattle.decoder_core.specs.Pending.{IsPending};
+
+    ghost Value = { Utf8 };
+
+    ghost view = { λ s. record { code_point = s.code_point; seen = s.seen; needed = s.needed; lower = s.lower; upper = s.upper } };
+
+    ghost invariant = { λ s. IsPending s.code_point s.seen s.needed s.lower s.upper };
+
+    ghost inverse = { λ s. record { code_point = s.code_point; seen = s.seen; needed = s.needed; lower = s.lower; upper = s.upper } };
+}
+
+impl Utf8State {
+    /// Nothing is pending.
+    fn idle() -> Utf8State
+        ensures { result ≡ utf8_start }
+    {
+        Utf8State {
+            code_point: 0,
+            seen: 0,
+            needed: 0,
+            lower: 0x80,
+            upper: 0xBF,
+        }
+    }
+}
+
+/// The UTF-8 decoder (Encoding Standard, "UTF-8 decoder"), without a byte order mark.
+#[derive(Clone, Copy, PartialEq, Eq, Debug)]
+pub struct Utf8Decoder;
+
+impl Handler for Utf8Decoder {
+    type State = Utf8State;
+
+    ghost table = { λ _. utf8 };
+
+    ghost initial = { λ _. utf8_start };
+
+    fn start_state(&self) -> Utf8State {
+        Utf8State::idle()
+    }
+
+    fn turn(&self, state: Utf8State, byte: Option<u8>) -> Handled<Utf8State> {
+        match byte {
+            Some(byte) if state.needed == 0 => first(byte),
+            Some(byte) if state.lower <= byte && byte <= state.upper => trail(state, byte),
+            Some(byte) => gives(Item::Error, Few::One(byte)),
+            None if state.needed == 0 => Handled {
+                state,
+                answer: Answer::Finished,
+                back: Few::Zero,
+            },
+            None => gives(Item::Error, Few::Zero),
+        }
+    }
+
+    ghost ends = { λ _. utf8_falls };
+
+    ghost counts = { λ _. utf8_counts };
+
+    ghost exact = { Prim.search rules };
+}
+
+/// The scalar value of this number.
+fn scalar(value: u32) -> Scalar
+    requires { IsScalar value }
+    ensures { result ≡ value }
+{
+    match Scalar::new(value) {
+        Some(scalar) => scalar,
+        None => unreachable!(),
+    }
+}
+
+/// An item with nothing pending.
+fn gives(item: Item, back: Few) -> Handled<Utf8State>
+    ensures state { result.state ≡ utf8_start }
+    ensures answer { result.answer ≡ Answer.Gives item }
+    ensures back { result.back ≡ back }
+{
+    Handled {
+        state: Utf8State::idle(),
+        answer: Answer::Gives(item),
+        back,
+    }
+}
+
+/// A byte while no byte is needed.
+fn first(byte: u8) -> Handled<Utf8State>
+    ensures state { result.state ≡ (utf8_first byte).state }
+    ensures answer { result.answer ≡ (utf8_first byte).answer }
+    ensures back { bytes_of result.back ≡ (utf8_first byte).back }
+{
+    match byte {
+        0..=0x7F => gives(Item::One(scalar(u32::from(byte))), Few::Zero),
+        0xC2..=0xDF => begins(byte - 0xC0, 1, 0x80, 0xBF),
+        0xE0..=0xEF => {
+            let lower = if byte == 0xE0 { 0xA0 } else { 0x80 };
+            let upper = if byte == 0xED { 0x9F } else { 0xBF };
+            begins(byte - 0xE0, 2, lower, upper)
+        }
+        0xF0..=0xF4 => {
+            let lower = if byte == 0xF0 { 0x90 } else { 0x80 };
+            let upper = if byte == 0xF4 { 0x8F } else { 0xBF };
+            begins(byte - 0xF0, 3, lower, upper)
+        }
+        _ => gives(Item::Error, Few::Zero),
+    }
+}
+
+/// A lead byte whose number of trail bytes is `needed`.
+fn begins(code_point: u8, needed: u8, lower: u8, upper: u8) -> Handled<Utf8State>
+    requires { IsPending code_point 0 needed lower upper }
+    ensures state { result.state ≡ (utf8_begins code_point needed lower upper).state }
+    ensures answer { result.answer ≡ Answer.Nothing }
+    ensures back { result.back ≡ Few.Zero }
+{
+    let state = Utf8State {
+        code_point: u32::from(code_point),
+        seen: 0,
+        needed,
+        lower,
+        upper,
+    };
+    Handled {
+        state,
+        answer: Answer::Nothing,
+        back: Few::Zero,
+    }
+}
+
+/// A trail byte within its boundaries.
+fn trail(state: Utf8State, byte: u8) -> Handled<Utf8State>
+    requires { 0 < state.needed × state.lower ≤ byte × byte ≤ state.upper }
+    ensures state { result.state ≡ (utf8_trail state (64 * state.code_point + (byte - 0x80))).state }
+    ensures answer { result.answer ≡ (utf8_trail state (64 * state.code_point + (byte - 0x80))).answer }
+    ensures back { bytes_of result.back ≡ (utf8_trail state (64 * state.code_point + (byte - 0x80))).back }
+{
+    let code_point = 64 * state.code_point + u32::from(byte - 0x80);
+    let seen = state.seen + 1;
+    if seen == state.needed {
+        return gives(Item::One(scalar(code_point)), Few::Zero);
+    }
+    let state = Utf8State {
+        code_point,
+        seen,
+        needed: state.needed,
+        lower: 0x80,
+        upper: 0xBF,
+    };
+    Handled {
+        state,
+        answer: Answer::Nothing,
+        back: Few::Zero,
+    }
+}

@@ -1,0 +1,186 @@
+-- What the desk's refusals have in common.
+use Rattle.std.proofs.Common.{◌≡◌, ℕ, ◌+◌, ◌&&◌, Bool, true, false, List, length, if◌then◌else◌, nat_le, nat_lt, ◌==◌, refl}
+use Rattle.std.specs.declared.option.Option.{Option}
+use Rattle.std.specs.declared.option.Option.TheVariants.{None, Some}
+use Rattle.std.specs.declared.result.Result.{Result}
+use Rattle.std.specs.declared.result.Result.TheVariants.{Ok, Err}
+use Rattle.std.specs.FinMap.{get, len}
+use Rattle.std.specs.Option.{is_some}
+use Rattle.enc_names.specs.declared.encoding.Encoding.{Encoding}
+use Rattle.enc_names.specs.Labels.{lookup_in}
+use Rattle.index_loader.specs.Files.{Files}
+use Rattle.gateway.specs.Asked.{Opens, Splices, Reads, ListsErrors}
+use Rattle.gateway.specs.Desk.{Office, Outcome, max_documents, refused, told, put, base64_bytes, admitted, opened_as, opened, spliced_at, spliced, text_at, errors_at}
+use Rattle.piece_rope.specs.declared.fault.DocFault.{DocFault}
+use Rattle.piece_rope.specs.declared.fault.DocFault.TheVariants as cause
+use Rattle.piece_rope.specs.Decode.{is_decoded}
+use Rattle.piece_rope.specs.Document.{Document, text_of, errors_of}
+use Rattle.piece_rope.specs.Edits.{document_limit, open_fault, splice_fault, text_fault, errors_fault, spliced as spliced_bytes}
+use Rattle.gateway.specs.DeskRuns.{is_edited, OnlyEditsChange, RefusalsChangeNothing, MemoryIsNeverWanted}
+use Rattle.gateway.specs.Documents.{Held, Names, document_of, max_revision, unless, edited, text_reply, errors_reply}
+use Rattle.gateway.specs.declared.desk.fault.Fault.{Fault}
+use Rattle.gateway.specs.declared.desk.fault.Fault.TheVariants.{NameTaken, OutOfMemory}
+use Rattle.gateway.specs.declared.desk.reply.Reply.{Reply}
+use Rattle.gateway.specs.declared.desk.reply.Reply.TheVariants.{Refused}
+
+-- an edit, or the documents stay
+abbrev Keeps : Names → Outcome → Type 0
+Keeps documents outcome = is_edited outcome.reply ≡ false → outcome.documents ≡ documents
+
+keeps-put : (indexes : Files) (documents : Names) (doc : List ℕ) (change : Result Held Fault) → Keeps documents (put indexes documents doc change)
+keeps-put indexes documents doc (Ok h) = λ e. cc
+keeps-put indexes documents doc (Err f) = λ e. refl
+
+keeps-told : (documents : Names) (answer : Result Reply Fault) → Keeps documents (told documents answer)
+keeps-told documents (Ok reply) = λ e. refl
+keeps-told documents (Err f) = λ e. refl
+
+keeps-opened_as : (indexes : Files) (documents : Names) (doc bytes : List ℕ) (label : Option Encoding) → Keeps documents (opened_as indexes documents doc bytes label)
+keeps-opened_as indexes documents doc bytes None = λ e. refl
+keeps-opened_as indexes documents doc bytes (Some given) = keeps-put indexes documents doc (admitted indexes documents given bytes)
+
+keeps-if : (documents : Names) (b : Bool) (x y : Outcome) → Keeps documents x → Keeps documents y → Keeps documents (if b then x else y)
+keeps-if documents true x y p q = p
+keeps-if documents false x y p q = q
+
+keeps-opened : (o : Office) (doc label : List ℕ) (bytes : Option (List ℕ)) → Keeps o.documents (opened o doc label bytes)
+keeps-opened o doc label None = λ e. refl
+keeps-opened o doc label (Some bytes) =
+    keeps-if o.documents (is_some (get o.documents doc)) (refused o.documents NameTaken) (opened_as o.indexes o.documents doc bytes (lookup_in o.labels label))
+    (λ e. refl) (keeps-opened_as o.indexes o.documents doc bytes (lookup_in o.labels label))
+
+keeps-spliced_at : (indexes : Files) (documents : Names) (doc : List ℕ) (rev at del : ℕ) (ins : List ℕ) (found : Option Held)
+    → Keeps documents (spliced_at indexes documents doc rev at del ins found)
+keeps-spliced_at indexes documents doc rev at del ins None = λ e. refl
+keeps-spliced_at indexes documents doc rev at del ins (Some h) = keeps-put indexes documents doc (edited h rev at del ins)
+
+keeps-spliced : (o : Office) (doc : List ℕ) (rev at del : ℕ) (ins : Option (List ℕ)) → Keeps o.documents (spliced o doc rev at del ins)
+keeps-spliced o doc rev at del None = λ e. refl
+keeps-spliced o doc rev at del (Some ins) = keeps-spliced_at o.indexes o.documents doc rev at del ins (get o.documents doc)
+
+keeps-text_at : (indexes : Files) (documents : Names) (from to : ℕ) (found : Option Held) → Keeps documents (text_at indexes documents from to found)
+keeps-text_at indexes documents from to None = λ e. refl
+keeps-text_at indexes documents from to (Some h) = keeps-told documents (text_reply indexes h from to)
+
+keeps-errors_at : (indexes : Files) (documents : Names) (from max : ℕ) (found : Option Held) → Keeps documents (errors_at indexes documents from max found)
+keeps-errors_at indexes documents from max None = λ e. refl
+keeps-errors_at indexes documents from max (Some h) = keeps-told documents (errors_reply indexes h from max)
+
+pub only_edits_change : OnlyEditsChange
+only_edits_change o (Opens doc label bytes) = keeps-opened o doc label (base64_bytes bytes)
+only_edits_change o (Splices doc rev at del bytes) = keeps-spliced o doc rev at del (base64_bytes bytes)
+only_edits_change o (Reads doc from to) = keeps-text_at o.indexes o.documents from to (get o.documents doc)
+only_edits_change o (ListsErrors doc from max) = keeps-errors_at o.indexes o.documents from max (get o.documents doc)
+
+pub refusals_change_nothing : RefusalsChangeNothing
+refusals_change_nothing o c fault e = only_edits_change o c (rw e refl)
+
+-- ---- want of memory is no answer of the definition
+
+abbrev Answered : Outcome → Type 0
+Answered outcome = outcome.reply ≡ Refused OutOfMemory → ⊥
+
+-- no want of memory refuses this
+abbrev Decided : {A : Type 0} → Result A Fault → Type 0
+Decided {A} answer = answer ≡ Err OutOfMemory → ⊥
+
+abbrev Caused : Option DocFault → Type 0
+Caused fault = fault ≡ Some cause.OutOfMemory → ⊥
+
+caused-if : (b : Bool) (x y : Option DocFault) → Caused x → Caused y → Caused (if b then x else y)
+caused-if true x y p q = p
+caused-if false x y p q = q
+
+caused-open : (files : Files) (given : Encoding) (bytes : List ℕ) → Caused (open_fault files given bytes)
+unfolding open_fault
+caused-open files given bytes =
+    caused-if (is_decoded files given) _ _ (caused-if (nat_le (length bytes) document_limit) _ _ (λ e. cc) (λ e. cc)) (λ e. cc)
+
+caused-splice : (bytes : List ℕ) (at del : ℕ) (ins : List ℕ) → Caused (splice_fault bytes at del ins)
+unfolding splice_fault
+caused-splice bytes at del ins =
+    caused-if (nat_le (at + del) (length bytes)) _ _ (caused-if (nat_le (length (spliced_bytes bytes at del ins)) document_limit) _ _ (λ e. cc) (λ e. cc)) (λ e. cc)
+
+caused-text : (d : Document) (from to : ℕ) → Caused (text_fault d from to)
+unfolding text_fault
+caused-text d from to = caused-if (nat_le from to && nat_le to (length (text_of d))) _ _ (λ e. cc) (λ e. cc)
+
+caused-errors : (d : Document) (from : ℕ) → Caused (errors_fault d from)
+unfolding errors_fault
+caused-errors d from = caused-if (nat_le from (length (errors_of d))) _ _ (λ e. cc) (λ e. cc)
+
+decided-unless : {A : Type 0} (fault : Option DocFault) (x : A) → Caused fault → Decided (unless fault x)
+decided-unless None x p = λ e. cc
+decided-unless (Some cause.NoIndex) x p = λ e. cc
+decided-unless (Some cause.OutOfRange) x p = λ e. cc
+decided-unless (Some cause.TooLarge) x p = λ e. cc
+decided-unless (Some cause.OutOfMemory) x p = λ e. p refl
+
+decided-if : {A : Type 0} (b : Bool) (x y : Result A Fault) → Decided x → Decided y → Decided (if b then x else y)
+decided-if true x y p q = p
+decided-if false x y p q = q
+
+answered-put : (indexes : Files) (documents : Names) (doc : List ℕ) (change : Result Held Fault) → Decided change → Answered (put indexes documents doc change)
+answered-put indexes documents doc (Ok h) p = λ e. cc
+answered-put indexes documents doc (Err f) p = λ e. p cc
+
+answered-told : (documents : Names) (fault : Option DocFault) (reply : Reply) → Caused fault → (reply ≡ Refused OutOfMemory → ⊥)
+    → Answered (told documents (unless fault reply))
+answered-told documents None reply p q = q
+answered-told documents (Some cause.NoIndex) reply p q = λ e. cc
+answered-told documents (Some cause.OutOfRange) reply p q = λ e. cc
+answered-told documents (Some cause.TooLarge) reply p q = λ e. cc
+answered-told documents (Some cause.OutOfMemory) reply p q = λ e. p refl
+
+answered-if : (b : Bool) (x y : Outcome) → Answered x → Answered y → Answered (if b then x else y)
+answered-if true x y p q = p
+answered-if false x y p q = q
+
+decided-edited : (h : Held) (rev at del : ℕ) (ins : List ℕ) → Decided (edited h rev at del ins)
+decided-edited h rev at del ins =
+    decided-if (rev == h.revision) _ _
+    (decided-if (nat_lt h.revision max_revision) _ _ (decided-unless (splice_fault h.bytes at del ins) _ (caused-splice h.bytes at del ins)) (λ e. cc))
+    (λ e. cc)
+
+decided-admitted : (indexes : Files) (documents : Names) (given : Encoding) (bytes : List ℕ) → Decided (admitted indexes documents given bytes)
+decided-admitted indexes documents given bytes =
+    decided-if (is_decoded indexes given) _ _
+    (decided-if (nat_lt (len documents) max_documents) _ _ (decided-unless (open_fault indexes given bytes) _ (caused-open indexes given bytes)) (λ e. cc))
+    (λ e. cc)
+
+answered-opened_as : (indexes : Files) (documents : Names) (doc bytes : List ℕ) (label : Option Encoding) → Answered (opened_as indexes documents doc bytes label)
+answered-opened_as indexes documents doc bytes None = λ e. cc
+answered-opened_as indexes documents doc bytes (Some given) =
+    answered-put indexes documents doc (admitted indexes documents given bytes) (decided-admitted indexes documents given bytes)
+
+answered-opened : (o : Office) (doc label : List ℕ) (bytes : Option (List ℕ)) → Answered (opened o doc label bytes)
+answered-opened o doc label None = λ e. cc
+answered-opened o doc label (Some bytes) =
+    answered-if (is_some (get o.documents doc)) (refused o.documents NameTaken) (opened_as o.indexes o.documents doc bytes (lookup_in o.labels label))
+    (λ e. cc) (answered-opened_as o.indexes o.documents doc bytes (lookup_in o.labels label))
+
+answered-spliced_at : (indexes : Files) (documents : Names) (doc : List ℕ) (rev at del : ℕ) (ins : List ℕ) (found : Option Held)
+    → Answered (spliced_at indexes documents doc rev at del ins found)
+answered-spliced_at indexes documents doc rev at del ins None = λ e. cc
+answered-spliced_at indexes documents doc rev at del ins (Some h) =
+    answered-put indexes documents doc (edited h rev at del ins) (decided-edited h rev at del ins)
+
+answered-spliced : (o : Office) (doc : List ℕ) (rev at del : ℕ) (ins : Option (List ℕ)) → Answered (spliced o doc rev at del ins)
+answered-spliced o doc rev at del None = λ e. cc
+answered-spliced o doc rev at del (Some ins) = answered-spliced_at o.indexes o.documents doc rev at del ins (get o.documents doc)
+
+answered-text_at : (indexes : Files) (documents : Names) (from to : ℕ) (found : Option Held) → Answered (text_at indexes documents from to found)
+answered-text_at indexes documents from to None = λ e. cc
+answered-text_at indexes documents from to (Some h) =
+    answered-told documents (text_fault (document_of indexes h) from to) _ (caused-text (document_of indexes h) from to) (λ e. cc)
+
+answered-errors_at : (indexes : Files) (documents : Names) (from max : ℕ) (found : Option Held) → Answered (errors_at indexes documents from max found)
+answered-errors_at indexes documents from max None = λ e. cc
+answered-errors_at indexes documents from max (Some h) =
+    answered-told documents (errors_fault (document_of indexes h) from) _ (caused-errors (document_of indexes h) from) (λ e. cc)
+
+pub memory_is_never_wanted : MemoryIsNeverWanted
+memory_is_never_wanted o (Opens doc label bytes) = answered-opened o doc label (base64_bytes bytes)
+memory_is_never_wanted o (Splices doc rev at del bytes) = answered-spliced o doc rev at del (base64_bytes bytes)
+memory_is_never_wanted o (Reads doc from to) = answered-text_at o.indexes o.documents from to (get o.documents doc)
+memory_is_never_wanted o (ListsErrors doc from max) = answered-errors_at o.indexes o.documents from max (get o.documents doc)

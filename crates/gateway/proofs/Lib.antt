@@ -1,0 +1,14 @@
+mod Answering
+mod Chains
+mod Cuts
+mod DeskLaws
+mod DeskNames
+mod DeskSession
+mod DeskSteps
+mod Devices
+mod LineEnds
+mod PlainText
+mod Runs
+mod SentLines
+mod StepReplies
+mod Took

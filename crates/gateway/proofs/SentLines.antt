@@ -1,0 +1,20 @@
+-- Lines that are written by the events of a value.
+use Rattle.std.proofs.Common.{◌≡◌, ℕ, suc, Bool, false, List, [], ◌∷◌, ◌++◌, length, refl, ap, ◌∙◌, arith}
+use Rattle.enc_names.specs.declared.place.Place.{Place}
+use Rattle.serde_json.specs.Data.{Data}
+use Rattle.serde_json.specs.Events.{SendsValue, items_len}
+use Rattle.serde_json.specs.Written.{has_float, items_have_float}
+use Rattle.serde_json.proofs.FreeTexts.{text_of_value}
+use Rattle.gateway.specs.Replies.{line_of, places_data}
+use Rattle.gateway.specs.Sent.{IsLineOf}
+
+pub line-of : (d : Data) (line : List ℕ) → has_float d ≡ false → IsLineOf (SendsValue d) line → line ≡ line_of d
+line-of d line whole sent = sent.ends ∙ ap (λ t. t ++ 10 ∷ []) (text_of_value d sent.log sent.text sent.sent sent.written whole)
+
+pub places-whole : (ps : List Place) → items_have_float (places_data ps) ≡ false
+places-whole [] = refl
+places-whole (p ∷ ps) = places-whole ps
+
+pub places-len : (ps : List Place) → items_len (places_data ps) ≡ length ps
+places-len [] = refl
+places-len (p ∷ ps) = ap suc (places-len ps)

@@ -1,0 +1,16 @@
+use Rattle.std.proofs.Common.{refl}
+use Rattle.std.specs.Fmt.{digits}
+use Rattle.json.specs.Print.{escape_byte}
+use Rattle.gateway.proofs.reply_line.tests.other_replies.Goals as goal
+
+pub returns-clause-stale : goal.returns-clause-stale
+unfolding digits escape_byte
+returns-clause-stale c = refl
+
+pub returns-clause-memory : goal.returns-clause-memory
+unfolding digits escape_byte
+returns-clause-memory c = refl
+
+pub returns-clause-escapes : goal.returns-clause-escapes
+unfolding digits escape_byte
+returns-clause-escapes c = refl

@@ -1,0 +1,24 @@
+use Rattle.std.proofs.Common.{refl}
+use Rattle.std.specs.Str.{is_utf8, chars}
+use Rattle.serde_json.proofs.OnLiterals.{serde_json_on_literals}
+use Rattle.gateway.proofs.request.tests.commands.Goals as goal
+
+pub returns-clause-open : goal.returns-clause-open
+unfolding is_utf8 chars serde_json_on_literals
+returns-clause-open c = refl
+
+pub returns-clause-splice : goal.returns-clause-splice
+unfolding is_utf8 chars serde_json_on_literals
+returns-clause-splice c = refl
+
+pub returns-clause-text : goal.returns-clause-text
+unfolding is_utf8 chars serde_json_on_literals
+returns-clause-text c = refl
+
+pub returns-clause-mode : goal.returns-clause-mode
+unfolding is_utf8 chars serde_json_on_literals
+returns-clause-mode c = refl
+
+pub returns-clause-errors : goal.returns-clause-errors
+unfolding is_utf8 chars serde_json_on_literals
+returns-clause-errors c = refl

@@ -1,0 +1,41 @@
+use Rattle.std.proofs.Common.{◌≡◌, ℕ, Err, ap, ◌+◌, ◌≤◌, ◌^◌, length, arith, refl, ◌∙◌, add-zero, sym}
+use Rattle.gateway.specs.Serving.{most_reads}
+use Rattle.gateway.proofs.Chains.{Pumped-start, Pumped-trans, Pumped-Err, reads_before}
+use Rattle.gateway.specs.declared.serve.Progress.{Progress}
+use Rattle.gateway.proofs.serve.pump.Goals as goal
+
+still : (a b c : ℕ) → c ≡ b + 0 → b ≡ a → c ≡ a
+still a b c p q = omega arith
+
+once_more : (a b c n : ℕ) → c ≡ b + 1 → b ≡ a + n → c ≡ a + (n + 1)
+once_more a b c n p q = omega arith
+
+pub loop-init : goal.loop-init
+loop-init g c = record {
+  pumped = Pumped-start _ _ _ _ c.requires;
+  ends = refl;
+  reads = sym (add-zero _);
+  read_failures = refl;
+  write_failures = refl;
+}
+
+pub returns-in-Ok-End-clause-pumps : goal.returns-in-Ok-End-clause-pumps
+returns-in-Ok-End-clause-pumps g c = Pumped-trans _ _ _ _ _ _ _ _ _ _ c.loop.invariant.pumped c.in-Ok-End.ensures.pumps
+
+pub returns-in-Err-clause-pumps : goal.returns-in-Err-clause-pumps
+returns-in-Err-clause-pumps g c = Pumped-Err Progress (Unit {0}) c.in-Err.fault _ _ _ _ _ _ _ _ _ _ c.loop.invariant.pumped c.in-Err.ensures.pumps
+
+pub returns-in-Err-clause-reads : goal.returns-in-Err-clause-reads
+returns-in-Err-clause-reads g c =
+    reads_before (Unit {0}) c.in-Err.fault _ _ (λ is. c.in-Err.ensures.not_reads (ap Err is)) (omega arith)
+
+pub loop-preserved : goal.loop-preserved
+loop-preserved g c =
+    let more = rw c.in-Ok-More.field-0-is at c.in-Ok-More.ensures in
+    record {
+      pumped = Pumped-trans _ _ _ _ _ _ _ _ _ _ c.loop.invariant.pumped c.in-Ok-More.ensures.pumps;
+      ends = still _ _ _ more.ends c.loop.invariant.ends;
+      reads = once_more _ _ _ _ more.reads c.loop.invariant.reads;
+      read_failures = still _ _ _ more.read_failures c.loop.invariant.read_failures;
+      write_failures = still _ _ _ more.write_failures c.loop.invariant.write_failures;
+    }

@@ -1,0 +1,83 @@
+-- Documents as the desk holds them, and what one of them answers.
+use Rattle.std.specs.Prelude.{ℕ, ◌+◌, ◌-◌, ◌==◌, nat_lt, List, length, take, drop, if◌then◌else◌, Option, Some, None, Result, Ok, Err}
+use Rattle.std.specs.Ordering.{nat_cmp}
+use Rattle.std.specs.Cmp.Lexicographic.{slice_cmp}
+use Rattle.std.specs.FinMap.{FinMap}
+use Rattle.enc_names.specs.declared.encoding.Encoding.{Encoding}
+use Rattle.index_loader.specs.Files.{Files}
+use Rattle.piece_rope.specs.declared.fault.DocFault.{DocFault}
+use Rattle.piece_rope.specs.declared.fault.DocFault.TheVariants as cause
+use Rattle.std.specs.Str.{encode_utf8_all}
+use Rattle.piece_rope.specs.Document.{Document, decoded, text_of, errors_of}
+use Rattle.piece_rope.specs.Edits.{spliced, splice_fault, text_fault, errors_fault}
+use Rattle.gateway.specs.declared.desk.fault.Fault.{Fault}
+use Rattle.gateway.specs.declared.desk.fault.Fault.TheVariants.{NoIndex, Stale, RevisionsSpent, OutOfRange, TooLarge, OutOfMemory}
+use Rattle.gateway.specs.declared.desk.reply.Reply.{Reply}
+use Rattle.gateway.specs.declared.desk.reply.Reply.TheVariants.{Edited, Text, Errors}
+
+-- what is held at a name: nothing derived
+pub record Held : Type 0 where
+  pub given : Encoding
+  pub bytes : List ℕ
+  pub revision : ℕ
+
+-- names, as UTF-8 bytes, with what is held at them
+abbrev pub Names : Type 0
+Names = FinMap (slice_cmp nat_cmp) Held
+
+-- the documents, beside the loaded index files
+pub record Shelf : Type 0 where
+  pub indexes : Files
+  pub named : Names
+
+-- the greatest revision, 2^53 - 1
+abbrev pub max_revision : ℕ
+max_revision = 9007199254740991
+
+-- what is held, decoded by the loaded index files
+abbrev pub document_of : Files → Held → Document
+document_of indexes h = record { indexes = indexes; given = h.given; bytes = h.bytes }
+
+-- a document as it opens
+abbrev pub fresh : Encoding → List ℕ → Held
+fresh given bytes = record { given = given; bytes = bytes; revision = 0 }
+
+-- the refusal that tells a document's fault
+abbrev pub fault_of : DocFault → Fault
+fault_of cause.NoIndex = NoIndex
+fault_of cause.OutOfRange = OutOfRange
+fault_of cause.TooLarge = TooLarge
+fault_of cause.OutOfMemory = OutOfMemory
+
+-- the value, unless there is a fault
+abbrev pub unless : {A : Type 0} → Option DocFault → A → Result A Fault
+unless None x = Ok x
+unless (Some fault) x = Err (fault_of fault)
+
+-- what is held after an edit that names a revision, or why it is refused
+abbrev pub edited : Held → ℕ → ℕ → ℕ → List ℕ → Result Held Fault
+edited h rev at del ins =
+    if rev == h.revision
+    then (if nat_lt h.revision max_revision
+    then unless (splice_fault h.bytes at del ins)
+    (record { given = h.given; bytes = spliced h.bytes at del ins; revision = h.revision + 1 })
+    else Err RevisionsSpent)
+    else Err (Stale h.revision)
+
+-- the reply to an open or an edit that left this
+abbrev pub edit_reply : Files → Held → Reply
+edit_reply indexes h =
+    let d = decoded (document_of indexes h) in
+    Edited d.bom d.encoding h.revision
+
+-- the code points from..to, in UTF-8
+abbrev pub text_reply : Files → Held → ℕ → ℕ → Result Reply Fault
+text_reply indexes h from to =
+    let d = document_of indexes h in
+    unless (text_fault d from to) (Text h.revision (encode_utf8_all (take (to - from) (drop from (text_of d)))))
+
+-- at most max places of errors, the first being number `from`
+abbrev pub errors_reply : Files → Held → ℕ → ℕ → Result Reply Fault
+errors_reply indexes h from max =
+    let d = document_of indexes h in
+    unless (errors_fault d from) (Errors h.revision (length (errors_of d)) (take max (drop from (errors_of d))))

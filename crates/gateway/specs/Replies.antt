@@ -1,0 +1,135 @@
+-- The text of a reply: one line, an object of JSON with no space and its keys in ascending order.
+use Rattle.std.specs.Prelude.{◌≡◌, ◌≤◌, ℕ, length, List, [], ◌∷◌, ◌++◌, Bool, true, false, codes, Option, Some, None}
+use Rattle.serde_json.specs.Data.{Data, number, string, array, object, unsigned, Items, no_items, item, Members, no_members, member}
+use Rattle.serde_json.specs.Written.{compact_text}
+use Rattle.enc_names.specs.Names.{name_of}
+use Rattle.enc_names.specs.declared.encoding.Encoding.{Encoding}
+use Rattle.enc_names.specs.declared.place.Place.{Place}
+use Rattle.gateway.specs.declared.desk.fault.Fault.{Fault}
+use Rattle.gateway.specs.declared.desk.fault.Fault.TheVariants.{BadBase64, NoDocument, NameTaken, UnknownLabel, NoIndex, TooManyDocuments, Stale, RevisionsSpent, OutOfRange, TooLarge, OutOfMemory}
+use Rattle.gateway.specs.declared.desk.reply.Reply.{Reply}
+use Rattle.gateway.specs.declared.desk.reply.Reply.TheVariants.{Edited, Text, Errors, Refused}
+use Rattle.gateway.specs.declared.request.field.Field.{Field}
+use Rattle.gateway.specs.declared.request.field.Field.TheVariants as field
+use Rattle.gateway.specs.declared.request.refusal.Refusal.{Refusal}
+use Rattle.gateway.specs.declared.request.refusal.Refusal.TheVariants as refusal
+
+-- ---- names
+
+abbrev pub fault_name : Fault → List ℕ
+fault_name BadBase64 = codes "BadBase64"
+fault_name NoDocument = codes "NoDocument"
+fault_name NameTaken = codes "NameTaken"
+fault_name UnknownLabel = codes "UnknownLabel"
+fault_name NoIndex = codes "NoIndex"
+fault_name TooManyDocuments = codes "TooManyDocuments"
+fault_name (Stale rev) = codes "Stale"
+fault_name RevisionsSpent = codes "RevisionsSpent"
+fault_name OutOfRange = codes "OutOfRange"
+fault_name TooLarge = codes "TooLarge"
+fault_name OutOfMemory = codes "OutOfMemory"
+
+abbrev pub field_name : Field → List ℕ
+field_name field.Object = []
+field_name field.Id = codes "id"
+field_name field.Op = codes "op"
+field_name field.Doc = codes "doc"
+field_name field.Label = codes "label"
+field_name field.Bytes = codes "bytes"
+field_name field.Rev = codes "rev"
+field_name field.At = codes "at"
+field_name field.Del = codes "del"
+field_name field.From = codes "from"
+field_name field.To = codes "to"
+field_name field.Mode = codes "mode"
+field_name field.Max = codes "max"
+
+-- ---- data
+
+abbrev pub whole : ℕ → Data
+whole n = number (unsigned n)
+
+abbrev pub place_data : Place → Data
+place_data p = array (item (whole p.from) (item (whole p.to) no_items))
+
+abbrev pub places_data : List Place → Items
+places_data [] = no_items
+places_data (p ∷ ps) = item (place_data p) (places_data ps)
+
+abbrev pub edited_data : ℕ → ℕ → Encoding → ℕ → Data
+edited_data id bom encoding rev =
+    object (member (codes "bom") (whole bom) (member (codes "encoding") (string (name_of encoding))
+    (member (codes "id") (whole id) (member (codes "rev") (whole rev) no_members))))
+
+abbrev pub text_data : ℕ → ℕ → List ℕ → Data
+text_data id rev text = object (member (codes "id") (whole id) (member (codes "rev") (whole rev) (member (codes "text") (string text) no_members)))
+
+abbrev pub errors_data : ℕ → ℕ → ℕ → List Place → Data
+errors_data id rev total places =
+    object (member (codes "errors") (array (places_data places)) (member (codes "id") (whole id)
+    (member (codes "rev") (whole rev) (member (codes "total") (whole total) no_members))))
+
+-- a fault alone, and one that answers the request with this number
+abbrev pub bare_data : List ℕ → Data
+bare_data name = object (member (codes "fault") (string name) no_members)
+
+abbrev pub numbered_data : List ℕ → ℕ → Data
+numbered_data name id = object (member (codes "fault") (string name) (member (codes "id") (whole id) no_members))
+
+abbrev pub stale_data : ℕ → ℕ → Data
+stale_data id rev = object (member (codes "fault") (string (codes "Stale")) (member (codes "id") (whole id) (member (codes "rev") (whole rev) no_members)))
+
+-- Want of memory has no number.
+abbrev pub fault_data : ℕ → Fault → Data
+fault_data id (Stale rev) = stale_data id rev
+fault_data id OutOfMemory = bare_data (codes "OutOfMemory")
+fault_data id f = numbered_data (fault_name f) id
+
+-- the object that answers the request with this number
+abbrev pub reply_data : ℕ → Reply → Data
+reply_data id (Edited bom encoding rev) = edited_data id bom encoding rev
+reply_data id (Text rev text) = text_data id rev text
+reply_data id (Errors rev total places) = errors_data id rev total places
+reply_data id (Refused f) = fault_data id f
+
+-- the number of the request, where it was read
+abbrev pub id_members : Option ℕ → Members
+id_members None = no_members
+id_members (Some id) = member (codes "id") (whole id) no_members
+
+abbrev pub bad_request_data : Option ℕ → Field → Data
+bad_request_data id f = object (member (codes "fault") (string (codes "BadRequest")) (member (codes "field") (string (field_name f)) (id_members id)))
+
+-- the object that answers a line which is refused
+abbrev pub refusal_data : Refusal → Data
+refusal_data refusal.LineTooLong = bare_data (codes "LineTooLong")
+refusal_data refusal.BadJson = bare_data (codes "BadJson")
+refusal_data (refusal.BadRequest id f) = bad_request_data id f
+refusal_data (refusal.UnknownOp id) = numbered_data (codes "UnknownOp") id
+refusal_data refusal.OutOfMemory = bare_data (codes "OutOfMemory")
+
+-- ---- text
+
+-- an object on a line of its own
+abbrev pub line_of : Data → List ℕ
+line_of d = compact_text d ++ 10 ∷ []
+
+-- the line of this object, which is short enough to stand inline
+abbrev pub IsShortLine : Data → List ℕ → Type 0
+IsShortLine d line = (line ≡ line_of d) × (length line ≤ 256)
+
+abbrev pub reply_text : ℕ → Reply → List ℕ
+reply_text id reply = line_of (reply_data id reply)
+
+abbrev pub refusal_text : Refusal → List ℕ
+refusal_text r = line_of (refusal_data r)
+
+abbrev pub memory_text : List ℕ
+memory_text = line_of (bare_data (codes "OutOfMemory"))
+
+-- The reply stands inline: it holds no text and no list.
+abbrev pub is_short : Reply → Bool
+is_short (Edited bom encoding rev) = true
+is_short (Text rev text) = false
+is_short (Errors rev total places) = false
+is_short (Refused f) = true

@@ -1,0 +1,140 @@
+-- The request that a line spells, over the data that its JSON text stands for. Of two equal keys
+-- the last counts, and a number that has a fraction, an exponent or a minus sign is no whole number.
+use Rattle.std.specs.Prelude.{◌≡◌, ◌<◌, ◌-◌, ◌^◌, ℕ, ◌||◌, ◌==◌, nat_lt, nat_le, List, length, codes, if◌then◌else◌, Bool, true, false, is_some, Option, Some, None, option_and_then, Result, Ok, Err}
+use Rattle.std.specs.Str.{bytes_eq, is_utf8}
+use Rattle.serde_json.specs.Data.{Data}
+use Rattle.serde_json.specs.Read.{read}
+use Rattle.serde_json.specs.Find.{get, as_number, as_u64, as_str, as_object}
+use Rattle.serde_json.specs.View.{view}
+use Rattle.serde_json.specs.declared.value.Value.{Value}
+use Rattle.gateway.specs.Asked.{Asked, Opens, Splices, Reads, ListsErrors, asked}
+use Rattle.gateway.specs.declared.desk.command.Command.{Command}
+use Rattle.gateway.specs.declared.request.field.Field.{Field}
+use Rattle.gateway.specs.declared.request.field.Field.TheVariants as field
+use Rattle.gateway.specs.declared.request.refusal.Refusal.{Refusal}
+use Rattle.gateway.specs.declared.request.refusal.Refusal.TheVariants.{BadJson, BadRequest, UnknownOp, OutOfMemory}
+
+infixl 10 ◌>>=◌
+abbrev pub ◌>>=◌ : {A B E : Type 0} → Result A E → (A → Result B E) → Result B E
+(Ok x) >>= f = f x
+(Err e) >>= f = Err e
+
+abbrev pub need : {A E : Type 0} → E → Option A → Result A E
+need e None = Err e
+need e (Some x) = Ok x
+
+-- ---- the value of a line
+
+-- The line is UTF-8 and a JSON text (RFC 8259) that nests at most 127 levels.
+abbrev pub value_of : List ℕ → Result Data Refusal
+value_of line = if is_utf8 line then need BadJson (read line) else Err BadJson
+
+-- ---- a field
+
+abbrev pub max_number : ℕ
+max_number = 2 ^ 53 - 1
+
+abbrev pub max_entries : ℕ
+max_entries = 10000
+
+abbrev pub at_most : ℕ → ℕ → Option ℕ
+at_most most n = if nat_le n most then Some n else None
+
+abbrev pub number_at : Data → List ℕ → ℕ → Option ℕ
+number_at d name most = option_and_then (at_most most) (option_and_then as_u64 (option_and_then as_number (get name d)))
+
+abbrev pub text_at : Data → List ℕ → Option (List ℕ)
+text_at d name = option_and_then as_str (get name d)
+
+-- a text of 1 to 64 bytes
+abbrev pub as_name : List ℕ → Option (List ℕ)
+as_name text = if (length text == 0) || nat_lt 64 (length text) then None else Some text
+
+abbrev pub name_at : Data → Option (List ℕ)
+name_at d = option_and_then as_name (text_at d (codes "doc"))
+
+abbrev pub is_text : List ℕ → Option (List ℕ) → Bool
+is_text expected None = false
+is_text expected (Some text) = bytes_eq text expected
+
+abbrev pub is_replacement : Option Data → Bool
+is_replacement None = true
+is_replacement (Some d) = is_text (codes "replacement") (as_str d)
+
+-- the mode is absent or `replacement`
+abbrev pub mode_at : Data → Bool
+mode_at d = is_replacement (get (codes "mode") d)
+
+-- ---- the fields of each command, in the order of their checks
+
+abbrev pub open_of : Data → Result Asked Field
+open_of d = do
+  doc ← need field.Doc (name_at d)
+  label ← need field.Label (text_at d (codes "label"))
+  bytes ← need field.Bytes (text_at d (codes "bytes"))
+  Ok (Opens doc label bytes)
+
+abbrev pub splice_of : Data → Result Asked Field
+splice_of d = do
+  doc ← need field.Doc (name_at d)
+  rev ← need field.Rev (number_at d (codes "rev") max_number)
+  at ← need field.At (number_at d (codes "at") max_number)
+  del ← need field.Del (number_at d (codes "del") max_number)
+  bytes ← need field.Bytes (text_at d (codes "bytes"))
+  Ok (Splices doc rev at del bytes)
+
+abbrev pub text_of : Data → Result Asked Field
+text_of d = do
+  doc ← need field.Doc (name_at d)
+  from ← need field.From (number_at d (codes "from") max_number)
+  to ← need field.To (number_at d (codes "to") max_number)
+  if mode_at d then Ok (Reads doc from to) else Err field.Mode
+
+abbrev pub errors_of : Data → Result Asked Field
+errors_of d = do
+  doc ← need field.Doc (name_at d)
+  from ← need field.From (number_at d (codes "from") max_number)
+  max ← need field.Max (number_at d (codes "max") max_entries)
+  Ok (ListsErrors doc from max)
+
+abbrev pub numbered : ℕ → Result Asked Field → Result (ℕ × Asked) Refusal
+numbered id (Ok command) = Ok (id, command)
+numbered id (Err f) = Err (BadRequest (Some id) f)
+
+abbrev pub command_of : Data → ℕ → List ℕ → Result (ℕ × Asked) Refusal
+command_of d id op =
+    if bytes_eq op (codes "open") then numbered id (open_of d)
+    else (if bytes_eq op (codes "splice") then numbered id (splice_of d)
+    else (if bytes_eq op (codes "text") then numbered id (text_of d)
+    else (if bytes_eq op (codes "errors") then numbered id (errors_of d)
+    else Err (UnknownOp id))))
+
+-- what an object asks, and under which number
+abbrev pub request_of : Data → Result (ℕ × Asked) Refusal
+request_of d =
+    if is_some (as_object d)
+    then (do
+      id ← need (BadRequest None field.Id) (number_at d (codes "id") max_number)
+      op ← need (BadRequest (Some id) field.Op) (text_at d (codes "op"))
+      command_of d id op)
+    else Err (BadRequest None field.Object)
+
+-- what a line asks
+abbrev pub spelt : List ℕ → Result (ℕ × Asked) Refusal
+spelt line = value_of line >>= request_of
+
+-- ---- what the code returns
+
+abbrev pub seen_command : Result Command Field → Result Asked Field
+seen_command (Ok command) = Ok (asked command)
+seen_command (Err f) = Err f
+
+abbrev pub seen : Result (ℕ × Command) Refusal → Result (ℕ × Asked) Refusal
+seen (Ok request) = Ok (request.0, asked request.1)
+seen (Err e) = Err e
+
+-- the value of the line or its refusal, or memory ran out, which it can't on no bytes
+abbrev pub IsValueOf : List ℕ → Result Value Refusal → Type 0
+IsValueOf line (Ok value) = value_of line ≡ Ok (view value)
+IsValueOf line (Err OutOfMemory) = 0 < length line
+IsValueOf line (Err e) = value_of line ≡ Err e

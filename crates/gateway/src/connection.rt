@@ -1,0 +1,81 @@
+//! The connections, by their numbers.
+ghost use Rattle.std.specs.Prelude.{◌≡◌, ◌<◌, ◌↔◌, List, [], None, Some, length, replicate, slice_set, MatchResult, IfOk, OnOk, OnErr, IsTrue, IsSome};
+ghost use Rattle.gateway.specs.Traffic.{Kept};
+ghost use Rattle.gateway.specs.Events.{connections, at_number};
+
+use std::alloc::Global;
+use std::marker::Model;
+
+mod line;
+
+pub use line::Line;
+
+/// How many connections there are. Their numbers count from 0.
+pub const CONNECTIONS: usize = 1;
+
+/// The lines that are begun, one for each connection that is open. Contracts see their list.
+#[derive(Drop)]
+pub struct Connections {
+    lines: [Option<Line>; CONNECTIONS],
+}
+
+impl Model for Connections {
+    ghost use Rattle.std.specs.Prelude.{◌≡◌, List, Option, length};
+    ghost use Rattle.gateway.specs.declared.connection.TheConstants.{CONNECTIONS};
+    ghost use Rattle.std.specs.Coded.{coded_list, coded_option};
+    ghost use Rattle.gateway.specs.Traffic.{Partial};
+    ghost use Rattle.gateway.specs.TrafficCode.{partial_code};
+
+    ghost Value = { List (Option Partial) };
+
+    ghost coded = { coded_list (coded_option partial_code) };
+
+    ghost view = { λ a. a.lines };
+
+    ghost invariant = { λ a. length a.lines ≡ CONNECTIONS };
+}
+
+impl Connections {
+    /// No connection is open.
+    pub fn new() -> Connections
+        ensures { result ≡ replicate connections None }
+    {
+        Connections {
+            lines: [const { None }; CONNECTIONS],
+        }
+    }
+
+    /// Whether a connection of this number exists.
+    pub fn exists(&self, c: u8) -> bool
+        ensures number { IsTrue result ↔ c < connections }
+        ensures count { length self.now ≡ connections }
+    {
+        let _ = &self.lines;
+        (c as usize) < CONNECTIONS
+    }
+
+    /// Whether a connection is open.
+    pub fn is_open(&self, c: u8) -> bool
+        requires { c < connections }
+        ensures { IsTrue result ↔ IsSome (at_number self.now c) }
+    {
+        self.lines[c as usize].is_some()
+    }
+
+    /// Puts a line in the place of what stands at a connection's number.
+    pub fn put(&mut self, c: u8, line: Option<Line>)
+        requires { c < connections }
+        ensures { self.new ≡ slice_set self.old c line }
+    {
+        self.lines[c as usize] = line;
+    }
+
+    /// Takes the line out that is begun on a connection, if the connection is open.
+    pub fn take(&mut self, c: u8) -> Option<Line>
+        requires { c < connections }
+        ensures line { result ≡ at_number self.old c }
+        ensures rest { self.new ≡ slice_set self.old c None }
+    {
+        self.lines[c as usize].take()
+    }
+}

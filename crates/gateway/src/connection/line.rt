@@ -1,0 +1,145 @@
+//! The line that is begun on a connection.
+ghost use Rattle.std.specs.Prelude.{◌≡◌, ℕ, ◌+◌, ◌<◌, List, [], ◌++◌, length, min, take, IsTrue, ◌↔◌, MatchOption, true, false};
+ghost use Rattle.gateway.specs.Step.{line_limit, Replies};
+ghost use Rattle.gateway.specs.Lines.{has_end, before_end};
+ghost use Rattle.gateway.specs.Traffic.{Kept, Lost, Stands, Takes};
+ghost use Rattle.gateway.specs.Desk.{Office};
+
+use crate::desk::Desk;
+use crate::reply_line::ReplyLine;
+use crate::respond::{LINE_LIMIT, respond, too_long};
+use memchr::memchr;
+use std::alloc::Global;
+use std::marker::Model;
+
+/// The bytes of a line that is begun, or, where they were dropped, how many came.
+#[derive(Drop)]
+pub struct Line {
+    kept: Vec<u8>,
+    lost: Option<usize>,
+}
+
+impl Model for Line {
+    ghost use Rattle.gateway.specs.Traffic.{Partial, partial_of};
+    ghost use Rattle.gateway.specs.TrafficCode.{partial_code};
+
+    ghost Value = { Partial };
+
+    ghost coded = { partial_code };
+
+    ghost view = { λ a. partial_of a.lost a.kept.items };
+}
+
+impl Line {
+    /// No byte yet.
+    pub fn new(alloc: Global) -> Line
+        ensures { result ≡ Kept [] }
+    {
+        Line {
+            kept: Vec::new(alloc),
+            lost: None,
+        }
+    }
+
+    /// Takes bytes up to and with the first line feed, which completes the line, or all of them.
+    /// Says how many it took, and the reply to the line that they completed.
+    pub fn take(
+        &mut self,
+        desk: &mut Desk<'_>,
+        alloc: Global,
+        bytes: &[u8],
+    ) -> (usize, Option<ReplyLine>)
+        ensures { Takes bytes.now desk.old self.old result.0 result.1 desk.new self.new }
+    {
+        match line_end(bytes) {
+            Some(end) => (end + 1, Some(self.finish(desk, alloc, &bytes[..end]))),
+            None => {
+                self.extend(bytes);
+                (bytes.len(), None)
+            }
+        }
+    }
+
+    // Answers the line that ends with `piece`, and begins the next. A line that lies in `piece`
+    // whole is answered from there, without a copy.
+    fn finish(&mut self, desk: &mut Desk<'_>, alloc: Global, piece: &[u8]) -> ReplyLine
+        ensures reply { (line : List ℕ) → Stands self.old line → Replies desk.old (line ++ piece.now) result desk.new }
+        ensures fresh { self.new ≡ Kept [] }
+    {
+        if self.is_fresh() {
+            return respond(desk, alloc, piece);
+        }
+        self.extend(piece);
+        let reply = self.reply(desk, alloc);
+        self.clear();
+        reply
+    }
+
+    // Whether nothing of the line came.
+    fn is_fresh(&self) -> bool
+        ensures { IsTrue result → self.now ≡ Kept [] }
+    {
+        self.lost.is_none() && self.kept.is_empty()
+    }
+
+    fn clear(&mut self)
+        ensures { self.new ≡ Kept [] }
+    {
+        self.kept.clear();
+        self.lost = None;
+    }
+
+    fn reply(&self, desk: &mut Desk<'_>, alloc: Global) -> ReplyLine
+        ensures { (line : List ℕ) → Stands self.now line → Replies desk.old line result desk.new }
+    {
+        match self.lost {
+            None => respond(desk, alloc, &self.kept),
+            Some(count) => lost_reply(count),
+        }
+    }
+
+    // A line over the limit is not kept, nor one whose bytes find no room.
+    fn extend(&mut self, piece: &[u8])
+        ensures { (line : List ℕ) → Stands self.old line → Stands self.new (line ++ piece.now) }
+    {
+        let count = capped_sum(self.count(), piece.len());
+        let dropped = self.lost.is_some() || count > LINE_LIMIT;
+        if dropped || self.kept.extend_from_slice(piece).is_err() {
+            self.kept.clear();
+            self.lost = Some(count);
+        }
+    }
+
+    // How many bytes came, up to the first that is too many.
+    fn count(&self) -> usize
+        ensures { (line : List ℕ) → Stands self.now line → min result (line_limit + 1) ≡ min (length line) (line_limit + 1) }
+    {
+        self.lost.unwrap_or(self.kept.len())
+    }
+}
+
+// The reply to a line of which only the number of its bytes is known.
+fn lost_reply(count: usize) -> ReplyLine
+    ensures { (line : List ℕ) (office : Office) → Stands (Lost count) line → Replies office line result office }
+{
+    if count > LINE_LIMIT {
+        too_long()
+    } else {
+        ReplyLine::out_of_memory()
+    }
+}
+
+// The number of bytes, counted up to the first that is too many.
+fn capped_sum(count: usize, more: usize) -> usize
+    ensures { result ≡ min (count + more) (line_limit + 1) }
+{
+    count.saturating_add(more).min(LINE_LIMIT + 1)
+}
+
+// The index of the first line feed.
+fn line_end(bytes: &[u8]) -> Option<usize>
+    ensures { MatchOption result (has_end bytes.now ≡ false)
+        (λ k. (has_end bytes.now ≡ true) × (k < length bytes.now) × (before_end bytes.now ≡ take k bytes.now)) }
+{
+    memchr(b'\n', bytes)
+}

@@ -1,0 +1,151 @@
+//! The open documents by their names.
+ghost use Rattle.std.specs.Prelude.{◌≡◌, IfSome, OnOk, OnErr, string_bytes};
+ghost use Rattle.std.specs.Option.{option_map};
+ghost use Rattle.std.specs.FinMap as map;
+ghost use Rattle.gateway.specs.Desk.{IsOutcome, admitted, put, spliced_at};
+ghost use Rattle.gateway.specs.Kept.{AllOpened, held, names};
+ghost use Rattle.gateway.specs.Told.{reply_of};
+ghost use Rattle.index_loader.specs.Files.{Files};
+
+use crate::desk::fault::Fault;
+use crate::desk::kept::Kept;
+use crate::desk::reply::Reply;
+use decoder_core::meter;
+use enc_names::Encoding;
+use index_loader::Indexes;
+use piece_rope::Doc;
+use std::alloc::{AllocError, Global};
+use std::collections::BTreeMap;
+use std::marker::Model;
+
+/// How many documents may be open.
+const MAX_DOCUMENTS: usize = 64;
+
+/// The open documents, all of them with the same index files. Contracts see the index files and
+/// the finite map from names.
+#[derive(Drop)]
+pub struct Documents<'i> {
+    indexes: &'i Indexes,
+    named: BTreeMap<String, Kept<'i>>,
+}
+
+impl<'i> Model for Documents<'i> {
+    ghost use Rattle.gateway.specs.Documents.{Shelf};
+    ghost use Rattle.gateway.specs.DeskCodes.{shelf_code};
+
+    ghost Value = { Shelf };
+
+    ghost coded = { shelf_code };
+
+    ghost use Rattle.gateway.specs.Kept.{AllOpened, names};
+
+    ghost view = { λ d. record { indexes = d.indexes.now; named = names d.named.entries } };
+
+    ghost invariant = { λ d. AllOpened d.indexes.now d.named.entries };
+}
+
+impl<'i> Documents<'i> {
+    /// No document, and the index files for those to come.
+    pub fn new(alloc: Global, indexes: &'i Indexes) -> Documents<'i>
+        ensures { result ≡ record { indexes = indexes.now; named = map.empty } }
+    {
+        Documents {
+            indexes,
+            named: BTreeMap::new(alloc),
+        }
+    }
+
+    /// The document of this name.
+    pub fn get(&self, name: &str) -> Option<&Kept<'i>>
+        ensures held { option_map (λ k. held k.now) result ≡ map.get self.now.named name.now }
+        ensures indexes { IfSome result (λ k. k.now.document.indexes ≡ self.now.indexes) }
+    {
+        self.named.get(name)
+    }
+
+    /// Opens a document at revision 0 under a name that is free.
+    #[tactic(auto, unfolding(piece_rope::specs::Edits::open_fault))]
+    pub fn open(
+        &mut self,
+        alloc: Global,
+        name: &str,
+        given: Encoding,
+        bytes: &[u8],
+    ) -> Result<Reply, Fault>
+        requires { map.get self.old.named name.now ≡ None }
+        ensures step { IsOutcome
+            (put self.old.indexes self.old.named name.now (admitted self.old.indexes self.old.named given bytes.now))
+            (reply_of result) self.old.named self.new.named }
+        ensures indexes { self.new.indexes ≡ self.old.indexes }
+    {
+        if self.len() >= MAX_DOCUMENTS {
+            // The want of an index file is told before the want of a place, and no byte matters to it.
+            Doc::open(alloc, self.indexes, given, &[], &mut meter())?;
+            return Err(Fault::TooManyDocuments);
+        }
+        let document = Doc::open(alloc, self.indexes, given, bytes, &mut meter())?;
+        let kept = Kept {
+            document,
+            revision: 0,
+        };
+        let reply = kept.edit_reply();
+        let name = String::from_str(alloc, name)?;
+        self.insert(name, kept)?;
+        Ok(reply)
+    }
+
+    /// Splices the document of this name, as `Kept::splice` does.
+    pub fn splice(
+        &mut self,
+        name: &str,
+        rev: u64,
+        at: u64,
+        del: u64,
+        ins: &[u8],
+    ) -> Result<Reply, Fault>
+        ensures step { IsOutcome
+            (spliced_at self.old.indexes self.old.named name.now rev at del ins.now (map.get self.old.named name.now))
+            (reply_of result) self.old.named self.new.named }
+        ensures indexes { self.new.indexes ≡ self.old.indexes }
+    {
+        splice_in(&mut self.named, name, rev, at, del, ins)
+    }
+
+    /// How many documents are open.
+    fn len(&self) -> usize
+        ensures { result ≡ map.len self.now.named }
+    {
+        self.named.len()
+    }
+
+    /// Puts a document, opened with the same index files, at its name.
+    fn insert(&mut self, name: String, kept: Kept<'i>) -> Result<(), AllocError>
+        requires { kept.document.indexes ≡ self.old.indexes }
+        ensures ok { OnOk result (self.new ≡ record { indexes = self.old.indexes; named = map.insert self.old.named (string_bytes name) (held kept.entry) }) }
+        ensures err { OnErr result (self.new ≡ self.old) }
+    {
+        self.named.insert(name, kept)?;
+        Ok(())
+    }
+}
+
+/// Splices the document of this name among those that are open.
+fn splice_in(
+    named: &mut BTreeMap<String, Kept<'_>>,
+    name: &str,
+    rev: u64,
+    at: u64,
+    del: u64,
+    ins: &[u8],
+) -> Result<Reply, Fault>
+    ensures step { (indexes : Files) → AllOpened indexes named.old.entries → IsOutcome
+        (spliced_at indexes (names named.old.entries) name.now rev at del ins.now (map.get (names named.old.entries) name.now))
+        (reply_of result) (names named.old.entries) (names named.new.entries) }
+    ensures opened { (indexes : Files) → AllOpened indexes named.old.entries → AllOpened indexes named.new.entries }
+{
+    let Some(kept) = named.get_mut(name) else {
+        return Err(Fault::NoDocument);
+    };
+    kept.splice(rev, at, del, ins)?;
+    Ok(kept.edit_reply())
+}

@@ -1,0 +1,74 @@
+//! One open document and its revision.
+ghost use Rattle.std.specs.Prelude.{◌≡◌, OnErr};
+ghost use Rattle.gateway.specs.Documents.{edited, edit_reply, text_reply, errors_reply};
+ghost use Rattle.gateway.specs.Kept.{held};
+ghost use Rattle.gateway.specs.Told.{Gives, with_value};
+
+use crate::desk::fault::Fault;
+use crate::desk::reply::{Reply, ReplyPlaces, ReplyText};
+use decoder_core::meter;
+use piece_rope::Doc;
+
+/// The greatest revision, 2^53 - 1: the greatest whole number that a line may spell.
+const MAX_REVISION: u64 = 9_007_199_254_740_991;
+
+/// A document and its revision, which is the number of its accepted edits.
+#[derive(Drop)]
+pub struct Kept<'i> {
+    pub document: Doc<'i>,
+    pub revision: u64,
+}
+
+impl Kept<'_> {
+    /// The reply to the open or the edit that led to this.
+    pub fn edit_reply(&self) -> Reply
+        ensures { result ≡ edit_reply self.now.document.indexes (held self.now) }
+    {
+        Reply::Edited {
+            bom: self.document.bom_len(),
+            encoding: self.document.encoding(),
+            rev: self.revision,
+        }
+    }
+
+    /// Puts `ins` in place of `del` bytes from `at` on and raises the revision by one, if `rev` is
+    /// the revision now.
+    pub fn splice(&mut self, rev: u64, at: u64, del: u64, ins: &[u8]) -> Result<(), Fault>
+        ensures edit { Gives (edited (held self.old) rev at del ins.now) (with_value (held self.new) result) }
+        ensures indexes { self.new.document.indexes ≡ self.old.document.indexes }
+        ensures err { OnErr result (self.new ≡ self.old) }
+    {
+        if rev != self.revision {
+            return Err(Fault::Stale { rev: self.revision });
+        }
+        if self.revision >= MAX_REVISION {
+            return Err(Fault::RevisionsSpent);
+        }
+        self.document.splice(at, del, ins, &mut meter())?;
+        self.revision += 1;
+        Ok(())
+    }
+
+    /// The code points `from..to`.
+    pub fn text(&self, from: u64, to: u64) -> Result<Reply, Fault>
+        ensures { Gives (text_reply self.now.document.indexes (held self.now) from to) result }
+    {
+        let text = self.document.text(from, to)?;
+        Ok(Reply::Text {
+            rev: self.revision,
+            text: ReplyText::new(text),
+        })
+    }
+
+    /// At most `max` places of errors, from number `from` on.
+    pub fn errors(&self, from: u64, max: u64) -> Result<Reply, Fault>
+        ensures { Gives (errors_reply self.now.document.indexes (held self.now) from max) result }
+    {
+        let places = self.document.errors(from, max)?;
+        Ok(Reply::Errors {
+            rev: self.revision,
+            total: self.document.error_count(),
+            places: ReplyPlaces::new(places),
+        })
+    }
+}

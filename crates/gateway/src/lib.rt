@@ -1,0 +1,18 @@
+//! The gateway: lines of JSON come in over connections, commands act on named documents, reply
+//! lines go out.
+#![tactic(auto)]
+
+mod connection;
+pub mod desk;
+mod device;
+mod gateway;
+mod reply_line;
+mod request;
+mod respond;
+mod serve;
+
+pub use connection::CONNECTIONS;
+pub use device::{Failed, Feed, FromRead, MemFeed, MemOutlet, Outlet, ToWrite};
+pub use gateway::{Event, GateFault, Gateway, Out};
+pub use reply_line::ReplyLine;
+pub use serve::{RunFault, run};

@@ -1,0 +1,105 @@
+//! Reply lines: an object of JSON and a line end.
+
+mod long;
+mod members;
+mod short;
+mod short_text;
+#[cfg(test)]
+mod tests;
+
+use crate::desk::Reply;
+use crate::reply_line::short_text::ShortText;
+use crate::request::Refusal;
+use std::alloc::{AllocError, Global};
+use std::marker::Model;
+
+/// One reply on a line of its own, with its line end. A reply without texts of a document and
+/// without lists stands inline and takes no memory. Contracts see its bytes.
+#[derive(Drop)]
+pub struct ReplyLine {
+    line: Line,
+}
+
+#[derive(Drop)]
+enum Line {
+    Short(ShortText),
+    Long(Vec<u8>),
+}
+
+impl Model for ReplyLine {
+    ghost use Rattle.std.specs.Prelude.{List, ℕ};
+    ghost use Rattle.gateway.specs.ReplyBytes.{bytes_of};
+
+    ghost Value = { List ℕ };
+
+    ghost view = { λ reply. bytes_of reply.line };
+}
+
+impl ReplyLine {
+    ghost use Rattle.std.specs.Prelude.{◌≡◌, ◌≤◌, length, true, IfOk, IsOk};
+    ghost use Rattle.gateway.specs.Replies.{reply_text, refusal_text, memory_text, is_short};
+
+    /// The bytes of the line, the line end included.
+    pub fn bytes(&self) -> &[u8]
+        ensures { result.now ≡ self.now }
+    {
+        match &self.line {
+            Line::Short(text) => text.as_slice(),
+            Line::Long(bytes) => bytes.as_slice(),
+        }
+    }
+
+    /// The line that answers request `id`.
+    ///
+    /// # Errors
+    ///
+    /// A growth of memory was refused, which comes only at a text or a list.
+    pub(crate) fn of(alloc: Global, id: u64, reply: &Reply) -> Result<ReplyLine, AllocError>
+        ensures text { IfOk result (λ line. line ≡ reply_text id reply.now) }
+        ensures short { is_short reply.now ≡ true → IsOk result }
+        ensures inline { is_short reply.now ≡ true → IfOk result (λ line. length line ≤ 256) }
+    {
+        match reply {
+            Reply::Edited { bom, encoding, rev } => {
+                Ok(ReplyLine::inline(short::edited(id, *bom, *encoding, *rev)))
+            }
+            Reply::Text { rev, text } => {
+                let bytes = long::text(alloc, id, *rev, text.as_str())?;
+                Ok(ReplyLine {
+                    line: Line::Long(bytes),
+                })
+            }
+            Reply::Errors { rev, total, places } => {
+                let bytes = long::errors(alloc, id, *rev, *total, places.as_slice())?;
+                Ok(ReplyLine {
+                    line: Line::Long(bytes),
+                })
+            }
+            Reply::Refused { fault } => Ok(ReplyLine::inline(short::fault(id, *fault))),
+        }
+    }
+
+    fn inline(text: ShortText) -> ReplyLine
+        ensures { result ≡ text }
+    {
+        ReplyLine {
+            line: Line::Short(text),
+        }
+    }
+
+    /// The line that answers a line which is refused.
+    pub(crate) fn refused(refusal: Refusal) -> ReplyLine
+        ensures text { result ≡ refusal_text refusal }
+        ensures inline { length result ≤ 256 }
+    {
+        ReplyLine::inline(short::refusal(refusal))
+    }
+
+    /// The line for want of memory, which names no request.
+    pub(crate) fn out_of_memory() -> ReplyLine
+        ensures text { result ≡ memory_text }
+        ensures inline { length result ≤ 256 }
+    {
+        ReplyLine::inline(short::out_of_memory())
+    }
+}

@@ -1,0 +1,118 @@
+//! The replies that hold a text or a list. They are written straight from what they hold.
+ghost use Rattle.std.specs.Prelude.{◌≡◌, IfOk, OnOk};
+ghost use Rattle.serde_json.specs.Data.{array};
+ghost use Rattle.serde_json.specs.Events.{SendsValue, SendsItems};
+ghost use Rattle.gateway.specs.Sent.{IsLineOf};
+ghost use Rattle.gateway.specs.Replies.{line_of, text_data, errors_data, place_data, places_data};
+
+use enc_names::Place;
+use serde::{Described, Serialize, Serializer};
+use std::alloc::{AllocError, Global};
+
+/// The line with the text that was asked for.
+pub(super) fn text(alloc: Global, id: u64, rev: u64, text: &str) -> Result<Vec<u8>, AllocError>
+    ensures { IfOk result (λ line. line.items ≡ line_of (text_data id rev text.now)) }
+{
+    line(alloc, &TextReply { id, rev, text })
+}
+
+/// The line with a page of error places.
+pub(super) fn errors(
+    alloc: Global,
+    id: u64,
+    rev: u64,
+    total: u64,
+    places: &[Place],
+) -> Result<Vec<u8>, AllocError>
+    ensures { IfOk result (λ line. line.items ≡ line_of (errors_data id rev total places.now)) }
+{
+    let reply = ErrorsReply {
+        id,
+        rev,
+        total,
+        places,
+    };
+    line(alloc, &reply)
+}
+
+// What is written fails only where memory does: no key, number or text is refused.
+fn line<T: Serialize>(alloc: Global, reply: &T) -> Result<Vec<u8>, AllocError>
+    ensures { IfOk result (λ line. IsLineOf (T.writes reply.now) line.items) }
+{
+    let Ok(mut line) = serde_json::to_vec(alloc, reply) else {
+        return Err(AllocError);
+    };
+    line.push(b'\n')?;
+    Ok(line)
+}
+
+#[derive(Clone, Copy)]
+struct TextReply<'a> {
+    id: u64,
+    rev: u64,
+    text: &'a str,
+}
+
+impl Described for TextReply<'_> {
+    ghost writes = { λ reply. SendsValue (text_data reply.id reply.rev reply.text.now) };
+}
+
+impl Serialize for TextReply<'_> {
+    fn serialize<S: Serializer>(&self, out: &mut S) -> Result<(), S::Error> {
+        out.begin_map(Some(3))?;
+        out.key("id")?;
+        out.u64(self.id)?;
+        out.key("rev")?;
+        out.u64(self.rev)?;
+        out.key("text")?;
+        out.str(self.text)?;
+        out.end_map()
+    }
+}
+
+#[derive(Clone, Copy)]
+struct ErrorsReply<'a> {
+    id: u64,
+    rev: u64,
+    total: u64,
+    places: &'a [Place],
+}
+
+impl Described for ErrorsReply<'_> {
+    ghost writes = { λ reply. SendsValue
+        (errors_data reply.id reply.rev reply.total reply.places.now) };
+}
+
+impl Serialize for ErrorsReply<'_> {
+    fn serialize<S: Serializer>(&self, out: &mut S) -> Result<(), S::Error> {
+        out.begin_map(Some(4))?;
+        out.key("errors")?;
+        send_places(self.places, out)?;
+        out.key("id")?;
+        out.u64(self.id)?;
+        out.key("rev")?;
+        out.u64(self.rev)?;
+        out.key("total")?;
+        out.u64(self.total)?;
+        out.end_map()
+    }
+}
+
+fn send_places<S: Serializer>(places: &[Place], out: &mut S) -> Result<(), S::Error>
+    ensures { OnOk result (SendsValue (array (places_data places.now)) (S.written out.old) (S.written out.new)) }
+{
+    out.begin_seq(Some(places.len()))?;
+    for place in places {
+        send_place(*place, out)?;
+    }
+    out.end_seq()
+}
+
+fn send_place<S: Serializer>(place: Place, out: &mut S) -> Result<(), S::Error>
+    ensures { OnOk result (SendsValue (place_data place) (S.written out.old) (S.written out.new)) }
+{
+    out.begin_seq(Some(2))?;
+    out.u64(place.from)?;
+    out.u64(place.to)?;
+    out.end_seq()
+}

@@ -1,0 +1,57 @@
+//! An object of JSON on one line, put together without memory.
+ghost use Rattle.std.specs.Prelude.{◌≡◌, ◌≤◌, ◌+◌, ◌++◌, ◌∷◌, length, IsTrue};
+ghost use Rattle.serde_json.specs.Data.{object};
+ghost use Rattle.serde_json.specs.Written.{compact_text, comma_if};
+ghost use Rattle.json.specs.Print.{quoted};
+ghost use Rattle.gateway.specs.Plain.{all_plain};
+ghost use Rattle.gateway.specs.Replies.{IsShortLine};
+ghost use Rattle.gateway.specs.Members.{members_of, are_plain, room_of, content_data, content_is_plain, content_room};
+
+use crate::reply_line::short_text::{CAPACITY, ShortText};
+use itoa::Buffer;
+
+/// What stands at a key.
+#[derive(Clone, Copy)]
+pub(super) enum Content<'a> {
+    Number(u64),
+    /// A text with nothing that JSON escapes.
+    Text(&'a str),
+}
+
+/// The line of an object with these members, in this order.
+pub(super) fn line(members: &[(&str, Content<'_>)]) -> ShortText
+    requires plain { IsTrue (are_plain members.now) }
+    requires room { room_of members.now + 2 ≤ CAPACITY }
+    ensures { IsShortLine (object (members_of members.now)) result }
+{
+    let mut line = ShortText::new();
+    line.push(b'{');
+    let mut later = false;
+    for (key, content) in members {
+        put(&mut line, later, key, *content);
+        later = true;
+    }
+    line.push(b'}');
+    line.push(b'\n');
+    line
+}
+
+fn put(line: &mut ShortText, later: bool, key: &str, content: Content<'_>)
+    requires plain { IsTrue (all_plain key.now) }
+    requires plain_content { IsTrue (content_is_plain content) }
+    requires room { length line.old + length key.now + 4 + content_room content ≤ CAPACITY }
+    ensures text { line.new ≡ line.old ++ (comma_if later
+        ++ (quoted key.now ++ 58 ∷ compact_text (content_data content.entry))) }
+    ensures room { length line.new ≤ length line.old + length key.now + 4
+        + content_room content.entry }
+{
+    if later {
+        line.push(b',');
+    }
+    line.quote(key);
+    line.push(b':');
+    match content {
+        Content::Number(number) => line.extend(Buffer::new().format(number).as_bytes()),
+        Content::Text(text) => line.quote(text),
+    }
+}

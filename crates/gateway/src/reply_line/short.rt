@@ -1,0 +1,135 @@
+//! The replies that take no memory.
+ghost use Rattle.std.specs.Prelude.{◌≡◌, ◌≤◌, length, codes, IsTrue};
+ghost use Rattle.enc_names.specs.Names.{name_of};
+ghost use Rattle.gateway.specs.Plain.{all_plain};
+ghost use Rattle.gateway.specs.Replies.{IsShortLine, edited_data, fault_data, refusal_data, bare_data, numbered_data, bad_request_data, fault_name, field_name};
+
+use crate::desk::Fault;
+use crate::reply_line::members::{Content, line};
+use crate::reply_line::short_text::ShortText;
+use crate::request::{Field, Refusal};
+use enc_names::Encoding;
+
+/// An open or an edit was accepted.
+pub(super) fn edited(id: u64, bom: u64, encoding: Encoding, rev: u64) -> ShortText
+    ensures { IsShortLine (edited_data id bom encoding rev) result }
+{
+    line(&[
+        ("bom", Content::Number(bom)),
+        ("encoding", Content::Text(encoding_name(encoding))),
+        ("id", Content::Number(id)),
+        ("rev", Content::Number(rev)),
+    ])
+}
+
+/// The desk refused the request.
+pub(super) fn fault(id: u64, fault: Fault) -> ShortText
+    ensures { IsShortLine (fault_data id fault) result }
+{
+    match fault {
+        Fault::OutOfMemory => out_of_memory(),
+        Fault::Stale { rev } => line(&[
+            ("fault", Content::Text("Stale")),
+            ("id", Content::Number(id)),
+            ("rev", Content::Number(rev)),
+        ]),
+        _ => numbered(fault_name(fault), id),
+    }
+}
+
+/// The line is refused before the desk sees it.
+pub(super) fn refusal(refusal: Refusal) -> ShortText
+    ensures { IsShortLine (refusal_data refusal) result }
+{
+    match refusal {
+        Refusal::LineTooLong => bare("LineTooLong"),
+        Refusal::BadJson => bare("BadJson"),
+        Refusal::BadRequest { id, field } => bad_request(id, field),
+        Refusal::UnknownOp { id } => numbered("UnknownOp", id),
+        Refusal::OutOfMemory => out_of_memory(),
+    }
+}
+
+/// Memory ran out.
+pub(super) fn out_of_memory() -> ShortText
+    ensures { IsShortLine (bare_data (codes "OutOfMemory")) result }
+{
+    bare("OutOfMemory")
+}
+
+fn bare(fault: &str) -> ShortText
+    requires plain { IsTrue (all_plain fault.now) }
+    requires len { length fault.now ≤ 20 }
+    ensures { IsShortLine (bare_data fault.now) result }
+{
+    line(&[("fault", Content::Text(fault))])
+}
+
+fn numbered(fault: &str, id: u64) -> ShortText
+    requires plain { IsTrue (all_plain fault.now) }
+    requires len { length fault.now ≤ 20 }
+    ensures { IsShortLine (numbered_data fault.now id) result }
+{
+    line(&[("fault", Content::Text(fault)), ("id", Content::Number(id))])
+}
+
+fn bad_request(id: Option<u64>, field: Field) -> ShortText
+    ensures { IsShortLine (bad_request_data id field) result }
+{
+    let fault = ("fault", Content::Text("BadRequest"));
+    let field = ("field", Content::Text(field_name(field)));
+    match id {
+        Some(id) => line(&[fault, field, ("id", Content::Number(id))]),
+        None => line(&[fault, field]),
+    }
+}
+
+fn encoding_name(encoding: Encoding) -> &'static str
+    ensures value { result.now ≡ name_of encoding }
+    ensures plain { IsTrue (all_plain result.now) }
+    ensures len { length result.now ≤ 20 }
+{
+    encoding.name()
+}
+
+fn fault_name(fault: Fault) -> &'static str
+    ensures value { result.now ≡ fault_name fault }
+    ensures plain { IsTrue (all_plain result.now) }
+    ensures len { length result.now ≤ 20 }
+{
+    match fault {
+        Fault::BadBase64 => "BadBase64",
+        Fault::NoDocument => "NoDocument",
+        Fault::NameTaken => "NameTaken",
+        Fault::UnknownLabel => "UnknownLabel",
+        Fault::NoIndex => "NoIndex",
+        Fault::TooManyDocuments => "TooManyDocuments",
+        Fault::Stale { .. } => "Stale",
+        Fault::RevisionsSpent => "RevisionsSpent",
+        Fault::OutOfRange => "OutOfRange",
+        Fault::TooLarge => "TooLarge",
+        Fault::OutOfMemory => "OutOfMemory",
+    }
+}
+
+fn field_name(field: Field) -> &'static str
+    ensures value { result.now ≡ field_name field }
+    ensures plain { IsTrue (all_plain result.now) }
+    ensures len { length result.now ≤ 20 }
+{
+    match field {
+        Field::Object => "",
+        Field::Id => "id",
+        Field::Op => "op",
+        Field::Doc => "doc",
+        Field::Label => "label",
+        Field::Bytes => "bytes",
+        Field::Rev => "rev",
+        Field::At => "at",
+        Field::Del => "del",
+        Field::From => "from",
+        Field::To => "to",
+        Field::Mode => "mode",
+        Field::Max => "max",
+    }
+}

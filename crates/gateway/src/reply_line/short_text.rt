@@ -1,0 +1,73 @@
+//! Text of at most 256 bytes that stands inline.
+
+use std::marker::Model;
+
+/// The most bytes of a short text.
+pub(super) const CAPACITY: usize = 256;
+
+/// A text that needs no memory. Contracts see its bytes.
+#[derive(Drop)]
+pub(super) struct ShortText {
+    bytes: [u8; CAPACITY],
+    len: usize,
+}
+
+impl Model for ShortText {
+    ghost use Rattle.std.specs.Prelude.{ℕ, ◌≤◌, List, take};
+
+    ghost Value = { List ℕ };
+
+    ghost view = { λ t. take t.len t.bytes };
+
+    ghost invariant = { λ t. t.len ≤ 256 };
+}
+
+impl ShortText {
+    ghost use Rattle.std.specs.Prelude.{◌≡◌, ◌≤◌, ◌+◌, List, [], ◌∷◌, ◌++◌, length, IsTrue};
+    ghost use Rattle.json.specs.Print.{quoted};
+    ghost use Rattle.gateway.specs.Plain.{all_plain};
+
+    pub(super) fn new() -> ShortText
+        ensures { result ≡ [] }
+    {
+        ShortText {
+            bytes: [0; CAPACITY],
+            len: 0,
+        }
+    }
+
+    pub(super) fn as_slice(&self) -> &[u8]
+        ensures { result.now ≡ self.now }
+    {
+        &self.bytes[..self.len]
+    }
+
+    pub(super) fn push(&mut self, byte: u8)
+        requires { length self.old + 1 ≤ CAPACITY }
+        ensures { self.new ≡ self.old ++ byte ∷ [] }
+    {
+        self.bytes[self.len] = byte;
+        self.len += 1;
+    }
+
+    pub(super) fn extend(&mut self, more: &[u8])
+        requires { length self.old + length more.now ≤ CAPACITY }
+        ensures { self.new ≡ self.old ++ more.now }
+    {
+        let end = self.len + more.len();
+        self.bytes[self.len..end].copy_from_slice(more);
+        self.len = end;
+    }
+
+    /// Appends a text in quotes, which holds nothing that JSON escapes.
+    pub(super) fn quote(&mut self, text: &str)
+        requires plain { IsTrue (all_plain text.now) }
+        requires room { length self.old + length text.now + 2 ≤ CAPACITY }
+        ensures text { self.new ≡ self.old ++ quoted text.now }
+        ensures len { length self.new ≡ length self.old + length text.now + 2 }
+    {
+        self.push(b'"');
+        self.extend(text.as_bytes());
+        self.push(b'"');
+    }
+}

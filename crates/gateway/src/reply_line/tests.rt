@@ -1,0 +1,179 @@
+//! Worked reply lines, computed on the definition and written.
+ghost use Rattle.std.specs.Prelude.{◌≡◌, ◌++◌, ◌∷◌, [], codes, Some, None};
+ghost use Rattle.enc_names.specs.declared.encoding.Encoding.TheVariants.{Utf8};
+ghost use Rattle.gateway.specs.Replies.{reply_text, refusal_text};
+ghost use Rattle.gateway.specs.declared.desk.fault.Fault.TheVariants as fault;
+ghost use Rattle.gateway.specs.declared.desk.reply.Reply.TheVariants.{Edited, Text, Errors, Refused};
+ghost use Rattle.gateway.specs.declared.request.field.Field.TheVariants as field;
+ghost use Rattle.gateway.specs.declared.request.refusal.Refusal.TheVariants as refusal;
+
+use crate::desk::{Fault, Reply, ReplyPlaces, ReplyText};
+use crate::reply_line::ReplyLine;
+use crate::request::{Field, Refusal};
+use enc_names::{Encoding, Place};
+use std::alloc::Global;
+use std::process::Abort;
+use std::test::Fail;
+
+fn stored_session()
+    ensures open { reply_text 1 (Edited 0 Utf8 0)
+        ≡ codes "{\"bom\":0,\"encoding\":\"UTF-8\",\"id\":1,\"rev\":0}\n" }
+    ensures replaced { reply_text 2 (Text 0 (239 ∷ 191 ∷ 189 ∷ 65 ∷ []))
+        ≡ codes "{\"id\":2,\"rev\":0,\"text\":\"" ++ 239 ∷ 191 ∷ 189 ∷ codes "A\"}\n" }
+    ensures errors { reply_text 3 (Errors 0 1 (record { from = 0; to = 2 } ∷ []))
+        ≡ codes "{\"errors\":[[0,2]],\"id\":3,\"rev\":0,\"total\":1}\n" }
+    ensures splice { reply_text 4 (Edited 0 Utf8 1)
+        ≡ codes "{\"bom\":0,\"encoding\":\"UTF-8\",\"id\":4,\"rev\":1}\n" }
+    ensures whole { reply_text 5 (Text 1 (226 ∷ 130 ∷ 172 ∷ 65 ∷ []))
+        ≡ codes "{\"id\":5,\"rev\":1,\"text\":\"" ++ 226 ∷ 130 ∷ 172 ∷ codes "A\"}\n" }
+    ensures fault { reply_text 6 (Refused fault.OutOfRange)
+        ≡ codes "{\"fault\":\"OutOfRange\",\"id\":6}\n" }
+{}
+
+fn other_replies()
+    ensures stale { reply_text 1 (Refused (fault.Stale 1))
+        ≡ codes "{\"fault\":\"Stale\",\"id\":1,\"rev\":1}\n" }
+    ensures memory { reply_text 1 (Refused fault.OutOfMemory)
+        ≡ codes "{\"fault\":\"OutOfMemory\"}\n" }
+    ensures escapes { reply_text 1 (Text 0 (34 ∷ 92 ∷ 8 ∷ 9 ∷ 10 ∷ 12 ∷ 13 ∷ 31 ∷ 127 ∷ []))
+        ≡ codes "{\"id\":1,\"rev\":0,\"text\":\"\\\"\\\\\\b\\t\\n\\f\\r\\u001f" ++ 127
+        ∷ codes "\"}\n" }
+{}
+
+fn refused_lines()
+    ensures long { refusal_text refusal.LineTooLong ≡ codes "{\"fault\":\"LineTooLong\"}\n" }
+    ensures json { refusal_text refusal.BadJson ≡ codes "{\"fault\":\"BadJson\"}\n" }
+    ensures list { refusal_text (refusal.BadRequest None field.Object)
+        ≡ codes "{\"fault\":\"BadRequest\",\"field\":\"\"}\n" }
+    ensures field { refusal_text (refusal.BadRequest (Some 3) field.Mode)
+        ≡ codes "{\"fault\":\"BadRequest\",\"field\":\"mode\",\"id\":3}\n" }
+    ensures op { refusal_text (refusal.UnknownOp 1) ≡ codes "{\"fault\":\"UnknownOp\",\"id\":1}\n" }
+    ensures memory { refusal_text refusal.OutOfMemory ≡ codes "{\"fault\":\"OutOfMemory\"}\n" }
+{}
+
+fn expect(rt: &impl Abort, line: &ReplyLine, expected: &str) {
+    assert_eq!(rt; line.bytes(), expected.as_bytes());
+}
+
+#[test]
+fn replies_of_the_stored_session(rt: HostRuntime) -> Result<(), Fail> {
+    stored_session();
+    let alloc = rt.alloc();
+    let (bom, encoding) = (0, Encoding::Utf8);
+    let open = Reply::Edited {
+        bom,
+        encoding,
+        rev: 0,
+    };
+    expect(
+        &rt,
+        &ReplyLine::of(alloc, 1, &open)?,
+        "{\"bom\":0,\"encoding\":\"UTF-8\",\"id\":1,\"rev\":0}\n",
+    );
+    let text = ReplyText::new(String::from_str(alloc, "\u{fffd}A")?);
+    expect(
+        &rt,
+        &ReplyLine::of(alloc, 2, &Reply::Text { rev: 0, text })?,
+        "{\"id\":2,\"rev\":0,\"text\":\"\u{fffd}A\"}\n",
+    );
+    let places = ReplyPlaces::new([Place { from: 0, to: 2 }].to_vec(alloc)?);
+    let errors = Reply::Errors {
+        rev: 0,
+        total: 1,
+        places,
+    };
+    expect(
+        &rt,
+        &ReplyLine::of(alloc, 3, &errors)?,
+        "{\"errors\":[[0,2]],\"id\":3,\"rev\":0,\"total\":1}\n",
+    );
+    let fault = Reply::Refused {
+        fault: Fault::OutOfRange,
+    };
+    expect(
+        &rt,
+        &ReplyLine::of(alloc, 6, &fault)?,
+        "{\"fault\":\"OutOfRange\",\"id\":6}\n",
+    );
+    Ok(())
+}
+
+#[test]
+fn replies_that_are_refusals(rt: HostRuntime) -> Result<(), Fail> {
+    other_replies();
+    let alloc = rt.alloc();
+    let stale = Reply::Refused {
+        fault: Fault::Stale { rev: 1 },
+    };
+    expect(
+        &rt,
+        &ReplyLine::of(alloc, 1, &stale)?,
+        "{\"fault\":\"Stale\",\"id\":1,\"rev\":1}\n",
+    );
+    let memory = Reply::Refused {
+        fault: Fault::OutOfMemory,
+    };
+    expect(
+        &rt,
+        &ReplyLine::of(alloc, 1, &memory)?,
+        "{\"fault\":\"OutOfMemory\"}\n",
+    );
+    expect(
+        &rt,
+        &ReplyLine::out_of_memory(),
+        "{\"fault\":\"OutOfMemory\"}\n",
+    );
+    Ok(())
+}
+
+#[test]
+fn replies_to_refused_lines(rt: HostRuntime) {
+    refused_lines();
+    expect(
+        &rt,
+        &ReplyLine::refused(Refusal::LineTooLong),
+        "{\"fault\":\"LineTooLong\"}\n",
+    );
+    expect(
+        &rt,
+        &ReplyLine::refused(Refusal::BadJson),
+        "{\"fault\":\"BadJson\"}\n",
+    );
+    let object = Refusal::BadRequest {
+        id: None,
+        field: Field::Object,
+    };
+    expect(
+        &rt,
+        &ReplyLine::refused(object),
+        "{\"fault\":\"BadRequest\",\"field\":\"\"}\n",
+    );
+    let mode = Refusal::BadRequest {
+        id: Some(3),
+        field: Field::Mode,
+    };
+    expect(
+        &rt,
+        &ReplyLine::refused(mode),
+        "{\"fault\":\"BadRequest\",\"field\":\"mode\",\"id\":3}\n",
+    );
+    let op = Refusal::UnknownOp { id: 1 };
+    expect(
+        &rt,
+        &ReplyLine::refused(op),
+        "{\"fault\":\"UnknownOp\",\"id\":1}\n",
+    );
+}
+
+#[test]
+fn text_is_escaped_in_the_shortest_way(rt: HostRuntime) -> Result<(), Fail> {
+    let alloc = rt.alloc();
+    let text = ReplyText::new(String::from_str(alloc, "\"\\\u{8}\t\n\u{c}\r\u{1f}\u{7f}")?);
+    let line = ReplyLine::of(alloc, 1, &Reply::Text { rev: 0, text })?;
+    expect(
+        &rt,
+        &line,
+        "{\"id\":1,\"rev\":0,\"text\":\"\\\"\\\\\\b\\t\\n\\f\\r\\u001f\u{7f}\"}\n",
+    );
+    Ok(())
+}

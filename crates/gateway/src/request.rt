@@ -1,0 +1,14 @@
+//! What a line asks: its JSON value, and the command that the value's fields spell.
+
+mod commands;
+mod field;
+mod fields;
+mod read;
+mod refusal;
+#[cfg(test)]
+mod tests;
+
+pub(crate) use commands::request;
+pub(crate) use field::Field;
+pub(crate) use read::read;
+pub(crate) use refusal::Refusal;

@@ -1,0 +1,93 @@
+//! From a JSON value to a command.
+ghost use Rattle.std.specs.Prelude.{◌≡◌};
+ghost use Rattle.serde_json.specs.View.{view};
+ghost use Rattle.gateway.specs.Request.{open_of, splice_of, text_of, errors_of, request_of, seen_command, seen};
+ghost use Rattle.gateway.specs.declared.request.refusal.Refusal.TheVariants.{BadRequest};
+
+use crate::desk::Command;
+use crate::request::field::Field;
+use crate::request::fields::{self, MAX_NUMBER};
+use crate::request::refusal::Refusal;
+use serde_json::Value;
+
+/// The most places of errors that one request may ask for.
+const MAX_ENTRIES: u64 = 10_000;
+
+/// The number of a request and its command, which borrows the request's texts.
+///
+/// # Errors
+///
+/// `BadRequest` with the first faulty field in the order of the command's fields, `UnknownOp`.
+pub(crate) fn request(value: &Value) -> Result<(u64, Command<'_>), Refusal>
+    ensures { seen result ≡ request_of (view value.now) }
+{
+    if !value.is_object() {
+        return Err(bad(None, Field::Object));
+    }
+    let id = fields::number(value, "id", MAX_NUMBER).ok_or(bad(None, Field::Id))?;
+    let op = fields::text(value, "op").ok_or(bad(Some(id), Field::Op))?;
+    let command = match op {
+        "open" => open(value),
+        "splice" => splice(value),
+        "text" => text(value),
+        "errors" => errors(value),
+        _ => return Err(Refusal::UnknownOp { id }),
+    };
+    match command {
+        Ok(command) => Ok((id, command)),
+        Err(field) => Err(bad(Some(id), field)),
+    }
+}
+
+fn bad(id: Option<u64>, field: Field) -> Refusal
+    ensures { result ≡ BadRequest id field }
+{
+    Refusal::BadRequest { id, field }
+}
+
+fn open(value: &Value) -> Result<Command<'_>, Field>
+    ensures { seen_command result ≡ open_of (view value.now) }
+{
+    let doc = fields::name(value).ok_or(Field::Doc)?;
+    let label = fields::text(value, "label").ok_or(Field::Label)?;
+    let bytes = fields::text(value, "bytes").ok_or(Field::Bytes)?;
+    Ok(Command::Open { doc, label, bytes })
+}
+
+fn splice(value: &Value) -> Result<Command<'_>, Field>
+    ensures { seen_command result ≡ splice_of (view value.now) }
+{
+    let doc = fields::name(value).ok_or(Field::Doc)?;
+    let rev = fields::number(value, "rev", MAX_NUMBER).ok_or(Field::Rev)?;
+    let at = fields::number(value, "at", MAX_NUMBER).ok_or(Field::At)?;
+    let del = fields::number(value, "del", MAX_NUMBER).ok_or(Field::Del)?;
+    let bytes = fields::text(value, "bytes").ok_or(Field::Bytes)?;
+    Ok(Command::Splice {
+        doc,
+        rev,
+        at,
+        del,
+        bytes,
+    })
+}
+
+fn text(value: &Value) -> Result<Command<'_>, Field>
+    ensures { seen_command result ≡ text_of (view value.now) }
+{
+    let doc = fields::name(value).ok_or(Field::Doc)?;
+    let from = fields::number(value, "from", MAX_NUMBER).ok_or(Field::From)?;
+    let to = fields::number(value, "to", MAX_NUMBER).ok_or(Field::To)?;
+    if !fields::is_replacement(value) {
+        return Err(Field::Mode);
+    }
+    Ok(Command::Text { doc, from, to })
+}
+
+fn errors(value: &Value) -> Result<Command<'_>, Field>
+    ensures { seen_command result ≡ errors_of (view value.now) }
+{
+    let doc = fields::name(value).ok_or(Field::Doc)?;
+    let from = fields::number(value, "from", MAX_NUMBER).ok_or(Field::From)?;
+    let max = fields::number(value, "max", MAX_ENTRIES).ok_or(Field::Max)?;
+    Ok(Command::Errors { doc, from, max })
+}

@@ -1,0 +1,20 @@
+//! The fields of a request.
+
+/// The field that a request is refused for.
+#[derive(Clone, Copy, PartialEq, Eq, Debug)]
+pub(crate) enum Field {
+    /// None of its own: the line is no object.
+    Object,
+    Id,
+    Op,
+    Doc,
+    Label,
+    Bytes,
+    Rev,
+    At,
+    Del,
+    From,
+    To,
+    Mode,
+    Max,
+}

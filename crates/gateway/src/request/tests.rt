@@ -1,0 +1,167 @@
+//! Worked lines: what they spell, computed on the definition, and what is read from them.
+ghost use Rattle.std.specs.Prelude.{◌≡◌, ◌∷◌, [], codes, Ok, Err, Some, None};
+ghost use Rattle.gateway.specs.Asked.{Opens, Splices, Reads, ListsErrors};
+ghost use Rattle.gateway.specs.Request.{spelt};
+ghost use Rattle.gateway.specs.declared.request.field.Field.TheVariants as field;
+ghost use Rattle.gateway.specs.declared.request.refusal.Refusal.TheVariants.{BadJson, BadRequest, UnknownOp};
+
+use crate::desk::Command;
+use crate::request::{Field, Refusal, read, request};
+use std::alloc::Global;
+use std::process::Abort;
+
+fn lines_of_no_command()
+    ensures empty { spelt [] ≡ Err BadJson }
+    ensures cut { spelt (codes "{") ≡ Err BadJson }
+    ensures not_utf8 { spelt (34 ∷ 255 ∷ 34 ∷ []) ≡ Err BadJson }
+    ensures list { spelt (codes "[]") ≡ Err (BadRequest None field.Object) }
+    ensures no_id { spelt (codes "{\"op\":7}") ≡ Err (BadRequest None field.Id) }
+    ensures no_op { spelt (codes "{\"id\":1}") ≡ Err (BadRequest (Some 1) field.Op) }
+    ensures zap { spelt (codes "{\"id\":1,\"op\":\"zap\"}") ≡ Err (UnknownOp 1) }
+{}
+
+fn numbers()
+    ensures greatest { spelt (codes "{\"id\":9007199254740991,\"op\":\"\"}")
+        ≡ Err (UnknownOp 9007199254740991) }
+    ensures above { spelt (codes "{\"id\":9007199254740992,\"op\":\"\"}")
+        ≡ Err (BadRequest None field.Id) }
+    ensures point { spelt (codes "{\"id\":1.0,\"op\":\"\"}") ≡ Err (BadRequest None field.Id) }
+    ensures exponent { spelt (codes "{\"id\":1e2,\"op\":\"\"}") ≡ Err (BadRequest None field.Id) }
+    ensures minus { spelt (codes "{\"id\":-0,\"op\":\"\"}") ≡ Err (BadRequest None field.Id) }
+    ensures text { spelt (codes "{\"id\":\"1\",\"op\":\"\"}") ≡ Err (BadRequest None field.Id) }
+    ensures last { spelt (codes "{\"id\":1,\"op\":\"\",\"id\":2}") ≡ Err (UnknownOp 2) }
+{}
+
+fn commands()
+    ensures open { spelt (codes
+        "{\"id\":1,\"op\":\"open\",\"doc\":\"a\",\"label\":\"utf-8\",\"bytes\":\"4oJB\"}")
+        ≡ Ok (1, Opens (codes "a") (codes "utf-8") (codes "4oJB")) }
+    ensures splice { spelt (codes
+        "{\"id\":4,\"op\":\"splice\",\"doc\":\"a\",\"rev\":0,\"at\":2,\"del\":1,\"bytes\":\"rA==\"}")
+        ≡ Ok (4, Splices (codes "a") 0 2 1 (codes "rA==")) }
+    ensures text { spelt (codes "{\"id\":2,\"op\":\"text\",\"doc\":\"a\",\"from\":0,\"to\":2}")
+        ≡ Ok (2, Reads (codes "a") 0 2) }
+    ensures mode { spelt (codes
+        "{\"id\":2,\"op\":\"text\",\"doc\":\"a\",\"from\":0,\"to\":2,\"mode\":\"replacement\"}")
+        ≡ Ok (2, Reads (codes "a") 0 2) }
+    ensures errors { spelt (codes
+        "{\"id\":3,\"op\":\"errors\",\"doc\":\"a\",\"from\":0,\"max\":10000}")
+        ≡ Ok (3, ListsErrors (codes "a") 0 10000) }
+{}
+
+fn faulty_fields()
+    ensures no_name { spelt (codes "{\"id\":1,\"op\":\"text\",\"doc\":\"\"}")
+        ≡ Err (BadRequest (Some 1) field.Doc) }
+    ensures first { spelt (codes "{\"id\":1,\"op\":\"text\",\"from\":-1}")
+        ≡ Err (BadRequest (Some 1) field.Doc) }
+    ensures null_mode { spelt (codes
+        "{\"id\":1,\"op\":\"text\",\"doc\":\"a\",\"from\":0,\"to\":2,\"mode\":null}")
+        ≡ Err (BadRequest (Some 1) field.Mode) }
+    ensures fatal_mode { spelt (codes
+        "{\"id\":1,\"op\":\"text\",\"doc\":\"a\",\"from\":0,\"to\":2,\"mode\":\"fatal\"}")
+        ≡ Err (BadRequest (Some 1) field.Mode) }
+    ensures max { spelt (codes
+        "{\"id\":1,\"op\":\"errors\",\"doc\":\"a\",\"from\":0,\"max\":10001}")
+        ≡ Err (BadRequest (Some 1) field.Max) }
+{}
+
+// The refusal of a line, or none.
+fn refusal(alloc: Global, line: &str) -> Option<Refusal> {
+    match read(alloc, line.as_bytes()) {
+        Ok(value) => request(&value).err(),
+        Err(refusal) => Some(refusal),
+    }
+}
+
+fn expect_fault(rt: &impl Abort, alloc: Global, fields: &str, field: Field) {
+    let id = Some(1);
+    assert_eq!(rt;
+        refusal(alloc, fields),
+        Some(Refusal::BadRequest { id, field })
+    );
+}
+
+#[test]
+fn lines_that_spell_no_command(rt: HostRuntime) {
+    lines_of_no_command();
+    let alloc = rt.alloc();
+    assert_eq!(rt; refusal(alloc, ""), Some(Refusal::BadJson));
+    let (id, field) = (None, Field::Object);
+    assert_eq!(rt;
+        refusal(alloc, "[]"),
+        Some(Refusal::BadRequest { id, field })
+    );
+    let (id, field) = (Some(1), Field::Op);
+    assert_eq!(rt;
+        refusal(alloc, "{\"id\":1}"),
+        Some(Refusal::BadRequest { id, field })
+    );
+    let zap = "{\"id\":1,\"op\":\"zap\"}";
+    assert_eq!(rt; refusal(alloc, zap), Some(Refusal::UnknownOp { id: 1 }));
+}
+
+#[test]
+fn numbers_that_are_no_id(rt: HostRuntime) {
+    numbers();
+    let alloc = rt.alloc();
+    let lines = [
+        "{\"id\":9007199254740992,\"op\":\"\"}",
+        "{\"id\":18446744073709551616,\"op\":\"\"}",
+        "{\"id\":1.5,\"op\":\"\"}",
+        "{\"id\":\"1\",\"op\":\"\"}",
+    ];
+    for line in lines {
+        let (id, field) = (None, Field::Id);
+        assert_eq!(rt;
+            refusal(alloc, line),
+            Some(Refusal::BadRequest { id, field })
+        );
+    }
+}
+
+#[test]
+fn commands_of_the_stored_session(rt: HostRuntime) {
+    commands();
+    let alloc = rt.alloc();
+    let line =
+        "{\"id\":4,\"op\":\"splice\",\"doc\":\"a\",\"rev\":0,\"at\":2,\"del\":1,\"bytes\":\"rA==\"}";
+    match read(alloc, line.as_bytes()) {
+        Ok(value) => {
+            let asked = request(&value);
+            assert!(rt;
+                matches!(
+                    asked,
+                    Ok((
+                        4,
+                        Command::Splice {
+                            doc: "a",
+                            rev: 0,
+                            at: 2,
+                            del: 1,
+                            bytes: "rA=="
+                        }
+                    ))
+                )
+            );
+        }
+        Err(_) => assert!(rt; false),
+    }
+}
+
+#[test]
+fn the_first_faulty_field_is_named(rt: HostRuntime) {
+    faulty_fields();
+    let alloc = rt.alloc();
+    expect_fault(
+        &rt,
+        alloc,
+        "{\"id\":1,\"op\":\"text\",\"from\":-1}",
+        Field::Doc,
+    );
+    let splice = "{\"id\":1,\"op\":\"splice\",\"doc\":\"a\",\"rev\":0,\"at\":2,\"del\":1}";
+    expect_fault(&rt, alloc, splice, Field::Bytes);
+    let errors = "{\"id\":1,\"op\":\"errors\",\"doc\":\"a\",\"from\":0,\"max\":10001}";
+    expect_fault(&rt, alloc, errors, Field::Max);
+    let text = "{\"id\":1,\"op\":\"text\",\"doc\":\"a\",\"from\":0,\"to\":2,\"mode\":\"fatal\"}";
+    expect_fault(&rt, alloc, text, Field::Mode);
+}

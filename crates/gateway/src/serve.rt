@@ -1,0 +1,169 @@
+//! One connection, from a reader to a writer.
+ghost use Rattle.std.specs.Prelude.{◌≡◌, ◌+◌, ◌<◌, ◌≤◌, ◌↔◌, ◌≢◌, None, Err, IsSome, IfOk, OnOk, length, take};
+ghost use Rattle.std.specs.Io.KnownBytes.{IsAtEnd};
+ghost use Rattle.gateway.specs.Devices.{failures_after};
+ghost use Rattle.gateway.specs.Events.{gate_fault, Opening};
+ghost use Rattle.gateway.specs.Serving.{Runs, ends_of, read_failures_of, write_failures_of, IsReadUp};
+ghost use Rattle.gateway.specs.Feeding.{IsOpen, Feeds, FeedsFront, Pumps, EndsAt, progress_ends_of};
+
+use crate::device::{Failed, Feed, Outlet, write_all};
+use crate::gateway::{Event, Gateway};
+
+#[cfg(test)]
+mod tests;
+
+/// The most bytes of one read.
+const PIECE: usize = 4096;
+
+/// The most reads of one run.
+const MOST_READS: u64 = 1 << 32;
+
+/// Why a run ended before its reader did.
+#[derive(Clone, Copy, PartialEq, Eq, Debug)]
+pub enum RunFault {
+    /// The connection is open already, or there is none of this number.
+    NotFree,
+    /// A read failed.
+    Read,
+    /// A write failed.
+    Write,
+    /// The reader was read 2^32 times.
+    TooManyReads,
+}
+
+/// Whether there is more to read.
+enum Progress {
+    More,
+    End,
+}
+
+/// Opens connection `c`, feeds it what the reader gives, and writes the replies, each before the
+/// next line is decided. Closes the connection at the reader's end or at a fault. The documents
+/// stay in the gateway.
+pub fn run<R: Feed, W: Outlet>(
+    gateway: &mut Gateway<'_>,
+    c: u8,
+    reader: &mut R,
+    writer: &mut W,
+) -> Result<(), RunFault>
+    ensures not_free { (result ≡ Err RunFault.NotFree) ↔ IsSome (gate_fault gateway.old.lines (Opening c)) }
+    ensures untouched { result ≡ Err RunFault.NotFree → (reader.new ≡ reader.old) × (writer.new ≡ writer.old) }
+    ensures runs { Runs result c gateway.old gateway.new (R.left reader.old) (R.left reader.new) (W.written writer.old) (W.written writer.new) }
+    ensures end { OnOk result (IsAtEnd (R.left reader.new)) }
+    ensures ends { R.ends reader.new ≡ R.ends reader.old + ends_of result }
+    ensures reads { IsReadUp result (R.reads reader.old) (R.reads reader.new) }
+    ensures read_failures { R.failures reader.new ≡ R.failures reader.old + read_failures_of result }
+    ensures write_failures { W.failures writer.new ≡ W.failures writer.old + write_failures_of result }
+{
+    if gateway.event(Event::Open(c)).is_err() {
+        return Err(RunFault::NotFree);
+    }
+    let result = pump(gateway, c, reader, writer);
+    let _ = gateway.event(Event::Close(c));
+    result
+}
+
+// Reads and feeds until the end or a fault.
+fn pump<R: Feed, W: Outlet>(
+    gateway: &mut Gateway<'_>,
+    c: u8,
+    reader: &mut R,
+    writer: &mut W,
+) -> Result<(), RunFault>
+    requires { IsOpen gateway.old c }
+    ensures pumps { Pumps result c gateway.old gateway.new (R.left reader.old) (R.left reader.new) (W.written writer.old) (W.written writer.new) }
+    ensures end { OnOk result (IsAtEnd (R.left reader.new)) }
+    ensures ends { R.ends reader.new ≡ R.ends reader.old + ends_of result }
+    ensures reads { IsReadUp result (R.reads reader.old) (R.reads reader.new) }
+    ensures read_failures { R.failures reader.new ≡ R.failures reader.old + read_failures_of result }
+    ensures write_failures { W.failures writer.new ≡ W.failures writer.old + write_failures_of result }
+{
+    let mut buffer = [0; PIECE];
+    for _ in 0..MOST_READS {
+        match read_once(gateway, c, reader, writer, &mut buffer) {
+            Ok(Progress::More) => {}
+            Ok(Progress::End) => return Ok(()),
+            Err(fault) => return Err(fault),
+        }
+    }
+    Err(RunFault::TooManyReads)
+}
+
+// Reads once, and feeds what came.
+fn read_once<R: Feed, W: Outlet>(
+    gateway: &mut Gateway<'_>,
+    c: u8,
+    reader: &mut R,
+    writer: &mut W,
+    buffer: &mut [u8],
+) -> Result<Progress, RunFault>
+    requires open { IsOpen gateway.old c }
+    requires room { 0 < length buffer.old }
+    ensures pumps { Pumps result c gateway.old gateway.new (R.left reader.old) (R.left reader.new) (W.written writer.old) (W.written writer.new) }
+    ensures end { IfOk result (λ progress. EndsAt progress (R.left reader.new)) }
+    ensures ends { R.ends reader.new ≡ R.ends reader.old + progress_ends_of result }
+    ensures reads { R.reads reader.new ≡ R.reads reader.old + 1 }
+    ensures not_reads { result ≢ Err RunFault.TooManyReads }
+    ensures read_failures { R.failures reader.new ≡ R.failures reader.old + read_failures_of result }
+    ensures write_failures { W.failures writer.new ≡ W.failures writer.old + write_failures_of result }
+{
+    let n = match reader.read(buffer) {
+        Ok(n) => n,
+        Err(Failed) => return Err(RunFault::Read),
+    };
+    if n == 0 {
+        return Ok(Progress::End);
+    }
+    match feed(gateway, c, &buffer[..n], writer) {
+        Ok(()) => Ok(Progress::More),
+        Err(Failed) => Err(RunFault::Write),
+    }
+}
+
+// Feeds all of the bytes, line by line.
+fn feed<W: Outlet>(
+    gateway: &mut Gateway<'_>,
+    c: u8,
+    bytes: &[u8],
+    writer: &mut W,
+) -> Result<(), Failed>
+    requires { IsOpen gateway.old c }
+    ensures feeds { Feeds result c bytes.now gateway.old gateway.new (W.written writer.old) (W.written writer.new) }
+    ensures failures { W.failures writer.new ≡ failures_after result (W.failures writer.old) }
+{
+    let mut done = 0;
+    while done < bytes.len() {
+        match feed_line(gateway, c, &bytes[done..], writer) {
+            Ok(taken) => done += taken,
+            Err(Failed) => return Err(Failed),
+        }
+    }
+    Ok(())
+}
+
+// Feeds the bytes up to and with the first line feed, and writes the reply to the line that they
+// complete. Says how many bytes they were.
+fn feed_line<W: Outlet>(
+    gateway: &mut Gateway<'_>,
+    c: u8,
+    bytes: &[u8],
+    writer: &mut W,
+) -> Result<usize, Failed>
+    requires { IsOpen gateway.old c }
+    ensures bound { IfOk result (λ n. n ≤ length bytes.now) }
+    ensures some { IfOk result (λ n. 0 < length bytes.now → 0 < n) }
+    ensures feeds { FeedsFront result c bytes.now gateway.old gateway.new (W.written writer.old) (W.written writer.new) }
+    ensures failures { W.failures writer.new ≡ failures_after result (W.failures writer.old) }
+{
+    let out = match gateway.event(Event::Bytes(c, bytes)) {
+        Ok(out) => out,
+        Err(_) => unreachable!(),
+    };
+    match &out.reply {
+        None => Ok(out.taken),
+        Some(reply) => match write_all(writer, reply.bytes()) {
+            Ok(()) => Ok(out.taken),
+            Err(Failed) => Err(Failed),
+        },
+    }
+}

@@ -1,0 +1,48 @@
+-- The loaded index files and which of them an encoding needs (Encoding Standard, "Indexes").
+use Rattle.std.specs.Prelude.{ℕ, Bool, List, [], ◌∷◌, replicate, set, Option, Some, None, is_some, slice_index_or}
+use Rattle.std.specs.List.{list_all}
+use Rattle.enc_names.specs.declared.encoding.Encoding.{Encoding}
+use Rattle.enc_names.specs.declared.encoding.Encoding.TheVariants.{Utf8, Utf16Be, Utf16Le, Replacement, XUserDefined, Gbk, Gb18030, Big5, EucJp, Iso2022Jp, ShiftJis, EucKr}
+use Rattle.index_loader.specs.declared.kind.IndexKind.{IndexKind}
+use Rattle.index_loader.specs.declared.kind.IndexKind.TheVariants.{SingleByte, Jis0208, Jis0212, Big5 as big5_kind, EucKr as euc_kr_kind, Gb18030 as gb18030_kind, Gb18030Ranges, Katakana}
+use Rattle.index_loader.specs.Kinds.{slot_of}
+
+-- what an index file spells: pointers, each with its code point
+abbrev pub Pairs : Type 0
+Pairs = List (ℕ × ℕ)
+
+-- the loaded files: at each kind's place the pairs of the file of that kind, if it is there
+pub record Files : Type 0 where
+  pub slots : List (Option Pairs)
+
+-- no file at all
+abbrev pub no_files : Files
+no_files = record { slots = replicate 34 None }
+
+-- the pairs of the file of a kind
+abbrev pub pairs_of : Files → IndexKind → Option Pairs
+pairs_of files kind = slice_index_or files.slots (slot_of kind) None
+
+-- the files with this one in place of the file of its kind
+abbrev pub with_file : Files → IndexKind → Pairs → Files
+with_file files kind pairs = record { slots = set files.slots (slot_of kind) (Some pairs) }
+
+-- the kinds of the files that an encoding needs
+abbrev pub files_needed : Encoding → List IndexKind
+files_needed Utf8 = []
+files_needed Utf16Be = []
+files_needed Utf16Le = []
+files_needed Replacement = []
+files_needed XUserDefined = []
+files_needed ShiftJis = Jis0208 ∷ []
+files_needed EucJp = Jis0208 ∷ Jis0212 ∷ []
+files_needed Iso2022Jp = Jis0208 ∷ Katakana ∷ []
+files_needed EucKr = euc_kr_kind ∷ []
+files_needed Big5 = big5_kind ∷ []
+files_needed Gb18030 = gb18030_kind ∷ Gb18030Ranges ∷ []
+files_needed Gbk = gb18030_kind ∷ Gb18030Ranges ∷ []
+files_needed encoding = SingleByte encoding ∷ []
+
+-- all files that an encoding needs are there
+abbrev pub has_files : Files → Encoding → Bool
+has_files files encoding = list_all (λ kind. is_some (pairs_of files kind)) (files_needed encoding)

@@ -1,0 +1,4 @@
+pub mod Gathered
+pub mod Keeping
+pub mod Offsets
+pub mod Utf8

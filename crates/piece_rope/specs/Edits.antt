@@ -1,0 +1,49 @@
+-- Edits of a document, and what refuses them.
+use Rattle.std.specs.Prelude.{◌≡◌, ℕ, ◌+◌, ◌&&◌, nat_le, List, ◌++◌, length, take, drop, Option, Some, None, Result, Ok, Err, if◌then◌else◌}
+use Rattle.enc_names.specs.declared.encoding.Encoding.{Encoding}
+use Rattle.index_loader.specs.Files.{Files}
+use Rattle.piece_rope.specs.declared.fault.DocFault.{DocFault}
+use Rattle.piece_rope.specs.declared.fault.DocFault.TheVariants.{NoIndex, OutOfRange, TooLarge, OutOfMemory}
+use Rattle.piece_rope.specs.Decode.{is_decoded}
+use Rattle.piece_rope.specs.Document.{Document, text_of, errors_of}
+
+-- the most bytes that a document has
+abbrev pub document_limit : ℕ
+document_limit = 2097152
+
+-- the bytes before `at`, then those put in, then those from `at + del` on
+abbrev pub spliced : List ℕ → ℕ → ℕ → List ℕ → List ℕ
+spliced bytes at del ins = take at bytes ++ ins ++ drop (at + del) bytes
+
+-- the document with the bytes of a splice
+abbrev pub spliced_document : Document → ℕ → ℕ → List ℕ → Document
+spliced_document d at del ins = record d { bytes = spliced d.bytes at del ins }
+
+-- The first cause, in the fixed order, that refuses a call.
+unfoldable pub open_fault : Files → Encoding → List ℕ → Option DocFault
+open_fault files encoding bytes =
+    if is_decoded files encoding then (if nat_le (length bytes) document_limit then None else Some TooLarge) else Some NoIndex
+
+unfoldable pub splice_fault : List ℕ → ℕ → ℕ → List ℕ → Option DocFault
+splice_fault bytes at del ins =
+    if nat_le (at + del) (length bytes)
+    then (if nat_le (length (spliced bytes at del ins)) document_limit then None else Some TooLarge)
+    else Some OutOfRange
+
+unfoldable pub text_fault : Document → ℕ → ℕ → Option DocFault
+text_fault d i j = if nat_le i j && nat_le j (length (text_of d)) then None else Some OutOfRange
+
+unfoldable pub errors_fault : Document → ℕ → Option DocFault
+errors_fault d from = if nat_le from (length (errors_of d)) then None else Some OutOfRange
+
+-- the cause that an answer names; want of memory is none, and may stand in place of any answer that names none
+abbrev pub named : DocFault → Option DocFault
+named NoIndex = Some NoIndex
+named OutOfRange = Some OutOfRange
+named TooLarge = Some TooLarge
+named OutOfMemory = None
+
+-- a call's answer names the cause that refuses it, and where there is none it is no refusal, or want of memory
+abbrev pub Faults : {A : Type 0} → Option DocFault → Result A DocFault → Type 0
+Faults fault (Ok x) = fault ≡ None
+Faults fault (Err e) = fault ≡ named e

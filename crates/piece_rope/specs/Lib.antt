@@ -1,0 +1,6 @@
+pub mod Decode
+pub mod Document
+pub mod Edits
+pub mod Gathered
+pub mod Kept
+pub mod Written

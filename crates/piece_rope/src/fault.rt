@@ -1,0 +1,27 @@
+//! Why a call on a document is refused.
+
+use std::alloc::AllocError;
+
+/// Why a call on a document is refused.
+#[derive(Clone, Copy, PartialEq, Eq, Debug)]
+pub enum DocFault {
+    /// The encoding has no decoder, or one of its index files isn't there.
+    NoIndex,
+    /// A place past the end, or a range whose start is after its end.
+    OutOfRange,
+    /// The document would have more than 2,097,152 bytes.
+    TooLarge,
+    /// A growth of memory was refused.
+    OutOfMemory,
+}
+
+impl From<AllocError> for DocFault {
+    ghost use Rattle.std.specs.Prelude.{◌≡◌};
+    ghost use Rattle.piece_rope.specs.declared.fault.DocFault.TheVariants.{OutOfMemory};
+
+    ghost from_gives = { λ _ fault. fault ≡ OutOfMemory };
+
+    fn from(_: AllocError) -> DocFault {
+        DocFault::OutOfMemory
+    }
+}

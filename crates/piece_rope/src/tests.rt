@@ -1,0 +1,263 @@
+//! Documents at work: worked examples, refusals, and calls with ample memory.
+
+use super::*;
+use decoder_core::{Meter, meter};
+use enc_names::{Encoding, Place};
+use index_loader::Indexes;
+use std::alloc::Global;
+use std::process::Abort;
+use std::test::Fail;
+
+/// A document of these bytes, spliced together byte by byte from the empty document.
+fn spliced_together<'i>(
+    alloc: Global,
+    indexes: &'i Indexes,
+    bytes: &[u8],
+    meter: &mut Meter,
+) -> Result<Doc<'i>, DocFault> {
+    let mut doc = Doc::open(alloc, indexes, Encoding::Utf8, &[], meter)?;
+    for (at, byte) in bytes.iter().enumerate() {
+        doc.splice(at as u64, 0, &[*byte], meter)?;
+    }
+    Ok(doc)
+}
+
+/// The document answers everything with this text and these errors.
+fn answers(rt: &impl Abort, doc: &Doc<'_>, text: &str, errors: &[Place]) -> Result<(), DocFault> {
+    let length = text.chars().count() as u64;
+    let number = errors.len() as u64;
+    assert_eq!(rt; doc.text(0, length)?.as_str(), text);
+    assert_eq!(rt; doc.text(0, length + 1).err(), Some(DocFault::OutOfRange));
+    assert_eq!(rt; doc.errors(0, number)?.as_slice(), errors);
+    assert_eq!(rt; doc.error_count(), number);
+    assert_eq!(rt; doc.encoding(), Encoding::Utf8);
+    assert_eq!(rt; doc.bom_len(), 0);
+    Ok(())
+}
+
+/// The text and the errors are answered of a document opened whole, and of one spliced together.
+fn decodes(
+    rt: &impl Abort,
+    alloc: Global,
+    bytes: &[u8],
+    text: &str,
+    errors: &[Place],
+) -> Result<(), DocFault> {
+    let indexes = Indexes::new();
+    let mut meter = meter();
+    let whole = Doc::open(alloc, &indexes, Encoding::Utf8, bytes, &mut meter)?;
+    answers(rt, &whole, text, errors)?;
+    let spliced = spliced_together(alloc, &indexes, bytes, &mut meter)?;
+    answers(rt, &spliced, text, errors)
+}
+
+/// The error of these bytes.
+fn error(from: u64, to: u64) -> Place {
+    Place { from, to }
+}
+
+#[test]
+fn empty_document(rt: HostRuntime) -> Result<(), Fail> {
+    decodes(&rt, rt.alloc(), &[], "", &[])?;
+    Ok(())
+}
+
+#[test]
+fn sequence_cut_short_by_ascii(rt: HostRuntime) -> Result<(), Fail> {
+    decodes(
+        &rt,
+        rt.alloc(),
+        &[0xE2, 0x82, 0x41],
+        "\u{FFFD}A",
+        &[error(0, 2)],
+    )?;
+    Ok(())
+}
+
+#[test]
+fn sequence_cut_short_by_the_end(rt: HostRuntime) -> Result<(), Fail> {
+    decodes(
+        &rt,
+        rt.alloc(),
+        &[0xF0, 0x9F, 0x98],
+        "\u{FFFD}",
+        &[error(0, 3)],
+    )?;
+    Ok(())
+}
+
+#[test]
+fn overlong_form_is_two_errors(rt: HostRuntime) -> Result<(), Fail> {
+    decodes(
+        &rt,
+        rt.alloc(),
+        &[0xC0, 0x80],
+        "\u{FFFD}\u{FFFD}",
+        &[error(0, 1), error(1, 2)],
+    )?;
+    Ok(())
+}
+
+#[test]
+fn euro_sign(rt: HostRuntime) -> Result<(), Fail> {
+    decodes(&rt, rt.alloc(), &[0xE2, 0x82, 0xAC], "\u{20AC}", &[])?;
+    Ok(())
+}
+
+#[test]
+fn forms_of_each_length_among_errors(rt: HostRuntime) -> Result<(), Fail> {
+    let bytes = [
+        0x61, 0xFF, 0xC3, 0xA9, 0xE2, 0x82, 0xAC, 0xED, 0xA0, 0x80, 0xF0, 0x9F, 0x98, 0x80, 0xE2,
+    ];
+    let errors = [
+        error(1, 2),
+        error(7, 8),
+        error(8, 9),
+        error(9, 10),
+        error(14, 15),
+    ];
+    decodes(
+        &rt,
+        rt.alloc(),
+        &bytes,
+        "a\u{FFFD}\u{E9}\u{20AC}\u{FFFD}\u{FFFD}\u{FFFD}\u{1F600}\u{FFFD}",
+        &errors,
+    )?;
+    Ok(())
+}
+
+#[test]
+fn text_in_parts(rt: HostRuntime) -> Result<(), Fail> {
+    let indexes = Indexes::new();
+    let bytes = "a\u{E9}\u{20AC}\u{1F600}b".as_bytes();
+    let doc = Doc::open(rt.alloc(), &indexes, Encoding::Utf8, bytes, &mut meter())?;
+    assert_eq!(rt; doc.text(0, 0)?.as_str(), "");
+    assert_eq!(rt; doc.text(1, 3)?.as_str(), "\u{E9}\u{20AC}");
+    assert_eq!(rt; doc.text(3, 5)?.as_str(), "\u{1F600}b");
+    assert_eq!(rt; doc.text(5, 5)?.as_str(), "");
+    assert_eq!(rt; doc.text(2, 1).err(), Some(DocFault::OutOfRange));
+    assert_eq!(rt; doc.text(5, 6).err(), Some(DocFault::OutOfRange));
+    assert_eq!(rt; doc.text(0, u64::MAX).err(), Some(DocFault::OutOfRange));
+    Ok(())
+}
+
+#[test]
+fn errors_page_by_page(rt: HostRuntime) -> Result<(), Fail> {
+    let indexes = Indexes::new();
+    let doc = Doc::open(
+        rt.alloc(),
+        &indexes,
+        Encoding::Utf8,
+        &[0xFF, 0x41, 0xFF, 0xFF],
+        &mut meter(),
+    )?;
+    assert_eq!(rt; doc.errors(0, 0)?.as_slice(), [].as_slice());
+    assert_eq!(rt; doc.errors(1, 1)?.as_slice(), [error(2, 3)].as_slice());
+    assert_eq!(rt;
+        doc.errors(1, u64::MAX)?.as_slice(),
+        [error(2, 3), error(3, 4)].as_slice()
+    );
+    assert_eq!(rt; doc.errors(3, 10)?.as_slice(), [].as_slice());
+    assert_eq!(rt; doc.errors(4, 10).err(), Some(DocFault::OutOfRange));
+    Ok(())
+}
+
+#[test]
+fn splice_mends_a_sequence_and_breaks_it(rt: HostRuntime) -> Result<(), Fail> {
+    let indexes = Indexes::new();
+    let mut meter = meter();
+    let mut doc = Doc::open(
+        rt.alloc(),
+        &indexes,
+        Encoding::Utf8,
+        &[0xE2, 0x82, 0x41],
+        &mut meter,
+    )?;
+    doc.splice(2, 0, &[0xAC], &mut meter)?;
+    answers(&rt, &doc, "\u{20AC}A", &[])?;
+    doc.splice(0, 1, &[0x42, 0x43], &mut meter)?;
+    answers(
+        &rt,
+        &doc,
+        "BC\u{FFFD}\u{FFFD}A",
+        &[error(2, 3), error(3, 4)],
+    )?;
+    assert_eq!(rt; meter.decoded(), 3 + 4 + 5);
+    Ok(())
+}
+
+#[test]
+fn splice_past_the_end_changes_nothing(rt: HostRuntime) -> Result<(), Fail> {
+    let indexes = Indexes::new();
+    let mut meter = meter();
+    let mut doc = Doc::open(rt.alloc(), &indexes, Encoding::Utf8, b"abc", &mut meter)?;
+    for (at, del) in [(4, 0), (3, 1), (0, 4), (u64::MAX, 0), (1, u64::MAX)] {
+        let refused = doc.splice(at, del, b"x", &mut meter).err();
+        assert_eq!(rt; refused, Some(DocFault::OutOfRange), "at {at}, {del} bytes");
+    }
+    answers(&rt, &doc, "abc", &[])?;
+    doc.splice(3, 0, b"d", &mut meter)?;
+    doc.splice(0, 4, b"", &mut meter)?;
+    answers(&rt, &doc, "", &[])?;
+    Ok(())
+}
+
+#[test]
+fn limit_of_a_document(rt: HostRuntime) -> Result<(), Fail> {
+    let indexes = Indexes::new();
+    let mut meter = meter();
+    let full = vec![in rt.alloc(); b'a'; 2_097_152]?;
+    let past = vec![in rt.alloc(); b'a'; 2_097_153]?;
+    let refused = Doc::open(rt.alloc(), &indexes, Encoding::Utf8, &past, &mut meter).err();
+    assert_eq!(rt; refused, Some(DocFault::TooLarge));
+    assert_eq!(rt; meter.decoded(), 0);
+    let mut doc = Doc::open(rt.alloc(), &indexes, Encoding::Utf8, &full, &mut meter)?;
+    assert_eq!(rt; meter.decoded(), 2_097_152);
+    assert_eq!(rt;
+        doc.splice(7, 0, b"b", &mut meter).err(),
+        Some(DocFault::TooLarge)
+    );
+    assert_eq!(rt;
+        doc.splice(2_097_152, 1, b"b", &mut meter).err(),
+        Some(DocFault::OutOfRange)
+    );
+    doc.splice(7, 1, b"b", &mut meter)?;
+    assert_eq!(rt; doc.text(6, 9)?.as_str(), "aba");
+    Ok(())
+}
+
+#[test]
+fn encodings_without_a_decoder(rt: HostRuntime) -> Result<(), Fail> {
+    let indexes = Indexes::new();
+    let past = vec![in rt.alloc(); b'a'; 2_097_153]?;
+    for encoding in [Encoding::Gb18030, Encoding::Windows1252, Encoding::Utf16Le] {
+        let refused = Doc::open(rt.alloc(), &indexes, encoding, b"a", &mut meter()).err();
+        assert_eq!(rt; refused, Some(DocFault::NoIndex));
+        let refused = Doc::open(rt.alloc(), &indexes, encoding, &past, &mut meter()).err();
+        assert_eq!(rt; refused, Some(DocFault::NoIndex), "before the limit");
+    }
+    Ok(())
+}
+
+#[test]
+fn text_longer_than_a_block(rt: HostRuntime) -> Result<(), Fail> {
+    let indexes = Indexes::new();
+    let mut bytes = Vec::new(rt.alloc());
+    for _ in 0..1000 {
+        bytes.extend_from_slice("a\u{20AC}\u{1F600}".as_bytes())?;
+    }
+    let doc = Doc::open(rt.alloc(), &indexes, Encoding::Utf8, &bytes, &mut meter())?;
+    assert_eq!(rt; doc.text(0, 3000)?.as_bytes(), bytes.as_slice());
+    assert_eq!(rt; doc.text(1024, 1026)?.as_str(), "\u{20AC}\u{1F600}");
+    assert_eq!(rt; doc.text(2999, 3000)?.as_str(), "\u{1F600}");
+    Ok(())
+}
+
+#[test]
+fn indexes_are_those_of_the_opening(rt: HostRuntime) -> Result<(), Fail> {
+    let indexes = Indexes::new();
+    let doc = Doc::open(rt.alloc(), &indexes, Encoding::Utf8, b"a", &mut meter())?;
+    assert!(rt; doc.indexes().has(Encoding::Utf8));
+    assert!(rt; !doc.indexes().has(Encoding::ShiftJis));
+    Ok(())
+}
