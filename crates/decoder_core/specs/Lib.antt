@@ -4,6 +4,7 @@ pub mod Collected
 pub mod Counts
 pub mod Few
 pub mod Held
+pub mod Lift
 pub mod Pending
 pub mod Placed
 pub mod Queue

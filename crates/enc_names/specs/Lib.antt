@@ -1,3 +1,5 @@
+pub mod LabelAnswers
 pub mod LabelEntries
+pub mod LabelFile
 pub mod Labels
 pub mod Names

@@ -1,8 +1,10 @@
 //! The encodings, in the order of the Encoding Standard's table.
 ghost use Rattle.std.specs.Prelude.{◌≡◌};
+ghost use Rattle.enc_names.specs.LabelFile.{encoding_named, is_named, named_among};
 ghost use Rattle.enc_names.specs.Names.{name_of};
 
-/// An encoding of the Encoding Standard ("Names and labels").
+/// An encoding of the Encoding Standard ("Names and labels"). [`Encoding::name`] gives the name
+/// that each variant stands for.
 #[derive(Clone, Copy, PartialEq, Eq, Debug)]
 pub enum Encoding {
     Utf8,
@@ -139,4 +141,30 @@ impl Encoding {
             Encoding::XUserDefined => "x-user-defined",
         }
     }
+
+    /// The encoding with this name, ASCII case apart.
+    pub(crate) fn named(name: &str) -> Option<Encoding>
+        ensures { result ≡ encoding_named name.now }
+    {
+        named_among(&Encoding::ALL, name)
+    }
+
+    /// Whether the encoding has this name, ASCII case apart.
+    fn is_named(self, name: &str) -> bool
+        ensures { result ≡ is_named self name.now }
+    {
+        name.eq_ignore_ascii_case(self.name())
+    }
+}
+
+/// The first encoding that has this name, ASCII case apart.
+fn named_among(encodings: &[Encoding], name: &str) -> Option<Encoding>
+    ensures { result ≡ named_among encodings.now name.now }
+{
+    for encoding in encodings {
+        if encoding.is_named(name) {
+            return Some(*encoding);
+        }
+    }
+    None
 }

@@ -1,7 +1,10 @@
 //! Labels: the texts by which a client names an encoding.
 ghost use Rattle.std.specs.Prelude.{◌≡◌, IfOk, IsOkUnless};
+ghost use Rattle.enc_names.specs.LabelAnswers.{AnswersFile};
 ghost use Rattle.enc_names.specs.LabelEntries.{table_of};
 ghost use Rattle.enc_names.specs.Labels.{labels_of, lookup_in, matches, name_labels};
+
+mod file;
 
 use crate::encoding::Encoding;
 use std::alloc::{AllocError, Global};
@@ -10,6 +13,12 @@ use std::marker::Model;
 /// Why labels could not be had.
 #[derive(Clone, Copy, PartialEq, Eq, Debug)]
 pub enum LabelFault {
+    /// The label file is no JSON text: a byte order mark in front, invalid UTF-8 and more than 127
+    /// levels of nesting are faults too.
+    NotJson,
+    /// The label file's JSON is no array of objects that each have an array `encodings` of objects
+    /// with a text `name` and an array `labels` of texts.
+    BadShape,
     /// A growth of memory was refused.
     OutOfMemory,
 }
@@ -56,6 +65,25 @@ impl Labels {
         ensures err { IsOkUnless result LabelFault.OutOfMemory }
     {
         let entries = names_of(alloc, &Encoding::ALL)?;
+        Ok(Labels { entries })
+    }
+
+    /// The labels of a label file alone, in the file's order.
+    ///
+    /// The file has the form of the Encoding Standard's `encodings.json`; other fields are
+    /// ignored. Names are compared without ASCII case, and the labels of a name that no encoding
+    /// has are left out once the whole file's shape is known to be good. Labels are kept as they
+    /// are spelt, whitespace included.
+    ///
+    /// # Errors
+    ///
+    /// `NotJson` before `BadShape`; `OutOfMemory` in place of any answer.
+    pub fn from_json(alloc: Global, bytes: &[u8]) -> Result<Labels, LabelFault>
+        ensures { AnswersFile bytes.now result }
+    {
+        let value = file::value_of(alloc, bytes)?;
+        let mut entries = Vec::new(alloc);
+        file::add_file(alloc, &mut entries, &value)?;
         Ok(Labels { entries })
     }
 

@@ -1,56 +1,35 @@
-//! The program: commands come in on standard input, replies go out on standard output.
+//! The program: its words, the files that they name, and the standard streams.
 #![tactic(auto)]
 
-use enc_names::Labels;
-use gateway::desk::Desk;
-use gateway::{FromRead, Gateway, RunFault, ToWrite, run};
-use index_loader::Indexes;
-use std::io;
+mod command_line;
+mod failure;
+mod files;
+mod perform;
+#[cfg(test)]
+mod tests;
+mod text;
+
+use gateway::{FromRead, ToWrite};
+use perform::perform;
+use std::alloc::Global;
 use std::process::ExitCode;
+use std::{env, io};
 
-/// Why the program ends before its input does.
-#[derive(Clone, Copy, PartialEq, Eq, Debug)]
-enum Failure {
-    Run(RunFault),
-    OutOfMemory,
+/// The words of the command line, without the program's name.
+fn words(rt: &HostRuntime) -> io::Result<Vec<String>> {
+    Ok(env::args(rt)?.skip(1).collect(rt.alloc())?)
 }
 
-impl Failure {
-    /// What is told on standard error, without the name of the program.
-    fn text(self) -> &'static str {
-        match self {
-            Failure::Run(RunFault::NotFree) => "connection not free",
-            Failure::Run(RunFault::Read) => "read fault",
-            Failure::Run(RunFault::Write) => "write fault",
-            Failure::Run(RunFault::TooManyReads) => "too many reads",
-            Failure::OutOfMemory => "out of memory",
-        }
-    }
+/// Does what the words ask, over the standard streams.
+fn served(rt: &HostRuntime, alloc: Global) -> io::Result<u8> {
+    let words = words(rt)?;
+    let mut input = FromRead::new(rt.reader());
+    let mut output = ToWrite::new(io::writer(rt));
+    let mut error = ToWrite::new(rt.stderr());
+    Ok(perform(rt, alloc, &words, &mut input, &mut output, &mut error))
 }
 
-/// Serves standard input as connection 0, with no index file and with the names of the encodings
-/// as their labels.
-fn serve(rt: &HostRuntime) -> Result<(), Failure> {
-    let alloc = rt.alloc();
-    let indexes = Indexes::new();
-    let Ok(labels) = Labels::names(alloc) else {
-        return Err(Failure::OutOfMemory);
-    };
-    let Ok(desk) = Desk::new(alloc, &indexes, labels) else {
-        return Err(Failure::OutOfMemory);
-    };
-    let mut gateway = Gateway::new(alloc, desk);
-    let mut reader = FromRead::new(rt.reader());
-    let mut writer = ToWrite::new(io::writer(rt));
-    run(&mut gateway, 0, &mut reader, &mut writer).map_err(Failure::Run)
-}
-
-fn main(rt: HostRuntime) -> ExitCode {
-    match serve(&rt) {
-        Ok(()) => ExitCode::SUCCESS,
-        Err(failure) => {
-            let _ = rt.eprintln(format_args!("gate: {}", failure.text()));
-            ExitCode::from(1)
-        }
-    }
+fn main(rt: HostRuntime) -> io::Result<ExitCode> {
+    let status = served(&rt, rt.alloc())?;
+    Ok(ExitCode::from(status))
 }

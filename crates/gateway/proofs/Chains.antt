@@ -1,14 +1,13 @@
 -- What was fed before, and what is fed next.
-use Rattle.std.proofs.Common.{◌≡◌, ℕ, ◌+◌, ◌≤◌, ◌≢◌, List, [], ◌∷◌, ◌++◌, Option, Result, Ok, Err, refl, sym, ap, ◌∙◌, subst, append_assoc, append-nil}
-use Rattle.std.specs.Io.KnownBytes.{Appends, Consumes, Keeps}
+use Rattle.std.proofs.Common.{ℕ, ◌+◌, ◌≤◌, ◌≢◌, List, [], ◌∷◌, ◌++◌, Option, Err, refl, sym, ap, ◌∙◌, subst, append_assoc}
+use Rattle.std.specs.Io.KnownBytes.{Keeps}
 use Rattle.std.proofs.KnownBytes.{Appends-trans, Appends-nil, Consumes-trans, Consumes-nil, Consumes-kept, Keeps-refl}
 use Rattle.gateway.specs.declared.serve.RunFault.{RunFault}
 use Rattle.gateway.specs.declared.serve.RunFault.TheVariants.{NotFree, Read, Write, TooManyReads}
 use Rattle.gateway.specs.Desk.{Office}
-use Rattle.gateway.specs.Lines.{complete, unfinished}
 use Rattle.gateway.specs.Traffic.{Traffic}
 use Rattle.gateway.specs.Serving.{Serves, Breaks, SameOthers, most_reads, IsReadUp}
-use Rattle.gateway.specs.Feeding.{IsOpen, Begun, Fed, FedUntil, Pumped, PumpedUntil, Pumps}
+use Rattle.gateway.specs.Feeding.{IsOpen, Fed, FedUntil, Pumped, PumpedUntil, Pumps}
 use Rattle.gateway.proofs.Cuts.{complete-append, unfinished-append}
 
 pub Serves-append : (o m n : Office) (xs ys : List (List ℕ)) (a b : List ℕ) → Serves o xs a m → Serves m ys b n → Serves o (xs ++ ys) (a ++ b) n

@@ -1,4 +1,3 @@
-mod Answering
 mod Chains
 mod Cuts
 mod DeskLaws
@@ -7,6 +6,7 @@ mod DeskSession
 mod DeskSteps
 mod Devices
 mod LineEnds
+mod LostLines
 mod PlainText
 mod Runs
 mod SentLines

@@ -1,45 +1,24 @@
 -- A connection that opens, is pumped and closes.
-use Rattle.std.proofs.Common.{◌≡◌, ℕ, ◌<◌, ◌≢◌, List, [], length, Option, None, Some, Result, Ok, Err, MatchResult, IfOk, OnOk, is_err, false, refl, sym, ap, ◌∙◌, subst, arith}
+use Rattle.std.proofs.Common.{◌≡◌, ℕ, ◌<◌, List, [], length, Option, None, Some, Result, Ok, Err, refl, sym, ap, ◌∙◌, subst}
 use Rattle.std.proofs.lemmas.List.{get_or-set_same, get_or-set_other}
-use Rattle.gateway.specs.declared.gateway.Out.{Out}
-use Rattle.gateway.specs.declared.gateway.GateFault.{GateFault}
 use Rattle.gateway.specs.declared.serve.RunFault.{RunFault}
 use Rattle.gateway.specs.declared.serve.RunFault.TheVariants.{NotFree, Read, Write, TooManyReads}
 use Rattle.gateway.specs.Desk.{Office}
 use Rattle.gateway.specs.Lines.{complete}
-use Rattle.gateway.specs.Traffic.{Partial, Kept, Traffic}
-use Rattle.gateway.specs.Events.{connections, unless_closed, gate_fault, Happens, Opening, Closing, line_at, with_line}
+use Rattle.gateway.specs.Traffic.{Kept, Traffic}
+use Rattle.gateway.specs.Events.{line_at, with_line}
 use Rattle.gateway.specs.Serving.{Serves, Breaks, SameOthers, Ran, RanUntil, Runs}
-use Rattle.gateway.specs.Feeding.{IsOpen, Begun, Pumped, PumpedUntil, Pumps}
-use Rattle.gateway.proofs.Took.{good_number, open_number}
-
--- the clauses of an event
-pub record Event (old : Traffic) (happening : Rattle.gateway.specs.Events.Happening) (r : Result Out GateFault) (new : Traffic) : Type 0 where
-  pub fault : MatchResult r (λ out. gate_fault old.lines happening ≡ None) (λ fault. gate_fault old.lines happening ≡ Some fault)
-  pub step : IfOk r (λ out. Happens old happening out.taken out.reply new)
-  pub count : OnOk r (length old.lines ≡ connections)
+use Rattle.gateway.specs.Feeding.{Begun, Pumped, PumpedUntil, Pumps}
 
 -- connection c opened
 pub record Opened (t u : Traffic) (c : ℕ) : Type 0 where
   pub small : c < length t.lines
   pub is : u ≡ with_line t c (Some (Kept []))
 
-pub opened_by : (t u : Traffic) (c : ℕ) (r : Result Out GateFault) → Event t (Opening c) r u → is_err r ≡ false → Opened t u c
-opened_by t u c (Ok out) e fine =
-    let small : c < connections = good_number c (unless_closed (line_at t c)) e.fault in
-    record { small = let n = e.count in omega arith; is = e.step.2 }
-opened_by t u c (Err fault) e fine = cc
-
 -- connection c closed
 pub record Closed (t u : Traffic) (c : ℕ) : Type 0 where
   pub small : c < length t.lines
   pub is : u ≡ with_line t c None
-
-pub closed_by : (t u : Traffic) (c : ℕ) (r : Result Out GateFault) → IsOpen t c → Event t (Closing c) r u → Closed t u c
-closed_by t u c (Ok out) open_ e =
-    let small : c < connections = open_number t c open_ in
-    record { small = let n = e.count in omega arith; is = e.step.2 }
-closed_by t u c (Err fault) open_ e = let no = e.fault in cc
 
 -- ---- between the two
 
@@ -90,10 +69,3 @@ module _ (c : ℕ) (t u v w : Traffic) (l m x y : Option (List ℕ)) (opened : O
   runs (Err Read) = ran
   runs (Err Write) = ran_until
   runs (Err TooManyReads) = ran
-
-pub pumped_open : {A : Type 0} (r : Result A RunFault) (c : ℕ) (u v : Traffic) (l m x y : Option (List ℕ)) → Pumps r c u v l m x y → IsOpen v c
-pumped_open (Ok _) c u v l m x y p = p.fed.is_open
-pumped_open (Err NotFree) c u v l m x y p = absurd p
-pumped_open (Err Read) c u v l m x y p = p.fed.is_open
-pumped_open (Err Write) c u v l m x y p = p.fed.is_open
-pumped_open (Err TooManyReads) c u v l m x y p = p.fed.is_open

@@ -1,5 +1,5 @@
 -- Lines that are written by the events of a value.
-use Rattle.std.proofs.Common.{◌≡◌, ℕ, suc, Bool, false, List, [], ◌∷◌, ◌++◌, length, refl, ap, ◌∙◌, arith}
+use Rattle.std.proofs.Common.{◌≡◌, ℕ, suc, false, List, [], ◌∷◌, ◌++◌, length, refl, ap, ◌∙◌}
 use Rattle.enc_names.specs.declared.place.Place.{Place}
 use Rattle.serde_json.specs.Data.{Data}
 use Rattle.serde_json.specs.Events.{SendsValue, items_len}

@@ -1,19 +1,129 @@
--- Replies that do not come from the desk.
-use Rattle.std.proofs.Common.{◌≡◌, ℕ, ◌<◌, ◌≤◌, ◌+◌, List, length, nat_lt, true, false, MatchBool, refl, arith, rules}
+-- How the reply to a line comes about.
+use Rattle.std.proofs.Common.{◌≡◌, ℕ, ◌≤◌, Bool, true, false, nat_lt, List, length, Ok, Err, refl, sym, ap, ◌∙◌, subst, rules}
 use Rattle.std.specs.Str.{bytes_eq}
-use Rattle.gateway.specs.Desk.{Office}
-use Rattle.serde_json.proofs.OnLiterals.{serde_json_on_literals}
-use Rattle.gateway.specs.Replies.{memory_text}
-use Rattle.gateway.specs.Step.{Replies, line_limit, too_long_text, step_of}
+use Rattle.json.specs.Print.{escape_byte}
+use Rattle.serde_json.specs.Data.{Data}
+use Rattle.enc_names.specs.Labels.{LabelTable}
+use Rattle.index_loader.specs.Files.{Files}
+use Rattle.gateway.specs.declared.desk.fault.Fault.TheVariants.{BadBase64, NoDocument, NameTaken, UnknownLabel, NoIndex, TooManyDocuments, Stale, RevisionsSpent, OutOfRange, TooLarge, OutOfMemory}
+use Rattle.gateway.specs.declared.desk.reply.Reply.{Reply}
+use Rattle.gateway.specs.declared.desk.reply.Reply.TheVariants.{Edited, Text, Errors, Refused}
+use Rattle.gateway.specs.declared.request.refusal.Refusal.{Refusal}
+use Rattle.gateway.specs.declared.request.refusal.Refusal.TheVariants as refusal
+use Rattle.gateway.specs.Asked.{Asked}
+use Rattle.gateway.specs.Request.{◌>>=◌, value_of, request_of, IsValueOf}
+use Rattle.gateway.specs.Replies.{reply_text, refusal_text, memory_text, is_short}
+use Rattle.std.proofs.lemmas.Bool.{false_from_ne_true}
+use Rattle.gateway.specs.Documents.{Names}
+use Rattle.gateway.specs.Desk.{Office, Outcome, Answers, IsOutcome, answer_of}
+use Rattle.gateway.specs.DeskRuns.{is_edited}
+use Rattle.gateway.proofs.DeskLaws.{only_edits_change}
+use Rattle.gateway.proofs.LostLines.{memory_answers}
+use Rattle.gateway.specs.Step.{Step, IsStep, Replies, answered, step_by, step_of, line_limit}
 
-pub too_long_answers : (o : Office) (line text : List ℕ) → text ≡ too_long_text → line_limit < length line → Replies o line text o
+-- ---- the text of want of memory
+
+pub memory_same : bytes_eq memory_text memory_text ≡ true
+unfolding escape_byte
+memory_same = refl
+
+-- of all replies want of memory alone reads like it
+abbrev pub IsTold : ℕ → Reply → Type 0
+IsTold id (Refused OutOfMemory) = Unit {0}
+IsTold id reply = bytes_eq (reply_text id reply) memory_text ≡ false
+
+pub told_apart : (id : ℕ) (reply : Reply) → IsTold id reply
+unfolding escape_byte
+told_apart id (Edited bom encoding rev) = refl
+told_apart id (Text rev text) = refl
+told_apart id (Errors rev total places) = refl
+told_apart id (Refused OutOfMemory) = tt
+told_apart id (Refused BadBase64) = refl
+told_apart id (Refused NoDocument) = refl
+told_apart id (Refused NameTaken) = refl
+told_apart id (Refused UnknownLabel) = refl
+told_apart id (Refused NoIndex) = refl
+told_apart id (Refused TooManyDocuments) = refl
+told_apart id (Refused (Stale rev)) = refl
+told_apart id (Refused RevisionsSpent) = refl
+told_apart id (Refused OutOfRange) = refl
+told_apart id (Refused TooLarge) = refl
+
+-- ---- the desk's answer
+
+same_office : (old new : Office) → new.indexes ≡ old.indexes → new.labels ≡ old.labels → new.documents ≡ old.documents → new ≡ old
+same_office old new p q r =
+    let office : Files → LabelTable → Names → Office = λ i l d. record { indexes = i; labels = l; documents = d } in
+    ap (λ i. office i new.labels new.documents) p ∙ ap (λ l. office old.indexes l new.documents) q ∙ ap (λ d. office old.indexes old.labels d) r
+
+same_step : (old new : Office) (id : ℕ) (outcome : Outcome) (reply : Reply) (text : List ℕ) → text ≡ reply_text id reply → outcome ≡ record { reply = reply; documents = new.documents }
+    → new.indexes ≡ old.indexes → new.labels ≡ old.labels → answered old id outcome ≡ record { text = text; office = new }
+same_step old new id outcome reply text e o p q =
+    let step : List ℕ → Files → LabelTable → Step = λ t i l. record { text = t; office = record { indexes = i; labels = l; documents = new.documents } } in
+    ap (answered old id) o ∙ ap (λ t. step t old.indexes old.labels) (sym e) ∙ ap (λ i. step text i old.labels) (sym p) ∙ ap (λ l. step text new.indexes l) (sym q)
+
+-- a step whose text isn't that of want of memory
+other_step : (old new : Office) (step : Step) (text other : List ℕ) → text ≡ other → bytes_eq other memory_text ≡ false → step ≡ record { text = text; office = new } → IsStep old step text new
+other_step old new step text other e apart is = rw (e, apart) (rw e at is)
+
+-- a step that memory didn't suffice for
+lost_step : (old new : Office) (step : Step) (text : List ℕ) → text ≡ memory_text → new ≡ old → IsStep old step text new
+lost_step old new step text e same = rw (e, memory_same) same
+
+-- the desk answered, and its reply was written
+pub desk_step : (old new : Office) (id : ℕ) (command : Asked) (reply : Reply) (text : List ℕ) → text ≡ reply_text id reply → Answers old command reply new
+    → IsStep old (answered old id (answer_of old command)) text new
+desk_step old new id command (Refused OutOfMemory) text e a = lost_step old new _ text e (same_office old new a.indexes a.labels a.step)
+desk_step old new id command reply text e a =
+    other_step old new _ text _ e (told_apart id reply) (same_step old new id _ reply text e a.step a.indexes a.labels)
+
+-- ---- replies that want memory
+
+-- a reply that may want memory answers no edit, and leaves the documents
+long_same : (o : Office) (command : Asked) (reply : Reply) → is_edited reply ≡ false → (answer_of o command).reply ≡ reply
+    → (answer_of o command).documents ≡ o.documents
+long_same o command reply long is = only_edits_change o command (rw is long)
+
+lost_same : (old new : Office) (command : Asked) (reply : Reply) → is_short reply ≡ false → IsOutcome (answer_of old command) reply old.documents new.documents → new.documents ≡ old.documents
+lost_same old new command (Edited bom encoding rev) long is = cc
+lost_same old new command (Refused fault) long is = cc
+lost_same old new command (Text rev text) long is =
+    sym (ap (λ o. o.documents) is) ∙ long_same old command (Text rev text) refl (ap (λ o. o.reply) is)
+lost_same old new command (Errors rev total places) long is =
+    sym (ap (λ o. o.documents) is) ∙ long_same old command (Errors rev total places) refl (ap (λ o. o.reply) is)
+
+-- the desk answered, and memory didn't suffice to write its reply
+pub lost_reply_step : (old new : Office) (step : Step) (command : Asked) (reply : Reply) (text : List ℕ) → text ≡ memory_text → (is_short reply ≡ true → ⊥) → Answers old command reply new
+    → IsStep old step text new
+lost_reply_step old new step command reply text e long a =
+    lost_step old new step text e (same_office old new a.indexes a.labels (lost_same old new command reply (false_from_ne_true _ long) a.step))
+
+-- ---- refusals
+
+refused_by : (o : Office) (r : Refusal) (text : List ℕ) (t : Bool) → bytes_eq text memory_text ≡ t → text ≡ refusal_text r → IsStep o (step_by o (Err r)) text o
+refused_by o r text true b e = rw b refl
+refused_by o r text false b e = rw b (ap (λ x. let s : Step = record { text = x; office = o } in s) (sym e))
+
+-- a line is refused, and the desk stays
+pub refused_step : (o : Office) (r : Refusal) (text : List ℕ) → text ≡ refusal_text r → IsStep o (step_by o (Err r)) text o
+refused_step o r text e = refused_by o r text (bytes_eq text memory_text) refl e
+
+-- ---- lines
+
+pub short_answers : (o : Office) (line text : List ℕ) (new : Office) → length line ≤ line_limit → IsStep o (step_of o line) text new → Replies o line text new
 unfolding Replies
-too_long_answers o line text is long =
-    let test : nat_lt line_limit (length line) ≡ true = search (rules, long) in
-    rw test (is, refl)
-
-pub memory_answers : (o : Office) (line text : List ℕ) → text ≡ memory_text → length line ≤ line_limit → Replies o line text o
-unfolding Replies serde_json_on_literals
-memory_answers o line text is short =
+short_answers o line text new short is =
     let test : nat_lt line_limit (length line) ≡ false = search (rules, short) in
-    rw (test, is) refl
+    rw test is
+
+-- a line whose value was read
+pub read_answers : (o : Office) (line text : List ℕ) (new : Office) (d : Data) → length line ≤ line_limit → value_of line ≡ Ok d → IsStep o (step_by o (request_of d)) text new
+    → Replies o line text new
+read_answers o line text new d short e is =
+    short_answers o line text new short (subst (λ r. IsStep o (step_by o r) text new) (sym (ap (λ v. v >>= request_of) e)) is)
+
+-- a line that spells no value, or whose value memory didn't suffice for
+pub unread_answers : (o : Office) (line text : List ℕ) (r : Refusal) → length line ≤ line_limit → IsValueOf line (Err r) → text ≡ refusal_text r → Replies o line text o
+unread_answers o line text refusal.OutOfMemory short e is = memory_answers o line text is short
+unread_answers o line text r short e is =
+    short_answers o line text o short (subst (λ s. IsStep o (step_by o s) text o) (sym (ap (λ v. v >>= request_of) e)) (refused_step o r text is))

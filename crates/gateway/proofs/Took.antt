@@ -1,24 +1,23 @@
 -- One event of bytes, and the write of its reply.
-use Rattle.std.proofs.Common.{◌≡◌, ℕ, ◌+◌, ◌<◌, ◌≤◌, ◌≢◌, Bool, true, false, nat_lt, List, [], ◌∷◌, ◌++◌, length, take, Option, None, Some, MatchBool, if◌then◌else◌, refl, sym, ap, ◌∙◌, subst, append_assoc, append-nil, arith, slice_index_or, length-append}
+use Rattle.std.proofs.Common.{◌≡◌, ℕ, ◌+◌, ◌<◌, ◌≤◌, Bool, true, false, nat_lt, List, [], ◌∷◌, ◌++◌, length, take, Option, None, Some, Ok, Err, if◌then◌else◌, refl, sym, ap, ◌∙◌, subst, append-nil, arith, length-append}
 use Rattle.std.specs.Io.KnownBytes.{Appends}
 use Rattle.std.proofs.KnownBytes.{Appends-nil}
 use Rattle.std.proofs.lemmas.List.{get_or-set_same, get_or-set_other, take_all}
 use Rattle.std.proofs.lemmas.Bool.{ltb-true, lt-ltb}
 use Rattle.gateway.specs.declared.gateway.GateFault.{GateFault}
 use Rattle.gateway.specs.declared.gateway.GateFault.TheVariants.{BadNumber}
-use Rattle.gateway.specs.Desk.{Office}
 use Rattle.gateway.specs.Step.{Replies}
-use Rattle.gateway.specs.Lines.{complete, unfinished, has_end, before_end}
+use Rattle.gateway.specs.Lines.{complete, has_end, before_end}
 use Rattle.gateway.specs.Traffic.{Partial, Kept, Stands, Traffic}
 use Rattle.gateway.specs.Events.{connections, at_number, unless_open, numbered, line_at, Took}
 use Rattle.gateway.specs.Devices.{AppendsPart}
-use Rattle.gateway.specs.Serving.{Serves, Breaks, SameOthers}
-use Rattle.gateway.specs.Feeding.{IsOpen, Begun, Fed, FedUntil}
+use Rattle.gateway.specs.Serving.{Breaks, SameOthers}
+use Rattle.gateway.specs.Feeding.{IsOpen, Begun, Fed, FedUntil, WritesReply}
 use Rattle.gateway.proofs.Cuts.{complete_without, unfinished_without, before_without, cut_at_end, complete_at_end, unfinished_at_end, taken_at_end}
 
 -- ---- connections
 
-pub good_number : (c : ℕ) (fault : Option GateFault) → numbered c fault ≡ None → c < connections
+good_number : (c : ℕ) (fault : Option GateFault) → numbered c fault ≡ None → c < connections
 good_number c fault h =
     ltb-true c connections (elim (nat_lt c connections) as (λ t. (if t then fault else Some BadNumber) ≡ None → t ≡ true) [ true ↦ λ _. refl | false ↦ λ no. cc ] h)
 
@@ -95,7 +94,7 @@ silent_without t u c taken bytes true e took = let step = rw e at took.takes.ste
 silent_without t u c taken bytes false e took = e
 
 -- no reply came: the bytes have no line feed
-pub fed_silent : (t u : Traffic) (c taken : ℕ) (bytes : List ℕ) (out : Option (List ℕ)) → Took t c bytes taken None u → IsOpen t c → length t.lines ≡ connections
+fed_silent : (t u : Traffic) (c taken : ℕ) (bytes : List ℕ) (out : Option (List ℕ)) → Took t c bytes taken None u → IsOpen t c → length t.lines ≡ connections
     → Fed c (take taken bytes) t u out out
 fed_silent t u c taken bytes out took = fed_without t u c taken bytes out (silent_without t u c taken bytes (has_end bytes) refl took) took
 
@@ -122,7 +121,7 @@ module _ (t u : Traffic) (c taken : ℕ) (bytes text : List ℕ) (took : Took t 
   front = ap (λ n. take n bytes) (taken_with t u c taken bytes (Some text) took ended) ∙ taken_at_end bytes (before_end bytes) (cut_at_end bytes ended).0 (cut_at_end bytes ended).1
 
   -- a reply came, and was written
-  pub fed_answered : (before after : Option (List ℕ)) → Appends before after text → Fed c (take taken bytes) t u before after
+  fed_answered : (before after : Option (List ℕ)) → Appends before after text → Fed c (take taken bytes) t u before after
   fed_answered before after gone = rw front (record {
     out = text;
     appends = gone;
@@ -153,7 +152,7 @@ module _ (t u : Traffic) (c taken : ℕ) (bytes text : List ℕ) (took : Took t 
   }
 
   -- a reply came, and its write broke off
-  pub fed_broken : (before after : Option (List ℕ)) → AppendsPart before after text → FedUntil c bytes t u before after
+  fed_broken : (before after : Option (List ℕ)) → AppendsPart before after text → FedUntil c bytes t u before after
   fed_broken before after gone = record {
     out = gone.0;
     appends = gone.4;
@@ -161,3 +160,16 @@ module _ (t u : Traffic) (c taken : ℕ) (bytes text : List ℕ) (took : Took t 
     is_open = open_after t u c taken bytes (Some text) took is_open count;
     others = others_after t u c taken bytes (Some text) took is_open count;
   }
+
+-- ---- by the write of the reply
+
+pub fed_written : (A E : Type 0) (x : A) (t u : Traffic) (c taken : ℕ) (bytes : List ℕ) (reply before after : Option (List ℕ)) → Took t c bytes taken reply u → IsOpen t c → length t.lines ≡ connections
+    → WritesReply {A = A} {E = E} (Ok x) reply before after → Fed c (take taken bytes) t u before after
+fed_written A E x t u c taken bytes None before after took is_open count same =
+    subst (λ w. Fed c (take taken bytes) t u before w) (sym same) (fed_silent t u c taken bytes before took is_open count)
+fed_written A E x t u c taken bytes (Some text) before after took is_open count gone = fed_answered t u c taken bytes text took is_open count before after gone
+
+pub fed_unwritten : (A E : Type 0) (e : E) (t u : Traffic) (c taken : ℕ) (bytes : List ℕ) (reply before after : Option (List ℕ)) → Took t c bytes taken reply u → IsOpen t c → length t.lines ≡ connections
+    → WritesReply {A = A} {E = E} (Err e) reply before after → FedUntil c bytes t u before after
+fed_unwritten A E e t u c taken bytes None before after took is_open count never = absurd never
+fed_unwritten A E e t u c taken bytes (Some text) before after took is_open count gone = fed_broken t u c taken bytes text took is_open count before after gone

@@ -5,7 +5,8 @@ use Rattle.std.specs.FinMap as map
 use Rattle.enc_names.specs.contracts.encoding.Encoding.{the_row}
 use Rattle.enc_names.specs.declared.encoding.Encoding.{Encoding}
 use Rattle.enc_names.specs.Labels.{LabelTable}
-use Rattle.index_loader.specs.Files.{Files, Pairs}
+use Rattle.index_loader.specs.Files.{Files}
+use Rattle.index_loader.specs.Pairs.{Pairs}
 use Rattle.gateway.specs.Documents.{Held, Names, Shelf}
 use Rattle.gateway.specs.Desk.{Office}
 

@@ -1,10 +1,9 @@
 -- One event of the gateway.
-use Rattle.std.specs.Prelude.{◌≡◌, ℕ, List, [], nat_lt, Option, Some, None, is_some, slice_index_or, slice_set, if◌then◌else◌}
+use Rattle.std.specs.Prelude.{◌≡◌, ℕ, List, [], nat_lt, Option, Some, None, slice_index_or, slice_set, if◌then◌else◌}
 use Rattle.gateway.specs.declared.gateway.Event.{Event}
 use Rattle.gateway.specs.declared.gateway.Event.TheVariants.{Open, Bytes, Close}
 use Rattle.gateway.specs.declared.gateway.GateFault.{GateFault}
 use Rattle.gateway.specs.declared.gateway.GateFault.TheVariants.{BadNumber, AlreadyOpen, NotOpen}
-use Rattle.gateway.specs.Desk.{Office}
 use Rattle.gateway.specs.Traffic.{Partial, Kept, Traffic, Takes}
 
 -- the number of connections, whose numbers count from 0

@@ -5,6 +5,7 @@ use Rattle.gateway.specs.declared.serve.Progress.{Progress}
 use Rattle.gateway.specs.declared.serve.Progress.TheVariants.{More, End}
 use Rattle.gateway.specs.declared.serve.RunFault.{RunFault}
 use Rattle.gateway.specs.declared.serve.RunFault.TheVariants.{NotFree, Read, Write, TooManyReads}
+use Rattle.gateway.specs.Devices.{AppendsPart}
 use Rattle.gateway.specs.Lines.{complete, unfinished}
 use Rattle.gateway.specs.Traffic.{Partial, Stands, Traffic}
 use Rattle.gateway.specs.Events.{line_at, gate_fault, Closing}
@@ -36,6 +37,13 @@ pub record FedUntil (c : ℕ) (bytes : List ℕ) (old new : Traffic) (before aft
   pub breaks : (line : List ℕ) → Begun old c line → Breaks old.office (complete line bytes) out new.office
   pub is_open : IsOpen new c
   pub others : SameOthers old new c
+
+-- the write of a reply, if there is one, by its answer
+abbrev pub WritesReply : {A E : Type 0} → Result A E → Option (List ℕ) → Option (List ℕ) → Option (List ℕ) → Type 0
+WritesReply (Ok x) None before after = after ≡ before
+WritesReply (Ok x) (Some text) before after = Appends before after text
+WritesReply (Err e) None before after = ⊥
+WritesReply (Err e) (Some text) before after = AppendsPart before after text
 
 -- feeding, by its answer
 abbrev pub Feeds : {A E : Type 0} → Result A E → ℕ → List ℕ → Traffic → Traffic → Option (List ℕ) → Option (List ℕ) → Type 0

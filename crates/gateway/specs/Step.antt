@@ -1,13 +1,12 @@
 -- What one complete line does: its reply, and the desk after it.
-use Rattle.std.specs.Prelude.{◌≡◌, ℕ, List, Bool, nat_lt, length, Result, Ok, Err, MatchBool}
+use Rattle.std.specs.Prelude.{◌≡◌, ℕ, nat_lt, List, length, Result, Ok, Err, MatchBool}
 use Rattle.std.specs.Str.{bytes_eq}
 use Rattle.gateway.specs.Asked.{Asked}
-use Rattle.gateway.specs.Desk.{Office, Outcome, answer_of}
-use Rattle.gateway.specs.Replies.{reply_text, refusal_text, memory_text}
 use Rattle.gateway.specs.Request.{spelt}
-use Rattle.gateway.specs.declared.reply_line.ReplyLine.{ReplyLine}
+use Rattle.gateway.specs.Replies.{reply_text, refusal_text, memory_text}
+use Rattle.gateway.specs.Desk.{Office, Outcome, answer_of}
 use Rattle.gateway.specs.declared.request.refusal.Refusal.{Refusal}
-use Rattle.gateway.specs.declared.request.refusal.Refusal.TheVariants.{LineTooLong, OutOfMemory}
+use Rattle.gateway.specs.declared.request.refusal.Refusal.TheVariants.{LineTooLong}
 
 -- the most bytes of a line, its line feed left out
 abbrev pub line_limit : ℕ
@@ -21,28 +20,27 @@ pub record Step : Type 0 where
   pub text : List ℕ
   pub office : Office
 
-abbrev pub office_after : Office → Outcome → Office
-office_after o outcome = record o { documents = outcome.documents }
+-- the desk answered the request with this number
+abbrev pub answered : Office → ℕ → Outcome → Step
+answered o id outcome = record {
+  text = reply_text id outcome.reply;
+  office = record { indexes = o.indexes; labels = o.labels; documents = outcome.documents };
+}
 
--- what a request does, or the refusal of the line that should spell one
-abbrev pub requested : Office → Result (ℕ × Asked) Refusal → Step
-requested o (Ok request) =
-    let outcome = answer_of o request.1 in record { text = reply_text request.0 outcome.reply; office = office_after o outcome }
-requested o (Err refusal) = record { text = refusal_text refusal; office = o }
+-- what a request does, or the refusal of its line
+abbrev pub step_by : Office → Result (ℕ × Asked) Refusal → Step
+step_by o (Ok request) = answered o request.0 (answer_of o request.1)
+step_by o (Err refusal) = record { text = refusal_text refusal; office = o }
 
-unfoldable pub step_of : Office → List ℕ → Step
-step_of o line = requested o (spelt line)
+-- what a line does that is not too long
+abbrev pub step_of : Office → List ℕ → Step
+step_of o line = step_by o (spelt line)
 
--- A reply to a line, and the desk after it. A line over the limit is answered LineTooLong; want of memory may stand in place of every other
--- answer, and then nothing changed.
+-- The reply and the desk after it are those of the step; or memory ran out, and nothing changed.
+abbrev pub IsStep : Office → Step → List ℕ → Office → Type 0
+IsStep old step text new = MatchBool (bytes_eq text memory_text) (new ≡ old) (step ≡ record { text = text; office = new })
+
+-- A reply to a line, and the desk after it. A line over the limit is always answered LineTooLong.
 unfoldable pub Replies : Office → List ℕ → List ℕ → Office → Type 0
 Replies old line text new =
-    MatchBool (nat_lt line_limit (length line)) ((text ≡ too_long_text) × (new ≡ old))
-    (MatchBool (bytes_eq text memory_text) (new ≡ old) (step_of old line ≡ record { text = text; office = new }))
-
--- The same for a line within the limit, with the refusal still to be written.
-abbrev pub Answered : Office → List ℕ → Result ReplyLine Refusal → Office → Type 0
-Answered old line (Ok text) new =
-    MatchBool (bytes_eq text memory_text) (new ≡ old) (step_of old line ≡ record { text = text; office = new })
-Answered old line (Err OutOfMemory) new = new ≡ old
-Answered old line (Err refusal) new = (new ≡ old) × (spelt line ≡ Err refusal)
+    MatchBool (nat_lt line_limit (length line)) ((text ≡ too_long_text) × (new ≡ old)) (IsStep old (step_of old line) text new)

@@ -50,6 +50,7 @@ impl Connections {
         ensures number { IsTrue result ↔ c < connections }
         ensures count { length self.now ≡ connections }
     {
+        // Reading the field tells contracts how many lines there are.
         let _ = &self.lines;
         (c as usize) < CONNECTIONS
     }

@@ -10,7 +10,6 @@ mod count;
 mod memory;
 mod stream;
 
-pub use count::Count;
 pub use memory::{MemFeed, MemOutlet};
 pub use stream::{FromRead, ToWrite};
 

@@ -12,7 +12,7 @@ mod respond;
 mod serve;
 
 pub use connection::CONNECTIONS;
-pub use device::{Failed, Feed, FromRead, MemFeed, MemOutlet, Outlet, ToWrite};
+pub use device::{Failed, Feed, FromRead, MemFeed, MemOutlet, Outlet, ToWrite, write_all};
 pub use gateway::{Event, GateFault, Gateway, Out};
 pub use reply_line::ReplyLine;
 pub use serve::{RunFault, run};

@@ -1,13 +1,15 @@
 //! One connection, from a reader to a writer.
-ghost use Rattle.std.specs.Prelude.{◌≡◌, ◌+◌, ◌<◌, ◌≤◌, ◌↔◌, ◌≢◌, None, Err, IsSome, IfOk, OnOk, length, take};
+ghost use Rattle.std.specs.Prelude.{◌≡◌, ◌+◌, ◌<◌, ◌≤◌, ◌↔◌, ◌≢◌, None, Err, Some, [], IsSome, IfOk, IfErr, OnOk, OnErr, length};
 ghost use Rattle.std.specs.Io.KnownBytes.{IsAtEnd};
 ghost use Rattle.gateway.specs.Devices.{failures_after};
-ghost use Rattle.gateway.specs.Events.{gate_fault, Opening};
+ghost use Rattle.gateway.specs.Events.{gate_fault, Opening, with_line};
+ghost use Rattle.gateway.specs.Traffic.{Kept};
 ghost use Rattle.gateway.specs.Serving.{Runs, ends_of, read_failures_of, write_failures_of, IsReadUp};
-ghost use Rattle.gateway.specs.Feeding.{IsOpen, Feeds, FeedsFront, Pumps, EndsAt, progress_ends_of};
+ghost use Rattle.gateway.specs.Feeding.{IsOpen, WritesReply, Feeds, FeedsFront, Pumps, EndsAt, progress_ends_of};
 
 use crate::device::{Failed, Feed, Outlet, write_all};
-use crate::gateway::{Event, Gateway};
+use crate::gateway::{Event, Gateway, Out};
+use crate::reply_line::ReplyLine;
 
 #[cfg(test)]
 mod tests;
@@ -55,12 +57,32 @@ pub fn run<R: Feed, W: Outlet>(
     ensures read_failures { R.failures reader.new ≡ R.failures reader.old + read_failures_of result }
     ensures write_failures { W.failures writer.new ≡ W.failures writer.old + write_failures_of result }
 {
-    if gateway.event(Event::Open(c)).is_err() {
-        return Err(RunFault::NotFree);
-    }
+    open(gateway, c)?;
     let result = pump(gateway, c, reader, writer);
-    let _ = gateway.event(Event::Close(c));
+    close(gateway, c);
     result
+}
+
+fn open(gateway: &mut Gateway<'_>, c: u8) -> Result<(), RunFault>
+    ensures fault { result ≡ Err RunFault.NotFree ↔ IsSome (gate_fault gateway.old.lines (Opening c)) }
+    ensures only { IfErr result (λ e. e ≡ RunFault.NotFree) }
+    ensures refused { OnErr result (gateway.new ≡ gateway.old) }
+    ensures number { OnOk result (c < length gateway.old.lines) }
+    ensures opened { OnOk result (gateway.new ≡ with_line gateway.old c (Some (Kept []))) }
+    ensures is_open { OnOk result (IsOpen gateway.new c) }
+{
+    match gateway.event(Event::Open(c)) {
+        Ok(_) => Ok(()),
+        Err(_) => Err(RunFault::NotFree),
+    }
+}
+
+fn close(gateway: &mut Gateway<'_>, c: u8)
+    requires { IsOpen gateway.old c }
+    ensures number { c < length gateway.old.lines }
+    ensures closed { gateway.new ≡ with_line gateway.old c None }
+{
+    let _ = gateway.event(Event::Close(c));
 }
 
 // Reads and feeds until the end or a fault.
@@ -155,15 +177,22 @@ fn feed_line<W: Outlet>(
     ensures feeds { FeedsFront result c bytes.now gateway.old gateway.new (W.written writer.old) (W.written writer.new) }
     ensures failures { W.failures writer.new ≡ failures_after result (W.failures writer.old) }
 {
-    let out = match gateway.event(Event::Bytes(c, bytes)) {
+    let Out { taken, reply } = match gateway.event(Event::Bytes(c, bytes)) {
         Ok(out) => out,
         Err(_) => unreachable!(),
     };
-    match &out.reply {
-        None => Ok(out.taken),
-        Some(reply) => match write_all(writer, reply.bytes()) {
-            Ok(()) => Ok(out.taken),
-            Err(Failed) => Err(Failed),
-        },
+    match write_reply(writer, reply) {
+        Ok(()) => Ok(taken),
+        Err(Failed) => Err(Failed),
+    }
+}
+
+fn write_reply<W: Outlet>(writer: &mut W, reply: Option<ReplyLine>) -> Result<(), Failed>
+    ensures writes { WritesReply result reply (W.written writer.old) (W.written writer.new) }
+    ensures failures { W.failures writer.new ≡ failures_after result (W.failures writer.old) }
+{
+    match &reply {
+        Some(reply) => write_all(writer, reply.bytes()),
+        None => Ok(()),
     }
 }

@@ -1,15 +1,13 @@
 -- The loaded index files and which of them an encoding needs (Encoding Standard, "Indexes").
-use Rattle.std.specs.Prelude.{ℕ, Bool, List, [], ◌∷◌, replicate, set, Option, Some, None, is_some, slice_index_or}
+use Rattle.std.specs.Prelude.{Bool, List, [], ◌∷◌, replicate, set, Option, Some, None, is_some, option_map, slice_index_or}
 use Rattle.std.specs.List.{list_all}
 use Rattle.enc_names.specs.declared.encoding.Encoding.{Encoding}
 use Rattle.enc_names.specs.declared.encoding.Encoding.TheVariants.{Utf8, Utf16Be, Utf16Le, Replacement, XUserDefined, Gbk, Gb18030, Big5, EucJp, Iso2022Jp, ShiftJis, EucKr}
 use Rattle.index_loader.specs.declared.kind.IndexKind.{IndexKind}
 use Rattle.index_loader.specs.declared.kind.IndexKind.TheVariants.{SingleByte, Jis0208, Jis0212, Big5 as big5_kind, EucKr as euc_kr_kind, Gb18030 as gb18030_kind, Gb18030Ranges, Katakana}
-use Rattle.index_loader.specs.Kinds.{slot_of}
-
--- what an index file spells: pointers, each with its code point
-abbrev pub Pairs : Type 0
-Pairs = List (ℕ × ℕ)
+use Rattle.index_loader.specs.Index.{Loaded}
+use Rattle.index_loader.specs.Kinds.{home_of, slot_of}
+pub use Rattle.index_loader.specs.Pairs.{Pairs}
 
 -- the loaded files: at each kind's place the pairs of the file of that kind, if it is there
 pub record Files : Type 0 where
@@ -23,9 +21,13 @@ no_files = record { slots = replicate 34 None }
 abbrev pub pairs_of : Files → IndexKind → Option Pairs
 pairs_of files kind = slice_index_or files.slots (slot_of kind) None
 
--- the files with this one in place of the file of its kind
-abbrev pub with_file : Files → IndexKind → Pairs → Files
-with_file files kind pairs = record { slots = set files.slots (slot_of kind) (Some pairs) }
+-- the index of a kind
+abbrev pub index_of : Files → IndexKind → Option Loaded
+index_of files kind = option_map (λ pairs. record { kind = home_of kind; pairs = pairs }) (pairs_of files kind)
+
+-- the files with this index in place of that of its kind
+abbrev pub with_index : Files → Loaded → Files
+with_index files index = record { slots = set files.slots (slot_of index.kind) (Some index.pairs) }
 
 -- the kinds of the files that an encoding needs
 abbrev pub files_needed : Encoding → List IndexKind

@@ -1,3 +1,17 @@
+pub mod Examples
+pub mod File
+pub mod FileLaws
 pub mod Files
 pub mod Index
+pub mod Inside
 pub mod Kinds
+pub mod Lines
+pub mod Pairs
+pub mod Ranges
+pub mod Rank
+pub mod Rows
+pub mod Scalars
+pub mod SingleByte
+pub mod Slots
+pub mod Split
+pub mod Table

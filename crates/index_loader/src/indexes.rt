@@ -1,6 +1,6 @@
 //! The loaded index files.
-ghost use Rattle.std.specs.Prelude.{◌≡◌, is_some};
-ghost use Rattle.index_loader.specs.Files.{has_files, no_files, pairs_of};
+ghost use Rattle.std.specs.Prelude.{◌≡◌, MatchOption, None, Some, is_some};
+ghost use Rattle.index_loader.specs.Files.{has_files, index_of, no_files, pairs_of, with_index};
 
 use crate::index::Index;
 use crate::kind::IndexKind;
@@ -15,12 +15,15 @@ pub struct Indexes {
 }
 
 impl Model for Indexes {
-    ghost use Rattle.std.specs.Prelude.{map, option_map};
     ghost use Rattle.index_loader.specs.Files.{Files};
 
     ghost Value = { Files };
 
-    ghost view = { λ s. record { slots = map (λ slot. option_map (λ i. i.pairs) slot) s.slots } };
+    ghost use Rattle.index_loader.specs.Slots.{IsKept, pairs_kept};
+
+    ghost view = { λ s. record { slots = pairs_kept s.slots } };
+
+    ghost invariant = { λ s. IsKept s.slots };
 }
 
 impl Indexes {
@@ -35,6 +38,21 @@ impl Indexes {
                 None, None, None, None, None, None,
             ],
         }
+    }
+
+    /// Puts an index in place of the one of its kind.
+    pub fn put(&mut self, index: Index)
+        ensures { self.new ≡ with_index self.old index }
+    {
+        let slot = index.kind().slot();
+        self.slots[slot] = Some(index);
+    }
+
+    /// The index of this kind.
+    pub fn get(&self, kind: IndexKind) -> Option<&Index>
+        ensures { MatchOption result (index_of self.now kind ≡ None) (λ index. index_of self.now kind ≡ Some index.now) }
+    {
+        self.slots[kind.slot()].as_ref()
     }
 
     /// Whether the file of this kind is there.

@@ -1,6 +1,8 @@
 //! The kinds of index files.
 ghost use Rattle.std.specs.Prelude.{◌≡◌, ◌<◌};
-ghost use Rattle.index_loader.specs.Kinds.{single_byte_slot, slot_of};
+ghost use Rattle.index_loader.specs.Index.{is_ranges};
+ghost use Rattle.index_loader.specs.Kinds.{home_of, single_byte_slot, slot_of};
+ghost use Rattle.index_loader.specs.Lines.{greatest_pointer};
 
 use enc_names::Encoding;
 
@@ -20,6 +22,44 @@ pub enum IndexKind {
     Katakana,
 }
 
+/// The kinds at their places. ISO-8859-8-I has the place of ISO-8859-8.
+pub(crate) const KINDS: [IndexKind; 34] = [
+    IndexKind::SingleByte(Encoding::Ibm866),
+    IndexKind::SingleByte(Encoding::Iso8859_2),
+    IndexKind::SingleByte(Encoding::Iso8859_3),
+    IndexKind::SingleByte(Encoding::Iso8859_4),
+    IndexKind::SingleByte(Encoding::Iso8859_5),
+    IndexKind::SingleByte(Encoding::Iso8859_6),
+    IndexKind::SingleByte(Encoding::Iso8859_7),
+    IndexKind::SingleByte(Encoding::Iso8859_8),
+    IndexKind::SingleByte(Encoding::Iso8859_10),
+    IndexKind::SingleByte(Encoding::Iso8859_13),
+    IndexKind::SingleByte(Encoding::Iso8859_14),
+    IndexKind::SingleByte(Encoding::Iso8859_15),
+    IndexKind::SingleByte(Encoding::Iso8859_16),
+    IndexKind::SingleByte(Encoding::Koi8R),
+    IndexKind::SingleByte(Encoding::Koi8U),
+    IndexKind::SingleByte(Encoding::Macintosh),
+    IndexKind::SingleByte(Encoding::Windows874),
+    IndexKind::SingleByte(Encoding::Windows1250),
+    IndexKind::SingleByte(Encoding::Windows1251),
+    IndexKind::SingleByte(Encoding::Windows1252),
+    IndexKind::SingleByte(Encoding::Windows1253),
+    IndexKind::SingleByte(Encoding::Windows1254),
+    IndexKind::SingleByte(Encoding::Windows1255),
+    IndexKind::SingleByte(Encoding::Windows1256),
+    IndexKind::SingleByte(Encoding::Windows1257),
+    IndexKind::SingleByte(Encoding::Windows1258),
+    IndexKind::SingleByte(Encoding::XMacCyrillic),
+    IndexKind::Jis0208,
+    IndexKind::Jis0212,
+    IndexKind::Big5,
+    IndexKind::EucKr,
+    IndexKind::Gb18030,
+    IndexKind::Gb18030Ranges,
+    IndexKind::Katakana,
+];
+
 impl IndexKind {
     /// The place of this kind among all kinds.
     pub(crate) fn slot(self) -> usize
@@ -36,6 +76,36 @@ impl IndexKind {
             IndexKind::Gb18030Ranges => 32,
             IndexKind::Katakana => 33,
         }
+    }
+
+    /// The kind under which the file of this kind is kept.
+    pub(crate) fn home(self) -> IndexKind
+        ensures { result ≡ home_of self }
+    {
+        KINDS[self.slot()]
+    }
+
+    /// The greatest pointer that a file of this kind may have. Of the ranges it is that of the last
+    /// row before the one of the planes above the first.
+    pub(crate) fn greatest_pointer(self) -> u32
+        ensures { result ≡ greatest_pointer self }
+    {
+        match self {
+            IndexKind::SingleByte(_) => 127,
+            IndexKind::Jis0208 => 11_279,
+            IndexKind::Jis0212 => 8_835,
+            IndexKind::Big5 => 19_781,
+            IndexKind::EucKr | IndexKind::Gb18030 => 23_939,
+            IndexKind::Gb18030Ranges => 39_419,
+            IndexKind::Katakana => 62,
+        }
+    }
+
+    /// Whether this is the kind of the ranges, which have rules of their own.
+    pub(crate) fn is_ranges(self) -> bool
+        ensures { result ≡ is_ranges self }
+    {
+        matches!(self, IndexKind::Gb18030Ranges)
     }
 }
 

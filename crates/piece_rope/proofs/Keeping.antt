@@ -9,13 +9,13 @@ use Rattle.decoder_core.specs.Placed.{places}
 use Rattle.decoder_core.specs.Queue.{run}
 use Rattle.decoder_core.specs.Text.{code_points, error_places}
 use Rattle.decoder_core.specs.Utf8.{utf8, utf8_start}
-use Rattle.piece_rope.specs.declared.decoded.Decoded.{Decoded}
+use Rattle.piece_rope.specs.declared.decoding.Decoding.{Decoding}
 use Rattle.piece_rope.specs.Decode.{is_decoded, decode}
 use Rattle.piece_rope.specs.Document.{text_of, errors_of}
 use Rattle.piece_rope.specs.Edits.{document_limit}
 use Rattle.piece_rope.specs.Kept.{IsKept}
 
-pub IsKept-utf8 : (files : Files) (encoding : Encoding) (bytes : List ℕ) (kept : Decoded) → is_decoded files encoding ≡ true → encoding ≡ Utf8
+pub IsKept-utf8 : (files : Files) (encoding : Encoding) (bytes : List ℕ) (kept : Decoding) → is_decoded files encoding ≡ true → encoding ≡ Utf8
     → length bytes ≤ document_limit → chars (string_bytes kept.text) ≡ code_points (places (length bytes) 0 (run utf8 utf8_start bytes))
     → kept.errors.items ≡ error_places (places (length bytes) 0 (run utf8 utf8_start bytes))
     → IsKept (record { indexes = files; given = encoding; bytes = bytes }) kept

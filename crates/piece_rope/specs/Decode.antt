@@ -28,5 +28,6 @@ abbrev pub items_in : Files → Encoding → List ℕ → List Placed
 items_in files Utf8 bytes = places (length bytes) 0 (run utf8 utf8_start bytes)
 items_in files encoding bytes = []
 
+-- (Encoding Standard, "decode")
 unfoldable pub decode : Files → Encoding → List ℕ → Decoded
 decode files given bytes = record { encoding = given; bom = 0; items = items_in files given bytes }

@@ -2,7 +2,7 @@
 ghost use Rattle.std.specs.Prelude.{◌≡◌, ◌≢◌, ◌+◌, ◌-◌, ◌≤◌, length, take, drop, None, IfOk, OnOk, OnErr, string_bytes};
 ghost use Rattle.std.specs.Str.{encode_utf8_all};
 
-use crate::decoded::{Decoded, decode_by, decoder_of};
+use crate::decoding::{Decoding, decode_by, decoder_of};
 use crate::fault::DocFault;
 use crate::limits::{DOCUMENT_LIMIT, checked_cut};
 use crate::scalars::scalars_between;
@@ -21,7 +21,7 @@ pub struct Doc<'i> {
     indexes: &'i Indexes,
     given: Encoding,
     bytes: Vec<u8>,
-    decoded: Decoded,
+    decoding: Decoding,
 }
 
 impl<'i> Model for Doc<'i> {
@@ -32,7 +32,7 @@ impl<'i> Model for Doc<'i> {
 
     ghost view = { λ d. record { indexes = d.indexes.now; given = d.given; bytes = d.bytes.items } };
 
-    ghost invariant = { λ d. IsKept (record { indexes = d.indexes.now; given = d.given; bytes = d.bytes.items }) d.decoded };
+    ghost invariant = { λ d. IsKept (record { indexes = d.indexes.now; given = d.given; bytes = d.bytes.items }) d.decoding };
 }
 
 impl<'i> Doc<'i> {
@@ -60,12 +60,12 @@ impl<'i> Doc<'i> {
             return Err(DocFault::TooLarge);
         }
         let bytes = Vec::from_slice(alloc, bytes)?;
-        let decoded = decode_by(alloc, &decoder, &bytes, meter)?;
+        let decoding = decode_by(alloc, &decoder, &bytes, meter)?;
         Ok(Doc {
             indexes,
             given: encoding,
             bytes,
-            decoded,
+            decoding,
         })
     }
 
@@ -91,9 +91,9 @@ impl<'i> Doc<'i> {
         let decoder = decoder_of(self.indexes, self.given).ok_or(DocFault::NoIndex)?;
         let alloc = *self.bytes.allocator();
         let bytes = spliced_bytes(alloc, &self.bytes, at, del, ins)?;
-        let decoded = decode_by(alloc, &decoder, &bytes, meter)?;
+        let decoding = decode_by(alloc, &decoder, &bytes, meter)?;
         self.bytes = bytes;
-        self.decoded = decoded;
+        self.decoding = decoding;
         Ok(())
     }
 
@@ -104,7 +104,7 @@ impl<'i> Doc<'i> {
         ensures ok { IfOk result (λ text. string_bytes text ≡ encode_utf8_all (take (j - i) (drop i (text_of self.now)))) }
         ensures faults { Faults (text_fault self.now i j) result }
     {
-        let text = &self.decoded.text;
+        let text = &self.decoding.text;
         let part = scalars_between(text.as_str(), i, j).ok_or(DocFault::OutOfRange)?;
         Ok(String::from_str(*text.allocator(), part)?)
     }
@@ -116,7 +116,7 @@ impl<'i> Doc<'i> {
         ensures ok { IfOk result (λ places. places.items ≡ take max (drop from (errors_of self.now))) }
         ensures faults { Faults (errors_fault self.now from) result }
     {
-        let errors = &self.decoded.errors;
+        let errors = &self.decoding.errors;
         if from > errors.len() as u64 {
             return Err(DocFault::OutOfRange);
         }
@@ -129,7 +129,7 @@ impl<'i> Doc<'i> {
     pub fn error_count(&self) -> u64
         ensures { result ≡ length (errors_of self.now) }
     {
-        self.decoded.errors.len() as u64
+        self.decoding.errors.len() as u64
     }
 
     /// The encoding in force.

@@ -4,7 +4,7 @@ ghost use Rattle.std.specs.Str.{encode_utf8_all};
 ghost use Rattle.decoder_core.specs.Text.{item_code_points};
 ghost use Rattle.piece_rope.specs.Gathered.{Gathered, index_of, with_item, with_shown, with_ended};
 
-use crate::decoded::Decoded;
+use crate::decoding::Decoding;
 use crate::text_blocks::TextBlocks;
 use decoder_core::{Ended, Item, OutOfMemory, Sink};
 use enc_names::Place;
@@ -64,13 +64,13 @@ impl Gathering {
     }
 
     /// The text and the errors.
-    pub(crate) fn finish(self) -> Result<Decoded, OutOfMemory>
+    pub(crate) fn finish(self) -> Result<Decoding, OutOfMemory>
         ensures text { IfOk result (λ d. string_bytes d.text ≡ self.text) }
         ensures errors { IfOk result (λ d. d.errors.items ≡ self.errors) }
     {
         let Gathering { text, errors, .. } = self;
         let text = text.finish()?;
-        Ok(Decoded { text, errors })
+        Ok(Decoding { text, errors })
     }
 }
 

@@ -2,7 +2,7 @@
 //! answers it.
 #![tactic(auto)]
 
-mod decoded;
+mod decoding;
 mod doc;
 mod fault;
 mod gathering;
@@ -14,5 +14,7 @@ mod text_blocks;
 pub use doc::Doc;
 pub use fault::DocFault;
 
+#[cfg(test)]
+mod examples;
 #[cfg(test)]
 mod tests;

@@ -4,7 +4,7 @@ ghost use Rattle.piece_rope.specs.Edits.{spliced};
 
 use std::alloc::{AllocError, Global};
 
-/// The bytes before `at`, then those put in, then those from `end` on, in memory of their own.
+/// The bytes before `at`, then those put in, then those from `at + del` on, in memory of their own.
 pub(crate) fn spliced_bytes(
     alloc: Global,
     bytes: &[u8],

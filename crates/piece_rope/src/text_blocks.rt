@@ -62,6 +62,7 @@ impl TextBlocks {
         ensures bytes { self.new.bytes ≡ self.old.bytes }
         ensures room { OnOk result (self.new.room ≡ 1024) }
     {
+        // Whole code points alone were written, so this is UTF-8.
         let block = &self.block[..self.filled];
         self.text
             .push_str(unsafe { str::from_utf8_unchecked(block) })?;

@@ -7,7 +7,8 @@ ghost use Rattle.gateway.specs.Desk.{Office};
 
 use crate::desk::Desk;
 use crate::reply_line::ReplyLine;
-use crate::respond::{LINE_LIMIT, respond, too_long};
+use crate::request::Refusal;
+use crate::respond::{LINE_LIMIT, respond};
 use memchr::memchr;
 use std::alloc::Global;
 use std::marker::Model;
@@ -123,7 +124,7 @@ fn lost_reply(count: usize) -> ReplyLine
     ensures { (line : List ℕ) (office : Office) → Stands (Lost count) line → Replies office line result office }
 {
     if count > LINE_LIMIT {
-        too_long()
+        ReplyLine::refused(Refusal::LineTooLong)
     } else {
         ReplyLine::out_of_memory()
     }

@@ -1,4 +1,6 @@
 //! Events on a connection.
+ghost use Rattle.std.specs.Prelude.{◌≡◌, ◌∷◌, [], codes};
+ghost use Rattle.gateway.specs.Lines.{complete, unfinished};
 
 use crate::desk::Desk;
 use crate::gateway::{Event, GateFault, Gateway};
@@ -7,6 +9,14 @@ use index_loader::Indexes;
 use std::alloc::Global;
 use std::process::Abort;
 use std::test::Fail;
+
+// Three line feeds in pieces: the lines that they complete, and what is begun behind them.
+fn cut_lines()
+    ensures whole { complete [] (codes "ab\n\nc\r\nd") ≡ codes "ab" ∷ [] ∷ codes "c\r" ∷ [] }
+    ensures rest { unfinished [] (codes "ab\n\nc\r\nd") ≡ codes "d" }
+    ensures later { complete (codes "a") (codes "b\nc") ≡ codes "ab" ∷ [] }
+    ensures none { unfinished (codes "a") (codes "b") ≡ codes "ab" }
+{}
 
 fn gateway<'i>(alloc: Global, indexes: &'i Indexes) -> Result<Gateway<'i>, Fail> {
     let labels = Labels::names(alloc)?;
@@ -77,6 +87,7 @@ fn refused_events(rt: HostRuntime) -> Result<(), Fail> {
 
 #[test]
 fn line_cut_into_pieces(rt: HostRuntime) -> Result<(), Fail> {
+    cut_lines();
     let indexes = Indexes::new();
     let mut gateway = gateway(rt.alloc(), &indexes)?;
     expect_none(&rt, &mut gateway, Event::Open(0), 0);

@@ -14,7 +14,9 @@ fn lines_of_no_command()
     ensures empty { spelt [] ≡ Err BadJson }
     ensures cut { spelt (codes "{") ≡ Err BadJson }
     ensures not_utf8 { spelt (34 ∷ 255 ∷ 34 ∷ []) ≡ Err BadJson }
-    ensures list { spelt (codes "[]") ≡ Err (BadRequest None field.Object) }
+    ensures surrogate { spelt (codes "\"\\ud800\"") ≡ Err BadJson }
+    ensures infinite { spelt (codes "1e400") ≡ Err BadJson }
+    ensures list { spelt (codes "[]\r") ≡ Err (BadRequest None field.Object) }
     ensures no_id { spelt (codes "{\"op\":7}") ≡ Err (BadRequest None field.Id) }
     ensures no_op { spelt (codes "{\"id\":1}") ≡ Err (BadRequest (Some 1) field.Op) }
     ensures zap { spelt (codes "{\"id\":1,\"op\":\"zap\"}") ≡ Err (UnknownOp 1) }

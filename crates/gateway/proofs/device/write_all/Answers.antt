@@ -1,6 +1,4 @@
-use Rattle.std.proofs.Common.{◌≡◌, ℕ, ◌-◌, ◌≤◌, List, length, take, drop, min, arith, subst, ◌∙◌, length-drop}
-use Rattle.std.proofs.lemmas.List.{length-take}
-use Rattle.std.proofs.lemmas.Grind.{common_steps}
+use Rattle.std.proofs.Common.{◌-◌, ◌≤◌, length, arith, ◌∙◌}
 use Rattle.gateway.proofs.Devices.{written_more, lent_within}
 use Rattle.gateway.proofs.device.write_all.Goals as goal
 

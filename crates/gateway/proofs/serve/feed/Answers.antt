@@ -1,5 +1,4 @@
-use Rattle.std.proofs.Common.{◌-◌, ◌≤◌, length, arith, subst, ◌∙◌}
-use Rattle.gateway.specs.Feeding.{Fed, FedUntil}
+use Rattle.std.proofs.Common.{◌-◌, ◌≤◌, length, arith, ◌∙◌}
 use Rattle.gateway.proofs.Devices.{lent_within, front_more, front_rest}
 use Rattle.gateway.proofs.Chains.{Fed-trans, Fed-FedUntil}
 use Rattle.gateway.proofs.serve.feed.Goals as goal

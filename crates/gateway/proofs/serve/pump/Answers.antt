@@ -1,5 +1,4 @@
-use Rattle.std.proofs.Common.{◌≡◌, ℕ, Err, ap, ◌+◌, ◌≤◌, ◌^◌, length, arith, refl, ◌∙◌, add-zero, sym}
-use Rattle.gateway.specs.Serving.{most_reads}
+use Rattle.std.proofs.Common.{◌≡◌, ℕ, Err, ap, ◌+◌, arith, refl, add-zero, sym}
 use Rattle.gateway.proofs.Chains.{Pumped-start, Pumped-trans, Pumped-Err, reads_before}
 use Rattle.gateway.specs.declared.serve.Progress.{Progress}
 use Rattle.gateway.proofs.serve.pump.Goals as goal

@@ -1,7 +1,6 @@
-use Rattle.std.proofs.Common.{◌≡◌, List, [], length, drop}
+use Rattle.std.proofs.Common.{◌≡◌, [], drop}
 use Rattle.std.proofs.lemmas.Result.{IfOk-weaker}
 use Rattle.std.proofs.Math.ListN.{drop_of_length-le}
-use Rattle.enc_names.specs.declared.place.Place.{Place}
 use Rattle.gateway.proofs.SentLines.{places-len}
 use Rattle.gateway.proofs.reply_line.long.send_places.Goals as goal
 

@@ -30,3 +30,11 @@ returns-clause-no_op c = refl
 pub returns-clause-zap : goal.returns-clause-zap
 unfolding is_utf8 chars serde_json_on_literals
 returns-clause-zap c = refl
+
+pub returns-clause-surrogate : goal.returns-clause-surrogate
+unfolding is_utf8 chars serde_json_on_literals
+returns-clause-surrogate c = refl
+
+pub returns-clause-infinite : goal.returns-clause-infinite
+unfolding is_utf8 chars serde_json_on_literals
+returns-clause-infinite c = refl

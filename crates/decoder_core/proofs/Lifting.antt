@@ -1,0 +1,39 @@
+-- Runs and feeds of a decoder that stands for another.
+use Rattle.std.proofs.Common.{◌≡◌, ℕ, zero, suc, ◌+◌, ◌*◌, List, [], ◌∷◌, ◌++◌, length, Some, refl, ap, ◌∙◌}
+use Rattle.decoder_core.specs.declared.item.Ended.{Ended}
+use Rattle.decoder_core.specs.declared.handler.Answer.{Answer}
+use Rattle.decoder_core.specs.declared.handler.Answer.TheVariants.{Nothing, Gives, Finished}
+use Rattle.decoder_core.specs.Queue.{Turn, Table, Fed, front, behind, told, turns, run, fed_after, feed_for, feed}
+use Rattle.decoder_core.specs.Lift.{lift_fed, IsLifted}
+
+fed-lifted : {S T : Type 0} (f : S → T) (a : Answer) (left : ℕ) (next : S) (x : Fed S) → fed_after a left (f next) (lift_fed f x) ≡ lift_fed f (fed_after a left next x)
+fed-lifted f Nothing left next x = refl
+fed-lifted f (Gives i) left next x = refl
+fed-lifted f Finished left next x = refl
+
+module _ {S T : Type 0} (f : S → T) (small : Table S) (big : Table T) (same : IsLifted f small big) where
+  turns-lift : (n : ℕ) (s : S) (q : List ℕ) → turns big n (f s) q ≡ turns small n s q
+  unfolding turns
+  turns-lift zero s q = refl
+  turns-lift (suc n) s q =
+      let t = small s (front q) in
+      ap (λ (u : Turn T). told u.answer (length (u.back ++ behind q)) (turns big n u.state (u.back ++ behind q))) (same s (front q))
+      ∙ ap (λ (out : List Ended). told t.answer (length (t.back ++ behind q)) out) (turns-lift n t.state (t.back ++ behind q))
+
+  pub run-lift : (s : S) (q : List ℕ) → run big (f s) q ≡ run small s q
+  unfolding run
+  run-lift s q = turns-lift (8 * length q + 32) s q
+
+  feed_for-lift : (n : ℕ) (s : S) (q : List ℕ) → feed_for big n (f s) q ≡ lift_fed f (feed_for small n s q)
+  unfolding feed_for
+  feed_for-lift zero s q = refl
+  feed_for-lift (suc n) s [] = refl
+  feed_for-lift (suc n) s (b ∷ q) =
+      let t = small s (Some b) in
+      ap (λ (u : Turn T). fed_after u.answer (length (u.back ++ q)) u.state (feed_for big n u.state (u.back ++ q))) (same s (Some b))
+      ∙ ap (λ (x : Fed T). fed_after t.answer (length (t.back ++ q)) (f t.state) x) (feed_for-lift n t.state (t.back ++ q))
+      ∙ fed-lifted f t.answer (length (t.back ++ q)) t.state (feed_for small n t.state (t.back ++ q))
+
+  pub feed-lift : (s : S) (q : List ℕ) → feed big (f s) q ≡ lift_fed f (feed small s q)
+  unfolding feed
+  feed-lift s q = feed_for-lift (8 * length q + 32) s q

@@ -1,0 +1,88 @@
+-- The label file: JSON in the form of the Encoding Standard's encodings.json, an array of groups,
+-- each with a list of encodings, each with a name and a list of labels.
+use Rattle.std.specs.Prelude.{ℕ, Bool, List, [], ◌∷◌, codes, if◌then◌else◌, Option, Some, None, option_map, option_and_then, Result, Ok, Err}
+use Rattle.std.specs.List.{flat_map}
+use Rattle.std.specs.Str.{bytes_eq, is_utf8}
+use Rattle.serde_json.specs.Data.{Data, Items, no_items, item}
+use Rattle.serde_json.specs.Find.{get, as_str, as_array}
+use Rattle.serde_json.specs.Read.{read}
+use Rattle.enc_names.specs.declared.encoding.Encoding.{Encoding}
+use Rattle.enc_names.specs.declared.labels.LabelFault.{LabelFault}
+use Rattle.enc_names.specs.declared.labels.LabelFault.TheVariants.{NotJson, BadShape}
+use Rattle.enc_names.specs.Labels.{LabelTable, folded}
+use Rattle.enc_names.specs.Names.{name_of, encodings}
+
+-- ---- its shape; other fields are ignored
+
+-- an encoding of the file, as it is spelt there
+pub record Listed : Type 0 where
+  pub name : List ℕ
+  pub labels : List (List ℕ)
+
+-- what each item is by f, where f takes all of them
+abbrev pub each : {A : Type 0} → (Data → Option A) → Items → Option (List A)
+each f no_items = Some []
+each f (item d ds) = option_and_then (λ x. option_map (λ xs. x ∷ xs) (each f ds)) (f d)
+
+-- a field's array, each item by f
+abbrev pub list_at : {A : Type 0} → Data → List ℕ → (Data → Option A) → Option (List A)
+list_at d field f = option_and_then (each f) (option_and_then as_array (get field d))
+
+abbrev pub text_at : Data → List ℕ → Option (List ℕ)
+text_at d field = option_and_then as_str (get field d)
+
+abbrev pub listed_of : Data → Option Listed
+listed_of d =
+    option_and_then (λ name. option_map (λ labels. record { name = name; labels = labels }) (list_at d (codes "labels") as_str)) (text_at d (codes "name"))
+
+abbrev pub group_of : Data → Option (List Listed)
+group_of d = list_at d (codes "encodings") listed_of
+
+-- the file's groups, or None where the shape is another
+abbrev pub groups_of : Data → Option (List (List Listed))
+groups_of d = option_and_then (each group_of) (as_array d)
+
+-- ---- its labels
+
+-- the text is the encoding's name, ASCII case apart
+abbrev pub is_named : Encoding → List ℕ → Bool
+is_named e name = bytes_eq (folded name) (folded (name_of e))
+
+abbrev pub named_among : List Encoding → List ℕ → Option Encoding
+named_among [] name = None
+named_among (e ∷ es) name = if is_named e name then Some e else named_among es name
+
+-- the encoding of a name
+abbrev pub encoding_named : List ℕ → Option Encoding
+encoding_named name = named_among encodings name
+
+-- a label of an encoding, none where the encoding is unknown
+abbrev pub label_of : Option Encoding → List ℕ → LabelTable
+label_of None label = []
+label_of (Some e) label = (label, e) ∷ []
+
+abbrev pub labels_listed : Listed → LabelTable
+labels_listed listed = flat_map (label_of (encoding_named listed.name)) listed.labels
+
+-- the labels in the file's order, those of unknown encodings left out
+abbrev pub table_of_json : Data → Option LabelTable
+table_of_json d = option_map (flat_map (flat_map labels_listed)) (groups_of d)
+
+-- ---- its bytes
+
+-- the value of a text that is UTF-8 and JSON (RFC 8259) of at most 127 levels
+abbrev pub json_of : List ℕ → Option Data
+json_of bytes = if is_utf8 bytes then read bytes else None
+
+-- what is there, or else the fault
+abbrev pub need : {A : Type 0} → LabelFault → Option A → Result A LabelFault
+need fault None = Err fault
+need fault (Some x) = Ok x
+
+abbrev pub table_or_fault : Option Data → Result LabelTable LabelFault
+table_or_fault None = Err NotJson
+table_or_fault (Some d) = need BadShape (table_of_json d)
+
+-- the labels of a label file, or the first fault
+abbrev pub labels_of_file : List ℕ → Result LabelTable LabelFault
+labels_of_file bytes = table_or_fault (json_of bytes)

@@ -1,0 +1,74 @@
+//! How the program ends where it can't go on.
+
+use crate::text::Text;
+use enc_names::LabelFault;
+use gateway::Outlet;
+use index_loader::IndexFault;
+use std::fmt;
+
+/// Why the program ends with another status than 0.
+#[derive(Debug, Drop)]
+pub enum Failure<'a> {
+    /// The words are no command line of the program.
+    Words(clap::Error),
+    /// An index file, by its name in the folder, is faulty.
+    Index {
+        name: &'static str,
+        fault: IndexFault,
+    },
+    /// The label file is faulty.
+    Labels(LabelFault),
+    /// A file, by its name as it is told, can't be read.
+    CannotRead(&'a str),
+    /// A read failed.
+    Read,
+    /// A write failed.
+    Write,
+    /// The input was read too often.
+    TooManyReads,
+    /// Memory ran out outside of a command.
+    OutOfMemory,
+}
+
+impl Failure<'_> {
+    ghost use Rattle.std.specs.Prelude.{◌≡◌};
+    ghost use Rattle.gate.specs.Ending.{status_of};
+
+    /// The program's exit status: 2 for a mistake in the words or the files that they name, and 1
+    /// for a device that failed or memory that ran out.
+    pub fn status(&self) -> u8
+        ensures { result ≡ status_of self.now }
+    {
+        match self {
+            Failure::Words(_)
+            | Failure::Index { .. }
+            | Failure::Labels(_)
+            | Failure::CannotRead(_) => 2,
+            Failure::Read | Failure::Write | Failure::TooManyReads | Failure::OutOfMemory => 1,
+        }
+    }
+
+    /// Writes the failure's text; one that can't be written changes nothing.
+    pub fn tell<E: Outlet>(&self, error: &mut E) {
+        let _ = Text::new(error).put(self);
+    }
+}
+
+impl fmt::Display for Failure<'_> {
+    fn fmt<W: fmt::Write>(&self, f: &mut fmt::Formatter<W>) -> fmt::Result {
+        match self {
+            Failure::Words(error) => write!(f, "{error}"),
+            Failure::Index { name, fault } => {
+                let line = fault.line;
+                let cause = fault.cause;
+                writeln!(f, "gate: index file {name}, line {line}: {cause:?}")
+            }
+            Failure::Labels(cause) => writeln!(f, "gate: label file: {cause:?}"),
+            Failure::CannotRead(name) => writeln!(f, "gate: cannot read {name}"),
+            Failure::Read => f.write_str("gate: read fault\n"),
+            Failure::Write => f.write_str("gate: write fault\n"),
+            Failure::TooManyReads => f.write_str("gate: too many reads\n"),
+            Failure::OutOfMemory => f.write_str("gate: out of memory\n"),
+        }
+    }
+}

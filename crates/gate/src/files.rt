@@ -1,0 +1,262 @@
+//! The files that the program reads before it serves.
+ghost use Rattle.std.specs.Prelude.{IsTrue};
+ghost use Rattle.std.specs.List.{list_all};
+ghost use Rattle.index_loader.specs.SingleByte.{has_files_of};
+
+use crate::command_line::Sources;
+use crate::failure::Failure;
+use enc_names::{Encoding, LabelFault, Labels};
+use index_loader::{Index, IndexCause, IndexKind, Indexes};
+use std::alloc::{AllocError, Global};
+use std::fs;
+use std::io::{self, ErrorKind, Read};
+use std::path::Path;
+use std::rt::Files;
+
+/// The most bytes of a file.
+const FILE_LIMIT: u64 = 16_777_216;
+
+/// The index files, in the order in which they are read.
+const INDEX_FILES: [(IndexKind, &str); 34] = [
+    (IndexKind::SingleByte(Encoding::Ibm866), "index-ibm866.txt"),
+    (
+        IndexKind::SingleByte(Encoding::Iso8859_2),
+        "index-iso-8859-2.txt",
+    ),
+    (
+        IndexKind::SingleByte(Encoding::Iso8859_3),
+        "index-iso-8859-3.txt",
+    ),
+    (
+        IndexKind::SingleByte(Encoding::Iso8859_4),
+        "index-iso-8859-4.txt",
+    ),
+    (
+        IndexKind::SingleByte(Encoding::Iso8859_5),
+        "index-iso-8859-5.txt",
+    ),
+    (
+        IndexKind::SingleByte(Encoding::Iso8859_6),
+        "index-iso-8859-6.txt",
+    ),
+    (
+        IndexKind::SingleByte(Encoding::Iso8859_7),
+        "index-iso-8859-7.txt",
+    ),
+    (
+        IndexKind::SingleByte(Encoding::Iso8859_8),
+        "index-iso-8859-8.txt",
+    ),
+    (
+        IndexKind::SingleByte(Encoding::Iso8859_10),
+        "index-iso-8859-10.txt",
+    ),
+    (
+        IndexKind::SingleByte(Encoding::Iso8859_13),
+        "index-iso-8859-13.txt",
+    ),
+    (
+        IndexKind::SingleByte(Encoding::Iso8859_14),
+        "index-iso-8859-14.txt",
+    ),
+    (
+        IndexKind::SingleByte(Encoding::Iso8859_15),
+        "index-iso-8859-15.txt",
+    ),
+    (
+        IndexKind::SingleByte(Encoding::Iso8859_16),
+        "index-iso-8859-16.txt",
+    ),
+    (IndexKind::SingleByte(Encoding::Koi8R), "index-koi8-r.txt"),
+    (IndexKind::SingleByte(Encoding::Koi8U), "index-koi8-u.txt"),
+    (
+        IndexKind::SingleByte(Encoding::Macintosh),
+        "index-macintosh.txt",
+    ),
+    (
+        IndexKind::SingleByte(Encoding::Windows874),
+        "index-windows-874.txt",
+    ),
+    (
+        IndexKind::SingleByte(Encoding::Windows1250),
+        "index-windows-1250.txt",
+    ),
+    (
+        IndexKind::SingleByte(Encoding::Windows1251),
+        "index-windows-1251.txt",
+    ),
+    (
+        IndexKind::SingleByte(Encoding::Windows1252),
+        "index-windows-1252.txt",
+    ),
+    (
+        IndexKind::SingleByte(Encoding::Windows1253),
+        "index-windows-1253.txt",
+    ),
+    (
+        IndexKind::SingleByte(Encoding::Windows1254),
+        "index-windows-1254.txt",
+    ),
+    (
+        IndexKind::SingleByte(Encoding::Windows1255),
+        "index-windows-1255.txt",
+    ),
+    (
+        IndexKind::SingleByte(Encoding::Windows1256),
+        "index-windows-1256.txt",
+    ),
+    (
+        IndexKind::SingleByte(Encoding::Windows1257),
+        "index-windows-1257.txt",
+    ),
+    (
+        IndexKind::SingleByte(Encoding::Windows1258),
+        "index-windows-1258.txt",
+    ),
+    (
+        IndexKind::SingleByte(Encoding::XMacCyrillic),
+        "index-x-mac-cyrillic.txt",
+    ),
+    (IndexKind::Jis0208, "index-jis0208.txt"),
+    (IndexKind::Jis0212, "index-jis0212.txt"),
+    (IndexKind::Katakana, "index-iso-2022-jp-katakana.txt"),
+    (IndexKind::EucKr, "index-euc-kr.txt"),
+    (IndexKind::Big5, "index-big5.txt"),
+    (IndexKind::Gb18030, "index-gb18030.txt"),
+    (IndexKind::Gb18030Ranges, "index-gb18030-ranges.txt"),
+];
+
+/// Why a file can't be read.
+enum Unread {
+    Failed,
+    OutOfMemory,
+}
+
+impl From<AllocError> for Unread {
+    fn from(_: AllocError) -> Unread {
+        Unread::OutOfMemory
+    }
+}
+
+impl From<io::Error> for Unread {
+    fn from(error: io::Error) -> Unread {
+        match error.kind() {
+            ErrorKind::OutOfMemory => Unread::OutOfMemory,
+            _ => Unread::Failed,
+        }
+    }
+}
+
+impl Unread {
+    fn at(self, name: &str) -> Failure<'_> {
+        match self {
+            Unread::Failed => Failure::CannotRead(name),
+            Unread::OutOfMemory => Failure::OutOfMemory,
+        }
+    }
+}
+
+/// The index files of a folder, each read once, in the order of the list.
+pub fn indexes_in<'a, T: Files>(
+    rt: &T,
+    alloc: Global,
+    folder: &str,
+) -> Result<Indexes, Failure<'a>> {
+    let mut indexes = Indexes::new();
+    put_all(rt, alloc, folder, &INDEX_FILES, &mut indexes)?;
+    Ok(indexes)
+}
+
+/// Puts the index files that are there among the others.
+fn put_all<'a, T: Files>(
+    rt: &T,
+    alloc: Global,
+    folder: &str,
+    files: &[(IndexKind, &'static str)],
+    indexes: &mut Indexes,
+) -> Result<(), Failure<'a>>
+    requires { IsTrue (list_all (λ file. has_files_of file.0) files.now) }
+{
+    for (kind, name) in files {
+        put_index(rt, alloc, folder, *kind, name, indexes)?;
+    }
+    Ok(())
+}
+
+/// Puts one index file among the others, if it is there.
+fn put_index<'a, T: Files>(
+    rt: &T,
+    alloc: Global,
+    folder: &str,
+    kind: IndexKind,
+    name: &'static str,
+    indexes: &mut Indexes,
+) -> Result<(), Failure<'a>>
+    requires { IsTrue (has_files_of kind) }
+{
+    let path = match Path::new(folder).join(alloc, name) {
+        Ok(path) => path,
+        Err(_) => return Err(Failure::OutOfMemory),
+    };
+    let bytes = match bytes_of(rt, alloc, path.as_path()) {
+        Ok(Some(bytes)) => bytes,
+        Ok(None) => return Ok(()),
+        Err(unread) => return Err(unread.at(name)),
+    };
+    match Index::parse(alloc, kind, &bytes) {
+        Ok(index) => {
+            indexes.put(index);
+            Ok(())
+        }
+        Err(fault) => Err(match fault.cause {
+            IndexCause::OutOfMemory => Failure::OutOfMemory,
+            _ => Failure::Index { name, fault },
+        }),
+    }
+}
+
+/// The labels of a label file, which has to be there.
+pub fn labels_in<'a, T: Files>(
+    rt: &T,
+    alloc: Global,
+    name: &'a str,
+) -> Result<Labels, Failure<'a>> {
+    let bytes = match bytes_of(rt, alloc, Path::new(name)) {
+        Ok(Some(bytes)) => bytes,
+        Ok(None) => return Err(Failure::CannotRead(name)),
+        Err(unread) => return Err(unread.at(name)),
+    };
+    labels_or(Labels::from_json(alloc, &bytes))
+}
+
+/// The names of the encodings as labels.
+pub fn names<'a>(alloc: Global) -> Result<Labels, Failure<'a>> {
+    labels_or(Labels::names(alloc))
+}
+
+fn labels_or<'a>(labels: Result<Labels, LabelFault>) -> Result<Labels, Failure<'a>> {
+    match labels {
+        Ok(labels) => Ok(labels),
+        Err(LabelFault::OutOfMemory) => Err(Failure::OutOfMemory),
+        Err(fault) => Err(Failure::Labels(fault)),
+    }
+}
+
+/// What a file holds, or `None` where there is no such file.
+fn bytes_of<T: Files>(rt: &T, alloc: Global, path: Path<'_>) -> Result<Option<Vec<u8>>, Unread> {
+    let file = match fs::open(rt, path) {
+        Ok(file) => file,
+        Err(error) => {
+            return match error.kind() {
+                ErrorKind::NotFound | ErrorKind::NotADirectory => Ok(None),
+                _ => Err(Unread::from(error)),
+            };
+        }
+    };
+    let mut bytes = Vec::new(alloc);
+    file.take(FILE_LIMIT + 1).read_to_end(&mut bytes)?;
+    if bytes.len() as u64 > FILE_LIMIT {
+        return Err(Unread::Failed);
+    }
+    Ok(Some(bytes))
+}

@@ -1,0 +1,312 @@
+//! The program's words, files and endings, over devices of memory and files of a folder of their
+//! own.
+
+use crate::perform::perform;
+use gateway::{Feed, FromRead, MemFeed, MemOutlet, Outlet, ToWrite};
+use std::io::{self, ErrorKind, Read, Write};
+use std::path::PathBuf;
+use std::test::Fail;
+use std::{env, fs, process};
+
+/// What the program did: its status, and what it wrote to its output and to its error stream.
+#[derive(Drop)]
+struct Ending {
+    status: u8,
+    output: String,
+    error: String,
+}
+
+fn text_of(rt: &HostRuntime, device: &MemOutlet) -> Result<String, Fail> {
+    Ok(String::from_utf8_lossy(rt.alloc(), device.bytes())?)
+}
+
+fn words_of(rt: &HostRuntime, words: &[&str]) -> Result<Vec<String>, Fail> {
+    let mut all = Vec::new(rt.alloc());
+    for word in words {
+        all.push(String::from_str(rt.alloc(), word)?)?;
+    }
+    Ok(all)
+}
+
+/// Runs the program with these words over this input.
+fn performed(rt: &HostRuntime, words: &[&str], input: &str) -> Result<Ending, Fail> {
+    let words = words_of(rt, words)?;
+    let mut input = MemFeed::new(input.as_bytes());
+    let mut output = MemOutlet::new(rt.alloc());
+    let mut error = MemOutlet::new(rt.alloc());
+    let status = perform(rt, rt.alloc(), &words, &mut input, &mut output, &mut error);
+    Ok(Ending {
+        status,
+        output: text_of(rt, &output)?,
+        error: text_of(rt, &error)?,
+    })
+}
+
+/// Whether the program ends with this status and this text on the error stream, and with nothing
+/// on the output.
+fn ends(rt: &HostRuntime, words: &[&str], status: u8, error: &str) -> Result<bool, Fail> {
+    let done = performed(rt, words, "")?;
+    Ok(done.error.as_str() == error && done.output.is_empty() && done.status == status)
+}
+
+/// A folder for one test.
+#[derive(Drop)]
+struct Folder {
+    path: PathBuf,
+}
+
+impl Folder {
+    fn new(rt: &HostRuntime, name: &str) -> Result<Folder, Fail> {
+        let id = process::id(rt.process());
+        let name = format!(in rt.alloc(); "gate-test-{id}-{name}")?;
+        let path = env::temp_dir(rt)?.join(rt.alloc(), name.as_str())?;
+        fs::create_dir_all(rt, path.as_path())?;
+        Ok(Folder { path })
+    }
+
+    fn path_of(&self, rt: &HostRuntime, name: &str) -> Result<String, Fail> {
+        Ok(self.path.join(rt.alloc(), name)?.into_string())
+    }
+
+    fn write(&self, rt: &HostRuntime, name: &str, bytes: &[u8]) -> Result<(), Fail> {
+        let path = self.path_of(rt, name)?;
+        fs::write(rt, path.as_str(), bytes)?;
+        Ok(())
+    }
+
+    fn as_str(&self) -> &str {
+        self.path.as_path().as_str()
+    }
+
+    fn remove(&self, rt: &HostRuntime) -> Result<(), Fail> {
+        fs::remove_dir_all(rt, self.path.as_path())?;
+        Ok(())
+    }
+}
+
+/// A stream on which every call fails.
+#[derive(Drop)]
+struct Broken;
+
+impl Read for Broken {
+    fn read(&mut self, _buf: &mut [u8]) -> io::Result<usize> {
+        Err(io::Error::from(ErrorKind::BrokenPipe))
+    }
+}
+
+impl Write for Broken {
+    fn write(&mut self, _buf: &[u8]) -> io::Result<usize> {
+        Err(io::Error::from(ErrorKind::BrokenPipe))
+    }
+
+    fn flush(&mut self) -> io::Result<()> {
+        Ok(())
+    }
+}
+
+/// The status over these devices, and the text on the error stream.
+fn ended_over<R: Feed, W: Outlet>(
+    rt: &HostRuntime,
+    input: &mut R,
+    output: &mut W,
+    words: &[&str],
+) -> Result<(u8, String), Fail> {
+    let words = words_of(rt, words)?;
+    let mut error = MemOutlet::new(rt.alloc());
+    let status = perform(rt, rt.alloc(), &words, input, output, &mut error);
+    Ok((status, text_of(rt, &error)?))
+}
+
+const OPEN: &str =
+    "{\"id\":1,\"op\":\"open\",\"doc\":\"a\",\"label\":\"utf-8\",\"bytes\":\"4oJB\"}\n";
+
+const OPENED: &str = "{\"bom\":0,\"encoding\":\"UTF-8\",\"id\":1,\"rev\":0}\n";
+
+#[test]
+fn no_words_serve_the_input(rt: HostRuntime) -> Result<(), Fail> {
+    let done = performed(&rt, &[], OPEN)?;
+    assert_eq!(rt; done.output.as_str(), OPENED);
+    assert_eq!(rt; done.error.as_str(), "");
+    assert_eq!(rt; done.status, 0);
+    Ok(())
+}
+
+#[test]
+fn stdio_serves_with_files_and_labels(rt: HostRuntime) -> Result<(), Fail> {
+    let folder = Folder::new(&rt, "served")?;
+    folder.write(
+        &rt,
+        "index-windows-1252.txt",
+        b"0\t0x20AC\n59\t0xBB\n63\t0xBF\n",
+    )?;
+    folder.write(
+        &rt,
+        "labels.json",
+        b"[{\"encodings\":[{\"name\":\"UTF-8\",\"labels\":[\"utf-8\",\"unicode-1-1-utf-8\"]}]}]",
+    )?;
+    let labels = folder.path_of(&rt, "labels.json")?;
+    let line =
+        "{\"id\":1,\"op\":\"open\",\"doc\":\"a\",\"label\":\"Unicode-1-1-UTF-8\",\"bytes\":\"4oJB\"}\n";
+    let words = [
+        "stdio",
+        "--labels",
+        labels.as_str(),
+        "--indexes",
+        folder.as_str(),
+    ];
+    let with_labels = performed(&rt, &words, line)?;
+    let with_names = performed(&rt, &["stdio", "--indexes", folder.as_str()], line)?;
+    folder.remove(&rt)?;
+    assert_eq!(rt; with_labels.output.as_str(), OPENED);
+    assert_eq!(rt; with_labels.status, 0);
+    assert_eq!(rt;
+        with_names.output.as_str(),
+        "{\"fault\":\"UnknownLabel\",\"id\":1}\n"
+    );
+    Ok(())
+}
+
+#[test]
+fn help_goes_to_the_output(rt: HostRuntime) -> Result<(), Fail> {
+    for words in [
+        ["--help"].as_slice(),
+        &["-h"],
+        &["help"],
+        &["stdio", "--help"],
+    ] {
+        let done = performed(&rt, words, OPEN)?;
+        assert!(rt; done.output.contains("Usage: "));
+        assert!(rt; done.output.ends_with("\n"));
+        assert!(rt; !done.output.contains("UTF-8"));
+        assert_eq!(rt; done.error.as_str(), "");
+        assert_eq!(rt; done.status, 0);
+    }
+    Ok(())
+}
+
+#[test]
+fn bad_words_are_refused_before_any_file_is_read(rt: HostRuntime) -> Result<(), Fail> {
+    let folder = Folder::new(&rt, "words")?;
+    folder.write(&rt, "index-ibm866.txt", b"x\t0x41\n")?;
+    let at = folder.as_str();
+    for words in [
+        ["stdio"].as_slice(),
+        &["trace", "--indexes", at],
+        &["tcp", "--indexes", at],
+        &["stdio", "--indexes"],
+        &["stdio", "--indexes", at, "--labels"],
+        &["stdio", "--indexes", at, "more"],
+        &["stdio", "--indexes", at, "--port", "1"],
+        &["--indexes", at],
+    ] {
+        let done = performed(&rt, words, OPEN)?;
+        assert!(rt; done.error.starts_with("error: "));
+        assert!(rt; done.error.ends_with("\n"));
+        assert_eq!(rt; done.output.as_str(), "");
+        assert_eq!(rt; done.status, 2);
+    }
+    folder.remove(&rt)
+}
+
+#[test]
+fn first_faulty_file_ends_the_program(rt: HostRuntime) -> Result<(), Fail> {
+    let folder = Folder::new(&rt, "faulty")?;
+    let at = folder.as_str();
+    folder.write(&rt, "labels.json", b"{}")?;
+    let labels = folder.path_of(&rt, "labels.json")?;
+    let words = ["stdio", "--indexes", at, "--labels", labels.as_str()];
+    assert!(rt; ends(&rt, &words, 2, "gate: label file: BadShape\n")?);
+    folder.write(&rt, "labels.json", b"[")?;
+    assert!(rt; ends(&rt, &words, 2, "gate: label file: NotJson\n")?);
+    for (name, text, told) in [
+        (
+            "index-gb18030-ranges.txt",
+            "0\t0x80\n",
+            "gate: index file index-gb18030-ranges.txt, line 0: BadRanges\n",
+        ),
+        (
+            "index-jis0208.txt",
+            "# comment\n11280\t0x41\n",
+            "gate: index file index-jis0208.txt, line 2: PointerTooLarge\n",
+        ),
+        (
+            "index-windows-1252.txt",
+            "0\t0x20AC\n0\t0x81\n",
+            "gate: index file index-windows-1252.txt, line 2: DuplicatePointer\n",
+        ),
+        (
+            "index-koi8-r.txt",
+            "0\t0xD800\n",
+            "gate: index file index-koi8-r.txt, line 1: BadCodePoint\n",
+        ),
+        (
+            "index-ibm866.txt",
+            "x\t0x41\n",
+            "gate: index file index-ibm866.txt, line 1: BadPointer\n",
+        ),
+    ] {
+        folder.write(&rt, name, text.as_bytes())?;
+        assert!(rt; ends(&rt, &words, 2, told)?);
+    }
+    folder.remove(&rt)
+}
+
+#[test]
+fn file_that_cannot_be_read_is_named(rt: HostRuntime) -> Result<(), Fail> {
+    let folder = Folder::new(&rt, "unread")?;
+    let at = folder.as_str();
+    let big = vec![in rt.alloc(); b'#'; 16_777_217]?;
+    folder.write(&rt, "index-big5.txt", &big)?;
+    assert!(rt;
+        ends(
+            &rt,
+            &["stdio", "--indexes", at],
+            2,
+            "gate: cannot read index-big5.txt\n"
+        )?
+    );
+    folder.write(&rt, "index-big5.txt", &big[1..])?;
+    assert!(rt; ends(&rt, &["stdio", "--indexes", at], 0, "")?);
+    let absent = folder.path_of(&rt, "absent.json")?;
+    let told = format!(in rt.alloc(); "gate: cannot read {absent}\n")?;
+    let words = ["stdio", "--indexes", at, "--labels", absent.as_str()];
+    assert!(rt; ends(&rt, &words, 2, told.as_str())?);
+    let nowhere = folder.path_of(&rt, "nowhere")?;
+    assert!(rt; ends(&rt, &["stdio", "--indexes", nowhere.as_str()], 0, "")?);
+    fs::create_dir_all(&rt, folder.path_of(&rt, "index-ibm866.txt")?.as_str())?;
+    assert!(rt;
+        ends(
+            &rt,
+            &["stdio", "--indexes", at],
+            2,
+            "gate: cannot read index-ibm866.txt\n"
+        )?
+    );
+    folder.remove(&rt)
+}
+
+#[test]
+fn broken_streams_end_the_program(rt: HostRuntime) -> Result<(), Fail> {
+    let mut broken_input = FromRead::new(Broken);
+    let mut output = MemOutlet::new(rt.alloc());
+    let (status, text) = ended_over(&rt, &mut broken_input, &mut output, &[])?;
+    assert_eq!(rt; (status, text.as_str()), (1, "gate: read fault\n"));
+    let mut input = MemFeed::new(OPEN.as_bytes());
+    let mut broken_output = ToWrite::new(Broken);
+    let (status, text) = ended_over(&rt, &mut input, &mut broken_output, &[])?;
+    assert_eq!(rt; (status, text.as_str()), (1, "gate: write fault\n"));
+    let (status, text) = ended_over(&rt, &mut input, &mut broken_output, &["--help"])?;
+    assert_eq!(rt; (status, text.as_str()), (1, "gate: write fault\n"));
+    let mut broken_error = ToWrite::new(Broken);
+    let words = words_of(&rt, &["stdio"])?;
+    let status = perform(
+        &rt,
+        rt.alloc(),
+        &words,
+        &mut input,
+        &mut output,
+        &mut broken_error,
+    );
+    assert_eq!(rt; status, 2);
+    Ok(())
+}

@@ -1,0 +1,34 @@
+-- Digits read one after another, and numbers that count as a limit from there on.
+use Rattle.std.proofs.Common.{◌≡◌, ℕ, ◌+◌, ◌*◌, ◌≤◌, ◌<◌, min, List, length, get_or, take, true, arith, refl, ◌∙◌, ⊎_elim}
+use Rattle.std.proofs.Math.Nat.{mul-le-mul}
+use Rattle.std.proofs.lemmas.Bool.{cases_lt, lt-ltb}
+use Rattle.std.proofs.lemmas.Int.Digits.{digits_value_more}
+use Rattle.std.proofs.lemmas.List.Folds.{list_all_more}
+use Rattle.std.specs.Char.{digit_value, is_digit}
+use Rattle.std.specs.List.{list_all}
+use Rattle.std.specs.Str.Parse.{digits_value}
+
+-- a product with a factor of at least 1 is above the limit where the other factor is
+above_limit : (n base limit : ℕ) → 1 ≤ base → limit ≤ n → limit ≤ n * base
+above_limit n base limit one above = let e : limit * 1 ≤ n * base = mul-le-mul above one in omega arith
+
+-- one more digit behind a number that was capped
+capped-digit : (n base digit limit : ℕ) → 1 ≤ base → min (min (min n limit * base) limit + digit) limit ≡ min (n * base + digit) limit
+capped-digit n base digit limit one =
+    ⊎_elim
+    (λ (below : n < limit). let e : min n limit ≡ n = omega arith in rw e (omega arith))
+    (λ (above : limit ≤ n).
+    let e : min n limit ≡ limit = omega arith in
+    let f : limit ≤ limit * base = above_limit limit base limit one (omega arith) in
+    let g : limit ≤ n * base = above_limit n base limit one above in rw e (omega arith))
+    (cases_lt n limit)
+
+-- one more byte that is a digit
+pub all-digits_more : (base : ℕ) (text : List ℕ) (i byte : ℕ) → i < length text → list_all (λ b. is_digit b base) (take i text) ≡ true → byte ≡ get_or text i 0 → digit_value byte < base → list_all (λ b. is_digit b base) (take (i + 1) text) ≡ true
+all-digits_more base text i byte lt all is small =
+    list_all_more (λ b. is_digit b base) text i 0 lt ∙ rw all (lt-ltb _ _ (rw (← is) small))
+
+-- the number with one more digit, where both count as the limit from there on
+pub capped-digits_more : (base : ℕ) (text : List ℕ) (i byte n product limit : ℕ) → 1 ≤ base → i < length text → byte ≡ get_or text i 0 → n ≡ min (digits_value base (take i text)) limit → product ≡ min (n * base) limit → min (product + digit_value byte) limit ≡ min (digits_value base (take (i + 1) text)) limit
+capped-digits_more base text i byte n product limit one lt is value by =
+    rw (by, value, capped-digit (digits_value base (take i text)) base (digit_value byte) limit one, digits_value_more base text i lt, is) refl

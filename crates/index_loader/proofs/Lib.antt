@@ -1,0 +1,11 @@
+pub mod Digits
+pub mod Split
+pub mod Places
+pub mod Members
+pub mod ByCodePointLemmas
+pub mod RowLemmas
+pub mod LineLemmas
+pub mod IndexLemmas
+pub mod TableLemmas
+pub mod SlotLemmas
+pub mod FileLawLemmas

@@ -1,0 +1,53 @@
+-- What a reading of an index file means: which lines spell which pairs, and which line is the first faulty one.
+use Rattle.std.specs.Prelude.{◌≡◌, ℕ, ◌+◌, ◌<◌, ◌⊎◌, List, [], length, slice_index_or, Option, Some, Result, Ok, Err, IsTrue, All, Contains, ◌↔◌}
+use Rattle.std.specs.Char.{IsScalar}
+use Rattle.index_loader.specs.declared.fault.IndexCause.{IndexCause}
+use Rattle.index_loader.specs.declared.fault.IndexCause.TheVariants.{DuplicatePointer}
+use Rattle.index_loader.specs.declared.fault.IndexFault.{IndexFault}
+use Rattle.index_loader.specs.declared.kind.IndexKind.{IndexKind}
+use Rattle.index_loader.specs.Lines.{allows, pair_on}
+use Rattle.index_loader.specs.Pairs.{Pairs}
+use Rattle.index_loader.specs.Rows.{IsRising}
+
+-- what the line at this place spells, counted from 0
+abbrev pub reading_at : IndexKind → List (List ℕ) → ℕ → Result (Option (ℕ × ℕ)) IndexCause
+reading_at kind lines place = pair_on kind (slice_index_or lines place [])
+
+-- a line spells the pair
+pub record Spells (kind : IndexKind) (lines : List (List ℕ)) (pair : ℕ × ℕ) : Type 0 where
+  pub place : ℕ
+  pub within : place < length lines
+  pub spelt : reading_at kind lines place ≡ Ok (Some pair)
+
+-- the line spells a pointer that a line above spells too
+pub record Repeats (kind : IndexKind) (lines : List (List ℕ)) (place : ℕ) : Type 0 where
+  pub pair : ℕ × ℕ
+  pub spelt : reading_at kind lines place ≡ Ok (Some pair)
+  pub earlier : ℕ
+  pub above : earlier < place
+  pub other : ℕ × ℕ
+  pub spelt_above : reading_at kind lines earlier ≡ Ok (Some other)
+  pub same : other.0 ≡ pair.0
+
+-- the line is refused for this cause: by what it spells, or because a line above has its pointer
+abbrev pub IsFaulty : IndexKind → List (List ℕ) → ℕ → IndexCause → Type 0
+IsFaulty kind lines place cause = (reading_at kind lines place ≡ Err cause) ⊎ ((cause ≡ DuplicatePointer) × Repeats kind lines place)
+
+-- the fault is that of the first faulty line
+pub record IsFirstFault (kind : IndexKind) (lines : List (List ℕ)) (fault : IndexFault) : Type 0 where
+  pub place : ℕ
+  pub within : place < length lines
+  pub numbered : fault.line ≡ place + 1
+  pub faulty : IsFaulty kind lines place fault.cause
+  pub others_good : (earlier : ℕ) (cause : IndexCause) → earlier < place → IsFaulty kind lines earlier cause → ⊥
+
+-- the pair may stand in a file of this kind
+abbrev pub IsEntry : IndexKind → ℕ × ℕ → Type 0
+IsEntry kind pair = IsScalar pair.1 × IsTrue (allows kind pair.0 pair.1)
+
+-- the pairs are those that the lines spell, in the order of their pointers, each once, and no line is faulty
+pub record AreSpelt (kind : IndexKind) (lines : List (List ℕ)) (pairs : Pairs) : Type 0 where
+  pub spelt : (pair : ℕ × ℕ) → Contains pairs pair ↔ Spells kind lines pair
+  pub rising : IsRising pairs
+  pub entries : All (IsEntry kind) pairs
+  pub all_good : (place : ℕ) (cause : IndexCause) → place < length lines → IsFaulty kind lines place cause → ⊥

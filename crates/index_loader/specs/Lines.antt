@@ -1,0 +1,97 @@
+-- What a line of an index file spells (Encoding Standard, "Indexes").
+use Rattle.std.specs.Prelude.{ℕ, ◌==◌, nat_le, nat_eq, Bool, not, ◌&&◌, ◌||◌, List, [], ◌∷◌, length, drop, reverse, slice_index, Option, Some, None, Result, Ok, Err, if◌then◌else◌, option_and_then}
+use Rattle.std.specs.Char.{is_digit}
+use Rattle.std.specs.List.{list_all, slice_split, starts_with}
+use Rattle.std.specs.Str.Lines.{strip_carriage_return}
+use Rattle.std.specs.Str.Parse.{digits_value}
+use Rattle.index_loader.specs.declared.fault.IndexCause.{IndexCause}
+use Rattle.index_loader.specs.declared.fault.IndexCause.TheVariants.{BadPointer, BadCodePoint, PointerTooLarge, BadRanges}
+use Rattle.index_loader.specs.declared.kind.IndexKind.{IndexKind}
+use Rattle.index_loader.specs.declared.kind.IndexKind.TheVariants.{SingleByte, Jis0208, Jis0212, Big5, EucKr, Gb18030, Gb18030Ranges, Katakana}
+use Rattle.index_loader.specs.Index.{is_ranges}
+use Rattle.index_loader.specs.Scalars.{as_scalar}
+
+-- the lines of a file, cut at LF; behind the last LF stands one more, which may be empty
+abbrev pub lines_of : List ℕ → List (List ℕ)
+lines_of bytes = slice_split (λ b. b == 0x0A) bytes
+
+-- the fields of a line, cut at TAB
+abbrev pub fields_of : List ℕ → List (List ℕ)
+fields_of line = slice_split (λ b. b == 0x09) line
+
+-- empty lines and lines that start with '#' spell nothing
+abbrev pub is_skipped : List ℕ → Bool
+is_skipped line = length line == 0 || slice_index line 0 == 0x23
+
+-- without the spaces at the front
+abbrev pub behind_spaces : List ℕ → List ℕ
+behind_spaces [] = []
+behind_spaces (b ∷ bs) = if b == 0x20 then behind_spaces bs else b ∷ bs
+
+-- without the spaces at both ends
+abbrev pub stripped : List ℕ → List ℕ
+stripped text = reverse (behind_spaces (reverse (behind_spaces text)))
+
+-- the number that a text of digits in this base spells, digits above 9 in either case
+abbrev pub number_in : ℕ → List ℕ → Option ℕ
+number_in base text =
+    if length text == 0 || not (list_all (λ b. is_digit b base) text) then None else Some (digits_value base text)
+
+-- the scalar value that `0x` and hexadecimal digits spell
+abbrev pub code_point_spelt : List ℕ → Option ℕ
+code_point_spelt text =
+    if starts_with nat_eq text (0x30 ∷ 0x78 ∷ []) then option_and_then as_scalar (number_in 16 (drop 2 text)) else None
+
+-- the greatest pointer of a kind; of the ranges, before the row of the planes above the first
+abbrev pub greatest_pointer : IndexKind → ℕ
+greatest_pointer (SingleByte _) = 127
+greatest_pointer Jis0208 = 11279
+greatest_pointer Jis0212 = 8835
+greatest_pointer Big5 = 19781
+greatest_pointer EucKr = 23939
+greatest_pointer Gb18030 = 23939
+greatest_pointer Gb18030Ranges = 39419
+greatest_pointer Katakana = 62
+
+-- a row of the ranges: one of the Basic Multilingual Plane behind ASCII, or that of the planes above
+abbrev pub allows_row : ℕ → ℕ → Bool
+allows_row pointer code_point =
+    (nat_le pointer 39419 && nat_le 0x80 code_point && nat_le code_point 0xFFFF) || (pointer == 189000 && code_point == 0x10000)
+
+-- the kind of file may have this pair
+abbrev pub allows : IndexKind → ℕ → ℕ → Bool
+allows kind pointer code_point =
+    if is_ranges kind then allows_row pointer code_point else nat_le pointer (greatest_pointer kind)
+
+-- the cause where it may not
+abbrev pub refusal_of : IndexKind → IndexCause
+refusal_of kind = if is_ranges kind then BadRanges else PointerTooLarge
+
+-- a pointer and the code point that is spelt behind it
+abbrev pub pair_with : IndexKind → ℕ → Option ℕ → Result (Option (ℕ × ℕ)) IndexCause
+pair_with kind pointer None = Err BadCodePoint
+pair_with kind pointer (Some code_point) =
+    if allows kind pointer code_point then Ok (Some (pointer, code_point)) else Err (refusal_of kind)
+
+-- the second of the fields behind the first
+abbrev pub code_point_in : List (List ℕ) → Option ℕ
+code_point_in [] = None
+code_point_in (field ∷ fields) = code_point_spelt (stripped field)
+
+-- a pointer, if one is spelt, and the fields behind it
+abbrev pub pair_behind : IndexKind → Option ℕ → List (List ℕ) → Result (Option (ℕ × ℕ)) IndexCause
+pair_behind kind None fields = Err BadPointer
+pair_behind kind (Some pointer) fields = pair_with kind pointer (code_point_in fields)
+
+-- the pair that the fields of a line spell, or the first cause why they spell none
+abbrev pub pair_in : IndexKind → List (List ℕ) → Result (Option (ℕ × ℕ)) IndexCause
+pair_in kind [] = Err BadPointer
+pair_in kind (field ∷ fields) = pair_behind kind (number_in 10 (stripped field)) fields
+
+-- what a line without its CR spells
+abbrev pub pair_of_text : IndexKind → List ℕ → Result (Option (ℕ × ℕ)) IndexCause
+pair_of_text kind text = if is_skipped text then Ok None else pair_in kind (fields_of text)
+
+-- what a line spells: nothing, a pair, or the first cause why it spells none
+abbrev pub pair_on : IndexKind → List ℕ → Result (Option (ℕ × ℕ)) IndexCause
+pair_on kind line = pair_of_text kind (strip_carriage_return line)

@@ -1,0 +1,8 @@
+-- A text cut at a byte.
+use Rattle.std.specs.Prelude.{ℕ, ◌==◌, List, [], Option, Some, None}
+use Rattle.std.specs.List.{slice_split}
+
+-- the parts of what stands behind the first of these bytes, if it is there
+abbrev pub parts_behind : ℕ → Option (List ℕ) → List (List ℕ)
+parts_behind byte None = []
+parts_behind byte (Some rest) = slice_split (λ b. b == byte) rest

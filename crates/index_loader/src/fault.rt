@@ -1,0 +1,43 @@
+//! Why an index file could not be read.
+ghost use Rattle.std.specs.Prelude.{◌≡◌};
+
+use std::alloc::AllocError;
+
+/// Why a line, or the file as a whole, is refused. Of several causes on a line the first in this
+/// order is named.
+#[derive(Clone, Copy, PartialEq, Eq, Debug)]
+pub enum IndexCause {
+    /// The first field is no decimal number.
+    BadPointer,
+    /// The second field is absent, or isn't `0x` and a scalar value in hexadecimal digits.
+    BadCodePoint,
+    /// The pointer is above the greatest of the file's kind.
+    PointerTooLarge,
+    /// The ranges of gb18030 can't have this row, or (in line 0) lack one of the rows that they need.
+    BadRanges,
+    /// A line above has the same pointer.
+    DuplicatePointer,
+    /// A growth of memory was refused.
+    OutOfMemory,
+}
+
+/// The first fault of an index file.
+#[derive(Clone, Copy, PartialEq, Eq, Debug)]
+pub struct IndexFault {
+    /// The number of the faulty line, from 1; 0 for the file as a whole and for memory.
+    pub line: u64,
+    pub cause: IndexCause,
+}
+
+impl From<AllocError> for IndexFault {
+    ghost use Rattle.index_loader.specs.declared.fault.IndexCause.TheVariants.{OutOfMemory};
+
+    ghost from_gives = { λ _ fault. fault ≡ record { line = 0; cause = OutOfMemory } };
+
+    fn from(_: AllocError) -> IndexFault {
+        IndexFault {
+            line: 0,
+            cause: IndexCause::OutOfMemory,
+        }
+    }
+}

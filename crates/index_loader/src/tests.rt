@@ -1,0 +1,295 @@
+//! Index files of a few lines: what they spell, their faults, and look-ups in them.
+ghost use Rattle.std.specs.Prelude.{IsTrue};
+ghost use Rattle.index_loader.specs.Examples.{Faults, LookUps, Spellings};
+ghost use Rattle.index_loader.specs.SingleByte.{has_files_of};
+
+use crate::fault::IndexCause;
+use crate::index::Index;
+use crate::indexes::Indexes;
+use crate::kind::IndexKind;
+use enc_names::{Encoding, Scalar};
+use std::alloc::Global;
+use std::test::Fail;
+
+const WINDOWS_1252: IndexKind = IndexKind::SingleByte(Encoding::Windows1252);
+
+/// The fault of a file of windows-1252.
+fn fault(alloc: Global, bytes: &[u8]) -> Option<(u64, IndexCause)> {
+    fault_of(alloc, WINDOWS_1252, bytes)
+}
+
+/// The fault of the ranges.
+fn ranges_fault(alloc: Global, bytes: &[u8]) -> Option<(u64, IndexCause)> {
+    fault_of(alloc, IndexKind::Gb18030Ranges, bytes)
+}
+
+fn fault_of(alloc: Global, kind: IndexKind, bytes: &[u8]) -> Option<(u64, IndexCause)>
+    requires { IsTrue (has_files_of kind) }
+{
+    match Index::parse(alloc, kind, bytes) {
+        Ok(_) => None,
+        Err(fault) => Some((fault.line, fault.cause)),
+    }
+}
+
+/// The code point of a pointer, as a number.
+fn number_at(index: &Index, pointer: u32) -> Option<u32> {
+    Some(index.code_point(pointer)?.get())
+}
+
+fn scalar(number: u32) -> Result<Scalar, Fail> {
+    Ok(Scalar::new(number).ok_or("no scalar value")?)
+}
+
+#[test]
+fn equal_pointers_are_a_fault_of_the_second_line(rt: HostRuntime) {
+    let bytes = b"0\t0x20AC\n0\t0x81\n";
+    assert_eq!(rt;
+        fault(rt.alloc(), bytes),
+        Some((2, IndexCause::DuplicatePointer))
+    );
+}
+
+#[test]
+fn the_pointer_behind_the_last_is_too_large(rt: HostRuntime) {
+    assert_eq!(rt; fault(rt.alloc(), b"127\t0x81"), None);
+    assert_eq!(rt;
+        fault(rt.alloc(), b"128\t0x81"),
+        Some((1, IndexCause::PointerTooLarge))
+    );
+    let long = b"99999999999999999999\t0x41";
+    assert_eq!(rt;
+        fault(rt.alloc(), long),
+        Some((1, IndexCause::PointerTooLarge))
+    );
+}
+
+#[test]
+fn a_surrogate_is_no_code_point(rt: HostRuntime) {
+    assert_eq!(rt;
+        fault(rt.alloc(), b"0\t0xD800"),
+        Some((1, IndexCause::BadCodePoint))
+    );
+    assert_eq!(rt;
+        fault(rt.alloc(), b"128\t0xD800"),
+        Some((1, IndexCause::BadCodePoint))
+    );
+    assert_eq!(rt;
+        fault(rt.alloc(), b"0\t0x110000"),
+        Some((1, IndexCause::BadCodePoint))
+    );
+}
+
+#[test]
+fn a_misspelt_pointer_is_the_first_cause(rt: HostRuntime) {
+    assert_eq!(rt;
+        fault(rt.alloc(), b"x\t0x81"),
+        Some((1, IndexCause::BadPointer))
+    );
+    assert_eq!(rt;
+        fault(rt.alloc(), b"-1\t0x41"),
+        Some((1, IndexCause::BadPointer))
+    );
+    assert_eq!(rt;
+        fault(rt.alloc(), b"1 2\tx"),
+        Some((1, IndexCause::BadPointer))
+    );
+    assert_eq!(rt;
+        fault(rt.alloc(), b"   "),
+        Some((1, IndexCause::BadPointer))
+    );
+    let marked = b"\xEF\xBB\xBF0\t0x41";
+    assert_eq!(rt;
+        fault(rt.alloc(), marked),
+        Some((1, IndexCause::BadPointer))
+    );
+}
+
+#[test]
+fn a_code_point_is_spelt_with_0x_and_digits(rt: HostRuntime) {
+    assert_eq!(rt;
+        fault(rt.alloc(), b"0"),
+        Some((1, IndexCause::BadCodePoint))
+    );
+    assert_eq!(rt;
+        fault(rt.alloc(), b"0\t20AC"),
+        Some((1, IndexCause::BadCodePoint))
+    );
+    assert_eq!(rt;
+        fault(rt.alloc(), b"0\t0x"),
+        Some((1, IndexCause::BadCodePoint))
+    );
+    assert_eq!(rt;
+        fault(rt.alloc(), b"0\t0X41"),
+        Some((1, IndexCause::BadCodePoint))
+    );
+    assert_eq!(rt;
+        fault(rt.alloc(), b"0\t0x4G"),
+        Some((1, IndexCause::BadCodePoint))
+    );
+}
+
+#[test]
+fn leading_zeros_have_no_limit(rt: HostRuntime) -> Result<(), Fail> {
+    let index = Index::parse(rt.alloc(), WINDOWS_1252, b"00\t0x0000000000000041")?;
+    assert_eq!(rt; number_at(&index, 0), Some(0x41));
+    assert_eq!(rt; number_at(&index, 1), None);
+    Ok(())
+}
+
+#[test]
+fn lines_that_spell_nothing_are_counted(rt: HostRuntime) {
+    let bytes = b"# a comment\r\n\r\n\n 5 \t 0x2a \tname\r\nx\n";
+    assert_eq!(rt; fault(rt.alloc(), bytes), Some((5, IndexCause::BadPointer)));
+}
+
+#[test]
+fn fields_are_stripped_and_further_ones_ignored(rt: HostRuntime) -> Result<(), Fail> {
+    let bytes = b"#\n  5 \t 0x2a \t0x2b\r\n";
+    let index = Index::parse(rt.alloc(), WINDOWS_1252, bytes)?;
+    assert_eq!(rt; number_at(&index, 5), Some(0x2A));
+    Ok(())
+}
+
+#[test]
+fn ranges_need_their_first_and_last_row(rt: HostRuntime) {
+    let lacking = Some((0, IndexCause::BadRanges));
+    assert_eq!(rt; ranges_fault(rt.alloc(), b"0\t0x80"), lacking);
+    assert_eq!(rt;
+        ranges_fault(rt.alloc(), b"0\t0x81\n189000\t0x10000"),
+        lacking
+    );
+    assert_eq!(rt; ranges_fault(rt.alloc(), b"0\t0x80\n189000\t0x10000"), None);
+}
+
+#[test]
+fn rows_of_ranges_lie_in_the_first_plane(rt: HostRuntime) {
+    let bad = Some((1, IndexCause::BadRanges));
+    assert_eq!(rt; ranges_fault(rt.alloc(), b"39420\t0x80"), bad);
+    assert_eq!(rt;
+        ranges_fault(rt.alloc(), b"99999999999999999999\t0x80"),
+        bad
+    );
+    assert_eq!(rt; ranges_fault(rt.alloc(), b"1\t0x7F"), bad);
+    assert_eq!(rt; ranges_fault(rt.alloc(), b"1\t0x10000"), bad);
+    assert_eq!(rt; ranges_fault(rt.alloc(), b"189000\t0x10001"), bad);
+    let twice = b"0\t0x80\n0\t0x81\n189000\t0x10000";
+    assert_eq!(rt;
+        ranges_fault(rt.alloc(), twice),
+        Some((2, IndexCause::DuplicatePointer))
+    );
+}
+
+#[test]
+fn a_code_point_may_have_several_pointers(rt: HostRuntime) -> Result<(), Fail> {
+    let bytes = b"10736\t0x2170\n10800\t0x2170\n8272\t0x2170\n";
+    let index = Index::parse(rt.alloc(), IndexKind::Jis0208, bytes)?;
+    let roman_one = scalar(0x2170)?;
+    assert_eq!(rt; index.pointer(roman_one), Some(8272));
+    assert_eq!(rt; index.pointer_from(roman_one, 8272), Some(8272));
+    assert_eq!(rt; index.pointer_from(roman_one, 8836), Some(10736));
+    assert_eq!(rt; index.pointer_from(roman_one, 10801), None);
+    assert_eq!(rt; index.last_pointer(roman_one), Some(10800));
+    assert_eq!(rt; index.pointer(scalar(0x2171)?), None);
+    assert_eq!(rt; index.last_pointer(scalar(0x216F)?), None);
+    Ok(())
+}
+
+#[test]
+fn ranges_are_looked_up_by_their_own_rule(rt: HostRuntime) -> Result<(), Fail> {
+    let bytes = b"0\t0x80\n189000\t0x10000\n";
+    let ranges = Index::parse(rt.alloc(), IndexKind::Gb18030Ranges, bytes)?;
+    assert_eq!(rt; number_at(&ranges, 8236), Some(0x20AC));
+    assert_eq!(rt; number_at(&ranges, 7457), Some(0xE7C7));
+    assert_eq!(rt; number_at(&ranges, 39420), None);
+    assert_eq!(rt; number_at(&ranges, 188_999), None);
+    assert_eq!(rt; number_at(&ranges, 189_000), Some(0x10000));
+    assert_eq!(rt; number_at(&ranges, 1_237_575), Some(0x10_FFFF));
+    assert_eq!(rt; number_at(&ranges, 1_237_576), None);
+    assert_eq!(rt; ranges.pointer(scalar(0x20AC)?), Some(8236));
+    assert_eq!(rt; ranges.pointer_from(scalar(0x20AC)?, 8237), None);
+    assert_eq!(rt; ranges.last_pointer(scalar(0xE7C7)?), Some(7457));
+    assert_eq!(rt; ranges.pointer(scalar(0x7F)?), None);
+    assert_eq!(rt; ranges.pointer(scalar(0x10_FFFF)?), Some(1_237_575));
+    Ok(())
+}
+
+#[test]
+fn an_encoding_is_served_by_all_its_files(rt: HostRuntime) -> Result<(), Fail> {
+    let mut indexes = Indexes::new();
+    assert!(rt; indexes.has(Encoding::Utf8) && indexes.has(Encoding::XUserDefined));
+    assert!(rt; !indexes.has(Encoding::ShiftJis));
+    indexes.put(Index::parse(rt.alloc(), IndexKind::Jis0208, b"283\t0x3042")?);
+    assert!(rt; indexes.has(Encoding::ShiftJis) && !indexes.has(Encoding::EucJp));
+    indexes.put(Index::parse(rt.alloc(), IndexKind::Jis0212, b"108\t0x02D8")?);
+    assert!(rt; indexes.has(Encoding::EucJp) && !indexes.has(Encoding::Iso2022Jp));
+    Ok(())
+}
+
+#[test]
+fn a_file_takes_the_place_of_its_kind(rt: HostRuntime) -> Result<(), Fail> {
+    let mut indexes = Indexes::new();
+    let visual = IndexKind::SingleByte(Encoding::Iso8859_8);
+    let logical = IndexKind::SingleByte(Encoding::Iso8859_8I);
+    indexes.put(Index::parse(rt.alloc(), visual, b"96\t0x05D0")?);
+    assert!(rt; indexes.has(Encoding::Iso8859_8I) && indexes.has(Encoding::Iso8859_8));
+    indexes.put(Index::parse(rt.alloc(), logical, b"97\t0x05D1")?);
+    let index = indexes.get(visual).ok_or("no index")?;
+    assert_eq!(rt; number_at(index, 96), None);
+    assert_eq!(rt; number_at(index, 97), Some(0x05D1));
+    Ok(())
+}
+
+/// The files of the folder examples/indexes, at their kinds.
+#[test]
+fn the_example_files_parse(rt: HostRuntime) {
+    let jis0208 =
+        b"# A few entries of the Encoding Standard's index of jis0208: pointer, code point.\n\
+        0\t0x3000\n1\t0x3001\n2\t0x3002\n60\t0xFF0D\n283\t0x3042\n1410\t0x4E9C\n";
+    assert_eq!(rt; fault_of(rt.alloc(), IndexKind::Jis0208, jis0208), None);
+    let jis0212 =
+        b"# A few entries of the Encoding Standard's index of jis0212: pointer, code point.\n\
+        108\t0x02D8\n";
+    assert_eq!(rt; fault_of(rt.alloc(), IndexKind::Jis0212, jis0212), None);
+    let iso_2022_jp_katakana =
+        b"# A few entries of the Encoding Standard's index of ISO-2022-JP katakana: pointer, code point.\n\
+        0\t0x3002\n";
+    assert_eq!(rt;
+        fault_of(rt.alloc(), IndexKind::Katakana, iso_2022_jp_katakana),
+        None
+    );
+    let euc_kr =
+        b"# A few entries of the Encoding Standard's index of EUC-KR: pointer, code point.\n\
+        9026\t0xAC00\n";
+    assert_eq!(rt; fault_of(rt.alloc(), IndexKind::EucKr, euc_kr), None);
+    let big5 = b"# A few entries of the Encoding Standard's index of Big5: pointer, code point.\n\
+        5495\t0x4E00\n";
+    assert_eq!(rt; fault_of(rt.alloc(), IndexKind::Big5, big5), None);
+    let gb18030 =
+        b"# A few entries of the Encoding Standard's index of gb18030: pointer, code point.\n\
+        0\t0x4E02\n1\t0x4E04\n9026\t0x554A\n";
+    assert_eq!(rt; fault_of(rt.alloc(), IndexKind::Gb18030, gb18030), None);
+    let gb18030_ranges =
+        b"# Two rows of the Encoding Standard's ranges of gb18030: first pointer, first code point.\n\
+        0\t0x0080\n189000\t0x10000\n";
+    assert_eq!(rt;
+        fault_of(rt.alloc(), IndexKind::Gb18030Ranges, gb18030_ranges),
+        None
+    );
+    let windows_1252 =
+        b"# A few entries of the Encoding Standard's index of windows-1252: pointer, code point.\n\
+        0\t0x20AC\n59\t0x00BB\n63\t0x00BF\n";
+    assert_eq!(rt; fault_of(rt.alloc(), WINDOWS_1252, windows_1252), None);
+}
+
+/// The worked examples hold, by computing.
+fn examples()
+    ensures faults { Faults }
+    ensures spellings { Spellings }
+    ensures look_ups { LookUps }
+{}
+
+#[test]
+fn worked_examples_are_what_the_definitions_say() {
+    examples();
+}

@@ -1,0 +1,58 @@
+-- The gb18030 decoder, which is GBK's decoder too (Encoding Standard, "gb18030 decoder" and "GBK decoder").
+use Rattle.std.specs.Prelude.{ℕ, ◌+◌, ◌-◌, ◌*◌, Bool, ◌||◌, nat_lt, ◌==◌, [], ◌∷◌, Option, Some, None, if◌then◌else◌}
+use Rattle.decoder_core.specs.declared.item.Item.TheVariants.{One, Error}
+use Rattle.decoder_core.specs.Queue.{Turn}
+use Rattle.decoder_core.specs.Utf8.{within}
+use Rattle.index_loader.specs.Index.{Loaded}
+use Rattle.multibyte_decoders.specs.declared.gb18030.Gb18030State.{Gb18030State}
+use Rattle.multibyte_decoders.specs.declared.gb18030.Gb18030State.TheVariants.{Idle, First, Second, Third}
+use Rattle.multibyte_decoders.specs.Pairs.{gives, holds, finishes, is_ascii, completes, one_of}
+
+abbrev pub is_gb18030_trail : ℕ → Bool
+is_gb18030_trail b = within 0x40 0x7E b || within 0x80 0xFE b
+
+abbrev pub gb18030_pointer : ℕ → ℕ → ℕ
+gb18030_pointer first b = (first - 0x81) * 190 + (b - (if nat_lt b 0x7F then 0x40 else 0x41))
+
+-- two bytes, in index gb18030
+abbrev pub gb18030_pair : (ℕ → Option ℕ) → ℕ → ℕ → Option ℕ
+gb18030_pair index first b = if is_gb18030_trail b then index (gb18030_pointer first b) else None
+
+-- the pointer of four bytes
+abbrev pub gb18030_four : ℕ → ℕ → ℕ → ℕ → ℕ
+gb18030_four first second third b =
+    (first - 0x81) * 12600 + (second - 0x30) * 1260 + (third - 0x81) * 10 + (b - 0x30)
+
+-- four bytes, in index gb18030 ranges; one without a code point puts nothing back
+abbrev pub gb18030_ranged : Option ℕ → Turn Gb18030State
+gb18030_ranged (Some c) = gives Idle (One c) []
+gb18030_ranged None = gives Idle Error []
+
+-- a byte with nothing pending
+abbrev pub gb18030_single : ℕ → Turn Gb18030State
+gb18030_single b =
+    if is_ascii b then gives Idle (One b) []
+    else if b == 0x80 then gives Idle (One 0x20AC) []
+    else if within 0x81 0xFE b then holds (First b)
+    else gives Idle Error []
+
+abbrev pub gb18030 : (ℕ → Option ℕ) → (ℕ → Option ℕ) → Gb18030State → Option ℕ → Turn Gb18030State
+gb18030 index ranges Idle None = finishes Idle
+gb18030 index ranges (First first) None = gives Idle Error []
+gb18030 index ranges (Second first second) None = gives Idle Error []
+gb18030 index ranges (Third first second third) None = gives Idle Error []
+gb18030 index ranges Idle (Some b) = gb18030_single b
+gb18030 index ranges (First first) (Some b) =
+    if within 0x30 0x39 b then holds (Second first b)
+    else completes Idle (one_of (gb18030_pair index first b)) b
+gb18030 index ranges (Second first second) (Some b) =
+    if within 0x81 0xFE b then holds (Third first second b)
+    else gives Idle Error (second ∷ b ∷ [])
+gb18030 index ranges (Third first second third) (Some b) =
+    if within 0x30 0x39 b then gb18030_ranged (ranges (gb18030_four first second third b))
+    else gives Idle Error (second ∷ third ∷ b ∷ [])
+
+-- the decoder's index and its ranges
+pub record Gb18030Indexes : Type 0 where
+  pub index : Loaded
+  pub ranges : Loaded

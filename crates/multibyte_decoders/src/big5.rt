@@ -1,0 +1,112 @@
+//! The Big5 decoder.
+ghost use Rattle.std.specs.Prelude.{◌≡◌};
+ghost use Rattle.std.proofs.Common.{rules};
+ghost use Rattle.index_loader.specs.Index.{code_point_of};
+ghost use Rattle.decoder_core.specs.Few.{bytes_of};
+ghost use Rattle.multibyte_decoders.specs.declared.pairs.PairState.TheVariants.{Idle};
+ghost use Rattle.multibyte_decoders.specs.Big5.{big5, big5_single, big5_pair, big5_pointer, big5_item};
+ghost use Rattle.multibyte_decoders.specs.Holding.{falls_of, counts_of};
+ghost use Rattle.multibyte_decoders.specs.Holdings.{big5_holding};
+
+use crate::pairs::PairState;
+use crate::turns::{complete, finish, give, give_one, hold, one_of, scalar};
+use decoder_core::{Few, Handled, Handler, Item};
+use index_loader::Index;
+use std::marker::Model;
+
+/// The Big5 decoder (Encoding Standard, "Big5 decoder"), which borrows index Big5. Contracts see
+/// the index.
+#[derive(Drop)]
+pub struct Big5Decoder<'i> {
+    index: &'i Index,
+}
+
+impl<'i> Model for Big5Decoder<'i> {
+    ghost use Rattle.index_loader.specs.Index.{Loaded};
+
+    ghost Value = { Loaded };
+
+    ghost view = { λ d. d.index.now };
+}
+
+impl<'i> Big5Decoder<'i> {
+    /// The decoder over index Big5.
+    pub fn new(index: &'i Index) -> Big5Decoder<'i>
+        ensures { result ≡ index.now }
+    {
+        Big5Decoder { index }
+    }
+
+    /// The item of a lead and the byte after it.
+    fn pair(&self, lead: u8, byte: u8) -> Option<Item>
+        ensures { result ≡ big5_pair (code_point_of self.now) lead byte }
+    {
+        match byte {
+            0x40..=0x7E | 0xA1..=0xFE => self.item(pointer(lead, byte)),
+            _ => None,
+        }
+    }
+
+    /// The item of a pointer: four pointers give two code points.
+    fn item(&self, pointer: u32) -> Option<Item>
+        ensures { result ≡ big5_item (code_point_of self.now) pointer }
+    {
+        match pointer {
+            1133 => Some(Item::Two(scalar(0xCA), scalar(0x304))),
+            1135 => Some(Item::Two(scalar(0xCA), scalar(0x30C))),
+            1164 => Some(Item::Two(scalar(0xEA), scalar(0x304))),
+            1166 => Some(Item::Two(scalar(0xEA), scalar(0x30C))),
+            _ => one_of(self.index.code_point(pointer)),
+        }
+    }
+}
+
+/// The pointer of a lead and a trail.
+fn pointer(lead: u8, trail: u8) -> u32
+    ensures { result ≡ big5_pointer lead trail }
+{
+    let trail_offset = if trail < 0x7F { 0x40 } else { 0x62 };
+    u32::from(lead.saturating_sub(0x81)) * 157 + u32::from(trail.saturating_sub(trail_offset))
+}
+
+/// A byte with no lead pending.
+fn single(byte: u8) -> Handled<PairState>
+    ensures state { result.state ≡ (big5_single byte).state }
+    ensures answer { result.answer ≡ (big5_single byte).answer }
+    ensures back { bytes_of result.back ≡ (big5_single byte).back }
+{
+    match byte {
+        0..=0x7F => give_one(PairState::Idle, u32::from(byte)),
+        0x81..=0xFE => hold(PairState::Lead(byte)),
+        _ => give(PairState::Idle, Item::Error, Few::Zero),
+    }
+}
+
+impl<'i> Handler for Big5Decoder<'i> {
+    type State = PairState;
+
+    ghost table = { λ d. big5 (code_point_of d) };
+
+    ghost initial = { λ _. Idle };
+
+    fn start_state(&self) -> PairState {
+        PairState::Idle
+    }
+
+    fn turn(&self, state: PairState, byte: Option<u8>) -> Handled<PairState> {
+        match (state, byte) {
+            (PairState::Idle, None) => finish(PairState::Idle),
+            (PairState::Lead(_), None) => give(PairState::Idle, Item::Error, Few::Zero),
+            (PairState::Idle, Some(byte)) => single(byte),
+            (PairState::Lead(lead), Some(byte)) => {
+                complete(PairState::Idle, self.pair(lead, byte), byte)
+            }
+        }
+    }
+
+    ghost ends = { λ d. falls_of _ (big5_holding (code_point_of d)) };
+
+    ghost counts = { λ d. counts_of _ (big5_holding (code_point_of d)) };
+
+    ghost exact = { λ a b h. Prim.search rules };
+}

@@ -1,0 +1,125 @@
+//! The EUC-JP decoder.
+ghost use Rattle.std.specs.Prelude.{◌≡◌};
+ghost use Rattle.std.proofs.Common.{rules};
+ghost use Rattle.index_loader.specs.Index.{code_point_of};
+ghost use Rattle.decoder_core.specs.Few.{bytes_of};
+ghost use Rattle.multibyte_decoders.specs.declared.euc_jp.EucJpState.TheVariants.{Idle};
+ghost use Rattle.multibyte_decoders.specs.EucJp.{euc_jp, euc_jp_single, euc_jp_second, euc_jp_pair, euc_jp_pointer};
+ghost use Rattle.multibyte_decoders.specs.Holding.{falls_of, counts_of};
+ghost use Rattle.multibyte_decoders.specs.Holdings.{euc_jp_holding};
+
+use crate::turns::{complete, finish, give, give_one, hold, one_of};
+use decoder_core::{Few, Handled, Handler, Item};
+use enc_names::Scalar;
+use index_loader::Index;
+use std::marker::Model;
+
+/// Where the EUC-JP decoder stands between two bytes.
+#[derive(Clone, Copy, PartialEq, Eq, Debug)]
+pub enum EucJpState {
+    /// Nothing is pending.
+    Idle,
+    /// A lead byte is pending.
+    Lead(u8),
+    /// A lead byte is pending behind 8F, and the pair stands in index jis0212.
+    Jis0212Lead(u8),
+}
+
+/// The EUC-JP decoder (Encoding Standard, "EUC-JP decoder"), which borrows the indexes jis0208 and
+/// jis0212. Contracts see the two indexes.
+#[derive(Drop)]
+pub struct EucJpDecoder<'i> {
+    jis0208: &'i Index,
+    jis0212: &'i Index,
+}
+
+impl<'i> Model for EucJpDecoder<'i> {
+    ghost use Rattle.multibyte_decoders.specs.EucJp.{EucJpIndexes};
+
+    ghost Value = { EucJpIndexes };
+
+    ghost view = { λ d. record { jis0208 = d.jis0208.now; jis0212 = d.jis0212.now } };
+}
+
+impl<'i> EucJpDecoder<'i> {
+    /// The decoder over the indexes jis0208 and jis0212.
+    pub fn new(jis0208: &'i Index, jis0212: &'i Index) -> EucJpDecoder<'i>
+        ensures { result ≡ record { jis0208 = jis0208.now; jis0212 = jis0212.now } }
+    {
+        EucJpDecoder { jis0208, jis0212 }
+    }
+
+    /// A byte after a lead.
+    fn second(&self, lead: u8, byte: u8) -> Handled<EucJpState>
+        ensures state { result.state ≡ (euc_jp_second (code_point_of self.now.jis0208) lead byte).state }
+        ensures answer { result.answer ≡ (euc_jp_second (code_point_of self.now.jis0208) lead byte).answer }
+        ensures back { bytes_of result.back ≡ (euc_jp_second (code_point_of self.now.jis0208) lead byte).back }
+    {
+        match (lead, byte) {
+            (0x8E, 0xA1..=0xDF) => give_one(EucJpState::Idle, 0xFF61 - 0xA1 + u32::from(byte)),
+            (0x8F, 0xA1..=0xFE) => hold(EucJpState::Jis0212Lead(byte)),
+            _ => complete(
+                EucJpState::Idle,
+                one_of(pair(self.jis0208, lead, byte)),
+                byte,
+            ),
+        }
+    }
+}
+
+/// The code point of a pair in one of the two indexes.
+fn pair(index: &Index, lead: u8, byte: u8) -> Option<Scalar>
+    ensures { result ≡ euc_jp_pair (code_point_of index.now) lead byte }
+{
+    match (lead, byte) {
+        (0xA1..=0xFE, 0xA1..=0xFE) => {
+            index.code_point(u32::from(lead - 0xA1) * 94 + u32::from(byte - 0xA1))
+        }
+        _ => None,
+    }
+}
+
+/// A byte with no lead pending.
+fn single(byte: u8) -> Handled<EucJpState>
+    ensures state { result.state ≡ (euc_jp_single byte).state }
+    ensures answer { result.answer ≡ (euc_jp_single byte).answer }
+    ensures back { bytes_of result.back ≡ (euc_jp_single byte).back }
+{
+    match byte {
+        0..=0x7F => give_one(EucJpState::Idle, u32::from(byte)),
+        0x8E | 0x8F | 0xA1..=0xFE => hold(EucJpState::Lead(byte)),
+        _ => give(EucJpState::Idle, Item::Error, Few::Zero),
+    }
+}
+
+impl<'i> Handler for EucJpDecoder<'i> {
+    type State = EucJpState;
+
+    ghost table = { λ d. euc_jp (code_point_of d.jis0208) (code_point_of d.jis0212) };
+
+    ghost initial = { λ _. Idle };
+
+    fn start_state(&self) -> EucJpState {
+        EucJpState::Idle
+    }
+
+    fn turn(&self, state: EucJpState, byte: Option<u8>) -> Handled<EucJpState> {
+        match (state, byte) {
+            (EucJpState::Idle, None) => finish(EucJpState::Idle),
+            (_, None) => give(EucJpState::Idle, Item::Error, Few::Zero),
+            (EucJpState::Idle, Some(byte)) => single(byte),
+            (EucJpState::Lead(lead), Some(byte)) => self.second(lead, byte),
+            (EucJpState::Jis0212Lead(lead), Some(byte)) => complete(
+                EucJpState::Idle,
+                one_of(pair(self.jis0212, lead, byte)),
+                byte,
+            ),
+        }
+    }
+
+    ghost ends = { λ d. falls_of _ (euc_jp_holding (code_point_of d.jis0208) (code_point_of d.jis0212)) };
+
+    ghost counts = { λ d. counts_of _ (euc_jp_holding (code_point_of d.jis0208) (code_point_of d.jis0212)) };
+
+    ghost exact = { λ a b h. Prim.search rules };
+}

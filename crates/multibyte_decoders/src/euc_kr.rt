@@ -1,0 +1,95 @@
+//! The EUC-KR decoder.
+ghost use Rattle.std.specs.Prelude.{◌≡◌};
+ghost use Rattle.std.proofs.Common.{rules};
+ghost use Rattle.index_loader.specs.Index.{code_point_of};
+ghost use Rattle.decoder_core.specs.Few.{bytes_of};
+ghost use Rattle.multibyte_decoders.specs.declared.pairs.PairState.TheVariants.{Idle};
+ghost use Rattle.multibyte_decoders.specs.EucKr.{euc_kr, euc_kr_single, euc_kr_pair};
+ghost use Rattle.multibyte_decoders.specs.Holding.{falls_of, counts_of};
+ghost use Rattle.multibyte_decoders.specs.Holdings.{euc_kr_holding};
+
+use crate::pairs::PairState;
+use crate::turns::{complete, finish, give, give_one, hold, one_of};
+use decoder_core::{Few, Handled, Handler, Item};
+use enc_names::Scalar;
+use index_loader::Index;
+use std::marker::Model;
+
+/// The EUC-KR decoder (Encoding Standard, "EUC-KR decoder"), which borrows index EUC-KR. Contracts
+/// see the index.
+#[derive(Drop)]
+pub struct EucKrDecoder<'i> {
+    index: &'i Index,
+}
+
+impl<'i> Model for EucKrDecoder<'i> {
+    ghost use Rattle.index_loader.specs.Index.{Loaded};
+
+    ghost Value = { Loaded };
+
+    ghost view = { λ d. d.index.now };
+}
+
+impl<'i> EucKrDecoder<'i> {
+    /// The decoder over index EUC-KR.
+    pub fn new(index: &'i Index) -> EucKrDecoder<'i>
+        ensures { result ≡ index.now }
+    {
+        EucKrDecoder { index }
+    }
+
+    /// The code point of a lead and the byte after it.
+    fn pair(&self, lead: u8, byte: u8) -> Option<Scalar>
+        ensures { result ≡ euc_kr_pair (code_point_of self.now) lead byte }
+    {
+        match byte {
+            0x41..=0xFE => {
+                let row = u32::from(lead.saturating_sub(0x81));
+                self.index.code_point(row * 190 + u32::from(byte - 0x41))
+            }
+            _ => None,
+        }
+    }
+}
+
+/// A byte with no lead pending.
+fn single(byte: u8) -> Handled<PairState>
+    ensures state { result.state ≡ (euc_kr_single byte).state }
+    ensures answer { result.answer ≡ (euc_kr_single byte).answer }
+    ensures back { bytes_of result.back ≡ (euc_kr_single byte).back }
+{
+    match byte {
+        0..=0x7F => give_one(PairState::Idle, u32::from(byte)),
+        0x81..=0xFE => hold(PairState::Lead(byte)),
+        _ => give(PairState::Idle, Item::Error, Few::Zero),
+    }
+}
+
+impl<'i> Handler for EucKrDecoder<'i> {
+    type State = PairState;
+
+    ghost table = { λ d. euc_kr (code_point_of d) };
+
+    ghost initial = { λ _. Idle };
+
+    fn start_state(&self) -> PairState {
+        PairState::Idle
+    }
+
+    fn turn(&self, state: PairState, byte: Option<u8>) -> Handled<PairState> {
+        match (state, byte) {
+            (PairState::Idle, None) => finish(PairState::Idle),
+            (PairState::Lead(_), None) => give(PairState::Idle, Item::Error, Few::Zero),
+            (PairState::Idle, Some(byte)) => single(byte),
+            (PairState::Lead(lead), Some(byte)) => {
+                complete(PairState::Idle, one_of(self.pair(lead, byte)), byte)
+            }
+        }
+    }
+
+    ghost ends = { λ d. falls_of _ (euc_kr_holding (code_point_of d)) };
+
+    ghost counts = { λ d. counts_of _ (euc_kr_holding (code_point_of d)) };
+
+    ghost exact = { λ a b h. Prim.search rules };
+}

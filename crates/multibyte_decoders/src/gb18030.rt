@@ -1,0 +1,157 @@
+//! The gb18030 decoder.
+ghost use Rattle.std.specs.Prelude.{◌≡◌};
+ghost use Rattle.std.proofs.Common.{rules};
+ghost use Rattle.index_loader.specs.Index.{code_point_of};
+ghost use Rattle.decoder_core.specs.Few.{bytes_of};
+ghost use Rattle.multibyte_decoders.specs.declared.gb18030.Gb18030State.TheVariants.{Idle};
+ghost use Rattle.multibyte_decoders.specs.Gb18030.{gb18030, gb18030_single, gb18030_pair, gb18030_pointer, gb18030_four, gb18030_ranged};
+ghost use Rattle.multibyte_decoders.specs.Holding.{falls_of, counts_of};
+ghost use Rattle.multibyte_decoders.specs.Holdings.{gb18030_holding};
+
+use crate::turns::{complete, finish, give, give_one, hold, one_of};
+use decoder_core::{Few, Handled, Handler, Item};
+use enc_names::Scalar;
+use index_loader::Index;
+use std::marker::Model;
+
+/// Where the gb18030 decoder stands between two bytes: the bytes that are pending.
+#[derive(Clone, Copy, PartialEq, Eq, Debug)]
+pub enum Gb18030State {
+    Idle,
+    First(u8),
+    Second(u8, u8),
+    Third(u8, u8, u8),
+}
+
+/// The gb18030 decoder, which is the GBK decoder too (Encoding Standard, "gb18030 decoder" and
+/// "GBK decoder"). It borrows index gb18030 and index gb18030 ranges. Contracts see the two
+/// indexes.
+#[derive(Drop)]
+pub struct Gb18030Decoder<'i> {
+    index: &'i Index,
+    ranges: &'i Index,
+}
+
+/// The GBK decoder (Encoding Standard, "GBK decoder").
+pub type GbkDecoder<'i> = Gb18030Decoder<'i>;
+
+impl<'i> Model for Gb18030Decoder<'i> {
+    ghost use Rattle.multibyte_decoders.specs.Gb18030.{Gb18030Indexes};
+
+    ghost Value = { Gb18030Indexes };
+
+    ghost view = { λ d. record { index = d.index.now; ranges = d.ranges.now } };
+}
+
+impl<'i> Gb18030Decoder<'i> {
+    /// The decoder over index gb18030 and index gb18030 ranges.
+    pub fn new(index: &'i Index, ranges: &'i Index) -> Gb18030Decoder<'i>
+        ensures { result ≡ record { index = index.now; ranges = ranges.now } }
+    {
+        Gb18030Decoder { index, ranges }
+    }
+
+    /// The code point of two bytes.
+    fn pair(&self, first: u8, byte: u8) -> Option<Scalar>
+        ensures { result ≡ gb18030_pair (code_point_of self.now.index) first byte }
+    {
+        match byte {
+            0x40..=0x7E | 0x80..=0xFE => self.index.code_point(pointer(first, byte)),
+            _ => None,
+        }
+    }
+
+    /// The fourth of four bytes.
+    fn fourth(&self, pointer: u32) -> Handled<Gb18030State>
+        ensures state { result.state ≡ (gb18030_ranged (code_point_of self.now.ranges pointer)).state }
+        ensures answer { result.answer ≡ (gb18030_ranged (code_point_of self.now.ranges pointer)).answer }
+        ensures back { bytes_of result.back ≡ (gb18030_ranged (code_point_of self.now.ranges pointer)).back }
+    {
+        match self.ranges.code_point(pointer) {
+            Some(code_point) => give(Gb18030State::Idle, Item::One(code_point), Few::Zero),
+            None => give(Gb18030State::Idle, Item::Error, Few::Zero),
+        }
+    }
+}
+
+/// The pointer of two bytes.
+fn pointer(first: u8, trail: u8) -> u32
+    ensures { result ≡ gb18030_pointer first trail }
+{
+    let trail_offset = if trail < 0x7F { 0x40 } else { 0x41 };
+    u32::from(first.saturating_sub(0x81)) * 190 + u32::from(trail.saturating_sub(trail_offset))
+}
+
+/// The pointer of four bytes.
+fn four(first: u8, second: u8, third: u8, fourth: u8) -> u32
+    ensures { result ≡ gb18030_four first second third fourth }
+{
+    u32::from(first.saturating_sub(0x81)) * 12600
+        + u32::from(second.saturating_sub(0x30)) * 1260
+        + u32::from(third.saturating_sub(0x81)) * 10
+        + u32::from(fourth.saturating_sub(0x30))
+}
+
+/// A byte with nothing pending.
+fn single(byte: u8) -> Handled<Gb18030State>
+    ensures state { result.state ≡ (gb18030_single byte).state }
+    ensures answer { result.answer ≡ (gb18030_single byte).answer }
+    ensures back { bytes_of result.back ≡ (gb18030_single byte).back }
+{
+    match byte {
+        0..=0x7F => give_one(Gb18030State::Idle, u32::from(byte)),
+        0x80 => give_one(Gb18030State::Idle, 0x20AC),
+        0x81..=0xFE => hold(Gb18030State::First(byte)),
+        _ => give(Gb18030State::Idle, Item::Error, Few::Zero),
+    }
+}
+
+impl<'i> Handler for Gb18030Decoder<'i> {
+    type State = Gb18030State;
+
+    ghost table = { λ d. gb18030 (code_point_of d.index) (code_point_of d.ranges) };
+
+    ghost initial = { λ _. Idle };
+
+    fn start_state(&self) -> Gb18030State {
+        Gb18030State::Idle
+    }
+
+    // Twice as fast where the loop over the bytes has the turn in it.
+    #[inline(always)]
+    fn turn(&self, state: Gb18030State, byte: Option<u8>) -> Handled<Gb18030State> {
+        match (state, byte) {
+            (Gb18030State::Idle, None) => finish(Gb18030State::Idle),
+            (_, None) => give(Gb18030State::Idle, Item::Error, Few::Zero),
+            (Gb18030State::Idle, Some(byte)) => single(byte),
+            (Gb18030State::First(first), Some(byte @ 0x30..=0x39)) => {
+                hold(Gb18030State::Second(first, byte))
+            }
+            (Gb18030State::First(first), Some(byte)) => complete(
+                Gb18030State::Idle,
+                one_of(self.pair(first, byte)),
+                byte,
+            ),
+            (Gb18030State::Second(first, second), Some(byte @ 0x81..=0xFE)) => {
+                hold(Gb18030State::Third(first, second, byte))
+            }
+            (Gb18030State::Second(_, second), Some(byte)) => {
+                give(Gb18030State::Idle, Item::Error, Few::Two(second, byte))
+            }
+            (Gb18030State::Third(first, second, third), Some(byte @ 0x30..=0x39)) => {
+                self.fourth(four(first, second, third, byte))
+            }
+            (Gb18030State::Third(_, second, third), Some(byte)) => give(
+                Gb18030State::Idle,
+                Item::Error,
+                Few::Three(second, third, byte),
+            ),
+        }
+    }
+
+    ghost ends = { λ d. falls_of _ (gb18030_holding (code_point_of d.index) (code_point_of d.ranges)) };
+
+    ghost counts = { λ d. counts_of _ (gb18030_holding (code_point_of d.index) (code_point_of d.ranges)) };
+
+    ghost exact = { λ a b h. Prim.search rules };
+}

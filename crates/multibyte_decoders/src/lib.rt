@@ -1,0 +1,23 @@
+//! The decoders of the multi-byte encodings Shift_JIS, EUC-JP, EUC-KR, Big5, gb18030 and GBK
+//! (Encoding Standard, "Legacy multi-byte Chinese", "Japanese" and "Korean encodings"), each of
+//! which borrows its indexes.
+#![tactic(auto)]
+
+mod big5;
+mod euc_jp;
+mod euc_kr;
+#[cfg(test)]
+mod examples;
+mod gb18030;
+mod pairs;
+mod shift_jis;
+#[cfg(test)]
+mod tests;
+mod turns;
+
+pub use big5::Big5Decoder;
+pub use euc_jp::{EucJpDecoder, EucJpState};
+pub use euc_kr::EucKrDecoder;
+pub use gb18030::{Gb18030Decoder, Gb18030State, GbkDecoder};
+pub use pairs::PairState;
+pub use shift_jis::ShiftJisDecoder;

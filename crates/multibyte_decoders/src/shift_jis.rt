@@ -1,0 +1,113 @@
+//! The Shift_JIS decoder.
+ghost use Rattle.std.specs.Prelude.{◌≡◌};
+ghost use Rattle.std.proofs.Common.{rules};
+ghost use Rattle.index_loader.specs.Index.{code_point_of};
+ghost use Rattle.decoder_core.specs.Few.{bytes_of};
+ghost use Rattle.multibyte_decoders.specs.declared.pairs.PairState.TheVariants.{Idle};
+ghost use Rattle.multibyte_decoders.specs.ShiftJis.{shift_jis, shift_jis_single, shift_jis_pair, shift_jis_pointer, shift_jis_code_point};
+ghost use Rattle.multibyte_decoders.specs.Holding.{falls_of, counts_of};
+ghost use Rattle.multibyte_decoders.specs.Holdings.{shift_jis_holding};
+
+use crate::pairs::PairState;
+use crate::turns::{complete, finish, give, give_one, hold, one_of, scalar};
+use decoder_core::{Few, Handled, Handler, Item};
+use enc_names::Scalar;
+use index_loader::Index;
+use std::marker::Model;
+
+/// The Shift_JIS decoder (Encoding Standard, "Shift_JIS decoder"), which borrows index jis0208.
+/// Contracts see the index.
+#[derive(Drop)]
+pub struct ShiftJisDecoder<'i> {
+    jis0208: &'i Index,
+}
+
+impl<'i> Model for ShiftJisDecoder<'i> {
+    ghost use Rattle.index_loader.specs.Index.{Loaded};
+
+    ghost Value = { Loaded };
+
+    ghost view = { λ d. d.jis0208.now };
+}
+
+impl<'i> ShiftJisDecoder<'i> {
+    /// The decoder over index jis0208.
+    pub fn new(jis0208: &'i Index) -> ShiftJisDecoder<'i>
+        ensures { result ≡ jis0208.now }
+    {
+        ShiftJisDecoder { jis0208 }
+    }
+
+    /// The code point of a lead and the byte after it.
+    fn pair(&self, lead: u8, byte: u8) -> Option<Scalar>
+        ensures { result ≡ shift_jis_pair (code_point_of self.now) lead byte }
+    {
+        match byte {
+            0x40..=0x7E | 0x80..=0xFC => self.code_point(pointer(lead, byte)),
+            _ => None,
+        }
+    }
+
+    /// The code point of a pointer.
+    fn code_point(&self, pointer: u32) -> Option<Scalar>
+        ensures { result ≡ shift_jis_code_point (code_point_of self.now) pointer }
+    {
+        match pointer {
+            8836..=10715 => Some(scalar(0xE000 - 8836 + pointer)),
+            _ => self.jis0208.code_point(pointer),
+        }
+    }
+}
+
+/// The pointer of a lead and a trail.
+fn pointer(lead: u8, trail: u8) -> u32
+    ensures { result ≡ shift_jis_pointer lead trail }
+{
+    let lead_offset = if lead < 0xA0 { 0x81 } else { 0xC1 };
+    let trail_offset = if trail < 0x7F { 0x40 } else { 0x41 };
+    u32::from(lead.saturating_sub(lead_offset)) * 188
+        + u32::from(trail.saturating_sub(trail_offset))
+}
+
+/// A byte with no lead pending.
+fn single(byte: u8) -> Handled<PairState>
+    ensures state { result.state ≡ (shift_jis_single byte).state }
+    ensures answer { result.answer ≡ (shift_jis_single byte).answer }
+    ensures back { bytes_of result.back ≡ (shift_jis_single byte).back }
+{
+    match byte {
+        0..=0x80 => give_one(PairState::Idle, u32::from(byte)),
+        0xA1..=0xDF => give_one(PairState::Idle, 0xFF61 - 0xA1 + u32::from(byte)),
+        0x81..=0x9F | 0xE0..=0xFC => hold(PairState::Lead(byte)),
+        _ => give(PairState::Idle, Item::Error, Few::Zero),
+    }
+}
+
+impl<'i> Handler for ShiftJisDecoder<'i> {
+    type State = PairState;
+
+    ghost table = { λ d. shift_jis (code_point_of d) };
+
+    ghost initial = { λ _. Idle };
+
+    fn start_state(&self) -> PairState {
+        PairState::Idle
+    }
+
+    fn turn(&self, state: PairState, byte: Option<u8>) -> Handled<PairState> {
+        match (state, byte) {
+            (PairState::Idle, None) => finish(PairState::Idle),
+            (PairState::Lead(_), None) => give(PairState::Idle, Item::Error, Few::Zero),
+            (PairState::Idle, Some(byte)) => single(byte),
+            (PairState::Lead(lead), Some(byte)) => {
+                complete(PairState::Idle, one_of(self.pair(lead, byte)), byte)
+            }
+        }
+    }
+
+    ghost ends = { λ d. falls_of _ (shift_jis_holding (code_point_of d)) };
+
+    ghost counts = { λ d. counts_of _ (shift_jis_holding (code_point_of d)) };
+
+    ghost exact = { λ a b h. Prim.search rules };
+}
