@@ -1,25 +1,34 @@
 //! What every decoder of the Encoding Standard stands on: items with their ends, the trait of a
-//! decoder and the handler that makes one, runs over a slice, and the UTF-8 decoder.
+//! decoder and the handler that makes one, and runs over a slice; and the decoders of UTF-8,
+//! UTF-16, the single-byte encodings, x-user-defined and replacement.
 #![tactic(auto)]
 
 mod collector;
 mod counts;
 mod decoder;
+#[cfg(test)]
+mod examples;
 mod few;
+mod forms;
 mod handler;
 mod item;
 mod items;
 mod laws;
 mod makers;
 mod memory;
+mod one_byte;
 mod parts;
 mod piece;
 mod placed;
+mod replacement;
+mod single_byte;
 mod sink;
 #[cfg(test)]
 mod tests;
 mod turns;
+mod utf16;
 mod utf8;
+mod x_user_defined;
 
 pub use counts::Meter;
 pub use decoder::{Decoder, Simple, Step};
@@ -30,8 +39,13 @@ pub use items::Items;
 pub use laws::one_run;
 pub use makers::meter;
 pub use memory::OutOfMemory;
+pub use one_byte::OneByteState;
 pub use parts::decode_parts;
 pub use piece::run_piece;
 pub use placed::Placed;
+pub use replacement::{ReplacementDecoder, ReplacementState};
+pub use single_byte::SingleByteDecoder;
 pub use sink::Sink;
 pub use utf8::{Utf8Decoder, Utf8State};
+pub use utf16::{ByteOrder, Utf16Decoder, Utf16State};
+pub use x_user_defined::XUserDefinedDecoder;

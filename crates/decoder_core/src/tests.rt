@@ -23,6 +23,9 @@ use crate::utf8::{Utf8Decoder, Utf8State};
 use enc_names::Scalar;
 use std::alloc::{AllocError, Global};
 
+mod one_byte;
+mod utf16;
+
 #[tactic(auto, unfolding(crate::specs::Queue::run, crate::specs::Queue::turns))]
 fn no_byte_gives_nothing()
     ensures { places 0 0 (run utf8 utf8_start []) ≡ [] }
@@ -73,12 +76,17 @@ fn is_as_listed(found: &[Placed], rows: &[Row]) -> bool {
 }
 
 /// Whether the bytes decode to these rows whole, and in two parts for each cut.
-fn decode_to(alloc: Global, bytes: &[u8], rows: &[Row]) -> Result<bool, AllocError> {
+fn decode_to<D: Decoder>(
+    alloc: Global,
+    decoder: &D,
+    bytes: &[u8],
+    rows: &[Row],
+) -> Result<bool, AllocError> {
     let mut count = meter();
-    let whole = decode_parts(alloc, &Utf8Decoder, bytes, &[], &mut count)?;
+    let whole = decode_parts(alloc, decoder, bytes, &[], &mut count)?;
     let mut same = is_as_listed(whole.as_slice(), rows);
     for cut in 0..bytes.len() {
-        let parts = decode_parts(alloc, &Utf8Decoder, bytes, &[cut], &mut count)?;
+        let parts = decode_parts(alloc, decoder, bytes, &[cut], &mut count)?;
         same = same && is_as_listed(parts.as_slice(), rows);
     }
     Ok(same)
@@ -86,7 +94,7 @@ fn decode_to(alloc: Global, bytes: &[u8], rows: &[Row]) -> Result<bool, AllocErr
 
 #[test]
 fn no_byte(rt: HostRuntime) -> Result<(), AllocError> {
-    assert!(rt; decode_to(rt.alloc(), &[], &[])?);
+    assert!(rt; decode_to(rt.alloc(), &Utf8Decoder, &[], &[])?);
     Ok(())
 }
 
@@ -95,6 +103,7 @@ fn cut_sequence_then_a(rt: HostRuntime) -> Result<(), AllocError> {
     assert!(rt;
         decode_to(
             rt.alloc(),
+            &Utf8Decoder,
             &[0xE2, 0x82, 0x41],
             &[(None, 0, 2), (Some('A'), 2, 3)]
         )?
@@ -104,13 +113,27 @@ fn cut_sequence_then_a(rt: HostRuntime) -> Result<(), AllocError> {
 
 #[test]
 fn cut_sequence_then_the_end(rt: HostRuntime) -> Result<(), AllocError> {
-    assert!(rt; decode_to(rt.alloc(), &[0xF0, 0x9F, 0x98], &[(None, 0, 3)])?);
+    assert!(rt;
+        decode_to(
+            rt.alloc(),
+            &Utf8Decoder,
+            &[0xF0, 0x9F, 0x98],
+            &[(None, 0, 3)]
+        )?
+    );
     Ok(())
 }
 
 #[test]
 fn overlong_form_of_nul(rt: HostRuntime) -> Result<(), AllocError> {
-    assert!(rt; decode_to(rt.alloc(), &[0xC0, 0x80], &[(None, 0, 1), (None, 1, 2)])?);
+    assert!(rt;
+        decode_to(
+            rt.alloc(),
+            &Utf8Decoder,
+            &[0xC0, 0x80],
+            &[(None, 0, 1), (None, 1, 2)]
+        )?
+    );
     Ok(())
 }
 
@@ -122,7 +145,14 @@ fn one_character_of_each_length(rt: HostRuntime) -> Result<(), AllocError> {
         (Some('\u{20AC}'), 3, 6),
         (Some('\u{1F600}'), 6, 10),
     ];
-    assert!(rt; decode_to(rt.alloc(), "a\u{E9}\u{20AC}\u{1F600}".as_bytes(), &rows)?);
+    assert!(rt;
+        decode_to(
+            rt.alloc(),
+            &Utf8Decoder,
+            "a\u{E9}\u{20AC}\u{1F600}".as_bytes(),
+            &rows
+        )?
+    );
     Ok(())
 }
 
@@ -141,7 +171,7 @@ fn non_shortest_forms(rt: HostRuntime) -> Result<(), AllocError> {
         (None, 7, 8),
         (Some('A'), 8, 9),
     ];
-    assert!(rt; decode_to(rt.alloc(), &bytes, &rows)?);
+    assert!(rt; decode_to(rt.alloc(), &Utf8Decoder, &bytes, &rows)?);
     Ok(())
 }
 
@@ -160,7 +190,7 @@ fn surrogates(rt: HostRuntime) -> Result<(), AllocError> {
         (None, 7, 8),
         (Some('A'), 8, 9),
     ];
-    assert!(rt; decode_to(rt.alloc(), &bytes, &rows)?);
+    assert!(rt; decode_to(rt.alloc(), &Utf8Decoder, &bytes, &rows)?);
     Ok(())
 }
 
@@ -179,7 +209,7 @@ fn above_10ffff_and_lone_trail_bytes(rt: HostRuntime) -> Result<(), AllocError> 
         (None, 7, 8),
         (Some('B'), 8, 9),
     ];
-    assert!(rt; decode_to(rt.alloc(), &bytes, &rows)?);
+    assert!(rt; decode_to(rt.alloc(), &Utf8Decoder, &bytes, &rows)?);
     Ok(())
 }
 
@@ -194,7 +224,7 @@ fn truncated_sequences(rt: HostRuntime) -> Result<(), AllocError> {
         (None, 6, 8),
         (Some('A'), 8, 9),
     ];
-    assert!(rt; decode_to(rt.alloc(), &bytes, &rows)?);
+    assert!(rt; decode_to(rt.alloc(), &Utf8Decoder, &bytes, &rows)?);
     Ok(())
 }
 

@@ -1,6 +1,5 @@
 //! The UTF-8 decoder.
 ghost use Rattle.std.specs.Prelude.{◌≡◌, ℕ, ◌+◌, ◌-◌, ◌*◌, ◌≤◌, ◌<◌};
-ghost use Rattle.std.specs.Char.{IsScalar};
 ghost use Rattle.decoder_core.specs.Utf8.{Utf8, utf8, utf8_start, utf8_first, utf8_begins, utf8_trail};
 ghost use Rattle.decoder_core.specs.Pending.{IsPending};
 ghost use Rattle.decoder_core.specs.Few.{bytes_of};
@@ -8,9 +7,9 @@ ghost use Rattle.decoder_core.specs.Utf8Laws.{utf8_falls, utf8_counts};
 ghost use Rattle.std.proofs.Common.{rules};
 
 use crate::few::Few;
+use crate::forms::scalar;
 use crate::handler::{Answer, Handled, Handler};
 use crate::item::Item;
-use enc_names::Scalar;
 use std::marker::Model;
 
 /// Where the UTF-8 decoder stands between two bytes. Contracts see the Standard's five values.
@@ -85,17 +84,6 @@ impl Handler for Utf8Decoder {
     ghost counts = { λ _. utf8_counts };
 
     ghost exact = { Prim.search rules };
-}
-
-/// The scalar value of this number.
-fn scalar(value: u32) -> Scalar
-    requires { IsScalar value }
-    ensures { result ≡ value }
-{
-    match Scalar::new(value) {
-        Some(scalar) => scalar,
-        None => unreachable!(),
-    }
 }
 
 /// An item with nothing pending.

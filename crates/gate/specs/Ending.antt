@@ -1,11 +1,12 @@
 -- The program's exit status.
 use Rattle.std.specs.Prelude.{ℕ}
 use Rattle.gate.specs.declared.failure.Failure.{Failure}
-use Rattle.gate.specs.declared.failure.Failure.TheVariants.{Words, Index, Labels, CannotRead, Read, Write, TooManyReads, OutOfMemory}
+use Rattle.gate.specs.declared.failure.Failure.TheVariants.{Words, NotText, Index, Labels, CannotRead, Read, Write, TooManyReads, OutOfMemory}
 
 -- 2 for a mistake in the words or the files, 1 for a device that failed or memory that ran out
 abbrev pub status_of : Failure → ℕ
 status_of (Words error) = 2
+status_of NotText = 2
 status_of (Index name fault) = 2
 status_of (Labels fault) = 2
 status_of (CannotRead name) = 2

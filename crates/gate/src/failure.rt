@@ -11,6 +11,8 @@ use std::fmt;
 pub enum Failure<'a> {
     /// The words are no command line of the program.
     Words(clap::Error),
+    /// A word isn't text in UTF-8.
+    NotText,
     /// An index file, by its name in the folder, is faulty.
     Index {
         name: &'static str,
@@ -41,6 +43,7 @@ impl Failure<'_> {
     {
         match self {
             Failure::Words(_)
+            | Failure::NotText
             | Failure::Index { .. }
             | Failure::Labels(_)
             | Failure::CannotRead(_) => 2,
@@ -58,6 +61,7 @@ impl fmt::Display for Failure<'_> {
     fn fmt<W: fmt::Write>(&self, f: &mut fmt::Formatter<W>) -> fmt::Result {
         match self {
             Failure::Words(error) => write!(f, "{error}"),
+            Failure::NotText => f.write_str("error: a word of the command line isn't UTF-8\n"),
             Failure::Index { name, fault } => {
                 let line = fault.line;
                 let cause = fault.cause;

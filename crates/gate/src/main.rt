@@ -9,27 +9,42 @@ mod perform;
 mod tests;
 mod text;
 
+use failure::Failure;
 use gateway::{FromRead, ToWrite};
 use perform::perform;
 use std::alloc::Global;
+use std::env;
+use std::io::{self, ErrorKind};
 use std::process::ExitCode;
-use std::{env, io};
 
 /// The words of the command line, without the program's name.
 fn words(rt: &HostRuntime) -> io::Result<Vec<String>> {
     Ok(env::args(rt)?.skip(1).collect(rt.alloc())?)
 }
 
-/// Does what the words ask, over the standard streams.
-fn served(rt: &HostRuntime, alloc: Global) -> io::Result<u8> {
-    let words = words(rt)?;
+/// Why there are no words: memory ran out, or a word isn't text.
+fn unread_words(error: &io::Error) -> Failure<'static> {
+    match error.kind() {
+        ErrorKind::OutOfMemory => Failure::OutOfMemory,
+        _ => Failure::NotText,
+    }
+}
+
+/// Does what the words ask, over the standard streams, and gives the exit status.
+fn served(rt: &HostRuntime, alloc: Global) -> u8 {
     let mut input = FromRead::new(rt.reader());
     let mut output = ToWrite::new(io::writer(rt));
     let mut error = ToWrite::new(rt.stderr());
-    Ok(perform(rt, alloc, &words, &mut input, &mut output, &mut error))
+    match words(rt) {
+        Ok(words) => perform(rt, alloc, &words, &mut input, &mut output, &mut error),
+        Err(why) => {
+            let failure = unread_words(&why);
+            failure.tell(&mut error);
+            failure.status()
+        }
+    }
 }
 
-fn main(rt: HostRuntime) -> io::Result<ExitCode> {
-    let status = served(&rt, rt.alloc())?;
-    Ok(ExitCode::from(status))
+fn main(rt: HostRuntime) -> ExitCode {
+    ExitCode::from(served(&rt, rt.alloc()))
 }

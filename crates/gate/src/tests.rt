@@ -167,6 +167,31 @@ fn stdio_serves_with_files_and_labels(rt: HostRuntime) -> Result<(), Fail> {
 }
 
 #[test]
+fn windows_1252_document_with_its_index_file(rt: HostRuntime) -> Result<(), Fail> {
+    let folder = Folder::new(&rt, "windows-1252")?;
+    folder.write(
+        &rt,
+        "index-windows-1252.txt",
+        b"0\t0x20AC\n59\t0xBB\n63\t0xBF\n",
+    )?;
+    let lines =
+        "{\"id\":1,\"op\":\"open\",\"doc\":\"w\",\"label\":\" Windows-1252 \",\"bytes\":\"gLtB/w==\"}\n{\"id\":2,\"op\":\"text\",\"doc\":\"w\",\"from\":0,\"to\":4}\n{\"id\":3,\"op\":\"errors\",\"doc\":\"w\",\"from\":0,\"max\":9}\n";
+    let with_file = performed(&rt, &["stdio", "--indexes", folder.as_str()], lines)?;
+    folder.remove(&rt)?;
+    assert_eq!(rt;
+        with_file.output.as_str(),
+        "{\"bom\":0,\"encoding\":\"windows-1252\",\"id\":1,\"rev\":0}\n{\"id\":2,\"rev\":0,\"text\":\"\u{20ac}\u{bb}A\u{fffd}\"}\n{\"errors\":[[3,4]],\"id\":3,\"rev\":0,\"total\":1}\n"
+    );
+    let with_none = performed(&rt, &[], lines)?;
+    assert!(rt;
+        with_none
+            .output
+            .starts_with("{\"fault\":\"NoIndex\",\"id\":1}\n")
+    );
+    Ok(())
+}
+
+#[test]
 fn help_goes_to_the_output(rt: HostRuntime) -> Result<(), Fail> {
     for words in [
         ["--help"].as_slice(),

@@ -79,18 +79,13 @@ desk_step old new id command reply text e a =
 
 -- ---- replies that want memory
 
--- a reply that may want memory answers no edit, and leaves the documents
-long_same : (o : Office) (command : Asked) (reply : Reply) → is_edited reply ≡ false → (answer_of o command).reply ≡ reply
-    → (answer_of o command).documents ≡ o.documents
-long_same o command reply long is = only_edits_change o command (rw is long)
-
 lost_same : (old new : Office) (command : Asked) (reply : Reply) → is_short reply ≡ false → IsOutcome (answer_of old command) reply old.documents new.documents → new.documents ≡ old.documents
 lost_same old new command (Edited bom encoding rev) long is = cc
 lost_same old new command (Refused fault) long is = cc
 lost_same old new command (Text rev text) long is =
-    sym (ap (λ o. o.documents) is) ∙ long_same old command (Text rev text) refl (ap (λ o. o.reply) is)
+    sym (ap (λ o. o.documents) is) ∙ only_edits_change old command (ap (λ o. is_edited o.reply) is)
 lost_same old new command (Errors rev total places) long is =
-    sym (ap (λ o. o.documents) is) ∙ long_same old command (Errors rev total places) refl (ap (λ o. o.reply) is)
+    sym (ap (λ o. o.documents) is) ∙ only_edits_change old command (ap (λ o. is_edited o.reply) is)
 
 -- the desk answered, and memory didn't suffice to write its reply
 pub lost_reply_step : (old new : Office) (step : Step) (command : Asked) (reply : Reply) (text : List ℕ) → text ≡ memory_text → (is_short reply ≡ true → ⊥) → Answers old command reply new

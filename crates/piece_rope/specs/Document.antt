@@ -4,7 +4,7 @@ use Rattle.enc_names.specs.declared.encoding.Encoding.{Encoding}
 use Rattle.enc_names.specs.declared.place.Place.{Place}
 use Rattle.index_loader.specs.Files.{Files}
 use Rattle.decoder_core.specs.Text.{code_points, error_places}
-use Rattle.piece_rope.specs.Decode.{Decoded, decode}
+use Rattle.codec.specs.Decode.{Decoded, decode}
 
 -- a document is its bytes and the encoding given for them, beside the index files in force
 pub record Document : Type 0 where

@@ -1,8 +1,8 @@
 -- What a document keeps beside its bytes.
 use Rattle.std.specs.Prelude.{◌≡◌, ◌≤◌, true, length, string_bytes}
 use Rattle.std.specs.Str.{chars}
-use Rattle.piece_rope.specs.declared.decoding.Decoding.{Decoding}
-use Rattle.piece_rope.specs.Decode.{is_decoded}
+use Rattle.codec.specs.declared.decoding.Decoding.{Decoding}
+use Rattle.codec.specs.Decode.{is_decoded}
 use Rattle.piece_rope.specs.Document.{Document, text_of, errors_of}
 use Rattle.piece_rope.specs.Edits.{document_limit}
 

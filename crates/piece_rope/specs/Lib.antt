@@ -2,6 +2,4 @@ pub mod Decode
 pub mod Document
 pub mod Edits
 pub mod Examples
-pub mod Gathered
 pub mod Kept
-pub mod Written

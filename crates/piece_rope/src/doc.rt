@@ -2,11 +2,11 @@
 ghost use Rattle.std.specs.Prelude.{◌≡◌, ◌≢◌, ◌+◌, ◌-◌, ◌≤◌, length, take, drop, None, IfOk, OnOk, OnErr, string_bytes};
 ghost use Rattle.std.specs.Str.{encode_utf8_all};
 
-use crate::decoding::{Decoding, decode_by, decoder_of};
 use crate::fault::DocFault;
 use crate::limits::{DOCUMENT_LIMIT, checked_cut};
 use crate::scalars::scalars_between;
 use crate::spliced::spliced_bytes;
+use codec::{AnyDecoder, Decoding, decode_by};
 use decoder_core::Meter;
 use enc_names::{Encoding, Place};
 use index_loader::Indexes;
@@ -55,7 +55,7 @@ impl<'i> Doc<'i> {
         ensures meter_most { meter.new ≤ meter.old + length bytes.now }
         ensures meter_refused { open_fault indexes.now encoding bytes.now ≢ None → meter.new ≡ meter.old }
     {
-        let decoder = decoder_of(indexes, encoding).ok_or(DocFault::NoIndex)?;
+        let decoder = AnyDecoder::new(indexes, encoding).ok_or(DocFault::NoIndex)?;
         if bytes.len() > DOCUMENT_LIMIT {
             return Err(DocFault::TooLarge);
         }
@@ -88,7 +88,7 @@ impl<'i> Doc<'i> {
         ensures meter_refused { splice_fault self.old.bytes at del ins.now ≢ None → meter.new ≡ meter.old }
     {
         let (at, del) = checked_cut(&self.bytes, at, del, ins)?;
-        let decoder = decoder_of(self.indexes, self.given).ok_or(DocFault::NoIndex)?;
+        let decoder = AnyDecoder::new(self.indexes, self.given).ok_or(DocFault::NoIndex)?;
         let alloc = *self.bytes.allocator();
         let bytes = spliced_bytes(alloc, &self.bytes, at, del, ins)?;
         let decoding = decode_by(alloc, &decoder, &bytes, meter)?;
@@ -133,7 +133,7 @@ impl<'i> Doc<'i> {
     }
 
     /// The encoding in force.
-    #[tactic(auto, unfolding(crate::specs::Decode::decode))]
+    #[tactic(auto, unfolding(codec::specs::Decode::decode))]
     pub fn encoding(&self) -> Encoding
         ensures { result ≡ (decoded self.now).encoding }
     {
@@ -141,7 +141,7 @@ impl<'i> Doc<'i> {
     }
 
     /// The number of bytes of the byte order mark.
-    #[tactic(auto, unfolding(crate::specs::Decode::decode))]
+    #[tactic(auto, unfolding(codec::specs::Decode::decode))]
     pub fn bom_len(&self) -> u64
         ensures { result ≡ (decoded self.now).bom }
     {

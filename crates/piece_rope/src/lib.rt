@@ -2,14 +2,11 @@
 //! answers it.
 #![tactic(auto)]
 
-mod decoding;
 mod doc;
 mod fault;
-mod gathering;
 mod limits;
 mod scalars;
 mod spliced;
-mod text_blocks;
 
 pub use doc::Doc;
 pub use fault::DocFault;

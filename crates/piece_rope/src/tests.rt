@@ -3,7 +3,7 @@
 use super::*;
 use decoder_core::{Meter, meter};
 use enc_names::{Encoding, Place};
-use index_loader::Indexes;
+use index_loader::{Index, IndexKind, Indexes};
 use std::alloc::Global;
 use std::process::Abort;
 use std::test::Fail;
@@ -12,10 +12,11 @@ use std::test::Fail;
 fn spliced_together<'i>(
     alloc: Global,
     indexes: &'i Indexes,
+    encoding: Encoding,
     bytes: &[u8],
     meter: &mut Meter,
 ) -> Result<Doc<'i>, DocFault> {
-    let mut doc = Doc::open(alloc, indexes, Encoding::Utf8, &[], meter)?;
+    let mut doc = Doc::open(alloc, indexes, encoding, &[], meter)?;
     for (at, byte) in bytes.iter().enumerate() {
         doc.splice(at as u64, 0, &[*byte], meter)?;
     }
@@ -30,12 +31,30 @@ fn answers(rt: &impl Abort, doc: &Doc<'_>, text: &str, errors: &[Place]) -> Resu
     assert_eq!(rt; doc.text(0, length + 1).err(), Some(DocFault::OutOfRange));
     assert_eq!(rt; doc.errors(0, number)?.as_slice(), errors);
     assert_eq!(rt; doc.error_count(), number);
-    assert_eq!(rt; doc.encoding(), Encoding::Utf8);
     assert_eq!(rt; doc.bom_len(), 0);
     Ok(())
 }
 
 /// The text and the errors are answered of a document opened whole, and of one spliced together.
+fn decodes_in(
+    rt: &impl Abort,
+    alloc: Global,
+    indexes: &Indexes,
+    encoding: Encoding,
+    bytes: &[u8],
+    text: &str,
+    errors: &[Place],
+) -> Result<(), DocFault> {
+    let mut meter = meter();
+    let whole = Doc::open(alloc, indexes, encoding, bytes, &mut meter)?;
+    assert_eq!(rt; whole.encoding(), encoding);
+    answers(rt, &whole, text, errors)?;
+    let spliced = spliced_together(alloc, indexes, encoding, bytes, &mut meter)?;
+    assert_eq!(rt; spliced.encoding(), encoding);
+    answers(rt, &spliced, text, errors)
+}
+
+/// The same of UTF-8, with no index file.
 fn decodes(
     rt: &impl Abort,
     alloc: Global,
@@ -44,11 +63,7 @@ fn decodes(
     errors: &[Place],
 ) -> Result<(), DocFault> {
     let indexes = Indexes::new();
-    let mut meter = meter();
-    let whole = Doc::open(alloc, &indexes, Encoding::Utf8, bytes, &mut meter)?;
-    answers(rt, &whole, text, errors)?;
-    let spliced = spliced_together(alloc, &indexes, bytes, &mut meter)?;
-    answers(rt, &spliced, text, errors)
+    decodes_in(rt, alloc, &indexes, Encoding::Utf8, bytes, text, errors)
 }
 
 /// The error of these bytes.
@@ -228,10 +243,14 @@ fn limit_of_a_document(rt: HostRuntime) -> Result<(), Fail> {
 }
 
 #[test]
-fn encodings_without_a_decoder(rt: HostRuntime) -> Result<(), Fail> {
+fn encodings_without_their_decoder(rt: HostRuntime) -> Result<(), Fail> {
     let indexes = Indexes::new();
     let past = vec![in rt.alloc(); b'a'; 2_097_153]?;
-    for encoding in [Encoding::Gb18030, Encoding::Windows1252, Encoding::Utf16Le] {
+    for encoding in [
+        Encoding::Gb18030,
+        Encoding::Windows1252,
+        Encoding::Iso2022Jp,
+    ] {
         let refused = Doc::open(rt.alloc(), &indexes, encoding, &past, &mut meter()).err();
         assert_eq!(rt; refused, Some(DocFault::NoIndex));
     }
@@ -249,5 +268,65 @@ fn text_longer_than_a_block(rt: HostRuntime) -> Result<(), Fail> {
     assert_eq!(rt; doc.text(0, 3000)?.as_bytes(), bytes.as_slice());
     assert_eq!(rt; doc.text(1024, 1026)?.as_str(), "\u{20AC}\u{1F600}");
     assert!(rt; doc.indexes().has(Encoding::Utf8));
+    Ok(())
+}
+
+#[test]
+fn windows_1252_entry_and_null(rt: HostRuntime) -> Result<(), Fail> {
+    let mut indexes = Indexes::new();
+    let kind = IndexKind::SingleByte(Encoding::Windows1252);
+    indexes.put(Index::parse(rt.alloc(), kind, b"0\t0x20AC\n59\t0x00BB\n")?);
+    decodes_in(
+        &rt,
+        rt.alloc(),
+        &indexes,
+        Encoding::Windows1252,
+        &[0x80, 0xBB, 0x41, 0xFF],
+        "\u{20AC}\u{BB}A\u{FFFD}",
+        &[error(3, 4)],
+    )?;
+    Ok(())
+}
+
+#[test]
+fn x_user_defined_and_replacement(rt: HostRuntime) -> Result<(), Fail> {
+    let indexes = Indexes::new();
+    decodes_in(
+        &rt,
+        rt.alloc(),
+        &indexes,
+        Encoding::XUserDefined,
+        &[0x41, 0x80, 0xFF],
+        "A\u{F780}\u{F7FF}",
+        &[],
+    )?;
+    decodes_in(
+        &rt,
+        rt.alloc(),
+        &indexes,
+        Encoding::Replacement,
+        &[0x41, 0x42],
+        "\u{FFFD}",
+        &[error(0, 1)],
+    )?;
+    Ok(())
+}
+
+#[test]
+fn gb18030_bytes_given_back(rt: HostRuntime) -> Result<(), Fail> {
+    let alloc = rt.alloc();
+    let mut indexes = Indexes::new();
+    indexes.put(Index::parse(alloc, IndexKind::Gb18030, b"1\t0x4E04\n")?);
+    let ranges = b"0\t0x0080\n189000\t0x10000\n";
+    indexes.put(Index::parse(alloc, IndexKind::Gb18030Ranges, ranges)?);
+    decodes_in(
+        &rt,
+        alloc,
+        &indexes,
+        Encoding::Gb18030,
+        &[0x81, 0x30, 0x81, 0x41],
+        "\u{FFFD}0\u{4E04}",
+        &[error(0, 1)],
+    )?;
     Ok(())
 }

@@ -89,6 +89,13 @@ fn expect_reply(rt: &impl Abort, gateway: &mut Gateway<'_>, line: &str, expected
     assert!(rt; gateway.event(Event::Close(0)).is_ok());
 }
 
+// The stored session, written to a device that takes `room` bytes.
+fn run_narrow(gateway: &mut Gateway<'_>, held: &mut Vec<u8>, room: usize) -> Result<(), RunFault> {
+    let mut reader = MemFeed::new(SESSION.as_bytes());
+    let mut writer = ToWrite::new(Narrow { held, room });
+    run(gateway, 0, &mut reader, &mut writer)
+}
+
 #[test]
 fn stored_session(rt: HostRuntime) -> Result<(), Fail> {
     let indexes = Indexes::new();
@@ -160,16 +167,9 @@ fn reader_that_fails_in_mid_line(rt: HostRuntime) -> Result<(), Fail> {
 fn writer_that_takes_ten_bytes(rt: HostRuntime) -> Result<(), Fail> {
     let indexes = Indexes::new();
     let mut gateway = gateway(rt.alloc(), &indexes)?;
-    let mut reader = MemFeed::new(SESSION.as_bytes());
     let mut held = Vec::new(rt.alloc());
-    let mut writer = ToWrite::new(Narrow {
-        held: &mut held,
-        room: 10,
-    });
-    assert_eq!(rt;
-        run(&mut gateway, 0, &mut reader, &mut writer),
-        Err(RunFault::Write)
-    );
+    let result = run_narrow(&mut gateway, &mut held, 10);
+    assert_eq!(rt; result, Err(RunFault::Write));
     assert_eq!(rt; held.as_slice(), b"{\"bom\":0,\"".as_slice());
     match gateway.event(Event::Close(0)) {
         Err(fault) => assert_eq!(rt; fault, GateFault::NotOpen),

@@ -1,0 +1,95 @@
+-- What is gathered over a piece and its end is what the run over the piece gives.
+use Rattle.std.proofs.Common.{◌≡◌, refl, sym, ap, ◌∙◌, ℕ, ◌+◌, ◌-◌, List, [], ◌∷◌, ◌++◌, length, arith, append_assoc, append-nil, zero-add}
+use Rattle.std.specs.Prelude.{ℤ, pos, negsuc, ◌-ℤ◌, fold}
+use Rattle.std.specs.Str.{encode_utf8_all}
+use Rattle.std.proofs.lemmas.Int.{ints}
+use Rattle.std.proofs.lemmas.List.Sums.{fold-append}
+use Rattle.std.proofs.lemmas.Str.{encodes-append}
+use Rattle.decoder_core.specs.declared.item.Ended.{Ended}
+use Rattle.decoder_core.specs.Queue.{Table, run, feed, further}
+use Rattle.decoder_core.specs.Placed.{places}
+use Rattle.decoder_core.specs.Shown.{shown_at, shown_from}
+use Rattle.decoder_core.specs.Text.{item_code_points, code_points, error_place, error_places}
+use Rattle.codec.specs.Gathered.{Gathered, index_of, with_item, with_shown, with_ended}
+
+-- what is said of all runs, of one table
+pub record Laws {S : Type 0} (table : Table S) : Type 0 where
+  pub none : (s : S) → (feed table s []).state ≡ s
+  pub runs : (s : S) (p q : List ℕ) → run table s (p ++ q) ≡ further (length q) (feed table s p).items ++ run table (feed table s p).state q
+  pub feeds : (s : S) (p q : List ℕ) → (feed table s (p ++ q)).state ≡ (feed table (feed table s p).state q).state
+
+index-difference : (z : ℤ) (i j : ℕ) → z ≡ pos i -ℤ pos j → index_of z ≡ i - j
+index-difference (pos n) i j e = omega (arith, ints)
+index-difference (negsuc n) i j e = omega (arith, ints)
+
+-- the items of one step, shown behind byte number i
+shown : {S : Type 0} (i : ℕ) (after : S) (es : List Ended) (g : Gathered) → fold with_shown g (shown_at i after es) ≡ fold (with_ended i) g es
+shown i after [] g = refl
+shown i after (e ∷ es) g =
+    ap (λ (n : ℕ). fold with_shown (with_item g e.item n) (shown_at i after es)) (index-difference (pos i -ℤ pos e.back) i e.back refl)
+    ∙ shown i after es (with_ended i g e)
+
+-- the same items, where n bytes more are behind them
+behind : (i n : ℕ) (es : List Ended) (g : Gathered) → fold (with_ended (i + n)) g (further n es) ≡ fold (with_ended i) g es
+behind i n [] g = refl
+behind i n (e ∷ es) g =
+    let same : i + n - (e.back + n) ≡ i - e.back = omega arith in
+    ap (λ (to : ℕ). fold (with_ended (i + n)) (with_item g e.item to) (further n es)) same ∙ behind i n es (with_ended i g e)
+
+module _ {S : Type 0} (table : Table S) (laws : Laws table) where
+  pub gathered-run : (i : ℕ) (s : S) (bs : List ℕ) (g : Gathered)
+      → fold (with_ended (i + length bs)) (fold with_shown g (shown_from table i s bs)) (run table (feed table s bs).state [])
+      ≡ fold (with_ended (i + length bs)) g (run table s bs)
+  gathered-run i s [] g = ap (λ (t : S). fold (with_ended (i + 0)) g (run table t [])) (laws.none s)
+  gathered-run i s (b ∷ bs) g =
+      let total = i + length (b ∷ bs) in
+      let fed = feed table s (b ∷ []) in
+      let more : i + 1 + length bs ≡ total = omega arith in
+      let now = shown_at (i + 1) fed.state fed.items in
+      let after = shown_from table (i + 1) fed.state bs in
+      let held = fold (with_ended total) g (further (length bs) fed.items) in
+      let first : fold with_shown g now ≡ held =
+      shown (i + 1) fed.state fed.items g ∙ sym (behind (i + 1) (length bs) fed.items g) ∙ ap (λ (n : ℕ). fold (with_ended n) g (further (length bs) fed.items)) more in
+      let rest = rw more at (gathered-run (i + 1) fed.state bs held) in
+      ap (λ (h : Gathered). fold (with_ended total) h (run table (feed table s (b ∷ bs)).state [])) (fold-append with_shown g now after ∙ ap (λ (h : Gathered). fold with_shown h after) first)
+      ∙ ap (λ (t : S). fold (with_ended total) (fold with_shown held after) (run table t [])) (laws.feeds s (b ∷ []) bs)
+      ∙ rest
+      ∙ sym (fold-append (with_ended total) g (further (length bs) fed.items) (run table fed.state bs))
+      ∙ ap (λ (es : List Ended). fold (with_ended total) g es) (sym (laws.runs s (b ∷ []) bs))
+
+-- the text and the errors of items, gathered
+pub gathered-text : (total : ℕ) (es : List Ended) (g : Gathered) → (fold (with_ended total) g es).text ≡ g.text ++ encode_utf8_all (code_points (places total g.end es))
+gathered-text total [] g = sym (append-nil g.text)
+gathered-text total (e ∷ es) g =
+    gathered-text total es (with_ended total g e)
+    ∙ append_assoc g.text (encode_utf8_all (item_code_points e.item)) _
+    ∙ ap (λ (t : List ℕ). g.text ++ t) (sym (encodes-append (item_code_points e.item) _))
+
+pub gathered-errors : (total : ℕ) (es : List Ended) (g : Gathered) → (fold (with_ended total) g es).errors ≡ g.errors ++ error_places (places total g.end es)
+gathered-errors total [] g = sym (append-nil g.errors)
+gathered-errors total (e ∷ es) g =
+    gathered-errors total es (with_ended total g e)
+    ∙ append_assoc g.errors (error_place e.item (record { from = g.end; to = total - e.back })) _
+
+-- what is gathered over all the bytes
+pub record IsGathered (total : ℕ) (es : List Ended) (g : Gathered) : Type 0 where
+  pub text : encode_utf8_all (code_points (places total 0 es)) ≡ g.text
+  pub errors : g.errors ≡ error_places (places total 0 es)
+
+module _ {S : Type 0} (table : Table S) (laws : Laws table) where
+  pub gathered-whole : (start s : S) (bs : List ℕ) (none seen all : Gathered) (last : List Ended)
+      → none ≡ record { text = []; errors = []; end = 0 } → seen ≡ fold with_shown none (shown_from table 0 start bs)
+      → s ≡ (feed table start bs).state → last ≡ run table s [] → all ≡ fold (with_ended (length bs)) seen last
+      → IsGathered (length bs) (run table start bs) all
+  gathered-whole start s bs none seen all last nothing through state rest whole =
+      let whole_run : all ≡ fold (with_ended (length bs)) none (run table start bs) =
+      whole ∙ ap (λ (h : Gathered). fold (with_ended (length bs)) h last) through
+      ∙ ap (λ (es : List Ended). fold (with_ended (length bs)) (fold with_shown none (shown_from table 0 start bs)) es) (rest ∙ ap (λ (t : S). run table t []) state)
+      ∙ rw (zero-add (length bs)) at (gathered-run table laws 0 start bs none) in
+      let all_run : all ≡ fold (with_ended (length bs)) (record { text = []; errors = []; end = 0 }) (run table start bs) =
+      whole_run ∙ ap (λ (h : Gathered). fold (with_ended (length bs)) h (run table start bs)) nothing in
+      let empty : Gathered = record { text = []; errors = []; end = 0 } in
+      record {
+        text = sym (ap (λ (h : Gathered). h.text) all_run ∙ gathered-text (length bs) (run table start bs) empty);
+        errors = ap (λ (h : Gathered). h.errors) all_run ∙ gathered-errors (length bs) (run table start bs) empty;
+      }

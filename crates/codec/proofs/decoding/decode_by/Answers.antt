@@ -1,0 +1,33 @@
+use Rattle.std.proofs.Common.{sym, ap, ◌∙◌, length}
+use Rattle.std.specs.String.{string_bytes}
+use Rattle.std.proofs.lemmas.Result.{IfOk-weaker}
+use Rattle.std.proofs.lemmas.Str.{chars_from_encodes, IsUtf8-string_bytes}
+use Rattle.decoder_core.specs.Queue.{Fed}
+use Rattle.decoder_core.specs.Queue.{run}
+use Rattle.codec.proofs.Gathered.{Laws, IsGathered, gathered-whole}
+use Rattle.codec.proofs.decoding.decode_by.Goals as goal
+use Rattle.codec.proofs.decoding.decode_by.Given.{Over}
+
+laws_of : (g : Over) (c : goal.After-finish g) → Laws (g.D.Decoder.table c.args.decoder.now)
+laws_of g c = record {
+  none = λ s. ap (λ (f : Fed _). f.state) (c.one_run.ensures.feed_empty s);
+  runs = c.one_run.ensures.parts;
+  feeds = λ s p q. ap (λ (f : Fed _). f.state) (c.one_run.ensures.feed_parts s p q);
+}
+
+gathered : (g : Over) (c : goal.After-finish g)
+    → IsGathered (length c.args.bytes.now) (run (g.D.Decoder.table c.args.decoder.now) (g.D.Decoder.initial c.args.decoder.now) c.args.bytes.now) c.take_last.new.self
+gathered g c =
+    rw (← c.start.ensures)
+    (gathered-whole (g.D.Decoder.table c.args.decoder.now) (laws_of g c) c.start.result c.in_ok-state.state c.args.bytes.now
+    c.new-gathering.result c.run_piece.new.sink c.take_last.new.self c.as_slice.result.now c.new-gathering.ensures c.in_ok-state.ensures.items
+    c.in_ok-state.ensures.state (c.as_slice.ensures ∙ c.finish-last.ensures.items) c.in_ok-take_last.ensures)
+
+pub returns-clause-text : goal.returns-clause-text
+returns-clause-text g c =
+    IfOk-weaker c.finish.result _ _
+    (λ d e. sym (chars_from_encodes _ (string_bytes d.text) (IsUtf8-string_bytes d.text) ((gathered g c).text ∙ sym e)))
+    c.finish.ensures.text
+
+pub returns-clause-errors : goal.returns-clause-errors
+returns-clause-errors g c = IfOk-weaker c.finish.result _ _ (λ d e. e ∙ (gathered g c).errors) c.finish.ensures.errors

@@ -1,0 +1,9 @@
+pub mod Any
+pub mod AnyLaws
+pub mod Choice
+pub mod Decode
+pub mod Gathered
+pub mod Lifted
+pub mod LiftedLaws
+pub mod Refused
+pub mod Written

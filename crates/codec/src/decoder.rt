@@ -1,0 +1,181 @@
+//! One decoder for all encodings.
+ghost use Rattle.std.specs.Prelude.{◌≡◌, List, ℕ, length, IfSome, is_some};
+ghost use Rattle.std.proofs.Common.{rules};
+ghost use Rattle.decoder_core.specs.Placed.{places};
+ghost use Rattle.decoder_core.specs.Queue.{run};
+ghost use Rattle.codec.specs.Any.{any, any_start};
+ghost use Rattle.codec.specs.AnyLaws.{any_falls, any_counts};
+ghost use Rattle.codec.specs.Choice.{decoder_in};
+ghost use Rattle.codec.specs.Decode.{decode, is_decoded};
+
+use crate::state::AnyState;
+use decoder_core::{
+    Answer, ByteOrder, Few, Handled, Handler, ReplacementDecoder, SingleByteDecoder, Utf8Decoder,
+    Utf16Decoder, XUserDefinedDecoder,
+};
+use enc_names::Encoding;
+use index_loader::{IndexKind, Indexes};
+use multibyte_decoders::{
+    Big5Decoder, EucJpDecoder, EucKrDecoder, Gb18030Decoder, ShiftJisDecoder,
+};
+
+/// The decoder of an encoding, whichever it is (Encoding Standard, "Encodings"). It borrows the
+/// indexes that it needs. Each encoding's decoder does here in its own states what it does alone;
+/// in a state of another it is finished.
+#[derive(Drop)]
+pub enum AnyDecoder<'i> {
+    Utf8(Utf8Decoder),
+    /// The decoder of gb18030 and of GBK.
+    Gb18030(Gb18030Decoder<'i>),
+    Big5(Big5Decoder<'i>),
+    EucJp(EucJpDecoder<'i>),
+    ShiftJis(ShiftJisDecoder<'i>),
+    EucKr(EucKrDecoder<'i>),
+    SingleByte(SingleByteDecoder<'i>),
+    XUserDefined(XUserDefinedDecoder),
+    Replacement(ReplacementDecoder),
+    Utf16Be(Utf16Decoder),
+    Utf16Le(Utf16Decoder),
+}
+
+impl<'i> AnyDecoder<'i> {
+    /// The decoder of an encoding. `None` where the encoding has none here, or one of its index
+    /// files isn't there. Takes no memory.
+    pub fn new(indexes: &'i Indexes, encoding: Encoding) -> Option<AnyDecoder<'i>>
+        ensures value { result ≡ decoder_in indexes.now encoding }
+        ensures variant { is_some result ≡ is_decoded indexes.now encoding }
+        ensures decode { IfSome result (λ d. (bytes : List ℕ) → places (length bytes) 0 (run (any d) (any_start d) bytes) ≡ (decode indexes.now encoding bytes).items) }
+    {
+        choose(indexes, encoding)
+    }
+}
+
+impl<'i> Handler for AnyDecoder<'i> {
+    type State = AnyState;
+
+    ghost table = { any };
+
+    ghost initial = { any_start };
+
+    fn start_state(&self) -> AnyState {
+        match self {
+            AnyDecoder::Utf8(d) => AnyState::Utf8(d.start_state()),
+            AnyDecoder::Gb18030(d) => AnyState::Gb18030(d.start_state()),
+            AnyDecoder::Big5(d) => AnyState::Big5(d.start_state()),
+            AnyDecoder::EucJp(d) => AnyState::EucJp(d.start_state()),
+            AnyDecoder::ShiftJis(d) => AnyState::ShiftJis(d.start_state()),
+            AnyDecoder::EucKr(d) => AnyState::EucKr(d.start_state()),
+            AnyDecoder::SingleByte(d) => AnyState::SingleByte(d.start_state()),
+            AnyDecoder::XUserDefined(d) => AnyState::XUserDefined(d.start_state()),
+            AnyDecoder::Replacement(d) => AnyState::Replacement(d.start_state()),
+            AnyDecoder::Utf16Be(d) => AnyState::Utf16Be(d.start_state()),
+            AnyDecoder::Utf16Le(d) => AnyState::Utf16Le(d.start_state()),
+        }
+    }
+
+    fn turn(&self, state: AnyState, byte: Option<u8>) -> Handled<AnyState> {
+        match (self, state) {
+            (AnyDecoder::Utf8(d), AnyState::Utf8(s)) => {
+                let turn = d.turn(s, byte);
+                among(AnyState::Utf8(turn.state), turn)
+            }
+            (AnyDecoder::Gb18030(d), AnyState::Gb18030(s)) => {
+                let turn = d.turn(s, byte);
+                among(AnyState::Gb18030(turn.state), turn)
+            }
+            (AnyDecoder::Big5(d), AnyState::Big5(s)) => {
+                let turn = d.turn(s, byte);
+                among(AnyState::Big5(turn.state), turn)
+            }
+            (AnyDecoder::EucJp(d), AnyState::EucJp(s)) => {
+                let turn = d.turn(s, byte);
+                among(AnyState::EucJp(turn.state), turn)
+            }
+            (AnyDecoder::ShiftJis(d), AnyState::ShiftJis(s)) => {
+                let turn = d.turn(s, byte);
+                among(AnyState::ShiftJis(turn.state), turn)
+            }
+            (AnyDecoder::EucKr(d), AnyState::EucKr(s)) => {
+                let turn = d.turn(s, byte);
+                among(AnyState::EucKr(turn.state), turn)
+            }
+            (AnyDecoder::SingleByte(d), AnyState::SingleByte(s)) => {
+                let turn = d.turn(s, byte);
+                among(AnyState::SingleByte(turn.state), turn)
+            }
+            (AnyDecoder::XUserDefined(d), AnyState::XUserDefined(s)) => {
+                let turn = d.turn(s, byte);
+                among(AnyState::XUserDefined(turn.state), turn)
+            }
+            (AnyDecoder::Replacement(d), AnyState::Replacement(s)) => {
+                let turn = d.turn(s, byte);
+                among(AnyState::Replacement(turn.state), turn)
+            }
+            (AnyDecoder::Utf16Be(d), AnyState::Utf16Be(s)) => {
+                let turn = d.turn(s, byte);
+                among(AnyState::Utf16Be(turn.state), turn)
+            }
+            (AnyDecoder::Utf16Le(d), AnyState::Utf16Le(s)) => {
+                let turn = d.turn(s, byte);
+                among(AnyState::Utf16Le(turn.state), turn)
+            }
+            _ => Handled {
+                state,
+                answer: Answer::Finished,
+                back: Few::Zero,
+            },
+        }
+    }
+
+    ghost ends = { any_falls };
+
+    ghost counts = { any_counts };
+
+    ghost exact = { λ a b h. Prim.search rules };
+}
+
+/// The decoder of an encoding over the indexes that it needs.
+fn choose<'i>(indexes: &'i Indexes, encoding: Encoding) -> Option<AnyDecoder<'i>>
+    ensures { result ≡ decoder_in indexes.now encoding }
+{
+    Some(match encoding {
+        Encoding::Utf8 => AnyDecoder::Utf8(Utf8Decoder),
+        Encoding::Gb18030 | Encoding::Gbk => AnyDecoder::Gb18030(Gb18030Decoder::new(
+            indexes.get(IndexKind::Gb18030)?,
+            indexes.get(IndexKind::Gb18030Ranges)?,
+        )),
+        Encoding::Big5 => AnyDecoder::Big5(Big5Decoder::new(indexes.get(IndexKind::Big5)?)),
+        Encoding::EucJp => AnyDecoder::EucJp(EucJpDecoder::new(
+            indexes.get(IndexKind::Jis0208)?,
+            indexes.get(IndexKind::Jis0212)?,
+        )),
+        Encoding::ShiftJis => {
+            AnyDecoder::ShiftJis(ShiftJisDecoder::new(indexes.get(IndexKind::Jis0208)?))
+        }
+        Encoding::EucKr => AnyDecoder::EucKr(EucKrDecoder::new(indexes.get(IndexKind::EucKr)?)),
+        Encoding::XUserDefined => AnyDecoder::XUserDefined(XUserDefinedDecoder),
+        Encoding::Replacement => AnyDecoder::Replacement(ReplacementDecoder),
+        Encoding::Utf16Be => AnyDecoder::Utf16Be(Utf16Decoder {
+            order: ByteOrder::BigEndian,
+        }),
+        Encoding::Utf16Le => AnyDecoder::Utf16Le(Utf16Decoder {
+            order: ByteOrder::LittleEndian,
+        }),
+        Encoding::Iso2022Jp => return None,
+        _ => {
+            let index = indexes.get(IndexKind::SingleByte(encoding))?;
+            AnyDecoder::SingleByte(SingleByteDecoder::new(index))
+        }
+    })
+}
+
+/// What an encoding's decoder did, as a turn of the one decoder.
+fn among<S: Copy>(state: AnyState, turn: Handled<S>) -> Handled<AnyState>
+    ensures { result ≡ record { state = state; answer = turn.answer; back = turn.back } }
+{
+    Handled {
+        state,
+        answer: turn.answer,
+        back: turn.back,
+    }
+}

@@ -1,0 +1,23 @@
+//! Why bytes aren't decoded.
+
+use std::alloc::AllocError;
+
+/// Why bytes aren't decoded.
+#[derive(Clone, Copy, PartialEq, Eq, Debug)]
+pub enum CodecFault {
+    /// The encoding has no decoder, or one of its index files isn't there.
+    NoIndex,
+    /// A growth of memory was refused.
+    OutOfMemory,
+}
+
+impl From<AllocError> for CodecFault {
+    ghost use Rattle.std.specs.Prelude.{◌≡◌};
+    ghost use Rattle.codec.specs.declared.fault.CodecFault.TheVariants.{OutOfMemory};
+
+    ghost from_gives = { λ _ fault. fault ≡ OutOfMemory };
+
+    fn from(_: AllocError) -> CodecFault {
+        CodecFault::OutOfMemory
+    }
+}

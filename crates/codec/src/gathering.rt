@@ -1,0 +1,109 @@
+//! The sink in which a document's text and errors are gathered.
+ghost use Rattle.std.specs.Prelude.{◌≡◌, ◌≤◌, ◌-◌, [], ◌++◌, length, fold, IfOk, OnOk, OnErr, string_bytes};
+ghost use Rattle.std.specs.Str.{encode_utf8_all};
+ghost use Rattle.decoder_core.specs.Text.{item_code_points};
+ghost use Rattle.codec.specs.Gathered.{Gathered, index_of, with_item, with_shown, with_ended};
+
+use crate::decoding::Decoding;
+use crate::text_blocks::TextBlocks;
+use decoder_core::{Ended, Item, OutOfMemory, Sink};
+use enc_names::Place;
+use std::alloc::{AllocError, Global};
+use std::marker::Model;
+
+/// The text and the errors of the items so far, and where the last of them ends.
+#[derive(Drop)]
+pub(crate) struct Gathering {
+    text: TextBlocks,
+    errors: Vec<Place>,
+    end: u64,
+}
+
+impl Model for Gathering {
+    ghost Value = { Gathered };
+
+    ghost view = { λ s. record { text = s.text.bytes; errors = s.errors.items; end = s.end } };
+}
+
+impl Gathering {
+    /// No item.
+    pub(crate) fn new(alloc: Global) -> Gathering
+        ensures { result ≡ record { text = []; errors = []; end = 0 } }
+    {
+        Gathering {
+            text: TextBlocks::new(alloc),
+            errors: Vec::new(alloc),
+            end: 0,
+        }
+    }
+
+    /// Takes an item that ends at the byte `to`.
+    fn take(&mut self, item: Item, to: u64) -> Result<(), OutOfMemory>
+        ensures ok { OnOk result (self.new ≡ with_item self.old item to) }
+        ensures err { OnErr result (self.new ≡ self.old) }
+    {
+        self.text.reserve()?;
+        if let Item::Error = item {
+            let place = Place { from: self.end, to };
+            self.errors.push(place).map_err(AllocError::from)?;
+        }
+        put_item(&mut self.text, item);
+        self.end = to;
+        Ok(())
+    }
+
+    /// Takes the last items of the run over these bytes.
+    pub(crate) fn take_last(&mut self, items: &[Ended], bytes: &[u8]) -> Result<(), OutOfMemory>
+        ensures { OnOk result (self.new ≡ fold (with_ended (length bytes.now)) self.old items.now) }
+    {
+        let total = bytes.len() as u64;
+        'items: for ended in items {
+            self.take(ended.item, total.saturating_sub(u64::from(ended.back)))?;
+        }
+        Ok(())
+    }
+
+    /// The text and the errors.
+    pub(crate) fn finish(self) -> Result<Decoding, OutOfMemory>
+        ensures text { IfOk result (λ d. string_bytes d.text ≡ self.text) }
+        ensures errors { IfOk result (λ d. d.errors.items ≡ self.errors) }
+    {
+        let Gathering { text, errors, .. } = self;
+        let text = text.finish()?;
+        Ok(Decoding { text, errors })
+    }
+}
+
+impl<S: Copy> Sink<S> for Gathering {
+    ghost Seen = { Gathered };
+
+    ghost seen = { λ s. s };
+
+    ghost taken = { with_shown };
+
+    fn item(&mut self, item: Item, end: i64, _after: S) -> Result<(), OutOfMemory> {
+        self.take(item, index(end))
+    }
+}
+
+/// Writes the code points of an item, an error as U+FFFD.
+fn put_item(text: &mut TextBlocks, item: Item)
+    requires { 8 ≤ text.old.room }
+    ensures { text.new.bytes ≡ text.old.bytes ++ encode_utf8_all (item_code_points item) }
+{
+    match item {
+        Item::One(c) => text.put(c.to_char()),
+        Item::Two(first, second) => {
+            text.put(first.to_char());
+            text.put(second.to_char());
+        }
+        Item::Error => text.put(char::REPLACEMENT_CHARACTER),
+    }
+}
+
+/// An end as an index: no item ends before the first byte.
+fn index(end: i64) -> u64
+    ensures { result ≡ index_of end }
+{
+    if end < 0 { 0 } else { end as u64 }
+}

@@ -1,0 +1,303 @@
+//! The decoder of each encoding over small indexes. Each text is decoded whole, and cut in two at
+//! each byte.
+
+use super::*;
+use decoder_core::{Item, Placed, decode_parts, meter};
+use enc_names::{Encoding, Place, Scalar};
+use index_loader::{Index, IndexFault, IndexKind, Indexes};
+use std::alloc::Global;
+use std::process::Abort;
+use std::test::Fail;
+
+const FILES: [(IndexKind, &str); 8] = [
+    (
+        IndexKind::SingleByte(Encoding::Windows1252),
+        "0\t0x20AC\n59\t0x00BB\n63\t0x00BF\n",
+    ),
+    (IndexKind::Jis0208, "283\t0x3042\n1410\t0x4E9C\n"),
+    (IndexKind::Jis0212, "108\t0x02D8\n"),
+    (IndexKind::Big5, "5495\t0x4E00\n"),
+    (IndexKind::EucKr, "9026\t0xAC00\n"),
+    (IndexKind::Gb18030, "0\t0x4E02\n1\t0x4E04\n9026\t0x554A\n"),
+    (IndexKind::Gb18030Ranges, "0\t0x0080\n189000\t0x10000\n"),
+    (IndexKind::Katakana, "0\t0x3002\n"),
+];
+
+/// The small index files.
+fn small_indexes(alloc: Global) -> Result<Indexes, IndexFault> {
+    let mut indexes = Indexes::new();
+    for (kind, file) in FILES.iter() {
+        indexes.put(Index::parse(alloc, *kind, file.as_bytes())?);
+    }
+    Ok(indexes)
+}
+
+/// A code point from one byte to another.
+fn one(from: u64, to: u64, code_point: char) -> Placed {
+    Placed {
+        item: Item::One(Scalar::from(code_point)),
+        from,
+        to,
+    }
+}
+
+/// An error from one byte to another.
+fn error(from: u64, to: u64) -> Placed {
+    Placed {
+        item: Item::Error,
+        from,
+        to,
+    }
+}
+
+/// The bytes have this text and these items, whole and in two parts wherever the cut is.
+fn decodes(
+    rt: &impl Abort,
+    alloc: Global,
+    encoding: Encoding,
+    bytes: &[u8],
+    text: &str,
+    items: &[Placed],
+) -> Result<(), Fail> {
+    let indexes = small_indexes(alloc)?;
+    let whole = decode_whole(alloc, &indexes, encoding, bytes)?;
+    assert_eq!(rt; whole.encoding, encoding);
+    assert_eq!(rt; whole.bom_len, 0);
+    assert_eq!(rt; whole.text.as_str(), text);
+    let mut errors = Vec::new(alloc);
+    for placed in items {
+        if let Item::Error = placed.item {
+            errors.push(Place {
+                from: placed.from,
+                to: placed.to,
+            })?;
+        }
+    }
+    assert_eq!(rt; whole.errors.as_slice(), errors.as_slice());
+    let decoder = AnyDecoder::new(&indexes, encoding).ok_or(CodecFault::NoIndex)?;
+    for cut in 0..bytes.len() {
+        let parts = decode_parts(alloc, &decoder, bytes, &[cut], &mut meter())?;
+        assert_eq!(rt; parts.as_slice(), items, "cut at {cut}");
+    }
+    Ok(())
+}
+
+#[test]
+fn utf8_sequence_cut_short_by_ascii(rt: HostRuntime) -> Result<(), Fail> {
+    decodes(
+        &rt,
+        rt.alloc(),
+        Encoding::Utf8,
+        &[0xE2, 0x82, 0x41],
+        "\u{FFFD}A",
+        &[error(0, 2), one(2, 3, 'A')],
+    )
+}
+
+#[test]
+fn windows_1252_entry_and_null(rt: HostRuntime) -> Result<(), Fail> {
+    decodes(
+        &rt,
+        rt.alloc(),
+        Encoding::Windows1252,
+        &[0x80, 0xBB, 0x41, 0xFF],
+        "\u{20AC}\u{BB}A\u{FFFD}",
+        &[
+            one(0, 1, '\u{20AC}'),
+            one(1, 2, '\u{BB}'),
+            one(2, 3, 'A'),
+            error(3, 4),
+        ],
+    )
+}
+
+#[test]
+fn x_user_defined_private_use(rt: HostRuntime) -> Result<(), Fail> {
+    decodes(
+        &rt,
+        rt.alloc(),
+        Encoding::XUserDefined,
+        &[0x41, 0x80, 0xFF],
+        "A\u{F780}\u{F7FF}",
+        &[one(0, 1, 'A'), one(1, 2, '\u{F780}'), one(2, 3, '\u{F7FF}')],
+    )
+}
+
+#[test]
+fn replacement_tail_is_silent(rt: HostRuntime) -> Result<(), Fail> {
+    decodes(
+        &rt,
+        rt.alloc(),
+        Encoding::Replacement,
+        &[0x41, 0x42, 0x43],
+        "\u{FFFD}",
+        &[error(0, 1)],
+    )
+}
+
+#[test]
+fn gb18030_bytes_given_back(rt: HostRuntime) -> Result<(), Fail> {
+    decodes(
+        &rt,
+        rt.alloc(),
+        Encoding::Gb18030,
+        &[0x81, 0x30, 0x81, 0x41],
+        "\u{FFFD}0\u{4E04}",
+        &[error(0, 1), one(1, 2, '0'), one(2, 4, '\u{4E04}')],
+    )?;
+    decodes(
+        &rt,
+        rt.alloc(),
+        Encoding::Gb18030,
+        &[0x81, 0x30, 0x81],
+        "\u{FFFD}",
+        &[error(0, 3)],
+    )
+}
+
+#[test]
+fn gbk_first_and_last_of_four_bytes(rt: HostRuntime) -> Result<(), Fail> {
+    decodes(
+        &rt,
+        rt.alloc(),
+        Encoding::Gbk,
+        &[
+            0x90, 0x30, 0x81, 0x30, 0xE3, 0x32, 0x9A, 0x35, 0xE3, 0x32, 0x9A, 0x36,
+        ],
+        "\u{10000}\u{10FFFF}\u{FFFD}",
+        &[
+            one(0, 4, '\u{10000}'),
+            one(4, 8, '\u{10FFFF}'),
+            error(8, 12),
+        ],
+    )
+}
+
+#[test]
+fn big5_item_of_two_code_points(rt: HostRuntime) -> Result<(), Fail> {
+    let pair = Placed {
+        item: Item::Two(Scalar::from('\u{CA}'), Scalar::from('\u{304}')),
+        from: 0,
+        to: 2,
+    };
+    decodes(
+        &rt,
+        rt.alloc(),
+        Encoding::Big5,
+        &[0x88, 0x62],
+        "\u{CA}\u{304}",
+        &[pair],
+    )
+}
+
+#[test]
+fn euc_jp_three_bytes_and_katakana(rt: HostRuntime) -> Result<(), Fail> {
+    decodes(
+        &rt,
+        rt.alloc(),
+        Encoding::EucJp,
+        &[0x8F, 0xA2, 0xAF, 0x8E, 0xB1, 0xA4, 0xA2, 0x8E, 0x41],
+        "\u{2D8}\u{FF71}\u{3042}\u{FFFD}A",
+        &[
+            one(0, 3, '\u{2D8}'),
+            one(3, 5, '\u{FF71}'),
+            one(5, 7, '\u{3042}'),
+            error(7, 8),
+            one(8, 9, 'A'),
+        ],
+    )
+}
+
+#[test]
+fn euc_kr_ascii_trail_kept(rt: HostRuntime) -> Result<(), Fail> {
+    decodes(
+        &rt,
+        rt.alloc(),
+        Encoding::EucKr,
+        &[0xB0, 0xA1, 0xB0, 0x41, 0xFF],
+        "\u{AC00}\u{FFFD}A\u{FFFD}",
+        &[
+            one(0, 2, '\u{AC00}'),
+            error(2, 3),
+            one(3, 4, 'A'),
+            error(4, 5),
+        ],
+    )
+}
+
+#[test]
+fn shift_jis_each_kind_of_byte(rt: HostRuntime) -> Result<(), Fail> {
+    decodes(
+        &rt,
+        rt.alloc(),
+        Encoding::ShiftJis,
+        &[0x82, 0xA0, 0xB1, 0x80, 0xF0, 0x40, 0x81, 0x2F],
+        "\u{3042}\u{FF71}\u{80}\u{E000}\u{FFFD}/",
+        &[
+            one(0, 2, '\u{3042}'),
+            one(2, 3, '\u{FF71}'),
+            one(3, 4, '\u{80}'),
+            one(4, 6, '\u{E000}'),
+            error(6, 7),
+            one(7, 8, '/'),
+        ],
+    )?;
+    decodes(
+        &rt,
+        rt.alloc(),
+        Encoding::ShiftJis,
+        &[0x81],
+        "\u{FFFD}",
+        &[error(0, 1)],
+    )
+}
+
+#[test]
+fn utf16_lone_surrogate_gives_back_the_unit(rt: HostRuntime) -> Result<(), Fail> {
+    decodes(
+        &rt,
+        rt.alloc(),
+        Encoding::Utf16Le,
+        &[0x3D, 0xD8, 0x41, 0x00],
+        "\u{FFFD}A",
+        &[error(0, 2), one(2, 4, 'A')],
+    )?;
+    decodes(
+        &rt,
+        rt.alloc(),
+        Encoding::Utf16Le,
+        &[0x3D, 0xD8, 0x3D, 0xD8, 0x00, 0xDE],
+        "\u{FFFD}\u{1F600}",
+        &[error(0, 2), one(2, 6, '\u{1F600}')],
+    )?;
+    decodes(
+        &rt,
+        rt.alloc(),
+        Encoding::Utf16Be,
+        &[0xD8, 0x3D],
+        "\u{FFFD}",
+        &[error(0, 2)],
+    )
+}
+
+#[test]
+fn no_index_where_a_file_is_absent(rt: HostRuntime) -> Result<(), Fail> {
+    let alloc = rt.alloc();
+    let mut indexes = Indexes::new();
+    indexes.put(Index::parse(alloc, IndexKind::Jis0208, b"283\t0x3042\n")?);
+    let refused = [
+        Encoding::Windows1252,
+        Encoding::Gb18030,
+        Encoding::EucJp,
+        Encoding::EucKr,
+        Encoding::Big5,
+    ];
+    for encoding in refused.iter() {
+        let answer = decode_whole(alloc, &indexes, *encoding, b"A").err();
+        assert_eq!(rt; answer, Some(CodecFault::NoIndex));
+        assert!(rt; AnyDecoder::new(&indexes, *encoding).is_none());
+    }
+    assert!(rt; AnyDecoder::new(&indexes, Encoding::ShiftJis).is_some());
+    assert!(rt; AnyDecoder::new(&indexes, Encoding::Utf8).is_some());
+    Ok(())
+}

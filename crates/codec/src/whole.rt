@@ -1,0 +1,52 @@
+//! Decoding of bytes as a whole.
+ghost use Rattle.std.specs.Prelude.{◌≡◌, IfOk, string_bytes};
+ghost use Rattle.std.specs.Str.{chars};
+ghost use Rattle.decoder_core.specs.Text.{code_points, error_places};
+ghost use Rattle.codec.specs.Decode.{decode};
+ghost use Rattle.codec.specs.Refused.{Refused};
+
+use crate::decoder::AnyDecoder;
+use crate::decoding::{Decoding, decode_by};
+use crate::fault::CodecFault;
+use decoder_core::meter;
+use enc_names::{Encoding, Place};
+use index_loader::Indexes;
+use std::alloc::Global;
+
+/// What decoding some bytes gives: the encoding in force, the number of bytes of the byte order
+/// mark, the text behind it, and the places of the errors among all the bytes, in order.
+#[derive(Drop)]
+pub struct Decoded {
+    pub encoding: Encoding,
+    pub bom_len: u64,
+    pub text: String,
+    pub errors: Vec<Place>,
+}
+
+/// Decodes bytes (Encoding Standard, "decode", error mode "replacement"). Refused with `NoIndex`
+/// where the encoding can't be decoded.
+///
+/// Bytes that come in parts, however they are cut, have the same items: [`AnyDecoder`] is a
+/// `Decoder`, and for each of those `decode_parts` answers the places of the run over all bytes.
+#[tactic(auto, unfolding(crate::specs::Decode::decode))]
+pub fn decode_whole(
+    alloc: Global,
+    indexes: &Indexes,
+    encoding: Encoding,
+    bytes: &[u8],
+) -> Result<Decoded, CodecFault>
+    ensures encoding { IfOk result (λ d. d.encoding ≡ (decode indexes.now encoding bytes.now).encoding) }
+    ensures bom_len { IfOk result (λ d. d.bom_len ≡ (decode indexes.now encoding bytes.now).bom) }
+    ensures text { IfOk result (λ d. chars (string_bytes d.text) ≡ code_points (decode indexes.now encoding bytes.now).items) }
+    ensures errors { IfOk result (λ d. d.errors.items ≡ error_places (decode indexes.now encoding bytes.now).items) }
+    ensures faults { Refused indexes.now encoding result }
+{
+    let decoder = AnyDecoder::new(indexes, encoding).ok_or(CodecFault::NoIndex)?;
+    let Decoding { text, errors } = decode_by(alloc, &decoder, bytes, &mut meter())?;
+    Ok(Decoded {
+        encoding,
+        bom_len: 0,
+        text,
+        errors,
+    })
+}

@@ -1,0 +1,21 @@
+-- The forms of a decoder's turns.
+use Rattle.std.specs.Prelude.{ℕ, Bool, nat_le, List, []}
+use Rattle.decoder_core.specs.declared.item.Item.{Item}
+use Rattle.decoder_core.specs.declared.handler.Answer.TheVariants.{Nothing, Gives, Finished}
+use Rattle.decoder_core.specs.Queue.{Turn}
+
+-- a turn that gives an item and puts bytes back
+abbrev pub gives : {S : Type 0} → S → Item → List ℕ → Turn S
+gives next item back = record { state = next; answer = Gives item; back = back }
+
+-- a turn that holds what it read
+abbrev pub holds : {S : Type 0} → S → Turn S
+holds next = record { state = next; answer = Nothing; back = [] }
+
+-- a turn that finishes
+abbrev pub finishes : {S : Type 0} → S → Turn S
+finishes next = record { state = next; answer = Finished; back = [] }
+
+-- an ASCII byte (Encoding Standard, "Terminology")
+abbrev pub is_ascii : ℕ → Bool
+is_ascii b = nat_le b 0x7F

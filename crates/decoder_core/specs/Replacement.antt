@@ -1,0 +1,14 @@
+-- The replacement decoder (Encoding Standard, "replacement decoder").
+use Rattle.std.specs.Prelude.{[], Some, None}
+use Rattle.decoder_core.specs.declared.item.Item.TheVariants.{Error}
+use Rattle.decoder_core.specs.declared.replacement.ReplacementState.{ReplacementState}
+use Rattle.decoder_core.specs.declared.replacement.ReplacementState.TheVariants.{Unread, ErrorReturned, Done}
+use Rattle.decoder_core.specs.Queue.{Table}
+use Rattle.decoder_core.specs.Forms.{gives, finishes}
+
+-- one error for the first byte; the next byte finishes, and what comes behind it is never read
+abbrev pub replacement : Table ReplacementState
+replacement s None = finishes s
+replacement Unread (Some b) = gives ErrorReturned Error []
+replacement ErrorReturned (Some b) = finishes Done
+replacement Done (Some b) = finishes Done

@@ -1,0 +1,3 @@
+//! Worked examples, as equations over the tables that computing them proves.
+mod one_byte;
+mod utf16;

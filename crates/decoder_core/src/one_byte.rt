@@ -1,0 +1,7 @@
+//! The state of decoders of one byte a character.
+
+/// Where a decoder stands that holds nothing between two bytes.
+#[derive(Clone, Copy, PartialEq, Eq, Debug)]
+pub enum OneByteState {
+    Idle,
+}

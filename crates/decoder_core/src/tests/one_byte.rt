@@ -1,0 +1,81 @@
+//! The single-byte encodings, x-user-defined and replacement.
+use super::decode_to;
+use crate::decoder::Decoder;
+use crate::replacement::{ReplacementDecoder, ReplacementState};
+use crate::single_byte::SingleByteDecoder;
+use crate::x_user_defined::XUserDefinedDecoder;
+use enc_names::Encoding;
+use index_loader::{Index, IndexKind};
+use std::test::Fail;
+
+const WINDOWS_1252: &[u8] = b"0\t0x20AC\n59\t0xBB\n63\t0xBF\n";
+
+#[test]
+fn entries_ascii_and_null(rt: HostRuntime) -> Result<(), Fail> {
+    let kind = IndexKind::SingleByte(Encoding::Windows1252);
+    let index = Index::parse(rt.alloc(), kind, WINDOWS_1252)?;
+    let rows = [
+        (Some('\u{20AC}'), 0, 1),
+        (Some('\u{BB}'), 1, 2),
+        (Some('A'), 2, 3),
+        (None, 3, 4),
+    ];
+    let decoder = SingleByteDecoder::new(&index);
+    assert!(rt; decode_to(rt.alloc(), &decoder, &[0x80, 0xBB, 0x41, 0xFF], &rows)?);
+    Ok(())
+}
+
+#[test]
+fn ascii_is_not_looked_up(rt: HostRuntime) -> Result<(), Fail> {
+    let kind = IndexKind::SingleByte(Encoding::Windows1252);
+    let index = Index::parse(rt.alloc(), kind, b"0\t0x20AC\n65\t0x42\n")?;
+    let rows = [
+        (Some('\0'), 0, 1),
+        (Some('A'), 1, 2),
+        (Some('\u{7F}'), 2, 3),
+        (Some('B'), 3, 4),
+    ];
+    let decoder = SingleByteDecoder::new(&index);
+    assert!(rt; decode_to(rt.alloc(), &decoder, &[0, 0x41, 0x7F, 0xC1], &rows)?);
+    Ok(())
+}
+
+#[test]
+fn x_user_defined(rt: HostRuntime) -> Result<(), Fail> {
+    let rows = [
+        (Some('A'), 0, 1),
+        (Some('\u{F780}'), 1, 2),
+        (Some('\u{F7FF}'), 2, 3),
+    ];
+    assert!(rt; decode_to(rt.alloc(), &XUserDefinedDecoder, &[0x41, 0x80, 0xFF], &rows)?);
+    Ok(())
+}
+
+#[test]
+fn replacement_has_one_error_and_a_silent_tail(rt: HostRuntime) -> Result<(), Fail> {
+    let rows = [(None, 0, 1)];
+    assert!(rt; decode_to(rt.alloc(), &ReplacementDecoder, &[0x41, 0x42], &rows)?);
+    assert!(rt;
+        decode_to(
+            rt.alloc(),
+            &ReplacementDecoder,
+            &[0x1B, 0x24, 0x42, 0x41],
+            &rows
+        )?
+    );
+    assert!(rt; decode_to(rt.alloc(), &ReplacementDecoder, &[0x41], &rows)?);
+    assert!(rt; decode_to(rt.alloc(), &ReplacementDecoder, &[], &[])?);
+    Ok(())
+}
+
+#[test]
+fn replacement_is_done_at_the_second_byte(rt: HostRuntime) {
+    let first = ReplacementDecoder.step(ReplacementDecoder.start(), 0x41);
+    assert_eq!(rt; first.state, ReplacementState::ErrorReturned);
+    let second = ReplacementDecoder.step(first.state, 0x42);
+    assert_eq!(rt; second.state, ReplacementState::Done);
+    assert!(rt; second.items.as_slice().is_empty());
+    let third = ReplacementDecoder.step(second.state, 0x43);
+    assert_eq!(rt; third.state, ReplacementState::Done);
+    assert!(rt; third.items.as_slice().is_empty());
+}
