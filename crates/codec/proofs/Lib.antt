@@ -1,3 +1,4 @@
+pub mod AnyRun
 pub mod Choosing
 pub mod Gathered
 pub mod Utf8

@@ -1,7 +1,8 @@
 -- One decoder for all encodings: each encoding's own decoder, as one among them all.
-use Rattle.std.specs.Prelude.{Option, Some, None}
+use Rattle.std.specs.Prelude.{ℕ, List, Option, Some, None}
 use Rattle.index_loader.specs.Index.{code_point_of}
-use Rattle.decoder_core.specs.Queue.{Table}
+use Rattle.decoder_core.specs.declared.item.Ended.{Ended}
+use Rattle.decoder_core.specs.Queue.{Table, run}
 use Rattle.decoder_core.specs.Utf8.{Utf8, utf8, utf8_start}
 use Rattle.decoder_core.specs.declared.one_byte.OneByteState.{OneByteState}
 use Rattle.decoder_core.specs.declared.one_byte.OneByteState.TheVariants.{Idle as one_byte_idle}
@@ -100,3 +101,17 @@ any_start (by_x_user_defined d) = in_x_user_defined one_byte_idle
 any_start (by_replacement d) = in_replacement Unread
 any_start (by_utf16_be d) = in_utf16_be utf16_start
 any_start (by_utf16_le d) = in_utf16_le utf16_start
+
+-- the run of each encoding's own decoder, alone
+abbrev pub own_run : AnyDecoder → List ℕ → List Ended
+own_run (by_utf8 d) bytes = run utf8 utf8_start bytes
+own_run (by_gb18030 d) bytes = run (gb18030 (code_point_of d.index) (code_point_of d.ranges)) gb18030_idle bytes
+own_run (by_big5 d) bytes = run (big5 (code_point_of d)) Idle bytes
+own_run (by_euc_jp d) bytes = run (euc_jp (code_point_of d.jis0208) (code_point_of d.jis0212)) euc_jp_idle bytes
+own_run (by_shift_jis d) bytes = run (shift_jis (code_point_of d)) Idle bytes
+own_run (by_euc_kr d) bytes = run (euc_kr (code_point_of d)) Idle bytes
+own_run (by_single_byte d) bytes = run (single_byte (code_point_of d)) one_byte_idle bytes
+own_run (by_x_user_defined d) bytes = run x_user_defined one_byte_idle bytes
+own_run (by_replacement d) bytes = run replacement Unread bytes
+own_run (by_utf16_be d) bytes = run (utf16 d.order) utf16_start bytes
+own_run (by_utf16_le d) bytes = run (utf16 d.order) utf16_start bytes

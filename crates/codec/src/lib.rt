@@ -1,6 +1,7 @@
 //! One decoder for all encodings (Encoding Standard, "decode").
 #![tactic(auto)]
 
+mod by_any;
 mod decoder;
 mod decoding;
 mod fault;
@@ -11,6 +12,7 @@ mod tests;
 mod text_blocks;
 mod whole;
 
+pub use by_any::decode_any;
 pub use decoder::AnyDecoder;
 pub use decoding::{Decoding, decode_by};
 pub use fault::CodecFault;

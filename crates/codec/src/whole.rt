@@ -5,8 +5,9 @@ ghost use Rattle.decoder_core.specs.Text.{code_points, error_places};
 ghost use Rattle.codec.specs.Decode.{decode};
 ghost use Rattle.codec.specs.Refused.{Refused};
 
+use crate::by_any::decode_any;
 use crate::decoder::AnyDecoder;
-use crate::decoding::{Decoding, decode_by};
+use crate::decoding::Decoding;
 use crate::fault::CodecFault;
 use decoder_core::meter;
 use enc_names::{Encoding, Place};
@@ -42,7 +43,7 @@ pub fn decode_whole(
     ensures faults { Refused indexes.now encoding result }
 {
     let decoder = AnyDecoder::new(indexes, encoding).ok_or(CodecFault::NoIndex)?;
-    let Decoding { text, errors } = decode_by(alloc, &decoder, bytes, &mut meter())?;
+    let Decoding { text, errors } = decode_any(alloc, &decoder, bytes, &mut meter())?;
     Ok(Decoded {
         encoding,
         bom_len: 0,

@@ -6,7 +6,7 @@ use crate::fault::DocFault;
 use crate::limits::{DOCUMENT_LIMIT, checked_cut};
 use crate::scalars::scalars_between;
 use crate::spliced::spliced_bytes;
-use codec::{AnyDecoder, Decoding, decode_by};
+use codec::{AnyDecoder, Decoding, decode_any};
 use decoder_core::Meter;
 use enc_names::{Encoding, Place};
 use index_loader::Indexes;
@@ -60,7 +60,7 @@ impl<'i> Doc<'i> {
             return Err(DocFault::TooLarge);
         }
         let bytes = Vec::from_slice(alloc, bytes)?;
-        let decoding = decode_by(alloc, &decoder, &bytes, meter)?;
+        let decoding = decode_any(alloc, &decoder, &bytes, meter)?;
         Ok(Doc {
             indexes,
             given: encoding,
@@ -91,7 +91,7 @@ impl<'i> Doc<'i> {
         let decoder = AnyDecoder::new(self.indexes, self.given).ok_or(DocFault::NoIndex)?;
         let alloc = *self.bytes.allocator();
         let bytes = spliced_bytes(alloc, &self.bytes, at, del, ins)?;
-        let decoding = decode_by(alloc, &decoder, &bytes, meter)?;
+        let decoding = decode_any(alloc, &decoder, &bytes, meter)?;
         self.bytes = bytes;
         self.decoding = decoding;
         Ok(())
