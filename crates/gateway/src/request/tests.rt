@@ -167,3 +167,20 @@ fn the_first_faulty_field_is_named(rt: HostRuntime) {
     let text = "{\"id\":1,\"op\":\"text\",\"doc\":\"a\",\"from\":0,\"to\":2,\"mode\":\"fatal\"}";
     expect_fault(&rt, alloc, text, Field::Mode);
 }
+
+#[test]
+fn each_later_field_is_asked_in_its_turn(rt: HostRuntime) {
+    let alloc = rt.alloc();
+    let open = "{\"id\":1,\"op\":\"open\",\"doc\":\"a\",\"label\":1,\"bytes\":2}";
+    expect_fault(&rt, alloc, open, Field::Label);
+    let rev = "{\"id\":1,\"op\":\"splice\",\"doc\":\"a\",\"rev\":null,\"at\":-1}";
+    expect_fault(&rt, alloc, rev, Field::Rev);
+    let at = "{\"id\":1,\"op\":\"splice\",\"doc\":\"a\",\"rev\":0,\"at\":-1,\"del\":-1}";
+    expect_fault(&rt, alloc, at, Field::At);
+    let del = "{\"id\":1,\"op\":\"splice\",\"doc\":\"a\",\"rev\":0,\"at\":0,\"del\":1.5}";
+    expect_fault(&rt, alloc, del, Field::Del);
+    let from = "{\"id\":1,\"op\":\"text\",\"doc\":\"a\",\"to\":\"2\"}";
+    expect_fault(&rt, alloc, from, Field::From);
+    let to = "{\"id\":1,\"op\":\"text\",\"doc\":\"a\",\"from\":0,\"to\":\"2\",\"mode\":1}";
+    expect_fault(&rt, alloc, to, Field::To);
+}
