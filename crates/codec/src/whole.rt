@@ -24,8 +24,8 @@ pub struct Decoded {
     pub errors: Vec<Place>,
 }
 
-/// Decodes bytes (Encoding Standard, "decode", error mode "replacement"). Refused with `NoIndex`
-/// where the encoding can't be decoded.
+/// Decodes bytes (Encoding Standard, "decode", error mode "replacement", but that no byte order
+/// mark is looked for). Refused with `NoIndex` where the encoding can't be decoded.
 ///
 /// Bytes that come in parts, however they are cut, have the same items: [`AnyDecoder`] is a
 /// `Decoder`, and for each of those `decode_parts` answers the places of the run over all bytes.

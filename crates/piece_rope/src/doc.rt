@@ -15,7 +15,8 @@ use std::marker::Model;
 
 /// A document: its bytes and the encoding given for them, beside the indexes that it was opened
 /// with. Whatever is asked of it is answered as decoding its bytes from scratch answers it
-/// (Encoding Standard, "decode", error mode "replacement"). Contracts see these three alone.
+/// (Encoding Standard, "decode", error mode "replacement", but that no byte order mark is looked
+/// for). Contracts see these three alone.
 #[derive(Drop)]
 pub struct Doc<'i> {
     indexes: &'i Indexes,
