@@ -3,49 +3,89 @@ ghost use Rattle.std.specs.Prelude.{◌≡◌};
 ghost use Rattle.enc_names.specs.LabelFile.{encoding_named, is_named, named_among};
 ghost use Rattle.enc_names.specs.Names.{name_of};
 
-/// An encoding of the Encoding Standard ("Names and labels"). [`Encoding::name`] gives the name
-/// that each variant stands for.
+/// An encoding of the Encoding Standard ("Names and labels"). [`Encoding::name`] gives each
+/// variant's name.
 #[derive(Clone, Copy, PartialEq, Eq, Debug)]
 pub enum Encoding {
+    /// `UTF-8`.
     Utf8,
+    /// `IBM866`: Cyrillic, of DOS.
     Ibm866,
+    /// `ISO-8859-2`: Central European.
     Iso8859_2,
+    /// `ISO-8859-3`: South European.
     Iso8859_3,
+    /// `ISO-8859-4`: North European.
     Iso8859_4,
+    /// `ISO-8859-5`: Cyrillic.
     Iso8859_5,
+    /// `ISO-8859-6`: Arabic.
     Iso8859_6,
+    /// `ISO-8859-7`: Greek.
     Iso8859_7,
+    /// `ISO-8859-8`: Hebrew in visual order.
     Iso8859_8,
+    /// `ISO-8859-8-I`: Hebrew in logical order, with the index of ISO-8859-8.
     Iso8859_8I,
+    /// `ISO-8859-10`: Nordic.
     Iso8859_10,
+    /// `ISO-8859-13`: Baltic.
     Iso8859_13,
+    /// `ISO-8859-14`: Celtic.
     Iso8859_14,
+    /// `ISO-8859-15`: West European with the euro sign.
     Iso8859_15,
+    /// `ISO-8859-16`: South-Eastern European.
     Iso8859_16,
+    /// `KOI8-R`: Russian.
     Koi8R,
+    /// `KOI8-U`: Ukrainian.
     Koi8U,
+    /// `macintosh`: West European, of Mac OS.
     Macintosh,
+    /// `windows-874`: Thai.
     Windows874,
+    /// `windows-1250`: Central European.
     Windows1250,
+    /// `windows-1251`: Cyrillic.
     Windows1251,
+    /// `windows-1252`: West European.
     Windows1252,
+    /// `windows-1253`: Greek.
     Windows1253,
+    /// `windows-1254`: Turkish.
     Windows1254,
+    /// `windows-1255`: Hebrew.
     Windows1255,
+    /// `windows-1256`: Arabic.
     Windows1256,
+    /// `windows-1257`: Baltic.
     Windows1257,
+    /// `windows-1258`: Vietnamese.
     Windows1258,
+    /// `x-mac-cyrillic`: Cyrillic, of Mac OS.
     XMacCyrillic,
+    /// `GBK`: simplified Chinese, decoded as gb18030.
     Gbk,
+    /// `gb18030`: simplified Chinese, with all of Unicode.
     Gb18030,
+    /// `Big5`: traditional Chinese.
     Big5,
+    /// `EUC-JP`: Japanese.
     EucJp,
+    /// `ISO-2022-JP`: Japanese, in bytes below 0x80.
     Iso2022Jp,
+    /// `Shift_JIS`: Japanese.
     ShiftJis,
+    /// `EUC-KR`: Korean, with the extension of windows-949.
     EucKr,
+    /// `replacement`: nothing but one error, for labels that aren't safe to decode.
     Replacement,
+    /// `UTF-16BE`.
     Utf16Be,
+    /// `UTF-16LE`.
     Utf16Le,
+    /// `x-user-defined`: bytes from 0x80 on as private-use code points.
     XUserDefined,
 }
 

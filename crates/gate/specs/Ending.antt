@@ -7,7 +7,7 @@ use Rattle.gate.specs.declared.failure.Failure.TheVariants.{Words, NotText, Inde
 abbrev pub status_of : Failure → ℕ
 status_of (Words error) = 2
 status_of NotText = 2
-status_of (Index name fault) = 2
+status_of (Index fault) = 2
 status_of (Labels fault) = 2
 status_of (CannotRead name) = 2
 status_of Read = 1

@@ -1,7 +1,11 @@
 //! What the words of the command line ask.
 
+use clap::error::ErrorKind;
 use clap::{Arg, ArgAction, Command, Error};
 use std::alloc::Global;
+
+/// The command that serves with files.
+const STDIO: &str = "stdio";
 
 /// What the program is to do.
 #[derive(Clone, Copy)]
@@ -23,12 +27,14 @@ pub struct Sources<'a> {
 
 /// The job that the words spell; the program's name isn't one of them.
 pub fn job_of(alloc: Global, words: &[String]) -> Result<Job<'_>, Error> {
-    let matches = command(alloc)?.try_get_matches_from(words)?;
-    let Some((_, given)) = matches.subcommand() else {
+    let mut command = command(alloc)?;
+    let matches = command.try_get_matches_from_mut(words)?;
+    let Some(given) = matches.subcommand_matches(STDIO) else {
         return Ok(Job::Plain);
     };
     let Some(indexes) = given.get_str("indexes") else {
-        return Ok(Job::Plain);
+        let kind = ErrorKind::MissingRequiredArgument;
+        return Err(command.error(kind, "stdio needs --indexes")?);
     };
     let labels = given.get_str("labels");
     Ok(Job::Stdio(Sources { indexes, labels }))
@@ -47,7 +53,7 @@ fn command<'a>(alloc: Global) -> Result<Command<'a>, Error> {
         .value_name("FILE")
         .help("The label file; without one the 40 names are the labels")
         .action(ArgAction::Set);
-    let stdio = Command::new(alloc, "stdio")
+    let stdio = Command::new(alloc, STDIO)
         .about("Serves standard input with index files and labels")
         .arg(indexes)?
         .arg(labels)?;

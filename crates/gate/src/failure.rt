@@ -3,7 +3,7 @@
 use crate::text::Text;
 use enc_names::LabelFault;
 use gateway::Outlet;
-use index_loader::IndexFault;
+use index_files::{FolderFault, IndexFileFault};
 use std::fmt;
 
 /// Why the program ends with another status than 0.
@@ -13,11 +13,8 @@ pub enum Failure<'a> {
     Words(clap::Error),
     /// A word isn't text in UTF-8.
     NotText,
-    /// An index file, by its name in the folder, is faulty.
-    Index {
-        name: &'static str,
-        fault: IndexFault,
-    },
+    /// An index file is faulty.
+    Index(IndexFileFault),
     /// The label file is faulty.
     Labels(LabelFault),
     /// A file, by its name as it is told, can't be read.
@@ -44,7 +41,7 @@ impl Failure<'_> {
         match self {
             Failure::Words(_)
             | Failure::NotText
-            | Failure::Index { .. }
+            | Failure::Index(_)
             | Failure::Labels(_)
             | Failure::CannotRead(_) => 2,
             Failure::Read | Failure::Write | Failure::TooManyReads | Failure::OutOfMemory => 1,
@@ -57,16 +54,22 @@ impl Failure<'_> {
     }
 }
 
+impl From<FolderFault> for Failure<'_> {
+    fn from(fault: FolderFault) -> Self {
+        match fault {
+            FolderFault::CannotRead(name) => Failure::CannotRead(name),
+            FolderFault::Index(fault) => Failure::Index(fault),
+            FolderFault::OutOfMemory => Failure::OutOfMemory,
+        }
+    }
+}
+
 impl fmt::Display for Failure<'_> {
     fn fmt<W: fmt::Write>(&self, f: &mut fmt::Formatter<W>) -> fmt::Result {
         match self {
             Failure::Words(error) => write!(f, "{error}"),
             Failure::NotText => f.write_str("error: a word of the command line isn't UTF-8\n"),
-            Failure::Index { name, fault } => {
-                let line = fault.line;
-                let cause = fault.cause;
-                writeln!(f, "gate: index file {name}, line {line}: {cause:?}")
-            }
+            Failure::Index(fault) => writeln!(f, "gate: {fault}"),
             Failure::Labels(cause) => writeln!(f, "gate: label file: {cause:?}"),
             Failure::CannotRead(name) => writeln!(f, "gate: cannot read {name}"),
             Failure::Read => f.write_str("gate: read fault\n"),

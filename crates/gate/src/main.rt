@@ -3,7 +3,7 @@
 
 mod command_line;
 mod failure;
-mod files;
+mod labels;
 mod perform;
 #[cfg(test)]
 mod tests;

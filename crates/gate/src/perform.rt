@@ -2,11 +2,12 @@
 
 use crate::command_line::{Job, Sources, job_of};
 use crate::failure::Failure;
-use crate::files::{indexes_in, labels_in, names};
+use crate::labels::{labels_in, names};
 use crate::text::Text;
 use enc_names::Labels;
 use gateway::desk::Desk;
 use gateway::{Feed, Gateway, Outlet, RunFault, run};
+use index_files::indexes_in;
 use index_loader::Indexes;
 use std::alloc::Global;
 use std::rt::Files;

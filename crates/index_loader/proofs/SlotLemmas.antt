@@ -6,7 +6,7 @@ use Rattle.std.specs.Option.{option_map}
 use Rattle.index_loader.specs.declared.kind.IndexKind.{IndexKind}
 use Rattle.index_loader.specs.Files.{index_of}
 use Rattle.index_loader.specs.Index.{Loaded}
-use Rattle.index_loader.specs.Kinds.{home_of, slot_of}
+use Rattle.index_loader.specs.Kinds.{home_of, kind_at, slot_of}
 use Rattle.index_loader.specs.Slots.{IsKept, pairs_kept}
 
 -- the pairs at a place
@@ -18,43 +18,44 @@ pairs-at slots k =
     rw (get_or_past slots k None past) (get_or_past (pairs_kept slots) k None (rw (length-map slots (λ slot. option_map (λ index. index.pairs) slot)) past)))
     (cases_lt k (length slots))
 
-kept-put_within : (slots : List (Option Loaded)) (index : Loaded) → IsKept slots → home_of index.kind ≡ index.kind → slot_of index.kind < length slots → IsKept (set slots (slot_of index.kind) (Some index))
-kept-put_within slots index kept home within k other is =
+kept-put_within : (slots : List (Option Loaded)) (index : Loaded) (slot : ℕ) → IsKept slots → kind_at slot ≡ index.kind → slot < length slots → IsKept (set slots slot (Some index))
+kept-put_within slots index slot kept home within k other is =
     ⊎_elim
-    (λ (same : k ≡ slot_of index.kind).
-    let there : Some index ≡ Some other = sym (get_or-set_same slots (slot_of index.kind) (Some index) None within) ∙ ap (λ n. get_or (set slots (slot_of index.kind) (Some index)) n None) (sym same) ∙ is in
+    (λ (same : k ≡ slot).
+    let there : Some index ≡ Some other = sym (get_or-set_same slots slot (Some index) None within) ∙ ap (λ n. get_or (set slots slot (Some index)) n None) (sym same) ∙ is in
     let that : index ≡ other = cc in
     rw (← that, same) (sym home))
-    (λ (apart : k ≢ slot_of index.kind). kept k other (sym (get_or-set_other slots (slot_of index.kind) k (Some index) None apart) ∙ is))
-    (cases_eq k (slot_of index.kind))
+    (λ (apart : k ≢ slot). kept k other (sym (get_or-set_other slots slot k (Some index) None apart) ∙ is))
+    (cases_eq k slot)
 
 -- an index put at the place of its kind
-pub kept-put : (slots : List (Option Loaded)) (index : Loaded) → IsKept slots → home_of index.kind ≡ index.kind → IsKept (set slots (slot_of index.kind) (Some index))
-kept-put slots index kept home =
+pub kept-put : (slots : List (Option Loaded)) (index : Loaded) (slot : ℕ) → IsKept slots → home_of index.kind ≡ index.kind → slot_of index.kind ≡ Some slot → IsKept (set slots slot (Some index))
+kept-put slots index slot kept home place =
+    let home : kind_at slot ≡ index.kind = rw place at home in
     ⊎_elim
-    (λ (within : slot_of index.kind < length slots). kept-put_within slots index kept home within)
-    (λ (past : length slots ≤ slot_of index.kind). rw (set_past slots (slot_of index.kind) (Some index) past) kept)
-    (cases_lt (slot_of index.kind) (length slots))
+    (λ (within : slot < length slots). kept-put_within slots index slot kept home within)
+    (λ (past : length slots ≤ slot). rw (set_past slots slot (Some index) past) kept)
+    (cases_lt slot (length slots))
 
 pub pairs-put : (slots : List (Option Loaded)) (slot : ℕ) (index : Loaded) → pairs_kept (set slots slot (Some index)) ≡ set (pairs_kept slots) slot (Some index.pairs)
 pairs-put slots slot index = map-set (λ slot. option_map (λ index. index.pairs) slot) slots slot (Some index)
 
 -- the index at the place of a kind
-pub index-there : (slots : List (Option Loaded)) (kind : IndexKind) (index : Loaded) → IsKept slots → get_or slots (slot_of kind) None ≡ Some index → index_of (record { slots = pairs_kept slots }) kind ≡ Some index
-index-there slots kind index kept is =
-    let home : index.kind ≡ home_of kind = kept (slot_of kind) index is in
-    let pairs : get_or (pairs_kept slots) (slot_of kind) None ≡ Some index.pairs = pairs-at slots (slot_of kind) ∙ ap (λ o. option_map (λ index. index.pairs) o) is in
-    rw (pairs, ← home) refl
+index-there : (slots : List (Option Loaded)) (kind : IndexKind) (slot : ℕ) (index : Loaded) → IsKept slots → slot_of kind ≡ Some slot → get_or slots slot None ≡ Some index → index_of (record { slots = pairs_kept slots }) kind ≡ Some index
+index-there slots kind slot index kept place is =
+    let home : index.kind ≡ kind_at slot = kept slot index is in
+    let pairs : get_or (pairs_kept slots) slot None ≡ Some index.pairs = pairs-at slots slot ∙ ap (λ o. option_map (λ index. index.pairs) o) is in
+    rw (place, pairs, ← home) refl
 
-pub index-absent : (slots : List (Option Loaded)) (kind : IndexKind) → get_or slots (slot_of kind) None ≡ None → index_of (record { slots = pairs_kept slots }) kind ≡ None
-index-absent slots kind is =
-    let pairs : get_or (pairs_kept slots) (slot_of kind) None ≡ None = pairs-at slots (slot_of kind) ∙ ap (λ o. option_map (λ index. index.pairs) o) is in
-    rw pairs refl
+index-absent : (slots : List (Option Loaded)) (kind : IndexKind) (slot : ℕ) → slot_of kind ≡ Some slot → get_or slots slot None ≡ None → index_of (record { slots = pairs_kept slots }) kind ≡ None
+index-absent slots kind slot place is =
+    let pairs : get_or (pairs_kept slots) slot None ≡ None = pairs-at slots slot ∙ ap (λ o. option_map (λ index. index.pairs) o) is in
+    rw (place, pairs) refl
 
 -- what a look at a place finds
-pub index-at : (slots : List (Option Loaded)) (kind : IndexKind) (found : Option (Bor Loaded)) → IsKept slots → option_copied found ≡ get_or slots (slot_of kind) None → MatchOption found (index_of (record { slots = pairs_kept slots }) kind ≡ None) (λ index. index_of (record { slots = pairs_kept slots }) kind ≡ Some index.now)
-index-at slots kind None kept is = index-absent slots kind (sym is)
-index-at slots kind (Some index) kept is = index-there slots kind index.now kept (sym is)
+pub index-at : (slots : List (Option Loaded)) (kind : IndexKind) (slot : ℕ) (found : Option (Bor Loaded)) → IsKept slots → slot_of kind ≡ Some slot → option_copied found ≡ get_or slots slot None → MatchOption found (index_of (record { slots = pairs_kept slots }) kind ≡ None) (λ index. index_of (record { slots = pairs_kept slots }) kind ≡ Some index.now)
+index-at slots kind slot None kept place is = index-absent slots kind slot place (sym is)
+index-at slots kind slot (Some index) kept place is = index-there slots kind slot index.now kept place (sym is)
 
 -- an empty place
 pub none-at : (n k : ℕ) → get_or {A = Option Loaded} (replicate n None) k None ≡ None

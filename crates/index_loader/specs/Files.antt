@@ -1,6 +1,7 @@
 -- The loaded index files and which of them an encoding needs (Encoding Standard, "Indexes").
-use Rattle.std.specs.Prelude.{Bool, List, [], ◌∷◌, replicate, set, Option, Some, None, is_some, option_map, slice_index_or}
+use Rattle.std.specs.Prelude.{Bool, List, [], ◌∷◌, replicate, set, Option, Some, None, is_some, option_and_then, option_map, slice_index_or}
 use Rattle.std.specs.List.{list_all}
+use Rattle.std.specs.Option.{option_map_or}
 use Rattle.enc_names.specs.declared.encoding.Encoding.{Encoding}
 use Rattle.enc_names.specs.declared.encoding.Encoding.TheVariants.{Utf8, Utf16Be, Utf16Le, Replacement, XUserDefined, Gbk, Gb18030, Big5, EucJp, Iso2022Jp, ShiftJis, EucKr}
 use Rattle.index_loader.specs.declared.kind.IndexKind.{IndexKind}
@@ -19,7 +20,7 @@ no_files = record { slots = replicate 34 None }
 
 -- the pairs of the file of a kind
 abbrev pub pairs_of : Files → IndexKind → Option Pairs
-pairs_of files kind = slice_index_or files.slots (slot_of kind) None
+pairs_of files kind = option_and_then (λ slot. slice_index_or files.slots slot None) (slot_of kind)
 
 -- the index of a kind
 abbrev pub index_of : Files → IndexKind → Option Loaded
@@ -27,7 +28,7 @@ index_of files kind = option_map (λ pairs. record { kind = home_of kind; pairs 
 
 -- the files with this index in place of that of its kind
 abbrev pub with_index : Files → Loaded → Files
-with_index files index = record { slots = set files.slots (slot_of index.kind) (Some index.pairs) }
+with_index files index = option_map_or (λ slot. record { slots = set files.slots slot (Some index.pairs) }) (slot_of index.kind) files
 
 -- the kinds of the files that an encoding needs
 abbrev pub files_needed : Encoding → List IndexKind

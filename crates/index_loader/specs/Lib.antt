@@ -11,7 +11,6 @@ pub mod Ranges
 pub mod Rank
 pub mod Rows
 pub mod Scalars
-pub mod SingleByte
 pub mod Slots
 pub mod Split
 pub mod Table

@@ -26,6 +26,7 @@ pub enum IndexCause {
 pub struct IndexFault {
     /// The number of the faulty line, from 1; 0 for the file as a whole and for memory.
     pub line: u64,
+    /// Why it is refused.
     pub cause: IndexCause,
 }
 

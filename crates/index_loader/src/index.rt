@@ -3,9 +3,8 @@ ghost use Rattle.std.specs.Prelude.{◌≡◌, ◌<◌, IfErr, IfOk, IsTrue, len
 ghost use Rattle.index_loader.specs.File.{IsReading};
 ghost use Rattle.index_loader.specs.FileLaws.{AreSpelt, IsFirstFault};
 ghost use Rattle.index_loader.specs.Index.{code_point_of, last_pointer_of, pointer_from_of, pointer_of};
-ghost use Rattle.index_loader.specs.Kinds.{home_of};
+ghost use Rattle.index_loader.specs.Kinds.{has_files_of, home_of};
 ghost use Rattle.index_loader.specs.Lines.{lines_of};
-ghost use Rattle.index_loader.specs.SingleByte.{has_files_of};
 ghost use Rattle.index_loader.specs.Table.{pairs_in, table_len};
 
 use crate::by_code_point::ByCodePoint;

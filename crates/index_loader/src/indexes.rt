@@ -44,22 +44,25 @@ impl Indexes {
     pub fn put(&mut self, index: Index)
         ensures { self.new ≡ with_index self.old index }
     {
-        let slot = index.kind().slot();
+        let Some(slot) = index.kind().slot() else {
+            return;
+        };
         self.slots[slot] = Some(index);
     }
 
-    /// The index of this kind.
+    /// The index of this kind. A kind that has no files, as that of an encoding whose index isn't
+    /// its own, has none.
     pub fn get(&self, kind: IndexKind) -> Option<&Index>
         ensures { MatchOption result (index_of self.now kind ≡ None) (λ index. index_of self.now kind ≡ Some index.now) }
     {
-        self.slots[kind.slot()].as_ref()
+        self.slots[kind.slot()?].as_ref()
     }
 
     /// Whether the file of this kind is there.
     fn holds(&self, kind: IndexKind) -> bool
         ensures { result ≡ is_some (pairs_of self.now kind) }
     {
-        self.slots[kind.slot()].is_some()
+        self.get(kind).is_some()
     }
 
     /// Whether all files that the encoding needs are there (Encoding Standard, "Indexes").

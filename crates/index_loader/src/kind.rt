@@ -1,5 +1,5 @@
 //! The kinds of index files.
-ghost use Rattle.std.specs.Prelude.{◌≡◌, ◌<◌};
+ghost use Rattle.std.specs.Prelude.{◌≡◌, ◌<◌, IfSome};
 ghost use Rattle.index_loader.specs.Index.{is_ranges};
 ghost use Rattle.index_loader.specs.Kinds.{home_of, single_byte_slot, slot_of};
 ghost use Rattle.index_loader.specs.Lines.{greatest_pointer};
@@ -11,10 +11,15 @@ use enc_names::Encoding;
 pub enum IndexKind {
     /// The index of a single-byte encoding. ISO-8859-8-I has that of ISO-8859-8.
     SingleByte(Encoding),
+    /// The index of JIS X 0208 with its neighbours, for EUC-JP, ISO-2022-JP and Shift_JIS.
     Jis0208,
+    /// The index of JIS X 0212, for EUC-JP.
     Jis0212,
+    /// The index of Big5 with the Hong Kong supplement.
     Big5,
+    /// The index of EUC-KR, with the extension of windows-949.
     EucKr,
+    /// The two-byte index of gb18030 and GBK.
     Gb18030,
     /// The ranges of gb18030, whose rows are looked up by a rule of their own.
     Gb18030Ranges,
@@ -61,20 +66,20 @@ pub(crate) const KINDS: [IndexKind; 34] = [
 ];
 
 impl IndexKind {
-    /// The place of this kind among all kinds.
-    pub(crate) fn slot(self) -> usize
+    /// The place of this kind among all kinds, if there are files of this kind.
+    pub(crate) fn slot(self) -> Option<usize>
         ensures value { result ≡ slot_of self }
-        ensures bound { result < 34 }
+        ensures bound { IfSome result (λ slot. slot < 34) }
     {
         match self {
             IndexKind::SingleByte(encoding) => slot_of_single_byte(encoding),
-            IndexKind::Jis0208 => 27,
-            IndexKind::Jis0212 => 28,
-            IndexKind::Big5 => 29,
-            IndexKind::EucKr => 30,
-            IndexKind::Gb18030 => 31,
-            IndexKind::Gb18030Ranges => 32,
-            IndexKind::Katakana => 33,
+            IndexKind::Jis0208 => Some(27),
+            IndexKind::Jis0212 => Some(28),
+            IndexKind::Big5 => Some(29),
+            IndexKind::EucKr => Some(30),
+            IndexKind::Gb18030 => Some(31),
+            IndexKind::Gb18030Ranges => Some(32),
+            IndexKind::Katakana => Some(33),
         }
     }
 
@@ -82,7 +87,10 @@ impl IndexKind {
     pub(crate) fn home(self) -> IndexKind
         ensures { result ≡ home_of self }
     {
-        KINDS[self.slot()]
+        match self.slot() {
+            Some(slot) => KINDS[slot],
+            None => self,
+        }
     }
 
     /// The greatest pointer that a file of this kind may have. Of the ranges it is that of the last
@@ -109,12 +117,13 @@ impl IndexKind {
     }
 }
 
-/// The place of a single-byte encoding's index.
-fn slot_of_single_byte(encoding: Encoding) -> usize
+/// The place of a single-byte encoding's index, if it has one.
+fn slot_of_single_byte(encoding: Encoding) -> Option<usize>
     ensures value { result ≡ single_byte_slot encoding }
-    ensures bound { result < 27 }
+    ensures bound { IfSome result (λ slot. slot < 27) }
 {
-    match encoding {
+    let slot = match encoding {
+        Encoding::Ibm866 => 0,
         Encoding::Iso8859_2 => 1,
         Encoding::Iso8859_3 => 2,
         Encoding::Iso8859_4 => 3,
@@ -141,6 +150,7 @@ fn slot_of_single_byte(encoding: Encoding) -> usize
         Encoding::Windows1257 => 24,
         Encoding::Windows1258 => 25,
         Encoding::XMacCyrillic => 26,
-        _ => 0,
-    }
+        _ => return None,
+    };
+    Some(slot)
 }

@@ -1,7 +1,7 @@
 //! Index files of a few lines: what they spell, their faults, and look-ups in them.
 ghost use Rattle.std.specs.Prelude.{IsTrue};
 ghost use Rattle.index_loader.specs.Examples.{Faults, LookUps, Spellings};
-ghost use Rattle.index_loader.specs.SingleByte.{has_files_of};
+ghost use Rattle.index_loader.specs.Kinds.{has_files_of};
 
 use crate::fault::IndexCause;
 use crate::index::Index;
@@ -237,6 +237,21 @@ fn a_file_takes_the_place_of_its_kind(rt: HostRuntime) -> Result<(), Fail> {
     let index = indexes.get(visual).ok_or("no index")?;
     assert_eq!(rt; number_at(index, 96), None);
     assert_eq!(rt; number_at(index, 97), Some(0x05D1));
+    Ok(())
+}
+
+#[test]
+fn a_kind_without_files_has_no_index(rt: HostRuntime) -> Result<(), Fail> {
+    let mut indexes = Indexes::new();
+    let ibm866 = IndexKind::SingleByte(Encoding::Ibm866);
+    indexes.put(Index::parse(rt.alloc(), ibm866, b"0\t0x0410")?);
+    assert!(rt; indexes.get(ibm866).is_some());
+    assert!(rt; indexes.get(IndexKind::SingleByte(Encoding::Utf8)).is_none());
+    assert!(rt;
+        indexes
+            .get(IndexKind::SingleByte(Encoding::ShiftJis))
+            .is_none()
+    );
     Ok(())
 }
 

@@ -1,20 +1,15 @@
-//! The files that the program reads before it serves.
+//! The index files of a folder.
 ghost use Rattle.std.specs.Prelude.{IsTrue};
 ghost use Rattle.std.specs.List.{list_all};
-ghost use Rattle.index_loader.specs.SingleByte.{has_files_of};
+ghost use Rattle.index_loader.specs.Kinds.{has_files_of};
 
-use crate::command_line::Sources;
-use crate::failure::Failure;
-use enc_names::{Encoding, LabelFault, Labels};
+use crate::fault::{FolderFault, IndexFileFault};
+use crate::file::bytes_of;
+use enc_names::Encoding;
 use index_loader::{Index, IndexCause, IndexKind, Indexes};
-use std::alloc::{AllocError, Global};
-use std::fs;
-use std::io::{self, ErrorKind, Read};
+use std::alloc::Global;
 use std::path::Path;
 use std::rt::Files;
-
-/// The most bytes of a file.
-const FILE_LIMIT: u64 = 16_777_216;
 
 /// The index files, in the order in which they are read.
 const INDEX_FILES: [(IndexKind, &str); 34] = [
@@ -126,55 +121,22 @@ const INDEX_FILES: [(IndexKind, &str); 34] = [
     (IndexKind::Gb18030Ranges, "index-gb18030-ranges.txt"),
 ];
 
-/// Why a file can't be read.
-enum Unread {
-    Failed,
-    OutOfMemory,
-}
-
-impl From<AllocError> for Unread {
-    fn from(_: AllocError) -> Unread {
-        Unread::OutOfMemory
-    }
-}
-
-impl From<io::Error> for Unread {
-    fn from(error: io::Error) -> Unread {
-        match error.kind() {
-            ErrorKind::OutOfMemory => Unread::OutOfMemory,
-            _ => Unread::Failed,
-        }
-    }
-}
-
-impl Unread {
-    fn at(self, name: &str) -> Failure<'_> {
-        match self {
-            Unread::Failed => Failure::CannotRead(name),
-            Unread::OutOfMemory => Failure::OutOfMemory,
-        }
-    }
-}
-
-/// The index files of a folder, each read once, in the order of the list.
-pub fn indexes_in<'a, T: Files>(
-    rt: &T,
-    alloc: Global,
-    folder: &str,
-) -> Result<Indexes, Failure<'a>> {
+/// The index files of a folder, each read once, in the order of the list. One that isn't there is
+/// left out; a folder that isn't there has none.
+pub fn indexes_in<T: Files>(rt: &T, alloc: Global, folder: &str) -> Result<Indexes, FolderFault> {
     let mut indexes = Indexes::new();
     put_all(rt, alloc, folder, &INDEX_FILES, &mut indexes)?;
     Ok(indexes)
 }
 
 /// Puts the index files that are there among the others.
-fn put_all<'a, T: Files>(
+fn put_all<T: Files>(
     rt: &T,
     alloc: Global,
     folder: &str,
     files: &[(IndexKind, &'static str)],
     indexes: &mut Indexes,
-) -> Result<(), Failure<'a>>
+) -> Result<(), FolderFault>
     requires { IsTrue (list_all (λ file. has_files_of file.0) files.now) }
 {
     for (kind, name) in files {
@@ -184,24 +146,23 @@ fn put_all<'a, T: Files>(
 }
 
 /// Puts one index file among the others, if it is there.
-fn put_index<'a, T: Files>(
+fn put_index<T: Files>(
     rt: &T,
     alloc: Global,
     folder: &str,
     kind: IndexKind,
     name: &'static str,
     indexes: &mut Indexes,
-) -> Result<(), Failure<'a>>
+) -> Result<(), FolderFault>
     requires { IsTrue (has_files_of kind) }
 {
-    let path = match Path::new(folder).join(alloc, name) {
-        Ok(path) => path,
-        Err(_) => return Err(Failure::OutOfMemory),
+    let Ok(path) = Path::new(folder).join(alloc, name) else {
+        return Err(FolderFault::OutOfMemory);
     };
     let bytes = match bytes_of(rt, alloc, path.as_path()) {
         Ok(Some(bytes)) => bytes,
         Ok(None) => return Ok(()),
-        Err(unread) => return Err(unread.at(name)),
+        Err(unread) => return Err(unread.of_index_file(name)),
     };
     match Index::parse(alloc, kind, &bytes) {
         Ok(index) => {
@@ -209,54 +170,8 @@ fn put_index<'a, T: Files>(
             Ok(())
         }
         Err(fault) => Err(match fault.cause {
-            IndexCause::OutOfMemory => Failure::OutOfMemory,
-            _ => Failure::Index { name, fault },
+            IndexCause::OutOfMemory => FolderFault::OutOfMemory,
+            _ => FolderFault::Index(IndexFileFault { name, fault }),
         }),
     }
-}
-
-/// The labels of a label file, which has to be there.
-pub fn labels_in<'a, T: Files>(
-    rt: &T,
-    alloc: Global,
-    name: &'a str,
-) -> Result<Labels, Failure<'a>> {
-    let bytes = match bytes_of(rt, alloc, Path::new(name)) {
-        Ok(Some(bytes)) => bytes,
-        Ok(None) => return Err(Failure::CannotRead(name)),
-        Err(unread) => return Err(unread.at(name)),
-    };
-    labels_or(Labels::from_json(alloc, &bytes))
-}
-
-/// The names of the encodings as labels.
-pub fn names<'a>(alloc: Global) -> Result<Labels, Failure<'a>> {
-    labels_or(Labels::names(alloc))
-}
-
-fn labels_or<'a>(labels: Result<Labels, LabelFault>) -> Result<Labels, Failure<'a>> {
-    match labels {
-        Ok(labels) => Ok(labels),
-        Err(LabelFault::OutOfMemory) => Err(Failure::OutOfMemory),
-        Err(fault) => Err(Failure::Labels(fault)),
-    }
-}
-
-/// What a file holds, or `None` where there is no such file.
-fn bytes_of<T: Files>(rt: &T, alloc: Global, path: Path<'_>) -> Result<Option<Vec<u8>>, Unread> {
-    let file = match fs::open(rt, path) {
-        Ok(file) => file,
-        Err(error) => {
-            return match error.kind() {
-                ErrorKind::NotFound | ErrorKind::NotADirectory => Ok(None),
-                _ => Err(Unread::from(error)),
-            };
-        }
-    };
-    let mut bytes = Vec::new(alloc);
-    file.take(FILE_LIMIT + 1).read_to_end(&mut bytes)?;
-    if bytes.len() as u64 > FILE_LIMIT {
-        return Err(Unread::Failed);
-    }
-    Ok(Some(bytes))
 }

@@ -1,0 +1,35 @@
+//! The labels that clients name encodings by.
+
+use crate::failure::Failure;
+use enc_names::{LabelFault, Labels};
+use index_files::{Unread, bytes_of};
+use std::alloc::Global;
+use std::path::Path;
+use std::rt::Files;
+
+/// The labels of a label file, which has to be there.
+pub fn labels_in<'a, T: Files>(
+    rt: &T,
+    alloc: Global,
+    name: &'a str,
+) -> Result<Labels, Failure<'a>> {
+    let bytes = match bytes_of(rt, alloc, Path::new(name)) {
+        Ok(Some(bytes)) => bytes,
+        Ok(None) | Err(Unread::Failed) => return Err(Failure::CannotRead(name)),
+        Err(Unread::OutOfMemory) => return Err(Failure::OutOfMemory),
+    };
+    labels_or(Labels::from_json(alloc, &bytes))
+}
+
+/// The names of the encodings as labels.
+pub fn names<'a>(alloc: Global) -> Result<Labels, Failure<'a>> {
+    labels_or(Labels::names(alloc))
+}
+
+fn labels_or<'a>(labels: Result<Labels, LabelFault>) -> Result<Labels, Failure<'a>> {
+    match labels {
+        Ok(labels) => Ok(labels),
+        Err(LabelFault::OutOfMemory) => Err(Failure::OutOfMemory),
+        Err(fault) => Err(Failure::Labels(fault)),
+    }
+}

@@ -1,0 +1,10 @@
+//! The files that the programs read: the index files of a folder, and what a file holds.
+#![tactic(auto)]
+
+mod fault;
+mod file;
+mod folder;
+
+pub use fault::{FolderFault, IndexFileFault, Unread};
+pub use file::bytes_of;
+pub use folder::indexes_in;
