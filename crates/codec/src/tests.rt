@@ -76,7 +76,7 @@ fn decodes(
     assert_eq!(rt; whole.errors.as_slice(), errors.as_slice());
     let decoder = AnyDecoder::new(&indexes, encoding).ok_or(CodecFault::NoIndex)?;
     for cut in 0..bytes.len() {
-        let parts = decode_parts(alloc, &decoder, bytes, &[cut], &mut meter())?;
+        let parts = decode_parts(alloc, &decoder, bytes, 0, &[cut], &mut meter())?;
         assert_eq!(rt; parts.as_slice(), items, "cut at {cut}");
     }
     Ok(())

@@ -1,6 +1,7 @@
 -- Why the turns of most decoders come to an end, and how few items a step gives: a state holds at most three bytes, and a turn that goes on
--- holds the byte that it read or gives an item, with the bytes that it puts back being some of those.
-use Rattle.std.specs.Prelude.{◌≡◌, ◌≢◌, ℕ, ◌+◌, ◌*◌, ◌<◌, ◌≤◌, Bool, true, false, List, [], ◌∷◌, length, Some, None, if◌then◌else◌}
+-- holds the byte that it read, or gives an item, and then the bytes that it puts back and those that it still holds are together no more than
+-- were held.
+use Rattle.std.specs.Prelude.{◌≢◌, ℕ, ◌+◌, ◌*◌, ◌<◌, ◌≤◌, Bool, true, false, List, [], ◌∷◌, length, Some, None, if◌then◌else◌}
 use Rattle.std.proofs.Common.{refl, arith, length-append}
 use Rattle.decoder_core.specs.declared.item.Item.{Item}
 use Rattle.decoder_core.specs.declared.handler.Answer.TheVariants.{Finished}
@@ -26,8 +27,8 @@ pub record Holding {S : Type 0} (table : Table S) : Type 0 where
   pub at_end : (s : S) → AtEnd bytes (bytes s) (table s None)
 
 pub gives_at_byte : {S : Type 0} (bytes : S → ℕ) (held : ℕ) (next : S) (item : Item) (back : List ℕ)
-    → bytes next ≡ 0 → length back ≤ held → held ≤ 3 → AtByte bytes held (gives next item back)
-gives_at_byte bytes held next item back h k f =
+    → length back + bytes next ≤ held → held ≤ 3 → AtByte bytes held (gives next item back)
+gives_at_byte bytes held next item back h f =
     record { goes_on = λ e. Prim.cc; falls = Prim.omega arith; counts = Prim.omega arith }
 
 pub holds_at_byte : {S : Type 0} (bytes : S → ℕ) (held : ℕ) (next : S) → bytes next ≤ 1 + held → AtByte bytes held (holds next)
@@ -38,9 +39,9 @@ pub if_at_byte : {S : Type 0} (bytes : S → ℕ) (held : ℕ) (c : Bool) (x y :
 if_at_byte bytes held true x y h k = h
 if_at_byte bytes held false x y h k = k
 
-pub gives_at_end : {S : Type 0} (bytes : S → ℕ) (held : ℕ) (next : S) (item : Item)
-    → bytes next ≡ 0 → 1 ≤ held → AtEnd bytes held (gives next item [])
-gives_at_end bytes held next item h k = record { falls = λ _. Prim.omega arith; counts = Prim.omega arith }
+pub gives_at_end : {S : Type 0} (bytes : S → ℕ) (held : ℕ) (next : S) (item : Item) (back : List ℕ)
+    → length back + bytes next + 1 ≤ held → held ≤ 3 → AtEnd bytes held (gives next item back)
+gives_at_end bytes held next item back h f = record { falls = λ _. Prim.omega arith; counts = Prim.omega arith }
 
 pub finishes_at_end : {S : Type 0} (bytes : S → ℕ) (held : ℕ) (next : S) → bytes next ≤ held → AtEnd bytes held (finishes next)
 finishes_at_end bytes held next h = record { falls = λ n. absurd (n refl); counts = Prim.omega arith }
@@ -51,25 +52,25 @@ pub ruleset turns_at_byte = (gives_at_byte, holds_at_byte, if_at_byte)
 pub ruleset turns_at_end = (gives_at_end, finishes_at_end)
 
 module _ {S : Type 0} (table : Table S) (holding : Holding table) where
-  falls_at : (s : S) (q : List ℕ) → (turn_at table s q).answer ≢ Finished
+  pub falls_at : (s : S) (q : List ℕ) → (turn_at table s q).answer ≢ Finished
       → 8 * length (queue_after table s q) + 7 * holding.bytes (turn_at table s q).state < 8 * length q + 7 * holding.bytes s
   falls_at s [] n = let f = (holding.at_end s).falls n in Prim.omega (arith, length-append (table s None).back [])
   falls_at s (b ∷ q) n =
       let f = (holding.at_byte s b).falls in Prim.omega (arith, length-append (table s (Some b)).back q)
 
-  counts_at : (s : S) (q : List ℕ)
+  pub counts_at : (s : S) (q : List ℕ)
       → length (queue_after table s q) + holding.bytes (turn_at table s q).state + cost (turn_at table s q).answer ≤ length q + holding.bytes s
   counts_at s [] = let f = (holding.at_end s).counts in Prim.omega (arith, length-append (table s None).back [])
   counts_at s (b ∷ q) =
       let f = (holding.at_byte s b).counts in Prim.omega (arith, length-append (table s (Some b)).back q)
 
-  small_at : (s : S) → 7 * holding.bytes s < 32
+  pub small_at : (s : S) → 7 * holding.bytes s < 32
   small_at s = let f = holding.few s in Prim.omega arith
 
-  few_at : (s : S) → holding.bytes s ≤ 7
+  pub few_at : (s : S) → holding.bytes s ≤ 7
   few_at s = let f = holding.few s in Prim.omega arith
 
-  pub falls_of : Falls table
+  abbrev pub falls_of : Falls table
   falls_of = record {
     held = λ s. 7 * holding.bytes s;
     small = small_at;
@@ -77,5 +78,5 @@ module _ {S : Type 0} (table : Table S) (holding : Holding table) where
     stays = λ s b e o. absurd ((holding.at_byte s b).goes_on e);
   }
 
-  pub counts_of : Counts table
+  abbrev pub counts_of : Counts table
   counts_of = record { bytes = holding.bytes; few = few_at; costs = counts_at }

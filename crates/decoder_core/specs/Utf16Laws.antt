@@ -13,27 +13,27 @@ bytes_unless_null n (Some _) = n
 abbrev pub utf16_bytes : Utf16 → ℕ
 utf16_bytes s = bytes_unless_null 1 s.lead_byte + bytes_unless_null 2 s.lead_surrogate
 
-few_at : (first surrogate : Option ℕ) → bytes_unless_null 1 first + bytes_unless_null 2 surrogate ≤ 3
+pub few_at : (first surrogate : Option ℕ) → bytes_unless_null 1 first + bytes_unless_null 2 surrogate ≤ 3
 few_at None None = lit≤ tt
 few_at None (Some lead) = lit≤ tt
 few_at (Some b) None = lit≤ tt
 few_at (Some b) (Some lead) = lit≤ tt
 
-byte_at : (order : ByteOrder) (first surrogate : Option ℕ) (b : ℕ)
+pub byte_at : (order : ByteOrder) (first surrogate : Option ℕ) (b : ℕ)
     → AtByte utf16_bytes (bytes_unless_null 1 first + bytes_unless_null 2 surrogate) (utf16_byte order first surrogate b)
 byte_at order None None b = Prim.search (rules, turns_at_byte)
 byte_at order None (Some lead) b = Prim.search (rules, turns_at_byte)
 byte_at order (Some first) None b = Prim.search (rules, turns_at_byte)
 byte_at order (Some first) (Some lead) b = Prim.search (rules, turns_at_byte)
 
-end_at : (first surrogate : Option ℕ)
+pub end_at : (first surrogate : Option ℕ)
     → AtEnd utf16_bytes (bytes_unless_null 1 first + bytes_unless_null 2 surrogate) (utf16_end first surrogate)
 end_at None None = Prim.search (rules, turns_at_end)
 end_at None (Some lead) = Prim.search (rules, turns_at_end)
 end_at (Some first) None = Prim.search (rules, turns_at_end)
 end_at (Some first) (Some lead) = Prim.search (rules, turns_at_end)
 
-pub utf16_holding : (order : ByteOrder) → Holding (utf16 order)
+abbrev pub utf16_holding : (order : ByteOrder) → Holding (utf16 order)
 utf16_holding order = record {
   bytes = utf16_bytes;
   few = λ s. few_at s.lead_byte s.lead_surrogate;

@@ -2,8 +2,8 @@
 use Rattle.std.specs.Prelude.{ℕ, ◌+◌, ◌-◌, ◌*◌, Bool, ◌&&◌, nat_le, ◌==◌, List, [], ◌∷◌, Some, None, if◌then◌else◌}
 use Rattle.decoder_core.specs.declared.item.Item.{Item}
 use Rattle.decoder_core.specs.declared.item.Item.TheVariants.{One, Error}
-use Rattle.decoder_core.specs.declared.handler.Answer.TheVariants.{Nothing, Gives, Finished}
 use Rattle.decoder_core.specs.Queue.{Turn, Table}
+use Rattle.decoder_core.specs.Forms.{gives, holds, finishes, is_ascii}
 
 -- the Standard's five values: code point, bytes seen, bytes needed, lower boundary, upper boundary
 pub record Utf8 : Type 0 where
@@ -21,17 +21,17 @@ within low high b = nat_le low b && nat_le b high
 
 -- a code point, or an error, with nothing pending
 abbrev pub utf8_gives : Item → List ℕ → Turn Utf8
-utf8_gives item back = record { state = utf8_start; answer = Gives item; back = back }
+utf8_gives item back = gives utf8_start item back
 
 -- a lead byte of a sequence of needed + 1 bytes
 abbrev pub utf8_begins : ℕ → ℕ → ℕ → ℕ → Turn Utf8
 utf8_begins code_point needed lower upper =
-    record { state = record { code_point = code_point; seen = 0; needed = needed; lower = lower; upper = upper }; answer = Nothing; back = [] }
+    holds (record { code_point = code_point; seen = 0; needed = needed; lower = lower; upper = upper })
 
 -- a byte while no byte is needed
 abbrev pub utf8_first : ℕ → Turn Utf8
 utf8_first b =
-    if nat_le b 0x7F then utf8_gives (One b) []
+    if is_ascii b then utf8_gives (One b) []
     else if within 0xC2 0xDF b then utf8_begins (b - 0xC0) 1 0x80 0xBF
     else if within 0xE0 0xEF b then utf8_begins (b - 0xE0) 2 (if b == 0xE0 then 0xA0 else 0x80) (if b == 0xED then 0x9F else 0xBF)
     else if within 0xF0 0xF4 b then utf8_begins (b - 0xF0) 3 (if b == 0xF0 then 0x90 else 0x80) (if b == 0xF4 then 0x8F else 0xBF)
@@ -41,14 +41,10 @@ utf8_first b =
 abbrev pub utf8_trail : Utf8 → ℕ → Turn Utf8
 utf8_trail s code_point =
     if s.seen + 1 == s.needed then utf8_gives (One code_point) []
-    else record {
-      state = record { code_point = code_point; seen = s.seen + 1; needed = s.needed; lower = 0x80; upper = 0xBF };
-      answer = Nothing;
-      back = [];
-    }
+    else holds (record { code_point = code_point; seen = s.seen + 1; needed = s.needed; lower = 0x80; upper = 0xBF })
 
 abbrev pub utf8 : Table Utf8
-utf8 s None = if s.needed == 0 then record { state = s; answer = Finished; back = [] } else utf8_gives Error []
+utf8 s None = if s.needed == 0 then finishes s else utf8_gives Error []
 utf8 s (Some b) =
     if s.needed == 0 then utf8_first b
     else if within s.lower s.upper b then utf8_trail s (64 * s.code_point + (b - 0x80))

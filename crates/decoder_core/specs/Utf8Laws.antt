@@ -1,10 +1,11 @@
 -- Why UTF-8's turns end, and how few items a step gives.
-use Rattle.std.proofs.Common.{◌≡◌, ◌≢◌, ℕ, ◌+◌, ◌*◌, ◌<◌, ◌≤◌, false, ◌==◌, List, [], ◌∷◌, ◌++◌, length, Some, if◌then◌else◌, nat_le, arith, refl, lit<, lit≤}
+use Rattle.std.proofs.Common.{◌≡◌, ◌≢◌, ℕ, ◌+◌, ◌*◌, ◌<◌, ◌≤◌, false, ◌==◌, List, [], ◌∷◌, ◌++◌, length, Some, if◌then◌else◌, arith, refl, lit<, lit≤}
 use Rattle.decoder_core.specs.declared.item.Item.{Item}
 use Rattle.decoder_core.specs.declared.item.Item.TheVariants.{Error}
-use Rattle.decoder_core.specs.declared.handler.Answer.TheVariants.{Nothing, Finished}
+use Rattle.decoder_core.specs.declared.handler.Answer.TheVariants.{Finished}
 use Rattle.decoder_core.specs.Queue.{Turn, Falls, turn_at, queue_after}
 use Rattle.decoder_core.specs.Counts.{Counts, cost}
+use Rattle.decoder_core.specs.Forms.{holds, is_ascii}
 use Rattle.decoder_core.specs.Utf8.{Utf8, utf8, utf8_gives, utf8_begins, within}
 use Rattle.decoder_core.specs.ByCases.{by_if, by_test}
 
@@ -12,17 +13,13 @@ use Rattle.decoder_core.specs.ByCases.{by_if, by_test}
 pub utf8_turn : (P : Turn Utf8 → Type 0) (s : Utf8) (b : ℕ)
     → ((i : Item) → P (utf8_gives i []))
     → ((c n l u : ℕ) → (n == 0) ≡ false → P (utf8_begins c n l u))
-    → ((c : ℕ) → P (record {
-      state = record { code_point = c; seen = s.seen + 1; needed = s.needed; lower = 0x80; upper = 0xBF };
-      answer = Nothing;
-      back = [];
-    }))
+    → ((c : ℕ) → P (holds (record { code_point = c; seen = s.seen + 1; needed = s.needed; lower = 0x80; upper = 0xBF })))
     → ((s.needed == 0) ≡ false → P (utf8_gives Error (b ∷ [])))
     → P (utf8 s (Some b))
 utf8_turn P s b gives begins goes fails =
     by_test P (s.needed == 0)
     (λ _.
-    by_if P (nat_le b 0x7F) (gives _)
+    by_if P (is_ascii b) (gives _)
     (by_if P (within 0xC2 0xDF b) (begins _ 1 _ _ refl)
     (by_if P (within 0xE0 0xEF b) (begins _ 2 _ _ refl)
     (by_if P (within 0xF0 0xF4 b) (begins _ 3 _ _ refl) (gives Error)))))

@@ -8,12 +8,14 @@ use crate::placed::Placed;
 use crate::sink::Sink;
 use std::alloc::AllocError;
 
-/// The items so far, the number of bytes before the part that is now decoded, and the end of the
-/// last item.
+/// What was collected.
 #[derive(Drop)]
 pub struct Collector {
+    /// The items so far.
     pub all: Vec<Placed>,
+    /// The number of bytes before the part that is now decoded.
     pub base: u64,
+    /// The end of the last item, where the next begins.
     pub from: u64,
 }
 

@@ -10,14 +10,18 @@ use crate::items::Items;
 /// read so far that lie behind its end.
 #[derive(Drop)]
 pub struct Step<S> {
+    /// The state behind the byte.
     pub state: S,
+    /// The items in order.
     pub items: Items,
 }
 
 /// A step that gives at most one item, behind whose end no byte lies.
 #[derive(Clone, Copy, PartialEq, Eq, Debug)]
 pub struct Simple<S> {
+    /// The state behind the byte.
     pub state: S,
+    /// The item, if the step gives one.
     pub item: Option<Item>,
 }
 

@@ -6,10 +6,15 @@ ghost use Rattle.decoder_core.specs.Queue.{front, behind};
 /// The bytes that a handler puts back in front of the queue, the first first.
 #[derive(Clone, Copy, PartialEq, Eq, Debug)]
 pub enum Few {
+    /// No byte.
     Zero,
+    /// The byte that was read, as most turns that put any back.
     One(u8),
+    /// Two bytes.
     Two(u8, u8),
+    /// Three bytes.
     Three(u8, u8, u8),
+    /// Four bytes: a byte that is put back while three others are still to be read again.
     Four(u8, u8, u8, u8),
 }
 

@@ -1,7 +1,8 @@
-//! The forms of a decoder's turns.
+//! The forms of a decoder's turns, for a handler to answer.
 ghost use Rattle.std.specs.Prelude.{◌≡◌, []};
 ghost use Rattle.std.specs.Char.{IsScalar};
 ghost use Rattle.decoder_core.specs.declared.handler.Answer.TheVariants.{Nothing, Gives, Finished};
+ghost use Rattle.decoder_core.specs.declared.item.Item.TheVariants.{One};
 ghost use Rattle.decoder_core.specs.Few.{bytes_of};
 
 use crate::few::Few;
@@ -10,7 +11,7 @@ use crate::item::Item;
 use enc_names::Scalar;
 
 /// A turn that gives an item.
-pub(crate) fn give<S>(next: S, item: Item) -> Handled<S>
+pub fn give<S>(next: S, item: Item) -> Handled<S>
     ensures state { result.state ≡ next }
     ensures answer { result.answer ≡ Gives item }
     ensures back { bytes_of result.back ≡ [] }
@@ -18,8 +19,18 @@ pub(crate) fn give<S>(next: S, item: Item) -> Handled<S>
     restore(next, item, Few::Zero)
 }
 
+/// A turn that gives one code point, of which this is the number.
+pub fn give_one<S>(next: S, code_point: u32) -> Handled<S>
+    requires { IsScalar code_point }
+    ensures state { result.state ≡ next }
+    ensures answer { result.answer ≡ Gives (One code_point) }
+    ensures back { bytes_of result.back ≡ [] }
+{
+    give(next, Item::One(scalar(code_point)))
+}
+
 /// A turn that gives an item and puts bytes back.
-pub(crate) fn restore<S>(next: S, item: Item, back: Few) -> Handled<S>
+pub fn restore<S>(next: S, item: Item, back: Few) -> Handled<S>
     ensures state { result.state ≡ next }
     ensures answer { result.answer ≡ Gives item }
     ensures back { result.back ≡ back }
@@ -31,8 +42,8 @@ pub(crate) fn restore<S>(next: S, item: Item, back: Few) -> Handled<S>
     }
 }
 
-/// A turn that holds what it read.
-pub(crate) fn hold<S>(next: S) -> Handled<S>
+/// A turn that holds what it read, or takes no notice of it ("continue").
+pub fn hold<S>(next: S) -> Handled<S>
     ensures state { result.state ≡ next }
     ensures answer { result.answer ≡ Nothing }
     ensures back { bytes_of result.back ≡ [] }
@@ -45,7 +56,7 @@ pub(crate) fn hold<S>(next: S) -> Handled<S>
 }
 
 /// A turn that finishes.
-pub(crate) fn finish<S>(next: S) -> Handled<S>
+pub fn finish<S>(next: S) -> Handled<S>
     ensures state { result.state ≡ next }
     ensures answer { result.answer ≡ Finished }
     ensures back { bytes_of result.back ≡ [] }
@@ -58,7 +69,7 @@ pub(crate) fn finish<S>(next: S) -> Handled<S>
 }
 
 /// The scalar value of this number.
-pub(crate) fn scalar(value: u32) -> Scalar
+pub fn scalar(value: u32) -> Scalar
     requires { IsScalar value }
     ensures { result ≡ value }
 {

@@ -10,16 +10,22 @@ use crate::item::Item;
 /// What a handler answers (Encoding Standard, "Encodings"): continue, an item, or finished.
 #[derive(Clone, Copy, PartialEq, Eq, Debug)]
 pub enum Answer {
+    /// Continue: the next byte is read.
     Nothing,
+    /// One or more code points, or an error.
     Gives(Item),
+    /// Finished: no more is read.
     Finished,
 }
 
 /// What one turn of a handler does: the next state, its answer, and the bytes put back.
 #[derive(Clone, Copy, PartialEq, Eq, Debug)]
 pub struct Handled<S> {
+    /// The state in which the next turn is taken.
     pub state: S,
+    /// What the turn gives.
     pub answer: Answer,
+    /// The bytes that the next turns read before any other.
     pub back: Few,
 }
 

@@ -9,15 +9,20 @@ use std::marker::Model;
 /// pairs written.
 #[derive(Drop)]
 pub enum Held {
+    /// No item.
     Zero,
+    /// One item.
     One(Ended),
+    /// Two items or more.
     More(Many),
 }
 
 /// The first `len` of eight places.
 #[derive(Drop)]
 pub struct Many {
+    /// The items, and others that don't count.
     pub all: [Ended; 8],
+    /// The number of items that count.
     pub len: u8,
 }
 

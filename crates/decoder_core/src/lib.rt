@@ -9,7 +9,7 @@ mod decoder;
 #[cfg(test)]
 mod examples;
 mod few;
-mod forms;
+pub mod forms;
 mod handler;
 mod item;
 mod items;

@@ -3,5 +3,6 @@
 /// Where a decoder stands that holds nothing between two bytes.
 #[derive(Clone, Copy, PartialEq, Eq, Debug)]
 pub enum OneByteState {
+    /// Nothing is pending.
     Idle,
 }

@@ -14,15 +14,17 @@ use crate::placed::Placed;
 use std::alloc::Global;
 
 /// Decodes the bytes in parts of the given lengths, the last part being what is left: whatever the
-/// parts are, the answer is the Standard's run over all the bytes, with each item's place.
+/// parts are, the answer is the Standard's run over all the bytes, with each item's place. The
+/// first item begins at byte number `from`: the bytes of a byte order mark belong to no item.
 pub fn decode_parts<D: Decoder>(
     alloc: Global,
     decoder: &D,
     bytes: &[u8],
+    from: u64,
     lengths: &[usize],
     meter: &mut Meter,
 ) -> Result<Vec<Placed>, OutOfMemory>
-    ensures items { IfOk result (λ all. all.items ≡ places (length bytes.now) 0 (run (D.table decoder.now) (D.initial decoder.now) bytes.now)) }
+    ensures items { IfOk result (λ all. all.items ≡ places (length bytes.now) from (run (D.table decoder.now) (D.initial decoder.now) bytes.now)) }
     ensures meter { OnOk result (meter.new ≡ min (meter.old + length bytes.now) (2 ^ 64 - 1)) }
     ensures meter_least { meter.old ≤ meter.new }
     ensures meter_most { meter.new ≤ min (meter.old + length bytes.now) (2 ^ 64 - 1) }
@@ -30,7 +32,7 @@ pub fn decode_parts<D: Decoder>(
     let mut collector = Collector {
         all: Vec::new(alloc),
         base: 0,
-        from: 0,
+        from,
     };
     let mut state = decoder.start();
     let mut rest = bytes;

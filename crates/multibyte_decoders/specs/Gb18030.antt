@@ -2,11 +2,12 @@
 use Rattle.std.specs.Prelude.{ℕ, ◌+◌, ◌-◌, ◌*◌, Bool, ◌||◌, nat_lt, ◌==◌, [], ◌∷◌, Option, Some, None, if◌then◌else◌}
 use Rattle.decoder_core.specs.declared.item.Item.TheVariants.{One, Error}
 use Rattle.decoder_core.specs.Queue.{Turn}
+use Rattle.decoder_core.specs.Forms.{gives, holds, finishes, is_ascii}
 use Rattle.decoder_core.specs.Utf8.{within}
 use Rattle.index_loader.specs.Index.{Loaded}
 use Rattle.multibyte_decoders.specs.declared.gb18030.Gb18030State.{Gb18030State}
 use Rattle.multibyte_decoders.specs.declared.gb18030.Gb18030State.TheVariants.{Idle, First, Second, Third}
-use Rattle.multibyte_decoders.specs.Pairs.{gives, holds, finishes, is_ascii, completes, one_of}
+use Rattle.multibyte_decoders.specs.Pairs.{completes, one_of}
 
 abbrev pub is_gb18030_trail : ℕ → Bool
 is_gb18030_trail b = within 0x40 0x7E b || within 0x80 0xFE b

@@ -1,13 +1,14 @@
 -- The states of each decoder here hold at most three bytes, and its turns keep to that.
 use Rattle.std.specs.Prelude.{ℕ, ◌≤◌, Option, Some, None}
 use Rattle.std.proofs.Common.{arith, rules}
+use Rattle.decoder_core.specs.Holding.{AtByte, AtEnd, Holding, turns_at_end}
 use Rattle.multibyte_decoders.specs.declared.pairs.PairState.{PairState}
 use Rattle.multibyte_decoders.specs.declared.pairs.PairState.TheVariants.{Idle, Lead}
 use Rattle.multibyte_decoders.specs.declared.euc_jp.EucJpState.{EucJpState}
 use Rattle.multibyte_decoders.specs.declared.euc_jp.EucJpState.TheVariants.{Idle as euc_jp_idle, Lead as euc_jp_lead, Jis0212Lead}
 use Rattle.multibyte_decoders.specs.declared.gb18030.Gb18030State.{Gb18030State}
 use Rattle.multibyte_decoders.specs.declared.gb18030.Gb18030State.TheVariants.{Idle as gb18030_idle, First, Second, Third}
-use Rattle.multibyte_decoders.specs.Holding.{AtByte, AtEnd, Holding, turns_at_byte, turns_at_end}
+use Rattle.multibyte_decoders.specs.Holding.{turns_at_byte}
 use Rattle.multibyte_decoders.specs.ShiftJis.{shift_jis}
 use Rattle.multibyte_decoders.specs.EucJp.{euc_jp}
 use Rattle.multibyte_decoders.specs.EucKr.{euc_kr}
@@ -30,30 +31,30 @@ gb18030_bytes (First first) = 1
 gb18030_bytes (Second first second) = 2
 gb18030_bytes (Third first second third) = 3
 
-pair_few : (s : PairState) → pair_bytes s ≤ 3
+pub pair_few : (s : PairState) → pair_bytes s ≤ 3
 pair_few Idle = Prim.omega arith
 pair_few (Lead lead) = Prim.omega arith
 
-euc_jp_few : (s : EucJpState) → euc_jp_bytes s ≤ 3
+pub euc_jp_few : (s : EucJpState) → euc_jp_bytes s ≤ 3
 euc_jp_few euc_jp_idle = Prim.omega arith
 euc_jp_few (euc_jp_lead lead) = Prim.omega arith
 euc_jp_few (Jis0212Lead lead) = Prim.omega arith
 
-gb18030_few : (s : Gb18030State) → gb18030_bytes s ≤ 3
+pub gb18030_few : (s : Gb18030State) → gb18030_bytes s ≤ 3
 gb18030_few gb18030_idle = Prim.omega arith
 gb18030_few (First first) = Prim.omega arith
 gb18030_few (Second first second) = Prim.omega arith
 gb18030_few (Third first second third) = Prim.omega arith
 
-shift_jis_byte : (jis0208 : ℕ → Option ℕ) (s : PairState) (b : ℕ) → AtByte pair_bytes (pair_bytes s) (shift_jis jis0208 s (Some b))
+pub shift_jis_byte : (jis0208 : ℕ → Option ℕ) (s : PairState) (b : ℕ) → AtByte pair_bytes (pair_bytes s) (shift_jis jis0208 s (Some b))
 shift_jis_byte jis0208 Idle b = Prim.search (rules, turns_at_byte)
 shift_jis_byte jis0208 (Lead lead) b = Prim.search (rules, turns_at_byte)
 
-shift_jis_end : (jis0208 : ℕ → Option ℕ) (s : PairState) → AtEnd pair_bytes (pair_bytes s) (shift_jis jis0208 s None)
+pub shift_jis_end : (jis0208 : ℕ → Option ℕ) (s : PairState) → AtEnd pair_bytes (pair_bytes s) (shift_jis jis0208 s None)
 shift_jis_end jis0208 Idle = Prim.search (rules, turns_at_end)
 shift_jis_end jis0208 (Lead lead) = Prim.search (rules, turns_at_end)
 
-pub shift_jis_holding : (jis0208 : ℕ → Option ℕ) → Holding (shift_jis jis0208)
+abbrev pub shift_jis_holding : (jis0208 : ℕ → Option ℕ) → Holding (shift_jis jis0208)
 shift_jis_holding jis0208 = record {
   bytes = pair_bytes;
   few = pair_few;
@@ -61,15 +62,15 @@ shift_jis_holding jis0208 = record {
   at_end = shift_jis_end jis0208;
 }
 
-euc_kr_byte : (index : ℕ → Option ℕ) (s : PairState) (b : ℕ) → AtByte pair_bytes (pair_bytes s) (euc_kr index s (Some b))
+pub euc_kr_byte : (index : ℕ → Option ℕ) (s : PairState) (b : ℕ) → AtByte pair_bytes (pair_bytes s) (euc_kr index s (Some b))
 euc_kr_byte index Idle b = Prim.search (rules, turns_at_byte)
 euc_kr_byte index (Lead lead) b = Prim.search (rules, turns_at_byte)
 
-euc_kr_end : (index : ℕ → Option ℕ) (s : PairState) → AtEnd pair_bytes (pair_bytes s) (euc_kr index s None)
+pub euc_kr_end : (index : ℕ → Option ℕ) (s : PairState) → AtEnd pair_bytes (pair_bytes s) (euc_kr index s None)
 euc_kr_end index Idle = Prim.search (rules, turns_at_end)
 euc_kr_end index (Lead lead) = Prim.search (rules, turns_at_end)
 
-pub euc_kr_holding : (index : ℕ → Option ℕ) → Holding (euc_kr index)
+abbrev pub euc_kr_holding : (index : ℕ → Option ℕ) → Holding (euc_kr index)
 euc_kr_holding index = record {
   bytes = pair_bytes;
   few = pair_few;
@@ -77,15 +78,15 @@ euc_kr_holding index = record {
   at_end = euc_kr_end index;
 }
 
-big5_byte : (index : ℕ → Option ℕ) (s : PairState) (b : ℕ) → AtByte pair_bytes (pair_bytes s) (big5 index s (Some b))
+pub big5_byte : (index : ℕ → Option ℕ) (s : PairState) (b : ℕ) → AtByte pair_bytes (pair_bytes s) (big5 index s (Some b))
 big5_byte index Idle b = Prim.search (rules, turns_at_byte)
 big5_byte index (Lead lead) b = Prim.search (rules, turns_at_byte)
 
-big5_end : (index : ℕ → Option ℕ) (s : PairState) → AtEnd pair_bytes (pair_bytes s) (big5 index s None)
+pub big5_end : (index : ℕ → Option ℕ) (s : PairState) → AtEnd pair_bytes (pair_bytes s) (big5 index s None)
 big5_end index Idle = Prim.search (rules, turns_at_end)
 big5_end index (Lead lead) = Prim.search (rules, turns_at_end)
 
-pub big5_holding : (index : ℕ → Option ℕ) → Holding (big5 index)
+abbrev pub big5_holding : (index : ℕ → Option ℕ) → Holding (big5 index)
 big5_holding index = record {
   bytes = pair_bytes;
   few = pair_few;
@@ -93,17 +94,17 @@ big5_holding index = record {
   at_end = big5_end index;
 }
 
-euc_jp_byte : (jis0208 jis0212 : ℕ → Option ℕ) (s : EucJpState) (b : ℕ) → AtByte euc_jp_bytes (euc_jp_bytes s) (euc_jp jis0208 jis0212 s (Some b))
+pub euc_jp_byte : (jis0208 jis0212 : ℕ → Option ℕ) (s : EucJpState) (b : ℕ) → AtByte euc_jp_bytes (euc_jp_bytes s) (euc_jp jis0208 jis0212 s (Some b))
 euc_jp_byte jis0208 jis0212 euc_jp_idle b = Prim.search (rules, turns_at_byte)
 euc_jp_byte jis0208 jis0212 (euc_jp_lead lead) b = Prim.search (rules, turns_at_byte)
 euc_jp_byte jis0208 jis0212 (Jis0212Lead lead) b = Prim.search (rules, turns_at_byte)
 
-euc_jp_end : (jis0208 jis0212 : ℕ → Option ℕ) (s : EucJpState) → AtEnd euc_jp_bytes (euc_jp_bytes s) (euc_jp jis0208 jis0212 s None)
+pub euc_jp_end : (jis0208 jis0212 : ℕ → Option ℕ) (s : EucJpState) → AtEnd euc_jp_bytes (euc_jp_bytes s) (euc_jp jis0208 jis0212 s None)
 euc_jp_end jis0208 jis0212 euc_jp_idle = Prim.search (rules, turns_at_end)
 euc_jp_end jis0208 jis0212 (euc_jp_lead lead) = Prim.search (rules, turns_at_end)
 euc_jp_end jis0208 jis0212 (Jis0212Lead lead) = Prim.search (rules, turns_at_end)
 
-pub euc_jp_holding : (jis0208 jis0212 : ℕ → Option ℕ) → Holding (euc_jp jis0208 jis0212)
+abbrev pub euc_jp_holding : (jis0208 jis0212 : ℕ → Option ℕ) → Holding (euc_jp jis0208 jis0212)
 euc_jp_holding jis0208 jis0212 = record {
   bytes = euc_jp_bytes;
   few = euc_jp_few;
@@ -115,19 +116,19 @@ gb18030_ranged_byte : (found : Option ℕ) → AtByte gb18030_bytes 3 (gb18030_r
 gb18030_ranged_byte (Some c) = Prim.search (rules, turns_at_byte)
 gb18030_ranged_byte None = Prim.search (rules, turns_at_byte)
 
-gb18030_byte : (index ranges : ℕ → Option ℕ) (s : Gb18030State) (b : ℕ) → AtByte gb18030_bytes (gb18030_bytes s) (gb18030 index ranges s (Some b))
+pub gb18030_byte : (index ranges : ℕ → Option ℕ) (s : Gb18030State) (b : ℕ) → AtByte gb18030_bytes (gb18030_bytes s) (gb18030 index ranges s (Some b))
 gb18030_byte index ranges gb18030_idle b = Prim.search (rules, turns_at_byte)
 gb18030_byte index ranges (First first) b = Prim.search (rules, turns_at_byte)
 gb18030_byte index ranges (Second first second) b = Prim.search (rules, turns_at_byte)
 gb18030_byte index ranges (Third first second third) b = Prim.search (rules, turns_at_byte, gb18030_ranged_byte)
 
-gb18030_end : (index ranges : ℕ → Option ℕ) (s : Gb18030State) → AtEnd gb18030_bytes (gb18030_bytes s) (gb18030 index ranges s None)
+pub gb18030_end : (index ranges : ℕ → Option ℕ) (s : Gb18030State) → AtEnd gb18030_bytes (gb18030_bytes s) (gb18030 index ranges s None)
 gb18030_end index ranges gb18030_idle = Prim.search (rules, turns_at_end)
 gb18030_end index ranges (First first) = Prim.search (rules, turns_at_end)
 gb18030_end index ranges (Second first second) = Prim.search (rules, turns_at_end)
 gb18030_end index ranges (Third first second third) = Prim.search (rules, turns_at_end)
 
-pub gb18030_holding : (index ranges : ℕ → Option ℕ) → Holding (gb18030 index ranges)
+abbrev pub gb18030_holding : (index ranges : ℕ → Option ℕ) → Holding (gb18030 index ranges)
 gb18030_holding index ranges = record {
   bytes = gb18030_bytes;
   few = gb18030_few;

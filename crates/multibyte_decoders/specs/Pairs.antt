@@ -1,25 +1,16 @@
 -- What the decoders of multi-byte encodings have in common (Encoding Standard, "Legacy multi-byte Chinese", "Japanese" and "Korean encodings").
-use Rattle.std.specs.Prelude.{ℕ, Bool, nat_le, List, [], ◌∷◌, Option, Some, None, if◌then◌else◌}
+use Rattle.std.specs.Prelude.{ℕ, Bool, List, [], ◌∷◌, Option, Some, None, if◌then◌else◌}
 use Rattle.decoder_core.specs.declared.item.Item.{Item}
 use Rattle.decoder_core.specs.declared.item.Item.TheVariants.{One, Error}
-use Rattle.decoder_core.specs.declared.handler.Answer.TheVariants.{Nothing, Gives, Finished}
 use Rattle.decoder_core.specs.Queue.{Turn}
+use Rattle.decoder_core.specs.Forms.{gives, holds, is_ascii}
 
--- a turn that gives an item and puts bytes back
-abbrev pub gives : {S : Type 0} → S → Item → List ℕ → Turn S
-gives next item back = record { state = next; answer = Gives item; back = back }
-
--- a turn that holds what it read
-abbrev pub holds : {S : Type 0} → S → Turn S
-holds next = record { state = next; answer = Nothing; back = [] }
-
--- the end with nothing pending
-abbrev pub finishes : {S : Type 0} → S → Turn S
-finishes next = record { state = next; answer = Finished; back = [] }
-
--- an ASCII byte (Encoding Standard, "Terminology")
-abbrev pub is_ascii : ℕ → Bool
-is_ascii b = nat_le b 0x7F
+-- a byte with no lead pending: an ASCII byte is itself, a lead is held in a state of its own, and all else is an error
+abbrev pub begins : {S : Type 0} → S → Bool → S → ℕ → Turn S
+begins idle is_lead held b =
+    if is_ascii b then gives idle (One b) []
+    else if is_lead then holds held
+    else gives idle Error []
 
 -- the last byte of what has no code point is put back if it is an ASCII byte
 abbrev pub ascii_back : ℕ → List ℕ

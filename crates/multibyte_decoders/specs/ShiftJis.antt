@@ -2,10 +2,11 @@
 use Rattle.std.specs.Prelude.{ℕ, ◌+◌, ◌-◌, ◌*◌, Bool, ◌||◌, nat_le, nat_lt, [], Option, Some, None, if◌then◌else◌}
 use Rattle.decoder_core.specs.declared.item.Item.TheVariants.{One, Error}
 use Rattle.decoder_core.specs.Queue.{Turn}
+use Rattle.decoder_core.specs.Forms.{gives, holds, finishes}
 use Rattle.decoder_core.specs.Utf8.{within}
 use Rattle.multibyte_decoders.specs.declared.pairs.PairState.{PairState}
 use Rattle.multibyte_decoders.specs.declared.pairs.PairState.TheVariants.{Idle, Lead}
-use Rattle.multibyte_decoders.specs.Pairs.{gives, holds, finishes, completes, one_of}
+use Rattle.multibyte_decoders.specs.Pairs.{completes, one_of}
 
 abbrev pub is_shift_jis_lead : ℕ → Bool
 is_shift_jis_lead b = within 0x81 0x9F b || within 0xE0 0xFC b

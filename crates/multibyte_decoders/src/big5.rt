@@ -2,15 +2,15 @@
 ghost use Rattle.std.specs.Prelude.{◌≡◌};
 ghost use Rattle.std.proofs.Common.{rules};
 ghost use Rattle.index_loader.specs.Index.{code_point_of};
-ghost use Rattle.decoder_core.specs.Few.{bytes_of};
+ghost use Rattle.decoder_core.specs.Holding.{falls_of, counts_of};
 ghost use Rattle.multibyte_decoders.specs.declared.pairs.PairState.TheVariants.{Idle};
-ghost use Rattle.multibyte_decoders.specs.Big5.{big5, big5_single, big5_pair, big5_pointer, big5_item};
-ghost use Rattle.multibyte_decoders.specs.Holding.{falls_of, counts_of};
+ghost use Rattle.multibyte_decoders.specs.Big5.{big5, big5_pair, big5_pointer, big5_item};
 ghost use Rattle.multibyte_decoders.specs.Holdings.{big5_holding};
 
 use crate::pairs::PairState;
-use crate::turns::{complete, finish, give, give_one, hold, one_of, scalar};
-use decoder_core::{Few, Handled, Handler, Item};
+use crate::turns::{begin, complete, one_of};
+use decoder_core::forms::{finish, give, scalar};
+use decoder_core::{Handled, Handler, Item};
 use index_loader::Index;
 use std::marker::Model;
 
@@ -69,19 +69,6 @@ fn pointer(lead: u8, trail: u8) -> u32
     u32::from(lead.saturating_sub(0x81)) * 157 + u32::from(trail.saturating_sub(trail_offset))
 }
 
-/// A byte with no lead pending.
-fn single(byte: u8) -> Handled<PairState>
-    ensures state { result.state ≡ (big5_single byte).state }
-    ensures answer { result.answer ≡ (big5_single byte).answer }
-    ensures back { bytes_of result.back ≡ (big5_single byte).back }
-{
-    match byte {
-        0..=0x7F => give_one(PairState::Idle, u32::from(byte)),
-        0x81..=0xFE => hold(PairState::Lead(byte)),
-        _ => give(PairState::Idle, Item::Error, Few::Zero),
-    }
-}
-
 impl<'i> Handler for Big5Decoder<'i> {
     type State = PairState;
 
@@ -96,8 +83,11 @@ impl<'i> Handler for Big5Decoder<'i> {
     fn turn(&self, state: PairState, byte: Option<u8>) -> Handled<PairState> {
         match (state, byte) {
             (PairState::Idle, None) => finish(PairState::Idle),
-            (PairState::Lead(_), None) => give(PairState::Idle, Item::Error, Few::Zero),
-            (PairState::Idle, Some(byte)) => single(byte),
+            (PairState::Lead(_), None) => give(PairState::Idle, Item::Error),
+            (PairState::Idle, Some(byte)) => {
+                let is_lead = (0x81..=0xFE).contains(&byte);
+                begin(PairState::Idle, is_lead, PairState::Lead(byte), byte)
+            }
             (PairState::Lead(lead), Some(byte)) => {
                 complete(PairState::Idle, self.pair(lead, byte), byte)
             }

@@ -3,13 +3,14 @@ ghost use Rattle.std.specs.Prelude.{◌≡◌};
 ghost use Rattle.std.proofs.Common.{rules};
 ghost use Rattle.index_loader.specs.Index.{code_point_of};
 ghost use Rattle.decoder_core.specs.Few.{bytes_of};
+ghost use Rattle.decoder_core.specs.Holding.{falls_of, counts_of};
 ghost use Rattle.multibyte_decoders.specs.declared.euc_jp.EucJpState.TheVariants.{Idle};
-ghost use Rattle.multibyte_decoders.specs.EucJp.{euc_jp, euc_jp_single, euc_jp_second, euc_jp_pair, euc_jp_pointer};
-ghost use Rattle.multibyte_decoders.specs.Holding.{falls_of, counts_of};
+ghost use Rattle.multibyte_decoders.specs.EucJp.{euc_jp, euc_jp_second, euc_jp_pair, euc_jp_pointer};
 ghost use Rattle.multibyte_decoders.specs.Holdings.{euc_jp_holding};
 
-use crate::turns::{complete, finish, give, give_one, hold, one_of};
-use decoder_core::{Few, Handled, Handler, Item};
+use crate::turns::{begin, complete, one_of};
+use decoder_core::forms::{finish, give, give_one, hold};
+use decoder_core::{Handled, Handler, Item};
 use enc_names::Scalar;
 use index_loader::Index;
 use std::marker::Model;
@@ -79,19 +80,6 @@ fn pair(index: &Index, lead: u8, byte: u8) -> Option<Scalar>
     }
 }
 
-/// A byte with no lead pending.
-fn single(byte: u8) -> Handled<EucJpState>
-    ensures state { result.state ≡ (euc_jp_single byte).state }
-    ensures answer { result.answer ≡ (euc_jp_single byte).answer }
-    ensures back { bytes_of result.back ≡ (euc_jp_single byte).back }
-{
-    match byte {
-        0..=0x7F => give_one(EucJpState::Idle, u32::from(byte)),
-        0x8E | 0x8F | 0xA1..=0xFE => hold(EucJpState::Lead(byte)),
-        _ => give(EucJpState::Idle, Item::Error, Few::Zero),
-    }
-}
-
 impl<'i> Handler for EucJpDecoder<'i> {
     type State = EucJpState;
 
@@ -106,8 +94,11 @@ impl<'i> Handler for EucJpDecoder<'i> {
     fn turn(&self, state: EucJpState, byte: Option<u8>) -> Handled<EucJpState> {
         match (state, byte) {
             (EucJpState::Idle, None) => finish(EucJpState::Idle),
-            (_, None) => give(EucJpState::Idle, Item::Error, Few::Zero),
-            (EucJpState::Idle, Some(byte)) => single(byte),
+            (_, None) => give(EucJpState::Idle, Item::Error),
+            (EucJpState::Idle, Some(byte)) => {
+                let is_lead = matches!(byte, 0x8E | 0x8F | 0xA1..=0xFE);
+                begin(EucJpState::Idle, is_lead, EucJpState::Lead(byte), byte)
+            }
             (EucJpState::Lead(lead), Some(byte)) => self.second(lead, byte),
             (EucJpState::Jis0212Lead(lead), Some(byte)) => complete(
                 EucJpState::Idle,

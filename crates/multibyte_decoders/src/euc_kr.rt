@@ -2,15 +2,15 @@
 ghost use Rattle.std.specs.Prelude.{◌≡◌};
 ghost use Rattle.std.proofs.Common.{rules};
 ghost use Rattle.index_loader.specs.Index.{code_point_of};
-ghost use Rattle.decoder_core.specs.Few.{bytes_of};
+ghost use Rattle.decoder_core.specs.Holding.{falls_of, counts_of};
 ghost use Rattle.multibyte_decoders.specs.declared.pairs.PairState.TheVariants.{Idle};
-ghost use Rattle.multibyte_decoders.specs.EucKr.{euc_kr, euc_kr_single, euc_kr_pair};
-ghost use Rattle.multibyte_decoders.specs.Holding.{falls_of, counts_of};
+ghost use Rattle.multibyte_decoders.specs.EucKr.{euc_kr, euc_kr_pair};
 ghost use Rattle.multibyte_decoders.specs.Holdings.{euc_kr_holding};
 
 use crate::pairs::PairState;
-use crate::turns::{complete, finish, give, give_one, hold, one_of};
-use decoder_core::{Few, Handled, Handler, Item};
+use crate::turns::{begin, complete, one_of};
+use decoder_core::forms::{finish, give};
+use decoder_core::{Handled, Handler, Item};
 use enc_names::Scalar;
 use index_loader::Index;
 use std::marker::Model;
@@ -52,19 +52,6 @@ impl<'i> EucKrDecoder<'i> {
     }
 }
 
-/// A byte with no lead pending.
-fn single(byte: u8) -> Handled<PairState>
-    ensures state { result.state ≡ (euc_kr_single byte).state }
-    ensures answer { result.answer ≡ (euc_kr_single byte).answer }
-    ensures back { bytes_of result.back ≡ (euc_kr_single byte).back }
-{
-    match byte {
-        0..=0x7F => give_one(PairState::Idle, u32::from(byte)),
-        0x81..=0xFE => hold(PairState::Lead(byte)),
-        _ => give(PairState::Idle, Item::Error, Few::Zero),
-    }
-}
-
 impl<'i> Handler for EucKrDecoder<'i> {
     type State = PairState;
 
@@ -79,8 +66,11 @@ impl<'i> Handler for EucKrDecoder<'i> {
     fn turn(&self, state: PairState, byte: Option<u8>) -> Handled<PairState> {
         match (state, byte) {
             (PairState::Idle, None) => finish(PairState::Idle),
-            (PairState::Lead(_), None) => give(PairState::Idle, Item::Error, Few::Zero),
-            (PairState::Idle, Some(byte)) => single(byte),
+            (PairState::Lead(_), None) => give(PairState::Idle, Item::Error),
+            (PairState::Idle, Some(byte)) => {
+                let is_lead = (0x81..=0xFE).contains(&byte);
+                begin(PairState::Idle, is_lead, PairState::Lead(byte), byte)
+            }
             (PairState::Lead(lead), Some(byte)) => {
                 complete(PairState::Idle, one_of(self.pair(lead, byte)), byte)
             }

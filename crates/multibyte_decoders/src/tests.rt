@@ -45,7 +45,7 @@ fn expect_items<D: Decoder>(
     want: &[Placed],
 ) -> Result<(), Fail> {
     for cut in 0..bytes.len() {
-        let items = decode_parts(alloc, decoder, bytes, &[cut], &mut meter())?;
+        let items = decode_parts(alloc, decoder, bytes, 0, &[cut], &mut meter())?;
         assert_eq!(rt; items.as_slice(), want, "cut at {cut}");
     }
     Ok(())

@@ -12,8 +12,8 @@ pub parts-init : goal.parts-init
 parts-init g c = record {
   base = omega arith;
   items =
-      ap (λ (ps : List Placed). ps ++ places (length c.args.bytes.now) 0 (run (g.D.Decoder.table c.args.decoder.now) c.start-state.result c.args.bytes.now)) c.new.ensures.items
-      ∙ ap (λ (s : _). places (length c.args.bytes.now) 0 (run (g.D.Decoder.table c.args.decoder.now) s c.args.bytes.now)) c.start-state.ensures;
+      ap (λ (ps : List Placed). ps ++ places (length c.args.bytes.now) c.args.from (run (g.D.Decoder.table c.args.decoder.now) c.start-state.result c.args.bytes.now)) c.new.ensures.items
+      ∙ ap (λ (s : _). places (length c.args.bytes.now) c.args.from (run (g.D.Decoder.table c.args.decoder.now) s c.args.bytes.now)) c.start-state.ensures;
   meter = omega arith;
   least = omega arith;
 }
