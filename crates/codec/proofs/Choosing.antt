@@ -1,18 +1,19 @@
--- The decoder of an encoding is there exactly where the encoding can be decoded, and its run is the run of that encoding's own decoder.
-use Rattle.std.proofs.Common.{◌≡◌, refl, ap, ℕ, true, ◌&&◌, List, length, Option, Some, None}
-use Rattle.std.specs.Option.{is_some, IfSome, option_map}
+-- The decoder of an encoding is there exactly where the encoding can be decoded, and does what that encoding's own decoder does.
+use Rattle.std.proofs.Common.{◌≡◌, refl, sym, ap, ◌∙◌, ℕ, Bool, true, ◌&&◌, List, length, drop, Option, Some, None}
+use Rattle.std.specs.Option.{is_some, IfSome, option_map, unwrap_or}
 use Rattle.enc_names.specs.declared.encoding.Encoding.{Encoding}
 use Rattle.enc_names.specs.declared.encoding.Encoding.TheVariants.{Utf8, Ibm866, Iso8859_2, Iso8859_3, Iso8859_4, Iso8859_5, Iso8859_6, Iso8859_7, Iso8859_8, Iso8859_8I, Iso8859_10, Iso8859_13, Iso8859_14, Iso8859_15, Iso8859_16, Koi8R, Koi8U, Macintosh, Windows874, Windows1250, Windows1251, Windows1252, Windows1253, Windows1254, Windows1255, Windows1256, Windows1257, Windows1258, XMacCyrillic, Gbk, Gb18030, Big5, EucJp, Iso2022Jp, ShiftJis, EucKr, Replacement, Utf16Be, Utf16Le, XUserDefined}
 use Rattle.index_loader.specs.declared.kind.IndexKind.{IndexKind}
-use Rattle.index_loader.specs.declared.kind.IndexKind.TheVariants.{SingleByte, Jis0208, Jis0212, Big5 as big5_kind, EucKr as euc_kr_kind, Gb18030 as gb18030_kind, Gb18030Ranges}
+use Rattle.index_loader.specs.declared.kind.IndexKind.TheVariants.{SingleByte, Jis0208, Jis0212, Big5 as big5_kind, EucKr as euc_kr_kind, Gb18030 as gb18030_kind, Gb18030Ranges, Katakana}
 use Rattle.index_loader.specs.Index.{Loaded, code_point_of}
 use Rattle.index_loader.specs.Kinds.{home_of}
 use Rattle.index_loader.specs.Pairs.{Pairs}
 use Rattle.index_loader.specs.Files.{Files, pairs_of, index_of}
 use Rattle.decoder_core.specs.declared.item.Ended.{Ended}
-use Rattle.decoder_core.specs.Queue.{run}
+use Rattle.decoder_core.specs.Lift.{IsLifted}
+use Rattle.decoder_core.specs.Queue.{Table, Fed, run, feed}
 use Rattle.decoder_core.specs.Placed.{places}
-use Rattle.decoder_core.proofs.Lifting.{run-lift}
+use Rattle.decoder_core.proofs.Lifting.{run-lift, feed-lift}
 use Rattle.codec.specs.declared.decoder.AnyDecoder.{AnyDecoder}
 use Rattle.decoder_core.specs.Utf8.{utf8, utf8_start}
 use Rattle.decoder_core.specs.declared.one_byte.OneByteState.TheVariants.{Idle as one_byte_idle}
@@ -30,130 +31,163 @@ use Rattle.multibyte_decoders.specs.EucJp.{euc_jp}
 use Rattle.multibyte_decoders.specs.EucKr.{euc_kr}
 use Rattle.multibyte_decoders.specs.Gb18030.{gb18030}
 use Rattle.multibyte_decoders.specs.ShiftJis.{shift_jis}
-use Rattle.codec.specs.declared.state.AnyState.TheVariants.{Utf8 as in_utf8, Gb18030 as in_gb18030, Big5 as in_big5, EucJp as in_euc_jp, ShiftJis as in_shift_jis, EucKr as in_euc_kr, SingleByte as in_single_byte, XUserDefined as in_x_user_defined, Replacement as in_replacement, Utf16Be as in_utf16_be, Utf16Le as in_utf16_le}
-use Rattle.codec.specs.declared.decoder.AnyDecoder.TheVariants.{Utf8 as by_utf8, Gb18030 as by_gb18030, Big5 as by_big5, EucJp as by_euc_jp, ShiftJis as by_shift_jis, EucKr as by_euc_kr, SingleByte as by_single_byte, XUserDefined as by_x_user_defined, Replacement as by_replacement, Utf16Be as by_utf16_be, Utf16Le as by_utf16_le}
-use Rattle.codec.specs.Any.{any, any_start}
+use Rattle.iso2022jp.specs.Iso2022Jp.{iso_2022_jp, iso_2022_jp_start}
+use Rattle.codec.specs.declared.prefix.Prefix.{Prefix}
+use Rattle.codec.specs.declared.prefix.Prefix.TheVariants.{Nothing, Ef, EfBb, Fe, Ff}
+use Rattle.codec.specs.declared.state.AnyState.{AnyState}
+use Rattle.codec.specs.declared.state.AnyState.TheVariants.{Sniffing as in_sniffing, Utf8 as in_utf8, Gb18030 as in_gb18030, Big5 as in_big5, EucJp as in_euc_jp, Iso2022Jp as in_iso_2022_jp, ShiftJis as in_shift_jis, EucKr as in_euc_kr, SingleByte as in_single_byte, XUserDefined as in_x_user_defined, Replacement as in_replacement, Utf16Be as in_utf16_be, Utf16Le as in_utf16_le}
+use Rattle.codec.specs.declared.decoder.AnyDecoder.TheVariants.{Utf8 as by_utf8, Gb18030 as by_gb18030, Big5 as by_big5, EucJp as by_euc_jp, Iso2022Jp as by_iso_2022_jp, ShiftJis as by_shift_jis, EucKr as by_euc_kr, SingleByte as by_single_byte, XUserDefined as by_x_user_defined, Replacement as by_replacement, Utf16Be as by_utf16_be, Utf16Le as by_utf16_le}
+use Rattle.codec.specs.Any.{any, any_start, given, given_start}
+use Rattle.codec.specs.AnyLaws.{lawful}
+use Rattle.codec.specs.Behind.{state_in, state_behind}
 use Rattle.codec.specs.Choice.{decoder_in, of_both}
-use Rattle.codec.specs.Decode.{decode, is_decoded, looked_up, look_up}
+use Rattle.codec.specs.Decode.{decode, is_decoded, looked_up, look_up, run_in}
+use Rattle.codec.specs.Mark.{Mark, mark_of, mark_length}
+use Rattle.codec.specs.Sniffing.{spelt}
+use Rattle.codec.proofs.Looking.{run-looked, state-looked}
 
-pub record IsChosen (files : Files) (encoding : Encoding) (found : Option AnyDecoder) : Type 0 where
-  pub variant : is_some found ≡ is_decoded files encoding
-  pub decode : IfSome found (λ d. (bytes : List ℕ) → places (length bytes) 0 (run (any d) (any_start d) bytes) ≡ (decode files encoding bytes).items)
+-- what a decoder does from the first state of its encoding on
+pub record Does (runs : List ℕ → List Ended) (states : List ℕ → AnyState) (d : AnyDecoder) : Type 0 where
+  pub run : (bytes : List ℕ) → run (any d) (given_start d) bytes ≡ runs bytes
+  pub state : (bytes : List ℕ) → (feed (any d) (given_start d) bytes).state ≡ states bytes
 
--- the items of a run, each with its place
-abbrev Items : (List ℕ → List Ended) → Option AnyDecoder → Type 0
-Items own found = IfSome found (λ d. (bytes : List ℕ) → places (length bytes) 0 (run (any d) (any_start d) bytes) ≡ places (length bytes) 0 (own bytes))
+pub record IsChosen (there : Bool) (runs : List ℕ → List Ended) (states : List ℕ → AnyState) (found : Option AnyDecoder) : Type 0 where
+  pub variant : is_some found ≡ there
+  pub does : IfSome found (Does runs states)
+
+-- ---- the encodings' own decoders among them all
 
 abbrev index : IndexKind → Option Pairs → Option Loaded
 index kind o = option_map (λ pairs. record { kind = home_of kind; pairs = pairs }) o
 
-module _ (kind : IndexKind) (make : Loaded → AnyDecoder) (own : (ℕ → Option ℕ) → List ℕ → List Ended)
-    (same : (i : Loaded) (bytes : List ℕ) → run (any (make i)) (any_start (make i)) bytes ≡ own (code_point_of i) bytes) where
-  one_there : (o : Option Pairs) → is_some (option_map make (index kind o)) ≡ (is_some o && true)
-  one_there (Some p) = refl
-  one_there None = refl
+module _ {S : Type 0} (put : S → AnyState) (start : S) where
+  abbrev states_of : Table S → List ℕ → AnyState
+  states_of table bytes = put (feed table start bytes).state
 
-  one_items : (o : Option Pairs) → Items (own (looked_up (index kind o))) (option_map make (index kind o))
-  one_items (Some p) = λ bytes. ap (places (length bytes) 0) (same (record { kind = home_of kind; pairs = p }) bytes)
-  one_items None = tt
+  does_alone : (table : Table S) (d : AnyDecoder) → IsLifted put table (any d) → given_start d ≡ put start → Does (run table start) (states_of table) d
+  does_alone table d same starts = record {
+    run = λ bytes. ap (λ (s : AnyState). run (any d) s bytes) starts ∙ run-lift put table (any d) same start bytes;
+    state = λ bytes.
+        ap (λ (s : AnyState). (feed (any d) s bytes).state) starts ∙ ap (λ (f : Fed AnyState). f.state) (feed-lift put table (any d) same start bytes);
+  }
 
-module _ (first second : IndexKind) (make : Loaded → Loaded → AnyDecoder) (own : (ℕ → Option ℕ) → (ℕ → Option ℕ) → List ℕ → List Ended)
-    (same : (i j : Loaded) (bytes : List ℕ) → run (any (make i j)) (any_start (make i j)) bytes ≡ own (code_point_of i) (code_point_of j) bytes) where
-  two_there : (o p : Option Pairs) → is_some (of_both make (index first o) (index second p)) ≡ (is_some o && (is_some p && true))
-  two_there (Some x) (Some y) = refl
-  two_there (Some x) None = refl
-  two_there None (Some y) = refl
-  two_there None None = refl
+  -- without an index file
+  alone : (table : Table S) (d : AnyDecoder) → IsLifted put table (any d) → given_start d ≡ put start → IsChosen true (run table start) (states_of table) (Some d)
+  alone table d same starts = record { variant = refl; does = does_alone table d same starts }
 
-  two_items : (o p : Option Pairs) → Items (own (looked_up (index first o)) (looked_up (index second p))) (of_both make (index first o) (index second p))
-  two_items (Some x) (Some y) = λ bytes. ap (places (length bytes) 0) (same (record { kind = home_of first; pairs = x }) (record { kind = home_of second; pairs = y }) bytes)
-  two_items (Some x) None = tt
-  two_items None (Some y) = tt
-  two_items None None = tt
+  -- over one index file
+  module _ (kind : IndexKind) (make : Loaded → AnyDecoder) (own : (ℕ → Option ℕ) → Table S)
+      (same : (i : Loaded) → IsLifted put (own (code_point_of i)) (any (make i))) (starts : (i : Loaded) → given_start (make i) ≡ put start) where
+    over_one : (o : Option Pairs) → let table = own (looked_up (index kind o)) in
+        IsChosen (is_some o && true) (run table start) (states_of table) (option_map make (index kind o))
+    over_one (Some p) =
+        let i : Loaded = record { kind = home_of kind; pairs = p } in
+        record { variant = refl; does = does_alone (own (code_point_of i)) (make i) (same i) (starts i) }
+    over_one None = record { variant = refl; does = tt }
 
-single_byte_same : (i : Loaded) (bytes : List ℕ) → run (any (by_single_byte i)) (any_start (by_single_byte i)) bytes ≡ run (single_byte (code_point_of i)) one_byte_idle bytes
-single_byte_same i bytes = run-lift in_single_byte (single_byte (code_point_of i)) (any (by_single_byte i)) (λ s o. refl) one_byte_idle bytes
-
-module _ (files : Files) (encoding : Encoding) where
-  single_byte_there : is_some (option_map by_single_byte (index_of files (SingleByte encoding))) ≡ (is_some (pairs_of files (SingleByte encoding)) && true)
-  single_byte_there = one_there (SingleByte encoding) by_single_byte (λ i. run (single_byte i) one_byte_idle) single_byte_same (pairs_of files (SingleByte encoding))
-
-  single_byte_items : Items (run (single_byte (look_up files (SingleByte encoding))) one_byte_idle) (option_map by_single_byte (index_of files (SingleByte encoding)))
-  single_byte_items = one_items (SingleByte encoding) by_single_byte (λ i. run (single_byte i) one_byte_idle) single_byte_same (pairs_of files (SingleByte encoding))
+  -- over two index files
+  module _ (first second : IndexKind) (make : Loaded → Loaded → AnyDecoder) (own : (ℕ → Option ℕ) → (ℕ → Option ℕ) → Table S)
+      (same : (i j : Loaded) → IsLifted put (own (code_point_of i) (code_point_of j)) (any (make i j)))
+      (starts : (i j : Loaded) → given_start (make i j) ≡ put start) where
+    over_two : (o p : Option Pairs) → let table = own (looked_up (index first o)) (looked_up (index second p)) in
+        IsChosen (is_some o && (is_some p && true)) (run table start) (states_of table) (of_both make (index first o) (index second p))
+    over_two (Some x) (Some y) =
+        let i : Loaded = record { kind = home_of first; pairs = x } in
+        let j : Loaded = record { kind = home_of second; pairs = y } in
+        record { variant = refl; does = does_alone (own (code_point_of i) (code_point_of j)) (make i j) (same i j) (starts i j) }
+    over_two (Some x) None = record { variant = refl; does = tt }
+    over_two None (Some y) = record { variant = refl; does = tt }
+    over_two None None = record { variant = refl; does = tt }
 
 module _ (files : Files) where
-  pub chosen : (encoding : Encoding) → IsChosen files encoding (decoder_in files encoding)
-  unfolding decode is_decoded
-  chosen Utf8 = record { variant = refl; decode = λ bytes. ap (places (length bytes) 0) (run-lift in_utf8 utf8 (any (by_utf8 (record {}))) (λ s o. refl) utf8_start bytes) }
-  chosen Replacement = record { variant = refl; decode = λ bytes. ap (places (length bytes) 0) (run-lift in_replacement replacement (any (by_replacement (record {}))) (λ s o. refl) Unread bytes) }
-  chosen XUserDefined = record { variant = refl; decode = λ bytes. ap (places (length bytes) 0) (run-lift in_x_user_defined x_user_defined (any (by_x_user_defined (record {}))) (λ s o. refl) one_byte_idle bytes) }
-  chosen Iso2022Jp = record { variant = refl; decode = tt }
-  chosen Utf16Be = record { variant = refl; decode = λ bytes. ap (places (length bytes) 0) (run-lift in_utf16_be (utf16 BigEndian) (any (by_utf16_be (record { order = BigEndian }))) (λ s o. refl) utf16_start bytes) }
-  chosen Utf16Le = record { variant = refl; decode = λ bytes. ap (places (length bytes) 0) (run-lift in_utf16_le (utf16 LittleEndian) (any (by_utf16_le (record { order = LittleEndian }))) (λ s o. refl) utf16_start bytes) }
-  chosen Gbk =
-      let make : Loaded → Loaded → AnyDecoder = λ i r. by_gb18030 (record { index = i; ranges = r }) in
-      let same : (i j : Loaded) (bytes : List ℕ) → run (any (make i j)) (any_start (make i j)) bytes ≡ run (gb18030 (code_point_of i) (code_point_of j)) gb18030_idle bytes = λ i j bytes. run-lift in_gb18030 (gb18030 (code_point_of i) (code_point_of j)) (any (make i j)) (λ s o. refl) gb18030_idle bytes in
-      record {
-        variant = two_there gb18030_kind Gb18030Ranges make (λ i j. run (gb18030 i j) gb18030_idle) same (pairs_of files gb18030_kind) (pairs_of files Gb18030Ranges);
-        decode = two_items gb18030_kind Gb18030Ranges make (λ i j. run (gb18030 i j) gb18030_idle) same (pairs_of files gb18030_kind) (pairs_of files Gb18030Ranges);
-      }
-  chosen Gb18030 =
-      let make : Loaded → Loaded → AnyDecoder = λ i r. by_gb18030 (record { index = i; ranges = r }) in
-      let same : (i j : Loaded) (bytes : List ℕ) → run (any (make i j)) (any_start (make i j)) bytes ≡ run (gb18030 (code_point_of i) (code_point_of j)) gb18030_idle bytes = λ i j bytes. run-lift in_gb18030 (gb18030 (code_point_of i) (code_point_of j)) (any (make i j)) (λ s o. refl) gb18030_idle bytes in
-      record {
-        variant = two_there gb18030_kind Gb18030Ranges make (λ i j. run (gb18030 i j) gb18030_idle) same (pairs_of files gb18030_kind) (pairs_of files Gb18030Ranges);
-        decode = two_items gb18030_kind Gb18030Ranges make (λ i j. run (gb18030 i j) gb18030_idle) same (pairs_of files gb18030_kind) (pairs_of files Gb18030Ranges);
-      }
+  single_byte_chosen : (encoding : Encoding) → let table = single_byte (look_up files (SingleByte encoding)) in
+      IsChosen (is_some (pairs_of files (SingleByte encoding)) && true) (run table one_byte_idle) (states_of in_single_byte one_byte_idle table)
+      (option_map by_single_byte (index_of files (SingleByte encoding)))
+  single_byte_chosen encoding =
+      over_one in_single_byte one_byte_idle (SingleByte encoding) by_single_byte single_byte (λ i s o. refl) (λ i. refl) (pairs_of files (SingleByte encoding))
+
+  gb18030_chosen : let table = gb18030 (look_up files gb18030_kind) (look_up files Gb18030Ranges) in
+      IsChosen (is_some (pairs_of files gb18030_kind) && (is_some (pairs_of files Gb18030Ranges) && true)) (run table gb18030_idle) (states_of in_gb18030 gb18030_idle table)
+      (decoder_in files Gb18030)
+  gb18030_chosen =
+      over_two in_gb18030 gb18030_idle gb18030_kind Gb18030Ranges (λ i r. by_gb18030 (record { index = i; ranges = r })) gb18030 (λ i j s o. refl) (λ i j. refl)
+      (pairs_of files gb18030_kind) (pairs_of files Gb18030Ranges)
+
+  pub chosen : (encoding : Encoding) → IsChosen (is_decoded files encoding) (run_in files encoding) (state_in files encoding) (decoder_in files encoding)
+  unfolding is_decoded
+  chosen Utf8 = alone in_utf8 utf8_start utf8 (by_utf8 (record {})) (λ s o. refl) refl
+  chosen Replacement = alone in_replacement Unread replacement (by_replacement (record {})) (λ s o. refl) refl
+  chosen XUserDefined = alone in_x_user_defined one_byte_idle x_user_defined (by_x_user_defined (record {})) (λ s o. refl) refl
+  chosen Utf16Be = alone in_utf16_be utf16_start (utf16 BigEndian) by_utf16_be (λ s o. refl) refl
+  chosen Utf16Le = alone in_utf16_le utf16_start (utf16 LittleEndian) by_utf16_le (λ s o. refl) refl
+  chosen Gbk = gb18030_chosen
+  chosen Gb18030 = gb18030_chosen
   chosen EucJp =
-      let make : Loaded → Loaded → AnyDecoder = λ a b. by_euc_jp (record { jis0208 = a; jis0212 = b }) in
-      let same : (i j : Loaded) (bytes : List ℕ) → run (any (make i j)) (any_start (make i j)) bytes ≡ run (euc_jp (code_point_of i) (code_point_of j)) euc_jp_idle bytes = λ i j bytes. run-lift in_euc_jp (euc_jp (code_point_of i) (code_point_of j)) (any (make i j)) (λ s o. refl) euc_jp_idle bytes in
-      record {
-        variant = two_there Jis0208 Jis0212 make (λ i j. run (euc_jp i j) euc_jp_idle) same (pairs_of files Jis0208) (pairs_of files Jis0212);
-        decode = two_items Jis0208 Jis0212 make (λ i j. run (euc_jp i j) euc_jp_idle) same (pairs_of files Jis0208) (pairs_of files Jis0212);
-      }
-  chosen Big5 =
-      let same : (i : Loaded) (bytes : List ℕ) → run (any (by_big5 i)) (any_start (by_big5 i)) bytes ≡ run (big5 (code_point_of i)) Idle bytes = λ i bytes. run-lift in_big5 (big5 (code_point_of i)) (any (by_big5 i)) (λ s o. refl) Idle bytes in
-      record {
-        variant = one_there big5_kind by_big5 (λ index. run (big5 index) Idle) same (pairs_of files big5_kind);
-        decode = one_items big5_kind by_big5 (λ index. run (big5 index) Idle) same (pairs_of files big5_kind);
-      }
-  chosen ShiftJis =
-      let same : (i : Loaded) (bytes : List ℕ) → run (any (by_shift_jis i)) (any_start (by_shift_jis i)) bytes ≡ run (shift_jis (code_point_of i)) Idle bytes = λ i bytes. run-lift in_shift_jis (shift_jis (code_point_of i)) (any (by_shift_jis i)) (λ s o. refl) Idle bytes in
-      record {
-        variant = one_there Jis0208 by_shift_jis (λ index. run (shift_jis index) Idle) same (pairs_of files Jis0208);
-        decode = one_items Jis0208 by_shift_jis (λ index. run (shift_jis index) Idle) same (pairs_of files Jis0208);
-      }
-  chosen EucKr =
-      let same : (i : Loaded) (bytes : List ℕ) → run (any (by_euc_kr i)) (any_start (by_euc_kr i)) bytes ≡ run (euc_kr (code_point_of i)) Idle bytes = λ i bytes. run-lift in_euc_kr (euc_kr (code_point_of i)) (any (by_euc_kr i)) (λ s o. refl) Idle bytes in
-      record {
-        variant = one_there euc_kr_kind by_euc_kr (λ index. run (euc_kr index) Idle) same (pairs_of files euc_kr_kind);
-        decode = one_items euc_kr_kind by_euc_kr (λ index. run (euc_kr index) Idle) same (pairs_of files euc_kr_kind);
-      }
-  chosen Ibm866 = record { variant = single_byte_there files Ibm866; decode = single_byte_items files Ibm866 }
-  chosen Iso8859_2 = record { variant = single_byte_there files Iso8859_2; decode = single_byte_items files Iso8859_2 }
-  chosen Iso8859_3 = record { variant = single_byte_there files Iso8859_3; decode = single_byte_items files Iso8859_3 }
-  chosen Iso8859_4 = record { variant = single_byte_there files Iso8859_4; decode = single_byte_items files Iso8859_4 }
-  chosen Iso8859_5 = record { variant = single_byte_there files Iso8859_5; decode = single_byte_items files Iso8859_5 }
-  chosen Iso8859_6 = record { variant = single_byte_there files Iso8859_6; decode = single_byte_items files Iso8859_6 }
-  chosen Iso8859_7 = record { variant = single_byte_there files Iso8859_7; decode = single_byte_items files Iso8859_7 }
-  chosen Iso8859_8 = record { variant = single_byte_there files Iso8859_8; decode = single_byte_items files Iso8859_8 }
-  chosen Iso8859_8I = record { variant = single_byte_there files Iso8859_8I; decode = single_byte_items files Iso8859_8I }
-  chosen Iso8859_10 = record { variant = single_byte_there files Iso8859_10; decode = single_byte_items files Iso8859_10 }
-  chosen Iso8859_13 = record { variant = single_byte_there files Iso8859_13; decode = single_byte_items files Iso8859_13 }
-  chosen Iso8859_14 = record { variant = single_byte_there files Iso8859_14; decode = single_byte_items files Iso8859_14 }
-  chosen Iso8859_15 = record { variant = single_byte_there files Iso8859_15; decode = single_byte_items files Iso8859_15 }
-  chosen Iso8859_16 = record { variant = single_byte_there files Iso8859_16; decode = single_byte_items files Iso8859_16 }
-  chosen Koi8R = record { variant = single_byte_there files Koi8R; decode = single_byte_items files Koi8R }
-  chosen Koi8U = record { variant = single_byte_there files Koi8U; decode = single_byte_items files Koi8U }
-  chosen Macintosh = record { variant = single_byte_there files Macintosh; decode = single_byte_items files Macintosh }
-  chosen Windows874 = record { variant = single_byte_there files Windows874; decode = single_byte_items files Windows874 }
-  chosen Windows1250 = record { variant = single_byte_there files Windows1250; decode = single_byte_items files Windows1250 }
-  chosen Windows1251 = record { variant = single_byte_there files Windows1251; decode = single_byte_items files Windows1251 }
-  chosen Windows1252 = record { variant = single_byte_there files Windows1252; decode = single_byte_items files Windows1252 }
-  chosen Windows1253 = record { variant = single_byte_there files Windows1253; decode = single_byte_items files Windows1253 }
-  chosen Windows1254 = record { variant = single_byte_there files Windows1254; decode = single_byte_items files Windows1254 }
-  chosen Windows1255 = record { variant = single_byte_there files Windows1255; decode = single_byte_items files Windows1255 }
-  chosen Windows1256 = record { variant = single_byte_there files Windows1256; decode = single_byte_items files Windows1256 }
-  chosen Windows1257 = record { variant = single_byte_there files Windows1257; decode = single_byte_items files Windows1257 }
-  chosen Windows1258 = record { variant = single_byte_there files Windows1258; decode = single_byte_items files Windows1258 }
-  chosen XMacCyrillic = record { variant = single_byte_there files XMacCyrillic; decode = single_byte_items files XMacCyrillic }
+      over_two in_euc_jp euc_jp_idle Jis0208 Jis0212 (λ a b. by_euc_jp (record { jis0208 = a; jis0212 = b })) euc_jp (λ i j s o. refl) (λ i j. refl)
+      (pairs_of files Jis0208) (pairs_of files Jis0212)
+  chosen Big5 = over_one in_big5 Idle big5_kind by_big5 big5 (λ i s o. refl) (λ i. refl) (pairs_of files big5_kind)
+  chosen Iso2022Jp =
+      over_two in_iso_2022_jp iso_2022_jp_start Jis0208 Katakana (λ a b. by_iso_2022_jp a) (λ a b. iso_2022_jp a) (λ i j s o. refl) (λ i j. refl)
+      (pairs_of files Jis0208) (pairs_of files Katakana)
+  chosen ShiftJis = over_one in_shift_jis Idle Jis0208 by_shift_jis shift_jis (λ i s o. refl) (λ i. refl) (pairs_of files Jis0208)
+  chosen EucKr = over_one in_euc_kr Idle euc_kr_kind by_euc_kr euc_kr (λ i s o. refl) (λ i. refl) (pairs_of files euc_kr_kind)
+  chosen Ibm866 = single_byte_chosen Ibm866
+  chosen Iso8859_2 = single_byte_chosen Iso8859_2
+  chosen Iso8859_3 = single_byte_chosen Iso8859_3
+  chosen Iso8859_4 = single_byte_chosen Iso8859_4
+  chosen Iso8859_5 = single_byte_chosen Iso8859_5
+  chosen Iso8859_6 = single_byte_chosen Iso8859_6
+  chosen Iso8859_7 = single_byte_chosen Iso8859_7
+  chosen Iso8859_8 = single_byte_chosen Iso8859_8
+  chosen Iso8859_8I = single_byte_chosen Iso8859_8I
+  chosen Iso8859_10 = single_byte_chosen Iso8859_10
+  chosen Iso8859_13 = single_byte_chosen Iso8859_13
+  chosen Iso8859_14 = single_byte_chosen Iso8859_14
+  chosen Iso8859_15 = single_byte_chosen Iso8859_15
+  chosen Iso8859_16 = single_byte_chosen Iso8859_16
+  chosen Koi8R = single_byte_chosen Koi8R
+  chosen Koi8U = single_byte_chosen Koi8U
+  chosen Macintosh = single_byte_chosen Macintosh
+  chosen Windows874 = single_byte_chosen Windows874
+  chosen Windows1250 = single_byte_chosen Windows1250
+  chosen Windows1251 = single_byte_chosen Windows1251
+  chosen Windows1252 = single_byte_chosen Windows1252
+  chosen Windows1253 = single_byte_chosen Windows1253
+  chosen Windows1254 = single_byte_chosen Windows1254
+  chosen Windows1255 = single_byte_chosen Windows1255
+  chosen Windows1256 = single_byte_chosen Windows1256
+  chosen Windows1257 = single_byte_chosen Windows1257
+  chosen Windows1258 = single_byte_chosen Windows1258
+  chosen XMacCyrillic = single_byte_chosen XMacCyrillic
+
+-- ---- behind the look for a byte order mark
+
+module _ (files : Files) (encoding : Encoding) (d : AnyDecoder) (does : Does (run_in files encoding) (state_in files encoding) d) where
+  abbrev wanted : List ℕ → Option Mark → List Ended
+  wanted bytes mark = run_in files (unwrap_or (option_map (λ (m : Mark). m.encoding) mark) encoding) (drop (unwrap_or (option_map (λ (m : Mark). m.len) mark) 0) bytes)
+
+  pub decodes : (bytes : List ℕ) → places (length bytes) (mark_length bytes) (run (any d) (any_start d) bytes) ≡ (decode files encoding bytes).items
+  unfolding decode
+  decodes bytes =
+      ap (places (length bytes) (mark_length bytes))
+      (run-looked (given_start d) (given d) (lawful d) (λ q. wanted q (mark_of q)) (λ q. refl) (λ q. refl) (λ q. refl)
+      (λ q none. does.run q ∙ ap (wanted q) (sym none)) bytes)
+
+  abbrev stands : List ℕ → Option Prefix → Option Mark → AnyState
+  stands bytes prefix mark =
+      unwrap_or (option_map in_sniffing prefix)
+      (state_in files (unwrap_or (option_map (λ (m : Mark). m.encoding) mark) encoding) (drop (unwrap_or (option_map (λ (m : Mark). m.len) mark) 0) bytes))
+
+  prefix_stands : (p : Prefix) → in_sniffing p ≡ state_behind files encoding (spelt p)
+  unfolding state_behind
+  prefix_stands Nothing = refl
+  prefix_stands Ef = refl
+  prefix_stands EfBb = refl
+  prefix_stands Fe = refl
+  prefix_stands Ff = refl
+
+  pub behind : (bytes : List ℕ) → (feed (any d) (any_start d) bytes).state ≡ state_behind files encoding bytes
+  unfolding state_behind
+  behind bytes =
+      state-looked (given_start d) (given d) (lawful d) (state_behind files encoding) prefix_stands (λ q. refl) (λ q. refl) (λ q. refl)
+      (λ q no_prefix none. does.state q ∙ ap (stands q None) (sym none) ∙ ap (λ (p : Option Prefix). stands q p (mark_of q)) (sym no_prefix)) bytes

@@ -1,4 +1,5 @@
 pub mod AnyRun
 pub mod Choosing
 pub mod Gathered
+pub mod Looking
 pub mod Utf8

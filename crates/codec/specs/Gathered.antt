@@ -1,5 +1,6 @@
 -- Text and errors as they are gathered, item by item.
-use Rattle.std.specs.Prelude.{ℕ, ℤ, pos, negsuc, ◌-◌, List, ◌++◌}
+use Rattle.std.specs.Prelude.{ℕ, ℤ, pos, ◌+ℤ◌, ◌-ℤ◌, List, ◌++◌}
+use Rattle.std.specs.Int.{saturate_unsigned, w64}
 use Rattle.std.specs.Str.{encode_utf8_all}
 use Rattle.enc_names.specs.declared.place.Place.{Place}
 use Rattle.decoder_core.specs.declared.item.Item.{Item}
@@ -7,28 +8,30 @@ use Rattle.decoder_core.specs.declared.item.Ended.{Ended}
 use Rattle.decoder_core.specs.Shown.{Shown}
 use Rattle.decoder_core.specs.Text.{item_code_points, error_place}
 
--- the text so far in UTF-8, the places of the errors so far, and the end of the last item
+-- the text so far in UTF-8, the places of the errors so far among all the bytes, the number of bytes before those that are decoded, and the
+-- end of the last item, counted from the first that is decoded
 pub record Gathered : Type 0 where
   pub text : List ℕ
   pub errors : List Place
-  pub end : ℕ
+  pub base : ℕ
+  pub end : ℤ
 
--- with one more item, which ends at `to`
-abbrev pub with_item : Gathered → Item → ℕ → Gathered
-with_item g item to = record {
+-- an end among all the bytes
+abbrev pub index_of : ℕ → ℤ → ℕ
+index_of base end = saturate_unsigned w64 (pos base +ℤ end)
+
+-- with one more item
+abbrev pub with_item : Gathered → Item → ℤ → Gathered
+with_item g item end = record {
   text = g.text ++ encode_utf8_all (item_code_points item);
-  errors = g.errors ++ error_place item (record { from = g.end; to = to });
-  end = to;
+  errors = g.errors ++ error_place item (record { from = index_of g.base g.end; to = index_of g.base end });
+  base = g.base;
+  end = end;
 }
 
--- an end as an index of the slice, which is at its start where the item ends before it
-abbrev pub index_of : ℤ → ℕ
-index_of (pos n) = n
-index_of (negsuc n) = 0
-
 abbrev pub with_shown : {S : Type 0} → Gathered → Shown S → Gathered
-with_shown g shown = with_item g shown.item (index_of shown.end)
+with_shown g shown = with_item g shown.item shown.end
 
--- with one more item of a run over `total` bytes
+-- with one more item of a run, of whose bytes `read` were read
 abbrev pub with_ended : ℕ → Gathered → Ended → Gathered
-with_ended total g e = with_item g e.item (total - e.back)
+with_ended read g e = with_item g e.item (pos read -ℤ pos e.back)

@@ -1,9 +1,15 @@
 pub mod Any
 pub mod AnyLaws
+pub mod Behind
 pub mod Choice
 pub mod Decode
+pub mod Exact
 pub mod Gathered
 pub mod Lifted
 pub mod LiftedLaws
+pub mod Mark
 pub mod Refused
+pub mod Sniffed
+pub mod SniffedLaws
+pub mod Sniffing
 pub mod Written

@@ -3,7 +3,7 @@ use Rattle.std.proofs.Common.{◌≡◌, ◌≢◌, refl, sym, ap, subst, ◌∙
 use Rattle.decoder_core.specs.declared.handler.Answer.TheVariants.{Finished}
 use Rattle.decoder_core.specs.Queue.{Table, Falls, front, behind}
 use Rattle.decoder_core.specs.Counts.{Counts, cost}
-use Rattle.codec.specs.Lifted.{lifted_at, lifted}
+use Rattle.codec.specs.Lifted.{lifted_at, lifted, finished}
 
 abbrev pub amount_at : {S : Type 0} → (S → ℕ) → Option S → ℕ
 amount_at amount (Some s) = amount s
@@ -13,16 +13,20 @@ amount_at amount None = 0
 abbrev pub amount_in : {S T : Type 0} → (T → Option S) → (S → ℕ) → T → ℕ
 amount_in part amount t = amount_at amount (part t)
 
+pub costs_none : (n : ℕ) (q : List ℕ) → n ≡ 0 → length (behind q) + n + 0 ≤ length q + 0
+costs_none n [] e = Prim.omega (arith, e)
+costs_none n (b ∷ q) e = Prim.omega (arith, e)
+
 module _ {S T : Type 0} (own : S → T) (part : T → Option S) (found : (s : S) → part (own s) ≡ Some s) (small : Table S) where
   amount_own : (amount : S → ℕ) (s : S) → amount_in part amount (own s) ≡ amount s
   amount_own amount s = ap (amount_at amount) (found s)
 
   module _ (falls : Falls small) where
-    small_at : (o : Option S) → amount_at falls.held o < 32
+    pub small_at : (o : Option S) → amount_at falls.held o < 32
     small_at (Some s) = falls.small s
     small_at None = lit< tt
 
-    falls_at : (t : T) (q : List ℕ) (o : Option S)
+    pub falls_at : (t : T) (q : List ℕ) (o : Option S)
         → (lifted_at own small t (front q) o).answer ≢ Finished
         → 8 * length ((lifted_at own small t (front q) o).back ++ behind q) + amount_in part falls.held (lifted_at own small t (front q) o).state
         < 8 * length q + amount_at falls.held o
@@ -32,7 +36,7 @@ module _ {S T : Type 0} (own : S → T) (part : T → Option S) (found : (s : S)
         (sym (amount_own falls.held turn.state)) (falls.falls s q goes)
     falls_at t q None goes = absurd (goes refl)
 
-    stays_at : (t : T) (b : ℕ) (o : Option S) → part t ≡ o → (lifted_at own small t (Some b) o).answer ≡ Finished → (r : Option ℕ)
+    pub stays_at : (t : T) (b : ℕ) (o : Option S) → part t ≡ o → (lifted_at own small t (Some b) o).answer ≡ Finished → (r : Option ℕ)
         → ((lifted own part small (lifted_at own small t (Some b) o).state r).answer ≡ Finished)
         × ((lifted own part small (lifted_at own small t (Some b) o).state r).state ≡ (lifted_at own small t (Some b) o).state)
     stays_at t b (Some s) e done r =
@@ -46,7 +50,7 @@ module _ {S T : Type 0} (own : S → T) (part : T → Option S) (found : (s : S)
       ap (λ (o : Option S). (lifted_at own small t r o).state) e,
     )
 
-    pub falls_lifted : Falls (lifted own part small)
+    abbrev pub falls_lifted : Falls (lifted own part small)
     falls_lifted = record {
       held = amount_in part falls.held;
       small = λ t. small_at (part t);
@@ -55,15 +59,11 @@ module _ {S T : Type 0} (own : S → T) (part : T → Option S) (found : (s : S)
     }
 
   module _ (counts : Counts small) where
-    few_at : (o : Option S) → amount_at counts.bytes o ≤ 7
+    pub few_at : (o : Option S) → amount_at counts.bytes o ≤ 7
     few_at (Some s) = counts.few s
     few_at None = lit≤ tt
 
-    costs_none : (n : ℕ) (q : List ℕ) → n ≡ 0 → length (behind q) + n + 0 ≤ length q + 0
-    costs_none n [] e = Prim.omega (arith, e)
-    costs_none n (b ∷ q) e = Prim.omega (arith, e)
-
-    costs_at : (t : T) (q : List ℕ) (o : Option S) → part t ≡ o
+    pub costs_at : (t : T) (q : List ℕ) (o : Option S) → part t ≡ o
         → length ((lifted_at own small t (front q) o).back ++ behind q) + amount_in part counts.bytes (lifted_at own small t (front q) o).state + cost (lifted_at own small t (front q) o).answer
         ≤ length q + amount_at counts.bytes o
     costs_at t q (Some s) e =
@@ -72,9 +72,16 @@ module _ {S T : Type 0} (own : S → T) (part : T → Option S) (found : (s : S)
         (sym (amount_own counts.bytes turn.state)) (counts.costs s q)
     costs_at t q None e = costs_none (amount_in part counts.bytes t) q (ap (amount_at counts.bytes) e)
 
-    pub counts_lifted : Counts (lifted own part small)
+    abbrev pub counts_lifted : Counts (lifted own part small)
     counts_lifted = record {
       bytes = amount_in part counts.bytes;
       few = λ t. few_at (part t);
       costs = λ t q. costs_at t q (part t) refl;
     }
+
+-- a decoder with no state of its own
+abbrev pub falls_finished : {T : Type 0} → Falls (finished {T = T})
+falls_finished = record { held = λ _. 0; small = λ _. lit< tt; falls = λ s q goes. absurd (goes refl); stays = λ s b done r. (refl, refl) }
+
+abbrev pub counts_finished : {T : Type 0} → Counts (finished {T = T})
+counts_finished = record { bytes = λ _. 0; few = λ _. lit≤ tt; costs = λ s q. costs_none 0 q refl }

@@ -1,33 +1,63 @@
 //! Decoding of bytes by the decoder of their encoding.
-ghost use Rattle.std.specs.Prelude.{◌≡◌, ◌+◌, ◌≤◌, length, IfOk, string_bytes};
+ghost use Rattle.std.specs.Prelude.{◌≡◌, ◌+◌, ◌-◌, ◌^◌, ◌≤◌, min, length, drop, IfOk, OnOk, string_bytes};
 ghost use Rattle.std.specs.Str.{chars};
 ghost use Rattle.decoder_core.specs.Queue.{run};
 ghost use Rattle.decoder_core.specs.Placed.{places};
 ghost use Rattle.decoder_core.specs.Text.{code_points, error_places};
-ghost use Rattle.codec.specs.Any.{any, any_start, own_run};
+ghost use Rattle.codec.specs.Any.{any, any_start, own_run, marked_run};
+ghost use Rattle.codec.specs.Mark.{mark_length};
 
 use crate::decoder::AnyDecoder;
 use crate::decoding::{Decoding, decode_by};
-use decoder_core::{Meter, OutOfMemory};
+use crate::mark::Mark;
+use crate::sniffing::{UTF_16BE, UTF_16LE};
+use decoder_core::{Meter, OutOfMemory, Utf8Decoder};
+use enc_names::Encoding;
 use std::alloc::Global;
 
-/// Decodes bytes as a whole by the decoder of their encoding. The meter counts at most the bytes.
+/// Decodes bytes as a whole by the decoder of their encoding, or by that of their byte order mark.
+/// The meter counts the bytes behind the mark.
 pub fn decode_any(
     alloc: Global,
     decoder: &AnyDecoder<'_>,
     bytes: &[u8],
     meter: &mut Meter,
 ) -> Result<Decoding, OutOfMemory>
-    ensures text { IfOk result (λ d. chars (string_bytes d.text) ≡ code_points (places (length bytes.now) 0 (run (any decoder.now) (any_start decoder.now) bytes.now))) }
-    ensures errors { IfOk result (λ d. d.errors.items ≡ error_places (places (length bytes.now) 0 (run (any decoder.now) (any_start decoder.now) bytes.now))) }
+    ensures text { IfOk result (λ d. chars (string_bytes d.text) ≡ code_points (places (length bytes.now) (mark_length bytes.now) (run (any decoder.now) (any_start decoder.now) bytes.now))) }
+    ensures errors { IfOk result (λ d. d.errors.items ≡ error_places (places (length bytes.now) (mark_length bytes.now) (run (any decoder.now) (any_start decoder.now) bytes.now))) }
+    ensures meter { OnOk result (meter.new ≡ min (meter.old + (length bytes.now - mark_length bytes.now)) (2 ^ 64 - 1)) }
     ensures meter_least { meter.old ≤ meter.new }
-    ensures meter_most { meter.new ≤ meter.old + length bytes.now }
+    ensures meter_most { meter.new ≤ min (meter.old + (length bytes.now - mark_length bytes.now)) (2 ^ 64 - 1) }
 {
-    decode_own(alloc, decoder, bytes, meter)
+    match Mark::of(bytes) {
+        Some(mark) => decode_marked(alloc, mark, bytes, meter),
+        None => decode_own(alloc, decoder, bytes, meter),
+    }
 }
 
-/// Decodes bytes by the encoding's own decoder: which one it is, is asked once and not for each
-/// byte.
+/// Decodes the bytes behind a byte order mark by the decoder of its encoding.
+fn decode_marked(
+    alloc: Global,
+    mark: Mark,
+    bytes: &[u8],
+    meter: &mut Meter,
+) -> Result<Decoding, OutOfMemory>
+    requires { mark.len ≤ length bytes.now }
+    ensures text { IfOk result (λ d. chars (string_bytes d.text) ≡ code_points (places (length bytes.now) mark.len (marked_run mark bytes.now))) }
+    ensures errors { IfOk result (λ d. d.errors.items ≡ error_places (places (length bytes.now) mark.len (marked_run mark bytes.now))) }
+    ensures meter { OnOk result (meter.new ≡ min (meter.old + (length bytes.now - mark.len)) (2 ^ 64 - 1)) }
+    ensures meter_least { meter.old ≤ meter.new }
+    ensures meter_most { meter.new ≤ min (meter.old + (length bytes.now - mark.len)) (2 ^ 64 - 1) }
+{
+    match mark.encoding {
+        Encoding::Utf16Be => decode_by(alloc, &UTF_16BE, bytes, mark.len, meter),
+        Encoding::Utf16Le => decode_by(alloc, &UTF_16LE, bytes, mark.len, meter),
+        _ => decode_by(alloc, &Utf8Decoder, bytes, mark.len, meter),
+    }
+}
+
+/// Decodes bytes with no byte order mark by the encoding's own decoder: which one it is, is asked
+/// once and not for each byte.
 fn decode_own(
     alloc: Global,
     decoder: &AnyDecoder<'_>,
@@ -36,20 +66,22 @@ fn decode_own(
 ) -> Result<Decoding, OutOfMemory>
     ensures text { IfOk result (λ d. chars (string_bytes d.text) ≡ code_points (places (length bytes.now) 0 (own_run decoder.now bytes.now))) }
     ensures errors { IfOk result (λ d. d.errors.items ≡ error_places (places (length bytes.now) 0 (own_run decoder.now bytes.now))) }
+    ensures meter { OnOk result (meter.new ≡ min (meter.old + length bytes.now) (2 ^ 64 - 1)) }
     ensures meter_least { meter.old ≤ meter.new }
-    ensures meter_most { meter.new ≤ meter.old + length bytes.now }
+    ensures meter_most { meter.new ≤ min (meter.old + length bytes.now) (2 ^ 64 - 1) }
 {
     match decoder {
-        AnyDecoder::Utf8(d) => decode_by(alloc, d, bytes, meter),
-        AnyDecoder::Gb18030(d) => decode_by(alloc, d, bytes, meter),
-        AnyDecoder::Big5(d) => decode_by(alloc, d, bytes, meter),
-        AnyDecoder::EucJp(d) => decode_by(alloc, d, bytes, meter),
-        AnyDecoder::ShiftJis(d) => decode_by(alloc, d, bytes, meter),
-        AnyDecoder::EucKr(d) => decode_by(alloc, d, bytes, meter),
-        AnyDecoder::SingleByte(d) => decode_by(alloc, d, bytes, meter),
-        AnyDecoder::XUserDefined(d) => decode_by(alloc, d, bytes, meter),
-        AnyDecoder::Replacement(d) => decode_by(alloc, d, bytes, meter),
-        AnyDecoder::Utf16Be(d) => decode_by(alloc, d, bytes, meter),
-        AnyDecoder::Utf16Le(d) => decode_by(alloc, d, bytes, meter),
+        AnyDecoder::Utf8(d) => decode_by(alloc, d, bytes, 0, meter),
+        AnyDecoder::Gb18030(d) => decode_by(alloc, d, bytes, 0, meter),
+        AnyDecoder::Big5(d) => decode_by(alloc, d, bytes, 0, meter),
+        AnyDecoder::EucJp(d) => decode_by(alloc, d, bytes, 0, meter),
+        AnyDecoder::Iso2022Jp(d) => decode_by(alloc, d, bytes, 0, meter),
+        AnyDecoder::ShiftJis(d) => decode_by(alloc, d, bytes, 0, meter),
+        AnyDecoder::EucKr(d) => decode_by(alloc, d, bytes, 0, meter),
+        AnyDecoder::SingleByte(d) => decode_by(alloc, d, bytes, 0, meter),
+        AnyDecoder::XUserDefined(d) => decode_by(alloc, d, bytes, 0, meter),
+        AnyDecoder::Replacement(d) => decode_by(alloc, d, bytes, 0, meter),
+        AnyDecoder::Utf16Be => decode_by(alloc, &UTF_16BE, bytes, 0, meter),
+        AnyDecoder::Utf16Le => decode_by(alloc, &UTF_16LE, bytes, 0, meter),
     }
 }

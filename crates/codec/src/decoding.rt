@@ -1,5 +1,5 @@
 //! What decoding some bytes gives.
-ghost use Rattle.std.specs.Prelude.{◌≡◌, ◌+◌, ◌≤◌, length, IfOk, string_bytes};
+ghost use Rattle.std.specs.Prelude.{◌≡◌, ◌+◌, ◌-◌, ◌^◌, ◌≤◌, min, length, drop, IfOk, OnOk, string_bytes};
 ghost use Rattle.std.specs.Str.{chars};
 ghost use Rattle.decoder_core.specs.Queue.{run};
 ghost use Rattle.decoder_core.specs.Placed.{places};
@@ -17,22 +17,27 @@ pub struct Decoding {
     pub errors: Vec<Place>,
 }
 
-/// Decodes bytes by a decoder from its first state on. The meter counts at most the bytes.
+/// Decodes the bytes behind the first `skip` by a decoder from its first state on; the errors have
+/// their places among all the bytes. The meter counts the bytes decoded.
 pub fn decode_by<D: Decoder>(
     alloc: Global,
     decoder: &D,
     bytes: &[u8],
+    skip: usize,
     meter: &mut Meter,
 ) -> Result<Decoding, OutOfMemory>
-    ensures text { IfOk result (λ d. chars (string_bytes d.text) ≡ code_points (places (length bytes.now) 0 (run (D.table decoder.now) (D.initial decoder.now) bytes.now))) }
-    ensures errors { IfOk result (λ d. d.errors.items ≡ error_places (places (length bytes.now) 0 (run (D.table decoder.now) (D.initial decoder.now) bytes.now))) }
+    requires { skip ≤ length bytes.now }
+    ensures text { IfOk result (λ d. chars (string_bytes d.text) ≡ code_points (places (length bytes.now) skip (run (D.table decoder.now) (D.initial decoder.now) (drop skip bytes.now)))) }
+    ensures errors { IfOk result (λ d. d.errors.items ≡ error_places (places (length bytes.now) skip (run (D.table decoder.now) (D.initial decoder.now) (drop skip bytes.now)))) }
+    ensures meter { OnOk result (meter.new ≡ min (meter.old + (length bytes.now - skip)) (2 ^ 64 - 1)) }
     ensures meter_least { meter.old ≤ meter.new }
-    ensures meter_most { meter.new ≤ meter.old + length bytes.now }
+    ensures meter_most { meter.new ≤ min (meter.old + (length bytes.now - skip)) (2 ^ 64 - 1) }
 {
-    let mut gathering = Gathering::new(alloc);
-    let state = run_piece(decoder, decoder.start(), bytes, &mut gathering, meter)?;
+    let mut gathering = Gathering::new(alloc, skip as u64);
+    let rest = &bytes[skip..];
+    let state = run_piece(decoder, decoder.start(), rest, &mut gathering, meter)?;
     let last = decoder.finish(state);
-    gathering.take_last(last.items.as_slice(), bytes)?;
+    gathering.take_last(last.items.as_slice(), rest)?;
     // The laws by which the steps and the end are one run.
     one_run(decoder);
     gathering.finish()

@@ -1,5 +1,6 @@
 //! Why bytes aren't decoded.
 
+use enc_names::Place;
 use std::alloc::AllocError;
 
 /// Why bytes aren't decoded.
@@ -7,6 +8,8 @@ use std::alloc::AllocError;
 pub enum CodecFault {
     /// The encoding has no decoder, or one of its index files isn't there.
     NoIndex,
+    /// Error mode "fatal" stops at this error, the first; its place is among all the bytes.
+    Malformed(Place),
     /// A growth of memory was refused.
     OutOfMemory,
 }

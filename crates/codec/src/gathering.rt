@@ -1,8 +1,8 @@
 //! The sink in which a document's text and errors are gathered.
-ghost use Rattle.std.specs.Prelude.{◌≡◌, ◌≤◌, ◌-◌, [], ◌++◌, length, fold, IfOk, OnOk, OnErr, string_bytes};
+ghost use Rattle.std.specs.Prelude.{◌≡◌, ◌≤◌, [], ◌++◌, length, pos, fold, IfOk, OnOk, OnErr, string_bytes};
 ghost use Rattle.std.specs.Str.{encode_utf8_all};
 ghost use Rattle.decoder_core.specs.Text.{item_code_points};
-ghost use Rattle.codec.specs.Gathered.{Gathered, index_of, with_item, with_shown, with_ended};
+ghost use Rattle.codec.specs.Gathered.{Gathered, with_item, with_shown, with_ended};
 
 use crate::decoding::Decoding;
 use crate::text_blocks::TextBlocks;
@@ -11,54 +11,59 @@ use enc_names::Place;
 use std::alloc::{AllocError, Global};
 use std::marker::Model;
 
-/// The text and the errors of the items so far, and where the last of them ends.
+/// The text and the errors of the items so far, the number of bytes before those that are decoded,
+/// and the end of the last item, counted from the first that is decoded.
 #[derive(Drop)]
 pub(crate) struct Gathering {
     text: TextBlocks,
     errors: Vec<Place>,
-    end: u64,
+    base: u64,
+    end: i64,
 }
 
 impl Model for Gathering {
     ghost Value = { Gathered };
 
-    ghost view = { λ s. record { text = s.text.bytes; errors = s.errors.items; end = s.end } };
+    ghost view = { λ s. record { text = s.text.bytes; errors = s.errors.items; base = s.base; end = s.end } };
 }
 
 impl Gathering {
-    /// No item.
-    pub(crate) fn new(alloc: Global) -> Gathering
-        ensures { result ≡ record { text = []; errors = []; end = 0 } }
+    /// No item of the bytes behind the first `base`.
+    pub(crate) fn new(alloc: Global, base: u64) -> Gathering
+        ensures { result ≡ record { text = []; errors = []; base = base; end = pos 0 } }
     {
         Gathering {
             text: TextBlocks::new(alloc),
             errors: Vec::new(alloc),
+            base,
             end: 0,
         }
     }
 
-    /// Takes an item that ends at the byte `to`.
-    fn take(&mut self, item: Item, to: u64) -> Result<(), OutOfMemory>
-        ensures ok { OnOk result (self.new ≡ with_item self.old item to) }
+    /// Takes an item. Only an error's place is looked up among all the bytes.
+    fn take(&mut self, item: Item, end: i64) -> Result<(), OutOfMemory>
+        ensures ok { OnOk result (self.new ≡ with_item self.old item end) }
         ensures err { OnErr result (self.new ≡ self.old) }
     {
         self.text.reserve()?;
         if let Item::Error = item {
-            let place = Place { from: self.end, to };
+            let from = self.base.saturating_add_signed(self.end);
+            let to = self.base.saturating_add_signed(end);
+            let place = Place { from, to };
             self.errors.push(place).map_err(AllocError::from)?;
         }
         put_item(&mut self.text, item);
-        self.end = to;
+        self.end = end;
         Ok(())
     }
 
-    /// Takes the last items of the run over these bytes.
+    /// Takes the items of the end of these bytes.
     pub(crate) fn take_last(&mut self, items: &[Ended], bytes: &[u8]) -> Result<(), OutOfMemory>
         ensures { OnOk result (self.new ≡ fold (with_ended (length bytes.now)) self.old items.now) }
     {
-        let total = bytes.len() as u64;
+        let read = bytes.len() as i64;
         'items: for ended in items {
-            self.take(ended.item, total.saturating_sub(u64::from(ended.back)))?;
+            self.take(ended.item, read - i64::from(ended.back))?;
         }
         Ok(())
     }
@@ -82,7 +87,7 @@ impl<S: Copy> Sink<S> for Gathering {
     ghost taken = { with_shown };
 
     fn item(&mut self, item: Item, end: i64, _after: S) -> Result<(), OutOfMemory> {
-        self.take(item, index(end))
+        self.take(item, end)
     }
 }
 
@@ -99,11 +104,4 @@ fn put_item(text: &mut TextBlocks, item: Item)
         }
         Item::Error => text.put(char::REPLACEMENT_CHARACTER),
     }
-}
-
-/// An end as an index: no item ends before the first byte.
-fn index(end: i64) -> u64
-    ensures { result ≡ index_of end }
-{
-    if end < 0 { 0 } else { end as u64 }
 }

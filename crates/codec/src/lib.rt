@@ -4,8 +4,13 @@
 mod by_any;
 mod decoder;
 mod decoding;
+#[cfg(test)]
+mod examples;
 mod fault;
 mod gathering;
+mod mark;
+mod prefix;
+mod sniffing;
 mod state;
 #[cfg(test)]
 mod tests;
@@ -16,5 +21,7 @@ pub use by_any::decode_any;
 pub use decoder::AnyDecoder;
 pub use decoding::{Decoding, decode_by};
 pub use fault::CodecFault;
+pub use mark::{Sniffed, sniff};
+pub use prefix::Prefix;
 pub use state::AnyState;
-pub use whole::{Decoded, decode_whole};
+pub use whole::{Decoded, decode_fatal, decode_whole};

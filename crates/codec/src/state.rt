@@ -1,16 +1,23 @@
 //! States of the one decoder.
+ghost use Rattle.std.specs.Prelude.{◌≡◌};
+ghost use Rattle.codec.specs.Any.{output_of};
 
+use crate::prefix::Prefix;
 use decoder_core::{OneByteState, ReplacementState, Utf8State, Utf16State};
+use iso2022jp::{Iso2022JpState, OutputState};
 use multibyte_decoders::{EucJpState, Gb18030State, PairState};
 
-/// Where the decoder stands between two bytes: which encoding's decoder it is, and that decoder's
-/// own state.
+/// Where the decoder stands between two bytes: the bytes themselves while they may become a byte
+/// order mark, else which encoding is in force and where its own decoder stands.
 #[derive(Clone, Copy, PartialEq, Eq, Debug)]
 pub enum AnyState {
+    /// The bytes so far are the beginning of a byte order mark.
+    Sniffing(Prefix),
     Utf8(Utf8State),
     Gb18030(Gb18030State),
     Big5(PairState),
     EucJp(EucJpState),
+    Iso2022Jp(Iso2022JpState),
     ShiftJis(PairState),
     EucKr(PairState),
     SingleByte(OneByteState),
@@ -18,4 +25,17 @@ pub enum AnyState {
     Replacement(ReplacementState),
     Utf16Be(Utf16State),
     Utf16Le(Utf16State),
+}
+
+impl AnyState {
+    /// What the bytes behind the last escape of ISO-2022-JP stand for (Encoding Standard,
+    /// "ISO-2022-JP decoder output state"); `Ascii` in every other encoding.
+    pub fn output(self) -> OutputState
+        ensures { result ≡ output_of self }
+    {
+        match self {
+            AnyState::Iso2022Jp(state) => state.output(),
+            _ => OutputState::Ascii,
+        }
+    }
 }

@@ -9,6 +9,8 @@ use std::alloc::Global;
 use std::process::Abort;
 use std::test::Fail;
 
+mod sniffing;
+
 const FILES: [(IndexKind, &str); 8] = [
     (
         IndexKind::SingleByte(Encoding::Windows1252),
@@ -50,7 +52,8 @@ fn error(from: u64, to: u64) -> Placed {
     }
 }
 
-/// The bytes have this text and these items, whole and in two parts wherever the cut is.
+/// The bytes have this text and these items, whole and in two parts wherever the cut is; no byte
+/// order mark stands before them.
 fn decodes(
     rt: &impl Abort,
     alloc: Global,
@@ -59,11 +62,24 @@ fn decodes(
     text: &str,
     items: &[Placed],
 ) -> Result<(), Fail> {
-    let indexes = small_indexes(alloc)?;
-    let whole = decode_whole(alloc, &indexes, encoding, bytes)?;
-    assert_eq!(rt; whole.encoding, encoding);
-    assert_eq!(rt; whole.bom_len, 0);
-    assert_eq!(rt; whole.text.as_str(), text);
+    let sniffed = Sniffed {
+        encoding,
+        bom_len: 0,
+    };
+    decodes_behind_mark(rt, alloc, encoding, bytes, sniffed, text, items)
+}
+
+/// The same of bytes that may begin with a byte order mark, which says what is in force.
+fn decodes_behind_mark(
+    rt: &impl Abort,
+    alloc: Global,
+    given: Encoding,
+    bytes: &[u8],
+    sniffed: Sniffed,
+    text: &str,
+    items: &[Placed],
+) -> Result<(), Fail> {
+    assert_eq!(rt; sniff(given, bytes), sniffed);
     let mut errors = Vec::new(alloc);
     for placed in items {
         if let Item::Error = placed.item {
@@ -73,10 +89,24 @@ fn decodes(
             })?;
         }
     }
+    let indexes = small_indexes(alloc)?;
+    let whole = decode_whole(alloc, &indexes, given, bytes)?;
+    assert_eq!(rt; whole.encoding, sniffed.encoding);
+    assert_eq!(rt; whole.bom_len, sniffed.bom_len);
+    assert_eq!(rt; whole.text.as_str(), text);
     assert_eq!(rt; whole.errors.as_slice(), errors.as_slice());
-    let decoder = AnyDecoder::new(&indexes, encoding).ok_or(CodecFault::NoIndex)?;
+    let malformed = errors.first().map(|place| CodecFault::Malformed(*place));
+    match decode_fatal(alloc, &indexes, given, bytes) {
+        Ok(fatal) => {
+            assert_eq!(rt; None, malformed);
+            assert_eq!(rt; fatal.as_str(), text);
+        }
+        Err(fault) => assert_eq!(rt; Some(fault), malformed),
+    }
+    let decoder = AnyDecoder::new(&indexes, given).ok_or(CodecFault::NoIndex)?;
     for cut in 0..bytes.len() {
-        let parts = decode_parts(alloc, &decoder, bytes, 0, &[cut], &mut meter())?;
+        let from = sniffed.bom_len;
+        let parts = decode_parts(alloc, &decoder, bytes, from, &[cut], &mut meter())?;
         assert_eq!(rt; parts.as_slice(), items, "cut at {cut}");
     }
     Ok(())
@@ -281,6 +311,138 @@ fn utf16_lone_surrogate_gives_back_the_unit(rt: HostRuntime) -> Result<(), Fail>
 }
 
 #[test]
+fn utf8_mark_before_windows_1252(rt: HostRuntime) -> Result<(), Fail> {
+    decodes_behind_mark(
+        &rt,
+        rt.alloc(),
+        Encoding::Windows1252,
+        &[0xEF, 0xBB, 0xBF, 0x41],
+        Sniffed {
+            encoding: Encoding::Utf8,
+            bom_len: 3,
+        },
+        "A",
+        &[one(3, 4, 'A')],
+    )
+}
+
+#[test]
+fn utf8_mark_alone(rt: HostRuntime) -> Result<(), Fail> {
+    decodes_behind_mark(
+        &rt,
+        rt.alloc(),
+        Encoding::Utf8,
+        &[0xEF, 0xBB, 0xBF],
+        Sniffed {
+            encoding: Encoding::Utf8,
+            bom_len: 3,
+        },
+        "",
+        &[],
+    )
+}
+
+#[test]
+fn utf16_marks_of_both_byte_orders(rt: HostRuntime) -> Result<(), Fail> {
+    decodes_behind_mark(
+        &rt,
+        rt.alloc(),
+        Encoding::ShiftJis,
+        &[0xFE, 0xFF, 0x00, 0x41],
+        Sniffed {
+            encoding: Encoding::Utf16Be,
+            bom_len: 2,
+        },
+        "A",
+        &[one(2, 4, 'A')],
+    )?;
+    decodes_behind_mark(
+        &rt,
+        rt.alloc(),
+        Encoding::Utf16Be,
+        &[0xFF, 0xFE, 0x41, 0x00],
+        Sniffed {
+            encoding: Encoding::Utf16Le,
+            bom_len: 2,
+        },
+        "A",
+        &[one(2, 4, 'A')],
+    )
+}
+
+#[test]
+fn part_of_a_mark_is_no_mark(rt: HostRuntime) -> Result<(), Fail> {
+    decodes_behind_mark(
+        &rt,
+        rt.alloc(),
+        Encoding::Utf8,
+        &[0xEF, 0xBB],
+        Sniffed {
+            encoding: Encoding::Utf8,
+            bom_len: 0,
+        },
+        "\u{FFFD}",
+        &[error(0, 2)],
+    )
+}
+
+#[test]
+fn error_behind_a_mark_has_its_place_among_all_bytes(rt: HostRuntime) -> Result<(), Fail> {
+    decodes_behind_mark(
+        &rt,
+        rt.alloc(),
+        Encoding::EucKr,
+        &[0xEF, 0xBB, 0xBF, 0xFF],
+        Sniffed {
+            encoding: Encoding::Utf8,
+            bom_len: 3,
+        },
+        "\u{FFFD}",
+        &[error(3, 4)],
+    )?;
+    decodes_behind_mark(
+        &rt,
+        rt.alloc(),
+        Encoding::Utf8,
+        &[0xFF, 0xFE, 0x41, 0x00, 0x42],
+        Sniffed {
+            encoding: Encoding::Utf16Le,
+            bom_len: 2,
+        },
+        "A\u{FFFD}",
+        &[one(2, 4, 'A'), error(4, 5)],
+    )
+}
+
+#[test]
+fn fatal_stops_at_the_first_error(rt: HostRuntime) -> Result<(), Fail> {
+    let alloc = rt.alloc();
+    let indexes = small_indexes(alloc)?;
+    let bytes = [0xB0, 0xA1, 0xB0, 0x41, 0xFF];
+    let whole = decode_whole(alloc, &indexes, Encoding::EucKr, &bytes)?;
+    let places = [Place { from: 2, to: 3 }, Place { from: 4, to: 5 }];
+    assert_eq!(rt; whole.errors.as_slice(), places.as_slice());
+    let fault = decode_fatal(alloc, &indexes, Encoding::EucKr, &bytes).err();
+    assert_eq!(rt; fault, Some(CodecFault::Malformed(places[0])));
+    let text = decode_fatal(alloc, &indexes, Encoding::EucKr, &[0xB0, 0xA1, 0x41])?;
+    assert_eq!(rt; text.as_str(), "\u{AC00}A");
+    Ok(())
+}
+
+#[test]
+fn meter_counts_the_bytes_behind_the_mark(rt: HostRuntime) -> Result<(), Fail> {
+    let alloc = rt.alloc();
+    let indexes = Indexes::new();
+    let decoder = AnyDecoder::new(&indexes, Encoding::Utf8).ok_or(CodecFault::NoIndex)?;
+    let mut count = meter();
+    decode_any(alloc, &decoder, &[0xEF, 0xBB, 0xBF, 0x41, 0x42], &mut count)?;
+    assert_eq!(rt; count.decoded(), 2);
+    decode_any(alloc, &decoder, b"ABC", &mut count)?;
+    assert_eq!(rt; count.decoded(), 5);
+    Ok(())
+}
+
+#[test]
 fn no_index_where_a_file_is_absent(rt: HostRuntime) -> Result<(), Fail> {
     let alloc = rt.alloc();
     let mut indexes = Indexes::new();
@@ -295,6 +457,10 @@ fn no_index_where_a_file_is_absent(rt: HostRuntime) -> Result<(), Fail> {
     for encoding in refused.iter() {
         let answer = decode_whole(alloc, &indexes, *encoding, b"A").err();
         assert_eq!(rt; answer, Some(CodecFault::NoIndex));
+        let malformed = decode_fatal(alloc, &indexes, *encoding, &[0xFF]).err();
+        assert_eq!(rt; malformed, Some(CodecFault::NoIndex));
+        let marked = decode_whole(alloc, &indexes, *encoding, &[0xEF, 0xBB, 0xBF]).err();
+        assert_eq!(rt; marked, Some(CodecFault::NoIndex));
         assert!(rt; AnyDecoder::new(&indexes, *encoding).is_none());
     }
     assert!(rt; AnyDecoder::new(&indexes, Encoding::ShiftJis).is_some());

@@ -1,14 +1,15 @@
 //! Decoding of bytes as a whole.
-ghost use Rattle.std.specs.Prelude.{◌≡◌, IfOk, string_bytes};
+ghost use Rattle.std.specs.Prelude.{◌≡◌, None, IfOk, string_bytes};
 ghost use Rattle.std.specs.Str.{chars};
 ghost use Rattle.decoder_core.specs.Text.{code_points, error_places};
-ghost use Rattle.codec.specs.Decode.{decode};
+ghost use Rattle.codec.specs.Decode.{decode, fatal_of};
 ghost use Rattle.codec.specs.Refused.{Refused};
 
 use crate::by_any::decode_any;
 use crate::decoder::AnyDecoder;
 use crate::decoding::Decoding;
 use crate::fault::CodecFault;
+use crate::mark::{Sniffed, sniff};
 use decoder_core::meter;
 use enc_names::{Encoding, Place};
 use index_loader::Indexes;
@@ -24,11 +25,12 @@ pub struct Decoded {
     pub errors: Vec<Place>,
 }
 
-/// Decodes bytes (Encoding Standard, "decode", error mode "replacement", but that no byte order
-/// mark is looked for). Refused with `NoIndex` where the encoding can't be decoded.
+/// Decodes bytes (Encoding Standard, "decode", error mode "replacement"). Refused with `NoIndex`
+/// where the encoding given can't be decoded.
 ///
 /// Bytes that come in parts, however they are cut, have the same items: [`AnyDecoder`] is a
-/// `Decoder`, and for each of those `decode_parts` answers the places of the run over all bytes.
+/// `Decoder`, and for each of those `decode_parts` answers the places of the run over all bytes, of
+/// which the first begins behind the mark.
 #[tactic(auto, unfolding(crate::specs::Decode::decode))]
 pub fn decode_whole(
     alloc: Global,
@@ -40,14 +42,33 @@ pub fn decode_whole(
     ensures bom_len { IfOk result (λ d. d.bom_len ≡ (decode indexes.now encoding bytes.now).bom) }
     ensures text { IfOk result (λ d. chars (string_bytes d.text) ≡ code_points (decode indexes.now encoding bytes.now).items) }
     ensures errors { IfOk result (λ d. d.errors.items ≡ error_places (decode indexes.now encoding bytes.now).items) }
-    ensures faults { Refused indexes.now encoding result }
+    ensures faults { Refused indexes.now encoding None result }
 {
     let decoder = AnyDecoder::new(indexes, encoding).ok_or(CodecFault::NoIndex)?;
     let Decoding { text, errors } = decode_any(alloc, &decoder, bytes, &mut meter())?;
+    let Sniffed { encoding, bom_len } = sniff(encoding, bytes);
     Ok(Decoded {
         encoding,
-        bom_len: 0,
+        bom_len,
         text,
         errors,
     })
+}
+
+/// Decodes bytes to their text (Encoding Standard, "decode", error mode "fatal"). Refused with
+/// `NoIndex` where the encoding given can't be decoded, then with `Malformed` at the first error.
+pub fn decode_fatal(
+    alloc: Global,
+    indexes: &Indexes,
+    encoding: Encoding,
+    bytes: &[u8],
+) -> Result<String, CodecFault>
+    ensures text { IfOk result (λ text. chars (string_bytes text) ≡ code_points (decode indexes.now encoding bytes.now).items) }
+    ensures faults { Refused indexes.now encoding (fatal_of (decode indexes.now encoding bytes.now).items) result }
+{
+    let Decoded { text, errors, .. } = decode_whole(alloc, indexes, encoding, bytes)?;
+    match errors.first() {
+        Some(place) => Err(CodecFault::Malformed(*place)),
+        None => Ok(text),
+    }
 }

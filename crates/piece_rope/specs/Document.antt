@@ -1,5 +1,5 @@
 -- A document and what is read off its bytes.
-use Rattle.std.specs.Prelude.{ℕ, List}
+use Rattle.std.specs.Prelude.{ℕ, List, Option, slice_get}
 use Rattle.enc_names.specs.declared.encoding.Encoding.{Encoding}
 use Rattle.enc_names.specs.declared.place.Place.{Place}
 use Rattle.index_loader.specs.Files.{Files}
@@ -22,3 +22,7 @@ text_of d = code_points (decoded d).items
 -- the places of the errors in its bytes, in order
 unfoldable pub errors_of : Document → List Place
 errors_of d = error_places (decoded d).items
+
+-- the place of the first error, if there is one
+abbrev pub first_error : Document → Option Place
+first_error d = slice_get (errors_of d) 0

@@ -1,12 +1,12 @@
 //! Documents.
-ghost use Rattle.std.specs.Prelude.{◌≡◌, ◌≢◌, ◌+◌, ◌-◌, ◌≤◌, length, take, drop, None, IfOk, OnOk, OnErr, string_bytes};
+ghost use Rattle.std.specs.Prelude.{◌≡◌, ◌≢◌, ◌+◌, ◌-◌, ◌^◌, ◌≤◌, min, length, take, drop, None, IfOk, OnOk, OnErr, string_bytes};
 ghost use Rattle.std.specs.Str.{encode_utf8_all};
 
 use crate::fault::DocFault;
 use crate::limits::{DOCUMENT_LIMIT, checked_cut};
 use crate::scalars::scalars_between;
 use crate::spliced::spliced_bytes;
-use codec::{AnyDecoder, Decoding, decode_any};
+use codec::{AnyDecoder, Decoding, decode_any, sniff};
 use decoder_core::Meter;
 use enc_names::{Encoding, Place};
 use index_loader::Indexes;
@@ -15,8 +15,8 @@ use std::marker::Model;
 
 /// A document: its bytes and the encoding given for them, beside the indexes that it was opened
 /// with. Whatever is asked of it is answered as decoding its bytes from scratch answers it
-/// (Encoding Standard, "decode", error mode "replacement", but that no byte order mark is looked
-/// for). Contracts see these three alone.
+/// (Encoding Standard, "decode"), with a byte order mark looked for each time. Contracts see these
+/// three alone.
 #[derive(Drop)]
 pub struct Doc<'i> {
     indexes: &'i Indexes,
@@ -37,11 +37,14 @@ impl<'i> Model for Doc<'i> {
 }
 
 impl<'i> Doc<'i> {
-    ghost use Rattle.piece_rope.specs.Document.{text_of, errors_of, decoded};
+    ghost use Rattle.codec.specs.Mark.{mark_length};
+    ghost use Rattle.piece_rope.specs.Document.{text_of, errors_of, first_error, decoded};
     ghost use Rattle.piece_rope.specs.Edits.{Faults, spliced, spliced_document, open_fault, splice_fault, text_fault, errors_fault};
 
-    /// A document of these bytes. Refused with `NoIndex` where the encoding can't be decoded, then
-    /// with `TooLarge` above 2,097,152 bytes. The meter counts the bytes decoded, at most these.
+    /// A document of these bytes, in the encoding given where no byte order mark puts another in
+    /// force. Refused with `NoIndex` where an index file of the encoding given isn't there, then
+    /// with `TooLarge` above 2,097,152 bytes. The meter counts the bytes decoded: those behind the
+    /// byte order mark, and perhaps those of the mark.
     #[tactic(auto, unfolding(crate::specs::Edits::open_fault))]
     pub fn open(
         alloc: Global,
@@ -52,6 +55,7 @@ impl<'i> Doc<'i> {
     ) -> Result<Doc<'i>, DocFault>
         ensures ok { IfOk result (λ doc. doc ≡ record { indexes = indexes.now; given = encoding; bytes = bytes.now }) }
         ensures faults { Faults (open_fault indexes.now encoding bytes.now) result }
+        ensures meter { OnOk result (min (meter.old + (length bytes.now - mark_length bytes.now)) (2 ^ 64 - 1) ≤ meter.new) }
         ensures meter_least { meter.old ≤ meter.new }
         ensures meter_most { meter.new ≤ meter.old + length bytes.now }
         ensures meter_refused { open_fault indexes.now encoding bytes.now ≢ None → meter.new ≡ meter.old }
@@ -126,6 +130,13 @@ impl<'i> Doc<'i> {
         Ok(Vec::from_slice(*errors.allocator(), &rest[..count])?)
     }
 
+    /// The place of the first error, if there is one.
+    pub fn fatal(&self) -> Option<Place>
+        ensures { result ≡ first_error self.now }
+    {
+        self.decoding.errors.first().copied()
+    }
+
     /// The number of errors.
     pub fn error_count(&self) -> u64
         ensures { result ≡ length (errors_of self.now) }
@@ -133,20 +144,20 @@ impl<'i> Doc<'i> {
         self.decoding.errors.len() as u64
     }
 
-    /// The encoding in force.
+    /// The encoding in force: that of the byte order mark, or else the one given.
     #[tactic(auto, unfolding(codec::specs::Decode::decode))]
     pub fn encoding(&self) -> Encoding
         ensures { result ≡ (decoded self.now).encoding }
     {
-        self.given
+        sniff(self.given, &self.bytes).encoding
     }
 
-    /// The number of bytes of the byte order mark.
+    /// The number of bytes of the byte order mark, 0 where there is none.
     #[tactic(auto, unfolding(codec::specs::Decode::decode))]
     pub fn bom_len(&self) -> u64
         ensures { result ≡ (decoded self.now).bom }
     {
-        0
+        sniff(self.given, &self.bytes).bom_len
     }
 
     /// The indexes that the document was opened with.

@@ -31,11 +31,34 @@ fn answers(rt: &impl Abort, doc: &Doc<'_>, text: &str, errors: &[Place]) -> Resu
     assert_eq!(rt; doc.text(0, length + 1).err(), Some(DocFault::OutOfRange));
     assert_eq!(rt; doc.errors(0, number)?.as_slice(), errors);
     assert_eq!(rt; doc.error_count(), number);
-    assert_eq!(rt; doc.bom_len(), 0);
+    assert_eq!(rt; doc.fatal(), errors.first().copied());
     Ok(())
 }
 
-/// The text and the errors are answered of a document opened whole, and of one spliced together.
+/// With this encoding given, one is in force behind a byte order mark of so many bytes, and the
+/// text and the errors are answered: of a document opened whole, and of one spliced together.
+fn decodes_behind(
+    rt: &impl Abort,
+    alloc: Global,
+    indexes: &Indexes,
+    given: Encoding,
+    bytes: &[u8],
+    (encoding, bom_len): (Encoding, u64),
+    text: &str,
+    errors: &[Place],
+) -> Result<(), DocFault> {
+    let mut meter = meter();
+    let whole = Doc::open(alloc, indexes, given, bytes, &mut meter)?;
+    assert_eq!(rt; whole.encoding(), encoding);
+    assert_eq!(rt; whole.bom_len(), bom_len);
+    answers(rt, &whole, text, errors)?;
+    let spliced = spliced_together(alloc, indexes, given, bytes, &mut meter)?;
+    assert_eq!(rt; spliced.encoding(), encoding);
+    assert_eq!(rt; spliced.bom_len(), bom_len);
+    answers(rt, &spliced, text, errors)
+}
+
+/// The same with no byte order mark.
 fn decodes_in(
     rt: &impl Abort,
     alloc: Global,
@@ -45,13 +68,8 @@ fn decodes_in(
     text: &str,
     errors: &[Place],
 ) -> Result<(), DocFault> {
-    let mut meter = meter();
-    let whole = Doc::open(alloc, indexes, encoding, bytes, &mut meter)?;
-    assert_eq!(rt; whole.encoding(), encoding);
-    answers(rt, &whole, text, errors)?;
-    let spliced = spliced_together(alloc, indexes, encoding, bytes, &mut meter)?;
-    assert_eq!(rt; spliced.encoding(), encoding);
-    answers(rt, &spliced, text, errors)
+    let in_force = (encoding, 0);
+    decodes_behind(rt, alloc, indexes, encoding, bytes, in_force, text, errors)
 }
 
 /// The same of UTF-8, with no index file.
@@ -243,7 +261,7 @@ fn limit_of_a_document(rt: HostRuntime) -> Result<(), Fail> {
 }
 
 #[test]
-fn encodings_without_their_decoder(rt: HostRuntime) -> Result<(), Fail> {
+fn encodings_without_their_index_files(rt: HostRuntime) -> Result<(), Fail> {
     let indexes = Indexes::new();
     let past = vec![in rt.alloc(); b'a'; 2_097_153]?;
     for encoding in [
@@ -328,5 +346,191 @@ fn gb18030_bytes_given_back(rt: HostRuntime) -> Result<(), Fail> {
         "\u{FFFD}0\u{4E04}",
         &[error(0, 1)],
     )?;
+    Ok(())
+}
+
+#[test]
+fn utf_16_without_its_end(rt: HostRuntime) -> Result<(), Fail> {
+    let alloc = rt.alloc();
+    let indexes = Indexes::new();
+    let le = Encoding::Utf16Le;
+    decodes_in(
+        &rt,
+        alloc,
+        &indexes,
+        le,
+        &[0x41],
+        "\u{FFFD}",
+        &[error(0, 1)],
+    )?;
+    let lead_and_byte = [0x3D, 0xD8, 0x41];
+    decodes_in(
+        &rt,
+        alloc,
+        &indexes,
+        le,
+        &lead_and_byte,
+        "\u{FFFD}",
+        &[error(0, 3)],
+    )?;
+    let lead = [0xD8, 0x3D];
+    decodes_in(
+        &rt,
+        alloc,
+        &indexes,
+        Encoding::Utf16Be,
+        &lead,
+        "\u{FFFD}",
+        &[error(0, 2)],
+    )?;
+    Ok(())
+}
+
+#[test]
+fn utf_16_lead_surrogate_alone(rt: HostRuntime) -> Result<(), Fail> {
+    let alloc = rt.alloc();
+    let indexes = Indexes::new();
+    let le = Encoding::Utf16Le;
+    let letter = [0x3D, 0xD8, 0x41, 0x00];
+    decodes_in(
+        &rt,
+        alloc,
+        &indexes,
+        le,
+        &letter,
+        "\u{FFFD}A",
+        &[error(0, 2)],
+    )?;
+    let lead = [0x3D, 0xD8, 0x3D, 0xD8, 0x00, 0xDE];
+    decodes_in(
+        &rt,
+        alloc,
+        &indexes,
+        le,
+        &lead,
+        "\u{FFFD}\u{1F600}",
+        &[error(0, 2)],
+    )?;
+    Ok(())
+}
+
+#[test]
+fn iso_2022_jp_errors_at_escapes(rt: HostRuntime) -> Result<(), Fail> {
+    let alloc = rt.alloc();
+    let mut indexes = Indexes::new();
+    indexes.put(Index::parse(alloc, IndexKind::Jis0208, b"283\t0x3042\n")?);
+    indexes.put(Index::parse(alloc, IndexKind::Katakana, b"0\t0x3002\n")?);
+    let jp = Encoding::Iso2022Jp;
+    let cut_pair = [0x1B, 0x24, 0x42, 0x24, 0x1B, 0x41];
+    let errors = [error(0, 5), error(5, 5), error(5, 6)];
+    decodes_in(
+        &rt,
+        alloc,
+        &indexes,
+        jp,
+        &cut_pair,
+        "\u{FFFD}\u{FFFD}\u{FFFD}",
+        &errors,
+    )?;
+    let twice = [0x1B, 0x28, 0x42, 0x1B, 0x28, 0x42, 0x41];
+    decodes_in(
+        &rt,
+        alloc,
+        &indexes,
+        jp,
+        &twice,
+        "\u{FFFD}A",
+        &[error(0, 6)],
+    )?;
+    let pair = [0x41, 0x1B, 0x24, 0x42, 0x24, 0x22, 0x1B, 0x28, 0x42];
+    decodes_in(&rt, alloc, &indexes, jp, &pair, "A\u{3042}", &[])?;
+    Ok(())
+}
+
+#[test]
+fn byte_order_mark_under_another_encoding(rt: HostRuntime) -> Result<(), Fail> {
+    let alloc = rt.alloc();
+    let mut indexes = Indexes::new();
+    indexes.put(Index::parse(alloc, IndexKind::Jis0208, b"0\t0x3000\n")?);
+    let given = Encoding::ShiftJis;
+    let be = (Encoding::Utf16Be, 2);
+    decodes_behind(
+        &rt,
+        alloc,
+        &indexes,
+        given,
+        &[0xFE, 0xFF, 0x00, 0x41],
+        be,
+        "A",
+        &[],
+    )?;
+    let le = (Encoding::Utf16Le, 2);
+    let cut = [0xFF, 0xFE, 0x41];
+    decodes_behind(
+        &rt,
+        alloc,
+        &indexes,
+        given,
+        &cut,
+        le,
+        "\u{FFFD}",
+        &[error(2, 3)],
+    )?;
+    let utf_8 = (Encoding::Utf8, 3);
+    let marked = [0xEF, 0xBB, 0xBF, 0xFF];
+    decodes_behind(
+        &rt,
+        alloc,
+        &indexes,
+        given,
+        &marked,
+        utf_8,
+        "\u{FFFD}",
+        &[error(3, 4)],
+    )?;
+    Ok(())
+}
+
+#[test]
+fn splice_takes_a_byte_order_mark_away(rt: HostRuntime) -> Result<(), Fail> {
+    let mut indexes = Indexes::new();
+    let kind = IndexKind::SingleByte(Encoding::Windows1252);
+    indexes.put(Index::parse(rt.alloc(), kind, b"59\t0x00BB\n63\t0x00BF\n")?);
+    let mut meter = meter();
+    let bytes = [0xEF, 0xBB, 0xBF, 0x41];
+    let mut doc = Doc::open(
+        rt.alloc(),
+        &indexes,
+        Encoding::Windows1252,
+        &bytes,
+        &mut meter,
+    )?;
+    assert_eq!(rt; doc.encoding(), Encoding::Utf8);
+    assert_eq!(rt; doc.bom_len(), 3);
+    answers(&rt, &doc, "A", &[])?;
+    doc.splice(0, 1, &[], &mut meter)?;
+    assert_eq!(rt; doc.encoding(), Encoding::Windows1252);
+    assert_eq!(rt; doc.bom_len(), 0);
+    answers(&rt, &doc, "\u{BB}\u{BF}A", &[])?;
+    Ok(())
+}
+
+#[test]
+fn splice_completes_a_byte_order_mark(rt: HostRuntime) -> Result<(), Fail> {
+    let indexes = Indexes::new();
+    let mut meter = meter();
+    let mut doc = Doc::open(
+        rt.alloc(),
+        &indexes,
+        Encoding::Utf8,
+        &[0xEF, 0xBB],
+        &mut meter,
+    )?;
+    assert_eq!(rt; doc.bom_len(), 0);
+    answers(&rt, &doc, "\u{FFFD}", &[error(0, 2)])?;
+    doc.splice(2, 0, &[0xBF], &mut meter)?;
+    assert_eq!(rt; doc.encoding(), Encoding::Utf8);
+    assert_eq!(rt; doc.bom_len(), 3);
+    answers(&rt, &doc, "", &[])?;
     Ok(())
 }

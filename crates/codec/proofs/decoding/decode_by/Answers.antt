@@ -1,4 +1,5 @@
-use Rattle.std.proofs.Common.{sym, ap, ◌∙◌, length}
+use Rattle.std.proofs.Common.{◌≡◌, ℕ, ◌+◌, ◌-◌, sym, ap, ◌∙◌, arith, List, length, take, drop}
+use Rattle.std.proofs.lemmas.List.{take_all, length-drop}
 use Rattle.std.specs.String.{string_bytes}
 use Rattle.std.proofs.lemmas.Result.{IfOk-weaker}
 use Rattle.std.proofs.lemmas.Str.{chars_from_encodes, IsUtf8-string_bytes}
@@ -15,12 +16,20 @@ laws_of g c = record {
   feeds = λ s p q. ap (λ (f : Fed _). f.state) (c.one_run.ensures.feed_parts s p q);
 }
 
+-- the bytes behind the first `skip`, as the slice is taken
+rest-is : {X : Type 0} (skip : ℕ) (bytes : List X) → take (length bytes - skip) (drop skip bytes) ≡ drop skip bytes
+rest-is skip bytes = take_all (length bytes - skip) (drop skip bytes) (omega (arith, length-drop skip bytes))
+
 gathered : (g : Over) (c : goal.After-finish g)
-    → IsGathered (length c.args.bytes.now) (run (g.D.Decoder.table c.args.decoder.now) (g.D.Decoder.initial c.args.decoder.now) c.args.bytes.now) c.take_last.new.self
+    → IsGathered (length c.args.bytes.now) c.args.skip (run (g.D.Decoder.table c.args.decoder.now) (g.D.Decoder.initial c.args.decoder.now) (drop c.args.skip c.args.bytes.now)) c.take_last.new.self
 gathered g c =
-    rw (← c.start.ensures)
-    (gathered-whole (g.D.Decoder.table c.args.decoder.now) (laws_of g c) c.start.result c.in_ok-state.state c.args.bytes.now
-    c.new-gathering.result c.run_piece.new.sink c.take_last.new.self c.as_slice.result.now c.new-gathering.ensures c.in_ok-state.ensures.items
+    let bytes = c.args.bytes.now in
+    let skip = c.args.skip in
+    let rest = take (length bytes - skip) (drop skip bytes) in
+    let whole : skip + length rest ≡ length bytes = omega (arith, c.requires, ap length (rest-is skip bytes), length-drop skip bytes) in
+    rw (← c.start.ensures, ← rest-is skip bytes)
+    (gathered-whole (g.D.Decoder.table c.args.decoder.now) (laws_of g c) (length bytes) skip c.start.result c.in_ok-state.state rest
+    c.new-gathering.result c.run_piece.new.sink c.take_last.new.self c.as_slice.result.now whole (omega arith) c.new-gathering.ensures c.in_ok-state.ensures.items
     c.in_ok-state.ensures.state (c.as_slice.ensures ∙ c.finish-last.ensures.items) c.in_ok-take_last.ensures)
 
 pub returns-clause-text : goal.returns-clause-text

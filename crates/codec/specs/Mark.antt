@@ -1,0 +1,23 @@
+-- Byte order marks (Encoding Standard, "BOM sniff").
+use Rattle.std.specs.Prelude.{ℕ, eqb, List, [], ◌∷◌, if◌then◌else◌, Option, Some, None, option_map}
+use Rattle.std.specs.List.{starts_with}
+use Rattle.std.specs.Option.{unwrap_or}
+use Rattle.enc_names.specs.declared.encoding.Encoding.{Encoding}
+use Rattle.enc_names.specs.declared.encoding.Encoding.TheVariants.{Utf8, Utf16Be, Utf16Le}
+pub use Rattle.codec.specs.declared.mark.Mark.{Mark}
+
+-- the mark that the bytes start with
+abbrev pub mark_of : List ℕ → Option Mark
+mark_of bytes =
+    if starts_with eqb bytes (0xEF ∷ 0xBB ∷ 0xBF ∷ []) then Some (record { encoding = Utf8; len = 3 })
+    else if starts_with eqb bytes (0xFE ∷ 0xFF ∷ []) then Some (record { encoding = Utf16Be; len = 2 })
+    else if starts_with eqb bytes (0xFF ∷ 0xFE ∷ []) then Some (record { encoding = Utf16Le; len = 2 })
+    else None
+
+-- the encoding in force: that of the mark, or else the one given
+abbrev pub in_force : Encoding → List ℕ → Encoding
+in_force given bytes = unwrap_or (option_map (λ (m : Mark). m.encoding) (mark_of bytes)) given
+
+-- the number of bytes that aren't part of the text
+abbrev pub mark_length : List ℕ → ℕ
+mark_length bytes = unwrap_or (option_map (λ (m : Mark). m.len) (mark_of bytes)) 0

@@ -1,0 +1,200 @@
+-- A decoder that looks for a byte order mark comes to an end, and gives few items, as the decoder does that stands behind the look.
+use Rattle.std.proofs.Common.{◌≡◌, ◌≢◌, refl, sym, ap, subst, ◌∙◌, ℕ, ◌+◌, ◌*◌, ◌<◌, ◌≤◌, ◌==◌, List, [], ◌∷◌, ◌++◌, length, length-append, Option, Some, None, arith}
+use Rattle.decoder_core.specs.declared.handler.Answer.TheVariants.{Nothing as no_item, Finished}
+use Rattle.decoder_core.specs.declared.utf16.ByteOrder.TheVariants.{BigEndian, LittleEndian}
+use Rattle.decoder_core.specs.ByCases.{by_if}
+use Rattle.decoder_core.specs.Counts.{Counts, cost}
+use Rattle.decoder_core.specs.Forms.{holds}
+use Rattle.decoder_core.specs.Holding.{falls_of, counts_of}
+use Rattle.decoder_core.specs.Queue.{Turn, Table, Falls, front, behind}
+use Rattle.decoder_core.specs.Utf8.{utf8_start}
+use Rattle.decoder_core.specs.Utf8Laws.{utf8_falls, utf8_counts}
+use Rattle.decoder_core.specs.Utf16.{utf16_start}
+use Rattle.decoder_core.specs.Utf16Laws.{utf16_holding}
+use Rattle.codec.specs.declared.prefix.Prefix.{Prefix}
+use Rattle.codec.specs.declared.prefix.Prefix.TheVariants.{Nothing, Ef, EfBb, Fe, Ff}
+use Rattle.codec.specs.declared.state.AnyState.{AnyState}
+use Rattle.codec.specs.declared.state.AnyState.TheVariants.{Sniffing as in_sniffing, Utf8 as in_utf8, Utf16Be as in_utf16_be, Utf16Le as in_utf16_le}
+use Rattle.codec.specs.Lifted.{lifted_at, lifted, finished}
+use Rattle.codec.specs.LiftedLaws.{falls_lifted, counts_lifted, falls_finished, counts_finished}
+use Rattle.codec.specs.Sniffing.{spelt, restarts, sniffing, sniffing_byte}
+use Rattle.codec.specs.Sniffed.{Seen, Looks, AsUtf8, AsUtf16Be, AsUtf16Le, Given, seen, sniffed_at, sniffed}
+
+-- a state of the given encoding is followed by another
+abbrev pub Keeps : Table AnyState → Type 0
+Keeps given = (s : AnyState) (read : Option ℕ) → seen s ≡ Given → seen (given s read).state ≡ Given
+
+-- what holds of each kind of turn at a byte behind a prefix holds of the turn
+pub by_sniffing : (P : Turn AnyState → Type 0) (start : AnyState) (p : Prefix) (b : ℕ)
+    → ((longer : Prefix) → length (spelt longer) ≡ length (spelt p) + 1 → P (holds (in_sniffing longer)))
+    → P (holds (in_utf8 utf8_start)) → P (holds (in_utf16_be utf16_start)) → P (holds (in_utf16_le utf16_start))
+    → P (restarts start (spelt p ++ b ∷ []))
+    → P (sniffing_byte start p b)
+by_sniffing P start Nothing b longer u be le none =
+    by_if P (b == 0xEF) (longer Ef refl) (by_if P (b == 0xFE) (longer Fe refl) (by_if P (b == 0xFF) (longer Ff refl) none))
+by_sniffing P start Ef b longer u be le none = by_if P (b == 0xBB) (longer EfBb refl) none
+by_sniffing P start EfBb b longer u be le none = by_if P (b == 0xBF) u none
+by_sniffing P start Fe b longer u be le none = by_if P (b == 0xFF) be none
+by_sniffing P start Ff b longer u be le none = by_if P (b == 0xFE) le none
+
+pub sniffing-answer : (start : AnyState) (p : Prefix) (read : Option ℕ) → (sniffing start p read).answer ≡ no_item
+sniffing-answer start p None = refl
+sniffing-answer start p (Some b) = by_sniffing (λ t. t.answer ≡ no_item) start p b (λ _ _. refl) refl refl refl refl
+
+prefix-few : (p : Prefix) → length (spelt p) ≤ 2
+prefix-few Nothing = Prim.omega arith
+prefix-few Ef = Prim.omega arith
+prefix-few EfBb = Prim.omega arith
+prefix-few Fe = Prim.omega arith
+prefix-few Ff = Prim.omega arith
+
+-- what a law says of a state; that of the given encoding's table speaks of its states
+abbrev pub weight_at : (AnyState → ℕ) → AnyState → Seen → ℕ
+weight_at held s (Looks p) = 17 + 7 * length (spelt p)
+weight_at held s (AsUtf8 u) = utf8_falls.held u
+weight_at held s (AsUtf16Be u) = (falls_of _ (utf16_holding BigEndian)).held u
+weight_at held s (AsUtf16Le u) = (falls_of _ (utf16_holding LittleEndian)).held u
+weight_at held s Given = held s
+
+abbrev pub weight : (AnyState → ℕ) → AnyState → ℕ
+weight held s = weight_at held s (seen s)
+
+abbrev pub bytes_at : (AnyState → ℕ) → AnyState → Seen → ℕ
+bytes_at given s (Looks p) = 5 + length (spelt p)
+bytes_at given s (AsUtf8 u) = utf8_counts.bytes u
+bytes_at given s (AsUtf16Be u) = (counts_of _ (utf16_holding BigEndian)).bytes u
+bytes_at given s (AsUtf16Le u) = (counts_of _ (utf16_holding LittleEndian)).bytes u
+bytes_at given s Given = given s
+
+abbrev pub bytes : (AnyState → ℕ) → AnyState → ℕ
+bytes given s = bytes_at given s (seen s)
+
+-- what the given encoding's table and its first state owe
+pub record Lawful (start : AnyState) (given : Table AnyState) : Type 0 where
+  pub keeps : Keeps given
+  pub falls : Falls given
+  pub counts : Counts given
+  pub light : weight falls.held start ≤ 14
+  pub few : bytes counts.bytes start ≤ 5
+
+module _ (start : AnyState) (given : Table AnyState) (lawful : Lawful start given) where
+  abbrev table : Table AnyState
+  table = sniffed start given
+
+  -- ---- turns come to an end
+
+  abbrev held : AnyState → ℕ
+  held = weight lawful.falls.held
+
+  small_at : (s : AnyState) (o : Seen) → weight_at lawful.falls.held s o < 32
+  small_at s (Looks p) = let few = prefix-few p in Prim.omega arith
+  small_at s (AsUtf8 u) = utf8_falls.small u
+  small_at s (AsUtf16Be u) = (falls_of _ (utf16_holding BigEndian)).small u
+  small_at s (AsUtf16Le u) = (falls_of _ (utf16_holding LittleEndian)).small u
+  small_at s Given = lawful.falls.small s
+
+  looks-fall : (p : Prefix) (q : List ℕ)
+      → 8 * length ((sniffing start p (front q)).back ++ behind q) + held (sniffing start p (front q)).state < 8 * length q + (17 + 7 * length (spelt p))
+  looks-fall p [] = Prim.omega (arith, lawful.light, prefix-few p, length-append (spelt p) [])
+  looks-fall p (b ∷ q) =
+      by_sniffing (λ t. 8 * length (t.back ++ q) + held t.state < 8 * length (b ∷ q) + (17 + 7 * length (spelt p))) start p b
+      (λ longer e. Prim.omega (arith, e)) (Prim.omega arith) (Prim.omega arith) (Prim.omega arith)
+      (Prim.omega (arith, lawful.light, prefix-few p, length-append (spelt p ++ b ∷ []) q, length-append (spelt p) (b ∷ [])))
+
+  falls_at : (s : AnyState) (q : List ℕ) (o : Seen) → seen s ≡ o
+      → (sniffed_at start given s (front q) o).answer ≢ Finished
+      → 8 * length ((sniffed_at start given s (front q) o).back ++ behind q) + held (sniffed_at start given s (front q) o).state
+      < 8 * length q + weight_at lawful.falls.held s o
+  falls_at s q (Looks p) e goes = looks-fall p q
+  falls_at s q (AsUtf8 u) e goes = utf8_falls.falls u q goes
+  falls_at s q (AsUtf16Be u) e goes = (falls_of _ (utf16_holding BigEndian)).falls u q goes
+  falls_at s q (AsUtf16Le u) e goes = (falls_of _ (utf16_holding LittleEndian)).falls u q goes
+  falls_at s q Given e goes =
+      let turn = given s (front q) in
+      subst (λ (n : ℕ). 8 * length (turn.back ++ behind q) + n < 8 * length q + lawful.falls.held s)
+      (sym (ap (weight_at lawful.falls.held turn.state) (lawful.keeps s (front q) e))) (lawful.falls.falls s q goes)
+
+  stays_at : (s : AnyState) (b : ℕ) (o : Seen) → seen s ≡ o → (sniffed_at start given s (Some b) o).answer ≡ Finished → (r : Option ℕ)
+      → ((table (sniffed_at start given s (Some b) o).state r).answer ≡ Finished)
+      × ((table (sniffed_at start given s (Some b) o).state r).state ≡ (sniffed_at start given s (Some b) o).state)
+  stays_at s b (Looks p) e done r = let goes = sym (sniffing-answer start p (Some b)) ∙ done in absurd Prim.cc
+  stays_at s b (AsUtf8 u) e done r = let after = utf8_falls.stays u b done r in (after.0, ap in_utf8 after.1)
+  stays_at s b (AsUtf16Be u) e done r =
+      let after = (falls_of _ (utf16_holding BigEndian)).stays u b done r in (after.0, ap in_utf16_be after.1)
+  stays_at s b (AsUtf16Le u) e done r =
+      let after = (falls_of _ (utf16_holding LittleEndian)).stays u b done r in (after.0, ap in_utf16_le after.1)
+  stays_at s b Given e done r =
+      let next = (given s (Some b)).state in
+      let after = lawful.falls.stays s b done r in
+      let kept = lawful.keeps s (Some b) e in (
+        ap (λ (o : Seen). (sniffed_at start given next r o).answer) kept ∙ after.0,
+        ap (λ (o : Seen). (sniffed_at start given next r o).state) kept ∙ after.1,
+      )
+
+  pub falls_sniffed : Falls table
+  falls_sniffed = record {
+    held = held;
+    small = λ s. small_at s (seen s);
+    falls = λ s q. falls_at s q (seen s) refl;
+    stays = λ s b. stays_at s b (seen s) refl;
+  }
+
+  -- ---- a step gives few items
+
+  abbrev holds_bytes : AnyState → ℕ
+  holds_bytes = bytes lawful.counts.bytes
+
+  few_at : (s : AnyState) (o : Seen) → bytes_at lawful.counts.bytes s o ≤ 7
+  few_at s (Looks p) = let few = prefix-few p in Prim.omega arith
+  few_at s (AsUtf8 u) = utf8_counts.few u
+  few_at s (AsUtf16Be u) = (counts_of _ (utf16_holding BigEndian)).few u
+  few_at s (AsUtf16Le u) = (counts_of _ (utf16_holding LittleEndian)).few u
+  few_at s Given = lawful.counts.few s
+
+  looks-cost : (p : Prefix) (q : List ℕ)
+      → length ((sniffing start p (front q)).back ++ behind q) + holds_bytes (sniffing start p (front q)).state + cost (sniffing start p (front q)).answer
+      ≤ length q + (5 + length (spelt p))
+  looks-cost p [] = Prim.omega (arith, lawful.few, length-append (spelt p) [])
+  looks-cost p (b ∷ q) =
+      by_sniffing (λ t. length (t.back ++ q) + holds_bytes t.state + cost t.answer ≤ length (b ∷ q) + (5 + length (spelt p))) start p b
+      (λ longer e. Prim.omega (arith, e)) (Prim.omega arith) (Prim.omega arith) (Prim.omega arith)
+      (Prim.omega (arith, lawful.few, length-append (spelt p ++ b ∷ []) q, length-append (spelt p) (b ∷ [])))
+
+  costs_at : (s : AnyState) (q : List ℕ) (o : Seen) → seen s ≡ o
+      → length ((sniffed_at start given s (front q) o).back ++ behind q) + holds_bytes (sniffed_at start given s (front q) o).state + cost (sniffed_at start given s (front q) o).answer
+      ≤ length q + bytes_at lawful.counts.bytes s o
+  costs_at s q (Looks p) e = looks-cost p q
+  costs_at s q (AsUtf8 u) e = utf8_counts.costs u q
+  costs_at s q (AsUtf16Be u) e = (counts_of _ (utf16_holding BigEndian)).costs u q
+  costs_at s q (AsUtf16Le u) e = (counts_of _ (utf16_holding LittleEndian)).costs u q
+  costs_at s q Given e =
+      let turn = given s (front q) in
+      subst (λ (n : ℕ). length (turn.back ++ behind q) + n + cost turn.answer ≤ length q + lawful.counts.bytes s)
+      (sym (ap (bytes_at lawful.counts.bytes turn.state) (lawful.keeps s (front q) e))) (lawful.counts.costs s q)
+
+  pub counts_sniffed : Counts table
+  counts_sniffed = record {
+    bytes = holds_bytes;
+    few = λ s. few_at s (seen s);
+    costs = λ s q. costs_at s q (seen s) refl;
+  }
+
+-- ---- decoders that stand behind the look
+
+module _ {S : Type 0} (own : S → AnyState) (part : AnyState → Option S) (found : (s : S) → part (own s) ≡ Some s)
+    (given : (s : S) → seen (own s) ≡ Given) (small : Table S) where
+  keeps_at : (t : AnyState) (read : Option ℕ) (o : Option S) → seen t ≡ Given → seen (lifted_at own small t read o).state ≡ Given
+  keeps_at t read (Some s) e = given (small s read).state
+  keeps_at t read None e = e
+
+  pub lawful_lifted : (start : S) (falls : Falls small) (counts : Counts small) → falls.held start ≤ 14 → counts.bytes start ≤ 5 → Lawful (own start) (lifted own part small)
+  lawful_lifted start falls counts light few = record {
+    keeps = λ t read. keeps_at t read (part t);
+    falls = falls_lifted own part found small falls;
+    counts = counts_lifted own part found small counts;
+    light = Prim.rw (given start, found start) light;
+    few = Prim.rw (given start, found start) few;
+  }
+
+pub lawful_finished : (start : AnyState) → weight (λ _. 0) start ≤ 14 → bytes (λ _. 0) start ≤ 5 → Lawful start finished
+lawful_finished start light few = record { keeps = λ s read e. e; falls = falls_finished; counts = counts_finished; light = light; few = few }

@@ -1,0 +1,45 @@
+-- The look for a byte order mark, byte by byte: what may begin one is held, and put back where it doesn't.
+use Rattle.std.specs.Prelude.{ℕ, ◌==◌, List, [], ◌∷◌, Option, Some, None, if◌then◌else◌}
+use Rattle.std.specs.List.{find}
+use Rattle.std.specs.Str.{bytes_eq}
+use Rattle.decoder_core.specs.declared.handler.Answer.TheVariants.{Nothing as no_item}
+use Rattle.decoder_core.specs.Forms.{holds}
+use Rattle.decoder_core.specs.Queue.{Turn}
+use Rattle.decoder_core.specs.Utf8.{utf8_start}
+use Rattle.decoder_core.specs.Utf16.{utf16_start}
+use Rattle.codec.specs.declared.prefix.Prefix.{Prefix}
+use Rattle.codec.specs.declared.prefix.Prefix.TheVariants.{Nothing, Ef, EfBb, Fe, Ff}
+use Rattle.codec.specs.declared.state.AnyState.{AnyState}
+use Rattle.codec.specs.declared.state.AnyState.TheVariants.{Sniffing as in_sniffing, Utf8 as in_utf8, Utf16Be as in_utf16_be, Utf16Le as in_utf16_le}
+
+-- the bytes of a proper prefix of a mark
+abbrev pub spelt : Prefix → List ℕ
+spelt Nothing = []
+spelt Ef = 0xEF ∷ []
+spelt EfBb = 0xEF ∷ 0xBB ∷ []
+spelt Fe = 0xFE ∷ []
+spelt Ff = 0xFF ∷ []
+
+-- the proper prefix of a mark that the bytes are, all of them
+abbrev pub prefix_of : List ℕ → Option Prefix
+prefix_of bytes = find (λ p. bytes_eq (spelt p) bytes) (Nothing ∷ Ef ∷ EfBb ∷ Fe ∷ Ff ∷ [])
+
+-- no mark: the bytes are read again, from the first state of the encoding given
+abbrev pub restarts : AnyState → List ℕ → Turn AnyState
+restarts start bytes = record { state = start; answer = no_item; back = bytes }
+
+-- a byte behind a proper prefix
+abbrev pub sniffing_byte : AnyState → Prefix → ℕ → Turn AnyState
+sniffing_byte start Nothing b =
+    if b == 0xEF then holds (in_sniffing Ef)
+    else if b == 0xFE then holds (in_sniffing Fe)
+    else if b == 0xFF then holds (in_sniffing Ff)
+    else restarts start (b ∷ [])
+sniffing_byte start Ef b = if b == 0xBB then holds (in_sniffing EfBb) else restarts start (0xEF ∷ b ∷ [])
+sniffing_byte start EfBb b = if b == 0xBF then holds (in_utf8 utf8_start) else restarts start (0xEF ∷ 0xBB ∷ b ∷ [])
+sniffing_byte start Fe b = if b == 0xFF then holds (in_utf16_be utf16_start) else restarts start (0xFE ∷ b ∷ [])
+sniffing_byte start Ff b = if b == 0xFE then holds (in_utf16_le utf16_start) else restarts start (0xFF ∷ b ∷ [])
+
+abbrev pub sniffing : AnyState → Prefix → Option ℕ → Turn AnyState
+sniffing start p None = restarts start (spelt p)
+sniffing start p (Some b) = sniffing_byte start p b

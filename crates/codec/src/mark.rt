@@ -1,0 +1,66 @@
+//! Byte order marks.
+ghost use Rattle.std.specs.Prelude.{◌≡◌, ◌≤◌, length, IfSome};
+ghost use Rattle.codec.specs.Mark.{mark_of, in_force, mark_length};
+
+use enc_names::Encoding;
+
+/// A byte order mark: the encoding that it stands for, and its length in bytes.
+#[derive(Clone, Copy)]
+pub(crate) struct Mark {
+    pub encoding: Encoding,
+    pub len: usize,
+}
+
+impl Mark {
+    /// The mark that the bytes begin with.
+    pub(crate) fn of(bytes: &[u8]) -> Option<Mark>
+        ensures value { result ≡ mark_of bytes.now }
+        ensures within { IfSome result (λ mark. mark.len ≤ length bytes.now) }
+    {
+        if bytes.starts_with(&[0xEF, 0xBB, 0xBF]) {
+            return Some(Mark {
+                encoding: Encoding::Utf8,
+                len: 3,
+            });
+        }
+        if bytes.starts_with(&[0xFE, 0xFF]) {
+            return Some(Mark {
+                encoding: Encoding::Utf16Be,
+                len: 2,
+            });
+        }
+        if bytes.starts_with(&[0xFF, 0xFE]) {
+            return Some(Mark {
+                encoding: Encoding::Utf16Le,
+                len: 2,
+            });
+        }
+        None
+    }
+}
+
+/// What the start of some bytes says: the encoding in force, and the number of bytes of the byte
+/// order mark, 0 where there is none.
+#[derive(Clone, Copy, PartialEq, Eq, Debug)]
+pub struct Sniffed {
+    pub encoding: Encoding,
+    pub bom_len: u64,
+}
+
+/// Looks for a byte order mark, whose encoding takes the place of the given one (Encoding
+/// Standard, "BOM sniff").
+pub fn sniff(given: Encoding, bytes: &[u8]) -> Sniffed
+    ensures encoding { result.encoding ≡ in_force given bytes.now }
+    ensures bom_len { result.bom_len ≡ mark_length bytes.now }
+{
+    match Mark::of(bytes) {
+        Some(mark) => Sniffed {
+            encoding: mark.encoding,
+            bom_len: mark.len as u64,
+        },
+        None => Sniffed {
+            encoding: given,
+            bom_len: 0,
+        },
+    }
+}
