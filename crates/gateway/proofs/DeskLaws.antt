@@ -7,6 +7,7 @@ use Rattle.std.specs.declared.result.Result.TheVariants.{Ok, Err}
 use Rattle.std.specs.FinMap.{get, len}
 use Rattle.std.specs.Option.{is_some}
 use Rattle.enc_names.specs.declared.encoding.Encoding.{Encoding}
+use Rattle.enc_names.specs.declared.place.Place.{Place}
 use Rattle.enc_names.specs.Labels.{lookup_in}
 use Rattle.index_loader.specs.Files.{Files}
 use Rattle.gateway.specs.Asked.{Opens, Splices, Reads, ListsErrors}
@@ -14,14 +15,16 @@ use Rattle.gateway.specs.Desk.{Office, Outcome, max_documents, refused, told, pu
 use Rattle.piece_rope.specs.declared.fault.DocFault.{DocFault}
 use Rattle.piece_rope.specs.declared.fault.DocFault.TheVariants as cause
 use Rattle.piece_rope.specs.Decode.{is_decoded}
-use Rattle.piece_rope.specs.Document.{Document, text_of, errors_of}
+use Rattle.piece_rope.specs.Document.{Document, text_of, errors_of, first_error}
 use Rattle.piece_rope.specs.Edits.{document_limit, open_fault, splice_fault, text_fault, errors_fault, spliced as spliced_bytes}
 use Rattle.gateway.specs.DeskRuns.{is_edited, OnlyEditsChange, RefusalsChangeNothing, MemoryIsNeverWanted}
-use Rattle.gateway.specs.Documents.{Held, Names, document_of, max_revision, unless, edited, text_reply, errors_reply}
+use Rattle.gateway.specs.Documents.{Held, Names, document_of, max_revision, unless, edited, in_mode, text_reply, errors_reply}
 use Rattle.gateway.specs.declared.desk.fault.Fault.{Fault}
 use Rattle.gateway.specs.declared.desk.fault.Fault.TheVariants.{NameTaken, OutOfMemory}
 use Rattle.gateway.specs.declared.desk.reply.Reply.{Reply}
 use Rattle.gateway.specs.declared.desk.reply.Reply.TheVariants.{Refused}
+use Rattle.gateway.specs.declared.desk.text_mode.TextMode.{TextMode}
+use Rattle.gateway.specs.declared.desk.text_mode.TextMode.TheVariants.{Replacement, Fatal}
 
 -- an edit, or the documents stay
 abbrev Keeps : Names → Outcome → Type 0
@@ -58,9 +61,10 @@ keeps-spliced : (o : Office) (doc : List ℕ) (rev at del : ℕ) (ins : Option (
 keeps-spliced o doc rev at del None = λ e. refl
 keeps-spliced o doc rev at del (Some ins) = keeps-spliced_at o.indexes o.documents doc rev at del ins (get o.documents doc)
 
-keeps-text_at : (indexes : Files) (documents : Names) (from to : ℕ) (found : Option Held) → Keeps documents (text_at indexes documents from to found)
-keeps-text_at indexes documents from to None = λ e. refl
-keeps-text_at indexes documents from to (Some h) = keeps-told documents (text_reply indexes h from to)
+keeps-text_at : (indexes : Files) (documents : Names) (from to : ℕ) (mode : TextMode) (found : Option Held)
+    → Keeps documents (text_at indexes documents from to mode found)
+keeps-text_at indexes documents from to mode None = λ e. refl
+keeps-text_at indexes documents from to mode (Some h) = keeps-told documents (text_reply indexes h from to mode)
 
 keeps-errors_at : (indexes : Files) (documents : Names) (from max : ℕ) (found : Option Held) → Keeps documents (errors_at indexes documents from max found)
 keeps-errors_at indexes documents from max None = λ e. refl
@@ -69,7 +73,7 @@ keeps-errors_at indexes documents from max (Some h) = keeps-told documents (erro
 pub only_edits_change : OnlyEditsChange
 only_edits_change o (Opens doc label bytes) = keeps-opened o doc label (base64_bytes bytes)
 only_edits_change o (Splices doc rev at del bytes) = keeps-spliced o doc rev at del (base64_bytes bytes)
-only_edits_change o (Reads doc from to) = keeps-text_at o.indexes o.documents from to (get o.documents doc)
+only_edits_change o (Reads doc from to mode) = keeps-text_at o.indexes o.documents from to mode (get o.documents doc)
 only_edits_change o (ListsErrors doc from max) = keeps-errors_at o.indexes o.documents from max (get o.documents doc)
 
 pub refusals_change_nothing : RefusalsChangeNothing
@@ -132,6 +136,13 @@ answered-told documents (Some cause.OutOfRange) reply p q = λ e. cc
 answered-told documents (Some cause.TooLarge) reply p q = λ e. cc
 answered-told documents (Some cause.OutOfMemory) reply p q = λ e. p refl
 
+answered-in_mode : (documents : Names) (mode : TextMode) (first : Option Place) (answer : Result Reply Fault)
+    → Answered (told documents answer) → Answered (told documents (in_mode mode first answer))
+answered-in_mode documents Replacement first answer p = p
+answered-in_mode documents Fatal None answer p = p
+answered-in_mode documents Fatal (Some place) (Ok reply) p = λ e. cc
+answered-in_mode documents Fatal (Some place) (Err f) p = p
+
 answered-if : (b : Bool) (x y : Outcome) → Answered x → Answered y → Answered (if b then x else y)
 answered-if true x y p q = p
 answered-if false x y p q = q
@@ -169,10 +180,12 @@ answered-spliced : (o : Office) (doc : List ℕ) (rev at del : ℕ) (ins : Optio
 answered-spliced o doc rev at del None = λ e. cc
 answered-spliced o doc rev at del (Some ins) = answered-spliced_at o.indexes o.documents doc rev at del ins (get o.documents doc)
 
-answered-text_at : (indexes : Files) (documents : Names) (from to : ℕ) (found : Option Held) → Answered (text_at indexes documents from to found)
-answered-text_at indexes documents from to None = λ e. cc
-answered-text_at indexes documents from to (Some h) =
-    answered-told documents (text_fault (document_of indexes h) from to) _ (caused-text (document_of indexes h) from to) (λ e. cc)
+answered-text_at : (indexes : Files) (documents : Names) (from to : ℕ) (mode : TextMode) (found : Option Held)
+    → Answered (text_at indexes documents from to mode found)
+answered-text_at indexes documents from to mode None = λ e. cc
+answered-text_at indexes documents from to mode (Some h) =
+    answered-in_mode documents mode (first_error (document_of indexes h)) _
+    (answered-told documents (text_fault (document_of indexes h) from to) _ (caused-text (document_of indexes h) from to) (λ e. cc))
 
 answered-errors_at : (indexes : Files) (documents : Names) (from max : ℕ) (found : Option Held) → Answered (errors_at indexes documents from max found)
 answered-errors_at indexes documents from max None = λ e. cc
@@ -182,5 +195,5 @@ answered-errors_at indexes documents from max (Some h) =
 pub memory_is_never_wanted : MemoryIsNeverWanted
 memory_is_never_wanted o (Opens doc label bytes) = answered-opened o doc label (base64_bytes bytes)
 memory_is_never_wanted o (Splices doc rev at del bytes) = answered-spliced o doc rev at del (base64_bytes bytes)
-memory_is_never_wanted o (Reads doc from to) = answered-text_at o.indexes o.documents from to (get o.documents doc)
+memory_is_never_wanted o (Reads doc from to mode) = answered-text_at o.indexes o.documents from to mode (get o.documents doc)
 memory_is_never_wanted o (ListsErrors doc from max) = answered-errors_at o.indexes o.documents from max (get o.documents doc)

@@ -22,6 +22,7 @@ use Rattle.gateway.specs.Documents.{Held, Names, fresh, unless, edited, edit_rep
 use Rattle.gateway.specs.declared.desk.fault.Fault.TheVariants.{NameTaken, NoIndex, TooManyDocuments, OutOfRange}
 use Rattle.gateway.specs.declared.desk.reply.Reply.{Reply}
 use Rattle.gateway.specs.declared.desk.reply.Reply.TheVariants.{Edited, Text, Errors, Refused}
+use Rattle.gateway.specs.declared.desk.text_mode.TextMode.TheVariants.{Replacement}
 
 opened_bytes : base64_bytes (codes "4oJB") ≡ Some (0xE2 ∷ 0x82 ∷ 0x41 ∷ [])
 unfolding base64_on_literals
@@ -51,7 +52,7 @@ completed_edit : edit_reply no_files completed ≡ Edited 0 Utf8 1
 unfolding decode
 completed_edit = refl
 
-truncated_text : text_reply no_files truncated 0 2 ≡ Ok (Text 0 (0xEF ∷ 0xBF ∷ 0xBD ∷ 0x41 ∷ []))
+truncated_text : text_reply no_files truncated 0 2 Replacement ≡ Ok (Text 0 (0xEF ∷ 0xBF ∷ 0xBD ∷ 0x41 ∷ []))
 unfolding text_fault text_of decode run turns encode
 truncated_text = refl
 
@@ -59,7 +60,7 @@ truncated_errors : errors_reply no_files truncated 0 10 ≡ Ok (Errors 0 1 (reco
 unfolding errors_fault errors_of decode run turns
 truncated_errors = refl
 
-completed_text : text_reply no_files completed 0 2 ≡ Ok (Text 1 (0xE2 ∷ 0x82 ∷ 0xAC ∷ 0x41 ∷ []))
+completed_text : text_reply no_files completed 0 2 Replacement ≡ Ok (Text 1 (0xE2 ∷ 0x82 ∷ 0xAC ∷ 0x41 ∷ []))
 unfolding text_fault text_of decode run turns encode
 completed_text = refl
 
@@ -110,8 +111,8 @@ opens =
     ∙ ap (put no_files finite.empty name) (admitting _ (finite.len-empty (slice_cmp nat_cmp) Held))
     ∙ ap (λ r. record { reply = r; documents = one }) truncated_edit
 
-reads_truncated : answer_of (office one) (Reads name 0 2) ≡ record { reply = Text 0 (0xEF ∷ 0xBF ∷ 0xBD ∷ 0x41 ∷ []); documents = one }
-reads_truncated = ap (text_at no_files one 0 2) one_held ∙ ap (told one) truncated_text
+reads_truncated : answer_of (office one) (Reads name 0 2 Replacement) ≡ record { reply = Text 0 (0xEF ∷ 0xBF ∷ 0xBD ∷ 0x41 ∷ []); documents = one }
+reads_truncated = ap (text_at no_files one 0 2 Replacement) one_held ∙ ap (told one) truncated_text
 
 lists_errors : answer_of (office one) (ListsErrors name 0 10) ≡ record { reply = Errors 0 1 (record { from = 0; to = 2 } ∷ []); documents = one }
 lists_errors = ap (errors_at no_files one 0 10) one_held ∙ ap (told one) truncated_errors
@@ -123,8 +124,8 @@ splices =
     ∙ ap (put no_files one name) completing
     ∙ ap (λ r. record { reply = r; documents = two }) completed_edit
 
-reads_completed : answer_of (office two) (Reads name 0 2) ≡ record { reply = Text 1 (0xE2 ∷ 0x82 ∷ 0xAC ∷ 0x41 ∷ []); documents = two }
-reads_completed = ap (text_at no_files two 0 2) two_held ∙ ap (told two) completed_text
+reads_completed : answer_of (office two) (Reads name 0 2 Replacement) ≡ record { reply = Text 1 (0xE2 ∷ 0x82 ∷ 0xAC ∷ 0x41 ∷ []); documents = two }
+reads_completed = ap (text_at no_files two 0 2 Replacement) two_held ∙ ap (told two) completed_text
 
 splices_past_end : answer_of (office two) (Splices name 1 5 0 (codes "")) ≡ record { reply = Refused OutOfRange; documents = two }
 splices_past_end =
@@ -145,7 +146,7 @@ end : replies_to (office two) (Splices name 1 5 0 (codes "") ∷ []) ≡ Refused
 end = step (office two) (Splices name 1 5 0 (codes "")) [] (Refused OutOfRange) two [] splices_past_end refl
 
 from_reads_completed : replies_to (office two) (drop 4 session) ≡ drop 4 session_replies
-from_reads_completed = step (office two) (Reads name 0 2) (drop 5 session) _ two (drop 5 session_replies) reads_completed end
+from_reads_completed = step (office two) (Reads name 0 2 Replacement) (drop 5 session) _ two (drop 5 session_replies) reads_completed end
 
 from_splices : replies_to (office one) (drop 3 session) ≡ drop 3 session_replies
 from_splices = step (office one) (Splices name 0 2 0 (codes "rA==")) (drop 4 session) _ two (drop 4 session_replies) splices from_reads_completed
@@ -154,7 +155,7 @@ from_lists_errors : replies_to (office one) (drop 2 session) ≡ drop 2 session_
 from_lists_errors = step (office one) (ListsErrors name 0 10) (drop 3 session) _ one (drop 3 session_replies) lists_errors from_splices
 
 from_reads_truncated : replies_to (office one) (drop 1 session) ≡ drop 1 session_replies
-from_reads_truncated = step (office one) (Reads name 0 2) (drop 2 session) _ one (drop 2 session_replies) reads_truncated from_lists_errors
+from_reads_truncated = step (office one) (Reads name 0 2 Replacement) (drop 2 session) _ one (drop 2 session_replies) reads_truncated from_lists_errors
 
 pub session_worked : replies_to office_without_files session ≡ session_replies
 session_worked = step (office finite.empty) (Opens name (codes "utf-8") (codes "4oJB")) (drop 1 session) _ one (drop 1 session_replies) opens from_reads_truncated

@@ -5,7 +5,7 @@ use Rattle.json.specs.Print.{escape_byte}
 use Rattle.serde_json.specs.Data.{Data}
 use Rattle.enc_names.specs.Labels.{LabelTable}
 use Rattle.index_loader.specs.Files.{Files}
-use Rattle.gateway.specs.declared.desk.fault.Fault.TheVariants.{BadBase64, NoDocument, NameTaken, UnknownLabel, NoIndex, TooManyDocuments, Stale, RevisionsSpent, OutOfRange, TooLarge, OutOfMemory}
+use Rattle.gateway.specs.declared.desk.fault.Fault.TheVariants.{BadBase64, NoDocument, NameTaken, UnknownLabel, NoIndex, TooManyDocuments, Stale, RevisionsSpent, OutOfRange, TooLarge, Malformed, OutOfMemory}
 use Rattle.gateway.specs.declared.desk.reply.Reply.{Reply}
 use Rattle.gateway.specs.declared.desk.reply.Reply.TheVariants.{Edited, Text, Errors, Refused}
 use Rattle.gateway.specs.declared.request.refusal.Refusal.{Refusal}
@@ -48,6 +48,7 @@ told_apart id (Refused (Stale rev)) = refl
 told_apart id (Refused RevisionsSpent) = refl
 told_apart id (Refused OutOfRange) = refl
 told_apart id (Refused TooLarge) = refl
+told_apart id (Refused (Malformed place)) = refl
 
 -- ---- the desk's answer
 

@@ -15,6 +15,7 @@ use Rattle.gateway.specs.declared.desk.fault.Fault.{Fault}
 use Rattle.gateway.specs.declared.desk.fault.Fault.TheVariants.{BadBase64, NoDocument, NameTaken, UnknownLabel, NoIndex, TooManyDocuments, OutOfMemory}
 use Rattle.gateway.specs.declared.desk.reply.Reply.{Reply}
 use Rattle.gateway.specs.declared.desk.reply.Reply.TheVariants.{Refused}
+use Rattle.gateway.specs.declared.desk.text_mode.TextMode.{TextMode}
 
 -- the loaded index files and labels, and the documents
 pub record Office : Type 0 where
@@ -81,9 +82,9 @@ abbrev pub spliced : Office → List ℕ → ℕ → ℕ → ℕ → Option (Lis
 spliced o doc rev at del None = refused o.documents BadBase64
 spliced o doc rev at del (Some ins) = spliced_at o.indexes o.documents doc rev at del ins (get o.documents doc)
 
-abbrev pub text_at : Files → Names → ℕ → ℕ → Option Held → Outcome
-text_at indexes documents from to None = refused documents NoDocument
-text_at indexes documents from to (Some h) = told documents (text_reply indexes h from to)
+abbrev pub text_at : Files → Names → ℕ → ℕ → TextMode → Option Held → Outcome
+text_at indexes documents from to mode None = refused documents NoDocument
+text_at indexes documents from to mode (Some h) = told documents (text_reply indexes h from to mode)
 
 abbrev pub errors_at : Files → Names → ℕ → ℕ → Option Held → Outcome
 errors_at indexes documents from max None = refused documents NoDocument
@@ -93,7 +94,7 @@ errors_at indexes documents from max (Some h) = told documents (errors_reply ind
 abbrev pub answer_of : Office → Asked → Outcome
 answer_of o (Opens doc label bytes) = opened o doc label (base64_bytes bytes)
 answer_of o (Splices doc rev at del bytes) = spliced o doc rev at del (base64_bytes bytes)
-answer_of o (Reads doc from to) = text_at o.indexes o.documents from to (get o.documents doc)
+answer_of o (Reads doc from to mode) = text_at o.indexes o.documents from to mode (get o.documents doc)
 answer_of o (ListsErrors doc from max) = errors_at o.indexes o.documents from max (get o.documents doc)
 
 -- ---- one step

@@ -10,6 +10,7 @@ use Rattle.gateway.specs.declared.desk.fault.Fault.{Fault}
 use Rattle.gateway.specs.declared.desk.fault.Fault.TheVariants.{OutOfRange, OutOfMemory}
 use Rattle.gateway.specs.declared.desk.reply.Reply.{Reply}
 use Rattle.gateway.specs.declared.desk.reply.Reply.TheVariants.{Edited, Text, Errors, Refused}
+use Rattle.gateway.specs.declared.desk.text_mode.TextMode.TheVariants.{Replacement}
 
 -- the reply accepts an open or an edit
 abbrev pub is_edited : Reply → Bool
@@ -48,10 +49,10 @@ office_without_files = record { indexes = no_files; labels = name_labels; docume
 abbrev pub session : List Asked
 session =
     Opens (codes "a") (codes "utf-8") (codes "4oJB")
-    ∷ Reads (codes "a") 0 2
+    ∷ Reads (codes "a") 0 2 Replacement
     ∷ ListsErrors (codes "a") 0 10
     ∷ Splices (codes "a") 0 2 0 (codes "rA==")
-    ∷ Reads (codes "a") 0 2
+    ∷ Reads (codes "a") 0 2 Replacement
     ∷ Splices (codes "a") 1 5 0 (codes "")
     ∷ []
 

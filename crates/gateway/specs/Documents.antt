@@ -4,16 +4,19 @@ use Rattle.std.specs.Ordering.{nat_cmp}
 use Rattle.std.specs.Cmp.Lexicographic.{slice_cmp}
 use Rattle.std.specs.FinMap.{FinMap}
 use Rattle.enc_names.specs.declared.encoding.Encoding.{Encoding}
+use Rattle.enc_names.specs.declared.place.Place.{Place}
 use Rattle.index_loader.specs.Files.{Files}
 use Rattle.piece_rope.specs.declared.fault.DocFault.{DocFault}
 use Rattle.piece_rope.specs.declared.fault.DocFault.TheVariants as cause
 use Rattle.std.specs.Str.{encode_utf8_all}
-use Rattle.piece_rope.specs.Document.{Document, decoded, text_of, errors_of}
+use Rattle.piece_rope.specs.Document.{Document, decoded, text_of, errors_of, first_error}
 use Rattle.piece_rope.specs.Edits.{spliced, splice_fault, text_fault, errors_fault}
 use Rattle.gateway.specs.declared.desk.fault.Fault.{Fault}
-use Rattle.gateway.specs.declared.desk.fault.Fault.TheVariants.{NoIndex, Stale, RevisionsSpent, OutOfRange, TooLarge, OutOfMemory}
+use Rattle.gateway.specs.declared.desk.fault.Fault.TheVariants.{NoIndex, Stale, RevisionsSpent, OutOfRange, TooLarge, Malformed, OutOfMemory}
 use Rattle.gateway.specs.declared.desk.reply.Reply.{Reply}
 use Rattle.gateway.specs.declared.desk.reply.Reply.TheVariants.{Edited, Text, Errors}
+use Rattle.gateway.specs.declared.desk.text_mode.TextMode.{TextMode}
+use Rattle.gateway.specs.declared.desk.text_mode.TextMode.TheVariants.{Fatal}
 
 -- what is held at a name: nothing derived
 pub record Held : Type 0 where
@@ -70,11 +73,16 @@ edit_reply indexes h =
     let d = decoded (document_of indexes h) in
     Edited d.bom d.encoding h.revision
 
+-- In mode fatal the first error, wherever it stands, takes the place of an answer (Encoding Standard, "decode", error mode "fatal").
+abbrev pub in_mode : {A : Type 0} → TextMode → Option Place → Result A Fault → Result A Fault
+in_mode Fatal (Some place) (Ok x) = Err (Malformed place)
+in_mode mode first answer = answer
+
 -- the code points from..to, in UTF-8
-abbrev pub text_reply : Files → Held → ℕ → ℕ → Result Reply Fault
-text_reply indexes h from to =
+abbrev pub text_reply : Files → Held → ℕ → ℕ → TextMode → Result Reply Fault
+text_reply indexes h from to mode =
     let d = document_of indexes h in
-    unless (text_fault d from to) (Text h.revision (encode_utf8_all (take (to - from) (drop from (text_of d)))))
+    in_mode mode (first_error d) (unless (text_fault d from to) (Text h.revision (encode_utf8_all (take (to - from) (drop from (text_of d))))))
 
 -- at most max places of errors, the first being number `from`
 abbrev pub errors_reply : Files → Held → ℕ → ℕ → Result Reply Fault

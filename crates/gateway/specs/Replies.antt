@@ -6,7 +6,7 @@ use Rattle.enc_names.specs.Names.{name_of}
 use Rattle.enc_names.specs.declared.encoding.Encoding.{Encoding}
 use Rattle.enc_names.specs.declared.place.Place.{Place}
 use Rattle.gateway.specs.declared.desk.fault.Fault.{Fault}
-use Rattle.gateway.specs.declared.desk.fault.Fault.TheVariants.{BadBase64, NoDocument, NameTaken, UnknownLabel, NoIndex, TooManyDocuments, Stale, RevisionsSpent, OutOfRange, TooLarge, OutOfMemory}
+use Rattle.gateway.specs.declared.desk.fault.Fault.TheVariants.{BadBase64, NoDocument, NameTaken, UnknownLabel, NoIndex, TooManyDocuments, Stale, RevisionsSpent, OutOfRange, TooLarge, Malformed, OutOfMemory}
 use Rattle.gateway.specs.declared.desk.reply.Reply.{Reply}
 use Rattle.gateway.specs.declared.desk.reply.Reply.TheVariants.{Edited, Text, Errors, Refused}
 use Rattle.gateway.specs.declared.request.field.Field.{Field}
@@ -27,6 +27,7 @@ fault_name (Stale rev) = codes "Stale"
 fault_name RevisionsSpent = codes "RevisionsSpent"
 fault_name OutOfRange = codes "OutOfRange"
 fault_name TooLarge = codes "TooLarge"
+fault_name (Malformed place) = codes "Malformed"
 fault_name OutOfMemory = codes "OutOfMemory"
 
 abbrev pub field_name : Field → List ℕ
@@ -79,9 +80,14 @@ numbered_data name id = object (member (codes "fault") (string name) (member (co
 abbrev pub stale_data : ℕ → ℕ → Data
 stale_data id rev = object (member (codes "fault") (string (codes "Stale")) (member (codes "id") (whole id) (member (codes "rev") (whole rev) no_members)))
 
+abbrev pub malformed_data : ℕ → Place → Data
+malformed_data id place =
+    object (member (codes "fault") (string (codes "Malformed")) (member (codes "id") (whole id) (member (codes "place") (place_data place) no_members)))
+
 -- Want of memory has no number.
 abbrev pub fault_data : ℕ → Fault → Data
 fault_data id (Stale rev) = stale_data id rev
+fault_data id (Malformed place) = malformed_data id place
 fault_data id OutOfMemory = bare_data (codes "OutOfMemory")
 fault_data id f = numbered_data (fault_name f) id
 

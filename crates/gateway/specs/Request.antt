@@ -1,6 +1,6 @@
 -- The request that a line spells, over the data that its JSON text stands for. Of two equal keys
 -- the last counts, and a number that has a fraction, an exponent or a minus sign is no whole number.
-use Rattle.std.specs.Prelude.{◌≡◌, ◌<◌, ◌-◌, ◌^◌, ℕ, ◌||◌, ◌==◌, nat_lt, nat_le, List, length, codes, if◌then◌else◌, Bool, true, false, is_some, Option, Some, None, option_and_then, Result, Ok, Err}
+use Rattle.std.specs.Prelude.{◌≡◌, ◌<◌, ◌-◌, ◌^◌, ℕ, ◌||◌, ◌==◌, nat_lt, nat_le, List, length, codes, if◌then◌else◌, is_some, Option, Some, None, option_and_then, Result, Ok, Err}
 use Rattle.std.specs.Str.{bytes_eq, is_utf8}
 use Rattle.serde_json.specs.Data.{Data}
 use Rattle.serde_json.specs.Read.{read}
@@ -9,6 +9,8 @@ use Rattle.serde_json.specs.View.{view}
 use Rattle.serde_json.specs.declared.value.Value.{Value}
 use Rattle.gateway.specs.Asked.{Asked, Opens, Splices, Reads, ListsErrors, asked}
 use Rattle.gateway.specs.declared.desk.command.Command.{Command}
+use Rattle.gateway.specs.declared.desk.text_mode.TextMode.{TextMode}
+use Rattle.gateway.specs.declared.desk.text_mode.TextMode.TheVariants.{Replacement, Fatal}
 use Rattle.gateway.specs.declared.request.field.Field.{Field}
 use Rattle.gateway.specs.declared.request.field.Field.TheVariants as field
 use Rattle.gateway.specs.declared.request.refusal.Refusal.{Refusal}
@@ -53,17 +55,18 @@ as_name text = if (length text == 0) || nat_lt 64 (length text) then None else S
 abbrev pub name_at : Data → Option (List ℕ)
 name_at d = option_and_then as_name (text_at d (codes "doc"))
 
-abbrev pub is_text : List ℕ → Option (List ℕ) → Bool
-is_text expected None = false
-is_text expected (Some text) = bytes_eq text expected
+abbrev pub as_text_mode : List ℕ → Option TextMode
+as_text_mode text =
+    if bytes_eq text (codes "replacement") then Some Replacement
+    else (if bytes_eq text (codes "fatal") then Some Fatal else None)
 
-abbrev pub is_replacement : Option Data → Bool
-is_replacement None = true
-is_replacement (Some d) = is_text (codes "replacement") (as_str d)
+abbrev pub or_replacement : Option Data → Option TextMode
+or_replacement None = Some Replacement
+or_replacement (Some d) = option_and_then as_text_mode (as_str d)
 
--- the mode is absent or `replacement`
-abbrev pub mode_at : Data → Bool
-mode_at d = is_replacement (get (codes "mode") d)
+-- the mode of a text, which is `replacement` where it is absent
+abbrev pub text_mode_at : Data → Option TextMode
+text_mode_at d = or_replacement (get (codes "mode") d)
 
 -- ---- the fields of each command, in the order of their checks
 
@@ -88,7 +91,8 @@ text_of d = do
   doc ← need field.Doc (name_at d)
   from ← need field.From (number_at d (codes "from") max_number)
   to ← need field.To (number_at d (codes "to") max_number)
-  if mode_at d then Ok (Reads doc from to) else Err field.Mode
+  mode ← need field.Mode (text_mode_at d)
+  Ok (Reads doc from to mode)
 
 abbrev pub errors_of : Data → Result Asked Field
 errors_of d = do

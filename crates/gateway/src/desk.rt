@@ -21,13 +21,15 @@ mod laws;
 mod reply;
 #[cfg(test)]
 mod tests;
+mod text_mode;
 
 use base64_text::bytes_of;
 pub use command::Command;
 use documents::Documents;
 pub use fault::Fault;
-pub use laws::{refusals_change_nothing, truncated_sequence_is_completed};
+pub use laws::refusals_change_nothing;
 pub use reply::{Reply, ReplyPlaces, ReplyText};
+pub use text_mode::TextMode;
 
 /// Named documents, beside the labels and the index files by which they are opened. Contracts
 /// see a finite map from names to the encoding given, the bytes and the revision, beside labels
@@ -76,7 +78,12 @@ impl<'i> Desk<'i> {
                 del,
                 bytes,
             } => self.splice(doc, rev, at, del, bytes),
-            Command::Text { doc, from, to } => self.text(doc, from, to),
+            Command::Text {
+                doc,
+                from,
+                to,
+                mode,
+            } => self.text(doc, from, to, mode),
             Command::Errors { doc, from, max } => self.errors(doc, from, max),
         };
         match answer {
@@ -115,11 +122,11 @@ impl<'i> Desk<'i> {
     }
 
     /// The code points `from..to` of a document.
-    fn text(&self, doc: &str, from: u64, to: u64) -> Result<Reply, Fault>
-        ensures { Answers self.now (Reads doc.now from to) (reply_of result) self.now }
+    fn text(&self, doc: &str, from: u64, to: u64, mode: TextMode) -> Result<Reply, Fault>
+        ensures { Answers self.now (Reads doc.now from to mode) (reply_of result) self.now }
     {
         match self.documents.get(doc) {
-            Some(kept) => kept.text(from, to),
+            Some(kept) => kept.text(from, to, mode),
             None => Err(Fault::NoDocument),
         }
     }

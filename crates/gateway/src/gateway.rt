@@ -11,7 +11,7 @@ use std::marker::Model;
 #[cfg(test)]
 mod tests;
 
-/// What happens on a connection, which is named by its number.
+/// What happens on a connection, which is named by its number, from 0 up to `CONNECTIONS`.
 #[derive(Clone, Copy)]
 pub enum Event<'a> {
     /// The connection opens, with no line begun.
@@ -37,7 +37,7 @@ pub enum GateFault {
 /// What an event gave.
 #[derive(Drop)]
 pub struct Out {
-    /// How many bytes the event took.
+    /// How many bytes the event took: none, unless it brought some.
     pub taken: usize,
     /// The reply to the line that the event completed.
     pub reply: Option<ReplyLine>,
@@ -98,7 +98,7 @@ impl<'i> Gateway<'i> {
             (λ fault. gate_fault self.old.lines (happening event.entry) ≡ Some fault) }
         ensures refused { OnErr result (self.new ≡ self.old) }
         ensures step { IfOk result (λ out. Happens self.old (happening event.entry) out.taken out.reply self.new) }
-        ensures count { OnOk result (length self.old.lines ≡ connections) }
+        ensures count { length self.old.lines ≡ connections }
     {
         match event {
             Event::Open(c) => self.open(c),
@@ -112,7 +112,7 @@ impl<'i> Gateway<'i> {
             (λ fault. gate_fault self.old.lines (Opening c) ≡ Some fault) }
         ensures refused { OnErr result (self.new ≡ self.old) }
         ensures step { IfOk result (λ out. Happens self.old (Opening c) out.taken out.reply self.new) }
-        ensures count { OnOk result (length self.old.lines ≡ connections) }
+        ensures count { length self.old.lines ≡ connections }
     {
         if !self.connections.exists(c) {
             return Err(GateFault::BadNumber);
@@ -129,7 +129,7 @@ impl<'i> Gateway<'i> {
             (λ fault. gate_fault self.old.lines (Bringing c bytes.now) ≡ Some fault) }
         ensures refused { OnErr result (self.new ≡ self.old) }
         ensures step { IfOk result (λ out. Happens self.old (Bringing c bytes.now) out.taken out.reply self.new) }
-        ensures count { OnOk result (length self.old.lines ≡ connections) }
+        ensures count { length self.old.lines ≡ connections }
     {
         if !self.connections.exists(c) {
             return Err(GateFault::BadNumber);
@@ -147,7 +147,7 @@ impl<'i> Gateway<'i> {
             (λ fault. gate_fault self.old.lines (Closing c) ≡ Some fault) }
         ensures refused { OnErr result (self.new ≡ self.old) }
         ensures step { IfOk result (λ out. Happens self.old (Closing c) out.taken out.reply self.new) }
-        ensures count { OnOk result (length self.old.lines ≡ connections) }
+        ensures count { length self.old.lines ≡ connections }
     {
         if !self.connections.exists(c) {
             return Err(GateFault::BadNumber);

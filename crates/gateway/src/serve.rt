@@ -2,7 +2,7 @@
 ghost use Rattle.std.specs.Prelude.{◌≡◌, ◌+◌, ◌<◌, ◌≤◌, ◌↔◌, ◌≢◌, None, Err, Some, [], IsSome, IfOk, IfErr, OnOk, OnErr, length};
 ghost use Rattle.std.specs.Io.KnownBytes.{IsAtEnd};
 ghost use Rattle.gateway.specs.Devices.{failures_after};
-ghost use Rattle.gateway.specs.Events.{gate_fault, Opening, with_line};
+ghost use Rattle.gateway.specs.Events.{connections, gate_fault, Opening, Bringing, Happens, with_line};
 ghost use Rattle.gateway.specs.Traffic.{Kept};
 ghost use Rattle.gateway.specs.Serving.{Runs, ends_of, read_failures_of, write_failures_of, IsReadUp};
 ghost use Rattle.gateway.specs.Feeding.{IsOpen, WritesReply, Feeds, FeedsFront, Pumps, EndsAt, progress_ends_of};
@@ -177,13 +177,23 @@ fn feed_line<W: Outlet>(
     ensures feeds { FeedsFront result c bytes.now gateway.old gateway.new (W.written writer.old) (W.written writer.new) }
     ensures failures { W.failures writer.new ≡ failures_after result (W.failures writer.old) }
 {
-    let Out { taken, reply } = match gateway.event(Event::Bytes(c, bytes)) {
-        Ok(out) => out,
-        Err(_) => unreachable!(),
-    };
+    let Out { taken, reply } = bring(gateway, c, bytes);
     match write_reply(writer, reply) {
         Ok(()) => Ok(taken),
         Err(Failed) => Err(Failed),
+    }
+}
+
+// Takes the bytes up to and with the first line feed, and none behind it: the next line is decided
+// when the reply to this one has gone out.
+fn bring(gateway: &mut Gateway<'_>, c: u8, bytes: &[u8]) -> Out
+    requires { IsOpen gateway.old c }
+    ensures step { Happens gateway.old (Bringing c bytes.now) result.taken result.reply gateway.new }
+    ensures count { length gateway.old.lines ≡ connections }
+{
+    match gateway.event(Event::Bytes(c, bytes)) {
+        Ok(out) => out,
+        Err(_) => unreachable!(),
     }
 }
 

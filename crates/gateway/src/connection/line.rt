@@ -13,7 +13,7 @@ use memchr::memchr;
 use std::alloc::Global;
 use std::marker::Model;
 
-/// The bytes of a line that is begun, or, where they were dropped, how many came.
+/// The bytes of a line that is begun, at most 4,194,304; or, where they were dropped, how many came.
 #[derive(Drop)]
 pub struct Line {
     kept: Vec<u8>,
@@ -21,6 +21,8 @@ pub struct Line {
 }
 
 impl Model for Line {
+    ghost use Rattle.std.specs.Prelude.{◌≡◌, ◌≤◌, [], length, IsSome};
+    ghost use Rattle.gateway.specs.Step.{line_limit};
     ghost use Rattle.gateway.specs.Traffic.{Partial, partial_of};
     ghost use Rattle.gateway.specs.TrafficCode.{partial_code};
 
@@ -29,6 +31,9 @@ impl Model for Line {
     ghost coded = { partial_code };
 
     ghost view = { λ a. partial_of a.lost a.kept.items };
+
+    ghost invariant = { λ a. (length a.kept.items ≤ line_limit)
+        × (IsSome a.lost → a.kept.items ≡ []) };
 }
 
 impl Line {
@@ -99,14 +104,14 @@ impl Line {
         }
     }
 
-    // A line over the limit is not kept, nor one whose bytes find no room.
+    // A line over the limit is not kept, nor one whose bytes find no room: its memory is given back.
     fn extend(&mut self, piece: &[u8])
         ensures { (line : List ℕ) → Stands self.old line → Stands self.new (line ++ piece.now) }
     {
         let count = capped_sum(self.count(), piece.len());
         let dropped = self.lost.is_some() || count > LINE_LIMIT;
         if dropped || self.kept.extend_from_slice(piece).is_err() {
-            self.kept.clear();
+            self.kept = Vec::new(*self.kept.allocator());
             self.lost = Some(count);
         }
     }

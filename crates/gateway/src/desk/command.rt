@@ -1,33 +1,50 @@
 //! What a client asks of the desk.
 
-/// One command, its texts lent by the line that spelt it. Offsets of `Splice` count bytes, those
-/// of `Text` code points; `from` of `Errors` is the number of the first entry wanted.
+use crate::desk::text_mode::TextMode;
+
+/// One command, its texts lent by the line that spelt it.
 #[derive(Clone, Copy)]
 pub enum Command<'a> {
-    /// Opens a document at revision 0; `bytes` is base64.
+    /// Opens a document at revision 0.
     Open {
+        /// The name, which has to be free.
         doc: &'a str,
+        /// What names the encoding.
         label: &'a str,
+        /// The document's bytes in base64 (RFC 4648, section 4).
         bytes: &'a str,
     },
-    /// Replaces `del` bytes from `at` on by `bytes`, which is base64.
+    /// Replaces bytes of a document.
     Splice {
+        /// The document's name.
         doc: &'a str,
+        /// The document's revision now.
         rev: u64,
+        /// How many bytes stand before the first to take out.
         at: u64,
+        /// How many bytes to take out.
         del: u64,
+        /// The bytes to put in their place, in base64 (RFC 4648, section 4).
         bytes: &'a str,
     },
-    /// The code points `from..to`.
+    /// Asks for the code points `from..to` of a document's text.
     Text {
+        /// The document's name.
         doc: &'a str,
+        /// How many code points stand before the first wanted.
         from: u64,
+        /// How many code points stand before the end of those wanted.
         to: u64,
+        /// What becomes of the document's errors.
+        mode: TextMode,
     },
-    /// At most `max` places of errors.
+    /// Asks for a page of the places of a document's errors.
     Errors {
+        /// The document's name.
         doc: &'a str,
+        /// The number of the first entry wanted, counted from 0.
         from: u64,
+        /// The most entries wanted.
         max: u64,
     },
 }

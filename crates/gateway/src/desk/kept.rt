@@ -6,16 +6,19 @@ ghost use Rattle.gateway.specs.Told.{Gives, with_value};
 
 use crate::desk::fault::Fault;
 use crate::desk::reply::{Reply, ReplyPlaces, ReplyText};
+use crate::desk::text_mode::TextMode;
 use decoder_core::meter;
 use piece_rope::Doc;
 
 /// The greatest revision, 2^53 - 1: the greatest whole number that a line may spell.
 const MAX_REVISION: u64 = 9_007_199_254_740_991;
 
-/// A document and its revision, which is the number of its accepted edits.
+/// A document and its revision.
 #[derive(Drop)]
 pub struct Kept<'i> {
+    /// The document as it is now.
     pub document: Doc<'i>,
+    /// How many edits of it were accepted.
     pub revision: u64,
 }
 
@@ -49,15 +52,18 @@ impl Kept<'_> {
         Ok(())
     }
 
-    /// The code points `from..to`.
-    pub fn text(&self, from: u64, to: u64) -> Result<Reply, Fault>
-        ensures { Gives (text_reply self.now.document.indexes (held self.now) from to) result }
+    /// The code points `from..to`. In mode fatal an error anywhere in the document refuses them.
+    pub fn text(&self, from: u64, to: u64, mode: TextMode) -> Result<Reply, Fault>
+        ensures { Gives (text_reply self.now.document.indexes (held self.now) from to mode) result }
     {
         let text = self.document.text(from, to)?;
-        Ok(Reply::Text {
-            rev: self.revision,
-            text: ReplyText::new(text),
-        })
+        match (mode, self.document.fatal()) {
+            (TextMode::Fatal, Some(place)) => Err(Fault::Malformed { place }),
+            _ => Ok(Reply::Text {
+                rev: self.revision,
+                text: ReplyText::new(text),
+            }),
+        }
     }
 
     /// At most `max` places of errors, from number `from` on.

@@ -36,7 +36,7 @@ impl ReplyText {
     }
 }
 
-/// The places of a reply, in order. Contracts see their list.
+/// The places of a reply, in bytes of the document and in their order. Contracts see their list.
 #[derive(Drop)]
 pub struct ReplyPlaces {
     places: Vec<Place>,
@@ -69,29 +69,37 @@ impl ReplyPlaces {
     }
 }
 
-/// The answer to one command. `rev` is the document's revision after it.
+/// The answer to one command.
 #[derive(Drop)]
 pub enum Reply {
-    /// An open or an edit was accepted: the length of the document's byte order mark, and the
-    /// encoding in force.
+    /// An open or an edit was accepted.
     Edited {
+        /// How many bytes of the document are its byte order mark.
         bom: u64,
+        /// The encoding in force.
         encoding: Encoding,
+        /// The document's revision after the command.
         rev: u64,
     },
     /// The text asked for.
     Text {
+        /// The document's revision.
         rev: u64,
+        /// The code points asked for. An error is one, U+FFFD.
         text: ReplyText,
     },
-    /// A page of error places, and how many there are in all.
+    /// A page of the places of errors.
     Errors {
+        /// The document's revision.
         rev: u64,
+        /// How many errors the document has in all.
         total: u64,
+        /// The places asked for, in bytes of the document.
         places: ReplyPlaces,
     },
-    /// The command was refused.
+    /// The command was refused, and changed nothing.
     Refused {
+        /// The first cause, in the order of `Fault`'s variants.
         fault: Fault,
     },
 }

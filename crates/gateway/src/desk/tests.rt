@@ -1,13 +1,22 @@
+//! Commands and their replies.
+ghost use Rattle.std.specs.Prelude.{◌≡◌};
+ghost use Rattle.gateway.specs.DeskRuns.{replies_to, office_without_files, session, session_replies};
+
 use crate::desk::kept::Kept;
-use crate::desk::{Command, Desk, Fault, Reply};
+use crate::desk::{Command, Desk, Fault, Reply, TextMode};
 use base64::engine::general_purpose::STANDARD;
 use decoder_core::meter;
-use enc_names::{Encoding, Labels};
+use enc_names::{Encoding, Labels, Place};
 use index_loader::Indexes;
 use piece_rope::Doc;
 use std::alloc::Global;
 use std::process::Abort;
 use std::test::Fail;
+
+// A document opens with a truncated sequence in it, which a splice then completes.
+fn truncated_sequence_is_completed()
+    ensures { replies_to office_without_files session ≡ session_replies }
+{}
 
 /// A desk without index files, whose labels are the names alone.
 fn desk(alloc: Global, indexes: &Indexes) -> Result<Desk<'_>, Fail> {
@@ -28,8 +37,21 @@ fn splice<'a>(doc: &'a str, rev: u64, at: u64, del: u64, bytes: &'a str) -> Comm
     }
 }
 
+fn text_in(mode: TextMode, doc: &str, from: u64, to: u64) -> Command<'_> {
+    Command::Text {
+        doc,
+        from,
+        to,
+        mode,
+    }
+}
+
 fn text(doc: &str, from: u64, to: u64) -> Command<'_> {
-    Command::Text { doc, from, to }
+    text_in(TextMode::Replacement, doc, from, to)
+}
+
+fn fatal(doc: &str, from: u64, to: u64) -> Command<'_> {
+    text_in(TextMode::Fatal, doc, from, to)
 }
 
 fn errors(doc: &str, from: u64, max: u64) -> Command<'_> {
@@ -89,6 +111,7 @@ fn assert_refused(rt: &impl Abort, desk: &mut Desk<'_>, command: Command<'_>, wa
 
 #[test]
 fn truncated_sequence_completed_by_a_splice(rt: HostRuntime) -> Result<(), Fail> {
+    truncated_sequence_is_completed();
     let indexes = Indexes::new();
     let mut desk = desk(rt.alloc(), &indexes)?;
     assert_edited(&rt, &mut desk, open("a", "utf-8", "4oJB"), 0);
@@ -120,6 +143,33 @@ fn empty_document_and_pages_of_errors(rt: HostRuntime) -> Result<(), Fail> {
     assert_errors(&rt, &mut desk, errors("faulty", 1, 1), 3, &[(1, 2)]);
     assert_errors(&rt, &mut desk, errors("faulty", 3, 1), 3, &[]);
     assert_refused(&rt, &mut desk, errors("faulty", 4, 1), Fault::OutOfRange);
+    Ok(())
+}
+
+#[test]
+fn text_in_mode_fatal(rt: HostRuntime) -> Result<(), Fail> {
+    let indexes = Indexes::new();
+    let mut desk = desk(rt.alloc(), &indexes)?;
+    assert_edited(&rt, &mut desk, open("a", "utf-8", "4oJB"), 0);
+    let place = Place { from: 0, to: 2 };
+    let malformed = Fault::Malformed { place };
+    assert_refused(&rt, &mut desk, fatal("a", 0, 2), malformed);
+    // The error stands before the range asked for.
+    assert_refused(&rt, &mut desk, fatal("a", 1, 2), malformed);
+    assert_refused(&rt, &mut desk, fatal("a", 2, 2), malformed);
+    assert_refused(&rt, &mut desk, fatal("a", 0, 3), Fault::OutOfRange);
+    assert_refused(&rt, &mut desk, fatal("b", 0, 2), Fault::NoDocument);
+    assert_text(&rt, &mut desk, text("a", 0, 2), 0, "\u{fffd}A");
+    assert_edited(&rt, &mut desk, splice("a", 0, 2, 0, "rA=="), 1);
+    assert_text(&rt, &mut desk, fatal("a", 0, 2), 1, "\u{20ac}A");
+    // A, then C0 80, which is two errors: the first is told.
+    assert_edited(&rt, &mut desk, open("two", "utf-8", "QcCA"), 0);
+    let place = Place { from: 1, to: 2 };
+    let malformed = Fault::Malformed { place };
+    assert_refused(&rt, &mut desk, fatal("two", 0, 1), malformed);
+    // U+FFFD that the bytes spell is no error.
+    assert_edited(&rt, &mut desk, open("spelt", "utf-8", "77+9"), 0);
+    assert_text(&rt, &mut desk, fatal("spelt", 0, 1), 0, "\u{fffd}");
     Ok(())
 }
 

@@ -6,7 +6,9 @@ use std::snapshot::Snapshot;
 /// How often something happened. It has no limit and holds no bytes: only contracts read it.
 #[derive(Drop)]
 pub enum Count {
+    /// It never happened.
     Never,
+    /// It happened once more than this.
     After(Snapshot<Count>),
 }
 

@@ -4,10 +4,11 @@ ghost use Rattle.serde_json.specs.Data.{object};
 ghost use Rattle.serde_json.specs.Written.{compact_text, comma_if};
 ghost use Rattle.json.specs.Print.{quoted};
 ghost use Rattle.gateway.specs.Plain.{all_plain};
-ghost use Rattle.gateway.specs.Replies.{IsShortLine};
+ghost use Rattle.gateway.specs.Replies.{IsShortLine, whole, place_data};
 ghost use Rattle.gateway.specs.Members.{members_of, are_plain, room_of, content_data, content_is_plain, content_room};
 
 use crate::reply_line::short_text::{CAPACITY, ShortText};
+use enc_names::Place;
 use itoa::Buffer;
 
 /// What stands at a key.
@@ -16,6 +17,8 @@ pub(super) enum Content<'a> {
     Number(u64),
     /// A text with nothing that JSON escapes.
     Text(&'a str),
+    /// The two ends of a place, as a list.
+    At(Place),
 }
 
 /// The line of an object with these members, in this order.
@@ -51,7 +54,28 @@ fn put(line: &mut ShortText, later: bool, key: &str, content: Content<'_>)
     line.quote(key);
     line.push(b':');
     match content {
-        Content::Number(number) => line.extend(Buffer::new().format(number).as_bytes()),
+        Content::Number(number) => put_number(line, number),
         Content::Text(text) => line.quote(text),
+        Content::At(place) => put_place(line, place),
     }
+}
+
+fn put_number(line: &mut ShortText, number: u64)
+    requires { length line.old + 20 ≤ CAPACITY }
+    ensures text { line.new ≡ line.old ++ compact_text (whole number) }
+    ensures room { length line.new ≤ length line.old + 20 }
+{
+    line.extend(Buffer::new().format(number).as_bytes());
+}
+
+fn put_place(line: &mut ShortText, place: Place)
+    requires { length line.old + 43 ≤ CAPACITY }
+    ensures text { line.new ≡ line.old ++ compact_text (place_data place) }
+    ensures room { length line.new ≤ length line.old + 43 }
+{
+    line.push(b'[');
+    put_number(line, place.from);
+    line.push(b',');
+    put_number(line, place.to);
+    line.push(b']');
 }

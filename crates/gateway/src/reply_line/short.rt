@@ -2,13 +2,13 @@
 ghost use Rattle.std.specs.Prelude.{◌≡◌, ◌≤◌, length, codes, IsTrue};
 ghost use Rattle.enc_names.specs.Names.{name_of};
 ghost use Rattle.gateway.specs.Plain.{all_plain};
-ghost use Rattle.gateway.specs.Replies.{IsShortLine, edited_data, fault_data, refusal_data, bare_data, numbered_data, bad_request_data, fault_name, field_name};
+ghost use Rattle.gateway.specs.Replies.{IsShortLine, edited_data, fault_data, refusal_data, bare_data, numbered_data, malformed_data, bad_request_data, fault_name, field_name};
 
 use crate::desk::Fault;
 use crate::reply_line::members::{Content, line};
 use crate::reply_line::short_text::ShortText;
 use crate::request::{Field, Refusal};
-use enc_names::Encoding;
+use enc_names::{Encoding, Place};
 
 /// An open or an edit was accepted.
 pub(super) fn edited(id: u64, bom: u64, encoding: Encoding, rev: u64) -> ShortText
@@ -33,8 +33,19 @@ pub(super) fn fault(id: u64, fault: Fault) -> ShortText
             ("id", Content::Number(id)),
             ("rev", Content::Number(rev)),
         ]),
+        Fault::Malformed { place } => malformed(id, place),
         _ => numbered(fault_name(fault), id),
     }
+}
+
+fn malformed(id: u64, place: Place) -> ShortText
+    ensures { IsShortLine (malformed_data id place) result }
+{
+    line(&[
+        ("fault", Content::Text("Malformed")),
+        ("id", Content::Number(id)),
+        ("place", Content::At(place)),
+    ])
 }
 
 /// The line is refused before the desk sees it.
@@ -108,6 +119,7 @@ fn fault_name(fault: Fault) -> &'static str
         Fault::RevisionsSpent => "RevisionsSpent",
         Fault::OutOfRange => "OutOfRange",
         Fault::TooLarge => "TooLarge",
+        Fault::Malformed { .. } => "Malformed",
         Fault::OutOfMemory => "OutOfMemory",
     }
 }

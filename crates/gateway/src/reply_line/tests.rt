@@ -33,6 +33,8 @@ fn stored_session()
 fn other_replies()
     ensures stale { reply_text 1 (Refused (fault.Stale 1))
         ≡ codes "{\"fault\":\"Stale\",\"id\":1,\"rev\":1}\n" }
+    ensures malformed { reply_text 1 (Refused (fault.Malformed (record { from = 0; to = 2 })))
+        ≡ codes "{\"fault\":\"Malformed\",\"id\":1,\"place\":[0,2]}\n" }
     ensures memory { reply_text 1 (Refused fault.OutOfMemory)
         ≡ codes "{\"fault\":\"OutOfMemory\"}\n" }
     ensures escapes { reply_text 1 (Text 0 (34 ∷ 92 ∷ 8 ∷ 9 ∷ 10 ∷ 12 ∷ 13 ∷ 31 ∷ 127 ∷ []))
@@ -109,6 +111,15 @@ fn replies_that_are_refusals(rt: HostRuntime) -> Result<(), Fail> {
         &rt,
         &ReplyLine::of(alloc, 1, &stale)?,
         "{\"fault\":\"Stale\",\"id\":1,\"rev\":1}\n",
+    );
+    let place = Place { from: 0, to: 2 };
+    let malformed = Reply::Refused {
+        fault: Fault::Malformed { place },
+    };
+    expect(
+        &rt,
+        &ReplyLine::of(alloc, 1, &malformed)?,
+        "{\"fault\":\"Malformed\",\"id\":1,\"place\":[0,2]}\n",
     );
     let memory = Reply::Refused {
         fault: Fault::OutOfMemory,

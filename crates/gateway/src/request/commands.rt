@@ -77,10 +77,13 @@ fn text(value: &Value) -> Result<Command<'_>, Field>
     let doc = fields::name(value).ok_or(Field::Doc)?;
     let from = fields::number(value, "from", MAX_NUMBER).ok_or(Field::From)?;
     let to = fields::number(value, "to", MAX_NUMBER).ok_or(Field::To)?;
-    if !fields::is_replacement(value) {
-        return Err(Field::Mode);
-    }
-    Ok(Command::Text { doc, from, to })
+    let mode = fields::text_mode(value).ok_or(Field::Mode)?;
+    Ok(Command::Text {
+        doc,
+        from,
+        to,
+        mode,
+    })
 }
 
 fn errors(value: &Value) -> Result<Command<'_>, Field>

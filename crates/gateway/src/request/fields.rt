@@ -1,8 +1,9 @@
 //! The fields of an object, each by its kind. An absent field and one of another kind are alike.
 ghost use Rattle.std.specs.Prelude.{◌≡◌, ◌↔◌, IsTrue, IsSome, option_map};
 ghost use Rattle.serde_json.specs.View.{view};
-ghost use Rattle.gateway.specs.Request.{number_at, text_at, name_at, mode_at};
+ghost use Rattle.gateway.specs.Request.{number_at, text_at, name_at, text_mode_at};
 
+use crate::desk::TextMode;
 use serde_json::Value;
 
 /// The greatest number that a request may hold: 2^53 - 1.
@@ -36,12 +37,16 @@ pub(super) fn name(value: &Value) -> Option<&str>
     Some(name)
 }
 
-/// Whether the mode is one that decodes with replacement, as an absent one does.
-pub(super) fn is_replacement(value: &Value) -> bool
-    ensures { result ≡ mode_at (view value.now) }
+/// The mode of a text, which is replacement where it is absent.
+pub(super) fn text_mode(value: &Value) -> Option<TextMode>
+    ensures { result ≡ text_mode_at (view value.now) }
 {
-    match value.get("mode") {
-        None => true,
-        Some(mode) => mode.as_str() == Some("replacement"),
+    let Some(mode) = value.get("mode") else {
+        return Some(TextMode::Replacement);
+    };
+    match mode.as_str()? {
+        "replacement" => Some(TextMode::Replacement),
+        "fatal" => Some(TextMode::Fatal),
+        _ => None,
     }
 }

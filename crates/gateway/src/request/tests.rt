@@ -2,10 +2,11 @@
 ghost use Rattle.std.specs.Prelude.{◌≡◌, ◌∷◌, [], codes, Ok, Err, Some, None};
 ghost use Rattle.gateway.specs.Asked.{Opens, Splices, Reads, ListsErrors};
 ghost use Rattle.gateway.specs.Request.{spelt};
+ghost use Rattle.gateway.specs.declared.desk.text_mode.TextMode.TheVariants.{Replacement, Fatal};
 ghost use Rattle.gateway.specs.declared.request.field.Field.TheVariants as field;
 ghost use Rattle.gateway.specs.declared.request.refusal.Refusal.TheVariants.{BadJson, BadRequest, UnknownOp};
 
-use crate::desk::Command;
+use crate::desk::{Command, TextMode};
 use crate::request::{Field, Refusal, read, request};
 use std::alloc::Global;
 use std::process::Abort;
@@ -42,10 +43,13 @@ fn commands()
         "{\"id\":4,\"op\":\"splice\",\"doc\":\"a\",\"rev\":0,\"at\":2,\"del\":1,\"bytes\":\"rA==\"}")
         ≡ Ok (4, Splices (codes "a") 0 2 1 (codes "rA==")) }
     ensures text { spelt (codes "{\"id\":2,\"op\":\"text\",\"doc\":\"a\",\"from\":0,\"to\":2}")
-        ≡ Ok (2, Reads (codes "a") 0 2) }
+        ≡ Ok (2, Reads (codes "a") 0 2 Replacement) }
     ensures mode { spelt (codes
         "{\"id\":2,\"op\":\"text\",\"doc\":\"a\",\"from\":0,\"to\":2,\"mode\":\"replacement\"}")
-        ≡ Ok (2, Reads (codes "a") 0 2) }
+        ≡ Ok (2, Reads (codes "a") 0 2 Replacement) }
+    ensures fatal { spelt (codes
+        "{\"id\":2,\"op\":\"text\",\"doc\":\"a\",\"from\":0,\"to\":2,\"mode\":\"fatal\"}")
+        ≡ Ok (2, Reads (codes "a") 0 2 Fatal) }
     ensures errors { spelt (codes
         "{\"id\":3,\"op\":\"errors\",\"doc\":\"a\",\"from\":0,\"max\":10000}")
         ≡ Ok (3, ListsErrors (codes "a") 0 10000) }
@@ -59,8 +63,8 @@ fn faulty_fields()
     ensures null_mode { spelt (codes
         "{\"id\":1,\"op\":\"text\",\"doc\":\"a\",\"from\":0,\"to\":2,\"mode\":null}")
         ≡ Err (BadRequest (Some 1) field.Mode) }
-    ensures fatal_mode { spelt (codes
-        "{\"id\":1,\"op\":\"text\",\"doc\":\"a\",\"from\":0,\"to\":2,\"mode\":\"fatal\"}")
+    ensures other_mode { spelt (codes
+        "{\"id\":1,\"op\":\"text\",\"doc\":\"a\",\"from\":0,\"to\":2,\"mode\":\"html\"}")
         ≡ Err (BadRequest (Some 1) field.Mode) }
     ensures max { spelt (codes
         "{\"id\":1,\"op\":\"errors\",\"doc\":\"a\",\"from\":0,\"max\":10001}")
@@ -150,6 +154,27 @@ fn commands_of_the_stored_session(rt: HostRuntime) {
     }
 }
 
+// The mode of the text that a line asks for.
+fn mode_asked(alloc: Global, line: &str) -> Option<TextMode> {
+    let value = read(alloc, line.as_bytes()).ok()?;
+    match request(&value) {
+        Ok((_, Command::Text { mode, .. })) => Some(mode),
+        _ => None,
+    }
+}
+
+#[test]
+fn modes_of_a_text(rt: HostRuntime) {
+    let alloc = rt.alloc();
+    let absent = "{\"id\":2,\"op\":\"text\",\"doc\":\"a\",\"from\":0,\"to\":2}";
+    assert_eq!(rt; mode_asked(alloc, absent), Some(TextMode::Replacement));
+    let named =
+        "{\"id\":2,\"op\":\"text\",\"doc\":\"a\",\"from\":0,\"to\":2,\"mode\":\"replacement\"}";
+    assert_eq!(rt; mode_asked(alloc, named), Some(TextMode::Replacement));
+    let fatal = "{\"id\":2,\"op\":\"text\",\"doc\":\"a\",\"from\":0,\"to\":2,\"mode\":\"fatal\"}";
+    assert_eq!(rt; mode_asked(alloc, fatal), Some(TextMode::Fatal));
+}
+
 #[test]
 fn the_first_faulty_field_is_named(rt: HostRuntime) {
     faulty_fields();
@@ -164,7 +189,7 @@ fn the_first_faulty_field_is_named(rt: HostRuntime) {
     expect_fault(&rt, alloc, splice, Field::Bytes);
     let errors = "{\"id\":1,\"op\":\"errors\",\"doc\":\"a\",\"from\":0,\"max\":10001}";
     expect_fault(&rt, alloc, errors, Field::Max);
-    let text = "{\"id\":1,\"op\":\"text\",\"doc\":\"a\",\"from\":0,\"to\":2,\"mode\":\"fatal\"}";
+    let text = "{\"id\":1,\"op\":\"text\",\"doc\":\"a\",\"from\":0,\"to\":2,\"mode\":\"html\"}";
     expect_fault(&rt, alloc, text, Field::Mode);
 }
 

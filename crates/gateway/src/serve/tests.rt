@@ -6,7 +6,9 @@ use crate::gateway::{Event, GateFault, Gateway};
 use crate::serve::{RunFault, run};
 use enc_names::Labels;
 use index_loader::Indexes;
+use memchr::memchr;
 use std::alloc::Global;
+use std::cell::Cell;
 use std::io;
 use std::io::{ErrorKind, Read, Write};
 use std::process::Abort;
@@ -70,6 +72,52 @@ impl Write for Narrow<'_> {
     }
 }
 
+/// Gives one line a read, and fails where the reply to the line before is still owed.
+#[derive(Drop)]
+struct Asking<'a> {
+    rest: &'a [u8],
+    owed: &'a Cell<bool>,
+}
+
+impl Read for Asking<'_> {
+    fn read(&mut self, buf: &mut [u8]) -> io::Result<usize> {
+        if self.owed.get() {
+            return Err(io::Error::from(ErrorKind::WouldBlock));
+        }
+        let Some(end) = memchr(b'\n', self.rest) else {
+            return Ok(0);
+        };
+        let n = buf.len().min(end + 1);
+        buf[..n].copy_from_slice(&self.rest[..n]);
+        self.rest = &self.rest[n..];
+        self.owed.set(true);
+        Ok(n)
+    }
+}
+
+/// Holds what is written to it. At a line end nothing is owed any more.
+#[derive(Drop)]
+struct Answered<'a> {
+    held: &'a mut Vec<u8>,
+    owed: &'a Cell<bool>,
+}
+
+impl Write for Answered<'_> {
+    fn write(&mut self, buf: &[u8]) -> io::Result<usize> {
+        if self.held.extend_from_slice(buf).is_err() {
+            return Err(io::Error::from(ErrorKind::BrokenPipe));
+        }
+        if buf.ends_with(b"\n") {
+            self.owed.set(false);
+        }
+        Ok(buf.len())
+    }
+
+    fn flush(&mut self) -> io::Result<()> {
+        Ok(())
+    }
+}
+
 fn gateway<'i>(alloc: Global, indexes: &'i Indexes) -> Result<Gateway<'i>, Fail> {
     let labels = Labels::names(alloc)?;
     let desk = Desk::new(alloc, indexes, labels)?;
@@ -96,6 +144,21 @@ fn run_narrow(gateway: &mut Gateway<'_>, held: &mut Vec<u8>, room: usize) -> Res
     run(gateway, 0, &mut reader, &mut writer)
 }
 
+// The lines, each given when the reply to the one before has been written.
+fn run_asking<'a>(
+    gateway: &mut Gateway<'_>,
+    lines: &'a str,
+    held: &'a mut Vec<u8>,
+    owed: &'a Cell<bool>,
+) -> Result<(), RunFault> {
+    let mut reader = FromRead::new(Asking {
+        rest: lines.as_bytes(),
+        owed,
+    });
+    let mut writer = ToWrite::new(Answered { held, owed });
+    run(gateway, 0, &mut reader, &mut writer)
+}
+
 #[test]
 fn stored_session(rt: HostRuntime) -> Result<(), Fail> {
     let indexes = Indexes::new();
@@ -104,6 +167,44 @@ fn stored_session(rt: HostRuntime) -> Result<(), Fail> {
     let mut writer = MemOutlet::new(rt.alloc());
     assert_eq!(rt; run(&mut gateway, 0, &mut reader, &mut writer), Ok(()));
     assert_eq!(rt; writer.bytes(), REPLIES.as_bytes());
+    Ok(())
+}
+
+#[test]
+fn each_reply_goes_out_before_the_next_read(rt: HostRuntime) -> Result<(), Fail> {
+    let indexes = Indexes::new();
+    let mut gateway = gateway(rt.alloc(), &indexes)?;
+    let mut held = Vec::new(rt.alloc());
+    let owed = Cell::new(false);
+    assert_eq!(rt; run_asking(&mut gateway, SESSION, &mut held, &owed), Ok(()));
+    assert_eq!(rt; held.as_slice(), REPLIES.as_bytes());
+    Ok(())
+}
+
+#[test]
+fn text_in_mode_fatal(rt: HostRuntime) -> Result<(), Fail> {
+    let indexes = Indexes::new();
+    let mut gateway = gateway(rt.alloc(), &indexes)?;
+    let lines = "\
+{\"id\":0,\"op\":\"open\",\"doc\":\"a\",\"label\":\"utf-8\",\"bytes\":\"4oJB\"}
+{\"id\":1,\"op\":\"text\",\"doc\":\"a\",\"from\":0,\"to\":2,\"mode\":\"fatal\"}
+{\"id\":2,\"op\":\"text\",\"doc\":\"a\",\"from\":0,\"to\":2,\"mode\":\"replacement\"}
+{\"id\":3,\"op\":\"text\",\"doc\":\"a\",\"from\":0,\"to\":2,\"mode\":null}
+{\"id\":4,\"op\":\"splice\",\"doc\":\"a\",\"rev\":0,\"at\":2,\"del\":0,\"bytes\":\"rA==\"}
+{\"id\":5,\"op\":\"text\",\"doc\":\"a\",\"from\":0,\"to\":2,\"mode\":\"fatal\"}
+";
+    let mut reader = MemFeed::new(lines.as_bytes());
+    let mut writer = MemOutlet::new(rt.alloc());
+    assert_eq!(rt; run(&mut gateway, 0, &mut reader, &mut writer), Ok(()));
+    let replies = "\
+{\"bom\":0,\"encoding\":\"UTF-8\",\"id\":0,\"rev\":0}
+{\"fault\":\"Malformed\",\"id\":1,\"place\":[0,2]}
+{\"id\":2,\"rev\":0,\"text\":\"\u{fffd}A\"}
+{\"fault\":\"BadRequest\",\"field\":\"mode\",\"id\":3}
+{\"bom\":0,\"encoding\":\"UTF-8\",\"id\":4,\"rev\":1}
+{\"id\":5,\"rev\":1,\"text\":\"\u{20ac}A\"}
+";
+    assert_eq!(rt; writer.bytes(), replies.as_bytes());
     Ok(())
 }
 

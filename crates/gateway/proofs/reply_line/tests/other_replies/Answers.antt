@@ -7,6 +7,10 @@ pub returns-clause-stale : goal.returns-clause-stale
 unfolding digits escape_byte
 returns-clause-stale c = refl
 
+pub returns-clause-malformed : goal.returns-clause-malformed
+unfolding digits escape_byte
+returns-clause-malformed c = refl
+
 pub returns-clause-memory : goal.returns-clause-memory
 unfolding digits escape_byte
 returns-clause-memory c = refl

@@ -19,6 +19,10 @@ pub returns-clause-mode : goal.returns-clause-mode
 unfolding is_utf8 chars serde_json_on_literals
 returns-clause-mode c = refl
 
+pub returns-clause-fatal : goal.returns-clause-fatal
+unfolding is_utf8 chars serde_json_on_literals
+returns-clause-fatal c = refl
+
 pub returns-clause-errors : goal.returns-clause-errors
 unfolding is_utf8 chars serde_json_on_literals
 returns-clause-errors c = refl

@@ -15,9 +15,9 @@ pub returns-clause-null_mode : goal.returns-clause-null_mode
 unfolding is_utf8 chars serde_json_on_literals
 returns-clause-null_mode c = refl
 
-pub returns-clause-fatal_mode : goal.returns-clause-fatal_mode
+pub returns-clause-other_mode : goal.returns-clause-other_mode
 unfolding is_utf8 chars serde_json_on_literals
-returns-clause-fatal_mode c = refl
+returns-clause-other_mode c = refl
 
 pub returns-clause-max : goal.returns-clause-max
 unfolding is_utf8 chars serde_json_on_literals
