@@ -1,0 +1,65 @@
+//! The program: how fast ordinary text is decoded, by encoding.
+#![tactic(auto)]
+
+mod command_line;
+mod failure;
+mod measure;
+mod samples;
+#[cfg(test)]
+mod tests;
+mod texts;
+
+use command_line::folder_of;
+use failure::Failure;
+use index_files::indexes_in;
+use measure::{Timing, fastest, megabytes_per_second};
+use samples::{SAMPLES, copies, document};
+use std::env;
+use std::process::ExitCode;
+
+/// Prints which samples there are, and how to measure.
+fn list(rt: &HostRuntime) -> Result<(), Failure> {
+    for (encoding, text) in &SAMPLES {
+        let name = encoding.name();
+        let times = copies(text);
+        let bytes = text.len();
+        println!(rt; "{name:<13} {times} times {bytes} bytes")?;
+    }
+    println!(rt; "'decode_speed --indexes DIR' measures with the index files in DIR.")?;
+    Ok(())
+}
+
+/// Prints how fast each sample's document is decoded, and how many errors it has where the index
+/// files don't have all its characters.
+fn measure_all(rt: &HostRuntime, folder: &str) -> Result<(), Failure> {
+    let indexes = indexes_in(rt, rt.alloc(), folder)?;
+    for (encoding, text) in &SAMPLES {
+        let name = encoding.name();
+        let bytes = document(rt.alloc(), text)?;
+        match fastest(rt, rt.alloc(), &indexes, *encoding, &bytes)? {
+            Some(Timing { time, errors: 0 }) => {
+                let speed = megabytes_per_second(bytes.len(), time);
+                println!(rt; "{name:<13} {speed:>5} MB/s")?;
+            }
+            Some(Timing { errors, .. }) => println!(rt; "{name:<13} {errors} errors")?,
+            None => println!(rt; "{name:<13} no index")?,
+        }
+    }
+    Ok(())
+}
+
+/// Does what the words ask.
+fn attempt(rt: &HostRuntime) -> Result<(), Failure> {
+    let words: Vec<String> = env::args(rt)?.skip(1).collect(rt.alloc())?;
+    match folder_of(rt.alloc(), &words)? {
+        Some(folder) => measure_all(rt, folder),
+        None => list(rt),
+    }
+}
+
+fn main(rt: HostRuntime) -> ExitCode {
+    match attempt(&rt) {
+        Ok(()) => ExitCode::SUCCESS,
+        Err(failure) => ExitCode::from(failure.told(&rt)),
+    }
+}
