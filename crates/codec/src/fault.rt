@@ -6,7 +6,7 @@ use std::alloc::AllocError;
 /// Why bytes aren't decoded.
 #[derive(Clone, Copy, PartialEq, Eq, Debug)]
 pub enum CodecFault {
-    /// The encoding has no decoder, or one of its index files isn't there.
+    /// An index file of the encoding given isn't there.
     NoIndex,
     /// Error mode "fatal" stops at this error, the first; its place is among all the bytes.
     Malformed(Place),

@@ -5,7 +5,7 @@ use std::alloc::AllocError;
 /// Why a call on a document is refused.
 #[derive(Clone, Copy, PartialEq, Eq, Debug)]
 pub enum DocFault {
-    /// The encoding has no decoder, or one of its index files isn't there.
+    /// An index file of the encoding given isn't there.
     NoIndex,
     /// A place past the end, or a range whose start is after its end.
     OutOfRange,
