@@ -2,4 +2,3 @@ pub mod AnyRun
 pub mod Choosing
 pub mod Gathered
 pub mod Looking
-pub mod Utf8

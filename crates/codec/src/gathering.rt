@@ -41,6 +41,8 @@ impl Gathering {
     }
 
     /// Takes an item. Only an error's place is looked up among all the bytes.
+    // In the loop over the bytes.
+    #[inline(always)]
     fn take(&mut self, item: Item, end: i64) -> Result<(), OutOfMemory>
         ensures ok { OnOk result (self.new ≡ with_item self.old item end) }
         ensures err { OnErr result (self.new ≡ self.old) }
@@ -86,12 +88,16 @@ impl<S: Copy> Sink<S> for Gathering {
 
     ghost taken = { with_shown };
 
+    // In the loop over the bytes.
+    #[inline(always)]
     fn item(&mut self, item: Item, end: i64, _after: S) -> Result<(), OutOfMemory> {
         self.take(item, end)
     }
 }
 
 /// Writes the code points of an item, an error as U+FFFD.
+// In the loop over the bytes.
+#[inline(always)]
 fn put_item(text: &mut TextBlocks, item: Item)
     requires { 8 ≤ text.old.room }
     ensures { text.new.bytes ≡ text.old.bytes ++ encode_utf8_all (item_code_points item) }

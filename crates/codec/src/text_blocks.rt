@@ -1,6 +1,7 @@
 //! Text that grows at its end, block by block.
 ghost use Rattle.std.specs.Prelude.{◌≡◌, ◌+◌, ◌≤◌, ◌<◌, ◌++◌, [], ◌∷◌, length, IfOk, OnOk, string_bytes};
 ghost use Rattle.std.specs.Char.{encode_utf8};
+ghost use Rattle.std.specs.Str.{IsUtf8};
 
 use std::alloc::{AllocError, Global};
 use std::marker::Model;
@@ -71,38 +72,34 @@ impl TextBlocks {
     }
 
     /// Writes a code point, for which there is room.
+    // In the loop over the bytes.
+    #[inline(always)]
     pub(crate) fn put(&mut self, c: char)
         requires { 4 ≤ self.old.room }
         ensures bytes { self.new.bytes ≡ self.old.bytes ++ encode_utf8 c }
         ensures room { self.old.room ≤ self.new.room + 4 }
     {
-        if c.is_ascii() {
-            self.put_ascii(c as u8);
-        } else {
-            let mut spelt = [0; 4];
-            self.put_bytes(c.encode_utf8(&mut spelt));
+        let mut spelt = [0; 4];
+        match c.encode_utf8(&mut spelt).as_bytes() {
+            [first] => self.put_bytes([*first]),
+            [first, second] => self.put_bytes([*first, *second]),
+            [first, second, third] => self.put_bytes([*first, *second, *third]),
+            [first, second, third, fourth] => self.put_bytes([*first, *second, *third, *fourth]),
+            _ => unreachable!(),
         }
     }
 
-    /// Writes an ASCII byte.
-    fn put_ascii(&mut self, byte: u8)
-        requires ascii { byte < 128 }
-        requires room { 0 < self.old.room }
-        ensures bytes { self.new.bytes ≡ self.old.bytes ++ byte ∷ [] }
-        ensures room { self.old.room ≤ self.new.room + 1 }
+    /// Writes the bytes of a text. Their number is a constant, so that they are one store.
+    // In the loop over the bytes.
+    #[inline(always)]
+    fn put_bytes<const N: usize>(&mut self, bytes: [u8; N])
+        requires text { IsUtf8 bytes }
+        requires room { N ≤ self.old.room }
+        ensures bytes { self.new.bytes ≡ self.old.bytes ++ bytes.entry }
+        ensures room { self.old.room ≤ self.new.room + N }
     {
-        self.block[self.filled] = byte;
-        self.filled += 1;
-    }
-
-    /// Writes a text.
-    fn put_bytes(&mut self, text: &str)
-        requires { length text.now ≤ self.old.room }
-        ensures bytes { self.new.bytes ≡ self.old.bytes ++ text.now }
-        ensures room { self.old.room ≤ self.new.room + length text.now }
-    {
-        let end = self.filled + text.len();
-        self.block[self.filled..end].copy_from_slice(text.as_bytes());
+        let end = self.filled + N;
+        self.block[self.filled..end].copy_from_slice(&bytes);
         self.filled = end;
     }
 

@@ -63,6 +63,8 @@ impl<'i> Handler for SingleByteDecoder<'i> {
         OneByteState::Idle
     }
 
+    // In the loop over the bytes.
+    #[inline(always)]
     fn turn(&self, state: OneByteState, byte: Option<u8>) -> Handled<OneByteState> {
         match byte {
             Some(byte) => give(state, self.item(byte)),

@@ -51,6 +51,8 @@ fn step_by<H: Handler>(handler: &H, state: H::State, byte: u8) -> Step<H::State>
 }
 
 /// One step, if it is one turn.
+// In the loop over the bytes.
+#[inline(always)]
 fn simple_by<H: Handler>(handler: &H, state: H::State, byte: u8) -> Option<Simple<H::State>>
     ensures state { IfSome result (λ simple. simple.state ≡ (feed (H.table handler.now) state (byte ∷ [])).state) }
     ensures items { IfSome result (λ simple. alone simple.item ≡ (feed (H.table handler.now) state (byte ∷ [])).items) }

@@ -72,6 +72,8 @@ impl Handler for Utf16Decoder {
         Utf16State::idle()
     }
 
+    // In the loop over the bytes.
+    #[inline(always)]
     fn turn(&self, state: Utf16State, byte: Option<u8>) -> Handled<Utf16State> {
         match (state.lead_byte, state.lead_surrogate, byte) {
             (None, None, None) => finish(Utf16State::idle()),

@@ -66,6 +66,7 @@ impl Handler for Utf8Decoder {
     }
 
     // A third faster where the loop over the bytes has the turn in it.
+    // In the loop over the bytes.
     #[inline(always)]
     fn turn(&self, state: Utf8State, byte: Option<u8>) -> Handled<Utf8State> {
         match byte {

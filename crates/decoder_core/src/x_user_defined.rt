@@ -25,6 +25,8 @@ impl Handler for XUserDefinedDecoder {
         OneByteState::Idle
     }
 
+    // In the loop over the bytes.
+    #[inline(always)]
     fn turn(&self, state: OneByteState, byte: Option<u8>) -> Handled<OneByteState> {
         match byte {
             Some(byte) => give_one(state, code_point(byte)),

@@ -109,6 +109,8 @@ impl<'i> Handler for Iso2022JpDecoder<'i> {
         Iso2022JpState::start()
     }
 
+    // In the loop over the bytes.
+    #[inline(always)]
     fn turn(&self, state: Iso2022JpState, byte: Option<u8>) -> Handled<Iso2022JpState> {
         let Some(byte) = byte else {
             return end(state);

@@ -91,6 +91,8 @@ impl<'i> Handler for EucJpDecoder<'i> {
         EucJpState::Idle
     }
 
+    // In the loop over the bytes.
+    #[inline(always)]
     fn turn(&self, state: EucJpState, byte: Option<u8>) -> Handled<EucJpState> {
         match (state, byte) {
             (EucJpState::Idle, None) => finish(EucJpState::Idle),

@@ -63,6 +63,8 @@ impl<'i> Handler for EucKrDecoder<'i> {
         PairState::Idle
     }
 
+    // In the loop over the bytes.
+    #[inline(always)]
     fn turn(&self, state: PairState, byte: Option<u8>) -> Handled<PairState> {
         match (state, byte) {
             (PairState::Idle, None) => finish(PairState::Idle),

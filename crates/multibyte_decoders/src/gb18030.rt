@@ -122,7 +122,7 @@ impl<'i> Handler for Gb18030Decoder<'i> {
         Gb18030State::Idle
     }
 
-    // Twice as fast where the loop over the bytes has the turn in it.
+    // In the loop over the bytes.
     #[inline(always)]
     fn turn(&self, state: Gb18030State, byte: Option<u8>) -> Handled<Gb18030State> {
         match (state, byte) {

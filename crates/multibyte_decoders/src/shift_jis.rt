@@ -95,7 +95,7 @@ impl<'i> Handler for ShiftJisDecoder<'i> {
         PairState::Idle
     }
 
-    // Twice as fast over ASCII where the loop over the bytes has the turn in it.
+    // In the loop over the bytes.
     #[inline(always)]
     fn turn(&self, state: PairState, byte: Option<u8>) -> Handled<PairState> {
         match (state, byte) {
