@@ -64,7 +64,7 @@ impl<'i> Documents<'i> {
     }
 
     /// Opens a document at revision 0 under a name that is free.
-    #[tactic(auto, unfolding(piece_rope::specs::Edits::open_fault))]
+    #[tactic(auto, unfolding(piece_rope::specs::Edits::open_fault, piece_rope::specs::Decode::is_decoded))]
     pub fn open(
         &mut self,
         alloc: Global,
@@ -78,9 +78,10 @@ impl<'i> Documents<'i> {
             (reply_of result) self.old.named self.new.named }
         ensures indexes { self.new.indexes ≡ self.old.indexes }
     {
+        if !self.indexes.has(given) {
+            return Err(Fault::NoIndex);
+        }
         if self.len() >= MAX_DOCUMENTS {
-            // The want of an index file is told before the want of a place, and no byte matters to it.
-            Doc::open(alloc, self.indexes, given, &[], &mut meter())?;
             return Err(Fault::TooManyDocuments);
         }
         let document = Doc::open(alloc, self.indexes, given, bytes, &mut meter())?;
