@@ -131,6 +131,7 @@ impl<'i> Doc<'i> {
     }
 
     /// The place of the first error, if there is one.
+    #[tactic(auto, unfolding(crate::specs::Document::errors_of))]
     pub fn fatal(&self) -> Option<Place>
         ensures { result ≡ first_error self.now }
     {
