@@ -31,18 +31,29 @@ use multibyte_decoders::{
 /// states what it does alone; in a state that none of these encodings has it is finished.
 #[derive(Drop)]
 pub enum AnyDecoder<'i> {
+    /// The decoder of UTF-8.
     Utf8(Utf8Decoder),
     /// The decoder of gb18030 and of GBK.
     Gb18030(Gb18030Decoder<'i>),
+    /// The decoder of Big5.
     Big5(Big5Decoder<'i>),
+    /// The decoder of EUC-JP.
     EucJp(EucJpDecoder<'i>),
+    /// The decoder of ISO-2022-JP.
     Iso2022Jp(Iso2022JpDecoder<'i>),
+    /// The decoder of Shift_JIS.
     ShiftJis(ShiftJisDecoder<'i>),
+    /// The decoder of EUC-KR.
     EucKr(EucKrDecoder<'i>),
+    /// The decoder of the 28 encodings that have an index file of 128 rows.
     SingleByte(SingleByteDecoder<'i>),
+    /// The decoder of x-user-defined.
     XUserDefined(XUserDefinedDecoder),
+    /// The decoder of replacement.
     Replacement(ReplacementDecoder),
+    /// The decoder of UTF-16BE.
     Utf16Be,
+    /// The decoder of UTF-16LE.
     Utf16Le,
 }
 

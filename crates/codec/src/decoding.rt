@@ -13,7 +13,9 @@ use std::alloc::Global;
 /// The text of some bytes, and the places of their errors in order.
 #[derive(Drop)]
 pub struct Decoding {
+    /// The text, with U+FFFD for each error.
     pub text: String,
+    /// The places of the errors, in bytes.
     pub errors: Vec<Place>,
 }
 

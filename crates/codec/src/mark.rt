@@ -4,10 +4,12 @@ ghost use Rattle.codec.specs.Mark.{mark_of, in_force, mark_length};
 
 use enc_names::Encoding;
 
-/// A byte order mark: the encoding that it stands for, and its length in bytes.
+/// A byte order mark.
 #[derive(Clone, Copy)]
 pub(crate) struct Mark {
+    /// What is in force behind it.
     pub encoding: Encoding,
+    /// How many bytes it has.
     pub len: usize,
 }
 
@@ -39,11 +41,12 @@ impl Mark {
     }
 }
 
-/// What the start of some bytes says: the encoding in force, and the number of bytes of the byte
-/// order mark, 0 where there is none.
+/// What the start of some bytes says.
 #[derive(Clone, Copy, PartialEq, Eq, Debug)]
 pub struct Sniffed {
+    /// The encoding in force.
     pub encoding: Encoding,
+    /// The number of bytes of the byte order mark, 0 where there is none.
     pub bom_len: u64,
 }
 

@@ -13,17 +13,29 @@ use multibyte_decoders::{EucJpState, Gb18030State, PairState};
 pub enum AnyState {
     /// The bytes so far are the beginning of a byte order mark.
     Sniffing(Prefix),
+    /// In UTF-8.
     Utf8(Utf8State),
+    /// In gb18030 or GBK.
     Gb18030(Gb18030State),
+    /// In Big5.
     Big5(PairState),
+    /// In EUC-JP.
     EucJp(EucJpState),
+    /// In ISO-2022-JP.
     Iso2022Jp(Iso2022JpState),
+    /// In Shift_JIS.
     ShiftJis(PairState),
+    /// In EUC-KR.
     EucKr(PairState),
+    /// In a single-byte encoding, which holds nothing between two bytes.
     SingleByte(OneByteState),
+    /// In x-user-defined, which holds nothing between two bytes.
     XUserDefined(OneByteState),
+    /// In replacement.
     Replacement(ReplacementState),
+    /// In UTF-16BE.
     Utf16Be(Utf16State),
+    /// In UTF-16LE.
     Utf16Le(Utf16State),
 }
 

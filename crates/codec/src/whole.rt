@@ -15,13 +15,16 @@ use enc_names::{Encoding, Place};
 use index_loader::Indexes;
 use std::alloc::Global;
 
-/// What decoding some bytes gives: the encoding in force, the number of bytes of the byte order
-/// mark, the text behind it, and the places of the errors among all the bytes, in order.
+/// What decoding some bytes gives.
 #[derive(Drop)]
 pub struct Decoded {
+    /// The encoding in force.
     pub encoding: Encoding,
+    /// The number of bytes of the byte order mark, 0 where there is none.
     pub bom_len: u64,
+    /// The text behind the mark, with U+FFFD for each error.
     pub text: String,
+    /// The places of the errors among all the bytes, in order.
     pub errors: Vec<Place>,
 }
 
