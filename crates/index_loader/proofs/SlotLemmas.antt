@@ -6,8 +6,9 @@ use Rattle.std.specs.Option.{option_map}
 use Rattle.index_loader.specs.declared.kind.IndexKind.{IndexKind}
 use Rattle.index_loader.specs.Files.{index_of}
 use Rattle.index_loader.specs.Index.{Loaded}
-use Rattle.index_loader.specs.Kinds.{home_of, kind_at, slot_of}
-use Rattle.index_loader.specs.Slots.{IsKept, pairs_kept}
+use Rattle.index_loader.specs.Kinds.{home_of, slot_of}
+use Rattle.index_loader.specs.Slots.{IsKept, kind_at, pairs_kept}
+use Rattle.index_loader.proofs.KindPlaces.{kind-at}
 
 -- the pairs at a place
 pairs-at : (slots : List (Option Loaded)) (k : ℕ) → get_or (pairs_kept slots) k None ≡ option_map (λ index. index.pairs) (get_or slots k None)
@@ -31,7 +32,7 @@ kept-put_within slots index slot kept home within k other is =
 -- an index put at the place of its kind
 pub kept-put : (slots : List (Option Loaded)) (index : Loaded) (slot : ℕ) → IsKept slots → home_of index.kind ≡ index.kind → slot_of index.kind ≡ Some slot → IsKept (set slots slot (Some index))
 kept-put slots index slot kept home place =
-    let home : kind_at slot ≡ index.kind = rw place at home in
+    let home : kind_at slot ≡ index.kind = kind-at index.kind slot place ∙ home in
     ⊎_elim
     (λ (within : slot < length slots). kept-put_within slots index slot kept home within)
     (λ (past : length slots ≤ slot). rw (set_past slots slot (Some index) past) kept)
@@ -43,7 +44,7 @@ pairs-put slots slot index = map-set (λ slot. option_map (λ index. index.pairs
 -- the index at the place of a kind
 index-there : (slots : List (Option Loaded)) (kind : IndexKind) (slot : ℕ) (index : Loaded) → IsKept slots → slot_of kind ≡ Some slot → get_or slots slot None ≡ Some index → index_of (record { slots = pairs_kept slots }) kind ≡ Some index
 index-there slots kind slot index kept place is =
-    let home : index.kind ≡ kind_at slot = kept slot index is in
+    let home : index.kind ≡ home_of kind = kept slot index is ∙ kind-at kind slot place in
     let pairs : get_or (pairs_kept slots) slot None ≡ Some index.pairs = pairs-at slots slot ∙ ap (λ o. option_map (λ index. index.pairs) o) is in
     rw (place, pairs, ← home) refl
 

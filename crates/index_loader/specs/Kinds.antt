@@ -1,10 +1,8 @@
 -- The kinds of index files (Encoding Standard, "Indexes") and their places in a collection of indexes.
-use Rattle.std.specs.Prelude.{ℕ, Bool, Option, Some, None, is_some, slice_index_or}
-use Rattle.std.specs.Option.{option_map_or}
+use Rattle.std.specs.Prelude.{ℕ, Bool, Option, Some, None, is_some}
 use Rattle.enc_names.specs.declared.encoding.Encoding.{Encoding}
 use Rattle.enc_names.specs.declared.encoding.Encoding.TheVariants.{Ibm866, Iso8859_2, Iso8859_3, Iso8859_4, Iso8859_5, Iso8859_6, Iso8859_7, Iso8859_8, Iso8859_10, Iso8859_13, Iso8859_14, Iso8859_15, Iso8859_16, Koi8R, Koi8U, Macintosh, Windows874, Windows1250, Windows1251, Windows1252, Windows1253, Windows1254, Windows1255, Windows1256, Windows1257, Windows1258, XMacCyrillic, Iso8859_8I}
 use Rattle.index_loader.specs.declared.kind.IndexKind.{IndexKind}
-use Rattle.index_loader.specs.declared.kind.TheConstants.{KINDS}
 use Rattle.index_loader.specs.declared.kind.IndexKind.TheVariants.{SingleByte, Jis0208, Jis0212, Big5, EucKr, Gb18030, Gb18030Ranges, Katakana}
 
 -- the place of a single-byte encoding's index, if it has one; ISO-8859-8-I has that of ISO-8859-8
@@ -54,10 +52,7 @@ slot_of Katakana = Some 33
 abbrev pub has_files_of : IndexKind → Bool
 has_files_of kind = is_some (slot_of kind)
 
--- the kind at a place
-abbrev pub kind_at : ℕ → IndexKind
-kind_at slot = slice_index_or KINDS slot Jis0208
-
 -- the kind under which a kind's file is kept; ISO-8859-8-I has the file of ISO-8859-8
 abbrev pub home_of : IndexKind → IndexKind
-home_of kind = option_map_or kind_at (slot_of kind) kind
+home_of (SingleByte Iso8859_8I) = SingleByte Iso8859_8
+home_of kind = kind

@@ -27,44 +27,6 @@ pub enum IndexKind {
     Katakana,
 }
 
-/// The kinds at their places. ISO-8859-8-I has the place of ISO-8859-8.
-pub(crate) const KINDS: [IndexKind; 34] = [
-    IndexKind::SingleByte(Encoding::Ibm866),
-    IndexKind::SingleByte(Encoding::Iso8859_2),
-    IndexKind::SingleByte(Encoding::Iso8859_3),
-    IndexKind::SingleByte(Encoding::Iso8859_4),
-    IndexKind::SingleByte(Encoding::Iso8859_5),
-    IndexKind::SingleByte(Encoding::Iso8859_6),
-    IndexKind::SingleByte(Encoding::Iso8859_7),
-    IndexKind::SingleByte(Encoding::Iso8859_8),
-    IndexKind::SingleByte(Encoding::Iso8859_10),
-    IndexKind::SingleByte(Encoding::Iso8859_13),
-    IndexKind::SingleByte(Encoding::Iso8859_14),
-    IndexKind::SingleByte(Encoding::Iso8859_15),
-    IndexKind::SingleByte(Encoding::Iso8859_16),
-    IndexKind::SingleByte(Encoding::Koi8R),
-    IndexKind::SingleByte(Encoding::Koi8U),
-    IndexKind::SingleByte(Encoding::Macintosh),
-    IndexKind::SingleByte(Encoding::Windows874),
-    IndexKind::SingleByte(Encoding::Windows1250),
-    IndexKind::SingleByte(Encoding::Windows1251),
-    IndexKind::SingleByte(Encoding::Windows1252),
-    IndexKind::SingleByte(Encoding::Windows1253),
-    IndexKind::SingleByte(Encoding::Windows1254),
-    IndexKind::SingleByte(Encoding::Windows1255),
-    IndexKind::SingleByte(Encoding::Windows1256),
-    IndexKind::SingleByte(Encoding::Windows1257),
-    IndexKind::SingleByte(Encoding::Windows1258),
-    IndexKind::SingleByte(Encoding::XMacCyrillic),
-    IndexKind::Jis0208,
-    IndexKind::Jis0212,
-    IndexKind::Big5,
-    IndexKind::EucKr,
-    IndexKind::Gb18030,
-    IndexKind::Gb18030Ranges,
-    IndexKind::Katakana,
-];
-
 impl IndexKind {
     /// The place of this kind among all kinds, if there are files of this kind.
     pub(crate) fn slot(self) -> Option<usize>
@@ -83,13 +45,15 @@ impl IndexKind {
         }
     }
 
-    /// The kind under which the file of this kind is kept.
+    /// The kind under which the file of this kind is kept: ISO-8859-8-I has that of ISO-8859-8.
     pub(crate) fn home(self) -> IndexKind
         ensures { result ≡ home_of self }
     {
-        match self.slot() {
-            Some(slot) => KINDS[slot],
-            None => self,
+        match self {
+            IndexKind::SingleByte(Encoding::Iso8859_8I) => {
+                IndexKind::SingleByte(Encoding::Iso8859_8)
+            }
+            _ => self,
         }
     }
 

@@ -257,7 +257,7 @@ fn a_kind_without_files_has_no_index(rt: HostRuntime) -> Result<(), Fail> {
 
 /// The files of the folder examples/indexes, at their kinds.
 #[test]
-fn the_example_files_parse(rt: HostRuntime) {
+fn small_files_of_each_kind_parse(rt: HostRuntime) {
     let jis0208 =
         b"# A few entries of the Encoding Standard's index of jis0208: pointer, code point.\n\
         0\t0x3000\n1\t0x3001\n2\t0x3002\n60\t0xFF0D\n283\t0x3042\n1410\t0x4E9C\n";
