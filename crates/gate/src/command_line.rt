@@ -58,6 +58,7 @@ fn command<'a>(alloc: Global) -> Result<Command<'a>, Error> {
         .arg(indexes)?
         .arg(labels)?;
     let gate = Command::new(alloc, "gate")
+        .bin_name("gate")?
         .about(
             "A live transcoding gateway for edited legacy documents: JSON lines in, replies out. Without a command it serves standard input with no index file.",
         )

@@ -191,6 +191,153 @@ fn windows_1252_document_with_its_index_file(rt: HostRuntime) -> Result<(), Fail
     Ok(())
 }
 
+/// The single-byte encodings that have a file of their own, each with the file's name.
+const SINGLE_BYTE: [(&str, &str); 27] = [
+    ("IBM866", "index-ibm866.txt"),
+    ("ISO-8859-2", "index-iso-8859-2.txt"),
+    ("ISO-8859-3", "index-iso-8859-3.txt"),
+    ("ISO-8859-4", "index-iso-8859-4.txt"),
+    ("ISO-8859-5", "index-iso-8859-5.txt"),
+    ("ISO-8859-6", "index-iso-8859-6.txt"),
+    ("ISO-8859-7", "index-iso-8859-7.txt"),
+    ("ISO-8859-8", "index-iso-8859-8.txt"),
+    ("ISO-8859-10", "index-iso-8859-10.txt"),
+    ("ISO-8859-13", "index-iso-8859-13.txt"),
+    ("ISO-8859-14", "index-iso-8859-14.txt"),
+    ("ISO-8859-15", "index-iso-8859-15.txt"),
+    ("ISO-8859-16", "index-iso-8859-16.txt"),
+    ("KOI8-R", "index-koi8-r.txt"),
+    ("KOI8-U", "index-koi8-u.txt"),
+    ("macintosh", "index-macintosh.txt"),
+    ("windows-874", "index-windows-874.txt"),
+    ("windows-1250", "index-windows-1250.txt"),
+    ("windows-1251", "index-windows-1251.txt"),
+    ("windows-1252", "index-windows-1252.txt"),
+    ("windows-1253", "index-windows-1253.txt"),
+    ("windows-1254", "index-windows-1254.txt"),
+    ("windows-1255", "index-windows-1255.txt"),
+    ("windows-1256", "index-windows-1256.txt"),
+    ("windows-1257", "index-windows-1257.txt"),
+    ("windows-1258", "index-windows-1258.txt"),
+    ("x-mac-cyrillic", "index-x-mac-cyrillic.txt"),
+];
+
+/// The other index files, in the order in which they are added, each with its rows and with how many
+/// of the documents of `MULTIBYTE` can be opened from then on.
+const MULTIBYTE_FILES: [(&str, &str, usize); 7] = [
+    ("index-jis0208.txt", "283\t0x3042\n", 1),
+    ("index-jis0212.txt", "1410\t0x4E02\n", 2),
+    ("index-iso-2022-jp-katakana.txt", "0\t0x3002\n", 3),
+    ("index-euc-kr.txt", "9026\t0xAC00\n", 4),
+    ("index-big5.txt", "5495\t0x4E00\n", 5),
+    ("index-gb18030.txt", "9026\t0x554A\n", 5),
+    (
+        "index-gb18030-ranges.txt",
+        "0\t0x0080\n189000\t0x10000\n",
+        7,
+    ),
+];
+
+/// Documents of one character in the encodings of these files: label, bytes as base64, text. That of
+/// EUC-JP is in jis0212, that of gb18030 in its index, and that of GBK in the ranges.
+const MULTIBYTE: [(&str, &str, &str); 7] = [
+    ("Shift_JIS", "gqA=", "\u{3042}"),
+    ("EUC-JP", "j7Ch", "\u{4e02}"),
+    ("ISO-2022-JP", "GyRCJCI=", "\u{3042}"),
+    ("EUC-KR", "sKE=", "\u{ac00}"),
+    ("Big5", "pEA=", "\u{4e00}"),
+    ("gb18030", "sKE=", "\u{554a}"),
+    ("GBK", "gTCBMA==", "\u{80}"),
+];
+
+/// Lines to a program, and the replies that are wanted to them.
+#[derive(Drop)]
+struct Talk {
+    lines: String,
+    replies: String,
+}
+
+impl Talk {
+    fn new(rt: &HostRuntime) -> Talk {
+        Talk {
+            lines: String::new(rt.alloc()),
+            replies: String::new(rt.alloc()),
+        }
+    }
+
+    /// Opens a document with the label's encoding and reads its one character.
+    fn ask(&mut self, rt: &HostRuntime, label: &str, bytes: &str) -> Result<(), Fail> {
+        let lines = format!(in rt.alloc();
+            "{{\"id\":1,\"op\":\"open\",\"doc\":\"{label}\",\"label\":\"{label}\",\"bytes\":\"{bytes}\"}}\n{{\"id\":2,\"op\":\"text\",\"doc\":\"{label}\",\"from\":0,\"to\":1}}\n"
+        )?;
+        self.lines.push_str(lines.as_str())?;
+        Ok(())
+    }
+
+    /// Wants the document to be opened with this text.
+    fn want_text(&mut self, rt: &HostRuntime, encoding: &str, text: &str) -> Result<(), Fail> {
+        let replies = format!(in rt.alloc();
+            "{{\"bom\":0,\"encoding\":\"{encoding}\",\"id\":1,\"rev\":0}}\n{{\"id\":2,\"rev\":0,\"text\":\"{text}\"}}\n"
+        )?;
+        self.replies.push_str(replies.as_str())?;
+        Ok(())
+    }
+
+    /// Wants the document not to be opened.
+    fn want_no_index(&mut self) -> Result<(), Fail> {
+        self.replies.push_str(
+            "{\"fault\":\"NoIndex\",\"id\":1}\n{\"fault\":\"NoDocument\",\"id\":2}\n",
+        )?;
+        Ok(())
+    }
+
+    /// The program's output, with the index files of this folder.
+    fn output(&self, rt: &HostRuntime, folder: &Folder) -> Result<String, Fail> {
+        let words = ["stdio", "--indexes", folder.as_str()];
+        Ok(performed(rt, &words, self.lines.as_str())?.output)
+    }
+}
+
+#[test]
+fn each_single_byte_encoding_reads_its_own_file(rt: HostRuntime) -> Result<(), Fail> {
+    let folder = Folder::new(&rt, "single-byte")?;
+    let mut talk = Talk::new(&rt);
+    for ((encoding, file), sign) in SINGLE_BYTE.iter().zip('\u{2600}'..'\u{261b}') {
+        let code = sign as u32;
+        let row = format!(in rt.alloc(); "0\t0x{code:04X}\n")?;
+        folder.write(&rt, file, row.as_bytes())?;
+        let text = format!(in rt.alloc(); "{sign}")?;
+        talk.ask(&rt, encoding, "gA==")?;
+        talk.want_text(&rt, encoding, text.as_str())?;
+    }
+    talk.ask(&rt, "ISO-8859-8-I", "gA==")?;
+    talk.want_text(&rt, "ISO-8859-8-I", "\u{2607}")?;
+    let output = talk.output(&rt, &folder)?;
+    folder.remove(&rt)?;
+    assert_eq!(rt; output.as_str(), talk.replies.as_str());
+    Ok(())
+}
+
+#[test]
+fn each_other_encoding_needs_its_own_files(rt: HostRuntime) -> Result<(), Fail> {
+    let folder = Folder::new(&rt, "multibyte")?;
+    for (file, rows, open) in &MULTIBYTE_FILES {
+        folder.write(&rt, file, rows.as_bytes())?;
+        let mut talk = Talk::new(&rt);
+        for (n, (label, bytes, text)) in MULTIBYTE.iter().enumerate() {
+            talk.ask(&rt, label, bytes)?;
+            if n < *open {
+                talk.want_text(&rt, label, text)?;
+            } else {
+                talk.want_no_index()?;
+            }
+        }
+        let output = talk.output(&rt, &folder)?;
+        assert_eq!(rt; output.as_str(), talk.replies.as_str(), "{file}");
+    }
+    folder.remove(&rt)
+}
+
 #[test]
 fn help_goes_to_the_output(rt: HostRuntime) -> Result<(), Fail> {
     for words in [
@@ -200,7 +347,7 @@ fn help_goes_to_the_output(rt: HostRuntime) -> Result<(), Fail> {
         &["stdio", "--help"],
     ] {
         let done = performed(&rt, words, OPEN)?;
-        assert!(rt; done.output.contains("Usage: "));
+        assert!(rt; done.output.contains("Usage: gate"));
         assert!(rt; done.output.ends_with("\n"));
         assert!(rt; !done.output.contains("UTF-8"));
         assert_eq!(rt; done.error.as_str(), "");
