@@ -299,14 +299,49 @@ fn utf16_lone_surrogate_gives_back_the_unit(rt: HostRuntime) -> Result<(), Fail>
         &[0x3D, 0xD8, 0x3D, 0xD8, 0x00, 0xDE],
         "\u{FFFD}\u{1F600}",
         &[error(0, 2), one(2, 6, '\u{1F600}')],
+    )
+}
+
+#[test]
+fn utf16_cut_short_by_the_end(rt: HostRuntime) -> Result<(), Fail> {
+    let alloc = rt.alloc();
+    let half = [error(0, 1)];
+    decodes(&rt, alloc, Encoding::Utf16Le, &[0x41], "\u{FFFD}", &half)?;
+    decodes(
+        &rt,
+        alloc,
+        Encoding::Utf16Le,
+        &[0x3D, 0xD8, 0x41],
+        "\u{FFFD}",
+        &[error(0, 3)],
     )?;
     decodes(
         &rt,
-        rt.alloc(),
+        alloc,
         Encoding::Utf16Be,
         &[0xD8, 0x3D],
         "\u{FFFD}",
         &[error(0, 2)],
+    )
+}
+
+#[test]
+fn iso_2022_jp_errors_at_escapes(rt: HostRuntime) -> Result<(), Fail> {
+    decodes(
+        &rt,
+        rt.alloc(),
+        Encoding::Iso2022Jp,
+        &[0x1B, 0x24, 0x42, 0x24, 0x1B, 0x41],
+        "\u{FFFD}\u{FFFD}\u{FFFD}",
+        &[error(0, 5), error(5, 5), error(5, 6)],
+    )?;
+    decodes(
+        &rt,
+        rt.alloc(),
+        Encoding::Iso2022Jp,
+        &[0x1B, 0x28, 0x42, 0x1B, 0x28, 0x42, 0x41],
+        "\u{FFFD}A",
+        &[error(0, 6), one(6, 7, 'A')],
     )
 }
 

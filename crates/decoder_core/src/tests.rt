@@ -1,7 +1,6 @@
 //! Worked examples of UTF-8: computed by the definitions, and decoded whole, in two parts for each
 //! cut, and step by step.
-ghost use Rattle.std.specs.Prelude.{◌≡◌, List, [], ◌∷◌};
-ghost use Rattle.enc_names.specs.declared.place.Place.{Place};
+ghost use Rattle.std.specs.Prelude.{◌≡◌, [], ◌∷◌};
 ghost use Rattle.decoder_core.specs.declared.item.Item.TheVariants.{One, Error};
 ghost use Rattle.decoder_core.specs.Queue.{run};
 ghost use Rattle.decoder_core.specs.Placed.{places};
@@ -19,7 +18,7 @@ use crate::parts::decode_parts;
 use crate::piece::run_piece;
 use crate::placed::Placed;
 use crate::sink::Sink;
-use crate::utf8::{Utf8Decoder, Utf8State};
+use crate::utf8::Utf8Decoder;
 use enc_names::Scalar;
 use std::alloc::{AllocError, Global};
 
@@ -300,7 +299,7 @@ fn a_refusing_sink_stops_the_run(rt: HostRuntime) {
     );
     assert!(rt; outcome.is_err());
     assert_eq!(rt; sink.ends, [0, 0, 1, 2]);
-    assert!(rt; count.decoded() <= 4);
+    assert_eq!(rt; count.decoded(), 4);
 }
 
 #[test]

@@ -23,6 +23,21 @@ fn spliced_together<'i>(
     Ok(doc)
 }
 
+/// The same from the back: each byte comes in front of the bytes behind it.
+fn spliced_at_the_front<'i>(
+    alloc: Global,
+    indexes: &'i Indexes,
+    encoding: Encoding,
+    bytes: &[u8],
+    meter: &mut Meter,
+) -> Result<Doc<'i>, DocFault> {
+    let mut doc = Doc::open(alloc, indexes, encoding, &[], meter)?;
+    for byte in bytes.iter().rev() {
+        doc.splice(0, 0, &[*byte], meter)?;
+    }
+    Ok(doc)
+}
+
 /// The document answers everything with this text and these errors.
 fn answers(rt: &impl Abort, doc: &Doc<'_>, text: &str, errors: &[Place]) -> Result<(), DocFault> {
     let length = text.chars().count() as u64;
@@ -36,7 +51,8 @@ fn answers(rt: &impl Abort, doc: &Doc<'_>, text: &str, errors: &[Place]) -> Resu
 }
 
 /// With this encoding given, one is in force behind a byte order mark of so many bytes, and the
-/// text and the errors are answered: of a document opened whole, and of one spliced together.
+/// text and the errors are answered: of a document opened whole, and of one spliced together from
+/// its first byte or from its last.
 fn decodes_behind(
     rt: &impl Abort,
     alloc: Global,
@@ -55,7 +71,11 @@ fn decodes_behind(
     let spliced = spliced_together(alloc, indexes, given, bytes, &mut meter)?;
     assert_eq!(rt; spliced.encoding(), encoding);
     assert_eq!(rt; spliced.bom_len(), bom_len);
-    answers(rt, &spliced, text, errors)
+    answers(rt, &spliced, text, errors)?;
+    let from_back = spliced_at_the_front(alloc, indexes, given, bytes, &mut meter)?;
+    assert_eq!(rt; from_back.encoding(), encoding);
+    assert_eq!(rt; from_back.bom_len(), bom_len);
+    answers(rt, &from_back, text, errors)
 }
 
 /// The same with no byte order mark.
@@ -285,7 +305,6 @@ fn text_longer_than_a_block(rt: HostRuntime) -> Result<(), Fail> {
     let doc = Doc::open(rt.alloc(), &indexes, Encoding::Utf8, &bytes, &mut meter())?;
     assert_eq!(rt; doc.text(0, 3000)?.as_bytes(), bytes.as_slice());
     assert_eq!(rt; doc.text(1024, 1026)?.as_str(), "\u{20AC}\u{1F600}");
-    assert!(rt; doc.indexes().has(Encoding::Utf8));
     Ok(())
 }
 
@@ -303,6 +322,9 @@ fn windows_1252_entry_and_null(rt: HostRuntime) -> Result<(), Fail> {
         "\u{20AC}\u{BB}A\u{FFFD}",
         &[error(3, 4)],
     )?;
+    let encoding = Encoding::Windows1252;
+    let doc = Doc::open(rt.alloc(), &indexes, encoding, &[], &mut meter())?;
+    assert!(rt; doc.indexes().has(encoding));
     Ok(())
 }
 
@@ -331,6 +353,79 @@ fn x_user_defined_and_replacement(rt: HostRuntime) -> Result<(), Fail> {
 }
 
 #[test]
+fn shift_jis_each_kind_of_byte(rt: HostRuntime) -> Result<(), Fail> {
+    let alloc = rt.alloc();
+    let mut indexes = Indexes::new();
+    indexes.put(Index::parse(alloc, IndexKind::Jis0208, b"283\t0x3042\n")?);
+    let bytes = [0x82, 0xA0, 0xB1, 0x80, 0xF0, 0x40, 0x81, 0x2F];
+    decodes_in(
+        &rt,
+        alloc,
+        &indexes,
+        Encoding::ShiftJis,
+        &bytes,
+        "\u{3042}\u{FF71}\u{80}\u{E000}\u{FFFD}/",
+        &[error(6, 7)],
+    )?;
+    Ok(())
+}
+
+#[test]
+fn euc_jp_three_bytes_and_katakana(rt: HostRuntime) -> Result<(), Fail> {
+    let alloc = rt.alloc();
+    let mut indexes = Indexes::new();
+    indexes.put(Index::parse(alloc, IndexKind::Jis0208, b"283\t0x3042\n")?);
+    indexes.put(Index::parse(alloc, IndexKind::Jis0212, b"108\t0x02D8\n")?);
+    let bytes = [0x8F, 0xA2, 0xAF, 0x8E, 0xB1, 0xA4, 0xA2, 0x8E, 0x41];
+    decodes_in(
+        &rt,
+        alloc,
+        &indexes,
+        Encoding::EucJp,
+        &bytes,
+        "\u{2D8}\u{FF71}\u{3042}\u{FFFD}A",
+        &[error(7, 8)],
+    )?;
+    Ok(())
+}
+
+#[test]
+fn euc_kr_ascii_trail_kept(rt: HostRuntime) -> Result<(), Fail> {
+    let alloc = rt.alloc();
+    let mut indexes = Indexes::new();
+    indexes.put(Index::parse(alloc, IndexKind::EucKr, b"9026\t0xAC00\n")?);
+    let bytes = [0xB0, 0xA1, 0xB0, 0x41, 0xFF];
+    decodes_in(
+        &rt,
+        alloc,
+        &indexes,
+        Encoding::EucKr,
+        &bytes,
+        "\u{AC00}\u{FFFD}A\u{FFFD}",
+        &[error(2, 3), error(4, 5)],
+    )?;
+    Ok(())
+}
+
+#[test]
+fn big5_item_of_two_code_points(rt: HostRuntime) -> Result<(), Fail> {
+    let alloc = rt.alloc();
+    let mut indexes = Indexes::new();
+    indexes.put(Index::parse(alloc, IndexKind::Big5, b"5495\t0x4E00\n")?);
+    let bytes = [0x88, 0x62];
+    decodes_in(
+        &rt,
+        alloc,
+        &indexes,
+        Encoding::Big5,
+        &bytes,
+        "\u{CA}\u{304}",
+        &[],
+    )?;
+    Ok(())
+}
+
+#[test]
 fn gb18030_bytes_given_back(rt: HostRuntime) -> Result<(), Fail> {
     let alloc = rt.alloc();
     let mut indexes = Indexes::new();
@@ -346,6 +441,24 @@ fn gb18030_bytes_given_back(rt: HostRuntime) -> Result<(), Fail> {
         "\u{FFFD}0\u{4E04}",
         &[error(0, 1)],
     )?;
+    Ok(())
+}
+
+#[test]
+fn gb18030_first_and_last_of_four_bytes(rt: HostRuntime) -> Result<(), Fail> {
+    let alloc = rt.alloc();
+    let mut indexes = Indexes::new();
+    indexes.put(Index::parse(alloc, IndexKind::Gb18030, b"1\t0x4E04\n")?);
+    let ranges = b"0\t0x0080\n189000\t0x10000\n";
+    indexes.put(Index::parse(alloc, IndexKind::Gb18030Ranges, ranges)?);
+    let gb = Encoding::Gb18030;
+    let first = [0x90, 0x30, 0x81, 0x30];
+    decodes_in(&rt, alloc, &indexes, gb, &first, "\u{10000}", &[])?;
+    let last = [0xE3, 0x32, 0x9A, 0x35];
+    decodes_in(&rt, alloc, &indexes, gb, &last, "\u{10FFFF}", &[])?;
+    let past = [0xE3, 0x32, 0x9A, 0x36];
+    let errors = [error(0, 4)];
+    decodes_in(&rt, alloc, &indexes, gb, &past, "\u{FFFD}", &errors)?;
     Ok(())
 }
 

@@ -2,6 +2,7 @@
 
 use super::*;
 use decoder_core::Decoder;
+use iso2022jp::OutputState;
 
 /// The state behind the bytes.
 fn state_behind(decoder: &AnyDecoder<'_>, bytes: &[u8]) -> AnyState {
@@ -132,5 +133,19 @@ fn states_behind_a_mark_are_those_of_its_encoding(rt: HostRuntime) -> Result<(),
         state_behind(&utf8, &[0xEF, 0xBB, 0xBF, 0xE3, 0x81])
     );
     assert!(rt; state_behind(&jis, &[0xE3]) != state_behind(&utf8, &[0xE3]));
+    Ok(())
+}
+
+#[test]
+fn output_state_behind_escapes(rt: HostRuntime) -> Result<(), Fail> {
+    let indexes = small_indexes(rt.alloc())?;
+    let jp = AnyDecoder::new(&indexes, Encoding::Iso2022Jp).ok_or(CodecFault::NoIndex)?;
+    let utf8 = AnyDecoder::new(&indexes, Encoding::Utf8).ok_or(CodecFault::NoIndex)?;
+    assert_eq!(rt; state_behind(&jp, &[]).output(), OutputState::Ascii);
+    let pairs = state_behind(&jp, &[0x1B, 0x24, 0x42]);
+    assert_eq!(rt; pairs.output(), OutputState::Jis0208);
+    let roman = state_behind(&jp, &[0x1B, 0x28, 0x4A]);
+    assert_eq!(rt; roman.output(), OutputState::Roman);
+    assert_eq!(rt; state_behind(&utf8, b"A").output(), OutputState::Ascii);
     Ok(())
 }
