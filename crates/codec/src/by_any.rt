@@ -1,5 +1,5 @@
 //! Decoding of bytes by the decoder of their encoding.
-ghost use Rattle.std.specs.Prelude.{◌≡◌, ◌+◌, ◌-◌, ◌^◌, ◌≤◌, min, length, drop, IfOk, OnOk, string_bytes};
+ghost use Rattle.std.specs.Prelude.{◌≡◌, ◌+◌, ◌-◌, ◌^◌, ◌≤◌, min, length, IfOk, OnOk, string_bytes};
 ghost use Rattle.std.specs.Str.{chars};
 ghost use Rattle.decoder_core.specs.Queue.{run};
 ghost use Rattle.decoder_core.specs.Placed.{places};

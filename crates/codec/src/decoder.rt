@@ -45,7 +45,7 @@ pub enum AnyDecoder<'i> {
     ShiftJis(ShiftJisDecoder<'i>),
     /// The decoder of EUC-KR.
     EucKr(EucKrDecoder<'i>),
-    /// The decoder of the 28 encodings that have an index file of 128 rows.
+    /// The decoder of the 28 single-byte encodings.
     SingleByte(SingleByteDecoder<'i>),
     /// The decoder of x-user-defined.
     XUserDefined(XUserDefinedDecoder),

@@ -16,6 +16,6 @@ holds next = record { state = next; answer = Nothing; back = [] }
 abbrev pub finishes : {S : Type 0} → S → Turn S
 finishes next = record { state = next; answer = Finished; back = [] }
 
--- an ASCII byte (Encoding Standard, "Terminology")
+-- an ASCII byte (Infra Standard, "Bytes")
 abbrev pub is_ascii : ℕ → Bool
 is_ascii b = nat_le b 0x7F

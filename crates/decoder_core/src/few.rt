@@ -14,7 +14,7 @@ pub enum Few {
     Two(u8, u8),
     /// Three bytes.
     Three(u8, u8, u8),
-    /// Four bytes: a byte that is put back while three others are still to be read again.
+    /// Four bytes: no table here puts back so many, but the bound of the general proof asks for it.
     Four(u8, u8, u8, u8),
 }
 

@@ -2,7 +2,7 @@
 ghost use Rattle.std.specs.Prelude.{◌≡◌, ℕ, ◌+◌, List, [], ◌∷◌, ◌++◌, length, Some, true};
 ghost use Rattle.decoder_core.specs.declared.handler.Answer.TheVariants.{Finished};
 ghost use Rattle.decoder_core.specs.declared.item.Ended.{Ended};
-ghost use Rattle.decoder_core.specs.Queue.{Runs, Fed, run, feed, further, told, fed_after, turn_at, queue_after};
+ghost use Rattle.decoder_core.specs.Queue.{Runs, run, feed, further, told, fed_after, turn_at, queue_after};
 ghost use Rattle.decoder_core.specs.Shown.{shown_from, shown_items, ended_at};
 
 use crate::decoder::Decoder;

@@ -2,7 +2,7 @@
 ghost use Rattle.std.specs.Prelude.{◌≡◌, ℕ, ◌+◌, ◌-◌, ◌^◌, ◌<◌, ◌≤◌, min, length, [], IfOk, OnOk};
 ghost use Rattle.decoder_core.specs.Queue.{feed, run};
 ghost use Rattle.decoder_core.specs.Placed.{places};
-ghost use Rattle.decoder_core.specs.Collected.{Collected, collect, further_on};
+ghost use Rattle.decoder_core.specs.Collected.{collect, further_on};
 ghost use Rattle.decoder_core.specs.Seen.{seen_of};
 
 use crate::collector::Collector;

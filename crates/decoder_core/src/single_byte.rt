@@ -14,9 +14,8 @@ use crate::one_byte::OneByteState;
 use index_loader::Index;
 use std::marker::Model;
 
-/// The decoder of the encodings with an index of 128 code points (Encoding Standard, "Legacy
-/// single-byte encodings", "single-byte decoder"), which borrows that index. Contracts see the
-/// index.
+/// The decoder of the 28 single-byte encodings (Encoding Standard, "Legacy single-byte encodings",
+/// "single-byte decoder"), which borrows the index of one. Contracts see the index.
 #[derive(Drop)]
 pub struct SingleByteDecoder<'i> {
     index: &'i Index,

@@ -65,7 +65,6 @@ impl Handler for Utf8Decoder {
         Utf8State::idle()
     }
 
-    // A third faster where the loop over the bytes has the turn in it.
     // In the loop over the bytes.
     #[inline(always)]
     fn turn(&self, state: Utf8State, byte: Option<u8>) -> Handled<Utf8State> {

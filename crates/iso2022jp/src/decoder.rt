@@ -1,6 +1,5 @@
 //! The ISO-2022-JP decoder.
 ghost use Rattle.std.specs.Prelude.{◌≡◌};
-ghost use Rattle.std.proofs.Common.{rules};
 ghost use Rattle.index_loader.specs.Index.{code_point_of};
 ghost use Rattle.decoder_core.specs.Few.{bytes_of};
 ghost use Rattle.decoder_core.specs.Holding.{falls_of, counts_of};

@@ -47,7 +47,7 @@ fn katakana()
         ∷ [] }
 {}
 
-/// Pairs behind both escapes to them, one of them null, and a letter.
+/// Pairs behind both escapes to them, one of them null, and a backslash.
 fn pairs()
     ensures { places 16 0 (run (iso_2022_jp jis0208_entries) iso_2022_jp_start (0x1B ∷ 0x24 ∷ 0x40 ∷ 0x24 ∷ 0x22 ∷ 0x1B ∷ 0x24 ∷ 0x42 ∷ 0x30 ∷ 0x21 ∷ 0x7E ∷ 0x7E ∷ 0x1B ∷ 0x28 ∷ 0x42 ∷ 0x5C ∷ []))
         ≡ record { item = One 0x3042; from = 0; to = 5 }
@@ -57,7 +57,7 @@ fn pairs()
         ∷ [] }
 {}
 
-/// The end inside an escape: the byte behind 1B is put back, and is a letter here.
+/// The end inside an escape: the byte behind 1B is put back, and is a parenthesis.
 fn escape_at_the_end()
     ensures { places 3 0 (run (iso_2022_jp jis0208_entries) iso_2022_jp_start (0x41 ∷ 0x1B ∷ 0x28 ∷ []))
         ≡ record { item = One 0x41; from = 0; to = 1 }
