@@ -2,6 +2,10 @@
 use Rattle.std.specs.Prelude.{ℕ, Bool, not, ◌&&◌, ◌||◌, ◌==◌, nat_lt, List}
 use Rattle.std.specs.List.{prefix_len}
 
+-- an ASCII byte
+abbrev pub is_ascii : ℕ → Bool
+is_ascii b = nat_lt b 0x80
+
 -- the length of the longest prefix of ASCII bytes
 abbrev pub ascii_len : List ℕ → ℕ
 ascii_len bytes = prefix_len (λ b. nat_lt b 0x80) bytes

@@ -2,6 +2,7 @@
 //! and none takes memory.
 #![tactic(auto)]
 
+mod class;
 mod runs;
 
 pub use runs::{ascii_run, plain_run_iso};
