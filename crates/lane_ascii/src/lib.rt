@@ -3,6 +3,12 @@
 #![tactic(auto)]
 
 mod class;
+mod room;
 mod runs;
+mod swap;
+mod widening;
 
+pub use room::NeedsRoom;
 pub use runs::{ascii_run, plain_run_iso};
+pub use swap::swap_pairs;
+pub use widening::widen;
