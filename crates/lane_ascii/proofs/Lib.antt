@@ -1,3 +1,6 @@
+pub mod Counting
+pub mod Flags
+pub mod MarkLanes
 pub mod Masks
 pub mod Prefixes
 pub mod Swaps
