@@ -1,3 +1,4 @@
+pub mod Decoding
 pub mod Fronts
 pub mod Lone
 pub mod Measures
@@ -5,3 +6,4 @@ pub mod Passing
 pub mod Putting
 pub mod TextSums
 pub mod UnitSums
+pub mod UnitMasks

@@ -1,5 +1,7 @@
 -- Weights of bytes, one by one and lane by lane.
-use Rattle.std.proofs.Common.{◌≡◌, refl, sym, ap, ap₂, ◌∙◌, ℕ, ◌+◌, ◌%◌, ◌^◌, ◌≤◌, Bool, true, false, cond, leb, ltb, List, [], ◌∷◌, length, map, arith, w8, Fits}
+use Rattle.std.proofs.Common.{◌≡◌, refl, ap, ap₂, ◌∙◌, ℕ, zero, suc, ◌+◌, ◌*◌, ◌<◌, ◌%◌, not, nat_lt, ◌^◌, ◌≤◌, Bool, true, false, cond, leb, ltb, List, [], ◌∷◌, length, map, arith, w8, Fits}
+use Rattle.std.proofs.lemmas.Bool.Decides.{nat_tests}
+use Rattle.std.specs.Str.{IsAscii}
 use Rattle.std.proofs.lemmas.Bool.{agree_below, agree_below_at}
 use Rattle.std.proofs.lemmas.Simd.{mask_l-mod, ones-mask_l_cons}
 use Rattle.std.proofs.lemmas.List.{length-map}
@@ -33,3 +35,16 @@ ones_counted p (b ∷ bs) = ones-mask_l_cons (p b) (map p bs) ∙ ap (λ n. cond
 pub total-sum : (f g : ℕ → ℕ) (v : List ℕ) → total_width (λ b. f b + g b) v ≡ total_width f v + total_width g v
 total-sum f g [] = refl
 total-sum f g (b ∷ bs) = omega (arith, total-sum f g bs)
+
+-- where no bit is set, all are ASCII bytes
+mask_none : (x : Bool) (m : ℕ) → cond x 1 0 + 2 * m ≡ 0 → (x ≡ false) × (m ≡ 0)
+mask_none true m e = absurd (omega (arith, e))
+mask_none false m e = (refl, omega (arith, e))
+
+low_byte : (b : ℕ) → not (nat_lt b 128) ≡ false → b < 128
+low_byte b e = grind (arith, nat_tests)
+
+pub no_bit_set : (v : List ℕ) → mask_l (map (λ b. not (nat_lt b 128)) v) ≡ 0 → IsAscii v
+no_bit_set [] e i = omega arith
+no_bit_set (b ∷ bs) e zero = low_byte b (mask_none (not (nat_lt b 128)) (mask_l (map (λ b. not (nat_lt b 128)) bs)) e).0
+no_bit_set (b ∷ bs) e (suc i) = no_bit_set bs (mask_none (not (nat_lt b 128)) (mask_l (map (λ b. not (nat_lt b 128)) bs)) e).1 i

@@ -1,5 +1,5 @@
 -- Places along bytes, block by block.
-use Rattle.std.proofs.Common.{◌≡◌, refl, sym, ap, ap₂, ◌∙◌, ℕ, zero, suc, ◌+◌, ◌-◌, ◌<◌, ◌≤◌, Bool, true, false, cond, ◌==◌, nat_lt, List, [], ◌∷◌, ◌++◌, length, take, drop, arith}
+use Rattle.std.proofs.Common.{◌≡◌, refl, sym, ap, ap₂, ◌∙◌, ℕ, suc, ◌+◌, ◌-◌, ◌<◌, ◌≤◌, false, cond, ◌==◌, nat_lt, List, [], ◌∷◌, ◌++◌, length, take, drop, arith}
 use Rattle.std.proofs.lemmas.Bool.Decides.{nat_tests}
 use Rattle.std.proofs.lemmas.Simd.{chunk-drop, length-chunk}
 use Rattle.lane_utf.specs.Selected.{moved}
@@ -25,15 +25,15 @@ module _ (weight : ℕ → ℕ) where
   past_one b bs n h =
       by_test (weight b == 0)
       (λ t. let none : weight b ≡ 0 = grind (arith, nat_tests) in
-          let same : n ≡ n - weight b = omega (arith, none) in
-          ap (λ k. cond k (moved 1 (place_in weight bs n)) (cond (n == 0) (At 0) (cond (nat_lt n (weight b)) Inside (moved 1 (place_in weight bs (n - weight b)))))) t
-          ∙ ap (λ m. moved 1 (place_in weight bs m)) same)
+      let same : n ≡ n - weight b = omega (arith, none) in
+      ap (λ k. cond k (moved 1 (place_in weight bs n)) (cond (n == 0) (At 0) (cond (nat_lt n (weight b)) Inside (moved 1 (place_in weight bs (n - weight b)))))) t
+      ∙ ap (λ m. moved 1 (place_in weight bs m)) same)
       (λ t. let some : 0 < weight b = grind (arith, nat_tests) in
-          let zero_not : (n == 0) ≡ false = grind (arith, nat_tests) in
-          let less_not : nat_lt n (weight b) ≡ false = grind (arith, nat_tests) in
-          ap (λ k. cond k (moved 1 (place_in weight bs n)) (cond (n == 0) (At 0) (cond (nat_lt n (weight b)) Inside (moved 1 (place_in weight bs (n - weight b)))))) t
-          ∙ ap (λ k. cond k (At 0) (cond (nat_lt n (weight b)) Inside (moved 1 (place_in weight bs (n - weight b))))) zero_not
-          ∙ ap (λ k. cond k Inside (moved 1 (place_in weight bs (n - weight b)))) less_not)
+      let zero_not : (n == 0) ≡ false = grind (arith, nat_tests) in
+      let less_not : nat_lt n (weight b) ≡ false = grind (arith, nat_tests) in
+      ap (λ k. cond k (moved 1 (place_in weight bs n)) (cond (n == 0) (At 0) (cond (nat_lt n (weight b)) Inside (moved 1 (place_in weight bs (n - weight b)))))) t
+      ∙ ap (λ k. cond k (At 0) (cond (nat_lt n (weight b)) Inside (moved 1 (place_in weight bs (n - weight b))))) zero_not
+      ∙ ap (λ k. cond k Inside (moved 1 (place_in weight bs (n - weight b)))) less_not)
 
   pub past : (block rest : List ℕ) (n : ℕ) → total_width weight block ≤ n
       → place_in weight (block ++ rest) n ≡ moved (length block) (place_in weight rest (n - total_width weight block))
@@ -55,6 +55,6 @@ module _ (weight : ℕ → ℕ) where
       let block = take n (drop at xs) in
       let long : length block ≡ n = length-chunk at n xs room in
       sym (ap (λ ys. moved at (place_in weight ys left)) (chunk-drop at n xs)
-          ∙ ap (moved at) (past block (drop (at + n) xs) left (omega (arith, is, h)))
-          ∙ moved-more at (length block) (place_in weight (drop (at + n) xs) (left - total_width weight block))
-          ∙ ap₂ (λ k m. moved (at + k) (place_in weight (drop (at + n) xs) (left - m))) long (sym is))
+      ∙ ap (moved at) (past block (drop (at + n) xs) left (omega (arith, is, h)))
+      ∙ moved-more at (length block) (place_in weight (drop (at + n) xs) (left - total_width weight block))
+      ∙ ap₂ (λ k m. moved (at + k) (place_in weight (drop (at + n) xs) (left - m))) long (sym is))

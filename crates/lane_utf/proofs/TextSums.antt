@@ -1,13 +1,13 @@
 -- Sums and places over the bytes of a text are those over its code points.
-use Rattle.std.proofs.Common.{◌≡◌, refl, sym, ap, ap₂, ◌∙◌, ℕ, zero, suc, ◌+◌, ◌-◌, ◌/◌, ◌%◌, ◌<◌, ◌≤◌, Bool, true, false, cond, ◌==◌, ◌&&◌, nat_lt, nat_le, List, [], ◌∷◌, ◌++◌, length, take, append_assoc, Option, Some, None, ◌⊎◌, inl, inr, arith}
-use Rattle.std.proofs.Math.Utf8.{encode, encodes, scalar, scalars, scalar_cases}
+use Rattle.std.proofs.Common.{◌≡◌, refl, sym, ap, ◌∙◌, ℕ, zero, suc, ◌+◌, ◌-◌, ◌/◌, ◌%◌, ◌<◌, ◌≤◌, Bool, true, false, cond, ◌==◌, ◌&&◌, nat_lt, nat_le, List, [], ◌∷◌, ◌++◌, length, take, Some, None, arith}
+use Rattle.std.proofs.Math.Utf8.{encode, encodes}
 use Rattle.std.proofs.lemmas.Bool.Decides.{nat_tests}
 use Rattle.std.proofs.lemmas.Bool.{le-leb, lt-leb, leb-true, leb-false, ltb-true, ltb-false}
-use Rattle.std.proofs.lemmas.Str.{encodes-chars, scalars-chars}
+use Rattle.std.proofs.lemmas.Str.{encodes-chars}
 use Rattle.std.specs.Option.{option_map}
 use Rattle.std.specs.Str.{chars, IsUtf8}
 use Rattle.lane_utf.specs.Selected.{moved, selected, scalar_place, place_index}
-use Rattle.lane_utf.specs.Weights.{place_in, scalar_weight, utf16_weight, begins_code_point}
+use Rattle.lane_utf.specs.Weights.{place_in, scalar_weight, utf16_weight}
 use Rattle.lane_utf.specs.Widths.{total_width, utf8_width, utf16_width, utf32_width}
 use Rattle.lane_utf.specs.declared.select.Select.{Select}
 use Rattle.lane_utf.specs.declared.select.Select.TheVariants.{At, Inside, Past}
@@ -84,35 +84,56 @@ module _ (weight width : ℕ → ℕ)
   led_one : (c : ℕ) → c < 128 → IsLed weight width c
   led_one c h = record { lead = c; trail = []; bytes = encode_one c h; weighs = low c h; some = some c; rest = tt; long = sym (width_one c h) }
     where
-    width_one : (c : ℕ) → c < 128 → utf8_width c ≡ 1
-    width_one c h = grind (arith, nat_tests)
+      width_one : (c : ℕ) → c < 128 → utf8_width c ≡ 1
+      width_one c h = grind (arith, nat_tests)
 
   led_two : (c : ℕ) → 128 ≤ c → c < 2048 → IsLed weight width c
-  led_two c l h = record { lead = 192 + c / 64; trail = (128 + c % 64) ∷ []; bytes = encode_two c l h; weighs = middle _ c (omega arith) (omega arith) (omega arith);
-      some = some c; rest = (trail _ (omega arith) (omega arith), tt); long = sym (width_two c l h) }
+  led_two c l h = record {
+    lead = 192 + c / 64;
+    trail = (128 + c % 64) ∷ [];
+    bytes = encode_two c l h;
+    weighs = middle _ c (omega arith) (omega arith) (omega arith);
+    some = some c;
+    rest = (trail _ (omega arith) (omega arith), tt);
+    long = sym (width_two c l h);
+  }
     where
-    width_two : (c : ℕ) → 128 ≤ c → c < 2048 → utf8_width c ≡ 2
-    width_two c l h = grind (arith, nat_tests)
+      width_two : (c : ℕ) → 128 ≤ c → c < 2048 → utf8_width c ≡ 2
+      width_two c l h = grind (arith, nat_tests)
 
   led_three : (c : ℕ) → 2048 ≤ c → c < 65536 → IsLed weight width c
-  led_three c l h = record { lead = 224 + c / 4096; trail = (128 + c / 64 % 64) ∷ (128 + c % 64) ∷ []; bytes = encode_three c l h; weighs = middle _ c (omega arith) (omega arith) h;
-      some = some c; rest = (trail _ (omega arith) (omega arith), (trail _ (omega arith) (omega arith), tt)); long = sym (width_three c l h) }
+  led_three c l h = record {
+    lead = 224 + c / 4096;
+    trail = (128 + c / 64 % 64) ∷ (128 + c % 64) ∷ [];
+    bytes = encode_three c l h;
+    weighs = middle _ c (omega arith) (omega arith) h;
+    some = some c;
+    rest = (trail _ (omega arith) (omega arith), (trail _ (omega arith) (omega arith), tt));
+    long = sym (width_three c l h);
+  }
     where
-    width_three : (c : ℕ) → 2048 ≤ c → c < 65536 → utf8_width c ≡ 3
-    width_three c l h = grind (arith, nat_tests)
+      width_three : (c : ℕ) → 2048 ≤ c → c < 65536 → utf8_width c ≡ 3
+      width_three c l h = grind (arith, nat_tests)
 
   led_four : (c : ℕ) → 65536 ≤ c → IsLed weight width c
-  led_four c l = record { lead = 240 + c / 262144; trail = (128 + c / 4096 % 64) ∷ (128 + c / 64 % 64) ∷ (128 + c % 64) ∷ []; bytes = encode_four c l; weighs = high _ c (omega arith) l;
-      some = some c; rest = (trail _ (omega arith) (omega arith), (trail _ (omega arith) (omega arith), (trail _ (omega arith) (omega arith), tt))); long = sym (width_four c l) }
+  led_four c l = record {
+    lead = 240 + c / 262144;
+    trail = (128 + c / 4096 % 64) ∷ (128 + c / 64 % 64) ∷ (128 + c % 64) ∷ [];
+    bytes = encode_four c l;
+    weighs = high _ c (omega arith) l;
+    some = some c;
+    rest = (trail _ (omega arith) (omega arith), (trail _ (omega arith) (omega arith), (trail _ (omega arith) (omega arith), tt)));
+    long = sym (width_four c l);
+  }
     where
-    width_four : (c : ℕ) → 65536 ≤ c → utf8_width c ≡ 4
-    width_four c l = grind (arith, nat_tests)
+      width_four : (c : ℕ) → 65536 ≤ c → utf8_width c ≡ 4
+      width_four c l = grind (arith, nat_tests)
 
   pub led_by_ranges : (c : ℕ) → IsLed weight width c
   led_by_ranges c =
       by_test (nat_lt c 128) (λ t. led_one c (ltb-true c 128 t))
       (λ t. by_test (nat_lt c 2048) (λ u. led_two c (ltb-false c 128 t) (ltb-true c 2048 u))
-          (λ u. by_test (nat_lt c 65536) (λ v. led_three c (ltb-false c 2048 u) (ltb-true c 65536 v)) (λ v. led_four c (ltb-false c 65536 v))))
+      (λ u. by_test (nat_lt c 65536) (λ v. led_three c (ltb-false c 2048 u) (ltb-true c 65536 v)) (λ v. led_four c (ltb-false c 65536 v))))
 
 scalar_low : (c : ℕ) → c < 128 → scalar_weight c ≡ utf32_width c
 scalar_low c h = grind (arith, nat_tests)

@@ -130,3 +130,6 @@ small-bound width h (x ∷ xs) = omega (arith, h x, small-bound width h xs)
 
 pub small-from : (width : ℕ → ℕ) → ((x : ℕ) → width x ≤ 2) → (xs : List ℕ) (at : ℕ) → total_width width (drop at xs) ≤ 2 * length xs
 small-from width h xs at = omega (arith, small-bound width h (drop at xs), length-drop at xs)
+
+pub units-from : (us : List ℕ) (at : ℕ) → total_width unit_weight (drop at us) ≤ 3 * length us
+units-from us at = omega (arith, units-bound (drop at us), length-drop at us)

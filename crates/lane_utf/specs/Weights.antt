@@ -1,5 +1,5 @@
 -- How a byte or a unit counts, so that the sums over a text are those over its code points.
-use Rattle.std.specs.Prelude.{ℕ, ◌+◌, ◌-◌, ◌≤◌, Bool, ◌&&◌, ◌||◌, not, ◌==◌, nat_lt, nat_le, List, [], ◌∷◌, if◌then◌else◌}
+use Rattle.std.specs.Prelude.{ℕ, ◌+◌, ◌-◌, ◌≤◌, Bool, ◌&&◌, ◌||◌, ◌==◌, nat_lt, nat_le, List, [], ◌∷◌, if◌then◌else◌}
 use Rattle.std.proofs.Common.{arith}
 use Rattle.std.proofs.lemmas.Bool.Decides.{nat_tests}
 use Rattle.lane_utf.specs.Selected.{moved}
@@ -32,6 +32,13 @@ utf16-small b = grind (arith, nat_tests)
 abbrev pub unit_weight : ℕ → ℕ
 unit_weight u =
     if nat_lt u 0x80 then 1 else (if nat_lt u 0x800 || (nat_le 0xD800 u && nat_lt u 0xE000) then 2 else 3)
+
+-- a unit that stands for a second byte, and one that stands for a third
+abbrev pub has_two : ℕ → Bool
+has_two u = nat_le 0x80 u
+
+abbrev pub has_three : ℕ → Bool
+has_three u = (nat_le 0x800 u && nat_lt u 0xD800) || nat_le 0xE000 u
 
 -- the byte behind the code points in front that weigh n, where trailing bytes weigh nothing
 abbrev pub place_in : (ℕ → ℕ) → List ℕ → ℕ → Select

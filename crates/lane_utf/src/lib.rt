@@ -8,7 +8,9 @@ mod measure;
 mod places;
 mod select;
 mod surrogates;
+mod to_utf16;
 mod to_utf8;
+mod utf8_length;
 mod valid;
 
 pub use counts::{count_scalars, count_utf16};
@@ -18,4 +20,5 @@ pub use places::{nth_scalar, nth_utf16};
 pub use select::Select;
 pub use surrogates::first_lone_surrogate;
 pub use to_utf8::utf16_to_utf8;
+pub use to_utf16::utf8_to_utf16;
 pub use valid::valid_run;

@@ -91,5 +91,9 @@ fn place_of_bytes<M: Measure>(bytes: &[u8], from: usize, n: usize) -> Select
         left -= weight;
         at += 1;
     }
-    if left == 0 { Select::At(at) } else { Select::Past }
+    if left == 0 {
+        Select::At(at)
+    } else {
+        Select::Past
+    }
 }

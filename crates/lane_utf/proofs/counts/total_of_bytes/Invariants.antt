@@ -4,8 +4,8 @@ use Rattle.lane_utf.proofs.counts.total_of_bytes.Given as goal
 
 abbrev pub invariant-bytes : goal.invariant-bytes
 invariant-bytes g l = record {
-    within : l.at ≤ length l.bytes;
-    same : l.sum + total_width g.M.Measure.weight (drop l.at l.bytes) ≡ total_width g.M.Measure.weight (drop l.fn.from l.bytes)
+  within : l.at ≤ length l.bytes;
+  same : l.sum + total_width g.M.Measure.weight (drop l.at l.bytes) ≡ total_width g.M.Measure.weight (drop l.fn.from l.bytes);
 }
 
 abbrev pub decreases-bytes : goal.decreases-bytes

@@ -1,4 +1,4 @@
-use Rattle.std.proofs.Common.{ℕ, ◌≤◌, length, refl, arith, bit_or, cond, nat_lt}
+use Rattle.std.proofs.Common.{◌≤◌, length, refl, arith, bit_or}
 use Rattle.std.proofs.lemmas.Simd.{zip2_splat, zip2_splat_left, zip2_of_maps}
 use Rattle.lane_utf.specs.Weights.{begins_code_point}
 use Rattle.lane_utf.proofs.Measures.{at_most, below, mask_of_bytes}
