@@ -1,0 +1,3 @@
+pub mod Driving
+pub mod Filling
+pub mod Restoring

@@ -1,0 +1,1 @@
+//! The encoder over small indexes.
