@@ -1,5 +1,5 @@
 -- The ISO-2022-JP encoder (Encoding Standard, "ISO-2022-JP encoder").
-use Rattle.std.specs.Prelude.{ℕ, ◌+◌, ◌-◌, ◌/◌, ◌%◌, ◌==◌, ◌||◌, ◌&&◌, nat_lt, Bool, true, false, not, List, [], ◌∷◌, ◌++◌, Option, Some, None, option_and_then, Result, Ok, Err, if◌then◌else◌}
+use Rattle.std.specs.Prelude.{ℕ, ◌+◌, ◌-◌, ◌/◌, ◌%◌, ◌==◌, ◌||◌, ◌&&◌, Bool, true, false, not, List, [], ◌∷◌, ◌++◌, Option, Some, None, option_and_then, Result, Ok, Err, if◌then◌else◌}
 use Rattle.decoder_core.specs.Forms.{is_ascii}
 use Rattle.decoder_core.specs.Utf8.{within}
 use Rattle.index_loader.specs.Index.{Loaded, code_point_of}
@@ -53,10 +53,6 @@ other_turn pointer s c =
 -- SO, SI and ESC
 abbrev pub is_control : ℕ → Bool
 is_control c = c == 0x0E || (c == 0x0F || c == 0x1B)
-
--- ASCII but these, which the state ASCII puts as it is
-abbrev pub is_plain : ℕ → Bool
-is_plain c = nat_lt c 0x80 && not (is_control c)
 
 -- katakana is none of the encoder's three states: it is where a decoder may stand
 abbrev pub iso_2022_jp_encoder : (ℕ → Option ℕ) → Table OutputState

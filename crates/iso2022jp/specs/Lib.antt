@@ -1,3 +1,4 @@
+pub mod EncoderExamples
 pub mod EncoderOutput
 pub mod EncoderSteps
 pub mod Exact

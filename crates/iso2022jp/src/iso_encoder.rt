@@ -1,16 +1,17 @@
 //! The ISO-2022-JP encoder.
-ghost use Rattle.std.specs.Prelude.{◌≡◌, ◌≤◌, All, IfSome, length, take, true};
+ghost use Rattle.std.specs.Prelude.{◌≡◌, ◌≤◌, IfSome, true};
 ghost use Rattle.decoder_core.specs.Few.{bytes_of};
 ghost use Rattle.enc_names.specs.declared.encoding.Encoding.TheVariants.{Iso2022Jp};
 ghost use Rattle.index_loader.specs.Files.{has_files};
 ghost use Rattle.index_loader.specs.Index.{code_point_of};
-ghost use Rattle.iso2022jp.specs.Iso2022JpEncoder.{escape_of, fails, folded, iso_2022_jp_encoder, iso_pointer, is_plain, jis0208_turn, other_turn, pointer_in, puts, switches};
+ghost use Rattle.iso2022jp.specs.Iso2022JpEncoder.{escape_of, fails, folded, iso_2022_jp_encoder, iso_pointer, jis0208_turn, other_turn, pointer_in, puts, switches};
 
 use crate::encoder::{Encoder, EncoderAnswer, EncoderTurn};
 use crate::jis_pointer::row_pointer;
 use crate::output::OutputState;
 use decoder_core::Few;
 use index_loader::{Index, IndexKind, Indexes};
+use lane_ascii::plain_run_iso;
 use std::marker::Model;
 
 /// The escape that switches to a state (Encoding Standard, "ISO-2022-JP encoder"); to katakana the
@@ -84,22 +85,6 @@ fn jis0208_turn(state: OutputState, c: char, pointer: Option<u32>) -> EncoderTur
         (_, Some(_)) => switches(OutputState::Jis0208),
         (_, None) => fails(state, c),
     }
-}
-
-/// How many bytes in front are ASCII but the shifts and the escape.
-fn plain_run_iso(text: &[u8]) -> usize
-    ensures within { result ≤ length text.now }
-    ensures plain { All (λ b. is_plain b ≡ true) (take result text.now) }
-{
-    let run = text.iter().position(|byte| !is_plain(*byte));
-    run.unwrap_or(text.len())
-}
-
-/// ASCII but the shifts and the escape.
-fn is_plain(byte: u8) -> bool
-    ensures { result ≡ is_plain byte }
-{
-    byte < 0x80 && !matches!(byte, 0x0E | 0x0F | 0x1B)
 }
 
 /// The ISO-2022-JP encoder, which borrows its indexes. Contracts see these.
@@ -181,6 +166,7 @@ impl<'i> Encoder for Iso2022JpEncoder<'i> {
         }
     }
 
+    #[tactic(auto, using(crate::proofs::PlainRuns::plain_within))]
     fn plain_run(&self, state: OutputState, text: &[u8]) -> usize {
         match state {
             OutputState::Ascii => plain_run_iso(text),
