@@ -1,5 +1,5 @@
 -- Encoding of code points in any encoding (Encoding Standard, "encode").
-use Rattle.std.specs.Prelude.{◌≡◌, ⊤, ⊥, ℕ, Bool, true, false, List, Option, Some, None, Result, Ok, Err, Vec, if◌then◌else◌}
+use Rattle.std.specs.Prelude.{◌≡◌, ⊤, ℕ, Bool, true, false, List, Option, Some, None, Result, Ok, Err, Vec, if◌then◌else◌}
 use Rattle.std.specs.Char.{encode_utf8}
 use Rattle.std.specs.declared.alloc.Global.{Global}
 use Rattle.enc_names.specs.declared.encoding.Encoding.{Encoding}

@@ -1,5 +1,5 @@
 -- The index of a kind, or that it isn't there.
-use Rattle.std.specs.Prelude.{◌≡◌, ⊥, Some, None, Result, Ok, Err}
+use Rattle.std.specs.Prelude.{◌≡◌, Some, None, Result, Ok, Err}
 use denote.Ref.{Bor}
 use Rattle.index_loader.specs.declared.kind.IndexKind.{IndexKind}
 use Rattle.index_loader.specs.Files.{Files, index_of}

@@ -2,6 +2,7 @@ pub mod Big5
 pub mod Encode
 pub mod EucJp
 pub mod EucKr
+pub mod Examples
 pub mod Found
 pub mod Gb18030
 pub mod ShiftJis

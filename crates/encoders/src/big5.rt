@@ -92,5 +92,5 @@ impl<'i> Stateless for Big5Encoder<'i> {
         Some(big5_pair(big5_pointer(self.index, code_point)?))
     }
 
-    ghost ascii = { λ e c is. by_ascii_or c is };
+    ghost ascii = { λ e c is. by_ascii_or _ c is };
 }

@@ -65,5 +65,5 @@ impl<'i> Stateless for EucJpEncoder<'i> {
         }
     }
 
-    ghost ascii = { λ e c is. by_ascii_or c is };
+    ghost ascii = { λ e c is. by_ascii_or _ c is };
 }

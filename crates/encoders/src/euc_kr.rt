@@ -62,5 +62,5 @@ impl<'i> Stateless for EucKrEncoder<'i> {
         Some(euc_kr_pair(pointer))
     }
 
-    ghost ascii = { λ e c is. by_ascii_or c is };
+    ghost ascii = { λ e c is. by_ascii_or _ c is };
 }

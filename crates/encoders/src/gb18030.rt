@@ -83,7 +83,7 @@ impl<'i> Stateless for Gb18030Encoder<'i> {
         Some(gb18030_four(pointer))
     }
 
-    ghost ascii = { λ e c is. by_ascii_or c is };
+    ghost ascii = { λ e c is. by_ascii_or _ c is };
 }
 
 /// The GBK encoder, which borrows index gb18030 alone. Contracts see the index.
@@ -132,5 +132,5 @@ impl<'i> Stateless for GbkEncoder<'i> {
         }
     }
 
-    ghost ascii = { λ e c is. by_ascii_or c is };
+    ghost ascii = { λ e c is. by_ascii_or _ c is };
 }

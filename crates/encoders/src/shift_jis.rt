@@ -93,5 +93,5 @@ impl<'i> Stateless for ShiftJisEncoder<'i> {
         }
     }
 
-    ghost ascii = { λ e c is. by_ascii_or c is };
+    ghost ascii = { λ e c is. by_ascii_or _ c is };
 }

@@ -51,5 +51,5 @@ impl<'i> Stateless for SingleByteEncoder<'i> {
         Some(Few::One(pointer as u8 + 0x80))
     }
 
-    ghost ascii = { λ e c is. by_ascii_or c is };
+    ghost ascii = { λ e c is. by_ascii_or _ c is };
 }

@@ -42,6 +42,7 @@ pub(crate) fn bytes_turn(code_point: char, found: Option<Few>) -> EncoderTurn<()
 }
 
 /// The handler that the bytes of each code point make.
+#[derive(Drop)]
 pub(crate) struct ByBytes<'e, E> {
     encoder: &'e E,
 }

@@ -34,6 +34,7 @@ fn utf16_bytes(big: bool, code_point: char) -> Few
 }
 
 /// The UTF-16 encoder, which has each code point and puts no byte order mark.
+#[derive(Drop)]
 pub(crate) struct Utf16Encoder {
     /// Whether the more significant byte of a unit comes first.
     pub big: bool,

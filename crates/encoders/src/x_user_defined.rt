@@ -23,5 +23,5 @@ impl Stateless for XUserDefinedEncoder {
         }
     }
 
-    ghost ascii = { λ e c is. by_ascii_or c is };
+    ghost ascii = { λ e c is. by_ascii_or _ c is };
 }
