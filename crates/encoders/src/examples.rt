@@ -1,5 +1,4 @@
 //! Worked examples, as equations over the definitions that computing them proves.
-#![tactic(auto, unfolding(std::specs::Fmt::digits))]
 
 ghost use Rattle.std.specs.Prelude.{◌≡◌, [], ◌∷◌, None, Ok, Some, Err, false, true};
 ghost use Rattle.encoders.specs.Big5.{big5_bytes};

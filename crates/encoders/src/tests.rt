@@ -23,27 +23,42 @@ const FILES: [(IndexKind, &str); 8] = [
     (IndexKind::Katakana, "0\t0x3002\n"),
 ];
 
-/// These index files.
-fn indexes_of(alloc: Global, files: &[(IndexKind, &str)]) -> Result<Indexes, IndexFault> {
+/// The small index files.
+fn small_indexes(alloc: Global) -> Result<Indexes, IndexFault> {
     let mut indexes = Indexes::new();
-    for (kind, file) in files.iter() {
+    for (kind, file) in FILES.iter() {
         indexes.put(Index::parse(alloc, *kind, file.as_bytes())?);
     }
     Ok(indexes)
 }
 
-/// Over these files the text has these bytes, or this fault.
-fn gives_over(
+/// A file of index jis0208, and a small one of index jis0212.
+fn with_jis0208(alloc: Global, file: &str) -> Result<Indexes, IndexFault> {
+    let mut indexes = Indexes::new();
+    indexes.put(Index::parse(alloc, IndexKind::Jis0208, file.as_bytes())?);
+    let jis0212 = b"108\t0x02D8\n";
+    indexes.put(Index::parse(alloc, IndexKind::Jis0212, jis0212)?);
+    Ok(indexes)
+}
+
+/// A file of index Big5.
+fn with_big5(alloc: Global, file: &str) -> Result<Indexes, IndexFault> {
+    let mut indexes = Indexes::new();
+    indexes.put(Index::parse(alloc, IndexKind::Big5, file.as_bytes())?);
+    Ok(indexes)
+}
+
+/// The text has these bytes, or this fault.
+fn expect(
     rt: &impl Abort,
     alloc: Global,
-    files: &[(IndexKind, &str)],
+    indexes: &Indexes,
     encoding: Encoding,
     mode: EncodeMode,
     text: &str,
     want: Result<&[u8], EncodeFault>,
 ) -> Result<(), Fail> {
-    let indexes = indexes_of(alloc, files)?;
-    match encode(alloc, encoding, &indexes, mode, text) {
+    match encode(alloc, encoding, indexes, mode, text) {
         Ok(bytes) => assert_eq!(rt; Ok(bytes.as_slice()), want, "{text}"),
         Err(fault) => assert_eq!(rt; Err(fault), want, "{text}"),
     }
@@ -58,15 +73,9 @@ fn gives(
     text: &str,
     bytes: &[u8],
 ) -> Result<(), Fail> {
-    gives_over(
-        rt,
-        alloc,
-        &FILES,
-        encoding,
-        EncodeMode::Fatal,
-        text,
-        Ok(bytes),
-    )
+    let indexes = small_indexes(alloc)?;
+    let want = Ok(bytes);
+    expect(rt, alloc, &indexes, encoding, EncodeMode::Fatal, text, want)
 }
 
 /// Over the small files the text has these bytes in mode html, and in mode fatal it is refused at
@@ -79,25 +88,11 @@ fn refers(
     bytes: &[u8],
     refused: Unencodable,
 ) -> Result<(), Fail> {
+    let indexes = small_indexes(alloc)?;
+    let html = EncodeMode::Html;
+    expect(rt, alloc, &indexes, encoding, html, text, Ok(bytes))?;
     let want = Err(EncodeFault::Unencodable(refused));
-    gives_over(
-        rt,
-        alloc,
-        &FILES,
-        encoding,
-        EncodeMode::Html,
-        text,
-        Ok(bytes),
-    )?;
-    gives_over(
-        rt,
-        alloc,
-        &FILES,
-        encoding,
-        EncodeMode::Fatal,
-        text,
-        want,
-    )
+    expect(rt, alloc, &indexes, encoding, EncodeMode::Fatal, text, want)
 }
 
 /// A code point without bytes, and its place.
@@ -260,73 +255,46 @@ fn x_user_defined_private_use(rt: HostRuntime) -> Result<(), Fail> {
 
 #[test]
 fn big5_takes_the_last_pointer_of_six(rt: HostRuntime) -> Result<(), Fail> {
-    let files = [(IndexKind::Big5, "5287\t0x5341\n5512\t0x5341\n")];
-    gives_over(
-        &rt,
-        rt.alloc(),
-        &files,
-        Encoding::Big5,
-        EncodeMode::Fatal,
-        "\u{5341}",
-        Ok(b"\xA4\x51"),
-    )
+    let alloc = rt.alloc();
+    let indexes = with_big5(alloc, "5287\t0x5341\n5512\t0x5341\n")?;
+    let mode = EncodeMode::Fatal;
+    let want = Ok(b"\xA4\x51" as &[u8]);
+    expect(&rt, alloc, &indexes, Encoding::Big5, mode, "\u{5341}", want)
 }
 
 #[test]
 fn big5_supplement_is_never_written(rt: HostRuntime) -> Result<(), Fail> {
-    gives_over(
-        &rt,
-        rt.alloc(),
-        &[(IndexKind::Big5, "5023\t0x4E00\n")],
-        Encoding::Big5,
-        EncodeMode::Fatal,
-        "\u{4E00}",
-        Err(EncodeFault::Unencodable(unencodable(0, '\u{4E00}'))),
-    )
+    let alloc = rt.alloc();
+    let indexes = with_big5(alloc, "5023\t0x4E00\n")?;
+    let mode = EncodeMode::Fatal;
+    let want = Err(EncodeFault::Unencodable(unencodable(0, '\u{4E00}')));
+    expect(&rt, alloc, &indexes, Encoding::Big5, mode, "\u{4E00}", want)
 }
 
 #[test]
 fn shift_jis_passes_over_duplicates(rt: HostRuntime) -> Result<(), Fail> {
     let alloc = rt.alloc();
-    let rows = "8272\t0x2170\n10736\t0x2170\n10800\t0x2170\n";
-    for file in ["8272\t0x2170\n10736\t0x2170\n", rows].iter() {
-        let files = [
-            (IndexKind::Jis0208, *file),
-            (IndexKind::Jis0212, "108\t0x02D8\n"),
-        ];
-        for (encoding, bytes) in [
-            (Encoding::ShiftJis, b"\xFA\x54"),
-            (Encoding::EucJp, b"\xF9\xA1"),
-        ]
-        .iter()
-        {
-            gives_over(
-                &rt,
-                alloc,
-                &files,
-                *encoding,
-                EncodeMode::Fatal,
-                "\u{2170}",
-                Ok(*bytes),
-            )?;
-        }
+    let mode = EncodeMode::Fatal;
+    let two = "8272\t0x2170\n10736\t0x2170\n";
+    let three = "8272\t0x2170\n10736\t0x2170\n10800\t0x2170\n";
+    for file in [two, three].iter() {
+        let indexes = with_jis0208(alloc, *file)?;
+        let want = Ok(b"\xFA\x54" as &[u8]);
+        expect(&rt, alloc, &indexes, Encoding::ShiftJis, mode, "\u{2170}", want)?;
+        let want = Ok(b"\xF9\xA1" as &[u8]);
+        expect(&rt, alloc, &indexes, Encoding::EucJp, mode, "\u{2170}", want)?;
     }
-    gives_over(
-        &rt,
-        alloc,
-        &[(IndexKind::Jis0208, "8272\t0x2170\n")],
-        Encoding::ShiftJis,
-        EncodeMode::Fatal,
-        "\u{2170}",
-        Err(EncodeFault::Unencodable(unencodable(0, '\u{2170}'))),
-    )
+    let indexes = with_jis0208(alloc, "8272\t0x2170\n")?;
+    let want = Err(EncodeFault::Unencodable(unencodable(0, '\u{2170}')));
+    expect(&rt, alloc, &indexes, Encoding::ShiftJis, mode, "\u{2170}", want)
 }
 
 #[test]
 fn no_index_before_any_other_fault(rt: HostRuntime) -> Result<(), Fail> {
     let alloc = rt.alloc();
-    let jis0208 = [(IndexKind::Jis0208, "283\t0x3042\n")];
+    let indexes = Indexes::new();
     for encoding in [
+        Encoding::ShiftJis,
         Encoding::EucJp,
         Encoding::Iso2022Jp,
         Encoding::Big5,
@@ -337,15 +305,22 @@ fn no_index_before_any_other_fault(rt: HostRuntime) -> Result<(), Fail> {
     ]
     .iter()
     {
-        gives_over(
-            &rt,
-            alloc,
-            &jis0208,
-            *encoding,
-            EncodeMode::Fatal,
-            "\u{1F600}",
-            Err(EncodeFault::NoIndex),
-        )?;
+        let mode = EncodeMode::Fatal;
+        let want = Err(EncodeFault::NoIndex);
+        expect(&rt, alloc, &indexes, *encoding, mode, "\u{1F600}", want)?;
+    }
+    Ok(())
+}
+
+#[test]
+fn second_file_of_an_encoding_is_needed(rt: HostRuntime) -> Result<(), Fail> {
+    let alloc = rt.alloc();
+    let mut indexes = Indexes::new();
+    indexes.put(Index::parse(alloc, IndexKind::Jis0208, b"283\t0x3042\n")?);
+    for encoding in [Encoding::EucJp, Encoding::Iso2022Jp].iter() {
+        let mode = EncodeMode::Fatal;
+        let want = Err(EncodeFault::NoIndex);
+        expect(&rt, alloc, &indexes, *encoding, mode, "\u{3042}", want)?;
     }
     Ok(())
 }
@@ -353,31 +328,21 @@ fn no_index_before_any_other_fault(rt: HostRuntime) -> Result<(), Fail> {
 #[test]
 fn replacement_has_no_encoder(rt: HostRuntime) -> Result<(), Fail> {
     let alloc = rt.alloc();
+    let indexes = Indexes::new();
     for text in ["", "a"].iter() {
-        gives_over(
-            &rt,
-            alloc,
-            &[],
-            Encoding::Replacement,
-            EncodeMode::Html,
-            *text,
-            Err(EncodeFault::NoEncoder),
-        )?;
+        let mode = EncodeMode::Html;
+        let want = Err(EncodeFault::NoEncoder);
+        expect(&rt, alloc, &indexes, Encoding::Replacement, mode, *text, want)?;
     }
     Ok(())
 }
 
 #[test]
 fn place_counts_code_points_behind_a_run(rt: HostRuntime) -> Result<(), Fail> {
+    let alloc = rt.alloc();
     let text = "a plain run of more than sixty-four bytes, so that whole lanes are copied\u{3042}\u{20AC}";
-    let refused = unencodable(74, '\u{20AC}');
-    gives_over(
-        &rt,
-        rt.alloc(),
-        &FILES,
-        Encoding::ShiftJis,
-        EncodeMode::Fatal,
-        text,
-        Err(EncodeFault::Unencodable(refused)),
-    )
+    let indexes = small_indexes(alloc)?;
+    let mode = EncodeMode::Fatal;
+    let want = Err(EncodeFault::Unencodable(unencodable(74, '\u{20AC}')));
+    expect(&rt, alloc, &indexes, Encoding::ShiftJis, mode, text, want)
 }

@@ -1,7 +1,6 @@
 //! Worked examples of the encoder, as equations over the definitions that computing them proves.
-#![tactic(auto, unfolding(std::specs::Fmt::digits))]
 
-ghost use Rattle.std.specs.Prelude.{◌≡◌, ◌++◌, [], ◌∷◌, Ok, Err, false, true};
+ghost use Rattle.std.specs.Prelude.{◌≡◌, [], ◌∷◌, Ok, Err, false, true};
 ghost use Rattle.iso2022jp.specs.declared.output.OutputState.TheVariants.{Ascii, Roman, Katakana, Jis0208};
 ghost use Rattle.iso2022jp.specs.EncoderExamples.{grinning_face_reference, jis0208_pairs, katakana_pairs, replacement_reference};
 ghost use Rattle.iso2022jp.specs.EncoderSteps.{encoded_from};

@@ -23,6 +23,7 @@ fn small_indexes(alloc: Global) -> Result<Indexes, IndexFault> {
 }
 
 /// What is encoded, and how.
+#[derive(Clone, Copy)]
 struct Call<'t> {
     state: OutputState,
     text: &'t str,
