@@ -1,0 +1,2 @@
+pub mod AsciiRuns
+pub mod Choosing

@@ -1,0 +1,13 @@
+pub mod Big5
+pub mod Encode
+pub mod EucJp
+pub mod EucKr
+pub mod Examples
+pub mod Found
+pub mod Gb18030
+pub mod ShiftJis
+pub mod SingleByte
+pub mod Stateless
+pub mod StatelessLaws
+pub mod Steps
+pub mod Utf16

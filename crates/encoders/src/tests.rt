@@ -1,0 +1,348 @@
+//! Texts in all encodings, over small index files.
+use crate::{EncodeFault, EncodeMode, Unencodable, encode};
+use enc_names::Encoding;
+use index_loader::{Index, IndexFault, IndexKind, Indexes};
+use std::alloc::Global;
+use std::process::Abort;
+use std::test::Fail;
+
+const FILES: [(IndexKind, &str); 8] = [
+    (
+        IndexKind::SingleByte(Encoding::Windows1252),
+        "0\t0x20AC\n59\t0x00BB\n63\t0x00BF\n",
+    ),
+    (
+        IndexKind::Jis0208,
+        "0\t0x3000\n1\t0x3001\n2\t0x3002\n60\t0xFF0D\n283\t0x3042\n1410\t0x4E9C\n",
+    ),
+    (IndexKind::Jis0212, "108\t0x02D8\n"),
+    (IndexKind::Big5, "5495\t0x4E00\n"),
+    (IndexKind::EucKr, "9026\t0xAC00\n"),
+    (IndexKind::Gb18030, "0\t0x4E02\n1\t0x4E04\n9026\t0x554A\n"),
+    (IndexKind::Gb18030Ranges, "0\t0x0080\n189000\t0x10000\n"),
+    (IndexKind::Katakana, "0\t0x3002\n"),
+];
+
+/// The small index files.
+fn small_indexes(alloc: Global) -> Result<Indexes, IndexFault> {
+    let mut indexes = Indexes::new();
+    for (kind, file) in FILES.iter() {
+        indexes.put(Index::parse(alloc, *kind, file.as_bytes())?);
+    }
+    Ok(indexes)
+}
+
+/// A file of index jis0208, and a small one of index jis0212.
+fn with_jis0208(alloc: Global, file: &str) -> Result<Indexes, IndexFault> {
+    let mut indexes = Indexes::new();
+    indexes.put(Index::parse(alloc, IndexKind::Jis0208, file.as_bytes())?);
+    let jis0212 = b"108\t0x02D8\n";
+    indexes.put(Index::parse(alloc, IndexKind::Jis0212, jis0212)?);
+    Ok(indexes)
+}
+
+/// A file of index Big5.
+fn with_big5(alloc: Global, file: &str) -> Result<Indexes, IndexFault> {
+    let mut indexes = Indexes::new();
+    indexes.put(Index::parse(alloc, IndexKind::Big5, file.as_bytes())?);
+    Ok(indexes)
+}
+
+/// The text has these bytes, or this fault.
+fn expect(
+    rt: &impl Abort,
+    alloc: Global,
+    indexes: &Indexes,
+    encoding: Encoding,
+    mode: EncodeMode,
+    text: &str,
+    want: Result<&[u8], EncodeFault>,
+) -> Result<(), Fail> {
+    match encode(alloc, encoding, indexes, mode, text) {
+        Ok(bytes) => assert_eq!(rt; Ok(bytes.as_slice()), want, "{text}"),
+        Err(fault) => assert_eq!(rt; Err(fault), want, "{text}"),
+    }
+    Ok(())
+}
+
+/// Over the small files the text has these bytes in mode fatal.
+fn gives(
+    rt: &impl Abort,
+    alloc: Global,
+    encoding: Encoding,
+    text: &str,
+    bytes: &[u8],
+) -> Result<(), Fail> {
+    let indexes = small_indexes(alloc)?;
+    let want = Ok(bytes);
+    expect(rt, alloc, &indexes, encoding, EncodeMode::Fatal, text, want)
+}
+
+/// Over the small files the text has these bytes in mode html, and in mode fatal it is refused at
+/// this code point.
+fn refers(
+    rt: &impl Abort,
+    alloc: Global,
+    encoding: Encoding,
+    text: &str,
+    bytes: &[u8],
+    refused: Unencodable,
+) -> Result<(), Fail> {
+    let indexes = small_indexes(alloc)?;
+    let html = EncodeMode::Html;
+    expect(rt, alloc, &indexes, encoding, html, text, Ok(bytes))?;
+    let want = Err(EncodeFault::Unencodable(refused));
+    expect(rt, alloc, &indexes, encoding, EncodeMode::Fatal, text, want)
+}
+
+/// A code point without bytes, and its place.
+fn unencodable(index: u64, code_point: char) -> Unencodable {
+    Unencodable { index, code_point }
+}
+
+#[test]
+fn utf8_is_the_text(rt: HostRuntime) -> Result<(), Fail> {
+    gives(
+        &rt,
+        rt.alloc(),
+        Encoding::Utf8,
+        "a\u{20AC}\u{1F600}",
+        b"a\xE2\x82\xAC\xF0\x9F\x98\x80",
+    )
+}
+
+#[test]
+fn utf16_without_a_mark(rt: HostRuntime) -> Result<(), Fail> {
+    let alloc = rt.alloc();
+    let big = b"\xD8\x3D\xDE\x00\x00\x61";
+    let little = b"\x3D\xD8\x00\xDE\x61\x00";
+    gives(&rt, alloc, Encoding::Utf16Be, "\u{1F600}a", big)?;
+    gives(&rt, alloc, Encoding::Utf16Le, "\u{1F600}a", little)
+}
+
+#[test]
+fn shift_jis_minus_sign_and_hiragana(rt: HostRuntime) -> Result<(), Fail> {
+    let alloc = rt.alloc();
+    gives(&rt, alloc, Encoding::ShiftJis, "\u{2212}", b"\x81\x7C")?;
+    gives(&rt, alloc, Encoding::ShiftJis, "\u{3042}", b"\x82\xA0")?;
+    gives(
+        &rt,
+        alloc,
+        Encoding::ShiftJis,
+        "a\u{80}\u{A5}\u{203E}\u{FF71}",
+        b"a\x80\x5C\x7E\xB1",
+    )
+}
+
+#[test]
+fn euc_jp_kanji_and_katakana(rt: HostRuntime) -> Result<(), Fail> {
+    let alloc = rt.alloc();
+    gives(&rt, alloc, Encoding::EucJp, "\u{4E9C}", b"\xB0\xA1")?;
+    gives(&rt, alloc, Encoding::EucJp, "\u{FF71}\u{A5}", b"\x8E\xB1\x5C")
+}
+
+#[test]
+fn euc_jp_never_writes_jis0212(rt: HostRuntime) -> Result<(), Fail> {
+    refers(
+        &rt,
+        rt.alloc(),
+        Encoding::EucJp,
+        "\u{2D8}",
+        b"&#728;",
+        unencodable(0, '\u{2D8}'),
+    )
+}
+
+#[test]
+fn euc_kr_and_big5_letters(rt: HostRuntime) -> Result<(), Fail> {
+    let alloc = rt.alloc();
+    gives(&rt, alloc, Encoding::EucKr, "\u{AC00}", b"\xB0\xA1")?;
+    gives(&rt, alloc, Encoding::Big5, "\u{4E00}", b"\xA4\x40")
+}
+
+#[test]
+fn gb18030_pairs_and_ranges(rt: HostRuntime) -> Result<(), Fail> {
+    let alloc = rt.alloc();
+    gives(&rt, alloc, Encoding::Gb18030, "\u{554A}", b"\xB0\xA1")?;
+    let euro = b"\x81\x36\xC4\x36";
+    gives(&rt, alloc, Encoding::Gb18030, "\u{20AC}", euro)?;
+    let private_use = b"\x81\x35\xF4\x37";
+    gives(&rt, alloc, Encoding::Gb18030, "\u{E7C7}", private_use)?;
+    let last = b"\xE3\x32\x9A\x35";
+    gives(&rt, alloc, Encoding::Gb18030, "\u{10FFFF}", last)?;
+    refers(
+        &rt,
+        alloc,
+        Encoding::Gb18030,
+        "\u{E5E5}",
+        b"&#58853;",
+        unencodable(0, '\u{E5E5}'),
+    )
+}
+
+#[test]
+fn gbk_has_a_byte_for_the_euro_and_no_four(rt: HostRuntime) -> Result<(), Fail> {
+    let alloc = rt.alloc();
+    gives(&rt, alloc, Encoding::Gbk, "\u{20AC}", b"\x80")?;
+    refers(
+        &rt,
+        alloc,
+        Encoding::Gbk,
+        "\u{E7C7}",
+        b"&#59335;",
+        unencodable(0, '\u{E7C7}'),
+    )
+}
+
+#[test]
+fn iso_2022_jp_reference_in_ascii(rt: HostRuntime) -> Result<(), Fail> {
+    refers(
+        &rt,
+        rt.alloc(),
+        Encoding::Iso2022Jp,
+        "\u{3042}\u{1F600}",
+        b"\x1B$B$\"\x1B(B&#128512;",
+        unencodable(1, '\u{1F600}'),
+    )
+}
+
+#[test]
+fn iso_2022_jp_katakana_yen_and_shift_out(rt: HostRuntime) -> Result<(), Fail> {
+    let alloc = rt.alloc();
+    let stop = b"\x1B$B!#\x1B(B";
+    gives(&rt, alloc, Encoding::Iso2022Jp, "\u{FF61}", stop)?;
+    let yen = b"\x1B(J\\\x1B(B";
+    gives(&rt, alloc, Encoding::Iso2022Jp, "\u{A5}", yen)?;
+    refers(
+        &rt,
+        alloc,
+        Encoding::Iso2022Jp,
+        "\u{E}",
+        b"&#65533;",
+        unencodable(0, '\u{FFFD}'),
+    )
+}
+
+#[test]
+fn windows_1252_by_its_index(rt: HostRuntime) -> Result<(), Fail> {
+    let alloc = rt.alloc();
+    let text = "\u{20AC}x\u{BF}";
+    gives(&rt, alloc, Encoding::Windows1252, text, b"\x80x\xBF")?;
+    refers(
+        &rt,
+        alloc,
+        Encoding::Windows1252,
+        "ab\u{3042}",
+        b"ab&#12354;",
+        unencodable(2, '\u{3042}'),
+    )
+}
+
+#[test]
+fn x_user_defined_private_use(rt: HostRuntime) -> Result<(), Fail> {
+    let alloc = rt.alloc();
+    let text = "A\u{F780}\u{F7FF}";
+    gives(&rt, alloc, Encoding::XUserDefined, text, b"A\x80\xFF")?;
+    refers(
+        &rt,
+        alloc,
+        Encoding::XUserDefined,
+        "\u{80}",
+        b"&#128;",
+        unencodable(0, '\u{80}'),
+    )
+}
+
+#[test]
+fn big5_takes_the_last_pointer_of_six(rt: HostRuntime) -> Result<(), Fail> {
+    let alloc = rt.alloc();
+    let indexes = with_big5(alloc, "5287\t0x5341\n5512\t0x5341\n")?;
+    let mode = EncodeMode::Fatal;
+    let want = Ok(b"\xA4\x51" as &[u8]);
+    expect(&rt, alloc, &indexes, Encoding::Big5, mode, "\u{5341}", want)
+}
+
+#[test]
+fn big5_supplement_is_never_written(rt: HostRuntime) -> Result<(), Fail> {
+    let alloc = rt.alloc();
+    let indexes = with_big5(alloc, "5023\t0x4E00\n")?;
+    let mode = EncodeMode::Fatal;
+    let want = Err(EncodeFault::Unencodable(unencodable(0, '\u{4E00}')));
+    expect(&rt, alloc, &indexes, Encoding::Big5, mode, "\u{4E00}", want)
+}
+
+#[test]
+fn shift_jis_passes_over_duplicates(rt: HostRuntime) -> Result<(), Fail> {
+    let alloc = rt.alloc();
+    let mode = EncodeMode::Fatal;
+    let two = "8272\t0x2170\n10736\t0x2170\n";
+    let three = "8272\t0x2170\n10736\t0x2170\n10800\t0x2170\n";
+    for file in [two, three].iter() {
+        let indexes = with_jis0208(alloc, *file)?;
+        let want = Ok(b"\xFA\x54" as &[u8]);
+        expect(&rt, alloc, &indexes, Encoding::ShiftJis, mode, "\u{2170}", want)?;
+        let want = Ok(b"\xF9\xA1" as &[u8]);
+        expect(&rt, alloc, &indexes, Encoding::EucJp, mode, "\u{2170}", want)?;
+    }
+    let indexes = with_jis0208(alloc, "8272\t0x2170\n")?;
+    let want = Err(EncodeFault::Unencodable(unencodable(0, '\u{2170}')));
+    expect(&rt, alloc, &indexes, Encoding::ShiftJis, mode, "\u{2170}", want)
+}
+
+#[test]
+fn no_index_before_any_other_fault(rt: HostRuntime) -> Result<(), Fail> {
+    let alloc = rt.alloc();
+    let indexes = Indexes::new();
+    for encoding in [
+        Encoding::ShiftJis,
+        Encoding::EucJp,
+        Encoding::Iso2022Jp,
+        Encoding::Big5,
+        Encoding::EucKr,
+        Encoding::Gb18030,
+        Encoding::Gbk,
+        Encoding::Koi8R,
+    ]
+    .iter()
+    {
+        let mode = EncodeMode::Fatal;
+        let want = Err(EncodeFault::NoIndex);
+        expect(&rt, alloc, &indexes, *encoding, mode, "\u{1F600}", want)?;
+    }
+    Ok(())
+}
+
+#[test]
+fn second_file_of_an_encoding_is_needed(rt: HostRuntime) -> Result<(), Fail> {
+    let alloc = rt.alloc();
+    let mut indexes = Indexes::new();
+    indexes.put(Index::parse(alloc, IndexKind::Jis0208, b"283\t0x3042\n")?);
+    for encoding in [Encoding::EucJp, Encoding::Iso2022Jp].iter() {
+        let mode = EncodeMode::Fatal;
+        let want = Err(EncodeFault::NoIndex);
+        expect(&rt, alloc, &indexes, *encoding, mode, "\u{3042}", want)?;
+    }
+    Ok(())
+}
+
+#[test]
+fn replacement_has_no_encoder(rt: HostRuntime) -> Result<(), Fail> {
+    let alloc = rt.alloc();
+    let indexes = Indexes::new();
+    for text in ["", "a"].iter() {
+        let mode = EncodeMode::Html;
+        let want = Err(EncodeFault::NoEncoder);
+        expect(&rt, alloc, &indexes, Encoding::Replacement, mode, *text, want)?;
+    }
+    Ok(())
+}
+
+#[test]
+fn place_counts_code_points_behind_a_run(rt: HostRuntime) -> Result<(), Fail> {
+    let alloc = rt.alloc();
+    let text = "a plain run of more than sixty-four bytes, so that whole lanes are copied\u{3042}\u{20AC}";
+    let indexes = small_indexes(alloc)?;
+    let mode = EncodeMode::Fatal;
+    let want = Err(EncodeFault::Unencodable(unencodable(74, '\u{20AC}')));
+    expect(&rt, alloc, &indexes, Encoding::ShiftJis, mode, text, want)
+}
