@@ -1,10 +1,10 @@
 -- Look-ups in pairs that stand in the order of their code points.
-use Rattle.std.proofs.Common.{◌≡◌, ℕ, ◌-◌, ◌≤◌, ◌<◌, ◌==◌, true, false, length, get_or, map, filter, nat_le, ltb, leb, Some, None, refl, subst, ◌≢◌, arith, ⊎_elim}
+use Rattle.std.proofs.Common.{◌≡◌, ℕ, ◌-◌, ◌≤◌, ◌<◌, ◌==◌, true, false, length, get_or, map, filter, nat_le, ltb, leb, Some, None, refl, sym, subst, ◌≢◌, arith, ⊎_elim}
 use Rattle.std.proofs.lemmas.Bool.{cases_lt, ltb-true, ltb-false, eqb-true, eq-eqb, le-leb, leb-true, leb-false}
 use Rattle.std.proofs.lemmas.List.{get_or_default}
 use Rattle.std.proofs.lemmas.List.Sorted.{IsPartitionedBy-leb}
 use Rattle.std.specs.List.Sorted.{IsNonDecreasingBy, IsPartitionedBy, IsPartitionPoint}
-use Rattle.index_loader.proofs.Members.{Has, has-contains, has-get_or, place-has, has-filter, from-filter, has-map, from-map, least-is, greatest-is}
+use Rattle.index_loader.proofs.Members.{Has, has-contains, has-get_or, place-has, has-filter, from-filter, has-map, from-map, IsLeast, is-least, least-is, greatest-is}
 use Rattle.index_loader.specs.Pairs.{Pairs, least, greatest, pointers_with}
 use Rattle.index_loader.specs.Ranges.{row_code_point}
 use Rattle.index_loader.specs.Rank.{rank_of, IsLastUpTo, IsOrdered}
@@ -56,6 +56,38 @@ first-found pairs ordered code_point bound at parts lt pair is same =
           let p = pointer_place pairs code_point bound at n parts h in
           let up = ordered.rising at p.0 pair p.1 p.2 in
           let up' : rank_of pair ≤ rank_of (n, code_point) = rw (p.3 pair) at (rw is at up) in omega arith,
+    )
+
+-- the smallest pointer of a code point is the smallest from each bound up to it
+pub first-above : (pairs : Pairs) (code_point bound n : ℕ) → Some n ≡ least (pointers_with code_point pairs) → bound ≤ n → Some n ≡ least (filter (nat_le bound) (pointers_with code_point pairs))
+first-above pairs code_point bound n e within =
+    let ns = pointers_with code_point pairs in
+    let one : IsLeast ns (Some n) = subst (IsLeast ns) (sym e) (is-least ns) in
+    least-is _ (Some n) (has-filter (nat_le bound) ns n one.0 (le-leb bound n within), λ m h. one.1 m (from-filter (nat_le bound) ns m h).0)
+
+-- the first of the pairs with one code point has its smallest pointer
+pub first-of : (pairs : Pairs) → IsOrdered pairs → (at : ℕ) → at < length pairs → (pair : ℕ × ℕ) → get_or pairs at pair ≡ pair → (0 < at → (get_or pairs (at - 1) pair).1 ≢ pair.1)
+    → Some pair.0 ≡ least (pointers_with pair.1 pairs)
+first-of pairs ordered at lt pair is other =
+    let here : Has pair pairs = subst (λ (y : ℕ × ℕ). Has y pairs) is (has-get_or pairs at pair lt) in
+    least-is _ (Some pair.0) (
+      has-pointer pair.1 pair.0 pairs here,
+      λ n h.
+          let p = place-has pairs (n, pair.1) (pair-of_pointer pair.1 n pairs h) in
+          ⊎_elim
+          (λ (before : p.0 < at).
+          let up = ordered.rising p.0 (at - 1) pair (omega arith) (omega arith) in
+          let up' : rank_of (n, pair.1) ≤ rank_of (get_or pairs (at - 1) pair) = rw (p.2 pair) at up in
+          let next = ordered.rising (at - 1) at pair (omega arith) lt in
+          let next' : rank_of (get_or pairs (at - 1) pair) ≤ rank_of pair = rw is at next in
+          let little = ordered.small (at - 1) pair (omega arith) in
+          let small : n ≤ 189000 = subst (λ (y : ℕ × ℕ). y.0 ≤ 189000) (p.2 pair) (ordered.small p.0 pair p.1) in
+          let low : pair.0 ≤ 189000 = subst (λ (y : ℕ × ℕ). y.0 ≤ 189000) is (ordered.small at pair lt) in
+          absurd (other (omega arith) (omega (arith, up', next', little, small, low))))
+          (λ (behind : at ≤ p.0).
+          let up = ordered.rising at p.0 pair behind p.1 in
+          let up' : rank_of pair ≤ rank_of (n, pair.1) = rw (p.2 pair) at (rw is at up) in omega arith)
+          (cases_lt p.0 at),
     )
 
 -- the same, where it has another one

@@ -2,6 +2,7 @@ pub mod Examples
 pub mod File
 pub mod FileLaws
 pub mod Files
+pub mod FirstPointers
 pub mod Index
 pub mod Inside
 pub mod Kinds

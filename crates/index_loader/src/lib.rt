@@ -4,6 +4,7 @@
 mod by_code_point;
 mod fault;
 mod field;
+mod first_pointers;
 mod index;
 mod indexes;
 mod kind;
