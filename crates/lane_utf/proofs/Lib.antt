@@ -1,0 +1,4 @@
+pub mod Fronts
+pub mod Lone
+pub mod Putting
+pub mod UnitSums

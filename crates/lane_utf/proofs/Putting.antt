@@ -1,0 +1,137 @@
+-- Writes at the end of what was written so far.
+use Rattle.std.proofs.Common.{◌≡◌, refl, sym, ap, subst, ◌∙◌, ℕ, zero, suc, ◌+◌, ◌/◌, ◌%◌, ◌<◌, ◌≤◌, List, [], ◌∷◌, ◌++◌, length, take, drop, arith, slice_set, append_assoc, length-append}
+use Rattle.std.proofs.Math.Utf8.{encode}
+use Rattle.std.proofs.lemmas.Bool.{lt-ltb, le-ltb}
+use Rattle.std.proofs.lemmas.List.{take-append-drop, drop-drop}
+use Rattle.std.proofs.lemmas.Str.{length-encode}
+use Rattle.std.proofs.lemmas.Simd.{take_more_put_chunk}
+use Rattle.std.specs.Simd.Lanes.{put_chunk}
+use Rattle.lane_utf.specs.Widths.{utf8_width}
+
+pub put_none : (at : ℕ) (bytes : List ℕ) → put_chunk at bytes [] ≡ bytes
+put_none zero [] = refl
+put_none (suc at) [] = refl
+put_none zero (x ∷ xs) = refl
+put_none (suc at) (x ∷ xs) = ap (λ k. x ∷ k) (put_none at xs)
+
+-- one write in front of the others
+pub put_first : (at y : ℕ) (bytes ys : List ℕ) → put_chunk at bytes (y ∷ ys) ≡ put_chunk (at + 1) (slice_set bytes at y) ys
+put_first zero y [] ys = refl
+put_first (suc at) y [] ys = refl
+put_first zero y (x ∷ xs) ys = refl
+put_first (suc at) y (x ∷ xs) ys =
+    let e : suc at + 1 ≡ suc (at + 1) = omega arith in
+    ap (λ k. x ∷ k) (put_first at y xs ys) ∙ ap (λ n. put_chunk n (x ∷ slice_set xs at y) ys) (sym e)
+
+encode_one : (c : ℕ) → c < 128 → encode c ≡ c ∷ []
+unfolding encode
+encode_one c h = rw (lt-ltb c 128 h) refl
+
+encode_two : (c : ℕ) → 128 ≤ c → c < 2048 → encode c ≡ (192 + c / 64) ∷ (128 + c % 64) ∷ []
+unfolding encode
+encode_two c l h = rw (le-ltb c 128 l, lt-ltb c 2048 h) refl
+
+encode_three : (c : ℕ) → 2048 ≤ c → c < 65536 → encode c ≡ (224 + c / 4096) ∷ (128 + c / 64 % 64) ∷ (128 + c % 64) ∷ []
+unfolding encode
+encode_three c l h = rw (le-ltb c 128 (omega arith), le-ltb c 2048 l, lt-ltb c 65536 h) refl
+
+encode_four : (c : ℕ) → 65536 ≤ c → encode c ≡ (240 + c / 262144) ∷ (128 + c / 4096 % 64) ∷ (128 + c / 64 % 64) ∷ (128 + c % 64) ∷ []
+unfolding encode
+encode_four c l = rw (le-ltb c 128 (omega arith), le-ltb c 2048 (omega arith), le-ltb c 65536 l) refl
+
+-- writes in a row
+one_put : (at w : ℕ) (bytes : List ℕ) → slice_set bytes at w ≡ put_chunk at bytes (w ∷ [])
+one_put at w bytes = sym (put_first at w bytes [] ∙ put_none (at + 1) (slice_set bytes at w))
+
+two_put : (at w x : ℕ) (bytes : List ℕ) → slice_set (slice_set bytes at w) (at + 1) x ≡ put_chunk at bytes (w ∷ x ∷ [])
+two_put at w x bytes = one_put (at + 1) x (slice_set bytes at w) ∙ sym (put_first at w bytes (x ∷ []))
+
+three_put : (at w x y : ℕ) (bytes : List ℕ) → slice_set (slice_set (slice_set bytes at w) (at + 1) x) (at + 2) y ≡ put_chunk at bytes (w ∷ x ∷ y ∷ [])
+three_put at w x y bytes =
+    let two : at + 2 ≡ at + 1 + 1 = omega arith in
+    ap (λ k. slice_set (slice_set (slice_set bytes at w) (at + 1) x) k y) two
+    ∙ two_put (at + 1) x y (slice_set bytes at w) ∙ sym (put_first at w bytes (x ∷ y ∷ []))
+
+four_put : (at w x y z : ℕ) (bytes : List ℕ) → slice_set (slice_set (slice_set (slice_set bytes at w) (at + 1) x) (at + 2) y) (at + 3) z ≡ put_chunk at bytes (w ∷ x ∷ y ∷ z ∷ [])
+four_put at w x y z bytes =
+    let two : at + 2 ≡ at + 1 + 1 = omega arith in
+    let three : at + 3 ≡ at + 1 + 2 = omega arith in
+    ap (λ k. slice_set (slice_set (slice_set (slice_set bytes at w) (at + 1) x) k y) (at + 3) z) two
+    ∙ ap (λ k. slice_set (slice_set (slice_set (slice_set bytes at w) (at + 1) x) (at + 1 + 1) y) k z) three
+    ∙ three_put (at + 1) x y z (slice_set bytes at w) ∙ sym (put_first at w bytes (x ∷ y ∷ z ∷ []))
+
+pub put_one : (at c : ℕ) (bytes : List ℕ) → c < 128 → slice_set bytes at c ≡ put_chunk at bytes (encode c)
+put_one at c bytes h = one_put at c bytes ∙ ap (put_chunk at bytes) (sym (encode_one c h))
+
+pub put_two : (at c : ℕ) (bytes : List ℕ) → 128 ≤ c → c < 2048
+    → slice_set (slice_set bytes at (192 + c / 64)) (at + 1) (128 + c % 64) ≡ put_chunk at bytes (encode c)
+put_two at c bytes l h = two_put at _ _ bytes ∙ ap (put_chunk at bytes) (sym (encode_two c l h))
+
+pub put_three : (at c : ℕ) (bytes : List ℕ) → 2048 ≤ c → c < 65536
+    → slice_set (slice_set (slice_set bytes at (224 + c / 4096)) (at + 1) (128 + c / 64 % 64)) (at + 2) (128 + c % 64) ≡ put_chunk at bytes (encode c)
+put_three at c bytes l h = three_put at _ _ _ bytes ∙ ap (put_chunk at bytes) (sym (encode_three c l h))
+
+pub put_four : (at c : ℕ) (bytes : List ℕ) → 65536 ≤ c
+    → slice_set (slice_set (slice_set (slice_set bytes at (240 + c / 262144)) (at + 1) (128 + c / 4096 % 64)) (at + 2) (128 + c / 64 % 64)) (at + 3) (128 + c % 64)
+    ≡ put_chunk at bytes (encode c)
+put_four at c bytes l = four_put at _ _ _ _ bytes ∙ ap (put_chunk at bytes) (sym (encode_four c l))
+
+-- A whole is written over the front of a slice: so much of it stands there, tail is still to come, and what stood
+-- behind is as it was.
+pub record IsWriting (whole : List ℕ) (written : ℕ) (out old tail : List ℕ) : Type 0 where
+  pub so_far : take written out ++ tail ≡ whole
+  pub count : written + length tail ≡ length whole
+  pub kept : drop written out ≡ drop written old
+
+pub writing_begins : (whole old : List ℕ) → IsWriting whole 0 old old whole
+writing_begins whole old = record { so_far = refl; count = omega arith; kept = refl }
+
+drop_put : (out ys : List ℕ) → drop (length ys) (put_chunk 0 out ys) ≡ drop (length ys) out
+drop_put [] ys = refl
+drop_put (x ∷ xs) [] = refl
+drop_put (x ∷ xs) (y ∷ ys) = drop_put xs ys
+
+drop_more_put : (written : ℕ) (out ys : List ℕ) → drop (written + length ys) (put_chunk written out ys) ≡ drop (written + length ys) out
+drop_more_put zero out ys =
+    let e : 0 + length ys ≡ length ys = omega arith in
+    rw e (drop_put out ys)
+drop_more_put (suc at) [] ys = refl
+drop_more_put (suc at) (x ∷ xs) ys =
+    let e : suc at + length ys ≡ suc (at + length ys) = omega arith in
+    rw e (drop_more_put at xs ys)
+
+pub writing_goes_on : (whole : List ℕ) (written : ℕ) (out old tail ys rest : List ℕ) → IsWriting whole written out old tail
+    → length whole ≤ length out → tail ≡ ys ++ rest → IsWriting whole (written + length ys) (put_chunk written out ys) old rest
+writing_goes_on whole written out old tail ys rest w room e =
+    let long : length tail ≡ length ys + length rest = ap length e ∙ length-append ys rest in
+    record {
+      so_far = ap (λ t. t ++ rest) (take_more_put_chunk written out ys (written + length ys) refl (omega (arith, w, long)))
+          ∙ append_assoc (take written out) ys rest ∙ ap (λ t. take written out ++ t) (sym e) ∙ w.so_far;
+      count = omega (arith, w, long);
+      kept = drop_more_put written out ys ∙ sym (drop-drop (length ys) written out) ∙ ap (drop (length ys)) w.kept ∙ drop-drop (length ys) written old;
+    }
+
+-- a code point is written
+pub room_for : (whole : List ℕ) (written : ℕ) (out old tail rest : List ℕ) (c room : ℕ) → IsWriting whole written out old tail
+    → tail ≡ encode c ++ rest → length whole ≤ room → written + utf8_width c ≤ room
+room_for whole written out old tail rest c room w e h =
+    let long : length tail ≡ length (encode c) + length rest = ap length e ∙ length-append (encode c) rest in
+    omega (arith, w.count, long, length-encode c, h)
+
+pub put_goes_on : (whole : List ℕ) (written : ℕ) (out old tail rest : List ℕ) (c end : ℕ) (new : List ℕ) → IsWriting whole written out old tail
+    → length whole ≤ length out → tail ≡ encode c ++ rest → end ≡ written + utf8_width c → new ≡ put_chunk written out (encode c)
+    → IsWriting whole end new old rest
+put_goes_on whole written out old tail rest c end new w room e at is =
+    let width : written + length (encode c) ≡ end = omega (arith, length-encode c, at) in
+    subst (λ b. IsWriting whole end b old rest) (sym is)
+    (subst (λ n. IsWriting whole n (put_chunk written out (encode c)) old rest) width (writing_goes_on whole written out old tail (encode c) rest w room e))
+
+append_none : (xs : List ℕ) → xs ++ [] ≡ xs
+append_none [] = refl
+append_none (x ∷ xs) = ap (λ t. x ∷ t) (append_none xs)
+
+pub writing_ends : (whole : List ℕ) (written : ℕ) (out old : List ℕ) → IsWriting whole written out old [] → out ≡ whole ++ drop (length whole) old
+writing_ends whole written out old w =
+    let all : take written out ≡ whole = sym (append_none (take written out)) ∙ w.so_far in
+    let end : written ≡ length whole = omega (arith, w.count) in
+    sym (take-append-drop written out) ∙ ap (λ t. t ++ drop written out) all ∙ ap (λ t. whole ++ t) (w.kept ∙ ap (λ k. drop k old) end)

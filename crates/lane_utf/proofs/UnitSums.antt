@@ -1,0 +1,113 @@
+-- Sums of widths.
+use Rattle.std.proofs.Common.{◌≡◌, refl, sym, ap, ◌∙◌, ℕ, suc, ◌+◌, ◌-◌, ◌*◌, ◌/◌, ◌%◌, ◌≤◌, Bool, true, false, List, [], ◌∷◌, ◌++◌, length, arith, length-append, None, Fits, w16, get_or, ◌<◌, Ok, Err}
+use Rattle.std.proofs.lemmas.Bool.Decides.{nat_tests}
+use Rattle.lane_utf.specs.Widths.{total_width, utf8_width}
+use Rattle.lane_utf.specs.Weights.{unit_weight}
+use Rattle.std.proofs.Math.Utf8.{encode, encodes, scalars}
+use Rattle.std.proofs.lemmas.Bool.{le-leb, lt-leb, lt-ltb, le-ltb}
+use Rattle.std.proofs.lemmas.Str.{length-encode}
+use Rattle.lane_utf.specs.Conversions.{utf8_answer}
+use Rattle.lane_utf.specs.declared.faults.ToUtf8Fault.TheVariants.{NeedsRoom as needs_room}
+use Rattle.lane_utf.specs.Utf16.{is_lead, is_trail, code_points, pair_code_point, first_lone, utf16_form, utf16_forms}
+use Rattle.lane_utf.proofs.Fronts.{single_front, pair_front, single_trails, pair_trails, lead_bounds, trail_bounds}
+
+pub total-append : (width : ℕ → ℕ) (xs ys : List ℕ) → total_width width (xs ++ ys) ≡ total_width width xs + total_width width ys
+total-append width [] ys = omega arith
+total-append width (x ∷ xs) ys = omega (arith, total-append width xs ys)
+
+weight-le : (u : ℕ) → unit_weight u ≤ 3
+weight-le u = grind (arith, nat_tests)
+
+pub units-bound : (us : List ℕ) → total_width unit_weight us ≤ 3 * length us
+units-bound [] = omega arith
+units-bound (u ∷ us) = omega (arith, weight-le u, units-bound us)
+
+pub by_test : {A : Type 0} (b : Bool) → (b ≡ true → A) → (b ≡ false → A) → A
+by_test true p q = p refl
+by_test false p q = q refl
+
+single_weight : (u : ℕ) → u < 65536 → is_lead u ≡ false → is_trail u ≡ false → unit_weight u ≡ utf8_width u
+single_weight u h l t = grind (arith, nat_tests)
+
+surrogate_weight : (u : ℕ) → 55296 ≤ u → u < 57344 → unit_weight u ≡ 2
+surrogate_weight u l h = grind (arith, nat_tests)
+
+above_width : (c : ℕ) → 65536 ≤ c → utf8_width c ≡ 4
+above_width c h = grind (arith, nat_tests)
+
+-- what holds of units without a lone surrogate
+pub record IsPaired (us : List ℕ) : Type 0 where
+  pub total : total_width unit_weight us ≡ total_width utf8_width (code_points us)
+  pub are_scalars : scalars (code_points us) ≡ true
+  pub form : utf16_forms (code_points us) ≡ us
+
+form_of_single : (u : ℕ) (rest : List ℕ) → u < 65536 → utf16_form u ++ rest ≡ u ∷ rest
+form_of_single u rest h = rw (lt-ltb u 65536 h) refl
+
+form_of_pair : (u v : ℕ) (rest : List ℕ) → is_lead u ≡ true → is_trail v ≡ true → utf16_form (pair_code_point u v) ++ rest ≡ u ∷ v ∷ rest
+form_of_pair u v rest e f =
+    let l = lead_bounds u e in
+    let t = trail_bounds v f in
+    let c = pair_code_point u v in
+    let first : 0xD800 + (c - 0x10000) / 0x400 ≡ u = omega (arith, l, t) in
+    let second : 0xDC00 + (c - 0x10000) % 0x400 ≡ v = omega (arith, l, t) in
+    rw (le-ltb c 65536 (omega arith)) (ap (λ k. k ∷ (0xDC00 + (c - 0x10000) % 0x400) ∷ rest) first ∙ ap (λ k. u ∷ k ∷ rest) second)
+
+single_paired : (u : ℕ) (us : List ℕ) → u < 65536 → first_lone (u ∷ us) ≡ None → is_lead u ≡ false → IsPaired us → IsPaired (u ∷ us)
+single_paired u us h e lead more =
+    let front = single_front u us h e lead in
+    let same = single_weight u h lead (single_trails u us e lead) in
+    let first : total_width utf8_width (code_points (u ∷ us)) ≡ utf8_width u + total_width utf8_width (code_points us) = ap (total_width utf8_width) front.first in
+    record {
+      total = omega (arith, same, more.total, first);
+      are_scalars = ap scalars front.first ∙ rw (front.scalar, more.are_scalars) refl;
+      form = ap utf16_forms front.first ∙ form_of_single u (utf16_forms (code_points us)) h ∙ ap (λ k. u ∷ k) more.form;
+    }
+
+pair_paired : (u v : ℕ) (us : List ℕ) → first_lone (u ∷ v ∷ us) ≡ None → is_lead u ≡ true → IsPaired us → IsPaired (u ∷ v ∷ us)
+pair_paired u v us e lead more =
+    let front = pair_front u (v ∷ us) e lead in
+    let trail = pair_trails u v us e lead in
+    let l = lead_bounds u lead in
+    let t = trail_bounds v trail in
+    let here = surrogate_weight u l.0 (omega (arith, l)) in
+    let there = surrogate_weight v (omega (arith, t)) t.1 in
+    let four = above_width (pair_code_point u v) (omega arith) in
+    let first : total_width utf8_width (code_points (u ∷ v ∷ us)) ≡ utf8_width (pair_code_point u v) + total_width utf8_width (code_points us) = ap (total_width utf8_width) front.first in
+    record {
+      total = omega (arith, here, there, four, more.total, first);
+      are_scalars = ap scalars front.first ∙ rw (front.scalar, more.are_scalars) refl;
+      form = ap utf16_forms front.first ∙ form_of_pair u v (utf16_forms (code_points us)) lead trail ∙ ap (λ k. u ∷ v ∷ k) more.form;
+    }
+
+pub paired : (us : List ℕ) → ((k : ℕ) → Fits w16 (get_or us k 0)) → first_lone us ≡ None → IsPaired us
+paired [] fits e = record { total = refl; are_scalars = refl; form = refl }
+paired (u ∷ []) fits e =
+    by_test (is_lead u)
+    (λ lead. let f = pair_front u [] e lead in absurd (omega (arith, f.within)))
+    (λ lead. single_paired u [] (fits 0).fits e lead (paired [] (λ k. fits (suc k)) refl))
+paired (u ∷ v ∷ us) fits e =
+    by_test (is_lead u)
+    (λ lead. pair_paired u v us e lead (paired us (λ k. fits (suc (suc k))) (pair_front u (v ∷ us) e lead).paired))
+    (λ lead. single_paired u (v ∷ us) (fits 0).fits e lead (paired (v ∷ us) (λ k. fits (suc k)) (single_front u (v ∷ us) (fits 0).fits e lead).paired))
+
+-- the bytes of UTF-8
+pub encodes-width : (cs : List ℕ) → length (encodes cs) ≡ total_width utf8_width cs
+encodes-width [] = refl
+encodes-width (c ∷ cs) = omega (arith, length-append (encode c) (encodes cs), length-encode c, encodes-width cs)
+
+pub paired-bytes : (us : List ℕ) → ((k : ℕ) → Fits w16 (get_or us k 0)) → first_lone us ≡ None → length (encodes (code_points us)) ≡ total_width unit_weight us
+paired-bytes us fits e = encodes-width (code_points us) ∙ sym (paired us fits e).total
+
+-- the answers
+pub has_room : (us : List ℕ) (needed room : ℕ) → ((k : ℕ) → Fits w16 (get_or us k 0)) → first_lone us ≡ None → needed ≡ total_width unit_weight us → needed ≤ room
+    → Ok needed ≡ utf8_answer us room
+has_room us needed room fits e n h =
+    let whole : total_width utf8_width (code_points us) ≡ needed = sym (n ∙ (paired us fits e).total) in
+    rw (e, whole, le-leb needed room h) refl
+
+pub lacks_room : (us : List ℕ) (needed room : ℕ) → ((k : ℕ) → Fits w16 (get_or us k 0)) → first_lone us ≡ None → needed ≡ total_width unit_weight us → room < needed
+    → Err (needs_room needed) ≡ utf8_answer us room
+lacks_room us needed room fits e n h =
+    let whole : total_width utf8_width (code_points us) ≡ needed = sym (n ∙ (paired us fits e).total) in
+    rw (e, whole, lt-leb needed room h) refl

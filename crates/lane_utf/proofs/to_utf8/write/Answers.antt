@@ -1,0 +1,25 @@
+use Rattle.std.proofs.Common.{◌∙◌, ap, sym, length, drop, ◌++◌, arith, length-drop}
+use Rattle.std.proofs.lemmas.List.{drop-drop}
+use Rattle.std.specs.Char.{encode_utf8}
+use Rattle.std.specs.Str.{encode_utf8_all}
+use Rattle.lane_utf.specs.Utf16.{code_points, first_lone}
+use Rattle.lane_utf.proofs.Putting.{room_for, put_goes_on}
+use Rattle.lane_utf.proofs.to_utf8.write.Goals as goal
+
+pub put-written-requires-clause-room : goal.put-written-requires-clause-room
+put-written-requires-clause-room c =
+    let f = c.front-code_point in
+    room_for _ c.units.written c.units.bytes c.args.bytes.now _ (encode_utf8_all (code_points (drop f.result.1 (drop c.units.read c.args.units.now)))) f.result.0 (length c.units.bytes)
+    c.units.invariant.writing (ap encode_utf8_all f.ensures.first) (omega (arith, c.requires.room, c.units.auto.bytes))
+
+pub units-preserved : goal.units-preserved
+units-preserved c =
+    let f = c.front-code_point in
+    let behind = drop-drop f.result.1 c.units.read c.args.units.now in
+    record {
+      within = omega (arith, f.ensures.within, length-drop c.units.read c.args.units.now, c.units-test.true);
+      paired = ap first_lone (sym behind) ∙ f.ensures.paired;
+      writing = put_goes_on _ c.units.written c.units.bytes c.args.bytes.now _ _ f.result.0 c.put-written.result c.put-written.new.bytes
+          c.units.invariant.writing (omega (arith, c.requires.room, c.units.auto.bytes)) (ap encode_utf8_all f.ensures.first ∙ ap (λ k. encode_utf8 f.result.0 ++ encode_utf8_all (code_points k)) behind)
+          c.put-written.ensures.end c.put-written.ensures.bytes;
+    }

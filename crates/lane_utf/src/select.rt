@@ -1,0 +1,12 @@
+//! Where so many units end in a text.
+
+/// Where so many units of UTF-16 end.
+#[derive(Clone, Copy, PartialEq, Eq, Debug)]
+pub enum Select {
+    /// The byte behind the whole code points that take them.
+    At(usize),
+    /// Between the two units of a surrogate pair.
+    Inside,
+    /// Behind the end of the text, which takes fewer.
+    Past,
+}

@@ -1,0 +1,18 @@
+//! The longest prefix that is UTF-8.
+ghost use Rattle.std.specs.Prelude.{◌≡◌, take};
+ghost use Rattle.std.specs.Str.{IsUtf8};
+ghost use Rattle.std.specs.Str.Lossy.{utf8_valid_len};
+
+use simdutf8::compat::from_utf8;
+
+/// The length in bytes of the longest prefix that is well-formed UTF-8 (Unicode, chapter 3, D92 and
+/// table 3-7).
+pub fn valid_run(bytes: &[u8]) -> usize
+    ensures longest { result ≡ utf8_valid_len bytes.now }
+    ensures valid { IsUtf8 (take result bytes.now) }
+{
+    match from_utf8(bytes) {
+        Ok(text) => text.len(),
+        Err(fault) => fault.valid_up_to(),
+    }
+}
