@@ -3,3 +3,8 @@ pub mod Driving
 pub mod Showing
 pub mod Collecting
 pub mod Lifting
+pub mod Moving
+pub mod PlainRuns
+pub mod Turning
+pub mod Utf8Runs
+pub mod ItemWidths

@@ -1,4 +1,5 @@
 pub mod Alone
+pub mod Bulk
 pub mod ByCases
 pub mod Collected
 pub mod Counts
@@ -14,6 +15,7 @@ pub mod Placed
 pub mod Queue
 pub mod Replacement
 pub mod ReplacementLaws
+pub mod Runs
 pub mod Seen
 pub mod Shown
 pub mod SingleByte

@@ -3,6 +3,7 @@
 //! UTF-16, the single-byte encodings, x-user-defined and replacement.
 #![tactic(auto)]
 
+mod bulk;
 mod collector;
 mod counts;
 mod decoder;
@@ -21,6 +22,8 @@ mod parts;
 mod piece;
 mod placed;
 mod replacement;
+mod run_bulk;
+mod runs;
 mod single_byte;
 mod sink;
 #[cfg(test)]
@@ -28,8 +31,11 @@ mod tests;
 mod turns;
 mod utf16;
 mod utf8;
+mod utf8_bulk;
+mod widths;
 mod x_user_defined;
 
+pub use bulk::{Bulk, NO_BULK, Stride};
 pub use counts::Meter;
 pub use decoder::{Decoder, Simple, Step};
 pub use few::Few;
@@ -44,6 +50,7 @@ pub use parts::decode_parts;
 pub use piece::run_piece;
 pub use placed::Placed;
 pub use replacement::{ReplacementDecoder, ReplacementState};
+pub use runs::Runs;
 pub use single_byte::SingleByteDecoder;
 pub use sink::Sink;
 pub use utf8::{Utf8Decoder, Utf8State};

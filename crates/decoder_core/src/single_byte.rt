@@ -11,6 +11,7 @@ use crate::forms::{finish, give, scalar};
 use crate::handler::{Handled, Handler};
 use crate::item::Item;
 use crate::one_byte::OneByteState;
+use crate::runs::Runs;
 use index_loader::Index;
 use std::marker::Model;
 
@@ -60,6 +61,12 @@ impl<'i> Handler for SingleByteDecoder<'i> {
 
     fn start_state(&self) -> OneByteState {
         OneByteState::Idle
+    }
+
+    #[inline(always)]
+    fn runs(&self, state: OneByteState) -> Runs {
+        let _ = state;
+        Runs::Ascii
     }
 
     // In the loop over the bytes.

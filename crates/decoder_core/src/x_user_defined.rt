@@ -9,6 +9,7 @@ ghost use Rattle.decoder_core.specs.XUserDefined.{x_user_defined, x_user_defined
 use crate::forms::{finish, give_one};
 use crate::handler::{Handled, Handler};
 use crate::one_byte::OneByteState;
+use crate::runs::Runs;
 
 /// The x-user-defined decoder (Encoding Standard, "x-user-defined decoder").
 #[derive(Clone, Copy, PartialEq, Eq, Debug)]
@@ -23,6 +24,12 @@ impl Handler for XUserDefinedDecoder {
 
     fn start_state(&self) -> OneByteState {
         OneByteState::Idle
+    }
+
+    #[inline(always)]
+    fn runs(&self, state: OneByteState) -> Runs {
+        let _ = state;
+        Runs::Ascii
     }
 
     // In the loop over the bytes.

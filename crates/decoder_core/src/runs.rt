@@ -1,0 +1,12 @@
+//! Bytes that are their own code points.
+
+/// Which bytes are their own code points in a state of a decoder, and leave it in that state.
+#[derive(Clone, Copy, PartialEq, Eq, Debug)]
+pub enum Runs {
+    /// None that is known.
+    None,
+    /// Those below 0x80.
+    Ascii,
+    /// Those below 0x80 but 0x0E, 0x0F and 0x1B, with which ISO 2022 shifts and escapes.
+    WithoutEscapes,
+}
