@@ -1,2 +1,7 @@
+pub mod Counting
+pub mod Flags
+pub mod MarkLanes
 pub mod Masks
 pub mod Prefixes
+pub mod Swaps
+pub mod Widens

@@ -2,8 +2,8 @@
 ghost use Rattle.std.specs.Prelude.{◌≡◌, ◌+◌, ◌<◌, ◌≤◌, length, take, drop};
 ghost use Rattle.std.specs.List.{prefix_len};
 ghost use Rattle.lane_ascii.specs.Runs.{ascii_len, plain_len};
-ghost use Rattle.lane_ascii.specs.Bits.{first_set};
 
+use crate::bits::lowest_set;
 use crate::class::{Ascii, Class, Plain};
 use std::simd::prelude::*;
 
@@ -115,16 +115,4 @@ fn run_in_8<C: Class>(bytes: &[u8], at: usize) -> usize
     ensures { result ≡ prefix_len C.holds (take 8 (drop at bytes.now)) }
 {
     lowest_set(C::others_of_8(u8x8::from_slice(&bytes[at..])), 8)
-}
-
-/// The place of the lowest bit that is set, or the number of lanes where none is.
-#[inline(always)]
-fn lowest_set(mask: u64, lanes: usize) -> usize
-    ensures { result ≡ first_set mask lanes }
-{
-    if mask == 0 {
-        lanes
-    } else {
-        mask.trailing_zeros() as usize
-    }
 }

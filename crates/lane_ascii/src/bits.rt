@@ -1,0 +1,77 @@
+//! Bits of a mask.
+ghost use Rattle.std.specs.Prelude.{◌≡◌, ◌+◌, ◌%◌, ◌^◌, ◌<◌, ◌≤◌, ℕ, List, Bool, length};
+ghost use Rattle.lane_ascii.specs.Bits.{first_set};
+ghost use Rattle.lane_ascii.specs.Flags.{flags_set, IsNthFlag, IsSought};
+ghost use lib.Lanes.{mask_l};
+
+/// The place of the lowest bit that is set, or the number of lanes where none is.
+#[inline(always)]
+pub(crate) fn lowest_set(mask: u64, lanes: usize) -> usize
+    ensures { result ≡ first_set mask lanes }
+{
+    if mask == 0 {
+        lanes
+    } else {
+        mask.trailing_zeros() as usize
+    }
+}
+
+/// The place of the set bit below which `n` others are set, of a mask with more than `n`.
+pub(crate) fn nth_set(mask: u64, n: usize) -> usize
+    ensures bound { result < 64 }
+    ensures place { (flags : List Bool) → length flags ≤ 64 → mask ≡ mask_l flags
+        → n < flags_set flags → IsNthFlag flags n result }
+{
+    let sought = Sought {
+        bits: mask,
+        left: n,
+        at: 0,
+    };
+    let sought = halve(sought, 32);
+    let sought = halve(sought, 16);
+    let sought = halve(sought, 8);
+    let sought = halve(sought, 4);
+    let sought = halve(sought, 2);
+    halve(sought, 1).at
+}
+
+/// A set bit that is sought: the bits that it is among, how many of them are set below it, and the
+/// place where they begin.
+#[derive(Clone, Copy)]
+pub(crate) struct Sought {
+    pub(crate) bits: u64,
+    pub(crate) left: usize,
+    pub(crate) at: usize,
+}
+
+/// Decides in which half of twice `width` bits it is.
+#[inline(always)]
+fn halve(sought: Sought, width: usize) -> Sought
+    requires width { width < 64 }
+    requires at { sought.at + width < 64 }
+    ensures half { (flags : List Bool) (n : ℕ) → IsSought flags n (width + width) sought
+        → IsSought flags n width result }
+    ensures at { result.at ≤ sought.at + width }
+{
+    let low = low_bits(sought.bits, width);
+    let below = low.count_ones() as usize;
+    if sought.left < below {
+        return Sought {
+            bits: low,
+            ..sought
+        };
+    }
+    Sought {
+        bits: sought.bits >> width,
+        left: sought.left - below,
+        at: sought.at + width,
+    }
+}
+
+#[inline(always)]
+fn low_bits(bits: u64, width: usize) -> u64
+    requires { width < 64 }
+    ensures { result ≡ bits % 2 ^ width }
+{
+    bits & ((1 << width) - 1)
+}

@@ -1,0 +1,152 @@
+//! Line marks: how many there are, and where.
+ghost use Rattle.std.specs.Prelude.{◌≡◌, ◌+◌, ◌<◌, ◌≤◌, Bool, length, take, drop, MatchOption};
+ghost use Rattle.std.specs.Int.RustNames.{count_ones};
+ghost use Rattle.lane_ascii.specs.Marks.{is_mark, marks, mark_flags, IsNthMark};
+ghost use lib.Lanes.{mask_l};
+
+use crate::bits::nth_set;
+use std::simd::prelude::*;
+
+/// How many line marks there are. A mark is a CR, or an LF that doesn't stand behind a CR; with
+/// `after_cr` a CR stands in front of the slice (LSP 3.17, "Text Documents").
+pub fn count_line_ends(bytes: &[u8], after_cr: bool) -> usize
+    ensures { result ≡ marks after_cr bytes.now }
+{
+    match bytes.len() {
+        0..=8 => count_short(bytes, after_cr),
+        9..=16 => count_by::<8>(bytes, after_cr),
+        17..=32 => count_by::<16>(bytes, after_cr),
+        _ => count_by::<32>(bytes, after_cr),
+    }
+}
+
+/// The index of line mark `n`, counted from 0, where there are so many.
+pub fn nth_line_end(bytes: &[u8], after_cr: bool, n: usize) -> Option<usize>
+    ensures { MatchOption result (marks after_cr bytes.now ≤ n) (IsNthMark after_cr bytes.now n) }
+{
+    match bytes.len() {
+        0..=8 => nth_short(bytes, after_cr, n),
+        9..=16 => nth_by::<8>(bytes, after_cr, n),
+        17..=32 => nth_by::<16>(bytes, after_cr, n),
+        _ => nth_by::<32>(bytes, after_cr, n),
+    }
+}
+
+/// Whether a byte is a mark, where `after_cr` says that it stands behind a CR.
+#[inline(always)]
+fn marks_line(byte: u8, after_cr: bool) -> bool
+    ensures { result ≡ is_mark after_cr byte }
+{
+    byte == b'\r' || (byte == b'\n' && !after_cr)
+}
+
+/// The marks of a block, a bit each. It begins behind the first byte: which bytes stand behind a
+/// CR is seen by a second load, one byte earlier.
+#[inline(always)]
+fn marks_in<const N: usize>(bytes: &[u8], at: usize) -> u64
+    requires few { N ≤ 64 }
+    requires some { 0 < at }
+    requires room { at + N ≤ length bytes.now }
+    ensures { (after_cr : Bool)
+        → result ≡ mask_l (take N (drop at (mark_flags after_cr bytes.now))) }
+{
+    let here = Simd::<u8, N>::from_slice(&bytes[at..]);
+    let before = Simd::<u8, N>::from_slice(&bytes[at - 1..]);
+    let cr = Simd::splat(b'\r');
+    let line_feeds = here.simd_eq(Simd::splat(b'\n')) & before.simd_ne(cr);
+    (here.simd_eq(cr) | line_feeds).to_bitmask()
+}
+
+/// The marks from `at` on, of which fewer than N bytes are left: those of the last block, which
+/// begins in front of it.
+#[inline(always)]
+fn marks_left<const N: usize>(bytes: &[u8], at: usize) -> u64
+    requires few { N < 64 }
+    requires long { N < length bytes.now }
+    requires room { at ≤ length bytes.now }
+    requires rest { length bytes.now < at + N }
+    ensures { (after_cr : Bool) → result ≡ mask_l (drop at (mark_flags after_cr bytes.now)) }
+{
+    let last = bytes.len() - N;
+    marks_in::<N>(bytes, last) >> (at - last)
+}
+
+/// Counts N bytes at a time.
+#[inline(always)]
+fn count_by<const N: usize>(bytes: &[u8], after_cr: bool) -> usize
+    requires some { 0 < N }
+    requires few { N < 64 }
+    requires long { N < length bytes.now }
+    ensures { result ≡ marks after_cr bytes.now }
+{
+    let mut count = usize::from(marks_line(bytes[0], after_cr));
+    let mut at = 1;
+    'steps: while bytes.len() - at >= N {
+        count += marks_in::<N>(bytes, at).count_ones() as usize;
+        at += N;
+    }
+    count + marks_left::<N>(bytes, at).count_ones() as usize
+}
+
+/// Counts byte by byte.
+#[inline(always)]
+fn count_short(bytes: &[u8], after_cr: bool) -> usize
+    ensures { result ≡ marks after_cr bytes.now }
+{
+    let mut count = 0;
+    let mut behind_cr = after_cr;
+    'bytes: for byte in bytes {
+        count += usize::from(marks_line(*byte, behind_cr));
+        behind_cr = *byte == b'\r';
+    }
+    count
+}
+
+/// Skips N bytes at a time by their number of marks.
+#[inline(always)]
+fn nth_by<const N: usize>(bytes: &[u8], after_cr: bool, n: usize) -> Option<usize>
+    requires some { 0 < N }
+    requires few { N < 64 }
+    requires long { N < length bytes.now }
+    ensures { MatchOption result (marks after_cr bytes.now ≤ n) (IsNthMark after_cr bytes.now n) }
+{
+    let mut before = usize::from(marks_line(bytes[0], after_cr));
+    if n < before {
+        return Some(0);
+    }
+    let mut at = 1;
+    'steps: while bytes.len() - at >= N {
+        let mask = marks_in::<N>(bytes, at);
+        let count = mask.count_ones() as usize;
+        if n - before < count {
+            return Some(at + nth_set(mask, n - before));
+        }
+        before += count;
+        at += N;
+    }
+    let mask = marks_left::<N>(bytes, at);
+    if n - before < mask.count_ones() as usize {
+        Some(at + nth_set(mask, n - before))
+    } else {
+        None
+    }
+}
+
+/// Searches byte by byte.
+#[inline(always)]
+fn nth_short(bytes: &[u8], after_cr: bool, n: usize) -> Option<usize>
+    ensures { MatchOption result (marks after_cr bytes.now ≤ n) (IsNthMark after_cr bytes.now n) }
+{
+    let mut left = n;
+    let mut behind_cr = after_cr;
+    'bytes: for (at, byte) in bytes.iter().enumerate() {
+        if marks_line(*byte, behind_cr) {
+            if left == 0 {
+                return Some(at);
+            }
+            left -= 1;
+        }
+        behind_cr = *byte == b'\r';
+    }
+    None
+}
