@@ -15,13 +15,13 @@ use failure::Failure;
 use index_files::indexes_in;
 use index_loader::Indexes;
 use measure::{Timing, fastest, megabytes_per_second};
-use samples::{SAMPLES, Text, copies, document};
+use samples::{Text, copies, document, samples};
 use std::env;
 use std::process::ExitCode;
 
 /// Prints which samples there are, and how to measure.
 fn list(rt: &HostRuntime) -> Result<(), Failure> {
-    for sample in &SAMPLES {
+    for sample in &samples() {
         let name = sample.encoding.name();
         for (kind, text) in &sample.texts() {
             let times = copies(text);
@@ -36,7 +36,7 @@ fn list(rt: &HostRuntime) -> Result<(), Failure> {
 /// Prints how fast each sample's documents are decoded.
 fn measure_all(rt: &HostRuntime, folder: &str) -> Result<(), Failure> {
     let indexes = indexes_in(rt, rt.alloc(), folder)?;
-    for sample in &SAMPLES {
+    for sample in &samples() {
         for text in &sample.texts() {
             measure_one(rt, &indexes, sample.encoding, *text)?;
         }

@@ -53,24 +53,26 @@ macro_rules! sample {
 }
 
 /// Text in each encoding that is measured.
-pub const SAMPLES: [Sample; 10] = [
-    sample!(Utf8, UTF_8),
-    Sample {
-        encoding: Encoding::Utf16Le,
-        ascii: ENGLISH_UTF_16LE,
-        markup: markup::UTF_16LE,
-        ordinary: ordinary::UTF_16LE,
-        dense: dense::UTF_16LE,
-    },
-    sample!(Windows1251, WINDOWS_1251),
-    sample!(ShiftJis, SHIFT_JIS),
-    sample!(EucJp, EUC_JP),
-    sample!(Iso2022Jp, ISO_2022_JP),
-    sample!(EucKr, EUC_KR),
-    sample!(Big5, BIG5),
-    sample!(Gb18030, GB18030),
-    sample!(Gbk, GBK),
-];
+pub fn samples() -> [Sample; 10] {
+    [
+        sample!(Utf8, UTF_8),
+        Sample {
+            encoding: Encoding::Utf16Le,
+            ascii: ENGLISH_UTF_16LE,
+            markup: markup::UTF_16LE,
+            ordinary: ordinary::UTF_16LE,
+            dense: dense::UTF_16LE,
+        },
+        sample!(Windows1251, WINDOWS_1251),
+        sample!(ShiftJis, SHIFT_JIS),
+        sample!(EucJp, EUC_JP),
+        sample!(Iso2022Jp, ISO_2022_JP),
+        sample!(EucKr, EUC_KR),
+        sample!(Big5, BIG5),
+        sample!(Gb18030, GB18030),
+        sample!(Gbk, GBK),
+    ]
+}
 
 /// How many copies of a text a document of up to a megabyte has.
 pub fn copies(text: &[u8]) -> usize

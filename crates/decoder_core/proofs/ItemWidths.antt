@@ -20,7 +20,7 @@ utf8-width (c ∷ cs) =
     ap (λ (n : ℕ). len_utf8 c + n) (utf8-width cs) ∙ sym (length-append (encode c) (encode_utf8_all cs) ∙ ap (λ (n : ℕ). n + length (encode_utf8_all cs)) (length-encode c))
 
 width-few-by : (c : ℕ) → (c < 0x10000) ⊎ (0x10000 ≤ c) → width_of Utf16 c ≤ 2 * len_utf8 c
-width-few-by c (inl low) = 
+width-few-by c (inl low) =
     let some = len_utf8_bounds c in
     let two : width_of Utf16 c ≡ 2 = rw (lt-ltb c 0x10000 low) refl in
     Prim.omega (arith, some.0, two)

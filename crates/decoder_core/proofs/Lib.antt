@@ -8,3 +8,4 @@ pub mod PlainRuns
 pub mod Turning
 pub mod Utf8Runs
 pub mod ItemWidths
+pub mod Utf16Runs

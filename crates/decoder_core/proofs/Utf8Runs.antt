@@ -99,7 +99,7 @@ three-shown c read q low high scalar =
     let three : read + 1 + 1 + 1 ≡ read + 3 = omega arith in
     let end : pos (read + 1 + 1 + 1) -ℤ pos 0 ≡ pos (read + 3) = omega (arith, ints) in
     let lower = if_below (first == 0xE0) 0xA0 0x80 second (λ k. let e = eqb-true first 0xE0 k in omega (arith, e)) (omega arith) in
-    let upper = if_above (first == 0xED) 0x9F 0xBF second (λ k. let e = eqb-true first 0xED k in elim scalar [ | inl l ↦ omega (arith, e, l) | inr l ↦ absurd (omega (arith, e, l)) ]) (omega arith) in
+    let upper = if_above (first == 0xED) 0x9F 0xBF second (λ k. let e = eqb-true first 0xED k in elim scalar [ inl l ↦ omega (arith, e, l) | inr l ↦ absurd (omega (arith, e, l)) ]) (omega arith) in
     held-shown utf8 utf8_falls utf8_start _ first read (second ∷ third ∷ q) (lead_three first (omega arith) (omega arith))
     ∙ held-shown utf8 utf8_falls _ _ second (read + 1) (third ∷ q) (second_of_three (first - 0xE0) _ _ second lower upper)
     ∙ given-shown utf8 utf8_falls _ utf8_start third _ (read + 1 + 1) q (last_of_three (64 * (first - 0xE0) + (second - 0x80)) third (omega arith) (omega arith))
@@ -145,7 +145,7 @@ three-state c q low high scalar =
     let second = 128 + c / 64 % 64 in
     let third = 128 + c % 64 in
     let lower = if_below (first == 0xE0) 0xA0 0x80 second (λ k. let e = eqb-true first 0xE0 k in omega (arith, e)) (omega arith) in
-    let upper = if_above (first == 0xED) 0x9F 0xBF second (λ k. let e = eqb-true first 0xED k in elim scalar [ | inl l ↦ omega (arith, e, l) | inr l ↦ absurd (omega (arith, e, l)) ]) (omega arith) in
+    let upper = if_above (first == 0xED) 0x9F 0xBF second (λ k. let e = eqb-true first 0xED k in elim scalar [ inl l ↦ omega (arith, e, l) | inr l ↦ absurd (omega (arith, e, l)) ]) (omega arith) in
     held-state utf8 utf8_falls utf8_start _ first (second ∷ third ∷ q) (lead_three first (omega arith) (omega arith))
     ∙ held-state utf8 utf8_falls _ _ second (third ∷ q) (second_of_three (first - 0xE0) _ _ second lower upper)
     ∙ given-state utf8 utf8_falls _ utf8_start third _ q (last_of_three (64 * (first - 0xE0) + (second - 0x80)) third (omega arith) (omega arith))

@@ -30,6 +30,7 @@ mod sink;
 mod tests;
 mod turns;
 mod utf16;
+mod utf16_bulk;
 mod utf8;
 mod utf8_bulk;
 mod widths;

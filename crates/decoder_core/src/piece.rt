@@ -10,9 +10,13 @@ use crate::item::Ended;
 use crate::memory::OutOfMemory;
 use crate::sink::Sink;
 
-/// How many bytes are stepped over where none was taken in bulk, before that is tried again: at each
-/// byte it would cost more than it gains.
-const STRETCH: usize = 16;
+/// How many bytes are stepped over at first where none was taken in bulk, before that is tried
+/// again: at each byte it would cost more than it gains.
+const SHORTEST: usize = 16;
+
+/// How many bytes are stepped over at most. Each time that none is taken twice as many are stepped
+/// over, so that text without runs is decoded as fast as without the trials.
+const LONGEST: usize = 256;
 
 /// Steps over the bytes from a state, gives the items to the sink, and answers the state behind
 /// the bytes. The meter counts the bytes.
@@ -34,20 +38,32 @@ pub fn run_piece<D: Decoder, K: Sink<D::State>>(
     let mut block = [0; 1024];
     let mut reached = state;
     let mut read = 0;
+    let mut stretch = SHORTEST;
     // All that a byte passes through is inlined here: several times as fast.
     'bytes: while read < bytes.len() {
-        let moved = advance(decoder, reached, &bytes[read..], read, &mut block, sink)?;
+        let moved = advance(
+            decoder,
+            reached,
+            &bytes[read..],
+            read,
+            stretch,
+            &mut block,
+            sink,
+        )?;
         reached = moved.state;
         read += moved.taken;
+        stretch = moved.stretch;
     }
     Ok(reached)
 }
 
-/// The state behind some bytes, and their number.
+/// The state behind some bytes, their number, and how many are stepped over where none of the next
+/// is taken in bulk.
 #[derive(Clone, Copy, PartialEq, Eq, Debug)]
 struct Moved<S> {
     state: S,
     taken: usize,
+    stretch: usize,
 }
 
 /// Takes what the decoder takes in bulk, or else steps over a stretch of bytes.
@@ -57,11 +73,14 @@ fn advance<D: Decoder, K: Sink<D::State>>(
     state: D::State,
     rest: &[u8],
     read: usize,
+    stretch: usize,
     block: &mut [u8; 1024],
     sink: &mut K,
 ) -> Result<Moved<D::State>, OutOfMemory>
     requires some { 0 < length rest.now }
+    requires steps { 0 < stretch }
     requires bound { read + length rest.now < 2 ^ 63 }
+    ensures steps { IfOk result (λ m. 0 < m.stretch) }
     ensures moved { IfOk result (λ m. (0 < m.taken) × (m.taken ≤ length rest.now)) }
     ensures state { IfOk result (λ m. m.state ≡ (feed (D.table decoder.now) state (take m.taken rest.now)).state) }
     ensures items { IfOk result (λ m. K.seen sink.new ≡ fold K.taken (K.seen sink.old) (shown_from (D.table decoder.now) read state (take m.taken rest.now))) }
@@ -69,13 +88,18 @@ fn advance<D: Decoder, K: Sink<D::State>>(
 {
     let taken = bulk_into(decoder, state, rest, read, block, sink)?;
     if taken > 0 {
-        return Ok(Moved { state, taken });
+        return Ok(Moved {
+            state,
+            taken,
+            stretch: SHORTEST,
+        });
     }
-    let taken = rest.len().min(STRETCH);
+    let taken = rest.len().min(stretch);
     let after = step_over(decoder, state, &rest[..taken], read, sink)?;
     Ok(Moved {
         state: after,
         taken,
+        stretch: stretch.saturating_mul(2).min(LONGEST),
     })
 }
 

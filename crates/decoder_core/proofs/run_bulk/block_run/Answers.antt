@@ -15,7 +15,7 @@ returns-in-Some-clause-within c = (run-front c.args.runs _ 1024 c.in-Some.front.
 pub returns-in-None-clause-room : goal.returns-in-None-clause-room
 returns-in-None-clause-room c =
     let within = (run-front c.args.runs _ (length c.args.bytes.now) c.args.bytes.now c.args.bytes.now (sym (take-length c.args.bytes.now)) c.class_run-in-None.ensures).1 in
-    elim c.in-None.ensures.lookup.0 [ | inl never ↦ absurd (Prim.omega (arith, never)) | inr short ↦ Prim.omega (arith, within, short) ]
+    elim c.in-None.ensures.lookup.0 [ inl never ↦ absurd (Prim.omega (arith, never)) | inr short ↦ Prim.omega (arith, within, short) ]
 
 pub returns-in-None-clause-within : goal.returns-in-None-clause-within
 returns-in-None-clause-within c =

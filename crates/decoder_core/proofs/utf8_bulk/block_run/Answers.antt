@@ -20,4 +20,4 @@ returns-in-None-clause-within c =
 pub returns-in-None-clause-room : goal.returns-in-None-clause-room
 returns-in-None-clause-room c =
     let within = (utf8-within _ (length c.args.bytes.now) c.args.bytes.now c.args.bytes.now (sym (take-length c.args.bytes.now)) c.valid_run-in-None.ensures.longest).0 in
-    elim c.in-None.ensures.lookup.0 [ | inl never ↦ absurd (Prim.omega (arith, never)) | inr short ↦ Prim.omega (arith, within, short) ]
+    elim c.in-None.ensures.lookup.0 [ inl never ↦ absurd (Prim.omega (arith, never)) | inr short ↦ Prim.omega (arith, within, short) ]
