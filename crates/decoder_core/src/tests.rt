@@ -23,6 +23,7 @@ use crate::utf8::Utf8Decoder;
 use enc_names::Scalar;
 use std::alloc::{AllocError, Global};
 
+mod bulk;
 mod one_byte;
 mod utf16;
 
