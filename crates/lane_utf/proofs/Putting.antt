@@ -1,12 +1,14 @@
 -- Writes at the end of what was written so far.
-use Rattle.std.proofs.Common.{◌≡◌, refl, sym, ap, subst, ◌∙◌, ℕ, zero, suc, ◌+◌, ◌/◌, ◌%◌, ◌<◌, ◌≤◌, List, [], ◌∷◌, ◌++◌, length, take, drop, arith, slice_set, append_assoc, length-append}
+use Rattle.std.proofs.Common.{◌≡◌, refl, sym, ap, subst, ◌∙◌, ℕ, zero, suc, ◌+◌, ◌-◌, ◌/◌, ◌%◌, ◌<◌, ◌≤◌, List, [], ◌∷◌, ◌++◌, length, take, drop, arith, slice_set, append_assoc, length-append}
 use Rattle.std.proofs.Math.Utf8.{encode}
 use Rattle.std.proofs.lemmas.Bool.{lt-ltb, le-ltb}
 use Rattle.std.proofs.lemmas.List.{take-append-drop, drop-drop}
 use Rattle.std.proofs.lemmas.Str.{length-encode}
 use Rattle.std.proofs.lemmas.Simd.{take_more_put_chunk}
 use Rattle.std.specs.Simd.Lanes.{put_chunk}
-use Rattle.lane_utf.specs.Widths.{utf8_width}
+use Rattle.lane_utf.specs.Utf16.{utf16_form}
+use Rattle.lane_utf.specs.Widths.{utf8_width, utf16_width}
+use Rattle.lane_utf.specs.Writing.{IsWriting}
 
 pub put_none : (at : ℕ) (bytes : List ℕ) → put_chunk at bytes [] ≡ bytes
 put_none zero [] = refl
@@ -23,19 +25,19 @@ put_first (suc at) y (x ∷ xs) ys =
     let e : suc at + 1 ≡ suc (at + 1) = omega arith in
     ap (λ k. x ∷ k) (put_first at y xs ys) ∙ ap (λ n. put_chunk n (x ∷ slice_set xs at y) ys) (sym e)
 
-encode_one : (c : ℕ) → c < 128 → encode c ≡ c ∷ []
+pub encode_one : (c : ℕ) → c < 128 → encode c ≡ c ∷ []
 unfolding encode
 encode_one c h = rw (lt-ltb c 128 h) refl
 
-encode_two : (c : ℕ) → 128 ≤ c → c < 2048 → encode c ≡ (192 + c / 64) ∷ (128 + c % 64) ∷ []
+pub encode_two : (c : ℕ) → 128 ≤ c → c < 2048 → encode c ≡ (192 + c / 64) ∷ (128 + c % 64) ∷ []
 unfolding encode
 encode_two c l h = rw (le-ltb c 128 l, lt-ltb c 2048 h) refl
 
-encode_three : (c : ℕ) → 2048 ≤ c → c < 65536 → encode c ≡ (224 + c / 4096) ∷ (128 + c / 64 % 64) ∷ (128 + c % 64) ∷ []
+pub encode_three : (c : ℕ) → 2048 ≤ c → c < 65536 → encode c ≡ (224 + c / 4096) ∷ (128 + c / 64 % 64) ∷ (128 + c % 64) ∷ []
 unfolding encode
 encode_three c l h = rw (le-ltb c 128 (omega arith), le-ltb c 2048 l, lt-ltb c 65536 h) refl
 
-encode_four : (c : ℕ) → 65536 ≤ c → encode c ≡ (240 + c / 262144) ∷ (128 + c / 4096 % 64) ∷ (128 + c / 64 % 64) ∷ (128 + c % 64) ∷ []
+pub encode_four : (c : ℕ) → 65536 ≤ c → encode c ≡ (240 + c / 262144) ∷ (128 + c / 4096 % 64) ∷ (128 + c / 64 % 64) ∷ (128 + c % 64) ∷ []
 unfolding encode
 encode_four c l = rw (le-ltb c 128 (omega arith), le-ltb c 2048 (omega arith), le-ltb c 65536 l) refl
 
@@ -75,13 +77,6 @@ pub put_four : (at c : ℕ) (bytes : List ℕ) → 65536 ≤ c
     → slice_set (slice_set (slice_set (slice_set bytes at (240 + c / 262144)) (at + 1) (128 + c / 4096 % 64)) (at + 2) (128 + c / 64 % 64)) (at + 3) (128 + c % 64)
     ≡ put_chunk at bytes (encode c)
 put_four at c bytes l = four_put at _ _ _ _ bytes ∙ ap (put_chunk at bytes) (sym (encode_four c l))
-
--- A whole is written over the front of a slice: so much of it stands there, tail is still to come, and what stood
--- behind is as it was.
-pub record IsWriting (whole : List ℕ) (written : ℕ) (out old tail : List ℕ) : Type 0 where
-  pub so_far : take written out ++ tail ≡ whole
-  pub count : written + length tail ≡ length whole
-  pub kept : drop written out ≡ drop written old
 
 pub writing_begins : (whole old : List ℕ) → IsWriting whole 0 old old whole
 writing_begins whole old = record { so_far = refl; count = omega arith; kept = refl }
@@ -135,3 +130,44 @@ writing_ends whole written out old w =
     let all : take written out ≡ whole = sym (append_none (take written out)) ∙ w.so_far in
     let end : written ≡ length whole = omega (arith, w.count) in
     sym (take-append-drop written out) ∙ ap (λ t. t ++ drop written out) all ∙ ap (λ t. whole ++ t) (w.kept ∙ ap (λ k. drop k old) end)
+
+-- a code point's units are written
+pub form_low : (c : ℕ) → c < 65536 → utf16_form c ≡ c ∷ []
+form_low c h = rw (lt-ltb c 65536 h) refl
+
+pub form_high : (c : ℕ) → 65536 ≤ c → utf16_form c ≡ (0xD800 + (c - 0x10000) / 0x400) ∷ (0xDC00 + (c - 0x10000) % 0x400) ∷ []
+form_high c l = rw (le-ltb c 65536 l) refl
+
+pub put_low : (at c : ℕ) (units : List ℕ) → c < 65536 → slice_set units at c ≡ put_chunk at units (utf16_form c)
+put_low at c units h = one_put at c units ∙ ap (put_chunk at units) (sym (form_low c h))
+
+pub put_high : (at c : ℕ) (units : List ℕ) → 65536 ≤ c
+    → slice_set (slice_set units at (0xD800 + (c - 0x10000) / 0x400)) (at + 1) (0xDC00 + (c - 0x10000) % 0x400) ≡ put_chunk at units (utf16_form c)
+put_high at c units l = two_put at _ _ units ∙ ap (put_chunk at units) (sym (form_high c l))
+
+-- n items are written at once
+pub block_room : (whole : List ℕ) (written : ℕ) (out old tail ys rest : List ℕ) (n : ℕ) → IsWriting whole written out old tail
+    → length whole ≤ length out → tail ≡ ys ++ rest → length ys ≡ n → written + n ≤ length out
+block_room whole written out old tail ys rest n w room e long =
+    let all : length tail ≡ length ys + length rest = ap length e ∙ length-append ys rest in
+    omega (arith, w.count, all, long, room)
+
+pub block_goes_on : (whole : List ℕ) (written : ℕ) (out old tail ys rest : List ℕ) (n : ℕ) (new : List ℕ) → IsWriting whole written out old tail
+    → length whole ≤ length out → tail ≡ ys ++ rest → length ys ≡ n → new ≡ put_chunk written out ys → IsWriting whole (written + n) new old rest
+block_goes_on whole written out old tail ys rest n new w room e long is =
+    subst (λ b. IsWriting whole (written + n) b old rest) (sym is)
+    (subst (λ k. IsWriting whole (written + k) (put_chunk written out ys) old rest) long (writing_goes_on whole written out old tail ys rest w room e))
+
+-- the units of a code point are written
+pub form_room : (whole : List ℕ) (written : ℕ) (out old tail rest : List ℕ) (c : ℕ) → IsWriting whole written out old tail
+    → length whole ≤ length out → tail ≡ utf16_form c ++ rest → length (utf16_form c) ≡ utf16_width c → written + utf16_width c ≤ length out
+form_room whole written out old tail rest c w room e long = block_room whole written out old tail (utf16_form c) rest (utf16_width c) w room e long
+
+pub form_goes_on : (whole : List ℕ) (written : ℕ) (out old tail rest : List ℕ) (c end : ℕ) (new : List ℕ) → IsWriting whole written out old tail
+    → length whole ≤ length out → tail ≡ utf16_form c ++ rest → length (utf16_form c) ≡ utf16_width c → end ≡ written + utf16_width c
+    → new ≡ put_chunk written out (utf16_form c) → IsWriting whole end new old rest
+form_goes_on whole written out old tail rest c end new w room e long at is =
+    subst (λ k. IsWriting whole k new old rest) (sym at) (block_goes_on whole written out old tail (utf16_form c) rest (utf16_width c) new w room e long is)
+
+pub writing_done : (whole : List ℕ) (written : ℕ) (out old tail : List ℕ) → IsWriting whole written out old tail → tail ≡ [] → out ≡ whole ++ drop (length whole) old
+writing_done whole written out old tail w e = writing_ends whole written out old (subst (IsWriting whole written out old) e w)

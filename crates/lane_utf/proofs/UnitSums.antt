@@ -1,10 +1,12 @@
 -- Sums of widths.
-use Rattle.std.proofs.Common.{◌≡◌, refl, sym, ap, ◌∙◌, ℕ, suc, ◌+◌, ◌-◌, ◌*◌, ◌/◌, ◌%◌, ◌≤◌, Bool, true, false, List, [], ◌∷◌, ◌++◌, length, arith, length-append, None, Fits, w16, get_or, ◌<◌, Ok, Err}
+use Rattle.std.proofs.Common.{◌≡◌, refl, sym, ap, ◌∙◌, ℕ, suc, ◌+◌, ◌-◌, ◌*◌, ◌/◌, ◌%◌, ◌≤◌, Bool, true, false, List, [], ◌∷◌, ◌++◌, length, take, drop, arith, length-append, None, Fits, w16, get_or, ◌<◌, Ok, Err}
 use Rattle.std.proofs.lemmas.Bool.Decides.{nat_tests}
 use Rattle.lane_utf.specs.Widths.{total_width, utf8_width}
 use Rattle.lane_utf.specs.Weights.{unit_weight}
 use Rattle.std.proofs.Math.Utf8.{encode, encodes, scalars}
 use Rattle.std.proofs.lemmas.Bool.{le-leb, lt-leb, lt-ltb, le-ltb}
+use Rattle.std.proofs.lemmas.List.{drop_more, drop_all, length-drop}
+use Rattle.std.proofs.lemmas.Simd.{chunk-drop}
 use Rattle.std.proofs.lemmas.Str.{length-encode}
 use Rattle.lane_utf.specs.Conversions.{utf8_answer}
 use Rattle.lane_utf.specs.declared.faults.ToUtf8Fault.TheVariants.{NeedsRoom as needs_room}
@@ -111,3 +113,23 @@ pub lacks_room : (us : List ℕ) (needed room : ℕ) → ((k : ℕ) → Fits w16
 lacks_room us needed room fits e n h =
     let whole : total_width utf8_width (code_points us) ≡ needed = sym (n ∙ (paired us fits e).total) in
     rw (e, whole, lt-leb needed room h) refl
+
+-- Sums along a slice.
+pub total-block : (width : ℕ → ℕ) (xs : List ℕ) (at n : ℕ) → total_width width (drop at xs) ≡ total_width width (take n (drop at xs)) + total_width width (drop (at + n) xs)
+total-block width xs at n = ap (total_width width) (chunk-drop at n xs) ∙ total-append width (take n (drop at xs)) (drop (at + n) xs)
+
+pub total-one : (width : ℕ → ℕ) (xs : List ℕ) (at : ℕ) → at < length xs → total_width width (drop at xs) ≡ width (get_or xs at 0) + total_width width (drop (at + 1) xs)
+total-one width xs at h = ap (total_width width) (drop_more xs at 0 h)
+
+pub total-none : (width : ℕ → ℕ) (xs : List ℕ) (at : ℕ) → length xs ≤ at → total_width width (drop at xs) ≡ 0
+total-none width xs at h = ap (total_width width) (drop_all at xs h)
+
+pub small-bound : (width : ℕ → ℕ) → ((x : ℕ) → width x ≤ 2) → (xs : List ℕ) → total_width width xs ≤ 2 * length xs
+small-bound width h [] = omega arith
+small-bound width h (x ∷ xs) = omega (arith, h x, small-bound width h xs)
+
+pub small-from : (width : ℕ → ℕ) → ((x : ℕ) → width x ≤ 2) → (xs : List ℕ) (at : ℕ) → total_width width (drop at xs) ≤ 2 * length xs
+small-from width h xs at = omega (arith, small-bound width h (drop at xs), length-drop at xs)
+
+pub units-from : (us : List ℕ) (at : ℕ) → total_width unit_weight (drop at us) ≤ 3 * length us
+units-from us at = omega (arith, units-bound (drop at us), length-drop at us)

@@ -1,6 +1,6 @@
 -- What the conversions answer and write.
 use Rattle.std.specs.Prelude.{ℕ, List, ◌++◌, length, drop, nat_le, Option, Some, None, Result, Ok, Err, if◌then◌else◌}
-use Rattle.lane_utf.specs.declared.faults.NeedsRoom.{NeedsRoom}
+use Rattle.lane_ascii.specs.declared.room.NeedsRoom.{NeedsRoom}
 use Rattle.lane_utf.specs.declared.faults.ToUtf8Fault.{ToUtf8Fault}
 use Rattle.lane_utf.specs.declared.faults.ToUtf8Fault.TheVariants.{LoneSurrogate, NeedsRoom as needs_room}
 use Rattle.lane_utf.specs.Utf16.{first_lone, code_points}

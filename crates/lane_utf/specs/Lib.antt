@@ -1,7 +1,9 @@
 pub mod Conversions
 pub mod Front
+pub mod Next
 pub mod Scan
 pub mod Selected
 pub mod Utf16
 pub mod Weights
 pub mod Widths
+pub mod Writing

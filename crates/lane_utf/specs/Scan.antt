@@ -1,5 +1,5 @@
 -- A scan for lone surrogates, unit by unit.
-use Rattle.std.specs.Prelude.{ℕ, ◌+◌, ◌-◌, Bool, true, false, List, [], ◌∷◌, Option, Some, None, if◌then◌else◌}
+use Rattle.std.specs.Prelude.{◌≡◌, ℕ, ◌+◌, ◌-◌, Bool, true, false, List, [], ◌∷◌, Option, Some, None, if◌then◌else◌}
 use Rattle.lane_utf.specs.Utf16.{is_lead, is_trail}
 
 -- the first lone surrogate from the unit at the index on; pending says that the unit before it is a lead
@@ -8,3 +8,8 @@ lone_from true at [] = Some (at - 1)
 lone_from false at [] = None
 lone_from true at (u ∷ us) = if is_trail u then lone_from (is_lead u) (at + 1) us else Some (at - 1)
 lone_from false at (u ∷ us) = if is_trail u then Some at else lone_from (is_lead u) (at + 1) us
+
+-- each unit trails a pair exactly where the one before it leads one; the flag says that a lead stands in front
+abbrev pub Matched : Bool → List ℕ → Type 0
+Matched after_lead [] = Unit {0}
+Matched after_lead (u ∷ us) = (is_trail u ≡ after_lead) × Matched (is_lead u) us

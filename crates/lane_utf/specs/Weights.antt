@@ -1,7 +1,48 @@
 -- How a byte or a unit counts, so that the sums over a text are those over its code points.
-use Rattle.std.specs.Prelude.{ℕ, ◌&&◌, ◌||◌, nat_lt, nat_le, if◌then◌else◌}
+use Rattle.std.specs.Prelude.{ℕ, ◌+◌, ◌-◌, ◌≤◌, Bool, ◌&&◌, ◌||◌, ◌==◌, nat_lt, nat_le, List, [], ◌∷◌, if◌then◌else◌}
+use Rattle.std.proofs.Common.{arith}
+use Rattle.std.proofs.lemmas.Bool.Decides.{nat_tests}
+use Rattle.lane_utf.specs.Selected.{moved}
+use Rattle.lane_utf.specs.declared.select.Select.{Select}
+use Rattle.lane_utf.specs.declared.select.Select.TheVariants.{At, Inside, Past}
+
+-- a byte that begins a code point: no trailing byte (Unicode, table 3-7)
+abbrev pub begins_code_point : ℕ → Bool
+begins_code_point b = nat_lt b 0x80 || nat_le 0xC0 b
+
+-- a byte that begins a code point of four bytes
+abbrev pub begins_four : ℕ → Bool
+begins_four b = nat_le 0xF0 b
+
+abbrev pub scalar_weight : ℕ → ℕ
+scalar_weight b = if begins_code_point b then 1 else 0
+
+-- the units of UTF-16: two for a code point of four bytes
+abbrev pub utf16_weight : ℕ → ℕ
+utf16_weight b = (if begins_code_point b then 1 else 0) + (if begins_four b then 1 else 0)
+
+-- none weighs more than two
+pub scalar-small : (b : ℕ) → scalar_weight b ≤ 2
+scalar-small b = grind (arith, nat_tests)
+
+pub utf16-small : (b : ℕ) → utf16_weight b ≤ 2
+utf16-small b = grind (arith, nat_tests)
 
 -- the bytes of UTF-8 that a unit of UTF-16 stands for: each of a pair stands for two of four
 abbrev pub unit_weight : ℕ → ℕ
 unit_weight u =
     if nat_lt u 0x80 then 1 else (if nat_lt u 0x800 || (nat_le 0xD800 u && nat_lt u 0xE000) then 2 else 3)
+
+-- a unit that stands for a second byte, and one that stands for a third
+abbrev pub has_two : ℕ → Bool
+has_two u = nat_le 0x80 u
+
+abbrev pub has_three : ℕ → Bool
+has_three u = (nat_le 0x800 u && nat_lt u 0xD800) || nat_le 0xE000 u
+
+-- the byte behind the code points in front that weigh n, where trailing bytes weigh nothing
+abbrev pub place_in : (ℕ → ℕ) → List ℕ → ℕ → Select
+place_in weight [] n = if n == 0 then At 0 else Past
+place_in weight (b ∷ bs) n =
+    if weight b == 0 then moved 1 (place_in weight bs n)
+    else (if n == 0 then At 0 else (if nat_lt n (weight b) then Inside else moved 1 (place_in weight bs (n - weight b))))

@@ -1,8 +1,4 @@
-//! Why a conversion is refused. A refused conversion writes nothing.
-
-/// The units that the whole text needs, where there is room for fewer.
-#[derive(Clone, Copy, PartialEq, Eq, Debug)]
-pub struct NeedsRoom(pub usize);
+//! Why units can't be converted.
 
 /// Why units can't be converted to UTF-8. The first that applies is reported.
 #[derive(Clone, Copy, PartialEq, Eq, Debug)]

@@ -2,14 +2,23 @@
 //! what of a slice is well formed. None takes memory.
 #![tactic(auto)]
 
+mod counts;
 mod faults;
+mod measure;
+mod places;
 mod select;
 mod surrogates;
+mod to_utf16;
 mod to_utf8;
+mod utf8_length;
 mod valid;
 
-pub use faults::{NeedsRoom, ToUtf8Fault};
+pub use counts::{count_scalars, count_utf16};
+pub use faults::ToUtf8Fault;
+pub use lane_ascii::NeedsRoom;
+pub use places::{nth_scalar, nth_utf16};
 pub use select::Select;
 pub use surrogates::first_lone_surrogate;
 pub use to_utf8::utf16_to_utf8;
+pub use to_utf16::utf8_to_utf16;
 pub use valid::valid_run;

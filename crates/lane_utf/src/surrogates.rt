@@ -1,7 +1,10 @@
 //! Surrogates that are in no pair.
-ghost use Rattle.std.specs.Prelude.{◌≡◌, ◌≤◌, true, length, take, drop, None, IfSome};
-ghost use Rattle.lane_utf.specs.Scan.{lone_from};
+ghost use Rattle.std.specs.Prelude.{◌≡◌, ◌+◌, ◌-◌, ◌≤◌, true, length, map, slice_index, take, drop, None, IfSome};
+ghost use Rattle.lane_utf.specs.Scan.{lone_from, Matched};
 ghost use Rattle.lane_utf.specs.Utf16.{is_lead, is_trail, first_lone};
+ghost use lib.Lanes.{mask_l};
+
+use std::simd::prelude::*;
 
 /// The index of the first lone surrogate: a lead with no trail behind it, or a trail with no lead
 /// before it (Unicode, chapter 3, D75). The units in front of it have none, and are well formed by
@@ -10,7 +13,47 @@ pub fn first_lone_surrogate(units: &[u16]) -> Option<usize>
     ensures first { result ≡ first_lone units.now }
     ensures front { IfSome result (λ at. first_lone (take at units.now) ≡ None) }
 {
-    scan(units, 0, false)
+    if units.is_empty() {
+        return None;
+    }
+    if is_trail(units[0]) {
+        return Some(0);
+    }
+    let mut at = 1;
+    'whole: while units.len() - at >= 32 && is_matched(units, at) {
+        at += 32;
+    }
+    scan(units, at, is_lead(units[at - 1]))
+}
+
+/// Whether each of the next 32 units trails a pair exactly where the one before it leads one.
+#[inline(always)]
+fn is_matched(units: &[u16], at: usize) -> bool
+    requires before { 1 ≤ at }
+    requires within { at + 32 ≤ length units.now }
+    ensures { result ≡ true → Matched (is_lead (slice_index units.now (at - 1))) (take 32 (drop at units.now)) }
+{
+    let here = trails(u16x32::from_slice(&units[at..]));
+    let before = leads(u16x32::from_slice(&units[at - 1..]));
+    here == before
+}
+
+/// The lanes that lead a pair.
+#[inline(always)]
+fn leads<const N: usize>(lanes: Simd<u16, N>) -> u64
+    requires { N ≤ 64 }
+    ensures { result ≡ mask_l (map is_lead lanes.entry) }
+{
+    (lanes.simd_ge(Simd::splat(0xD800)) & lanes.simd_lt(Simd::splat(0xDC00))).to_bitmask()
+}
+
+/// The lanes that trail a pair.
+#[inline(always)]
+fn trails<const N: usize>(lanes: Simd<u16, N>) -> u64
+    requires { N ≤ 64 }
+    ensures { result ≡ mask_l (map is_trail lanes.entry) }
+{
+    (lanes.simd_ge(Simd::splat(0xDC00)) & lanes.simd_lt(Simd::splat(0xE000))).to_bitmask()
 }
 
 /// Whether the unit leads a pair.

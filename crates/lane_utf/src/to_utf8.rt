@@ -2,15 +2,16 @@
 ghost use Rattle.std.specs.Prelude.{◌≡◌, ◌+◌, ◌<◌, ◌≤◌, true, length, drop, take, is_ok, OnOk, None, if◌then◌else◌};
 ghost use Rattle.std.specs.Char.{encode_utf8, IsScalar};
 ghost use Rattle.std.specs.Simd.Lanes.{put_chunk};
-ghost use Rattle.std.specs.Str.{encode_utf8_all, all_scalars};
+ghost use Rattle.std.specs.Str.{encode_utf8_all, all_scalars, IsAscii};
 ghost use Rattle.lane_utf.specs.Conversions.{over_front, utf8_answer};
 ghost use Rattle.lane_utf.specs.Front.{IsFront};
 ghost use Rattle.lane_utf.specs.Utf16.{code_points, first_lone, utf16_forms};
-ghost use Rattle.lane_utf.specs.Weights.{unit_weight};
-ghost use Rattle.lane_utf.specs.Widths.{utf8_width, total_width};
+ghost use Rattle.lane_utf.specs.Widths.{utf8_width};
 
 use crate::faults::ToUtf8Fault;
 use crate::surrogates::{first_lone_surrogate, is_lead};
+use crate::utf8_length::utf8_length;
+use std::simd::prelude::*;
 
 /// Writes the UTF-8 form of the units (Unicode, chapter 3, D91 and D92) over the front of `bytes`,
 /// and returns its length in bytes. The bytes behind it stay.
@@ -46,30 +47,8 @@ fn convert(units: &[u16], bytes: &mut [u8]) -> Result<usize, ToUtf8Fault>
     Ok(needed)
 }
 
-/// The bytes of UTF-8 that a unit stands for.
-#[inline(always)]
-fn unit_weight(unit: u16) -> usize
-    ensures { result ≡ unit_weight unit }
-{
-    match unit {
-        0..=0x7F => 1,
-        0x80..=0x7FF | 0xD800..=0xDFFF => 2,
-        _ => 3,
-    }
-}
-
-/// The bytes of UTF-8 that the units stand for.
-fn utf8_length(units: &[u16]) -> usize
-    ensures { result ≡ total_width unit_weight units.now }
-{
-    let mut total = 0;
-    for unit in units {
-        total += unit_weight(*unit);
-    }
-    total
-}
-
-/// Writes the UTF-8 form.
+/// Writes the UTF-8 form, for which there is room: ASCII units by blocks of sixteen, others code
+/// point by code point until the next block.
 fn write(units: &[u16], bytes: &mut [u8])
     requires paired { first_lone units.now ≡ None }
     requires room { length (encode_utf8_all (code_points units.now)) ≤ length bytes.old }
@@ -77,11 +56,45 @@ fn write(units: &[u16], bytes: &mut [u8])
 {
     let mut read = 0;
     let mut written = 0;
+    let mut tested = 0;
     'units: while read < units.len() {
+        if read >= tested && units.len() - read >= 16 {
+            if is_ascii_block(units, read) {
+                narrow(units, read, bytes, written);
+                read += 16;
+                written += 16;
+                continue;
+            }
+            tested = read + 16;
+        }
         let (code_point, width) = front(units, read);
         written = put(bytes, written, code_point);
         read += width;
     }
+}
+
+/// Whether the next sixteen units are ASCII.
+#[inline(always)]
+fn is_ascii_block(units: &[u16], at: usize) -> bool
+    requires { at + 16 ≤ length units.now }
+    ensures { result ≡ true → IsAscii (take 16 (drop at units.now)) }
+{
+    u16x16::from_slice(&units[at..])
+        .simd_ge(u16x16::splat(0x80))
+        .to_bitmask()
+        == 0
+}
+
+/// Writes the next sixteen units, each of which is ASCII, as bytes.
+#[inline(always)]
+fn narrow(units: &[u16], read: usize, bytes: &mut [u8], written: usize)
+    requires units { read + 16 ≤ length units.now }
+    requires bytes { written + 16 ≤ length bytes.old }
+    requires ascii { IsAscii (take 16 (drop read units.now)) }
+    ensures { bytes.new ≡ put_chunk written bytes.old (take 16 (drop read units.now)) }
+{
+    let bytes_of: u8x16 = u16x16::from_slice(&units[read..]).cast();
+    bytes_of.copy_to_slice(&mut bytes[written..]);
 }
 
 /// The code point at a unit, and how many units it takes.

@@ -1,9 +1,11 @@
-use Rattle.std.proofs.Common.{◌∙◌, ap, sym, length, drop, ◌++◌, arith, length-drop}
+use Rattle.std.proofs.Common.{◌≤◌, ◌∙◌, ap, sym, length, take, drop, ◌++◌, arith, length-drop}
 use Rattle.std.proofs.lemmas.List.{drop-drop}
 use Rattle.std.specs.Char.{encode_utf8}
 use Rattle.std.specs.Str.{encode_utf8_all}
 use Rattle.lane_utf.specs.Utf16.{code_points, first_lone}
-use Rattle.lane_utf.proofs.Putting.{room_for, put_goes_on}
+use Rattle.lane_utf.proofs.Putting.{room_for, put_goes_on, block_room, block_goes_on}
+use Rattle.std.proofs.lemmas.Simd.{length-chunk}
+use Rattle.lane_utf.proofs.UnitMasks.{ascii_units, ascii_bytes}
 use Rattle.lane_utf.proofs.to_utf8.write.Goals as goal
 
 pub put-written-requires-clause-room : goal.put-written-requires-clause-room
@@ -22,4 +24,30 @@ units-preserved c =
       writing = put_goes_on _ c.units.written c.units.bytes c.args.bytes.now _ _ f.result.0 c.put-written.result c.put-written.new.bytes
           c.units.invariant.writing (omega (arith, c.requires.room, c.units.auto.bytes)) (ap encode_utf8_all f.ensures.first ∙ ap (λ k. encode_utf8 f.result.0 ++ encode_utf8_all (code_points k)) behind)
           c.put-written.ensures.end c.put-written.ensures.bytes;
+    }
+
+pub narrow-requires-clause-bytes : goal.narrow-requires-clause-bytes
+narrow-requires-clause-bytes c =
+    let units = c.args.units.now in
+    let behind = drop c.units.read units in
+    let ascii = c.is_ascii_block.ensures c.if-is_ascii_block.true in
+    let within : 16 ≤ length behind = omega (arith, length-drop c.units.read units) in
+    let room : length (encode_utf8_all (code_points units)) ≤ length c.units.bytes = omega (arith, c.requires.room, c.units.auto.bytes) in
+    block_room _ c.units.written c.units.bytes _ _ (take 16 behind) _ 16 c.units.invariant.writing room
+    (ascii_bytes 16 behind within ascii c.units.invariant.paired) (length-chunk c.units.read 16 units (omega arith))
+
+pub units-preserved-then-is_ascii_block : goal.units-preserved-then-is_ascii_block
+units-preserved-then-is_ascii_block c =
+    let units = c.args.units.now in
+    let behind = drop c.units.read units in
+    let ascii = c.is_ascii_block.ensures c.if-is_ascii_block.true in
+    let within : 16 ≤ length behind = omega (arith, length-drop c.units.read units) in
+    let same = drop-drop 16 c.units.read units in
+    let room : length (encode_utf8_all (code_points units)) ≤ length c.units.bytes = omega (arith, c.requires.room, c.units.auto.bytes) in
+    record {
+      within = omega arith;
+      paired = ap first_lone (sym same) ∙ (ascii_units 16 behind within ascii c.units.invariant.paired).0;
+      writing = block_goes_on _ c.units.written c.units.bytes _ _ (take 16 behind) _ 16 c.narrow.new.bytes c.units.invariant.writing room
+          (ascii_bytes 16 behind within ascii c.units.invariant.paired ∙ ap (λ k. take 16 behind ++ encode_utf8_all (code_points k)) same)
+          (length-chunk c.units.read 16 units (omega arith)) c.narrow.ensures;
     }

@@ -1,7 +1,7 @@
 use Rattle.std.proofs.Common.{length, ◌-◌, ◌≡◌, ◌≤◌, drop, None}
 use Rattle.std.specs.Str.{encode_utf8_all}
 use Rattle.lane_utf.specs.Utf16.{code_points, first_lone}
-use Rattle.lane_utf.proofs.Putting.{IsWriting}
+use Rattle.lane_utf.specs.Writing.{IsWriting}
 use Rattle.lane_utf.proofs.to_utf8.write.Given as goal
 
 abbrev pub invariant-units : goal.invariant-units

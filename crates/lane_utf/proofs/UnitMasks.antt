@@ -1,0 +1,154 @@
+-- Masks of units, and what they say of pairs.
+use Rattle.std.proofs.Common.{◌≡◌, refl, sym, ap, ap₂, ◌∙◌, ℕ, zero, suc, ◌+◌, ◌-◌, ◌*◌, ◌<◌, ◌≤◌, ◌%◌, ◌^◌, not, nat_lt, Bool, true, false, cond, ◌==◌, ◌&&◌, ◌||◌, leb, ltb, List, [], ◌∷◌, ◌++◌, length, map, take, drop, get_or, Some, None, arith, bit_and, bit_or}
+use Rattle.std.proofs.lemmas.Bool.Decides.{nat_tests}
+use Rattle.std.proofs.Math.Utf8.{encodes}
+use Rattle.std.proofs.lemmas.Bool.{leb-true, leb-false, le-ltb, lt-ltb}
+use Rattle.std.proofs.lemmas.List.{length-map, drop_more, length-drop, get_or-drop}
+use Rattle.std.proofs.lemmas.Str.{encodes-append, encodes-IsAscii}
+use Rattle.std.specs.Str.{IsAscii}
+use Rattle.std.proofs.lemmas.Simd.{mask_l-mod, chunk-drop, length-chunk}
+use Rattle.lane_utf.specs.Scan.{lone_from, Matched}
+use Rattle.lane_utf.specs.Utf16.{is_lead, is_trail, first_lone, code_points}
+use Rattle.lane_utf.specs.Weights.{has_two, has_three, unit_weight}
+use Rattle.lane_utf.specs.Widths.{total_width}
+use Rattle.lane_utf.proofs.Fronts.{single_front}
+use Rattle.lane_utf.proofs.Lone.{scanned}
+use Rattle.lane_utf.proofs.UnitSums.{by_test}
+use lib.Lanes.{mask_l, top}
+
+-- a lane of a comparison
+abbrev pub at_most : ℕ → ℕ → ℕ
+at_most a b = cond (leb a b) 65535 0
+
+abbrev pub below : ℕ → ℕ → ℕ
+below a b = cond (ltb a b) 65535 0
+
+pub top_one : (a : Bool) → top 15 (cond a 65535 0) ≡ a
+top_one true = refl
+top_one false = refl
+
+pub top_both : (a b : Bool) → top 15 (bit_and (cond a 65535 0) (cond b 65535 0)) ≡ a && b
+top_both true true = refl
+top_both true false = refl
+top_both false true = refl
+top_both false false = refl
+
+pub top_either : (a b c : Bool) → top 15 (bit_or (bit_and (cond a 65535 0) (cond b 65535 0)) (cond c 65535 0)) ≡ (a && b) || c
+top_either true true true = refl
+top_either true true false = refl
+top_either true false true = refl
+top_either true false false = refl
+top_either false true true = refl
+top_either false true false = refl
+top_either false false true = refl
+top_either false false false = refl
+
+each_unit : (f : ℕ → ℕ) (p : ℕ → Bool) → ((u : ℕ) → top 15 (f u) ≡ p u) → (v : List ℕ) → map (top 15) (map f v) ≡ map p v
+each_unit f p same [] = refl
+each_unit f p same (u ∷ us) = ap₂ (λ x xs. x ∷ xs) (same u) (each_unit f p same us)
+
+-- a mask that is computed lane by lane
+pub mask_of_units : (f : ℕ → ℕ) (p : ℕ → Bool) (v z : List ℕ) → length v ≤ 64 → z ≡ map f v → ((u : ℕ) → top 15 (f u) ≡ p u)
+    → mask_l (map (top 15) z) % 2 ^ 64 ≡ mask_l (map p v)
+mask_of_units f p v z few lanes same =
+    ap (λ xs. mask_l xs % 2 ^ 64) (ap (map (top 15)) lanes ∙ each_unit f p same v) ∙ mask_l-mod (map p v) 64 (omega (arith, length-map v p))
+
+-- the bytes that a unit stands for, one by one
+weight-by_bytes : (u : ℕ) → unit_weight u ≡ 1 + (cond (has_two u) 1 0 + cond (has_three u) 1 0)
+weight-by_bytes u = grind (arith, nat_tests)
+
+pub weights : (v : List ℕ) → total_width unit_weight v ≡ length v + (total_width (λ u. cond (has_two u) 1 0) v + total_width (λ u. cond (has_three u) 1 0) v)
+weights [] = refl
+weights (u ∷ us) = omega (arith, weight-by_bytes u, weights us)
+
+-- equal masks are those of lanes that agree
+same_bits : (x y : Bool) (m n : ℕ) → cond x 1 0 + 2 * m ≡ cond y 1 0 + 2 * n → (x ≡ y) × (m ≡ n)
+same_bits true true m n e = (refl, omega (arith, e))
+same_bits true false m n e = absurd (omega (arith, e))
+same_bits false true m n e = absurd (omega (arith, e))
+same_bits false false m n e = (refl, omega (arith, e))
+
+pub matched : (n x : ℕ) (us : List ℕ) → n ≤ length us → mask_l (map is_trail (take n us)) ≡ mask_l (map is_lead (take n (x ∷ us))) → Matched (is_lead x) (take n us)
+matched zero x us h e = tt
+matched (suc n) x [] h e = absurd (omega (arith, h))
+matched (suc n) x (u ∷ us) h e =
+    let s = same_bits (is_trail u) (is_lead x) _ _ e in
+    (s.0, matched n u us (omega (arith, h)) s.1)
+
+-- over units that match, the scan goes on
+abbrev pub last_leads : Bool → List ℕ → Bool
+last_leads after_lead [] = after_lead
+last_leads after_lead (u ∷ us) = last_leads (is_lead u) us
+
+past_matched : (after : Bool) (at : ℕ) (block rest : List ℕ) → Matched after block → lone_from after at (block ++ rest) ≡ lone_from (last_leads after block) (at + length block) rest
+past_matched after at [] rest m = ap (λ k. lone_from after k rest) (omega arith)
+past_matched true at (u ∷ us) rest m =
+    let more : at + 1 + length us ≡ at + suc (length us) = omega arith in
+    ap (λ k. cond k (lone_from (is_lead u) (at + 1) (us ++ rest)) (Some (at - 1))) m.0
+    ∙ past_matched (is_lead u) (at + 1) us rest m.1 ∙ ap (λ k. lone_from (last_leads (is_lead u) us) k rest) more
+past_matched false at (u ∷ us) rest m =
+    let more : at + 1 + length us ≡ at + suc (length us) = omega arith in
+    ap (λ k. cond k (Some at) (lone_from (is_lead u) (at + 1) (us ++ rest))) m.0
+    ∙ past_matched (is_lead u) (at + 1) us rest m.1 ∙ ap (λ k. lone_from (last_leads (is_lead u) us) k rest) more
+
+last_of : (after : Bool) (n : ℕ) (us : List ℕ) → suc n ≤ length us → last_leads after (take (suc n) us) ≡ is_lead (get_or us n 0)
+last_of after n [] h = absurd (omega (arith, h))
+last_of after zero (u ∷ us) h = refl
+last_of after (suc n) (u ∷ us) h = last_of (is_lead u) n us (omega (arith, h))
+
+-- the same along a slice
+pub matched_at : (us : List ℕ) (at a b : ℕ) → 1 ≤ at → at + 32 ≤ length us → a ≡ mask_l (map is_trail (take 32 (drop at us))) → b ≡ mask_l (map is_lead (take 32 (drop (at - 1) us)))
+    → a ≡ b → Matched (is_lead (get_or us (at - 1) 0)) (take 32 (drop at us))
+matched_at us at a b some room t l e =
+    let back : at - 1 + 1 ≡ at = omega arith in
+    let before : drop (at - 1) us ≡ get_or us (at - 1) 0 ∷ drop at us = drop_more us (at - 1) 0 (omega arith) ∙ ap (λ k. get_or us (at - 1) 0 ∷ drop k us) back in
+    matched 32 (get_or us (at - 1) 0) (drop at us) (omega (arith, room, length-drop at us)) (sym t ∙ e ∙ l ∙ ap (λ k. mask_l (map is_lead (take 32 k))) before)
+
+pub begins : (us : List ℕ) → 1 ≤ length us → is_trail (get_or us 0 0) ≡ false → lone_from (is_lead (get_or us 0 0)) 1 (drop 1 us) ≡ first_lone us
+begins [] h e = absurd (omega (arith, h))
+begins (u ∷ us) h e = sym (ap (λ k. cond k (Some 0) (lone_from (is_lead u) 1 us)) e) ∙ scanned (u ∷ us)
+
+pub goes_on : (us : List ℕ) (at : ℕ) → 1 ≤ at → at + 32 ≤ length us → Matched (is_lead (get_or us (at - 1) 0)) (take 32 (drop at us))
+    → lone_from (is_lead (get_or us (at + 32 - 1) 0)) (at + 32) (drop (at + 32) us) ≡ lone_from (is_lead (get_or us (at - 1) 0)) at (drop at us)
+goes_on us at some room m =
+    let block = take 32 (drop at us) in
+    let long : length block ≡ 32 = length-chunk at 32 us room in
+    let place : at + 31 ≡ at + 32 - 1 = omega arith in
+    let last : last_leads (is_lead (get_or us (at - 1) 0)) block ≡ is_lead (get_or us (at + 32 - 1) 0) =
+    last_of (is_lead (get_or us (at - 1) 0)) 31 (drop at us) (omega (arith, room, length-drop at us)) ∙ ap is_lead (get_or-drop at us 31 0) ∙ ap (λ k. is_lead (get_or us k 0)) place in
+    sym (ap (lone_from (is_lead (get_or us (at - 1) 0)) at) (chunk-drop at 32 us)
+    ∙ past_matched (is_lead (get_or us (at - 1) 0)) at block (drop (at + 32) us) m
+    ∙ ap₂ (λ k n. lone_from k (at + n) (drop (at + 32) us)) last long)
+
+-- ASCII units
+not_below : (u : ℕ) → leb 128 u ≡ not (nat_lt u 128)
+not_below u = by_test (leb 128 u)
+    (λ t. t ∙ sym (ap not (le-ltb u 128 (leb-true 128 u t))))
+    (λ t. t ∙ sym (ap not (lt-ltb u 128 (leb-false 128 u t))))
+
+pub top_high : (u : ℕ) → top 15 (at_most 128 u) ≡ not (nat_lt u 128)
+top_high u = top_one (leb 128 u) ∙ not_below u
+
+pub ascii_units : (n : ℕ) (us : List ℕ) → n ≤ length us → IsAscii (take n us) → first_lone us ≡ None
+    → (first_lone (drop n us) ≡ None) × (code_points us ≡ take n us ++ code_points (drop n us))
+ascii_units zero us h a e = (e, refl)
+ascii_units (suc n) [] h a e = absurd (omega (arith, h))
+ascii_units (suc n) (u ∷ us) h a e =
+    let low : u < 128 = a 0 in
+    let lead : is_lead u ≡ false = not_lead u low in
+    let front = single_front u us (omega (arith, low)) e lead in
+    let more = ascii_units n us (omega (arith, h)) (λ i. a (suc i)) front.paired in
+    (more.0, front.first ∙ ap (λ k. u ∷ k) more.1)
+  where
+    not_lead : (u : ℕ) → u < 128 → is_lead u ≡ false
+    not_lead u h = grind (arith, nat_tests)
+
+pub ascii_bytes : (n : ℕ) (us : List ℕ) → n ≤ length us → IsAscii (take n us) → first_lone us ≡ None
+    → encodes (code_points us) ≡ take n us ++ encodes (code_points (drop n us))
+ascii_bytes n us h a e =
+    ap encodes (ascii_units n us h a e).1 ∙ encodes-append (take n us) (code_points (drop n us))
+    ∙ ap (λ k. k ++ encodes (code_points (drop n us))) (encodes-IsAscii (take n us) a)
+
+pub has_some : (us : List ℕ) → false ≡ (length us == 0) → 1 ≤ length us
+has_some [] e = cc
+has_some (u ∷ us) e = omega arith

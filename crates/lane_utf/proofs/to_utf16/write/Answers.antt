@@ -1,0 +1,60 @@
+use Rattle.std.proofs.Common.{◌+◌, ◌≤◌, ◌∙◌, ap, subst, length, drop, take, ◌++◌, arith}
+use Rattle.std.proofs.lemmas.List.{drop-drop, drop_all, length-drop}
+use Rattle.std.proofs.lemmas.Simd.{length-chunk}
+use Rattle.std.proofs.lemmas.Str.{chars-nil}
+use Rattle.std.specs.Str.{chars, IsUtf8}
+use Rattle.lane_utf.specs.Utf16.{utf16_form, utf16_forms}
+use Rattle.lane_utf.proofs.Decoding.{ascii-text, ascii-forms, form-width}
+use Rattle.lane_utf.proofs.Putting.{block_room, block_goes_on, form_room, form_goes_on, writing_done}
+use Rattle.lane_utf.proofs.to_utf16.write.Goals as goal
+
+pub widen-requires-clause-units : goal.widen-requires-clause-units
+widen-requires-clause-units c =
+    let bytes = c.args.bytes.now in
+    let behind = drop c.text.read bytes in
+    let ascii = c.is_ascii_block.ensures c.if-is_ascii_block.true in
+    let room : length (utf16_forms (chars bytes)) ≤ length c.text.units = omega (arith, c.requires.room, c.text.auto.units) in
+    block_room _ c.text.written c.text.units _ _ (take 16 behind) (utf16_forms (chars (drop 16 behind))) 16 c.text.invariant.writing room
+    (ascii-forms behind 16 ascii) (length-chunk c.text.read 16 bytes (omega arith))
+
+pub text-preserved-then-is_ascii_block : goal.text-preserved-then-is_ascii_block
+text-preserved-then-is_ascii_block c =
+    let bytes = c.args.bytes.now in
+    let behind = drop c.text.read bytes in
+    let ascii = c.is_ascii_block.ensures c.if-is_ascii_block.true in
+    let within : c.text.read + 16 ≤ length bytes = omega arith in
+    let long = length-chunk c.text.read 16 bytes within in
+    let same = drop-drop 16 c.text.read bytes in
+    let room : length (utf16_forms (chars bytes)) ≤ length c.text.units = omega (arith, c.requires.room, c.text.auto.units) in
+    record {
+      within = within;
+      text = subst IsUtf8 same (ascii-text behind 16 c.text.invariant.text (omega (arith, within, length-drop c.text.read bytes)) ascii);
+      writing = block_goes_on _ c.text.written c.text.units _ _ (take 16 behind) _ 16 c.widen.new.units c.text.invariant.writing room
+          (ascii-forms behind 16 ascii ∙ ap (λ k. take 16 behind ++ utf16_forms (chars k)) same) long c.widen.ensures;
+    }
+
+pub put-written-requires-clause-room : goal.put-written-requires-clause-room
+put-written-requires-clause-room c =
+    let bytes = c.args.bytes.now in
+    let n = c.next-code_point in
+    let room : length (utf16_forms (chars bytes)) ≤ length c.text.units = omega (arith, c.requires.room, c.text.auto.units) in
+    form_room _ c.text.written c.text.units _ _ _ n.result.0 c.text.invariant.writing room (ap utf16_forms n.ensures.first) (form-width n.result.0)
+
+pub text-preserved : goal.text-preserved
+text-preserved c =
+    let bytes = c.args.bytes.now in
+    let n = c.next-code_point in
+    let same = drop-drop n.result.1 c.text.read bytes in
+    let room : length (utf16_forms (chars bytes)) ≤ length c.text.units = omega (arith, c.requires.room, c.text.auto.units) in
+    record {
+      within = omega (arith, n.ensures.within, length-drop c.text.read bytes, c.text-test.true);
+      text = subst IsUtf8 same n.ensures.text;
+      writing = form_goes_on _ c.text.written c.text.units _ _ _ n.result.0 c.put-written.result c.put-written.new.units c.text.invariant.writing room
+          (ap utf16_forms n.ensures.first ∙ ap (λ k. utf16_form n.result.0 ++ utf16_forms (chars k)) same) (form-width n.result.0)
+          c.put-written.ensures.end c.put-written.ensures.units;
+    }
+
+pub returns : goal.returns
+returns c =
+    let none = drop_all c.text.read c.args.bytes.now c.text-test.false in
+    writing_done _ c.text.written c.text.units c.args.units.now _ c.text.invariant.writing (ap (λ k. utf16_forms (chars k)) none ∙ ap utf16_forms chars-nil)

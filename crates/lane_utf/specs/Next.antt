@@ -1,0 +1,12 @@
+-- The code point at the front of a text's bytes.
+use Rattle.std.specs.Prelude.{◌≡◌, ℕ, ◌≤◌, List, ◌∷◌, length, drop}
+use Rattle.std.specs.Char.{IsScalar}
+use Rattle.std.specs.Str.{IsUtf8, chars}
+
+-- the bytes begin with the code point c, which takes n of them
+pub record IsNext (bytes : List ℕ) (c n : ℕ) : Type 0 where
+  pub scalar : IsScalar c
+  pub some : 1 ≤ n
+  pub within : n ≤ length bytes
+  pub first : chars bytes ≡ c ∷ chars (drop n bytes)
+  pub text : IsUtf8 (drop n bytes)

@@ -1,0 +1,110 @@
+//! Lengths of a text, by what each byte adds to them.
+ghost use Rattle.std.specs.Prelude.{◌≡◌, ◌≤◌, ℕ, map};
+ghost use Rattle.lane_utf.specs.Weights.{begins_code_point, begins_four, scalar_weight, scalar-small, utf16_weight, utf16-small};
+ghost use Rattle.lane_utf.specs.Widths.{total_width};
+ghost use lib.Lanes.{mask_l};
+
+use std::simd::prelude::*;
+
+/// A length of a text as the sum of its bytes' weights.
+pub(crate) trait Measure {
+    ghost weight: { ℕ → ℕ };
+
+    fn of_byte(byte: u8) -> usize
+        ensures { result ≡ weight byte };
+
+    fn of_64(lanes: u8x64) -> usize
+        ensures { result ≡ total_width weight lanes };
+
+    fn of_16(lanes: u8x16) -> usize
+        ensures { result ≡ total_width weight lanes };
+
+    ghost small: { (b : ℕ) → weight b ≤ 2 };
+}
+
+/// The lanes that begin a code point.
+#[inline(always)]
+fn code_points<const N: usize>(lanes: Simd<u8, N>) -> u64
+    requires { N ≤ 64 }
+    ensures { result ≡ mask_l (map begins_code_point lanes.entry) }
+{
+    (lanes.simd_lt(Simd::splat(0x80)) | lanes.simd_ge(Simd::splat(0xC0))).to_bitmask()
+}
+
+/// The lanes that begin a code point of four bytes.
+#[inline(always)]
+fn fours<const N: usize>(lanes: Simd<u8, N>) -> u64
+    requires { N ≤ 64 }
+    ensures { result ≡ mask_l (map begins_four lanes.entry) }
+{
+    lanes.simd_ge(Simd::splat(0xF0)).to_bitmask()
+}
+
+#[inline(always)]
+fn scalars_of<const N: usize>(lanes: Simd<u8, N>) -> usize
+    requires { N ≤ 64 }
+    ensures { result ≡ total_width scalar_weight lanes.entry }
+{
+    code_points(lanes).count_ones() as usize
+}
+
+#[inline(always)]
+fn units_of<const N: usize>(lanes: Simd<u8, N>) -> usize
+    requires { N ≤ 64 }
+    ensures { result ≡ total_width utf16_weight lanes.entry }
+{
+    code_points(lanes).count_ones() as usize + fours(lanes).count_ones() as usize
+}
+
+/// Code points.
+pub(crate) struct Scalars;
+
+impl Measure for Scalars {
+    ghost weight = { scalar_weight };
+
+    #[inline(always)]
+    fn of_byte(byte: u8) -> usize {
+        if byte < 0x80 || byte >= 0xC0 { 1 } else { 0 }
+    }
+
+    #[inline(always)]
+    fn of_64(lanes: u8x64) -> usize {
+        scalars_of(lanes)
+    }
+
+    #[inline(always)]
+    fn of_16(lanes: u8x16) -> usize {
+        scalars_of(lanes)
+    }
+
+    ghost small = { scalar-small };
+}
+
+/// Units of UTF-16.
+pub(crate) struct Utf16Units;
+
+impl Measure for Utf16Units {
+    ghost weight = { utf16_weight };
+
+    #[inline(always)]
+    fn of_byte(byte: u8) -> usize {
+        match byte {
+            0..=0x7F => 1,
+            0x80..=0xBF => 0,
+            0xC0..=0xEF => 1,
+            _ => 2,
+        }
+    }
+
+    #[inline(always)]
+    fn of_64(lanes: u8x64) -> usize {
+        units_of(lanes)
+    }
+
+    #[inline(always)]
+    fn of_16(lanes: u8x16) -> usize {
+        units_of(lanes)
+    }
+
+    ghost small = { utf16-small };
+}
