@@ -4,10 +4,14 @@
 
 mod bits;
 mod class;
+#[cfg(test)]
+mod examples;
 mod line_ends;
 mod room;
 mod runs;
 mod swap;
+#[cfg(test)]
+mod tests;
 mod widening;
 
 pub use line_ends::{count_line_ends, nth_line_end};

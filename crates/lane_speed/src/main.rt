@@ -1,0 +1,69 @@
+//! The program: how fast each lane kernel is, beside a plain loop with the same answer.
+#![tactic(auto)]
+
+mod command_line;
+mod failure;
+mod kernels;
+mod measure;
+mod plain;
+#[cfg(test)]
+mod tests;
+
+use command_line::is_to_measure;
+use failure::Failure;
+use measure::{SIZES, Work, fastest, megabytes_per_second, passed};
+use std::env;
+use std::process::ExitCode;
+
+/// Text of lines, as it is in ASCII.
+const LINES: &[u8] = b"<p>Minutes of the council, third reading.</p>\r\n<ul>\n";
+
+/// Shows each kernel and its plain twin, a line a kernel.
+fn show_all(rt: &HostRuntime, measures: bool) -> Result<(), Failure> {
+    show::<kernels::AsciiRun, plain::AsciiRun>(rt, measures, "ascii_run", LINES)?;
+    show::<kernels::PlainRunIso, plain::PlainRunIso>(rt, measures, "plain_run_iso", LINES)?;
+    show::<kernels::CountLineEnds, plain::CountLineEnds>(rt, measures, "count_line_ends", LINES)?;
+    show::<kernels::NthLineEnd, plain::NthLineEnd>(rt, measures, "nth_line_end", LINES)?;
+    show::<kernels::MemchrCount, plain::CountLineEnds>(rt, measures, "memchr, LF alone", LINES)?;
+    show::<kernels::SwapPairs, plain::SwapPairs>(rt, measures, "swap_pairs", LINES)?;
+    show::<kernels::Widen, plain::Widen>(rt, measures, "widen", LINES)
+}
+
+/// Prints a kernel's name, or its speed and its plain twin's at each size.
+fn show<K: Work, P: Work>(
+    rt: &HostRuntime,
+    measures: bool,
+    name: &str,
+    text: &[u8],
+) -> Result<(), Failure> {
+    if !measures {
+        println!(rt; "{name}")?;
+        return Ok(());
+    }
+    for size in SIZES {
+        let kernel = fastest::<K, HostRuntime>(rt, rt.alloc(), text, size)?;
+        let plain = fastest::<P, HostRuntime>(rt, rt.alloc(), text, size)?;
+        let kernel = megabytes_per_second(passed(size), kernel);
+        let plain = megabytes_per_second(passed(size), plain);
+        println!(rt; "{name:<17} {size:>8} bytes {kernel:>7} MB/s, plain {plain:>6} MB/s")?;
+    }
+    Ok(())
+}
+
+/// Does what the words ask.
+fn attempt(rt: &HostRuntime) -> Result<(), Failure> {
+    let words: Vec<String> = env::args(rt)?.skip(1).collect(rt.alloc())?;
+    let measures = is_to_measure(rt.alloc(), &words)?;
+    show_all(rt, measures)?;
+    if !measures {
+        println!(rt; "'lane_speed --measure' measures them.")?;
+    }
+    Ok(())
+}
+
+fn main(rt: HostRuntime) -> ExitCode {
+    match attempt(&rt) {
+        Ok(()) => ExitCode::SUCCESS,
+        Err(failure) => ExitCode::from(failure.told(&rt)),
+    }
+}
