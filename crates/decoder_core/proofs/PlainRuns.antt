@@ -12,12 +12,12 @@ use Rattle.std.proofs.lemmas.Str.Ascii.{IsAscii-nil, IsAscii-cons}
 use Rattle.decoder_core.specs.declared.item.Item.TheVariants.{One}
 use Rattle.decoder_core.specs.declared.bulk.Bulk.{Bulk}
 use Rattle.decoder_core.specs.declared.bulk.Stride.TheVariants.{Utf8}
-use Rattle.decoder_core.specs.declared.runs.Runs.{Runs}
-use Rattle.decoder_core.specs.declared.runs.Runs.TheVariants.{None, Ascii, WithoutEscapes}
+use Rattle.decoder_core.specs.declared.ascii_runs.AsciiRuns.{AsciiRuns}
+use Rattle.decoder_core.specs.declared.ascii_runs.AsciiRuns.TheVariants.{None, All, WithoutEscapes}
 use Rattle.decoder_core.specs.Queue.{Table, Falls, Fed, feed}
 use Rattle.decoder_core.specs.Shown.{Shown, shown_from}
 use Rattle.decoder_core.specs.Bulk.{IsBulk, plain_from, run_width}
-use Rattle.decoder_core.specs.Runs.{IsOf, is_of, run_len, TakesRuns, IsRunBulk}
+use Rattle.decoder_core.specs.AsciiRuns.{IsOf, is_of, run_len, TakesAscii, IsRunBulk}
 use Rattle.decoder_core.proofs.Running.{feed-nil}
 use Rattle.decoder_core.proofs.Turning.{given-shown, given-state}
 
@@ -26,7 +26,7 @@ passes true n m h = (refl, omega arith)
 passes false n m h = absurd (omega arith)
 
 -- a run that is longer than n begins with a byte of the class, and goes on
-pub run-first : (runs : Runs) (n b : ℕ) (xs : List ℕ) → suc n ≤ run_len runs (b ∷ xs) → (is_of runs b ≡ true) × (n ≤ run_len runs xs)
+pub run-first : (runs : AsciiRuns) (n b : ℕ) (xs : List ℕ) → suc n ≤ run_len runs (b ∷ xs) → (is_of runs b ≡ true) × (n ≤ run_len runs xs)
 run-first runs n b xs h = passes (is_of runs b) n (run_len runs xs) h
 
 -- a run at the front of a part is one of the whole
@@ -34,12 +34,12 @@ part-longer : (c : Bool) (n m : ℕ) → n ≤ m → cond c (1 + n) 0 ≤ cond c
 part-longer true n m h = omega arith
 part-longer false n m h = lit≤ tt
 
-pub run-part : (runs : Runs) (k : ℕ) (xs : List ℕ) → run_len runs (take k xs) ≤ run_len runs xs
+pub run-part : (runs : AsciiRuns) (k : ℕ) (xs : List ℕ) → run_len runs (take k xs) ≤ run_len runs xs
 run-part runs zero xs = omega arith
 run-part runs (suc k) [] = lit≤ tt
 run-part runs (suc k) (b ∷ xs) = part-longer (is_of runs b) _ _ (run-part runs k xs)
 
-pub run-within : (runs : Runs) (xs : List ℕ) → run_len runs xs ≤ length xs
+pub run-within : (runs : AsciiRuns) (xs : List ℕ) → run_len runs xs ≤ length xs
 run-within runs xs = prefix_len-le-length (is_of runs) xs
 
 pub run-none : (xs : List ℕ) → 0 ≡ run_len None xs
@@ -47,7 +47,7 @@ run-none [] = refl
 run-none (b ∷ xs) = refl
 
 -- a run that was looked for in the first k bytes
-pub run-front : (runs : Runs) (n k : ℕ) (front bytes : List ℕ) → front ≡ take k bytes → n ≡ run_len runs front
+pub run-front : (runs : AsciiRuns) (n k : ℕ) (front bytes : List ℕ) → front ≡ take k bytes → n ≡ run_len runs front
     → (n ≤ run_len runs bytes) × (n ≤ k) × (n ≤ length bytes)
 run-front runs n k front bytes is run =
     let part = run-part runs k bytes in
@@ -67,29 +67,29 @@ neither false false true e = absurd Prim.cc
 neither false true z e = absurd Prim.cc
 neither true y z e = absurd Prim.cc
 
-pub of-class : (runs : Runs) (b : ℕ) → is_of runs b ≡ true → IsOf runs b
+pub of-class : (runs : AsciiRuns) (b : ℕ) → is_of runs b ≡ true → IsOf runs b
 of-class None b e = absurd Prim.cc
-of-class Ascii b e = ltb-true b 0x80 e
+of-class All b e = ltb-true b 0x80 e
 of-class WithoutEscapes b e =
     let two = both (nat_lt b 0x80) _ e in
     let three = neither (b == 0x0E) (b == 0x0F) (b == 0x1B) two.1 in
     (ltb-true b 0x80 two.0, eqb-false b 0x0E three.0, eqb-false b 0x0F three.1, eqb-false b 0x1B three.2)
 
-pub of-ascii : (runs : Runs) (b : ℕ) → IsOf runs b → b < 128
+pub of-ascii : (runs : AsciiRuns) (b : ℕ) → IsOf runs b → b < 128
 of-ascii None b h = absurd h
-of-ascii Ascii b h = h
+of-ascii All b h = h
 of-ascii WithoutEscapes b h = h.0
 
-first-ascii : (runs : Runs) (b : ℕ) → is_of runs b ≡ true → b < 128
+first-ascii : (runs : AsciiRuns) (b : ℕ) → is_of runs b ≡ true → b < 128
 first-ascii runs b e = of-ascii runs b (of-class runs b e)
 
-run-ascii : (runs : Runs) (n : ℕ) (xs : List ℕ) → n ≤ run_len runs xs → IsAscii (take n xs)
+run-ascii : (runs : AsciiRuns) (n : ℕ) (xs : List ℕ) → n ≤ run_len runs xs → IsAscii (take n xs)
 run-ascii runs zero xs h = IsAscii-nil
 run-ascii runs (suc n) [] h = absurd (omega arith)
 run-ascii runs (suc n) (b ∷ xs) h =
     let p = run-first runs n b xs h in IsAscii-cons b (take n xs) (first-ascii runs b p.0) (run-ascii runs n xs p.1)
 
-run-bytes : (runs : Runs) (n : ℕ) (xs : List ℕ) → n ≤ run_len runs xs → run_width Utf8 (take n xs) ≡ n
+run-bytes : (runs : AsciiRuns) (n : ℕ) (xs : List ℕ) → n ≤ run_len runs xs → run_width Utf8 (take n xs) ≡ n
 run-bytes runs zero xs h = refl
 run-bytes runs (suc n) [] h = absurd (omega arith)
 run-bytes runs (suc n) (b ∷ xs) h =
@@ -98,7 +98,7 @@ run-bytes runs (suc n) (b ∷ xs) h =
     let rest = run-bytes runs n xs p.1 in
     omega (arith, one, rest)
 
-module _ {S : Type 0} (table : Table S) (f : Falls table) (idle : S) (runs : Runs) (takes : TakesRuns table idle runs) where
+module _ {S : Type 0} (table : Table S) (f : Falls table) (idle : S) (runs : AsciiRuns) (takes : TakesAscii table idle runs) where
   run-stays : (n : ℕ) (xs : List ℕ) → n ≤ run_len runs xs → (feed table idle (take n xs)).state ≡ idle
   run-stays zero xs h = ap (λ (x : Fed S). x.state) (feed-nil table f idle)
   run-stays (suc n) [] h = absurd (omega arith)

@@ -1,4 +1,5 @@
 pub mod Alone
+pub mod AsciiRuns
 pub mod Bulk
 pub mod ByCases
 pub mod Collected
@@ -15,7 +16,6 @@ pub mod Placed
 pub mod Queue
 pub mod Replacement
 pub mod ReplacementLaws
-pub mod Runs
 pub mod Seen
 pub mod Shown
 pub mod SingleByte

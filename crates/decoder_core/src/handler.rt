@@ -1,15 +1,15 @@
 //! Handlers: one turn of a decoder as the Encoding Standard states it.
 ghost use Rattle.std.specs.Prelude.{◌≡◌, ℕ, Bool, true, Option};
 ghost use Rattle.decoder_core.specs.Bulk.{IsBulk};
-ghost use Rattle.decoder_core.specs.Runs.{TakesRuns};
+ghost use Rattle.decoder_core.specs.AsciiRuns.{TakesAscii};
 ghost use Rattle.decoder_core.specs.Queue.{Turn, Falls};
 ghost use Rattle.decoder_core.specs.Counts.{Counts};
 ghost use Rattle.decoder_core.specs.Few.{bytes_of};
 
+use crate::ascii_runs::AsciiRuns;
 use crate::bulk::{Bulk, NO_BULK};
 use crate::few::Few;
 use crate::item::Item;
-use crate::runs::Runs;
 
 /// What a handler answers (Encoding Standard, "Encodings"): continue, an item, or finished.
 #[derive(Clone, Copy, PartialEq, Eq, Debug)]
@@ -56,11 +56,11 @@ pub trait Handler {
     /// The bytes that are their own code points in this state and leave it as it is; the decoder
     /// takes runs of them in bulk.
     #[inline(always)]
-    fn runs(&self, state: Self::State) -> Runs
-        ensures { TakesRuns (table self.now) state result }
+    fn ascii_runs(&self, state: Self::State) -> AsciiRuns
+        ensures { TakesAscii (table self.now) state result }
     {
         let _ = state;
-        Runs::None
+        AsciiRuns::None
     }
 
     /// Takes bytes in bulk in a state that has no such bytes, as `Decoder::bulk` does.

@@ -3,6 +3,7 @@
 //! UTF-16, the single-byte encodings, x-user-defined and replacement.
 #![tactic(auto)]
 
+mod ascii_runs;
 mod bulk;
 mod collector;
 mod counts;
@@ -23,7 +24,6 @@ mod piece;
 mod placed;
 mod replacement;
 mod run_bulk;
-mod runs;
 mod single_byte;
 mod sink;
 #[cfg(test)]
@@ -36,6 +36,7 @@ mod utf8_bulk;
 mod widths;
 mod x_user_defined;
 
+pub use ascii_runs::AsciiRuns;
 pub use bulk::{Bulk, NO_BULK, Stride};
 pub use counts::Meter;
 pub use decoder::{Decoder, Simple, Step};
@@ -51,7 +52,6 @@ pub use parts::decode_parts;
 pub use piece::run_piece;
 pub use placed::Placed;
 pub use replacement::{ReplacementDecoder, ReplacementState};
-pub use runs::Runs;
 pub use single_byte::SingleByteDecoder;
 pub use sink::Sink;
 pub use utf8::{Utf8Decoder, Utf8State};

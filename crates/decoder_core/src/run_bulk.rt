@@ -1,11 +1,11 @@
 //! Runs of bytes that are their own code points, in bulk.
 ghost use Rattle.std.specs.Prelude.{◌≡◌, ◌≤◌, length, take};
 ghost use Rattle.decoder_core.specs.Bulk.{IsBulk};
-ghost use Rattle.decoder_core.specs.Runs.{run_len, TakesRuns, IsRunBulk};
+ghost use Rattle.decoder_core.specs.AsciiRuns.{run_len, TakesAscii, IsRunBulk};
 
+use crate::ascii_runs::AsciiRuns;
 use crate::bulk::{Bulk, NO_BULK, Stride};
 use crate::handler::Handler;
-use crate::runs::Runs;
 use lane_ascii::{ascii_run, plain_run_iso};
 
 /// Takes the bytes of the class at the front, each of which is its own code point in this state.
@@ -14,11 +14,11 @@ use lane_ascii::{ascii_run, plain_run_iso};
 pub(crate) fn run_bulk<H: Handler>(
     _handler: &H,
     _state: H::State,
-    runs: Runs,
+    runs: AsciiRuns,
     bytes: &[u8],
     text: &mut [u8; 1024],
 ) -> Bulk
-    requires { TakesRuns (H.table _handler.now) _state runs }
+    requires { TakesAscii (H.table _handler.now) _state runs }
     ensures { IsBulk (H.table _handler.now) _state bytes.now result text.new }
 {
     copy_run(runs, bytes, text)
@@ -26,7 +26,7 @@ pub(crate) fn run_bulk<H: Handler>(
 
 /// Copies the bytes of the class at the front, where they may be enough to be worth it.
 #[inline(always)]
-fn copy_run(runs: Runs, bytes: &[u8], text: &mut [u8; 1024]) -> Bulk
+fn copy_run(runs: AsciiRuns, bytes: &[u8], text: &mut [u8; 1024]) -> Bulk
     ensures { IsRunBulk runs bytes.now result text.new }
 {
     if !begins_ascii(bytes) {
@@ -52,7 +52,7 @@ fn begins_ascii(bytes: &[u8]) -> bool {
 
 /// How many bytes of the class there are at the front, as far as the block takes them.
 #[inline(always)]
-fn block_run(runs: Runs, bytes: &[u8]) -> usize
+fn block_run(runs: AsciiRuns, bytes: &[u8]) -> usize
     ensures run { result ≤ run_len runs bytes.now }
     ensures room { result ≤ 1024 }
     ensures within { result ≤ length bytes.now }
@@ -65,13 +65,13 @@ fn block_run(runs: Runs, bytes: &[u8]) -> usize
 
 /// How many bytes of the class there are at the front.
 #[inline(always)]
-fn class_run(runs: Runs, bytes: &[u8]) -> usize
+fn class_run(runs: AsciiRuns, bytes: &[u8]) -> usize
     ensures { result ≡ run_len runs bytes.now }
 {
     match runs {
-        Runs::None => 0,
-        Runs::Ascii => ascii_run(bytes),
-        Runs::WithoutEscapes => plain_run_iso(bytes),
+        AsciiRuns::None => 0,
+        AsciiRuns::All => ascii_run(bytes),
+        AsciiRuns::WithoutEscapes => plain_run_iso(bytes),
     }
 }
 

@@ -7,11 +7,11 @@ ghost use Rattle.decoder_core.specs.Holding.{falls_of, counts_of};
 ghost use Rattle.decoder_core.specs.OneByteLaws.{single_byte_holding};
 ghost use Rattle.decoder_core.specs.SingleByte.{single_byte, single_byte_item};
 
+use crate::ascii_runs::AsciiRuns;
 use crate::forms::{finish, give, scalar};
 use crate::handler::{Handled, Handler};
 use crate::item::Item;
 use crate::one_byte::OneByteState;
-use crate::runs::Runs;
 use index_loader::Index;
 use std::marker::Model;
 
@@ -64,9 +64,9 @@ impl<'i> Handler for SingleByteDecoder<'i> {
     }
 
     #[inline(always)]
-    fn runs(&self, state: OneByteState) -> Runs {
+    fn ascii_runs(&self, state: OneByteState) -> AsciiRuns {
         let _ = state;
-        Runs::Ascii
+        AsciiRuns::All
     }
 
     // In the loop over the bytes.

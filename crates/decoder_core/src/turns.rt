@@ -3,13 +3,13 @@ ghost use Rattle.std.specs.Prelude.{◌≡◌, [], ◌∷◌, IfSome};
 ghost use Rattle.decoder_core.specs.Alone.{alone};
 ghost use Rattle.decoder_core.specs.Queue.{run, feed};
 
+use crate::ascii_runs::AsciiRuns;
 use crate::bulk::Bulk;
 use crate::decoder::{Decoder, Simple, Step};
 use crate::few::Few;
 use crate::handler::{Answer, Handled, Handler};
 use crate::items::Items;
 use crate::run_bulk::run_bulk;
-use crate::runs::Runs;
 
 impl<H: Handler> Decoder for H {
     type State = H::State;
@@ -33,8 +33,8 @@ impl<H: Handler> Decoder for H {
     // In the loop over the bytes.
     #[inline(always)]
     fn bulk(&self, state: H::State, bytes: &[u8], text: &mut [u8; 1024]) -> Bulk {
-        match self.runs(state) {
-            Runs::None => self.take_bulk(state, bytes, text),
+        match self.ascii_runs(state) {
+            AsciiRuns::None => self.take_bulk(state, bytes, text),
             runs => run_bulk(self, state, runs, bytes, text),
         }
     }

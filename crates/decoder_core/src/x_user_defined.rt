@@ -6,10 +6,10 @@ ghost use Rattle.decoder_core.specs.Holding.{falls_of, counts_of};
 ghost use Rattle.decoder_core.specs.OneByteLaws.{x_user_defined_holding};
 ghost use Rattle.decoder_core.specs.XUserDefined.{x_user_defined, x_user_defined_code_point};
 
+use crate::ascii_runs::AsciiRuns;
 use crate::forms::{finish, give_one};
 use crate::handler::{Handled, Handler};
 use crate::one_byte::OneByteState;
-use crate::runs::Runs;
 
 /// The x-user-defined decoder (Encoding Standard, "x-user-defined decoder").
 #[derive(Clone, Copy, PartialEq, Eq, Debug)]
@@ -27,9 +27,9 @@ impl Handler for XUserDefinedDecoder {
     }
 
     #[inline(always)]
-    fn runs(&self, state: OneByteState) -> Runs {
+    fn ascii_runs(&self, state: OneByteState) -> AsciiRuns {
         let _ = state;
-        Runs::Ascii
+        AsciiRuns::All
     }
 
     // In the loop over the bytes.

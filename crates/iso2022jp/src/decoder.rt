@@ -11,7 +11,7 @@ use crate::items::{ascii_item, katakana_item, one_or_error, roman_item};
 use crate::output::{OutputState, escape_to};
 use crate::state::{DecoderState, Iso2022JpState};
 use decoder_core::forms::{finish, give, hold, restore};
-use decoder_core::{Few, Handled, Handler, Item, Runs};
+use decoder_core::{AsciiRuns, Few, Handled, Handler, Item};
 use index_loader::Index;
 use std::marker::Model;
 
@@ -109,10 +109,10 @@ impl<'i> Handler for Iso2022JpDecoder<'i> {
     }
 
     #[inline(always)]
-    fn runs(&self, state: Iso2022JpState) -> Runs {
+    fn ascii_runs(&self, state: Iso2022JpState) -> AsciiRuns {
         match (state.state, state.flag) {
-            (DecoderState::Ready(OutputState::Ascii), false) => Runs::WithoutEscapes,
-            _ => Runs::None,
+            (DecoderState::Ready(OutputState::Ascii), false) => AsciiRuns::WithoutEscapes,
+            _ => AsciiRuns::None,
         }
     }
 

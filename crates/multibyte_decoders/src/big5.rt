@@ -10,7 +10,7 @@ ghost use Rattle.multibyte_decoders.specs.Holdings.{big5_holding};
 use crate::pairs::PairState;
 use crate::turns::{begin, complete, one_of};
 use decoder_core::forms::{finish, give, scalar};
-use decoder_core::{Handled, Handler, Item, Runs};
+use decoder_core::{AsciiRuns, Handled, Handler, Item};
 use index_loader::Index;
 use std::marker::Model;
 
@@ -81,10 +81,10 @@ impl<'i> Handler for Big5Decoder<'i> {
     }
 
     #[inline(always)]
-    fn runs(&self, state: PairState) -> Runs {
+    fn ascii_runs(&self, state: PairState) -> AsciiRuns {
         match state {
-            PairState::Idle => Runs::Ascii,
-            PairState::Lead(_) => Runs::None,
+            PairState::Idle => AsciiRuns::All,
+            PairState::Lead(_) => AsciiRuns::None,
         }
     }
 

@@ -10,7 +10,7 @@ ghost use Rattle.multibyte_decoders.specs.Holdings.{euc_jp_holding};
 
 use crate::turns::{begin, complete, one_of};
 use decoder_core::forms::{finish, give, give_one, hold};
-use decoder_core::{Handled, Handler, Item, Runs};
+use decoder_core::{AsciiRuns, Handled, Handler, Item};
 use enc_names::Scalar;
 use index_loader::Index;
 use std::marker::Model;
@@ -92,10 +92,10 @@ impl<'i> Handler for EucJpDecoder<'i> {
     }
 
     #[inline(always)]
-    fn runs(&self, state: EucJpState) -> Runs {
+    fn ascii_runs(&self, state: EucJpState) -> AsciiRuns {
         match state {
-            EucJpState::Idle => Runs::Ascii,
-            _ => Runs::None,
+            EucJpState::Idle => AsciiRuns::All,
+            _ => AsciiRuns::None,
         }
     }
 

@@ -10,7 +10,7 @@ ghost use Rattle.multibyte_decoders.specs.Holdings.{euc_kr_holding};
 use crate::pairs::PairState;
 use crate::turns::{begin, complete, one_of};
 use decoder_core::forms::{finish, give};
-use decoder_core::{Handled, Handler, Item, Runs};
+use decoder_core::{AsciiRuns, Handled, Handler, Item};
 use enc_names::Scalar;
 use index_loader::Index;
 use std::marker::Model;
@@ -64,10 +64,10 @@ impl<'i> Handler for EucKrDecoder<'i> {
     }
 
     #[inline(always)]
-    fn runs(&self, state: PairState) -> Runs {
+    fn ascii_runs(&self, state: PairState) -> AsciiRuns {
         match state {
-            PairState::Idle => Runs::Ascii,
-            PairState::Lead(_) => Runs::None,
+            PairState::Idle => AsciiRuns::All,
+            PairState::Lead(_) => AsciiRuns::None,
         }
     }
 

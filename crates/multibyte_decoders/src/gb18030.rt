@@ -10,7 +10,7 @@ ghost use Rattle.multibyte_decoders.specs.Holdings.{gb18030_holding};
 
 use crate::turns::{complete, one_of};
 use decoder_core::forms::{finish, give, give_one, hold, restore};
-use decoder_core::{Few, Handled, Handler, Item, Runs};
+use decoder_core::{AsciiRuns, Few, Handled, Handler, Item};
 use enc_names::Scalar;
 use index_loader::Index;
 use std::marker::Model;
@@ -123,10 +123,10 @@ impl<'i> Handler for Gb18030Decoder<'i> {
     }
 
     #[inline(always)]
-    fn runs(&self, state: Gb18030State) -> Runs {
+    fn ascii_runs(&self, state: Gb18030State) -> AsciiRuns {
         match state {
-            Gb18030State::Idle => Runs::Ascii,
-            _ => Runs::None,
+            Gb18030State::Idle => AsciiRuns::All,
+            _ => AsciiRuns::None,
         }
     }
 
