@@ -10,40 +10,57 @@ mod tests;
 mod texts;
 
 use command_line::folder_of;
+use enc_names::Encoding;
 use failure::Failure;
 use index_files::indexes_in;
+use index_loader::Indexes;
 use measure::{Timing, fastest, megabytes_per_second};
-use samples::{SAMPLES, copies, document};
+use samples::{Text, copies, document, samples};
 use std::env;
 use std::process::ExitCode;
 
 /// Prints which samples there are, and how to measure.
 fn list(rt: &HostRuntime) -> Result<(), Failure> {
-    for (encoding, text) in &SAMPLES {
-        let name = encoding.name();
-        let times = copies(text);
-        let bytes = text.len();
-        println!(rt; "{name:<13} {times} times {bytes} bytes")?;
+    for sample in &samples() {
+        let name = sample.encoding.name();
+        for (kind, text) in &sample.texts() {
+            let times = copies(text);
+            let bytes = text.len();
+            println!(rt; "{name:<13} {kind:<9} {times} times {bytes} bytes")?;
+        }
     }
     println!(rt; "'decode_speed --indexes DIR' measures with the index files in DIR.")?;
     Ok(())
 }
 
-/// Prints how fast each sample's document is decoded, and how many errors it has where the index
-/// files don't have all its characters.
+/// Prints how fast each sample's documents are decoded.
 fn measure_all(rt: &HostRuntime, folder: &str) -> Result<(), Failure> {
     let indexes = indexes_in(rt, rt.alloc(), folder)?;
-    for (encoding, text) in &SAMPLES {
-        let name = encoding.name();
-        let bytes = document(rt.alloc(), text)?;
-        match fastest(rt, rt.alloc(), &indexes, *encoding, &bytes)? {
-            Some(Timing { time, errors: 0 }) => {
-                let speed = megabytes_per_second(bytes.len(), time);
-                println!(rt; "{name:<13} {speed:>5} MB/s")?;
-            }
-            Some(Timing { errors, .. }) => println!(rt; "{name:<13} {errors} errors")?,
-            None => println!(rt; "{name:<13} no index")?,
+    for sample in &samples() {
+        for text in &sample.texts() {
+            measure_one(rt, &indexes, sample.encoding, *text)?;
         }
+    }
+    Ok(())
+}
+
+/// Prints how fast a text's document is decoded, and how many errors it has where the index files
+/// don't have all its characters.
+fn measure_one(
+    rt: &HostRuntime,
+    indexes: &Indexes,
+    encoding: Encoding,
+    (kind, text): Text,
+) -> Result<(), Failure> {
+    let name = encoding.name();
+    let bytes = document(rt.alloc(), text)?;
+    match fastest(rt, rt.alloc(), indexes, encoding, &bytes)? {
+        Some(Timing { time, errors: 0 }) => {
+            let speed = megabytes_per_second(bytes.len(), time);
+            println!(rt; "{name:<13} {kind:<9} {speed:>5} MB/s")?;
+        }
+        Some(Timing { errors, .. }) => println!(rt; "{name:<13} {kind:<9} {errors} errors")?,
+        None => println!(rt; "{name:<13} {kind:<9} no index")?,
     }
     Ok(())
 }

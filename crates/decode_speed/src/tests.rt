@@ -1,7 +1,7 @@
 //! The samples, as far as no index file is needed, and the speed.
 
 use crate::measure::megabytes_per_second;
-use crate::texts::{GB18030, GBK, UTF_8, UTF_16LE};
+use crate::texts::ordinary::{GB18030, GBK, UTF_8, UTF_16LE};
 use codec::decode_whole;
 use enc_names::Encoding;
 use index_loader::Indexes;

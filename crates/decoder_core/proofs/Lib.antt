@@ -3,3 +3,9 @@ pub mod Driving
 pub mod Showing
 pub mod Collecting
 pub mod Lifting
+pub mod Moving
+pub mod PlainRuns
+pub mod Turning
+pub mod Utf8Runs
+pub mod ItemWidths
+pub mod Utf16Runs

@@ -1,7 +1,8 @@
 -- What a collector of placed items holds.
-use Rattle.std.specs.Prelude.{ℕ, ◌-◌, List, [], ◌∷◌, ◌++◌, pos, ◌+ℤ◌}
+use Rattle.std.specs.Prelude.{ℕ, ◌-◌, List, [], ◌∷◌, ◌++◌, ℤ, pos, ◌+ℤ◌}
 use Rattle.std.specs.Int.{saturate_unsigned, w64}
 use Rattle.decoder_core.specs.declared.item.Ended.{Ended}
+use Rattle.decoder_core.specs.declared.item.Item.{Item}
 use Rattle.decoder_core.specs.declared.placed.Placed.{Placed}
 use Rattle.decoder_core.specs.Placed.{places}
 use Rattle.decoder_core.specs.Shown.{Shown}
@@ -13,12 +14,15 @@ pub record Collected : Type 0 where
   pub from : ℕ
 
 -- one more item, whose end is counted from the part's start
-abbrev pub collect_one : {S : Type 0} → Collected → Shown S → Collected
-collect_one c shown = record {
-  all = c.all ++ record { item = shown.item; from = c.from; to = saturate_unsigned w64 (pos c.base +ℤ shown.end) } ∷ [];
+abbrev pub collect_item : Collected → Item → ℤ → Collected
+collect_item c item end = record {
+  all = c.all ++ record { item = item; from = c.from; to = saturate_unsigned w64 (pos c.base +ℤ end) } ∷ [];
   base = c.base;
-  from = saturate_unsigned w64 (pos c.base +ℤ shown.end);
+  from = saturate_unsigned w64 (pos c.base +ℤ end);
 }
+
+abbrev pub collect_one : {S : Type 0} → Collected → Shown S → Collected
+collect_one c shown = collect_item c shown.item shown.end
 
 -- where an item behind these begins
 abbrev pub last_end : ℕ → ℕ → List Ended → ℕ

@@ -1,4 +1,6 @@
 pub mod Alone
+pub mod AsciiRuns
+pub mod Bulk
 pub mod ByCases
 pub mod Collected
 pub mod Counts

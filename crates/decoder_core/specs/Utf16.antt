@@ -61,3 +61,8 @@ utf16_end (Some first) surrogate = gives utf16_start Error []
 abbrev pub utf16 : ByteOrder → Table Utf16
 utf16 order s None = utf16_end s.lead_byte s.lead_surrogate
 utf16 order s (Some b) = utf16_byte order s.lead_byte s.lead_surrogate b
+
+-- the units of some bytes; an odd last byte is in none
+abbrev pub units_of : ByteOrder → List ℕ → List ℕ
+units_of order (first ∷ second ∷ rest) = unit_of order first second ∷ units_of order rest
+units_of order rest = []

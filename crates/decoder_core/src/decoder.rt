@@ -1,8 +1,10 @@
 //! Decoders, one byte at a time.
 ghost use Rattle.std.specs.Prelude.{◌≡◌, ℕ, Bool, true, List, [], ◌∷◌, Option, IfSome};
 ghost use Rattle.decoder_core.specs.Alone.{alone};
+ghost use Rattle.decoder_core.specs.Bulk.{IsBulk};
 ghost use Rattle.decoder_core.specs.Queue.{Turn, Falls, run, feed};
 
+use crate::bulk::{Bulk, NO_BULK};
 use crate::item::Item;
 use crate::items::Items;
 
@@ -53,6 +55,17 @@ pub trait Decoder {
     {
         let _ = (state, byte);
         None
+    }
+
+    /// Takes bytes from the front in bulk, where the decoder knows at once that each of their items
+    /// is one code point and that they leave the state as it is, and writes the UTF-8 of the code
+    /// points into the block. It may take fewer bytes than it could, or none.
+    #[inline(always)]
+    fn bulk(&self, state: Self::State, bytes: &[u8], text: &mut [u8; 1024]) -> Bulk
+        ensures { IsBulk (table self.now) state bytes.now result text.new }
+    {
+        let _ = (state, bytes.len(), text.len());
+        NO_BULK
     }
 
     /// Takes the end: the items that are still to come. The state is the one that was given.

@@ -1,9 +1,13 @@
 //! Handlers: one turn of a decoder as the Encoding Standard states it.
 ghost use Rattle.std.specs.Prelude.{◌≡◌, ℕ, Bool, true, Option};
+ghost use Rattle.decoder_core.specs.Bulk.{IsBulk};
+ghost use Rattle.decoder_core.specs.AsciiRuns.{TakesAscii};
 ghost use Rattle.decoder_core.specs.Queue.{Turn, Falls};
 ghost use Rattle.decoder_core.specs.Counts.{Counts};
 ghost use Rattle.decoder_core.specs.Few.{bytes_of};
 
+use crate::ascii_runs::AsciiRuns;
+use crate::bulk::{Bulk, NO_BULK};
 use crate::few::Few;
 use crate::item::Item;
 
@@ -48,6 +52,25 @@ pub trait Handler {
         ensures state { result.state ≡ (table self.now state byte).state }
         ensures answer { result.answer ≡ (table self.now state byte).answer }
         ensures back { bytes_of result.back ≡ (table self.now state byte).back };
+
+    /// The bytes that are their own code points in this state and leave it as it is; the decoder
+    /// takes runs of them in bulk.
+    #[inline(always)]
+    fn ascii_runs(&self, state: Self::State) -> AsciiRuns
+        ensures { TakesAscii (table self.now) state result }
+    {
+        let _ = state;
+        AsciiRuns::None
+    }
+
+    /// Takes bytes in bulk in a state that has no such bytes, as `Decoder::bulk` does.
+    #[inline(always)]
+    fn take_bulk(&self, state: Self::State, bytes: &[u8], text: &mut [u8; 1024]) -> Bulk
+        ensures { IsBulk (table self.now) state bytes.now result text.new }
+    {
+        let _ = (state, bytes.len(), text.len());
+        NO_BULK
+    }
 
     ghost ends: { (d : Self) → Falls (table d) };
 

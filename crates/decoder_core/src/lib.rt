@@ -3,6 +3,8 @@
 //! UTF-16, the single-byte encodings, x-user-defined and replacement.
 #![tactic(auto)]
 
+mod ascii_runs;
+mod bulk;
 mod collector;
 mod counts;
 mod decoder;
@@ -21,15 +23,21 @@ mod parts;
 mod piece;
 mod placed;
 mod replacement;
+mod run_bulk;
 mod single_byte;
 mod sink;
 #[cfg(test)]
 mod tests;
 mod turns;
 mod utf16;
+mod utf16_bulk;
 mod utf8;
+mod utf8_bulk;
+mod widths;
 mod x_user_defined;
 
+pub use ascii_runs::AsciiRuns;
+pub use bulk::{Bulk, NO_BULK, Stride};
 pub use counts::Meter;
 pub use decoder::{Decoder, Simple, Step};
 pub use few::Few;

@@ -1,13 +1,22 @@
 //! Runs over a slice of bytes.
-ghost use Rattle.std.specs.Prelude.{◌≡◌, ℕ, ◌+◌, ◌-◌, ◌^◌, ◌<◌, ◌≤◌, min, length, [], ◌∷◌, fold, IfOk, OnOk, OnErr};
+ghost use Rattle.std.specs.Prelude.{◌≡◌, ℕ, ◌+◌, ◌-◌, ◌^◌, ◌<◌, ◌≤◌, min, length, take, [], ◌∷◌, fold, IfOk, OnOk, OnErr};
 ghost use Rattle.decoder_core.specs.Queue.{feed};
 ghost use Rattle.decoder_core.specs.Shown.{shown_at, shown_from, TookPrefix};
 
+use crate::bulk::Bulk;
 use crate::counts::Meter;
 use crate::decoder::{Decoder, Simple, Step};
 use crate::item::Ended;
 use crate::memory::OutOfMemory;
 use crate::sink::Sink;
+
+/// How many bytes are stepped over at first where none was taken in bulk, before that is tried
+/// again: at each byte it would cost more than it gains.
+const SHORTEST: usize = 16;
+
+/// How many bytes are stepped over at most. Each time that none is taken twice as many are stepped
+/// over, so that text without runs is decoded as fast as without the trials.
+const LONGEST: usize = 256;
 
 /// Steps over the bytes from a state, gives the items to the sink, and answers the state behind
 /// the bytes. The meter counts the bytes.
@@ -26,12 +35,122 @@ pub fn run_piece<D: Decoder, K: Sink<D::State>>(
     ensures meter_most { meter.new ≤ min (meter.old + length bytes.now) (2 ^ 64 - 1) }
 {
     meter.count(bytes.len());
+    let mut block = [0; 1024];
     let mut reached = state;
+    let mut read = 0;
+    let mut stretch = SHORTEST;
     // All that a byte passes through is inlined here: several times as fast.
-    'bytes: for (index, byte) in bytes.iter().enumerate() {
-        reached = step_into(decoder, reached, *byte, index + 1, sink)?;
+    'bytes: while read < bytes.len() {
+        let moved = advance(
+            decoder,
+            reached,
+            &bytes[read..],
+            read,
+            stretch,
+            &mut block,
+            sink,
+        )?;
+        reached = moved.state;
+        read += moved.taken;
+        stretch = moved.stretch;
     }
     Ok(reached)
+}
+
+/// The state behind some bytes, their number, and how many are stepped over where none of the next
+/// is taken in bulk.
+#[derive(Clone, Copy, PartialEq, Eq, Debug)]
+struct Moved<S> {
+    state: S,
+    taken: usize,
+    stretch: usize,
+}
+
+/// Takes what the decoder takes in bulk, or else steps over a stretch of bytes.
+#[inline(always)]
+fn advance<D: Decoder, K: Sink<D::State>>(
+    decoder: &D,
+    state: D::State,
+    rest: &[u8],
+    read: usize,
+    stretch: usize,
+    block: &mut [u8; 1024],
+    sink: &mut K,
+) -> Result<Moved<D::State>, OutOfMemory>
+    requires some { 0 < length rest.now }
+    requires steps { 0 < stretch }
+    requires bound { read + length rest.now < 2 ^ 63 }
+    ensures steps { IfOk result (λ m. 0 < m.stretch) }
+    ensures moved { IfOk result (λ m. (0 < m.taken) × (m.taken ≤ length rest.now)) }
+    ensures state { IfOk result (λ m. m.state ≡ (feed (D.table decoder.now) state (take m.taken rest.now)).state) }
+    ensures items { IfOk result (λ m. K.seen sink.new ≡ fold K.taken (K.seen sink.old) (shown_from (D.table decoder.now) read state (take m.taken rest.now))) }
+    ensures err { OnErr result (TookPrefix K.taken (K.seen sink.old) (shown_from (D.table decoder.now) read state rest.now) (K.seen sink.new)) }
+{
+    let taken = bulk_into(decoder, state, rest, read, block, sink)?;
+    if taken > 0 {
+        return Ok(Moved {
+            state,
+            taken,
+            stretch: SHORTEST,
+        });
+    }
+    let taken = rest.len().min(stretch);
+    let after = step_over(decoder, state, &rest[..taken], read, sink)?;
+    Ok(Moved {
+        state: after,
+        taken,
+        stretch: stretch.saturating_mul(2).min(LONGEST),
+    })
+}
+
+/// Steps over some bytes, which stand behind the first `read`.
+#[inline(always)]
+fn step_over<D: Decoder, K: Sink<D::State>>(
+    decoder: &D,
+    state: D::State,
+    part: &[u8],
+    read: usize,
+    sink: &mut K,
+) -> Result<D::State, OutOfMemory>
+    requires { read + length part.now < 2 ^ 63 }
+    ensures state { IfOk result (λ after. after ≡ (feed (D.table decoder.now) state part.now).state) }
+    ensures items { OnOk result (K.seen sink.new ≡ fold K.taken (K.seen sink.old) (shown_from (D.table decoder.now) read state part.now)) }
+    ensures err { OnErr result (TookPrefix K.taken (K.seen sink.old) (shown_from (D.table decoder.now) read state part.now) (K.seen sink.new)) }
+{
+    let mut reached = state;
+    // All that a byte passes through is inlined here: several times as fast.
+    'bytes: for (index, byte) in part.iter().enumerate() {
+        reached = step_into(decoder, reached, *byte, read + index + 1, sink)?;
+    }
+    Ok(reached)
+}
+
+/// Gives the sink what the decoder takes in bulk, and returns the number of bytes taken.
+#[inline(always)]
+fn bulk_into<D: Decoder, K: Sink<D::State>>(
+    decoder: &D,
+    state: D::State,
+    rest: &[u8],
+    read: usize,
+    block: &mut [u8; 1024],
+    sink: &mut K,
+) -> Result<usize, OutOfMemory>
+    requires { read + length rest.now < 2 ^ 63 }
+    ensures within { IfOk result (λ taken. taken ≤ length rest.now) }
+    ensures state { IfOk result (λ taken. (feed (D.table decoder.now) state (take taken rest.now)).state ≡ state) }
+    ensures items { IfOk result (λ taken. K.seen sink.new ≡ fold K.taken (K.seen sink.old) (shown_from (D.table decoder.now) read state (take taken rest.now))) }
+    ensures err { OnErr result (TookPrefix K.taken (K.seen sink.old) (shown_from (D.table decoder.now) read state rest.now) (K.seen sink.new)) }
+{
+    let Bulk {
+        taken,
+        written,
+        stride,
+    } = decoder.bulk(state, rest, block);
+    if taken > 0 {
+        let text = unsafe { str::from_utf8_unchecked(&block[..written]) };
+        sink.plain(text, (read + taken) as i64, stride, state)?;
+    }
+    Ok(taken)
 }
 
 /// Takes byte number `read`, from 1 on, and gives the step's items to the sink.

@@ -7,6 +7,7 @@ ghost use Rattle.decoder_core.specs.Holding.{falls_of, counts_of};
 ghost use Rattle.decoder_core.specs.OneByteLaws.{single_byte_holding};
 ghost use Rattle.decoder_core.specs.SingleByte.{single_byte, single_byte_item};
 
+use crate::ascii_runs::AsciiRuns;
 use crate::forms::{finish, give, scalar};
 use crate::handler::{Handled, Handler};
 use crate::item::Item;
@@ -60,6 +61,12 @@ impl<'i> Handler for SingleByteDecoder<'i> {
 
     fn start_state(&self) -> OneByteState {
         OneByteState::Idle
+    }
+
+    #[inline(always)]
+    fn ascii_runs(&self, state: OneByteState) -> AsciiRuns {
+        let _ = state;
+        AsciiRuns::All
     }
 
     // In the loop over the bytes.

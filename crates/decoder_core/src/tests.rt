@@ -7,6 +7,7 @@ ghost use Rattle.decoder_core.specs.Placed.{places};
 ghost use Rattle.decoder_core.specs.Text.{code_points, error_places};
 ghost use Rattle.decoder_core.specs.Utf8.{utf8, utf8_start};
 
+use crate::bulk::Stride;
 use crate::counts::Meter;
 use crate::decoder::Decoder;
 use crate::item::{Ended, Item};
@@ -22,6 +23,7 @@ use crate::utf8::Utf8Decoder;
 use enc_names::Scalar;
 use std::alloc::{AllocError, Global};
 
+mod bulk;
 mod one_byte;
 mod utf16;
 
@@ -280,6 +282,16 @@ impl<S: Copy> Sink<S> for Bounded {
         self.room -= 1;
         self.ends[3 - self.room as usize % 4] = end;
         Ok(())
+    }
+
+    fn plain(
+        &mut self,
+        _text: &str,
+        end: i64,
+        _stride: Stride,
+        after: S,
+    ) -> Result<(), OutOfMemory> {
+        self.item(Item::Error, end, after)
     }
 }
 

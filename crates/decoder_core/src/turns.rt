@@ -3,10 +3,13 @@ ghost use Rattle.std.specs.Prelude.{◌≡◌, [], ◌∷◌, IfSome};
 ghost use Rattle.decoder_core.specs.Alone.{alone};
 ghost use Rattle.decoder_core.specs.Queue.{run, feed};
 
+use crate::ascii_runs::AsciiRuns;
+use crate::bulk::Bulk;
 use crate::decoder::{Decoder, Simple, Step};
 use crate::few::Few;
 use crate::handler::{Answer, Handled, Handler};
 use crate::items::Items;
+use crate::run_bulk::run_bulk;
 
 impl<H: Handler> Decoder for H {
     type State = H::State;
@@ -25,6 +28,15 @@ impl<H: Handler> Decoder for H {
 
     fn simple_step(&self, state: H::State, byte: u8) -> Option<Simple<H::State>> {
         simple_by(self, state, byte)
+    }
+
+    // In the loop over the bytes.
+    #[inline(always)]
+    fn bulk(&self, state: H::State, bytes: &[u8], text: &mut [u8; 1024]) -> Bulk {
+        match self.ascii_runs(state) {
+            AsciiRuns::None => self.take_bulk(state, bytes, text),
+            runs => run_bulk(self, state, runs, bytes, text),
+        }
     }
 
     fn finish(&self, state: H::State) -> Step<H::State> {

@@ -6,10 +6,12 @@ ghost use Rattle.decoder_core.specs.Holding.{falls_of, counts_of};
 ghost use Rattle.decoder_core.specs.Utf16.{utf16, utf16_start, utf16_single, utf16_second, unit_of};
 ghost use Rattle.decoder_core.specs.Utf16Laws.{utf16_holding};
 
+use crate::bulk::{Bulk, NO_BULK};
 use crate::few::Few;
 use crate::forms::{finish, give, give_one, hold, restore};
 use crate::handler::{Handled, Handler};
 use crate::item::Item;
+use crate::utf16_bulk::utf16_bulk;
 use std::marker::Model;
 
 /// Which byte of a 16-bit unit comes first.
@@ -70,6 +72,15 @@ impl Handler for Utf16Decoder {
 
     fn start_state(&self) -> Utf16State {
         Utf16State::idle()
+    }
+
+    #[inline(always)]
+    fn take_bulk(&self, state: Utf16State, bytes: &[u8], text: &mut [u8; 1024]) -> Bulk {
+        if state == Utf16State::idle() {
+            utf16_bulk(self.order, bytes, text)
+        } else {
+            NO_BULK
+        }
     }
 
     // In the loop over the bytes.

@@ -6,10 +6,12 @@ ghost use Rattle.decoder_core.specs.Few.{bytes_of};
 ghost use Rattle.decoder_core.specs.Utf8Laws.{utf8_falls, utf8_counts};
 ghost use Rattle.std.proofs.Common.{rules};
 
+use crate::bulk::{Bulk, NO_BULK};
 use crate::few::Few;
 use crate::forms::{finish, give, give_one, hold, restore};
 use crate::handler::{Handled, Handler};
 use crate::item::Item;
+use crate::utf8_bulk::utf8_bulk;
 use std::marker::Model;
 
 /// Where the UTF-8 decoder stands between two bytes. Contracts see the Standard's five values.
@@ -63,6 +65,15 @@ impl Handler for Utf8Decoder {
 
     fn start_state(&self) -> Utf8State {
         Utf8State::idle()
+    }
+
+    #[inline(always)]
+    fn take_bulk(&self, state: Utf8State, bytes: &[u8], text: &mut [u8; 1024]) -> Bulk {
+        if state == Utf8State::idle() {
+            utf8_bulk(bytes, text)
+        } else {
+            NO_BULK
+        }
     }
 
     // In the loop over the bytes.

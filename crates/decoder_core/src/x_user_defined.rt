@@ -6,6 +6,7 @@ ghost use Rattle.decoder_core.specs.Holding.{falls_of, counts_of};
 ghost use Rattle.decoder_core.specs.OneByteLaws.{x_user_defined_holding};
 ghost use Rattle.decoder_core.specs.XUserDefined.{x_user_defined, x_user_defined_code_point};
 
+use crate::ascii_runs::AsciiRuns;
 use crate::forms::{finish, give_one};
 use crate::handler::{Handled, Handler};
 use crate::one_byte::OneByteState;
@@ -23,6 +24,12 @@ impl Handler for XUserDefinedDecoder {
 
     fn start_state(&self) -> OneByteState {
         OneByteState::Idle
+    }
+
+    #[inline(always)]
+    fn ascii_runs(&self, state: OneByteState) -> AsciiRuns {
+        let _ = state;
+        AsciiRuns::All
     }
 
     // In the loop over the bytes.

@@ -11,7 +11,7 @@ use crate::items::{ascii_item, katakana_item, one_or_error, roman_item};
 use crate::output::{OutputState, escape_to};
 use crate::state::{DecoderState, Iso2022JpState};
 use decoder_core::forms::{finish, give, hold, restore};
-use decoder_core::{Few, Handled, Handler, Item};
+use decoder_core::{AsciiRuns, Few, Handled, Handler, Item};
 use index_loader::Index;
 use std::marker::Model;
 
@@ -106,6 +106,14 @@ impl<'i> Handler for Iso2022JpDecoder<'i> {
 
     fn start_state(&self) -> Iso2022JpState {
         Iso2022JpState::start()
+    }
+
+    #[inline(always)]
+    fn ascii_runs(&self, state: Iso2022JpState) -> AsciiRuns {
+        match (state.state, state.flag) {
+            (DecoderState::Ready(OutputState::Ascii), false) => AsciiRuns::WithoutEscapes,
+            _ => AsciiRuns::None,
+        }
     }
 
     // In the loop over the bytes.

@@ -328,3 +328,32 @@ fn output_state(rt: HostRuntime) -> Result<(), Fail> {
     assert_eq!(rt; escaped.output(), OutputState::Jis0208);
     Ok(())
 }
+
+/// How many bytes of a line the decoder takes once it read some bytes.
+fn taken_behind(alloc: Global, bytes: &[u8]) -> Result<usize, Fail> {
+    let jis0208 = Index::parse(alloc, IndexKind::Jis0208, JIS0208)?;
+    let decoder = Iso2022JpDecoder::new(&jis0208);
+    let mut state = decoder.start();
+    for byte in bytes {
+        state = decoder.step(state, *byte).state;
+    }
+    let mut block = [0; 1024];
+    let line = b"of twenty-six letters each\x1B$B";
+    Ok(decoder.bulk(state, line, &mut block).taken)
+}
+
+#[test]
+fn bulk_in_the_state_ascii_alone(rt: HostRuntime) -> Result<(), Fail> {
+    let alloc = rt.alloc();
+    assert_eq!(rt; taken_behind(alloc, &[])?, 26);
+    assert_eq!(rt; taken_behind(alloc, b"a")?, 26);
+    // The flag is true right behind an escape.
+    assert_eq!(rt; taken_behind(alloc, b"\x1B(B")?, 0);
+    assert_eq!(rt; taken_behind(alloc, b"\x1B(Ba")?, 26);
+    assert_eq!(rt; taken_behind(alloc, b"\x1B(Ja")?, 0);
+    assert_eq!(rt; taken_behind(alloc, b"\x1B(I1")?, 0);
+    assert_eq!(rt; taken_behind(alloc, b"\x1B$B$\x22")?, 0);
+    assert_eq!(rt; taken_behind(alloc, b"\x1B$B$")?, 0);
+    assert_eq!(rt; taken_behind(alloc, b"\x1B")?, 0);
+    Ok(())
+}

@@ -10,7 +10,7 @@ ghost use Rattle.multibyte_decoders.specs.Holdings.{big5_holding};
 use crate::pairs::PairState;
 use crate::turns::{begin, complete, one_of};
 use decoder_core::forms::{finish, give, scalar};
-use decoder_core::{Handled, Handler, Item};
+use decoder_core::{AsciiRuns, Handled, Handler, Item};
 use index_loader::Index;
 use std::marker::Model;
 
@@ -78,6 +78,14 @@ impl<'i> Handler for Big5Decoder<'i> {
 
     fn start_state(&self) -> PairState {
         PairState::Idle
+    }
+
+    #[inline(always)]
+    fn ascii_runs(&self, state: PairState) -> AsciiRuns {
+        match state {
+            PairState::Idle => AsciiRuns::All,
+            PairState::Lead(_) => AsciiRuns::None,
+        }
     }
 
     // In the loop over the bytes.

@@ -10,7 +10,7 @@ ghost use Rattle.multibyte_decoders.specs.Holdings.{euc_jp_holding};
 
 use crate::turns::{begin, complete, one_of};
 use decoder_core::forms::{finish, give, give_one, hold};
-use decoder_core::{Handled, Handler, Item};
+use decoder_core::{AsciiRuns, Handled, Handler, Item};
 use enc_names::Scalar;
 use index_loader::Index;
 use std::marker::Model;
@@ -89,6 +89,14 @@ impl<'i> Handler for EucJpDecoder<'i> {
 
     fn start_state(&self) -> EucJpState {
         EucJpState::Idle
+    }
+
+    #[inline(always)]
+    fn ascii_runs(&self, state: EucJpState) -> AsciiRuns {
+        match state {
+            EucJpState::Idle => AsciiRuns::All,
+            _ => AsciiRuns::None,
+        }
     }
 
     // In the loop over the bytes.

@@ -10,7 +10,7 @@ ghost use Rattle.multibyte_decoders.specs.Holdings.{euc_kr_holding};
 use crate::pairs::PairState;
 use crate::turns::{begin, complete, one_of};
 use decoder_core::forms::{finish, give};
-use decoder_core::{Handled, Handler, Item};
+use decoder_core::{AsciiRuns, Handled, Handler, Item};
 use enc_names::Scalar;
 use index_loader::Index;
 use std::marker::Model;
@@ -61,6 +61,14 @@ impl<'i> Handler for EucKrDecoder<'i> {
 
     fn start_state(&self) -> PairState {
         PairState::Idle
+    }
+
+    #[inline(always)]
+    fn ascii_runs(&self, state: PairState) -> AsciiRuns {
+        match state {
+            PairState::Idle => AsciiRuns::All,
+            PairState::Lead(_) => AsciiRuns::None,
+        }
     }
 
     // In the loop over the bytes.

@@ -10,7 +10,7 @@ ghost use Rattle.multibyte_decoders.specs.Holdings.{gb18030_holding};
 
 use crate::turns::{complete, one_of};
 use decoder_core::forms::{finish, give, give_one, hold, restore};
-use decoder_core::{Few, Handled, Handler, Item};
+use decoder_core::{AsciiRuns, Few, Handled, Handler, Item};
 use enc_names::Scalar;
 use index_loader::Index;
 use std::marker::Model;
@@ -120,6 +120,14 @@ impl<'i> Handler for Gb18030Decoder<'i> {
 
     fn start_state(&self) -> Gb18030State {
         Gb18030State::Idle
+    }
+
+    #[inline(always)]
+    fn ascii_runs(&self, state: Gb18030State) -> AsciiRuns {
+        match state {
+            Gb18030State::Idle => AsciiRuns::All,
+            _ => AsciiRuns::None,
+        }
     }
 
     // In the loop over the bytes.

@@ -9,6 +9,8 @@ use std::alloc::Global;
 use std::process::Abort;
 use std::test::Fail;
 
+mod bulk;
+
 const JIS0208: &[u8] = b"283\t0x3042\n1410\t0x4E9C\n";
 
 const JIS0212: &[u8] = b"108\t0x02D8\n";

@@ -1,0 +1,159 @@
+//! Mostly ASCII: a library's page of news in HTML, with short words in each language.
+
+/// The page in Japanese.
+pub const UTF_8: &[u8] = b"\
+    <!DOCTYPE html>\n<html lang=\"ja\"><head><meta charset=\"utf-8\"><title>\xe5\x9b\xb3\xe6\x9b\
+    \xb8\xe9\xa4\xa8\xe3\x81\xa0\xe3\x82\x88\xe3\x82\x8a</title></head>\n<body><ul class=\"menu\"><\
+    li><a href=\"/library/index.html\">\xe6\xa1\x88\xe5\x86\x85</a></li><li><a href=\"/library/sear\
+    ch.html\">\xe6\x9c\xac\xe3\x82\x92\xe6\x8e\xa2\xe3\x81\x99</a></li></ul>\n<h1 id=\"news\">\xe6\
+    \x96\xb0\xe3\x81\x97\xe3\x81\x84\xe5\x9b\xb3\xe6\x9b\xb8\xe9\xa4\xa8</h1>\n<p class=\"lead\">\
+    \xe9\xa7\x85\xe3\x81\x8b\xe3\x82\x89<b>5\xe5\x88\x86</b>\xe3\x81\xae\xe3\x81\xa8\xe3\x81\x93\
+    \xe3\x82\x8d\xe3\x81\xab<a href=\"https://www.example.jp/map?zoom=15\">\xe9\x96\x8b\xe9\xa4\xa8\
+    </a>\xe3\x81\x97\xe3\x81\xbe\xe3\x81\x99\xe3\x80\x82</p>\n<table class=\"hours\"><tr><td>\xe6\
+    \x9c\x88\xe6\x9b\x9c\xe6\x97\xa5</td><td align=\"right\">10:00-18:00</td></tr><tr><td>\xe5\x9c\
+    \x9f\xe6\x9b\x9c\xe6\x97\xa5</td><td align=\"right\">10:00-20:00</td></tr></table>\n<img src=\"\
+    /images/reading-room.png\" alt=\"\xe9\x96\xb2\xe8\xa6\xa7\xe5\xae\xa4\" width=\"320\" height=\"\
+    240\"><div class=\"footer\">\xe3\x81\x8a\xe5\x95\x8f\xe3\x81\x84\xe5\x90\x88\xe3\x82\x8f\xe3\
+    \x81\x9b: library@example.jp</div>\n</body></html>\n";
+
+/// The page in Japanese.
+pub const UTF_16LE: &[u8] = b"\
+    <\x00!\x00D\x00O\x00C\x00T\x00Y\x00P\x00E\x00 \x00h\x00t\x00m\x00l\x00>\x00\n\x00<\x00h\x00t\
+    \x00m\x00l\x00 \x00l\x00a\x00n\x00g\x00=\x00\"\x00j\x00a\x00\"\x00>\x00<\x00h\x00e\x00a\x00d\
+    \x00>\x00<\x00m\x00e\x00t\x00a\x00 \x00c\x00h\x00a\x00r\x00s\x00e\x00t\x00=\x00\"\x00u\x00t\x00\
+    f\x00-\x008\x00\"\x00>\x00<\x00t\x00i\x00t\x00l\x00e\x00>\x00\xf3V\xf8f(\x99`0\x880\x8a0<\x00/\
+    \x00t\x00i\x00t\x00l\x00e\x00>\x00<\x00/\x00h\x00e\x00a\x00d\x00>\x00\n\x00<\x00b\x00o\x00d\x00\
+    y\x00>\x00<\x00u\x00l\x00 \x00c\x00l\x00a\x00s\x00s\x00=\x00\"\x00m\x00e\x00n\x00u\x00\"\x00>\
+    \x00<\x00l\x00i\x00>\x00<\x00a\x00 \x00h\x00r\x00e\x00f\x00=\x00\"\x00/\x00l\x00i\x00b\x00r\x00\
+    a\x00r\x00y\x00/\x00i\x00n\x00d\x00e\x00x\x00.\x00h\x00t\x00m\x00l\x00\"\x00>\x00Hh\x85Q<\x00/\
+    \x00a\x00>\x00<\x00/\x00l\x00i\x00>\x00<\x00l\x00i\x00>\x00<\x00a\x00 \x00h\x00r\x00e\x00f\x00=\
+    \x00\"\x00/\x00l\x00i\x00b\x00r\x00a\x00r\x00y\x00/\x00s\x00e\x00a\x00r\x00c\x00h\x00.\x00h\x00\
+    t\x00m\x00l\x00\"\x00>\x00,g\x920\xa2cY0<\x00/\x00a\x00>\x00<\x00/\x00l\x00i\x00>\x00<\x00/\x00\
+    u\x00l\x00>\x00\n\x00<\x00h\x001\x00 \x00i\x00d\x00=\x00\"\x00n\x00e\x00w\x00s\x00\"\x00>\x00\
+    \xb0eW0D0\xf3V\xf8f(\x99<\x00/\x00h\x001\x00>\x00\n\x00<\x00p\x00 \x00c\x00l\x00a\x00s\x00s\x00\
+    =\x00\"\x00l\x00e\x00a\x00d\x00\"\x00>\x00\xc5\x99K0\x890<\x00b\x00>\x005\x00\x06R<\x00/\x00b\
+    \x00>\x00n0h0S0\x8d0k0<\x00a\x00 \x00h\x00r\x00e\x00f\x00=\x00\"\x00h\x00t\x00t\x00p\x00s\x00:\
+    \x00/\x00/\x00w\x00w\x00w\x00.\x00e\x00x\x00a\x00m\x00p\x00l\x00e\x00.\x00j\x00p\x00/\x00m\x00a\
+    \x00p\x00?\x00z\x00o\x00o\x00m\x00=\x001\x005\x00\"\x00>\x00\x8b\x95(\x99<\x00/\x00a\x00>\x00W0\
+    ~0Y0\x020<\x00/\x00p\x00>\x00\n\x00<\x00t\x00a\x00b\x00l\x00e\x00 \x00c\x00l\x00a\x00s\x00s\x00\
+    =\x00\"\x00h\x00o\x00u\x00r\x00s\x00\"\x00>\x00<\x00t\x00r\x00>\x00<\x00t\x00d\x00>\x00\x08g\
+    \xdcf\xe5e<\x00/\x00t\x00d\x00>\x00<\x00t\x00d\x00 \x00a\x00l\x00i\x00g\x00n\x00=\x00\"\x00r\
+    \x00i\x00g\x00h\x00t\x00\"\x00>\x001\x000\x00:\x000\x000\x00-\x001\x008\x00:\x000\x000\x00<\x00\
+    /\x00t\x00d\x00>\x00<\x00/\x00t\x00r\x00>\x00<\x00t\x00r\x00>\x00<\x00t\x00d\x00>\x00\x1fW\xdcf\
+    \xe5e<\x00/\x00t\x00d\x00>\x00<\x00t\x00d\x00 \x00a\x00l\x00i\x00g\x00n\x00=\x00\"\x00r\x00i\
+    \x00g\x00h\x00t\x00\"\x00>\x001\x000\x00:\x000\x000\x00-\x002\x000\x00:\x000\x000\x00<\x00/\x00\
+    t\x00d\x00>\x00<\x00/\x00t\x00r\x00>\x00<\x00/\x00t\x00a\x00b\x00l\x00e\x00>\x00\n\x00<\x00i\
+    \x00m\x00g\x00 \x00s\x00r\x00c\x00=\x00\"\x00/\x00i\x00m\x00a\x00g\x00e\x00s\x00/\x00r\x00e\x00\
+    a\x00d\x00i\x00n\x00g\x00-\x00r\x00o\x00o\x00m\x00.\x00p\x00n\x00g\x00\"\x00 \x00a\x00l\x00t\
+    \x00=\x00\"\x00\xb2\x95\xa7\x89\xa4[\"\x00 \x00w\x00i\x00d\x00t\x00h\x00=\x00\"\x003\x002\x000\
+    \x00\"\x00 \x00h\x00e\x00i\x00g\x00h\x00t\x00=\x00\"\x002\x004\x000\x00\"\x00>\x00<\x00d\x00i\
+    \x00v\x00 \x00c\x00l\x00a\x00s\x00s\x00=\x00\"\x00f\x00o\x00o\x00t\x00e\x00r\x00\"\x00>\x00J0OU\
+    D0\x08T\x8f0[0:\x00 \x00l\x00i\x00b\x00r\x00a\x00r\x00y\x00@\x00e\x00x\x00a\x00m\x00p\x00l\x00e\
+    \x00.\x00j\x00p\x00<\x00/\x00d\x00i\x00v\x00>\x00\n\x00<\x00/\x00b\x00o\x00d\x00y\x00>\x00<\x00\
+    /\x00h\x00t\x00m\x00l\x00>\x00\n\x00";
+
+/// The page in Russian.
+pub const WINDOWS_1251: &[u8] = b"\
+    <!DOCTYPE html>\n<html lang=\"ru\"><head><meta charset=\"utf-8\"><title>\xc2\xe5\xf1\xf2\xe8 \
+    \xe1\xe8\xe1\xeb\xe8\xee\xf2\xe5\xea\xe8</title></head>\n<body><ul class=\"menu\"><li><a href=\
+    \"/library/index.html\">\xce \xed\xe0\xf1</a></li><li><a href=\"/library/search.html\">\xcf\xee\
+    \xe8\xf1\xea</a></li></ul>\n<h1 id=\"news\">\xcd\xee\xe2\xe0\xff \xe1\xe8\xe1\xeb\xe8\xee\xf2\
+    \xe5\xea\xe0</h1>\n<p class=\"lead\">\xce\xed\xe0 <a href=\"https://www.example.ru/map?zoom=15\
+    \">\xee\xf2\xea\xf0\xee\xe5\xf2\xf1\xff</a> \xe2 <b>5</b> \xec\xe8\xed\xf3\xf2\xe0\xf5 \xee\xf2\
+    \x20\xe2\xee\xea\xe7\xe0\xeb\xe0.</p>\n<table class=\"hours\"><tr><td>\xef\xee\xed\xe5\xe4\xe5\
+    \xeb\xfc\xed\xe8\xea</td><td align=\"right\">10:00-18:00</td></tr><tr><td>\xf1\xf3\xe1\xe1\xee\
+    \xf2\xe0</td><td align=\"right\">10:00-20:00</td></tr></table>\n<img src=\"/images/reading-room\
+    .png\" alt=\"\xd7\xe8\xf2\xe0\xeb\xfc\xed\xfb\xe9 \xe7\xe0\xeb\" width=\"320\" height=\"240\"><\
+    div class=\"footer\">\xcf\xee\xf7\xf2\xe0: library@example.ru</div>\n</body></html>\n";
+
+/// The page in Japanese.
+pub const SHIFT_JIS: &[u8] = b"\
+    <!DOCTYPE html>\n<html lang=\"ja\"><head><meta charset=\"utf-8\"><title>\x90}\x8f\x91\x8a\xd9\
+    \x82\xbe\x82\xe6\x82\xe8</title></head>\n<body><ul class=\"menu\"><li><a href=\"/library/index.\
+    html\">\x88\xc4\x93\xe0</a></li><li><a href=\"/library/search.html\">\x96{\x82\xf0\x92T\x82\xb7\
+    </a></li></ul>\n<h1 id=\"news\">\x90V\x82\xb5\x82\xa2\x90}\x8f\x91\x8a\xd9</h1>\n<p class=\"lea\
+    d\">\x89w\x82\xa9\x82\xe7<b>5\x95\xaa</b>\x82\xcc\x82\xc6\x82\xb1\x82\xeb\x82\xc9<a href=\"http\
+    s://www.example.jp/map?zoom=15\">\x8aJ\x8a\xd9</a>\x82\xb5\x82\xdc\x82\xb7\x81B</p>\n<table cla\
+    ss=\"hours\"><tr><td>\x8c\x8e\x97j\x93\xfa</td><td align=\"right\">10:00-18:00</td></tr><tr><td\
+    >\x93y\x97j\x93\xfa</td><td align=\"right\">10:00-20:00</td></tr></table>\n<img src=\"/images/r\
+    eading-room.png\" alt=\"\x89{\x97\x97\x8e\xba\" width=\"320\" height=\"240\"><div class=\"foote\
+    r\">\x82\xa8\x96\xe2\x82\xa2\x8d\x87\x82\xed\x82\xb9: library@example.jp</div>\n</body></html>\
+    \n";
+
+/// The page in Japanese.
+pub const EUC_JP: &[u8] = b"\
+    <!DOCTYPE html>\n<html lang=\"ja\"><head><meta charset=\"utf-8\"><title>\xbf\xde\xbd\xf1\xb4\
+    \xdb\xa4\xc0\xa4\xe8\xa4\xea</title></head>\n<body><ul class=\"menu\"><li><a href=\"/library/in\
+    dex.html\">\xb0\xc6\xc6\xe2</a></li><li><a href=\"/library/search.html\">\xcb\xdc\xa4\xf2\xc3\
+    \xb5\xa4\xb9</a></li></ul>\n<h1 id=\"news\">\xbf\xb7\xa4\xb7\xa4\xa4\xbf\xde\xbd\xf1\xb4\xdb</h\
+    1>\n<p class=\"lead\">\xb1\xd8\xa4\xab\xa4\xe9<b>5\xca\xac</b>\xa4\xce\xa4\xc8\xa4\xb3\xa4\xed\
+    \xa4\xcb<a href=\"https://www.example.jp/map?zoom=15\">\xb3\xab\xb4\xdb</a>\xa4\xb7\xa4\xde\xa4\
+    \xb9\xa1\xa3</p>\n<table class=\"hours\"><tr><td>\xb7\xee\xcd\xcb\xc6\xfc</td><td align=\"right\
+    \">10:00-18:00</td></tr><tr><td>\xc5\xda\xcd\xcb\xc6\xfc</td><td align=\"right\">10:00-20:00</t\
+    d></tr></table>\n<img src=\"/images/reading-room.png\" alt=\"\xb1\xdc\xcd\xf7\xbc\xbc\" width=\
+    \"320\" height=\"240\"><div class=\"footer\">\xa4\xaa\xcc\xe4\xa4\xa4\xb9\xe7\xa4\xef\xa4\xbb: \
+    library@example.jp</div>\n</body></html>\n";
+
+/// The page in Japanese.
+pub const ISO_2022_JP: &[u8] = b"\
+    <!DOCTYPE html>\n<html lang=\"ja\"><head><meta charset=\"utf-8\"><title>\x1b$B?^=q4[$@$h$j\x1b(\
+    B</title></head>\n<body><ul class=\"menu\"><li><a href=\"/library/index.html\">\x1b$B0FFb\x1b(B\
+    </a></li><li><a href=\"/library/search.html\">\x1b$BK\\$rC5$9\x1b(B</a></li></ul>\n<h1 id=\"new\
+    s\">\x1b$B?7$7$$?^=q4[\x1b(B</h1>\n<p class=\"lead\">\x1b$B1X$+$i\x1b(B<b>5\x1b$BJ,\x1b(B</b>\
+    \x1b$B$N$H$3$m$K\x1b(B<a href=\"https://www.example.jp/map?zoom=15\">\x1b$B3+4[\x1b(B</a>\x1b$B\
+    $7$^$9!#\x1b(B</p>\n<table class=\"hours\"><tr><td>\x1b$B7nMKF|\x1b(B</td><td align=\"right\">1\
+    0:00-18:00</td></tr><tr><td>\x1b$BEZMKF|\x1b(B</td><td align=\"right\">10:00-20:00</td></tr></t\
+    able>\n<img src=\"/images/reading-room.png\" alt=\"\x1b$B1\\Mw<<\x1b(B\" width=\"320\" height=\
+    \"240\"><div class=\"footer\">\x1b$B$*Ld$$9g$o$;\x1b(B: library@example.jp</div>\n</body></html\
+    >\n";
+
+/// The page in Korean.
+pub const EUC_KR: &[u8] = b"\
+    <!DOCTYPE html>\n<html lang=\"ko\"><head><meta charset=\"utf-8\"><title>\xb5\xb5\xbc\xad\xb0\
+    \xfc \xbc\xd2\xbd\xc4</title></head>\n<body><ul class=\"menu\"><li><a href=\"/library/index.htm\
+    l\">\xbe\xc8\xb3\xbb</a></li><li><a href=\"/library/search.html\">\xc3\xa5 \xc3\xa3\xb1\xe2</a>\
+    </li></ul>\n<h1 id=\"news\">\xbb\xf5 \xb5\xb5\xbc\xad\xb0\xfc</h1>\n<p class=\"lead\">\xbf\xaa\
+    \xbf\xa1\xbc\xad <b>5\xba\xd0</b> \xb0\xc5\xb8\xae\xbf\xa1 <a href=\"https://www.example.kr/map\
+    ?zoom=15\">\xb9\xae\xc0\xbb \xbf\xb1\xb4\xcf\xb4\xd9</a>.</p>\n<table class=\"hours\"><tr><td>\
+    \xbf\xf9\xbf\xe4\xc0\xcf</td><td align=\"right\">10:00-18:00</td></tr><tr><td>\xc5\xe4\xbf\xe4\
+    \xc0\xcf</td><td align=\"right\">10:00-20:00</td></tr></table>\n<img src=\"/images/reading-room\
+    .png\" alt=\"\xbf\xad\xb6\xf7\xbd\xc7\" width=\"320\" height=\"240\"><div class=\"footer\">\xb9\
+    \xae\xc0\xc7: library@example.kr</div>\n</body></html>\n";
+
+/// The page in Chinese of Taiwan.
+pub const BIG5: &[u8] = b"\
+    <!DOCTYPE html>\n<html lang=\"zh-TW\"><head><meta charset=\"utf-8\"><title>\xb9\xcf\xae\xd1\xc0\
+    ]\xb3q\xb0T</title></head>\n<body><ul class=\"menu\"><li><a href=\"/library/index.html\">\xc2\
+    \xb2\xa4\xb6</a></li><li><a href=\"/library/search.html\">\xacd\xae\xd1</a></li></ul>\n<h1 id=\
+    \"news\">\xb7s\xb9\xcf\xae\xd1\xc0]</h1>\n<p class=\"lead\">\xc2\xf7\xa8\xae\xaf\xb8<b>5\xa4\
+    \xc0\xc4\xc1</b>\xaa\xba\xa6a\xa4\xe8<a href=\"https://www.example.tw/map?zoom=15\">\xb6}\xc0]<\
+    /a>\xa1C</p>\n<table class=\"hours\"><tr><td>\xacP\xb4\xc1\xa4@</td><td align=\"right\">10:00-1\
+    8:00</td></tr><tr><td>\xacP\xb4\xc1\xa4\xbb</td><td align=\"right\">10:00-20:00</td></tr></tabl\
+    e>\n<img src=\"/images/reading-room.png\" alt=\"\xbe\\\xc4\xfd\xab\xc7\" width=\"320\" height=\
+    \"240\"><div class=\"footer\">\xc1p\xb5\xb8: library@example.tw</div>\n</body></html>\n";
+
+/// The page in Chinese of the mainland.
+pub const GB18030: &[u8] = b"\
+    <!DOCTYPE html>\n<html lang=\"zh-CN\"><head><meta charset=\"utf-8\"><title>\xcd\xbc\xca\xe9\xb9\
+    \xdd\xcd\xa8\xd1\xb6</title></head>\n<body><ul class=\"menu\"><li><a href=\"/library/index.html\
+    \">\xbc\xf2\xbd\xe9</a></li><li><a href=\"/library/search.html\">\xb2\xe9\xca\xe9</a></li></ul>\
+    \n<h1 id=\"news\">\xd0\xc2\xcd\xbc\xca\xe9\xb9\xdd</h1>\n<p class=\"lead\">\xc0\xeb\xb3\xb5\xd5\
+    \xbe<b>5\xb7\xd6\xd6\xd3</b>\xb5\xc4\xb5\xd8\xb7\xbd<a href=\"https://www.example.cn/map?zoom=1\
+    5\">\xbf\xaa\xb9\xdd</a>\xa1\xa3</p>\n<table class=\"hours\"><tr><td>\xd0\xc7\xc6\xda\xd2\xbb</\
+    td><td align=\"right\">10:00-18:00</td></tr><tr><td>\xd0\xc7\xc6\xda\xc1\xf9</td><td align=\"ri\
+    ght\">10:00-20:00</td></tr></table>\n<img src=\"/images/reading-room.png\" alt=\"\xd4\xc4\xc0\
+    \xc0\xca\xd2\" width=\"320\" height=\"240\"><div class=\"footer\">\xc1\xaa\xcf\xb5: library@exa\
+    mple.cn</div>\n</body></html>\n";
+
+/// The page in Chinese of the mainland.
+pub const GBK: &[u8] = b"\
+    <!DOCTYPE html>\n<html lang=\"zh-CN\"><head><meta charset=\"utf-8\"><title>\xcd\xbc\xca\xe9\xb9\
+    \xdd\xcd\xa8\xd1\xb6</title></head>\n<body><ul class=\"menu\"><li><a href=\"/library/index.html\
+    \">\xbc\xf2\xbd\xe9</a></li><li><a href=\"/library/search.html\">\xb2\xe9\xca\xe9</a></li></ul>\
+    \n<h1 id=\"news\">\xd0\xc2\xcd\xbc\xca\xe9\xb9\xdd</h1>\n<p class=\"lead\">\xc0\xeb\xb3\xb5\xd5\
+    \xbe<b>5\xb7\xd6\xd6\xd3</b>\xb5\xc4\xb5\xd8\xb7\xbd<a href=\"https://www.example.cn/map?zoom=1\
+    5\">\xbf\xaa\xb9\xdd</a>\xa1\xa3</p>\n<table class=\"hours\"><tr><td>\xd0\xc7\xc6\xda\xd2\xbb</\
+    td><td align=\"right\">10:00-18:00</td></tr><tr><td>\xd0\xc7\xc6\xda\xc1\xf9</td><td align=\"ri\
+    ght\">10:00-20:00</td></tr></table>\n<img src=\"/images/reading-room.png\" alt=\"\xd4\xc4\xc0\
+    \xc0\xca\xd2\" width=\"320\" height=\"240\"><div class=\"footer\">\xc1\xaa\xcf\xb5: library@exa\
+    mple.cn</div>\n</body></html>\n";

@@ -1,0 +1,91 @@
+-- How long items are that are taken in bulk.
+use Rattle.std.proofs.Common.{◌≡◌, ℕ, zero, suc, ◌+◌, ◌*◌, ◌<◌, ◌≤◌, Bool, true, false, List, [], ◌∷◌, ◌++◌, length, length-append, nat_lt, cond, ℤ, pos, ◌+ℤ◌, ◌-ℤ◌, refl, sym, ap, ◌∙◌, append_assoc, fold, arith, lit≤, ◌⊎◌, inl, inr}
+use Rattle.std.proofs.lemmas.Bool.{lt-ltb, le-ltb, ltb-true, ltb-false}
+use Rattle.std.proofs.lemmas.Int.{ints}
+use Rattle.std.proofs.Math.Utf8.{encode}
+use Rattle.std.specs.Char.{len_utf8}
+use Rattle.std.specs.Str.{chars, encode_utf8_all, IsUtf8}
+use Rattle.std.proofs.lemmas.Str.{encodes-chars, length-encode, chars_past_char, len_utf8_bounds}
+use Rattle.decoder_core.specs.declared.bulk.Stride.{Stride}
+use Rattle.decoder_core.specs.declared.bulk.Stride.TheVariants.{Utf8, Utf16}
+use Rattle.decoder_core.specs.declared.item.Item.TheVariants.{One}
+use Rattle.decoder_core.specs.Bulk.{width_of, run_width, plain_from, plain_to}
+use Rattle.std.proofs.lemmas.Grind.{fold-append}
+use Rattle.decoder_core.specs.Collected.{Collected, collect_item, collect_one}
+use Rattle.decoder_core.specs.Shown.{Shown}
+
+pub utf8-width : (cs : List ℕ) → run_width Utf8 cs ≡ length (encode_utf8_all cs)
+utf8-width [] = refl
+utf8-width (c ∷ cs) =
+    ap (λ (n : ℕ). len_utf8 c + n) (utf8-width cs) ∙ sym (length-append (encode c) (encode_utf8_all cs) ∙ ap (λ (n : ℕ). n + length (encode_utf8_all cs)) (length-encode c))
+
+width-few-by : (c : ℕ) → (c < 0x10000) ⊎ (0x10000 ≤ c) → width_of Utf16 c ≤ 2 * len_utf8 c
+width-few-by c (inl low) =
+    let some = len_utf8_bounds c in
+    let two : width_of Utf16 c ≡ 2 = rw (lt-ltb c 0x10000 low) refl in
+    Prim.omega (arith, some.0, two)
+width-few-by c (inr high) =
+    rw (le-ltb c 0x80 (Prim.omega (arith, high)), le-ltb c 0x800 (Prim.omega (arith, high)), le-ltb c 0x10000 high) (lit≤ tt)
+
+order-by : (k : Bool) (a b : ℕ) → nat_lt a b ≡ k → (a < b) ⊎ (b ≤ a)
+order-by true a b e = inl (ltb-true a b e)
+order-by false a b e = inr (ltb-false a b e)
+
+pub order : (a b : ℕ) → (a < b) ⊎ (b ≤ a)
+order a b = order-by (nat_lt a b) a b refl
+
+width-few : (stride : Stride) (c : ℕ) → width_of stride c ≤ 2 * len_utf8 c
+width-few Utf8 c = Prim.omega arith
+width-few Utf16 c = width-few-by c (order c 0x10000)
+
+width-small : (stride : Stride) (cs : List ℕ) → run_width stride cs ≤ 2 * length (encode_utf8_all cs)
+width-small stride [] = Prim.omega arith
+width-small stride (c ∷ cs) =
+    let here = width-few stride c in
+    let rest = width-small stride cs in
+    let bytes = length-append (encode c) (encode_utf8_all cs) in
+    let one = length-encode c in
+    Prim.omega (arith, here, rest, bytes, one)
+
+pub text-small : (stride : Stride) (text : List ℕ) → IsUtf8 text → run_width stride (chars text) ≤ 2 * length text
+text-small stride text spelt = rw (ap (λ (xs : List ℕ). length xs) (encodes-chars text spelt)) at (width-small stride (chars text))
+
+-- the first code point of a text, and the others
+pub width-first : (stride : Stride) (text rest : List ℕ) (c : ℕ) → IsUtf8 text → text ≡ encode c ++ rest
+    → run_width stride (chars text) ≡ width_of stride c + run_width stride (chars rest)
+width-first stride text rest c spelt parts = ap (λ (cs : List ℕ). run_width stride cs) (chars_past_char text rest c spelt parts)
+
+plain-first : {S : Type 0} (stride : Stride) (end : ℤ) (after : S) (c : ℕ) (cs : List ℕ)
+    → plain_to stride end after (c ∷ cs)
+    ≡ record { item = One c; end = end -ℤ pos (run_width stride cs); after = after } ∷ plain_to stride end after cs
+plain-first {S = S} stride end after c cs =
+    let same : (end -ℤ pos (width_of stride c + run_width stride cs)) +ℤ pos (width_of stride c) ≡ end -ℤ pos (run_width stride cs) = Prim.omega (arith, ints) in
+    ap (λ (z : ℤ). record { item = One c; end = z; after = after } ∷ plain_from stride z after cs) same
+
+pub text-first : {S : Type 0} (stride : Stride) (end : ℤ) (after : S) (text rest : List ℕ) (c : ℕ) → IsUtf8 text → text ≡ encode c ++ rest
+    → plain_to stride end after (chars text)
+    ≡ record { item = One c; end = end -ℤ pos (run_width stride (chars rest)); after = after } ∷ plain_to stride end after (chars rest)
+text-first stride end after text rest c spelt parts =
+    ap (λ (cs : List ℕ). plain_to stride end after cs) (chars_past_char text rest c spelt parts) ∙ plain-first stride end after c (chars rest)
+
+-- the item that comes next where a text's code points are collected
+abbrev pub next-item : {S : Type 0} → Stride → ℤ → S → ℕ → List ℕ → Shown S
+next-item stride end after c cs = record { item = One c; end = end -ℤ pos (run_width stride cs); after = after }
+
+pub next-whole : {S : Type 0} (stride : Stride) (end : ℤ) (after : S) (text rest : List ℕ) (c : ℕ) (front whole : List (Shown S))
+    → IsUtf8 text → text ≡ encode c ++ rest → whole ≡ front ++ plain_to stride end after (chars text)
+    → whole ≡ (front ++ next-item stride end after c (chars rest) ∷ []) ++ plain_to stride end after (chars rest)
+next-whole stride end after text rest c front whole spelt parts whole_is =
+    whole_is
+    ∙ ap (λ (xs : List (Shown _)). front ++ xs) (text-first stride end after text rest c spelt parts)
+    ∙ sym (append_assoc front (next-item stride end after c (chars rest) ∷ []) (plain_to stride end after (chars rest)))
+
+pub next-seen : {S : Type 0} (stride : Stride) (end : ℤ) (after : S) (rest : List ℕ) (c given left : ℕ) (old now new : Collected) (front : List (Shown S))
+    → now ≡ fold collect_one old front → left ≡ run_width stride (chars rest) → given ≡ c → new ≡ collect_item now (One given) (end -ℤ pos left)
+    → new ≡ fold collect_one old (front ++ next-item stride end after c (chars rest) ∷ [])
+next-seen stride end after rest c given left old now new front now_is left_is same new_is =
+    new_is
+    ∙ ap (λ (n : ℕ). collect_item now (One n) (end -ℤ pos left)) same
+    ∙ ap (λ (n : ℕ). collect_item now (One c) (end -ℤ pos n)) left_is
+    ∙ ap (λ (k : Collected). collect_item k (One c) (end -ℤ pos (run_width stride (chars rest)))) now_is
+    ∙ sym (fold-append collect_one old front (next-item stride end after c (chars rest) ∷ []))

@@ -1,0 +1,142 @@
+-- A decoder to which, in one of its states, each byte of a class is its own code point takes runs of them in bulk.
+use Rattle.std.proofs.Common.{◌≡◌, ℕ, zero, suc, ◌+◌, ◌<◌, ◌≤◌, Bool, true, false, List, [], ◌∷◌, ◌++◌, Some, cond, nat_lt, length, take, ℤ, pos, ◌+ℤ◌, ◌-ℤ◌, refl, sym, ap, ◌∙◌, subst, arith, lit≤, not, ◌&&◌, ◌||◌, ◌==◌}
+use Rattle.std.specs.List.{prefix_len}
+use Rattle.std.specs.Str.{chars, IsAscii, IsUtf8}
+use Rattle.std.specs.Char.{len_utf8}
+use Rattle.std.proofs.lemmas.Bool.{ltb-true, eqb-false}
+use Rattle.std.proofs.lemmas.Int.{ints}
+use Rattle.std.proofs.lemmas.List.{length-take-le, length-take}
+use Rattle.std.proofs.lemmas.List.Sums.{prefix_len-le-length}
+use Rattle.std.proofs.lemmas.Str.{chars-IsAscii, IsUtf8-from_ascii, len_utf8_ascii}
+use Rattle.std.proofs.lemmas.Str.Ascii.{IsAscii-nil, IsAscii-cons}
+use Rattle.decoder_core.specs.declared.item.Item.TheVariants.{One}
+use Rattle.decoder_core.specs.declared.bulk.Bulk.{Bulk}
+use Rattle.decoder_core.specs.declared.bulk.Stride.TheVariants.{Utf8}
+use Rattle.decoder_core.specs.declared.ascii_runs.AsciiRuns.{AsciiRuns}
+use Rattle.decoder_core.specs.declared.ascii_runs.AsciiRuns.TheVariants.{None, All, WithoutEscapes}
+use Rattle.decoder_core.specs.Queue.{Table, Falls, Fed, feed}
+use Rattle.decoder_core.specs.Shown.{Shown, shown_from}
+use Rattle.decoder_core.specs.Bulk.{IsBulk, plain_from, run_width}
+use Rattle.decoder_core.specs.AsciiRuns.{IsOf, is_of, run_len, TakesAscii, IsRunBulk}
+use Rattle.decoder_core.proofs.Running.{feed-nil}
+use Rattle.decoder_core.proofs.Turning.{given-shown, given-state}
+
+passes : (c : Bool) (n m : ℕ) → suc n ≤ cond c (1 + m) 0 → (c ≡ true) × (n ≤ m)
+passes true n m h = (refl, omega arith)
+passes false n m h = absurd (omega arith)
+
+-- a run that is longer than n begins with a byte of the class, and goes on
+pub run-first : (runs : AsciiRuns) (n b : ℕ) (xs : List ℕ) → suc n ≤ run_len runs (b ∷ xs) → (is_of runs b ≡ true) × (n ≤ run_len runs xs)
+run-first runs n b xs h = passes (is_of runs b) n (run_len runs xs) h
+
+-- a run at the front of a part is one of the whole
+part-longer : (c : Bool) (n m : ℕ) → n ≤ m → cond c (1 + n) 0 ≤ cond c (1 + m) 0
+part-longer true n m h = omega arith
+part-longer false n m h = lit≤ tt
+
+pub run-part : (runs : AsciiRuns) (k : ℕ) (xs : List ℕ) → run_len runs (take k xs) ≤ run_len runs xs
+run-part runs zero xs = omega arith
+run-part runs (suc k) [] = lit≤ tt
+run-part runs (suc k) (b ∷ xs) = part-longer (is_of runs b) _ _ (run-part runs k xs)
+
+pub run-within : (runs : AsciiRuns) (xs : List ℕ) → run_len runs xs ≤ length xs
+run-within runs xs = prefix_len-le-length (is_of runs) xs
+
+pub run-none : (xs : List ℕ) → 0 ≡ run_len None xs
+run-none [] = refl
+run-none (b ∷ xs) = refl
+
+-- a run that was looked for in the first k bytes
+pub run-front : (runs : AsciiRuns) (n k : ℕ) (front bytes : List ℕ) → front ≡ take k bytes → n ≡ run_len runs front
+    → (n ≤ run_len runs bytes) × (n ≤ k) × (n ≤ length bytes)
+run-front runs n k front bytes is run =
+    let part = run-part runs k bytes in
+    let inside = run-within runs (take k bytes) in
+    let short = length-take k bytes in
+    rw (run, is) (omega (arith, part), omega (arith, inside, short), omega (arith, inside, short))
+
+-- ---- the bytes of a class
+
+both : (x y : Bool) → (x && y) ≡ true → (x ≡ true) × (y ≡ true)
+both true y e = (refl, e)
+both false y e = absurd Prim.cc
+
+neither : (x y z : Bool) → not (x || y || z) ≡ true → (x ≡ false) × (y ≡ false) × (z ≡ false)
+neither false false false e = (refl, refl, refl)
+neither false false true e = absurd Prim.cc
+neither false true z e = absurd Prim.cc
+neither true y z e = absurd Prim.cc
+
+pub of-class : (runs : AsciiRuns) (b : ℕ) → is_of runs b ≡ true → IsOf runs b
+of-class None b e = absurd Prim.cc
+of-class All b e = ltb-true b 0x80 e
+of-class WithoutEscapes b e =
+    let two = both (nat_lt b 0x80) _ e in
+    let three = neither (b == 0x0E) (b == 0x0F) (b == 0x1B) two.1 in
+    (ltb-true b 0x80 two.0, eqb-false b 0x0E three.0, eqb-false b 0x0F three.1, eqb-false b 0x1B three.2)
+
+pub of-ascii : (runs : AsciiRuns) (b : ℕ) → IsOf runs b → b < 128
+of-ascii None b h = absurd h
+of-ascii All b h = h
+of-ascii WithoutEscapes b h = h.0
+
+first-ascii : (runs : AsciiRuns) (b : ℕ) → is_of runs b ≡ true → b < 128
+first-ascii runs b e = of-ascii runs b (of-class runs b e)
+
+run-ascii : (runs : AsciiRuns) (n : ℕ) (xs : List ℕ) → n ≤ run_len runs xs → IsAscii (take n xs)
+run-ascii runs zero xs h = IsAscii-nil
+run-ascii runs (suc n) [] h = absurd (omega arith)
+run-ascii runs (suc n) (b ∷ xs) h =
+    let p = run-first runs n b xs h in IsAscii-cons b (take n xs) (first-ascii runs b p.0) (run-ascii runs n xs p.1)
+
+run-bytes : (runs : AsciiRuns) (n : ℕ) (xs : List ℕ) → n ≤ run_len runs xs → run_width Utf8 (take n xs) ≡ n
+run-bytes runs zero xs h = refl
+run-bytes runs (suc n) [] h = absurd (omega arith)
+run-bytes runs (suc n) (b ∷ xs) h =
+    let p = run-first runs n b xs h in
+    let one = len_utf8_ascii b (first-ascii runs b p.0) in
+    let rest = run-bytes runs n xs p.1 in
+    omega (arith, one, rest)
+
+module _ {S : Type 0} (table : Table S) (f : Falls table) (idle : S) (runs : AsciiRuns) (takes : TakesAscii table idle runs) where
+  run-stays : (n : ℕ) (xs : List ℕ) → n ≤ run_len runs xs → (feed table idle (take n xs)).state ≡ idle
+  run-stays zero xs h = ap (λ (x : Fed S). x.state) (feed-nil table f idle)
+  run-stays (suc n) [] h = absurd (omega arith)
+  run-stays (suc n) (b ∷ xs) h =
+      let p = run-first runs n b xs h in
+      given-state table f idle idle b b (take n xs) (takes b (of-class runs b p.0)) ∙ run-stays n xs p.1
+
+  run-shown : (n read : ℕ) (xs : List ℕ) → n ≤ run_len runs xs → shown_from table read idle (take n xs) ≡ plain_from Utf8 (pos read) idle (take n xs)
+  run-shown zero read xs h = refl
+  run-shown (suc n) read [] h = absurd (omega arith)
+  run-shown (suc n) read (b ∷ xs) h =
+      let p = run-first runs n b xs h in
+      let width = len_utf8_ascii b (first-ascii runs b p.0) in
+      let end : pos (read + 1) -ℤ pos 0 ≡ pos read +ℤ pos (len_utf8 b) = rw width (omega (arith, ints)) in
+      let next : pos (read + 1) ≡ pos read +ℤ pos (len_utf8 b) = rw width (omega (arith, ints)) in
+      given-shown table f idle idle b b read (take n xs) (takes b (of-class runs b p.0))
+      ∙ ap (λ (shown : List (Shown S)). record { item = One b; end = pos (read + 1) -ℤ pos 0; after = idle } ∷ shown) (run-shown n (read + 1) xs p.1)
+      ∙ ap (λ (z : ℤ). record { item = One b; end = z; after = idle } ∷ plain_from Utf8 (pos (read + 1)) idle (take n xs)) end
+      ∙ ap (λ (z : ℤ). record { item = One b; end = pos read +ℤ pos (len_utf8 b); after = idle } ∷ plain_from Utf8 z idle (take n xs)) next
+
+  pub run_is_bulk : (bytes : List ℕ) (bulk : Bulk) (block : List ℕ) → IsRunBulk runs bytes bulk block → IsBulk table idle bytes bulk block
+  run_is_bulk bytes bulk block a =
+      let q = take bulk.taken bytes in
+      let ascii = run-ascii runs bulk.taken bytes a.run in
+      let longest = run-within runs bytes in
+      let text : take bulk.written block ≡ q = ap (λ (n : ℕ). take n block) a.as_taken ∙ a.copied in
+      let spelt : chars (take bulk.written block) ≡ q = ap (λ (xs : List ℕ). chars xs) text ∙ chars-IsAscii q ascii in
+      record {
+        within = omega (arith, a.run, longest);
+        room = subst (λ (n : ℕ). n ≤ 1024) (sym a.as_taken) a.room;
+        text = subst (λ (xs : List ℕ). IsUtf8 xs) (sym text) (IsUtf8-from_ascii q ascii);
+        stays = run-stays bulk.taken bytes a.run;
+        whole =
+            ap (λ (xs : List ℕ). run_width bulk.stride xs) spelt
+            ∙ ap (λ (s : _). run_width s q) a.stride
+            ∙ run-bytes runs bulk.taken bytes a.run;
+        items = λ read.
+            run-shown bulk.taken read bytes a.run
+            ∙ ap (λ (s : _). plain_from s (pos read) idle q) (sym a.stride)
+            ∙ ap (λ (xs : List ℕ). plain_from bulk.stride (pos read) idle xs) (sym spelt);
+      }

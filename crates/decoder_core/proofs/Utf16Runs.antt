@@ -1,0 +1,325 @@
+-- Runs of UTF-16 without lone surrogates: each code point is an item, and leaves nothing pending.
+use Rattle.std.proofs.Common.{◌≡◌, ℕ, zero, suc, ◌+◌, ◌-◌, ◌*◌, ◌/◌, ◌%◌, ◌<◌, ◌≤◌, Bool, true, false, List, [], ◌∷◌, ◌++◌, ◌&&◌, Some, None, Ok, Err, Result, Option, cond, if◌then◌else◌, nat_le, take, drop, get_or, set, subst, append_assoc, append-nil, length, length-append, ℤ, pos, ◌+ℤ◌, ◌-ℤ◌, refl, sym, ap, ◌∙◌, arith, ◌⊎◌, inl, inr}
+use Rattle.std.proofs.lemmas.Bool.{le-leb, lt-leb, lt-ltb, le-ltb, leb-true}
+use Rattle.std.proofs.lemmas.Int.{ints}
+use Rattle.std.proofs.Math.Utf8.{encode, scalar, scalars, scalar_cases}
+use Rattle.std.specs.Str.{chars, encode_utf8_all, IsUtf8}
+use Rattle.std.proofs.lemmas.List.{length-take-le, take-take, drop_more, drop_all, take_more_set}
+use Rattle.std.proofs.Math.Seq.{take-append_seam}
+use Rattle.std.proofs.lemmas.Str.{chars-encodes}
+use Rattle.lane_utf.specs.declared.faults.ToUtf8Fault.{ToUtf8Fault}
+use Rattle.lane_utf.specs.declared.faults.ToUtf8Fault.TheVariants.{NeedsRoom as needs_room}
+use Rattle.lane_utf.specs.Conversions.{over_front, utf8_answer, utf8_answer_of}
+use Rattle.lane_utf.specs.Utf16.{code_points, utf16_forms, first_lone}
+use Rattle.lane_utf.specs.Widths.{total_width, utf8_width}
+use Rattle.decoder_core.specs.declared.bulk.Stride.TheVariants.{Utf8 as by_utf8, Utf16 as by_utf16}
+use Rattle.decoder_core.specs.declared.item.Item.TheVariants.{One}
+use Rattle.lane_ascii.specs.Pairs.{swapped}
+use Rattle.decoder_core.specs.declared.utf16.ByteOrder.{ByteOrder}
+use Rattle.decoder_core.specs.declared.utf16.ByteOrder.TheVariants.{BigEndian, LittleEndian}
+use Rattle.decoder_core.specs.Bulk.{IsBulk, plain_from, run_width, width_of}
+use Rattle.decoder_core.specs.Forms.{gives, holds}
+use Rattle.decoder_core.specs.Holding.{falls_of}
+use Rattle.decoder_core.specs.Queue.{Turn, Table, Falls, Fed, feed}
+use Rattle.decoder_core.specs.Shown.{Shown, shown_from}
+use Rattle.decoder_core.specs.Utf16.{Utf16, utf16, utf16_start, utf16_single, utf16_second, unit_of, units_of, pair_code_point}
+use Rattle.decoder_core.specs.Utf16Laws.{utf16_holding}
+use Rattle.decoder_core.proofs.Running.{feed-nil}
+use Rattle.decoder_core.proofs.ItemWidths.{utf8-width, order as compare}
+use Rattle.decoder_core.proofs.Turning.{held-shown, given-shown, held-state, given-state}
+
+abbrev falls : (order : ByteOrder) → Falls (utf16 order)
+falls order = falls_of _ (utf16_holding order)
+
+-- ---- single units and pairs
+
+narrow : (c : ℕ) → (c < 55296) ⊎ ((57344 ≤ c) × (c < 1114112)) → (c < 55296) ⊎ (57344 ≤ c)
+narrow c (inl l) = inl l
+narrow c (inr l) = inr l.0
+
+most : (c : ℕ) → (c < 55296) ⊎ ((57344 ≤ c) × (c < 1114112)) → c < 1114112
+most c (inl l) = omega (arith, l)
+most c (inr l) = l.1
+
+single-turn : (c : ℕ) → (c < 55296) ⊎ (57344 ≤ c) → utf16_single c ≡ gives utf16_start (One c) []
+single-turn c (inl l) = rw (lt-leb 0xD800 c l, lt-leb 0xDC00 c (omega (arith, l))) refl
+single-turn c (inr l) =
+    rw (le-leb 0xD800 c (omega (arith, l)), lt-leb c 0xDBFF (omega (arith, l)), le-leb 0xDC00 c (omega (arith, l)), lt-leb c 0xDFFF (omega (arith, l))) refl
+
+abbrev lead_of : ℕ → ℕ
+lead_of c = 0xD800 + (c - 0x10000) / 0x400
+
+abbrev trail_of : ℕ → ℕ
+trail_of c = 0xDC00 + (c - 0x10000) % 0x400
+
+lead-turn : (u : ℕ) → 0xD800 ≤ u → u ≤ 0xDBFF → utf16_single u ≡ holds (record { lead_byte = None; lead_surrogate = Some u })
+lead-turn u low high = rw (le-leb 0xD800 u low, le-leb u 0xDBFF high) refl
+
+trail-turn : (lead u : ℕ) (bytes : List ℕ) → 0xDC00 ≤ u → u ≤ 0xDFFF → utf16_second lead u bytes ≡ gives utf16_start (One (pair_code_point lead u)) []
+trail-turn lead u bytes low high = rw (le-leb 0xDC00 u low, le-leb u 0xDFFF high) refl
+
+module _ (order : ByteOrder) where
+  one-turn : (a b c : ℕ) → unit_of order a b ≡ c → (c < 55296) ⊎ (57344 ≤ c)
+      → utf16 order (record { lead_byte = Some a; lead_surrogate = None }) (Some b) ≡ gives utf16_start (One c) []
+  one-turn a b c unit range = ap (λ (u : ℕ). utf16_single u) unit ∙ single-turn c range
+
+  first-turn : (a b c : ℕ) → unit_of order a b ≡ lead_of c → 65536 ≤ c → c < 1114112
+      → utf16 order (record { lead_byte = Some a; lead_surrogate = None }) (Some b) ≡ holds (record { lead_byte = None; lead_surrogate = Some (lead_of c) })
+  first-turn a b c unit low high = ap (λ (u : ℕ). utf16_single u) unit ∙ lead-turn (lead_of c) (omega arith) (omega arith)
+
+  second-turn : (a b c : ℕ) → unit_of order a b ≡ trail_of c → 65536 ≤ c → c < 1114112
+      → utf16 order (record { lead_byte = Some a; lead_surrogate = Some (lead_of c) }) (Some b) ≡ gives utf16_start (One c) []
+  second-turn a b c unit low high =
+      let same : pair_code_point (lead_of c) (trail_of c) ≡ c = omega arith in
+      ap (λ (u : ℕ). utf16_second (lead_of c) u (a ∷ b ∷ [])) unit
+      ∙ trail-turn (lead_of c) (trail_of c) (a ∷ b ∷ []) (omega arith) (omega arith)
+      ∙ ap (λ (n : ℕ). gives utf16_start (One n) []) same
+
+  unit-shown : (a b c read : ℕ) (q : List ℕ) → unit_of order a b ≡ c → (c < 55296) ⊎ (57344 ≤ c)
+      → shown_from (utf16 order) read utf16_start (a ∷ b ∷ q)
+      ≡ record { item = One c; end = pos (read + 2); after = utf16_start } ∷ shown_from (utf16 order) (read + 2) utf16_start q
+  unit-shown a b c read q unit range =
+      let two : read + 1 + 1 ≡ read + 2 = omega arith in
+      let end : pos (read + 1 + 1) -ℤ pos 0 ≡ pos (read + 2) = omega (arith, ints) in
+      held-shown (utf16 order) (falls order) utf16_start _ a read (b ∷ q) refl
+      ∙ given-shown (utf16 order) (falls order) _ utf16_start b c (read + 1) q (one-turn a b c unit range)
+      ∙ ap (λ (z : ℤ). record { item = One c; end = z; after = utf16_start } ∷ shown_from (utf16 order) (read + 1 + 1) utf16_start q) end
+      ∙ ap (λ (n : ℕ). record { item = One c; end = pos (read + 2); after = utf16_start } ∷ shown_from (utf16 order) n utf16_start q) two
+
+  pair-shown : (a b d e c read : ℕ) (q : List ℕ) → unit_of order a b ≡ lead_of c → unit_of order d e ≡ trail_of c → 65536 ≤ c → c < 1114112
+      → shown_from (utf16 order) read utf16_start (a ∷ b ∷ d ∷ e ∷ q)
+      ≡ record { item = One c; end = pos (read + 4); after = utf16_start } ∷ shown_from (utf16 order) (read + 4) utf16_start q
+  pair-shown a b d e c read q lead trail low high =
+      let four : read + 1 + 1 + 1 + 1 ≡ read + 4 = omega arith in
+      let end : pos (read + 1 + 1 + 1 + 1) -ℤ pos 0 ≡ pos (read + 4) = omega (arith, ints) in
+      held-shown (utf16 order) (falls order) utf16_start _ a read (b ∷ d ∷ e ∷ q) refl
+      ∙ held-shown (utf16 order) (falls order) _ _ b (read + 1) (d ∷ e ∷ q) (first-turn a b c lead low high)
+      ∙ held-shown (utf16 order) (falls order) _ _ d (read + 1 + 1) (e ∷ q) refl
+      ∙ given-shown (utf16 order) (falls order) _ utf16_start e c (read + 1 + 1 + 1) q (second-turn d e c trail low high)
+      ∙ ap (λ (z : ℤ). record { item = One c; end = z; after = utf16_start } ∷ shown_from (utf16 order) (read + 1 + 1 + 1 + 1) utf16_start q) end
+      ∙ ap (λ (n : ℕ). record { item = One c; end = pos (read + 4); after = utf16_start } ∷ shown_from (utf16 order) n utf16_start q) four
+
+  unit-state : (a b c : ℕ) (q : List ℕ) → unit_of order a b ≡ c → (c < 55296) ⊎ (57344 ≤ c)
+      → (feed (utf16 order) utf16_start (a ∷ b ∷ q)).state ≡ (feed (utf16 order) utf16_start q).state
+  unit-state a b c q unit range =
+      held-state (utf16 order) (falls order) utf16_start _ a (b ∷ q) refl
+      ∙ given-state (utf16 order) (falls order) _ utf16_start b c q (one-turn a b c unit range)
+
+  pair-state : (a b d e c : ℕ) (q : List ℕ) → unit_of order a b ≡ lead_of c → unit_of order d e ≡ trail_of c → 65536 ≤ c → c < 1114112
+      → (feed (utf16 order) utf16_start (a ∷ b ∷ d ∷ e ∷ q)).state ≡ (feed (utf16 order) utf16_start q).state
+  pair-state a b d e c q lead trail low high =
+      held-state (utf16 order) (falls order) utf16_start _ a (b ∷ d ∷ e ∷ q) refl
+      ∙ held-state (utf16 order) (falls order) _ _ b (d ∷ e ∷ q) (first-turn a b c lead low high)
+      ∙ held-state (utf16 order) (falls order) _ _ d (e ∷ q) refl
+      ∙ given-state (utf16 order) (falls order) _ utf16_start e c q (second-turn d e c trail low high)
+
+  -- ---- the bytes of some units
+
+  -- the bytes of the first of some units, and those of the others
+  abbrev Cut : List ℕ → ℕ → List ℕ → Type 0
+  Cut bytes u us =
+      (a : ℕ) × (b : ℕ) × (q : List ℕ) × (bytes ≡ a ∷ b ∷ q) × (unit_of order a b ≡ u) × (units_of order q ≡ us)
+      × (length q ≡ 2 * length (units_of order q))
+
+  cut : (bytes : List ℕ) (u : ℕ) (us : List ℕ) → length bytes ≡ 2 * length (units_of order bytes) → units_of order bytes ≡ u ∷ us → Cut bytes u us
+  cut [] u us even is = absurd (omega (arith, ap (λ (xs : List ℕ). length xs) is))
+  cut (a ∷ []) u us even is = absurd (omega (arith, even))
+  cut (a ∷ b ∷ q) u us even is =
+      (a, b, q, refl, ap (λ (xs : List ℕ). get_or xs 0 0) is, ap (λ (xs : List ℕ). drop 1 xs) is, omega (arith, even))
+
+  form-one : (c : ℕ) (cs : List ℕ) → c < 65536 → utf16_forms (c ∷ cs) ≡ c ∷ utf16_forms cs
+  form-one c cs low = rw (lt-ltb c 65536 low) refl
+
+  form-two : (c : ℕ) (cs : List ℕ) → 65536 ≤ c → utf16_forms (c ∷ cs) ≡ lead_of c ∷ trail_of c ∷ utf16_forms cs
+  form-two c cs high = rw (le-ltb c 65536 high) refl
+
+  width-one : (c : ℕ) → c < 65536 → width_of by_utf16 c ≡ 2
+  width-one c low = rw (lt-ltb c 65536 low) refl
+
+  width-two : (c : ℕ) → 65536 ≤ c → width_of by_utf16 c ≡ 4
+  width-two c high = rw (le-ltb c 65536 high) refl
+
+  both : (x y : Bool) → (x && y) ≡ true → (x ≡ true) × (y ≡ true)
+  both true y e = (refl, e)
+  both false y e = absurd Prim.cc
+
+  -- ---- runs
+
+  utf16-shown : (cs bytes : List ℕ) → scalars cs ≡ true → length bytes ≡ 2 * length (units_of order bytes) → units_of order bytes ≡ utf16_forms cs → (read : ℕ)
+      → shown_from (utf16 order) read utf16_start bytes ≡ plain_from by_utf16 (pos read) utf16_start cs
+  utf16-shown [] [] are even is read = refl
+  utf16-shown [] (a ∷ []) are even is read = absurd (omega (arith, even))
+  utf16-shown [] (a ∷ b ∷ q) are even is read = absurd (omega (arith, ap (λ (xs : List ℕ). length xs) is))
+  utf16-shown (c ∷ cs) bytes are even is read =
+      let two = both (scalar c) (scalars cs) are in
+      let range = scalar_cases c two.0 in
+      elim (compare c 65536) [
+        | inl low ↦
+            let p = cut bytes c (utf16_forms cs) even (is ∙ form-one c cs low) in
+            let width = width-one c low in
+            let end : pos (read + 2) ≡ pos read +ℤ pos (width_of by_utf16 c) = rw width (omega (arith, ints)) in
+            ap (λ (xs : List ℕ). shown_from (utf16 order) read utf16_start xs) p.3
+            ∙ unit-shown p.0 p.1 c read p.2 p.4 (narrow c range)
+            ∙ ap (λ (xs : List (Shown Utf16)). record { item = One c; end = pos (read + 2); after = utf16_start } ∷ xs) (utf16-shown cs p.2 two.1 p.6 p.5 (read + 2))
+            ∙ ap (λ (z : ℤ). record { item = One c; end = z; after = utf16_start } ∷ plain_from by_utf16 z utf16_start cs) end
+        | inr high ↦
+            let p = cut bytes (lead_of c) (trail_of c ∷ utf16_forms cs) even (is ∙ form-two c cs high) in
+            let s = cut p.2 (trail_of c) (utf16_forms cs) p.6 p.5 in
+            let width = width-two c high in
+            let end : pos (read + 4) ≡ pos read +ℤ pos (width_of by_utf16 c) = rw width (omega (arith, ints)) in
+            ap (λ (xs : List ℕ). shown_from (utf16 order) read utf16_start xs) (p.3 ∙ ap (λ (xs : List ℕ). p.0 ∷ p.1 ∷ xs) s.3)
+            ∙ pair-shown p.0 p.1 s.0 s.1 c read s.2 p.4 s.4 high (most c range)
+            ∙ ap (λ (xs : List (Shown Utf16)). record { item = One c; end = pos (read + 4); after = utf16_start } ∷ xs) (utf16-shown cs s.2 two.1 s.6 s.5 (read + 4))
+            ∙ ap (λ (z : ℤ). record { item = One c; end = z; after = utf16_start } ∷ plain_from by_utf16 z utf16_start cs) end
+      ]
+
+  utf16-stays : (cs bytes : List ℕ) → scalars cs ≡ true → length bytes ≡ 2 * length (units_of order bytes) → units_of order bytes ≡ utf16_forms cs
+      → (feed (utf16 order) utf16_start bytes).state ≡ utf16_start
+  utf16-stays [] [] are even is = ap (λ (x : Fed Utf16). x.state) (feed-nil (utf16 order) (falls order) utf16_start)
+  utf16-stays [] (a ∷ []) are even is = absurd (omega (arith, even))
+  utf16-stays [] (a ∷ b ∷ q) are even is = absurd (omega (arith, ap (λ (xs : List ℕ). length xs) is))
+  utf16-stays (c ∷ cs) bytes are even is =
+      let two = both (scalar c) (scalars cs) are in
+      let range = scalar_cases c two.0 in
+      elim (compare c 65536) [
+        | inl low ↦
+            let p = cut bytes c (utf16_forms cs) even (is ∙ form-one c cs low) in
+            ap (λ (xs : List ℕ). (feed (utf16 order) utf16_start xs).state) p.3
+            ∙ unit-state p.0 p.1 c p.2 p.4 (narrow c range)
+            ∙ utf16-stays cs p.2 two.1 p.6 p.5
+        | inr high ↦
+            let p = cut bytes (lead_of c) (trail_of c ∷ utf16_forms cs) even (is ∙ form-two c cs high) in
+            let s = cut p.2 (trail_of c) (utf16_forms cs) p.6 p.5 in
+            ap (λ (xs : List ℕ). (feed (utf16 order) utf16_start xs).state) (p.3 ∙ ap (λ (xs : List ℕ). p.0 ∷ p.1 ∷ xs) s.3)
+            ∙ pair-state p.0 p.1 s.0 s.1 c s.2 p.4 s.4 high (most c range)
+            ∙ utf16-stays cs s.2 two.1 s.6 s.5
+      ]
+
+  utf16-bytes : (cs : List ℕ) → run_width by_utf16 cs ≡ 2 * length (utf16_forms cs)
+  utf16-bytes [] = refl
+  utf16-bytes (c ∷ cs) =
+      let rest = utf16-bytes cs in
+      elim (compare c 65536) [
+        | inl low ↦
+            let width = width-one c low in
+            let units = ap (λ (xs : List ℕ). length xs) (form-one c cs low) in
+            omega (arith, rest, width, units)
+        | inr high ↦
+            let width = width-two c high in
+            let units = ap (λ (xs : List ℕ). length xs) (form-two c cs high) in
+            omega (arith, rest, width, units)
+      ]
+
+  -- ---- units in a slice
+
+  pub units-length : (n : ℕ) (xs : List ℕ) → 2 * n ≤ length xs → length (units_of order (take (2 * n) xs)) ≡ n
+  units-length zero xs within = refl
+  units-length (suc n) [] within = absurd (omega (arith, within))
+  units-length (suc n) (a ∷ []) within = absurd (omega (arith, within))
+  units-length (suc n) (a ∷ b ∷ xs) within =
+      let two : 2 * suc n ≡ suc (suc (2 * n)) = omega arith in
+      rw two (ap (λ (k : ℕ). suc k) (units-length n xs (omega (arith, within))))
+
+  pub units-take : (n : ℕ) (xs : List ℕ) → take n (units_of order xs) ≡ units_of order (take (2 * n) xs)
+  units-take zero xs = refl
+  units-take (suc n) [] = let two : 2 * suc n ≡ suc (suc (2 * n)) = omega arith in rw two refl
+  units-take (suc n) (a ∷ []) = let two : 2 * suc n ≡ suc (suc (2 * n)) = omega arith in rw two refl
+  units-take (suc n) (a ∷ b ∷ xs) =
+      let two : 2 * suc n ≡ suc (suc (2 * n)) = omega arith in
+      rw two (ap (λ (us : List ℕ). unit_of order a b ∷ us) (units-take n xs))
+
+  -- units that were read of a longer slice
+  pub units-front : (n count : ℕ) (bytes units : List ℕ) → n ≤ count → take count units ≡ units_of order (take (2 * count) bytes)
+      → take n units ≡ units_of order (take (2 * n) bytes)
+  units-front n count bytes units less read =
+      sym (take-take n count units less)
+      ∙ ap (λ (us : List ℕ). take n us) read
+      ∙ units-take n (take (2 * count) bytes)
+      ∙ ap (λ (xs : List ℕ). units_of order xs) (take-take (2 * n) (2 * count) bytes (omega (arith, less)))
+
+  even-take : (n : ℕ) (xs : List ℕ) → 2 * n ≤ length xs → length (take (2 * n) xs) ≡ 2 * length (units_of order (take (2 * n) xs))
+  even-take n xs within =
+      let units = units-length n xs within in
+      length-take-le (2 * n) xs within ∙ ap (λ (k : ℕ). 2 * k) (sym units)
+
+  pub units-more : (at : ℕ) (xs : List ℕ) → 2 * at + 1 < length xs
+      → units_of order (drop (2 * at) xs) ≡ unit_of order (get_or xs (2 * at) 0) (get_or xs (2 * at + 1) 0) ∷ units_of order (drop (2 * (at + 1)) xs)
+  units-more at xs within =
+      let next : 2 * at + 1 + 1 ≡ 2 * (at + 1) = omega arith in
+      ap (λ (ys : List ℕ). units_of order ys) (drop_more xs (2 * at) 0 (omega (arith, within)))
+      ∙ ap (λ (ys : List ℕ). units_of order (get_or xs (2 * at) 0 ∷ ys)) (drop_more xs (2 * at + 1) 0 within)
+      ∙ ap (λ (k : ℕ). unit_of order (get_or xs (2 * at) 0) (get_or xs (2 * at + 1) 0) ∷ units_of order (drop k xs)) next
+
+  -- one unit more was read
+  pub read-more : (at unit : ℕ) (xs units : List ℕ) → 2 * at + 1 < length xs → at < length units
+      → unit ≡ unit_of order (get_or xs (2 * at) 0) (get_or xs (2 * at + 1) 0)
+      → units_of order xs ≡ take at units ++ units_of order (drop (2 * at) xs)
+      → units_of order xs ≡ take (at + 1) (set units at unit) ++ units_of order (drop (2 * (at + 1)) xs)
+  read-more at unit xs units within inside unit_is so_far =
+      so_far
+      ∙ ap (λ (us : List ℕ). take at units ++ us) (units-more at xs within)
+      ∙ ap (λ (u : ℕ). take at units ++ u ∷ units_of order (drop (2 * (at + 1)) xs)) (sym unit_is)
+      ∙ sym (append_assoc (take at units) (unit ∷ []) (units_of order (drop (2 * (at + 1)) xs)))
+      ∙ ap (λ (us : List ℕ). us ++ units_of order (drop (2 * (at + 1)) xs)) (sym (take_more_set units at unit inside))
+
+  pub read-all : (count : ℕ) (xs units : List ℕ) → length xs ≡ 2 * count → units_of order xs ≡ take count units ++ units_of order (drop (2 * count) xs)
+      → take count units ≡ units_of order xs
+  read-all count xs units even so_far =
+      sym (append-nil (take count units))
+      ∙ ap (λ (ys : List ℕ). take count units ++ units_of order ys) (sym (drop_all (2 * count) xs (omega (arith, even))))
+      ∙ sym so_far
+
+  -- ---- what was converted
+
+  abbrev value : Result ℕ ToUtf8Fault → ℕ
+  value (Ok n) = n
+  value (Err f) = 0
+
+  answered-by : (k : Bool) (needed n : ℕ) → Ok n ≡ (if k then Ok needed else Err (needs_room needed)) → (k ≡ true) × (n ≡ needed)
+  answered-by true needed n e = (refl, ap value e)
+  answered-by false needed n e = absurd Prim.cc
+
+  answered : (lone : Option ℕ) (needed room n : ℕ) → Ok n ≡ utf8_answer_of lone needed room → (needed ≤ room) × (n ≡ needed)
+  answered (Some at) needed room n e = absurd Prim.cc
+  answered None needed room n e = let p = answered-by (nat_le needed room) needed n e in (leb-true needed room p.0, p.1)
+
+  total-run : (cs : List ℕ) → total_width utf8_width cs ≡ run_width by_utf8 cs
+  total-run [] = refl
+  total-run (c ∷ cs) = ap (λ (n : ℕ). utf8_width c + n) (total-run cs)
+
+  pub utf16_is_bulk : (bytes units block old : List ℕ) (n written room : ℕ) → 2 * n ≤ length bytes → room ≡ 1024 → units ≡ units_of order (take (2 * n) bytes)
+      → Ok written ≡ utf8_answer units room → scalars (code_points units) ≡ true → utf16_forms (code_points units) ≡ units
+      → block ≡ over_front (encode_utf8_all (code_points units)) old
+      → IsBulk (utf16 order) utf16_start bytes (record { taken = 2 * n; written = written; stride = by_utf16 }) block
+  utf16_is_bulk bytes units block old n written room within large units_is answer are form block_is =
+      let cs = code_points units in
+      let front = take (2 * n) bytes in
+      let p = answered (first_lone units) (total_width utf8_width cs) room written answer in
+      let length_is : written ≡ length (encode_utf8_all cs) = p.1 ∙ total-run cs ∙ utf8-width cs in
+      let text : take written block ≡ encode_utf8_all cs =
+      ap (λ (k : ℕ). take k block) length_is
+      ∙ ap (λ (xs : List ℕ). take (length (encode_utf8_all cs)) xs) block_is
+      ∙ take-append_seam (encode_utf8_all cs) (drop (length (encode_utf8_all cs)) old) in
+      let spelt : chars (take written block) ≡ cs = ap (λ (xs : List ℕ). chars xs) text ∙ chars-encodes cs are in
+      let even = even-take n bytes within in
+      let is : units_of order front ≡ utf16_forms cs = sym units_is ∙ sym form in
+      record {
+        within = within;
+        room = omega (arith, p.0, p.1, large);
+        text = subst (λ (xs : List ℕ). IsUtf8 xs) (sym text) (cs, (are, refl));
+        stays = utf16-stays cs front are even is;
+        whole =
+            ap (λ (xs : List ℕ). run_width by_utf16 xs) spelt
+            ∙ utf16-bytes cs
+            ∙ ap (λ (xs : List ℕ). 2 * length xs) (sym is)
+            ∙ ap (λ (k : ℕ). 2 * k) (units-length n bytes within);
+        items = λ read.
+            utf16-shown cs front are even is read
+            ∙ ap (λ (xs : List ℕ). plain_from by_utf16 (pos read) utf16_start xs) (sym spelt);
+      }
+
+-- the bytes of each unit swapped are the units in the other order
+pub swapped-units : (xs : List ℕ) → units_of LittleEndian (swapped xs) ≡ units_of BigEndian xs
+swapped-units [] = refl
+swapped-units (a ∷ []) = refl
+swapped-units (a ∷ b ∷ xs) = ap (λ (us : List ℕ). unit_of BigEndian a b ∷ us) (swapped-units xs)

@@ -1,0 +1,9 @@
+use Rattle.decoder_core.specs.Holding.{falls_of}
+use Rattle.decoder_core.specs.Utf16.{utf16}
+use Rattle.decoder_core.specs.Utf16Laws.{utf16_holding}
+use Rattle.decoder_core.proofs.Moving.{nothing_is_bulk}
+use Rattle.decoder_core.proofs.utf16.Utf16DecoderHandler.take_bulk.Goals as goal
+
+pub returns-else-eq : goal.returns-else-eq
+returns-else-eq c =
+    let order = c.args.self.now.order in nothing_is_bulk (utf16 order) (falls_of _ (utf16_holding order)) c.args.state c.args.bytes.now c.args.text.now

@@ -1,0 +1,86 @@
+//! Runs of bytes that are their own code points, in bulk.
+ghost use Rattle.std.specs.Prelude.{◌≡◌, ◌≤◌, length, take};
+ghost use Rattle.decoder_core.specs.Bulk.{IsBulk};
+ghost use Rattle.decoder_core.specs.AsciiRuns.{run_len, TakesAscii, IsRunBulk};
+
+use crate::ascii_runs::AsciiRuns;
+use crate::bulk::{Bulk, NO_BULK, Stride};
+use crate::handler::Handler;
+use lane_ascii::{ascii_run, plain_run_iso};
+
+/// Takes the bytes of the class at the front, each of which is its own code point in this state.
+// In the loop over the bytes.
+#[inline(always)]
+pub(crate) fn run_bulk<H: Handler>(
+    _handler: &H,
+    _state: H::State,
+    runs: AsciiRuns,
+    bytes: &[u8],
+    text: &mut [u8; 1024],
+) -> Bulk
+    requires { TakesAscii (H.table _handler.now) _state runs }
+    ensures { IsBulk (H.table _handler.now) _state bytes.now result text.new }
+{
+    copy_run(runs, bytes, text)
+}
+
+/// Copies the bytes of the class at the front, where they may be enough to be worth it.
+#[inline(always)]
+fn copy_run(runs: AsciiRuns, bytes: &[u8], text: &mut [u8; 1024]) -> Bulk
+    ensures { IsRunBulk runs bytes.now result text.new }
+{
+    if !begins_ascii(bytes) {
+        return NO_BULK;
+    }
+    let taken = block_run(runs, bytes);
+    copy_front(bytes, taken, text);
+    Bulk {
+        taken,
+        written: taken,
+        stride: Stride::Utf8,
+    }
+}
+
+/// Whether the next bytes are ASCII bytes, and enough of them that a run of its own pays.
+#[inline(always)]
+fn begins_ascii(bytes: &[u8]) -> bool {
+    match bytes.first_chunk::<16>() {
+        Some(front) => u128::from_le_bytes(*front) & 0x8080_8080_8080_8080_8080_8080_8080_8080 == 0,
+        None => false,
+    }
+}
+
+/// How many bytes of the class there are at the front, as far as the block takes them.
+#[inline(always)]
+fn block_run(runs: AsciiRuns, bytes: &[u8]) -> usize
+    ensures run { result ≤ run_len runs bytes.now }
+    ensures room { result ≤ 1024 }
+    ensures within { result ≤ length bytes.now }
+{
+    match bytes.get(..1024) {
+        Some(front) => class_run(runs, front),
+        None => class_run(runs, bytes),
+    }
+}
+
+/// How many bytes of the class there are at the front.
+#[inline(always)]
+fn class_run(runs: AsciiRuns, bytes: &[u8]) -> usize
+    ensures { result ≡ run_len runs bytes.now }
+{
+    match runs {
+        AsciiRuns::None => 0,
+        AsciiRuns::All => ascii_run(bytes),
+        AsciiRuns::WithoutEscapes => plain_run_iso(bytes),
+    }
+}
+
+/// Copies the first bytes.
+#[inline(always)]
+pub(crate) fn copy_front(bytes: &[u8], taken: usize, text: &mut [u8; 1024])
+    requires within { taken ≤ length bytes.now }
+    requires room { taken ≤ 1024 }
+    ensures { take taken text.new ≡ take taken bytes.now }
+{
+    text[..taken].copy_from_slice(&bytes[..taken]);
+}

@@ -1,0 +1,99 @@
+//! What decoders take in bulk: no clause asks them to take any byte.
+use crate::bulk::{Bulk, NO_BULK, Stride};
+use crate::decoder::Decoder;
+use crate::item::Item;
+use crate::makers::meter;
+use crate::parts::decode_parts;
+use crate::placed::Placed;
+use crate::replacement::ReplacementDecoder;
+use crate::single_byte::SingleByteDecoder;
+use crate::utf8::Utf8Decoder;
+use crate::utf16::{ByteOrder, Utf16Decoder};
+use crate::x_user_defined::XUserDefinedDecoder;
+use enc_names::{Encoding, Scalar};
+use index_loader::{Index, IndexKind};
+use std::alloc::AllocError;
+use std::test::Fail;
+
+/// Letters, more than a lane has bytes.
+const LETTERS: [u8; 64] = [0x61; 64];
+
+/// What the decoder takes of the bytes in a state.
+fn taken<D: Decoder>(decoder: &D, state: D::State, bytes: &[u8]) -> Bulk {
+    let mut block = [0; 1024];
+    decoder.bulk(state, bytes, &mut block)
+}
+
+/// Whether the decoder takes all these bytes in its first state, and writes this text for them.
+fn takes<D: Decoder>(decoder: &D, bytes: &[u8], text: &str, stride: Stride) -> bool {
+    let mut block = [0; 1024];
+    let all = Bulk {
+        taken: bytes.len(),
+        written: text.len(),
+        stride,
+    };
+    let found = decoder.bulk(decoder.start(), bytes, &mut block);
+    found == all && block.starts_with(text.as_bytes())
+}
+
+#[test]
+fn ascii_where_a_character_is_a_byte(rt: HostRuntime) -> Result<(), Fail> {
+    let kind = IndexKind::SingleByte(Encoding::Windows1252);
+    let index = Index::parse(rt.alloc(), kind, b"0\t0x20AC\n")?;
+    let decoder = SingleByteDecoder::new(&index);
+    assert_eq!(rt; taken(&decoder, decoder.start(), &LETTERS).taken, 64);
+    let decoder = XUserDefinedDecoder;
+    assert_eq!(rt; taken(&decoder, decoder.start(), &LETTERS).taken, 64);
+    let decoder = ReplacementDecoder;
+    assert_eq!(rt; taken(&decoder, decoder.start(), &LETTERS), NO_BULK);
+    Ok(())
+}
+
+#[test]
+fn utf8_where_nothing_is_pending(rt: HostRuntime) {
+    let text = "a\u{E9}\u{672C}\u{1F600}";
+    assert!(rt; takes(&Utf8Decoder, text.as_bytes(), text, Stride::Utf8));
+    let pending = Utf8Decoder.step(Utf8Decoder.start(), 0xE2).state;
+    assert_eq!(rt; taken(&Utf8Decoder, pending, &LETTERS), NO_BULK);
+}
+
+#[test]
+fn utf16_where_nothing_is_pending(rt: HostRuntime) {
+    let text = "a\u{672C}\u{1F600}";
+    let big = Utf16Decoder {
+        order: ByteOrder::BigEndian,
+    };
+    let bytes = [0x00, 0x61, 0x67, 0x2C, 0xD8, 0x3D, 0xDE, 0x00];
+    assert!(rt; takes(&big, &bytes, text, Stride::Utf16));
+    let little = Utf16Decoder {
+        order: ByteOrder::LittleEndian,
+    };
+    let bytes = [0x61, 0x00, 0x2C, 0x67, 0x3D, 0xD8, 0x00, 0xDE];
+    assert!(rt; takes(&little, &bytes, text, Stride::Utf16));
+    assert_eq!(rt; taken(&little, little.start(), &bytes[..6]).taken, 4);
+    let pending = little.step(little.start(), 0x61).state;
+    assert_eq!(rt; taken(&little, pending, &bytes), NO_BULK);
+}
+
+#[test]
+fn code_points_of_a_text_are_placed(rt: HostRuntime) -> Result<(), AllocError> {
+    let mut count = meter();
+    let items = decode_parts(
+        rt.alloc(),
+        &XUserDefinedDecoder,
+        &LETTERS,
+        0,
+        &[20],
+        &mut count,
+    )?;
+    let letter = |from: u64| Placed {
+        item: Item::One(Scalar::from('a')),
+        from,
+        to: from + 1,
+    };
+    assert_eq!(rt; items.len(), 64);
+    for (from, item) in items.iter().enumerate() {
+        assert!(rt; *item == letter(from as u64));
+    }
+    Ok(())
+}

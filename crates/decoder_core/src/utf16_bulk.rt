@@ -1,0 +1,82 @@
+//! UTF-16 in bulk.
+ghost use Rattle.std.specs.Prelude.{◌≡◌, ◌*◌, ◌≤◌, length, take};
+ghost use Rattle.lane_ascii.specs.Pairs.{swapped};
+ghost use Rattle.decoder_core.specs.Bulk.{IsBulk};
+ghost use Rattle.decoder_core.specs.Utf16.{utf16, utf16_start, unit_of, units_of};
+ghost use Rattle.decoder_core.specs.declared.utf16.ByteOrder.TheVariants.{LittleEndian};
+
+use crate::bulk::{Bulk, NO_BULK, Stride};
+use crate::utf16::ByteOrder;
+use lane_ascii::swap_pairs;
+use lane_utf::{first_lone_surrogate, utf16_to_utf8};
+
+/// The most units that are taken at once: each is at most three bytes of UTF-8, so that the block
+/// has room for them.
+const MOST: usize = 341;
+
+/// Takes the units at the front up to the first lone surrogate, where nothing is pending. A lead
+/// surrogate that is the last unit at hand isn't taken.
+pub(crate) fn utf16_bulk(order: ByteOrder, bytes: &[u8], text: &mut [u8; 1024]) -> Bulk
+    ensures { IsBulk (utf16 order) utf16_start bytes.now result text.new }
+{
+    let count = (bytes.len() / 2).min(MOST);
+    let mut units = [0; 341];
+    read_units(order, &bytes[..2 * count], count, &mut units);
+    let paired = first_lone_surrogate(&units[..count])
+        .unwrap_or(count)
+        .min(count);
+    match utf16_to_utf8(&units[..paired], text) {
+        Ok(written) => Bulk {
+            taken: 2 * paired,
+            written,
+            stride: Stride::Utf16,
+        },
+        Err(_) => NO_BULK,
+    }
+}
+
+/// The units of the bytes.
+fn read_units(order: ByteOrder, bytes: &[u8], count: usize, units: &mut [u16; 341])
+    requires even { length bytes.now ≡ 2 * count }
+    requires room { count ≤ 341 }
+    ensures { take count units.new ≡ units_of order bytes.now }
+{
+    match order {
+        ByteOrder::LittleEndian => read_little(bytes, count, units),
+        ByteOrder::BigEndian => {
+            let mut little = [0; 682];
+            swap_into(bytes, &mut little);
+            read_little(&little[..2 * count], count, units);
+        }
+    }
+}
+
+/// The bytes in the other byte order.
+fn swap_into(bytes: &[u8], other: &mut [u8; 682])
+    requires { length bytes.now ≤ 682 }
+    ensures { take (length bytes.now) other.new ≡ swapped bytes.now }
+{
+    other[..bytes.len()].copy_from_slice(bytes);
+    swap_pairs(&mut other[..bytes.len()]);
+}
+
+/// The units of the bytes, the low byte of each first.
+fn read_little(bytes: &[u8], count: usize, units: &mut [u16; 341])
+    requires even { length bytes.now ≡ 2 * count }
+    requires room { count ≤ 341 }
+    ensures { take count units.new ≡ units_of LittleEndian bytes.now }
+{
+    let mut at = 0;
+    'units: while at < count {
+        units[at] = little_unit(bytes[2 * at], bytes[2 * at + 1]);
+        at += 1;
+    }
+}
+
+/// The unit of two bytes, the low one first.
+#[inline(always)]
+fn little_unit(low: u8, high: u8) -> u16
+    ensures { result ≡ unit_of LittleEndian low high }
+{
+    u16::from(high) * 0x100 + u16::from(low)
+}

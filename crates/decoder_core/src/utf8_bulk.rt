@@ -1,0 +1,38 @@
+//! UTF-8 in bulk.
+ghost use Rattle.std.specs.Prelude.{◌≡◌, ◌≤◌, length, take};
+ghost use Rattle.std.specs.Str.{IsUtf8};
+ghost use Rattle.decoder_core.specs.Bulk.{IsBulk};
+ghost use Rattle.decoder_core.specs.Utf8.{utf8, utf8_start};
+
+use crate::bulk::{Bulk, Stride};
+use crate::run_bulk::copy_front;
+use lane_utf::valid_run;
+
+/// Takes the well-formed UTF-8 at the front, where nothing is pending.
+// In the loop over the bytes.
+#[inline(always)]
+pub(crate) fn utf8_bulk(bytes: &[u8], text: &mut [u8; 1024]) -> Bulk
+    ensures { IsBulk utf8 utf8_start bytes.now result text.new }
+{
+    let taken = block_run(bytes);
+    copy_front(bytes, taken, text);
+    Bulk {
+        taken,
+        written: taken,
+        stride: Stride::Utf8,
+    }
+}
+
+/// How many bytes of well-formed UTF-8 there are at the front, as far as the block takes them. What
+/// is behind the block is not read, so that each byte is tested once or twice.
+#[inline(always)]
+fn block_run(bytes: &[u8]) -> usize
+    ensures within { result ≤ length bytes.now }
+    ensures room { result ≤ 1024 }
+    ensures valid { IsUtf8 (take result bytes.now) }
+{
+    match bytes.get(..1024) {
+        Some(front) => valid_run(front),
+        None => valid_run(bytes),
+    }
+}

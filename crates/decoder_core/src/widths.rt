@@ -1,0 +1,29 @@
+//! How long the items of a text are.
+ghost use Rattle.std.specs.Prelude.{◌≡◌};
+ghost use Rattle.std.specs.Str.{chars};
+ghost use Rattle.decoder_core.specs.Bulk.{width_of, run_width};
+
+use crate::bulk::Stride;
+
+/// The length in bytes of an item that is this code point.
+pub(crate) fn width_of(stride: Stride, c: char) -> usize
+    ensures { result ≡ width_of stride c }
+{
+    match stride {
+        Stride::Utf8 => c.len_utf8(),
+        Stride::Utf16 if (c as u32) < 0x1_0000 => 2,
+        Stride::Utf16 => 4,
+    }
+}
+
+/// The length in bytes of the items that are the code points of a text.
+pub(crate) fn text_width(stride: Stride, text: &str) -> usize
+    ensures { result ≡ run_width stride (chars text.now) }
+{
+    let mut width = 0;
+    let mut rest = text.chars();
+    'rest: while let Some(c) = rest.next() {
+        width += width_of(stride, c);
+    }
+    width
+}
