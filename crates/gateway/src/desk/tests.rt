@@ -2,7 +2,7 @@
 ghost use Rattle.std.specs.Prelude.{◌≡◌};
 ghost use Rattle.gateway.specs.DeskRuns.{replies_to, office_without_files, session, session_replies};
 
-use crate::desk::kept::Kept;
+use crate::desk::open_document::OpenDocument;
 use crate::desk::{Command, Desk, Fault, Reply, TextMode};
 use base64::engine::general_purpose::STANDARD;
 use decoder_core::meter;
@@ -13,7 +13,7 @@ use std::alloc::Global;
 use std::process::Abort;
 use std::test::Fail;
 
-// A document opens with a truncated sequence in it, which a splice then completes.
+/// A document opens with a truncated sequence in it, which a splice then completes.
 fn truncated_sequence_is_completed()
     ensures { replies_to office_without_files session ≡ session_replies }
 {}
@@ -320,7 +320,7 @@ fn last_revision_takes_no_edit(rt: HostRuntime) -> Result<(), Fail> {
     let indexes = Indexes::new();
     let last = 9_007_199_254_740_991;
     let document = Doc::open(rt.alloc(), &indexes, Encoding::Utf8, b"a", &mut meter())?;
-    let mut kept = Kept {
+    let mut kept = OpenDocument {
         document,
         revision: last - 1,
     };

@@ -10,7 +10,7 @@ use std::alloc::Global;
 use std::process::Abort;
 use std::test::Fail;
 
-// Three line feeds in pieces: the lines that they complete, and what is begun behind them.
+/// Three line delivers in pieces: the lines that they complete, and what is begun behind them.
 fn cut_lines()
     ensures whole { complete [] (codes "ab\n\nc\r\nd") ≡ codes "ab" ∷ [] ∷ codes "c\r" ∷ [] }
     ensures rest { unfinished [] (codes "ab\n\nc\r\nd") ≡ codes "d" }
@@ -31,7 +31,7 @@ fn expect_fault(rt: &impl Abort, gateway: &mut Gateway<'_>, event: Event<'_>, ex
     }
 }
 
-// The event takes this many bytes and gives no reply.
+/// The event takes this many bytes and gives no reply.
 fn expect_none(rt: &impl Abort, gateway: &mut Gateway<'_>, event: Event<'_>, taken: usize) {
     match gateway.event(event) {
         Ok(out) => {

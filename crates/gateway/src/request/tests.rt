@@ -1,7 +1,7 @@
 //! Worked lines: what they spell, computed on the definition, and what is read from them.
 ghost use Rattle.std.specs.Prelude.{◌≡◌, ◌∷◌, [], codes, Ok, Err, Some, None};
-ghost use Rattle.gateway.specs.Asked.{Opens, Splices, Reads, ListsErrors};
-ghost use Rattle.gateway.specs.Request.{spelt};
+ghost use Rattle.gateway.specs.Commands.{Opens, Splices, Reads, ListsErrors};
+ghost use Rattle.gateway.specs.Request.{request_of_line};
 ghost use Rattle.gateway.specs.declared.desk.text_mode.TextMode.TheVariants.{Replacement, Fatal};
 ghost use Rattle.gateway.specs.declared.request.field.Field.TheVariants as field;
 ghost use Rattle.gateway.specs.declared.request.refusal.Refusal.TheVariants.{BadJson, BadRequest, UnknownOp};
@@ -12,66 +12,66 @@ use std::alloc::Global;
 use std::process::Abort;
 
 fn lines_of_no_command()
-    ensures empty { spelt [] ≡ Err BadJson }
-    ensures cut { spelt (codes "{") ≡ Err BadJson }
-    ensures not_utf8 { spelt (34 ∷ 255 ∷ 34 ∷ []) ≡ Err BadJson }
-    ensures surrogate { spelt (codes "\"\\ud800\"") ≡ Err BadJson }
-    ensures infinite { spelt (codes "1e400") ≡ Err BadJson }
-    ensures list { spelt (codes "[]\r") ≡ Err (BadRequest None field.Object) }
-    ensures no_id { spelt (codes "{\"op\":7}") ≡ Err (BadRequest None field.Id) }
-    ensures no_op { spelt (codes "{\"id\":1}") ≡ Err (BadRequest (Some 1) field.Op) }
-    ensures zap { spelt (codes "{\"id\":1,\"op\":\"zap\"}") ≡ Err (UnknownOp 1) }
+    ensures empty { request_of_line [] ≡ Err BadJson }
+    ensures cut { request_of_line (codes "{") ≡ Err BadJson }
+    ensures not_utf8 { request_of_line (34 ∷ 255 ∷ 34 ∷ []) ≡ Err BadJson }
+    ensures surrogate { request_of_line (codes "\"\\ud800\"") ≡ Err BadJson }
+    ensures infinite { request_of_line (codes "1e400") ≡ Err BadJson }
+    ensures list { request_of_line (codes "[]\r") ≡ Err (BadRequest None field.Object) }
+    ensures no_id { request_of_line (codes "{\"op\":7}") ≡ Err (BadRequest None field.Id) }
+    ensures no_op { request_of_line (codes "{\"id\":1}") ≡ Err (BadRequest (Some 1) field.Op) }
+    ensures zap { request_of_line (codes "{\"id\":1,\"op\":\"zap\"}") ≡ Err (UnknownOp 1) }
 {}
 
 fn numbers()
-    ensures greatest { spelt (codes "{\"id\":9007199254740991,\"op\":\"\"}")
+    ensures greatest { request_of_line (codes "{\"id\":9007199254740991,\"op\":\"\"}")
         ≡ Err (UnknownOp 9007199254740991) }
-    ensures above { spelt (codes "{\"id\":9007199254740992,\"op\":\"\"}")
+    ensures above { request_of_line (codes "{\"id\":9007199254740992,\"op\":\"\"}")
         ≡ Err (BadRequest None field.Id) }
-    ensures point { spelt (codes "{\"id\":1.0,\"op\":\"\"}") ≡ Err (BadRequest None field.Id) }
-    ensures exponent { spelt (codes "{\"id\":1e2,\"op\":\"\"}") ≡ Err (BadRequest None field.Id) }
-    ensures minus { spelt (codes "{\"id\":-0,\"op\":\"\"}") ≡ Err (BadRequest None field.Id) }
-    ensures text { spelt (codes "{\"id\":\"1\",\"op\":\"\"}") ≡ Err (BadRequest None field.Id) }
-    ensures last { spelt (codes "{\"id\":1,\"op\":\"\",\"id\":2}") ≡ Err (UnknownOp 2) }
+    ensures point { request_of_line (codes "{\"id\":1.0,\"op\":\"\"}") ≡ Err (BadRequest None field.Id) }
+    ensures exponent { request_of_line (codes "{\"id\":1e2,\"op\":\"\"}") ≡ Err (BadRequest None field.Id) }
+    ensures minus { request_of_line (codes "{\"id\":-0,\"op\":\"\"}") ≡ Err (BadRequest None field.Id) }
+    ensures text { request_of_line (codes "{\"id\":\"1\",\"op\":\"\"}") ≡ Err (BadRequest None field.Id) }
+    ensures last { request_of_line (codes "{\"id\":1,\"op\":\"\",\"id\":2}") ≡ Err (UnknownOp 2) }
 {}
 
 fn commands()
-    ensures open { spelt (codes
+    ensures open { request_of_line (codes
         "{\"id\":1,\"op\":\"open\",\"doc\":\"a\",\"label\":\"utf-8\",\"bytes\":\"4oJB\"}")
         ≡ Ok (1, Opens (codes "a") (codes "utf-8") (codes "4oJB")) }
-    ensures splice { spelt (codes
+    ensures splice { request_of_line (codes
         "{\"id\":4,\"op\":\"splice\",\"doc\":\"a\",\"rev\":0,\"at\":2,\"del\":1,\"bytes\":\"rA==\"}")
         ≡ Ok (4, Splices (codes "a") 0 2 1 (codes "rA==")) }
-    ensures text { spelt (codes "{\"id\":2,\"op\":\"text\",\"doc\":\"a\",\"from\":0,\"to\":2}")
+    ensures text { request_of_line (codes "{\"id\":2,\"op\":\"text\",\"doc\":\"a\",\"from\":0,\"to\":2}")
         ≡ Ok (2, Reads (codes "a") 0 2 Replacement) }
-    ensures mode { spelt (codes
+    ensures mode { request_of_line (codes
         "{\"id\":2,\"op\":\"text\",\"doc\":\"a\",\"from\":0,\"to\":2,\"mode\":\"replacement\"}")
         ≡ Ok (2, Reads (codes "a") 0 2 Replacement) }
-    ensures fatal { spelt (codes
+    ensures fatal { request_of_line (codes
         "{\"id\":2,\"op\":\"text\",\"doc\":\"a\",\"from\":0,\"to\":2,\"mode\":\"fatal\"}")
         ≡ Ok (2, Reads (codes "a") 0 2 Fatal) }
-    ensures errors { spelt (codes
+    ensures errors { request_of_line (codes
         "{\"id\":3,\"op\":\"errors\",\"doc\":\"a\",\"from\":0,\"max\":10000}")
         ≡ Ok (3, ListsErrors (codes "a") 0 10000) }
 {}
 
 fn faulty_fields()
-    ensures no_name { spelt (codes "{\"id\":1,\"op\":\"text\",\"doc\":\"\"}")
+    ensures no_name { request_of_line (codes "{\"id\":1,\"op\":\"text\",\"doc\":\"\"}")
         ≡ Err (BadRequest (Some 1) field.Doc) }
-    ensures first { spelt (codes "{\"id\":1,\"op\":\"text\",\"from\":-1}")
+    ensures first { request_of_line (codes "{\"id\":1,\"op\":\"text\",\"from\":-1}")
         ≡ Err (BadRequest (Some 1) field.Doc) }
-    ensures null_mode { spelt (codes
+    ensures null_mode { request_of_line (codes
         "{\"id\":1,\"op\":\"text\",\"doc\":\"a\",\"from\":0,\"to\":2,\"mode\":null}")
         ≡ Err (BadRequest (Some 1) field.Mode) }
-    ensures other_mode { spelt (codes
+    ensures other_mode { request_of_line (codes
         "{\"id\":1,\"op\":\"text\",\"doc\":\"a\",\"from\":0,\"to\":2,\"mode\":\"html\"}")
         ≡ Err (BadRequest (Some 1) field.Mode) }
-    ensures max { spelt (codes
+    ensures max { request_of_line (codes
         "{\"id\":1,\"op\":\"errors\",\"doc\":\"a\",\"from\":0,\"max\":10001}")
         ≡ Err (BadRequest (Some 1) field.Max) }
 {}
 
-// The refusal of a line, or none.
+/// The refusal of a line, or none.
 fn refusal(alloc: Global, line: &str) -> Option<Refusal> {
     match read(alloc, line.as_bytes()) {
         Ok(value) => request(&value).err(),
@@ -154,7 +154,7 @@ fn commands_of_the_stored_session(rt: HostRuntime) {
     }
 }
 
-// The mode of the text that a line asks for.
+/// The mode of the text that a line asks for.
 fn mode_asked(alloc: Global, line: &str) -> Option<TextMode> {
     let value = read(alloc, line.as_bytes()).ok()?;
     match request(&value) {

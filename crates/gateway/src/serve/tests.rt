@@ -124,7 +124,7 @@ fn gateway<'i>(alloc: Global, indexes: &'i Indexes) -> Result<Gateway<'i>, Fail>
     Ok(Gateway::new(alloc, desk))
 }
 
-// The reply to one line on connection 0, which is closed before and after.
+/// The reply to one line on connection 0, which is closed before and after.
 fn expect_reply(rt: &impl Abort, gateway: &mut Gateway<'_>, line: &str, expected: &str) {
     assert!(rt; gateway.event(Event::Open(0)).is_ok());
     match gateway.event(Event::Bytes(0, line.as_bytes())) {
@@ -137,14 +137,14 @@ fn expect_reply(rt: &impl Abort, gateway: &mut Gateway<'_>, line: &str, expected
     assert!(rt; gateway.event(Event::Close(0)).is_ok());
 }
 
-// The stored session, written to a device that takes `room` bytes.
+/// The stored session, written to a device that takes `room` bytes.
 fn run_narrow(gateway: &mut Gateway<'_>, held: &mut Vec<u8>, room: usize) -> Result<(), RunFault> {
     let mut reader = MemFeed::new(SESSION.as_bytes());
     let mut writer = ToWrite::new(Narrow { held, room });
     run(gateway, 0, &mut reader, &mut writer)
 }
 
-// The lines, each given when the reply to the one before has been written.
+/// The lines, each given when the reply to the one before has been written.
 fn run_asking<'a>(
     gateway: &mut Gateway<'_>,
     lines: &'a str,

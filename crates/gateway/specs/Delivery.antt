@@ -1,4 +1,4 @@
--- What a run has done so far, on a connection that is open.
+-- What a run has done so far, on a connection that is open. Nothing here has to be believed.
 use Rattle.std.specs.Prelude.{◌≡◌, ℕ, List, Option, Some, None, Result, Ok, Err, take}
 use Rattle.std.specs.Io.KnownBytes.{Consumes, Appends, IsAtEnd}
 use Rattle.gateway.specs.declared.serve.Progress.{Progress}
@@ -22,7 +22,7 @@ pub record Begun (t : Traffic) (c : ℕ) (line : List ℕ) : Type 0 where
   pub stands : Stands known line
 
 -- The replies to the lines that end in the bytes were written, and the next line is begun with what is left.
-pub record Fed (c : ℕ) (bytes : List ℕ) (old new : Traffic) (before after : Option (List ℕ)) : Type 0 where
+pub record Delivered (c : ℕ) (bytes : List ℕ) (old new : Traffic) (before after : Option (List ℕ)) : Type 0 where
   pub out : List ℕ
   pub appends : Appends before after out
   pub serves : (line : List ℕ) → Begun old c line → Serves old.office (complete line bytes) out new.office
@@ -31,7 +31,7 @@ pub record Fed (c : ℕ) (bytes : List ℕ) (old new : Traffic) (before after : 
   pub others : SameOthers old new c
 
 -- The writing of the replies to the lines that end in the bytes broke off.
-pub record FedUntil (c : ℕ) (bytes : List ℕ) (old new : Traffic) (before after : Option (List ℕ)) : Type 0 where
+pub record DeliveredUntil (c : ℕ) (bytes : List ℕ) (old new : Traffic) (before after : Option (List ℕ)) : Type 0 where
   pub out : List ℕ
   pub appends : Appends before after out
   pub breaks : (line : List ℕ) → Begun old c line → Breaks old.office (complete line bytes) out new.office
@@ -45,27 +45,27 @@ WritesReply (Ok x) (Some text) before after = Appends before after text
 WritesReply (Err e) None before after = ⊥
 WritesReply (Err e) (Some text) before after = AppendsPart before after text
 
--- feeding, by its answer
-abbrev pub Feeds : {A E : Type 0} → Result A E → ℕ → List ℕ → Traffic → Traffic → Option (List ℕ) → Option (List ℕ) → Type 0
-Feeds (Ok x) c bytes old new before after = Fed c bytes old new before after
-Feeds (Err e) c bytes old new before after = FedUntil c bytes old new before after
+-- delivering, by its answer
+abbrev pub Delivers : {A E : Type 0} → Result A E → ℕ → List ℕ → Traffic → Traffic → Option (List ℕ) → Option (List ℕ) → Type 0
+Delivers (Ok x) c bytes old new before after = Delivered c bytes old new before after
+Delivers (Err e) c bytes old new before after = DeliveredUntil c bytes old new before after
 
--- feeding the front of some bytes, by the answer, which is the front's length
-abbrev pub FeedsFront : {E : Type 0} → Result ℕ E → ℕ → List ℕ → Traffic → Traffic → Option (List ℕ) → Option (List ℕ) → Type 0
-FeedsFront (Ok n) c bytes old new before after = Fed c (take n bytes) old new before after
-FeedsFront (Err e) c bytes old new before after = FedUntil c bytes old new before after
+-- delivering the front of some bytes, by the answer, which is the front's length
+abbrev pub DeliversFront : {E : Type 0} → Result ℕ E → ℕ → List ℕ → Traffic → Traffic → Option (List ℕ) → Option (List ℕ) → Type 0
+DeliversFront (Ok n) c bytes old new before after = Delivered c (take n bytes) old new before after
+DeliversFront (Err e) c bytes old new before after = DeliveredUntil c bytes old new before after
 
--- bytes were read and fed
+-- bytes were read and delivered
 pub record Pumped (c : ℕ) (old new : Traffic) (left rest before after : Option (List ℕ)) : Type 0 where
   pub read : List ℕ
   pub consumes : Consumes left rest read
-  pub fed : Fed c read old new before after
+  pub delivered : Delivered c read old new before after
 
--- bytes were read, and feeding them broke off
+-- bytes were read, and delivering them broke off
 pub record PumpedUntil (c : ℕ) (old new : Traffic) (left rest before after : Option (List ℕ)) : Type 0 where
   pub read : List ℕ
   pub consumes : Consumes left rest read
-  pub fed : FedUntil c read old new before after
+  pub delivered : DeliveredUntil c read old new before after
 
 -- pumping, by its answer, which is never NotFree
 abbrev pub Pumps : {A : Type 0} → Result A RunFault → ℕ → Traffic → Traffic → Option (List ℕ) → Option (List ℕ) → Option (List ℕ) → Option (List ℕ) → Type 0
@@ -75,7 +75,7 @@ Pumps (Err Read) c old new left rest before after = Pumped c old new left rest b
 Pumps (Err Write) c old new left rest before after = PumpedUntil c old new left rest before after
 Pumps (Err TooManyReads) c old new left rest before after = Pumped c old new left rest before after
 
--- where a read told the end, nothing is left
+-- where a read reported the end, nothing is left
 abbrev pub EndsAt : Progress → Option (List ℕ) → Type 0
 EndsAt More left = Unit {0}
 EndsAt End left = IsAtEnd left

@@ -1,8 +1,7 @@
 //! One open document and its revision.
 ghost use Rattle.std.specs.Prelude.{◌≡◌, OnErr};
-ghost use Rattle.gateway.specs.Documents.{edited, edit_reply, text_reply, errors_reply};
-ghost use Rattle.gateway.specs.Kept.{held};
-ghost use Rattle.gateway.specs.Told.{Gives, with_value};
+ghost use Rattle.gateway.specs.Documents.{edited, edit_reply, text_reply, errors_reply, Gives, with_value};
+ghost use Rattle.gateway.specs.OpenDocuments.{entry_of};
 
 use crate::desk::fault::Fault;
 use crate::desk::reply::{Reply, ReplyPlaces, ReplyText};
@@ -10,22 +9,22 @@ use crate::desk::text_mode::TextMode;
 use decoder_core::meter;
 use piece_rope::Doc;
 
-/// The greatest revision, 2^53 - 1: the greatest whole number that a line may spell.
+/// The greatest revision, 2^53 - 1: the greatest whole number that a line may hold.
 const MAX_REVISION: u64 = 9_007_199_254_740_991;
 
 /// A document and its revision.
 #[derive(Drop)]
-pub struct Kept<'i> {
+pub struct OpenDocument<'i> {
     /// The document as it is now.
     pub document: Doc<'i>,
     /// How many edits of it were accepted.
     pub revision: u64,
 }
 
-impl Kept<'_> {
+impl OpenDocument<'_> {
     /// The reply to the open or the edit that led to this.
     pub fn edit_reply(&self) -> Reply
-        ensures { result ≡ edit_reply self.now.document.indexes (held self.now) }
+        ensures { result ≡ edit_reply self.now.document.indexes (entry_of self.now) }
     {
         Reply::Edited {
             bom: self.document.bom_len(),
@@ -37,7 +36,7 @@ impl Kept<'_> {
     /// Puts `ins` in place of `del` bytes from `at` on and raises the revision by one, if `rev` is
     /// the revision now.
     pub fn splice(&mut self, rev: u64, at: u64, del: u64, ins: &[u8]) -> Result<(), Fault>
-        ensures edit { Gives (edited (held self.old) rev at del ins.now) (with_value (held self.new) result) }
+        ensures edit { Gives (edited (entry_of self.old) rev at del ins.now) (with_value (entry_of self.new) result) }
         ensures indexes { self.new.document.indexes ≡ self.old.document.indexes }
         ensures err { OnErr result (self.new ≡ self.old) }
     {
@@ -54,7 +53,7 @@ impl Kept<'_> {
 
     /// The code points `from..to`. In mode fatal an error anywhere in the document refuses them.
     pub fn text(&self, from: u64, to: u64, mode: TextMode) -> Result<Reply, Fault>
-        ensures { Gives (text_reply self.now.document.indexes (held self.now) from to mode) result }
+        ensures { Gives (text_reply self.now.document.indexes (entry_of self.now) from to mode) result }
     {
         let text = self.document.text(from, to)?;
         match (mode, self.document.fatal()) {
@@ -68,7 +67,7 @@ impl Kept<'_> {
 
     /// At most `max` places of errors, from number `from` on.
     pub fn errors(&self, from: u64, max: u64) -> Result<Reply, Fault>
-        ensures { Gives (errors_reply self.now.document.indexes (held self.now) from max) result }
+        ensures { Gives (errors_reply self.now.document.indexes (entry_of self.now) from max) result }
     {
         let places = self.document.errors(from, max)?;
         Ok(Reply::Errors {

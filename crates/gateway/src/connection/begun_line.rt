@@ -2,7 +2,7 @@
 ghost use Rattle.std.specs.Prelude.{◌≡◌, ℕ, ◌+◌, ◌<◌, List, [], ◌++◌, length, min, take, IsTrue, ◌↔◌, MatchOption, true, false};
 ghost use Rattle.gateway.specs.Step.{line_limit, Replies};
 ghost use Rattle.gateway.specs.Lines.{has_end, before_end};
-ghost use Rattle.gateway.specs.Traffic.{Kept, Lost, Stands, Takes};
+ghost use Rattle.gateway.specs.Traffic.{Received, Dropped, Stands, Takes};
 ghost use Rattle.gateway.specs.Desk.{Office};
 
 use crate::desk::Desk;
@@ -13,42 +13,43 @@ use memchr::memchr;
 use std::alloc::Global;
 use std::marker::Model;
 
-/// The bytes of a line that is begun, at most 4,194,304; or, where they were dropped, how many came.
+/// A line that is begun: its bytes, at most `LINE_LIMIT`; or, where they were dropped, how many
+/// were received.
 #[derive(Drop)]
-pub struct Line {
-    kept: Vec<u8>,
-    lost: Option<usize>,
+pub struct BegunLine {
+    received: Vec<u8>,
+    dropped: Option<usize>,
 }
 
-impl Model for Line {
+impl Model for BegunLine {
     ghost use Rattle.std.specs.Prelude.{◌≡◌, ◌≤◌, [], length, IsSome};
     ghost use Rattle.gateway.specs.Step.{line_limit};
     ghost use Rattle.gateway.specs.Traffic.{Partial, partial_of};
-    ghost use Rattle.gateway.specs.TrafficCode.{partial_code};
+    ghost use Rattle.gateway.specs.Codes.{partial_code};
 
     ghost Value = { Partial };
 
     ghost coded = { partial_code };
 
-    ghost view = { λ a. partial_of a.lost a.kept.items };
+    ghost view = { λ a. partial_of a.dropped a.received.items };
 
-    ghost invariant = { λ a. (length a.kept.items ≤ line_limit)
-        × (IsSome a.lost → a.kept.items ≡ []) };
+    ghost invariant = { λ a. (length a.received.items ≤ line_limit)
+        × (IsSome a.dropped → a.received.items ≡ []) };
 }
 
-impl Line {
-    /// No byte yet.
-    pub fn new(alloc: Global) -> Line
-        ensures { result ≡ Kept [] }
+impl BegunLine {
+    /// A line of which no byte was received.
+    pub fn new(alloc: Global) -> BegunLine
+        ensures { result ≡ Received [] }
     {
-        Line {
-            kept: Vec::new(alloc),
-            lost: None,
+        BegunLine {
+            received: Vec::new(alloc),
+            dropped: None,
         }
     }
 
     /// Takes bytes up to and with the first line feed, which completes the line, or all of them.
-    /// Says how many it took, and the reply to the line that they completed.
+    /// Returns how many it took, and the reply to the line that they completed.
     pub fn take(
         &mut self,
         desk: &mut Desk<'_>,
@@ -66,11 +67,11 @@ impl Line {
         }
     }
 
-    // Answers the line that ends with `piece`, and begins the next. A line that lies in `piece`
-    // whole is answered from there, without a copy.
+    /// Answers the line that ends with `piece`, and begins the next. A line that lies in `piece`
+    /// whole is answered from there, without a copy.
     fn finish(&mut self, desk: &mut Desk<'_>, alloc: Global, piece: &[u8]) -> ReplyLine
         ensures reply { (line : List ℕ) → Stands self.old line → Replies desk.old (line ++ piece.now) result desk.new }
-        ensures fresh { self.new ≡ Kept [] }
+        ensures fresh { self.new ≡ Received [] }
     {
         if self.is_fresh() {
             return respond(desk, alloc, piece);
@@ -81,52 +82,55 @@ impl Line {
         reply
     }
 
-    // Whether nothing of the line came.
+    /// Whether no byte of the line was received.
     fn is_fresh(&self) -> bool
-        ensures { IsTrue result → self.now ≡ Kept [] }
+        ensures { IsTrue result ↔ self.now ≡ Received [] }
     {
-        self.lost.is_none() && self.kept.is_empty()
+        self.dropped.is_none() && self.received.is_empty()
     }
 
+    /// Begins the next line.
     fn clear(&mut self)
-        ensures { self.new ≡ Kept [] }
+        ensures { self.new ≡ Received [] }
     {
-        self.kept.clear();
-        self.lost = None;
+        self.received.clear();
+        self.dropped = None;
     }
 
+    /// The reply to the line, which is complete.
     fn reply(&self, desk: &mut Desk<'_>, alloc: Global) -> ReplyLine
         ensures { (line : List ℕ) → Stands self.now line → Replies desk.old line result desk.new }
     {
-        match self.lost {
-            None => respond(desk, alloc, &self.kept),
-            Some(count) => lost_reply(count),
+        match self.dropped {
+            None => respond(desk, alloc, &self.received),
+            Some(count) => dropped_reply(count),
         }
     }
 
-    // A line over the limit is not kept, nor one whose bytes find no room: its memory is given back.
+    /// Adds bytes to the line. The bytes of a line over the limit are dropped, and so are those of a
+    /// line for which memory runs out; their memory is freed.
     fn extend(&mut self, piece: &[u8])
         ensures { (line : List ℕ) → Stands self.old line → Stands self.new (line ++ piece.now) }
     {
         let count = capped_sum(self.count(), piece.len());
-        let dropped = self.lost.is_some() || count > LINE_LIMIT;
-        if dropped || self.kept.extend_from_slice(piece).is_err() {
-            self.kept = Vec::new(*self.kept.allocator());
-            self.lost = Some(count);
+        let drops = self.dropped.is_some() || count > LINE_LIMIT;
+        if drops || self.received.extend_from_slice(piece).is_err() {
+            self.received = Vec::new(*self.received.allocator());
+            self.dropped = Some(count);
         }
     }
 
-    // How many bytes came, up to the first that is too many.
+    /// How many bytes were received, up to the first that is too many.
     fn count(&self) -> usize
         ensures { (line : List ℕ) → Stands self.now line → min result (line_limit + 1) ≡ min (length line) (line_limit + 1) }
     {
-        self.lost.unwrap_or(self.kept.len())
+        self.dropped.unwrap_or(self.received.len())
     }
 }
 
-// The reply to a line of which only the number of its bytes is known.
-fn lost_reply(count: usize) -> ReplyLine
-    ensures { (line : List ℕ) (office : Office) → Stands (Lost count) line → Replies office line result office }
+/// The reply to a line of which only the number of its bytes is known.
+fn dropped_reply(count: usize) -> ReplyLine
+    ensures { (line : List ℕ) (office : Office) → Stands (Dropped count) line → Replies office line result office }
 {
     if count > LINE_LIMIT {
         ReplyLine::refused(Refusal::LineTooLong)
@@ -135,14 +139,14 @@ fn lost_reply(count: usize) -> ReplyLine
     }
 }
 
-// The number of bytes, counted up to the first that is too many.
+/// The number of bytes, counted up to the first that is too many.
 fn capped_sum(count: usize, more: usize) -> usize
     ensures { result ≡ min (count + more) (line_limit + 1) }
 {
     count.saturating_add(more).min(LINE_LIMIT + 1)
 }
 
-// The index of the first line feed.
+/// The index of the first line feed.
 fn line_end(bytes: &[u8]) -> Option<usize>
     ensures { MatchOption result (has_end bytes.now ≡ false)
         (λ k. (has_end bytes.now ≡ true) × (k < length bytes.now) × (before_end bytes.now ≡ take k bytes.now)) }
