@@ -15,8 +15,8 @@ mod causes;
 mod command;
 mod documents;
 mod fault;
-mod open_document;
 mod laws;
+mod open_document;
 mod reply;
 #[cfg(test)]
 mod tests;

@@ -2,14 +2,14 @@
 ghost use Rattle.std.specs.Prelude.{◌≡◌, ◌<◌, List, [], None, Some, length, replicate, MatchResult, IfOk, OnOk, OnErr};
 ghost use Rattle.gateway.specs.Traffic.{Received};
 
-use crate::connection::{Connections, BegunLine};
+use crate::connection::{BegunLine, Connections};
 use crate::desk::Desk;
 use crate::reply_line::ReplyLine;
 use std::alloc::Global;
 use std::marker::Model;
 
 #[cfg(test)]
-mod tests;
+pub(crate) mod tests;
 
 /// What happens on a connection, which is named by its number, from 0 up to `CONNECTIONS`.
 #[derive(Clone, Copy)]
