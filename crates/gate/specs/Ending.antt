@@ -1,5 +1,7 @@
--- The program's exit status.
-use Rattle.std.specs.Prelude.{ℕ}
+-- The program's exit status, and the names that its texts have for the faults of a label file.
+use Rattle.std.specs.Prelude.{ℕ, List, codes}
+use Rattle.enc_names.specs.declared.labels.LabelFault.{LabelFault}
+use Rattle.enc_names.specs.declared.labels.LabelFault.TheVariants as fault
 use Rattle.gate.specs.declared.failure.Failure.{Failure}
 use Rattle.gate.specs.declared.failure.Failure.TheVariants.{Words, NotText, Index, Labels, CannotRead, Read, Write, TooManyReads, OutOfMemory}
 
@@ -14,3 +16,8 @@ status_of Read = 1
 status_of Write = 1
 status_of TooManyReads = 1
 status_of OutOfMemory = 1
+
+abbrev pub label_fault_name : LabelFault → List ℕ
+label_fault_name fault.NotJson = codes "NotJson"
+label_fault_name fault.BadShape = codes "BadShape"
+label_fault_name fault.OutOfMemory = codes "OutOfMemory"

@@ -1,4 +1,4 @@
-//! What the words of the command line ask.
+//! The command line.
 
 use clap::error::ErrorKind;
 use clap::{Arg, ArgAction, Command, Error};
@@ -25,7 +25,7 @@ pub struct Sources<'a> {
     pub labels: Option<&'a str>,
 }
 
-/// The job that the words spell; the program's name isn't one of them.
+/// The job of the words; the program's name isn't one of them.
 pub fn job_of(alloc: Global, words: &[String]) -> Result<Job<'_>, Error> {
     let mut command = command(alloc)?;
     let matches = command.try_get_matches_from_mut(words)?;

@@ -1,4 +1,6 @@
 //! How the program ends where it can't go on.
+ghost use Rattle.std.specs.Prelude.{◌≡◌};
+ghost use Rattle.gate.specs.Ending.{status_of, label_fault_name};
 
 use crate::text::Text;
 use enc_names::LabelFault;
@@ -9,7 +11,7 @@ use std::fmt;
 /// Why the program ends with another status than 0.
 #[derive(Debug, Drop)]
 pub enum Failure<'a> {
-    /// The words are no command line of the program.
+    /// The words are not a command line of the program.
     Words(clap::Error),
     /// A word isn't text in UTF-8.
     NotText,
@@ -17,22 +19,19 @@ pub enum Failure<'a> {
     Index(IndexFileFault),
     /// The label file is faulty.
     Labels(LabelFault),
-    /// A file, by its name as it is told, can't be read.
+    /// The file of this name can't be read.
     CannotRead(&'a str),
     /// A read failed.
     Read,
     /// A write failed.
     Write,
-    /// The input was read too often.
+    /// The input was read 2^32 times without an end.
     TooManyReads,
     /// Memory ran out outside of a command.
     OutOfMemory,
 }
 
 impl Failure<'_> {
-    ghost use Rattle.std.specs.Prelude.{◌≡◌};
-    ghost use Rattle.gate.specs.Ending.{status_of};
-
     /// The program's exit status: 2 for a mistake in the words or the files that they name, and 1
     /// for a device that failed or memory that ran out.
     pub fn status(&self) -> u8
@@ -48,9 +47,20 @@ impl Failure<'_> {
         }
     }
 
-    /// Writes the failure's text; one that can't be written changes nothing.
-    pub fn tell<E: Outlet>(&self, error: &mut E) {
+    /// Writes the failure's text; one that can't be written is left out.
+    pub fn print<E: Outlet>(&self, error: &mut E) {
         let _ = Text::new(error).put(self);
+    }
+}
+
+/// The fault's name in texts.
+fn label_fault_name(fault: LabelFault) -> &'static str
+    ensures { result.now ≡ label_fault_name fault }
+{
+    match fault {
+        LabelFault::NotJson => "NotJson",
+        LabelFault::BadShape => "BadShape",
+        LabelFault::OutOfMemory => "OutOfMemory",
     }
 }
 
@@ -70,7 +80,10 @@ impl fmt::Display for Failure<'_> {
             Failure::Words(error) => write!(f, "{error}"),
             Failure::NotText => f.write_str("error: a word of the command line isn't UTF-8\n"),
             Failure::Index(fault) => writeln!(f, "gate: {fault}"),
-            Failure::Labels(cause) => writeln!(f, "gate: label file: {cause:?}"),
+            Failure::Labels(fault) => {
+                let cause = label_fault_name(*fault);
+                writeln!(f, "gate: label file: {cause}")
+            }
             Failure::CannotRead(name) => writeln!(f, "gate: cannot read {name}"),
             Failure::Read => f.write_str("gate: read fault\n"),
             Failure::Write => f.write_str("gate: write fault\n"),

@@ -5,6 +5,7 @@ mod command_line;
 mod failure;
 mod labels;
 mod perform;
+mod serve;
 #[cfg(test)]
 mod tests;
 mod text;
@@ -22,7 +23,7 @@ fn words(rt: &HostRuntime) -> io::Result<Vec<String>> {
     Ok(env::args(rt)?.skip(1).collect(rt.alloc())?)
 }
 
-/// Why there are no words: memory ran out, or a word isn't text.
+/// Why the words can't be read: memory ran out, or a word isn't text.
 fn unread_words(error: &io::Error) -> Failure<'static> {
     match error.kind() {
         ErrorKind::OutOfMemory => Failure::OutOfMemory,
@@ -30,7 +31,7 @@ fn unread_words(error: &io::Error) -> Failure<'static> {
     }
 }
 
-/// Does what the words ask, over the standard streams, and gives the exit status.
+/// Runs the program's words over the standard streams, and returns the exit status.
 fn served(rt: &HostRuntime, alloc: Global) -> u8 {
     let mut input = FromRead::new(rt.reader());
     let mut output = ToWrite::new(io::writer(rt));
@@ -39,7 +40,7 @@ fn served(rt: &HostRuntime, alloc: Global) -> u8 {
         Ok(words) => perform(rt, alloc, &words, &mut input, &mut output, &mut error),
         Err(why) => {
             let failure = unread_words(&why);
-            failure.tell(&mut error);
+            failure.print(&mut error);
             failure.status()
         }
     }

@@ -3,17 +3,16 @@
 use crate::command_line::{Job, Sources, job_of};
 use crate::failure::Failure;
 use crate::labels::{labels_in, names};
+use crate::serve::serve;
 use crate::text::Text;
-use enc_names::Labels;
-use gateway::desk::Desk;
-use gateway::{Feed, Gateway, Outlet, RunFault, run};
+use gateway::{Feed, Outlet};
 use index_files::indexes_in;
 use index_loader::Indexes;
 use std::alloc::Global;
 use std::rt::Files;
 
-/// Does what the words ask, with `input` as standard input, `output` as standard output and
-/// `error` as standard error, and gives the exit status. The program's name isn't one of the
+/// Runs the program's words, with `input` as standard input, `output` as standard output and
+/// `error` as standard error, and returns the exit status. The program's name isn't one of the
 /// words. A text that can't be written to `error` changes no status.
 pub fn perform<T: Files, R: Feed, W: Outlet, E: Outlet>(
     rt: &T,
@@ -26,7 +25,7 @@ pub fn perform<T: Files, R: Feed, W: Outlet, E: Outlet>(
     match attempt(rt, alloc, words, input, output) {
         Ok(()) => 0,
         Err(failure) => {
-            failure.tell(error);
+            failure.print(error);
             failure.status()
         }
     }
@@ -61,7 +60,7 @@ fn attempt<'a, T: Files, R: Feed, W: Outlet>(
     }
 }
 
-/// Help goes to the output; every other answer of the command line's reader is a failure.
+/// Help is printed to the output; every other error of the command line is a failure.
 fn refused<'a, W: Outlet>(error: clap::Error, output: &mut W) -> Result<(), Failure<'a>> {
     if error.kind() == clap::error::ErrorKind::OutOfMemory {
         return Err(Failure::OutOfMemory);
@@ -70,25 +69,4 @@ fn refused<'a, W: Outlet>(error: clap::Error, output: &mut W) -> Result<(), Fail
         return Err(Failure::Words(error));
     }
     Text::new(output).put(&error).map_err(|_| Failure::Write)
-}
-
-/// Serves one connection from the input to the output.
-fn serve<'a, R: Feed, W: Outlet>(
-    alloc: Global,
-    indexes: &Indexes,
-    labels: Labels,
-    input: &mut R,
-    output: &mut W,
-) -> Result<(), Failure<'a>> {
-    let Ok(desk) = Desk::new(alloc, indexes, labels) else {
-        return Err(Failure::OutOfMemory);
-    };
-    let mut gateway = Gateway::new(alloc, desk);
-    match run(&mut gateway, 0, input, output) {
-        Ok(()) => Ok(()),
-        Err(RunFault::Read) => Err(Failure::Read),
-        Err(RunFault::Write) => Err(Failure::Write),
-        Err(RunFault::TooManyReads) => Err(Failure::TooManyReads),
-        Err(RunFault::NotFree) => unreachable!(),
-    }
 }

@@ -1,4 +1,4 @@
--- What was fed before, and what is fed next.
+-- What was delivered before, and what is delivered next.
 use Rattle.std.proofs.Common.{ℕ, ◌+◌, ◌≤◌, ◌≢◌, List, [], ◌∷◌, ◌++◌, Option, Err, refl, sym, ap, ◌∙◌, subst, append_assoc}
 use Rattle.std.specs.Io.KnownBytes.{Keeps}
 use Rattle.std.proofs.KnownBytes.{Appends-trans, Appends-nil, Consumes-trans, Consumes-nil, Consumes-kept, Keeps-refl}
@@ -7,7 +7,7 @@ use Rattle.gateway.specs.declared.serve.RunFault.TheVariants.{NotFree, Read, Wri
 use Rattle.gateway.specs.Desk.{Office}
 use Rattle.gateway.specs.Traffic.{Traffic}
 use Rattle.gateway.specs.Serving.{Serves, Breaks, SameOthers, most_reads, IsReadUp}
-use Rattle.gateway.specs.Feeding.{IsOpen, Fed, FedUntil, Pumped, PumpedUntil, Pumps}
+use Rattle.gateway.specs.Delivery.{IsOpen, Delivered, DeliveredUntil, Pumped, PumpedUntil, Pumps}
 use Rattle.gateway.proofs.Cuts.{complete-append, unfinished-append}
 
 pub Serves-append : (o m n : Office) (xs ys : List (List ℕ)) (a b : List ℕ) → Serves o xs a m → Serves m ys b n → Serves o (xs ++ ys) (a ++ b) n
@@ -31,13 +31,13 @@ Serves-Breaks o m n xs ys a b p q = record {
   front = ap (λ l. a ++ l) q.front ∙ sym (append_assoc a q.sent q.part);
 }
 
--- ---- bytes that were fed
+-- ---- bytes that were delivered
 
 SameOthers-trans : (t u v : Traffic) (c : ℕ) → SameOthers t u c → SameOthers u v c → SameOthers t v c
 SameOthers-trans t u v c p q d ne = q d ne ∙ p d ne
 
-pub Fed-nil : (c : ℕ) (t : Traffic) (x : Option (List ℕ)) → IsOpen t c → Fed c [] t t x x
-Fed-nil c t x is_open = record {
+pub Delivered-nil : (c : ℕ) (t : Traffic) (x : Option (List ℕ)) → IsOpen t c → Delivered c [] t t x x
+Delivered-nil c t x is_open = record {
   out = [];
   appends = Appends-nil x;
   serves = λ line b. (refl, refl);
@@ -46,8 +46,8 @@ Fed-nil c t x is_open = record {
   others = λ d ne. refl;
 }
 
-pub Fed-trans : (c : ℕ) (a b : List ℕ) (t u v : Traffic) (x y z : Option (List ℕ)) → Fed c a t u x y → Fed c b u v y z → Fed c (a ++ b) t v x z
-Fed-trans c a b t u v x y z p q = record {
+pub Delivered-trans : (c : ℕ) (a b : List ℕ) (t u v : Traffic) (x y z : Option (List ℕ)) → Delivered c a t u x y → Delivered c b u v y z → Delivered c (a ++ b) t v x z
+Delivered-trans c a b t u v x y z p q = record {
   out = p.out ++ q.out;
   appends = Appends-trans x y z p.out q.out p.appends q.appends;
   serves = λ line begun. rw (complete-append line a b) (Serves-append t.office u.office v.office _ _ p.out q.out (p.serves line begun) (q.serves _ (p.begun line begun)));
@@ -56,8 +56,8 @@ Fed-trans c a b t u v x y z p q = record {
   others = SameOthers-trans t u v c p.others q.others;
 }
 
-pub Fed-FedUntil : (c : ℕ) (a b : List ℕ) (t u v : Traffic) (x y z : Option (List ℕ)) → Fed c a t u x y → FedUntil c b u v y z → FedUntil c (a ++ b) t v x z
-Fed-FedUntil c a b t u v x y z p q = record {
+pub Delivered-DeliveredUntil : (c : ℕ) (a b : List ℕ) (t u v : Traffic) (x y z : Option (List ℕ)) → Delivered c a t u x y → DeliveredUntil c b u v y z → DeliveredUntil c (a ++ b) t v x z
+Delivered-DeliveredUntil c a b t u v x y z p q = record {
   out = p.out ++ q.out;
   appends = Appends-trans x y z p.out q.out p.appends q.appends;
   breaks = λ line begun. rw (complete-append line a b) (Serves-Breaks t.office u.office v.office _ _ p.out q.out (p.serves line begun) (q.breaks _ (p.begun line begun)));
@@ -71,7 +71,7 @@ pub Pumped-nil : (c : ℕ) (t : Traffic) (l m x : Option (List ℕ)) → IsOpen 
 Pumped-nil c t l m x is_open kept = record {
   read = [];
   consumes = Consumes-kept l l m [] (Consumes-nil l) kept;
-  fed = Fed-nil c t x is_open;
+  delivered = Delivered-nil c t x is_open;
 }
 
 pub Pumped-start : (c : ℕ) (t : Traffic) (l x : Option (List ℕ)) → IsOpen t c → Pumped c t t l l x x
@@ -81,14 +81,14 @@ pub Pumped-trans : (c : ℕ) (t u v : Traffic) (l m n x y z : Option (List ℕ))
 Pumped-trans c t u v l m n x y z p q = record {
   read = p.read ++ q.read;
   consumes = Consumes-trans l m n p.read q.read p.consumes q.consumes;
-  fed = Fed-trans c p.read q.read t u v x y z p.fed q.fed;
+  delivered = Delivered-trans c p.read q.read t u v x y z p.delivered q.delivered;
 }
 
 Pumped-PumpedUntil : (c : ℕ) (t u v : Traffic) (l m n x y z : Option (List ℕ)) → Pumped c t u l m x y → PumpedUntil c u v m n y z → PumpedUntil c t v l n x z
 Pumped-PumpedUntil c t u v l m n x y z p q = record {
   read = p.read ++ q.read;
   consumes = Consumes-trans l m n p.read q.read p.consumes q.consumes;
-  fed = Fed-FedUntil c p.read q.read t u v x y z p.fed q.fed;
+  delivered = Delivered-DeliveredUntil c p.read q.read t u v x y z p.delivered q.delivered;
 }
 
 pub Pumped-Err : (A B : Type 0) (f : RunFault) (c : ℕ) (t u v : Traffic) (l m n x y z : Option (List ℕ)) → Pumped c t u l m x y → Pumps {A = A} (Err f) c u v m n y z

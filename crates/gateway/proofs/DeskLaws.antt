@@ -10,15 +10,15 @@ use Rattle.enc_names.specs.declared.encoding.Encoding.{Encoding}
 use Rattle.enc_names.specs.declared.place.Place.{Place}
 use Rattle.enc_names.specs.Labels.{lookup_in}
 use Rattle.index_loader.specs.Files.{Files}
-use Rattle.gateway.specs.Asked.{Opens, Splices, Reads, ListsErrors}
-use Rattle.gateway.specs.Desk.{Office, Outcome, max_documents, refused, told, put, base64_bytes, admitted, opened_as, opened, spliced_at, spliced, text_at, errors_at}
+use Rattle.gateway.specs.Commands.{Opens, Splices, Reads, ListsErrors, base64_bytes}
+use Rattle.gateway.specs.Desk.{Office, Outcome, max_documents, refused, replied, put, admitted, open_outcome_as, open_outcome, splice_outcome_at, splice_outcome, text_outcome_at, errors_outcome_at}
 use Rattle.piece_rope.specs.declared.fault.DocFault.{DocFault}
 use Rattle.piece_rope.specs.declared.fault.DocFault.TheVariants as cause
 use Rattle.piece_rope.specs.Decode.{is_decoded}
 use Rattle.piece_rope.specs.Document.{Document, text_of, errors_of, first_error}
-use Rattle.piece_rope.specs.Edits.{document_limit, open_fault, splice_fault, text_fault, errors_fault, spliced as spliced_bytes}
+use Rattle.piece_rope.specs.Edits.{document_limit, open_fault, splice_fault, text_fault, errors_fault, spliced}
 use Rattle.gateway.specs.DeskRuns.{is_edited, OnlyEditsChange, RefusalsChangeNothing, MemoryIsNeverWanted}
-use Rattle.gateway.specs.Documents.{Held, Names, document_of, max_revision, unless, edited, in_mode, text_reply, errors_reply}
+use Rattle.gateway.specs.Documents.{Entry, Names, document_of, max_revision, unless, edited, in_mode, text_reply, errors_reply}
 use Rattle.gateway.specs.declared.desk.fault.Fault.{Fault}
 use Rattle.gateway.specs.declared.desk.fault.Fault.TheVariants.{NameTaken, OutOfMemory}
 use Rattle.gateway.specs.declared.desk.reply.Reply.{Reply}
@@ -30,61 +30,61 @@ use Rattle.gateway.specs.declared.desk.text_mode.TextMode.TheVariants.{Replaceme
 abbrev Keeps : Names → Outcome → Type 0
 Keeps documents outcome = is_edited outcome.reply ≡ false → outcome.documents ≡ documents
 
-keeps-put : (indexes : Files) (documents : Names) (doc : List ℕ) (change : Result Held Fault) → Keeps documents (put indexes documents doc change)
+keeps-put : (indexes : Files) (documents : Names) (doc : List ℕ) (change : Result Entry Fault) → Keeps documents (put indexes documents doc change)
 keeps-put indexes documents doc (Ok h) = λ e. cc
 keeps-put indexes documents doc (Err f) = λ e. refl
 
-keeps-told : (documents : Names) (answer : Result Reply Fault) → Keeps documents (told documents answer)
-keeps-told documents (Ok reply) = λ e. refl
-keeps-told documents (Err f) = λ e. refl
+keeps-replied : (documents : Names) (answer : Result Reply Fault) → Keeps documents (replied documents answer)
+keeps-replied documents (Ok reply) = λ e. refl
+keeps-replied documents (Err f) = λ e. refl
 
-keeps-opened_as : (indexes : Files) (documents : Names) (doc bytes : List ℕ) (label : Option Encoding) → Keeps documents (opened_as indexes documents doc bytes label)
-keeps-opened_as indexes documents doc bytes None = λ e. refl
-keeps-opened_as indexes documents doc bytes (Some given) = keeps-put indexes documents doc (admitted indexes documents given bytes)
+keeps-open_outcome_as : (indexes : Files) (documents : Names) (doc bytes : List ℕ) (label : Option Encoding) → Keeps documents (open_outcome_as indexes documents doc bytes label)
+keeps-open_outcome_as indexes documents doc bytes None = λ e. refl
+keeps-open_outcome_as indexes documents doc bytes (Some given) = keeps-put indexes documents doc (admitted indexes documents given bytes)
 
 keeps-if : (documents : Names) (b : Bool) (x y : Outcome) → Keeps documents x → Keeps documents y → Keeps documents (if b then x else y)
 keeps-if documents true x y p q = p
 keeps-if documents false x y p q = q
 
-keeps-opened : (o : Office) (doc label : List ℕ) (bytes : Option (List ℕ)) → Keeps o.documents (opened o doc label bytes)
-keeps-opened o doc label None = λ e. refl
-keeps-opened o doc label (Some bytes) =
-    keeps-if o.documents (is_some (get o.documents doc)) (refused o.documents NameTaken) (opened_as o.indexes o.documents doc bytes (lookup_in o.labels label))
-    (λ e. refl) (keeps-opened_as o.indexes o.documents doc bytes (lookup_in o.labels label))
+keeps-open_outcome : (o : Office) (doc label : List ℕ) (bytes : Option (List ℕ)) → Keeps o.documents (open_outcome o doc label bytes)
+keeps-open_outcome o doc label None = λ e. refl
+keeps-open_outcome o doc label (Some bytes) =
+    keeps-if o.documents (is_some (get o.documents doc)) (refused o.documents NameTaken) (open_outcome_as o.indexes o.documents doc bytes (lookup_in o.labels label))
+    (λ e. refl) (keeps-open_outcome_as o.indexes o.documents doc bytes (lookup_in o.labels label))
 
-keeps-spliced_at : (indexes : Files) (documents : Names) (doc : List ℕ) (rev at del : ℕ) (ins : List ℕ) (found : Option Held)
-    → Keeps documents (spliced_at indexes documents doc rev at del ins found)
-keeps-spliced_at indexes documents doc rev at del ins None = λ e. refl
-keeps-spliced_at indexes documents doc rev at del ins (Some h) = keeps-put indexes documents doc (edited h rev at del ins)
+keeps-splice_outcome_at : (indexes : Files) (documents : Names) (doc : List ℕ) (rev at del : ℕ) (ins : List ℕ) (found : Option Entry)
+    → Keeps documents (splice_outcome_at indexes documents doc rev at del ins found)
+keeps-splice_outcome_at indexes documents doc rev at del ins None = λ e. refl
+keeps-splice_outcome_at indexes documents doc rev at del ins (Some h) = keeps-put indexes documents doc (edited h rev at del ins)
 
-keeps-spliced : (o : Office) (doc : List ℕ) (rev at del : ℕ) (ins : Option (List ℕ)) → Keeps o.documents (spliced o doc rev at del ins)
-keeps-spliced o doc rev at del None = λ e. refl
-keeps-spliced o doc rev at del (Some ins) = keeps-spliced_at o.indexes o.documents doc rev at del ins (get o.documents doc)
+keeps-splice_outcome : (o : Office) (doc : List ℕ) (rev at del : ℕ) (ins : Option (List ℕ)) → Keeps o.documents (splice_outcome o doc rev at del ins)
+keeps-splice_outcome o doc rev at del None = λ e. refl
+keeps-splice_outcome o doc rev at del (Some ins) = keeps-splice_outcome_at o.indexes o.documents doc rev at del ins (get o.documents doc)
 
-keeps-text_at : (indexes : Files) (documents : Names) (from to : ℕ) (mode : TextMode) (found : Option Held)
-    → Keeps documents (text_at indexes documents from to mode found)
-keeps-text_at indexes documents from to mode None = λ e. refl
-keeps-text_at indexes documents from to mode (Some h) = keeps-told documents (text_reply indexes h from to mode)
+keeps-text_outcome_at : (indexes : Files) (documents : Names) (from to : ℕ) (mode : TextMode) (found : Option Entry)
+    → Keeps documents (text_outcome_at indexes documents from to mode found)
+keeps-text_outcome_at indexes documents from to mode None = λ e. refl
+keeps-text_outcome_at indexes documents from to mode (Some h) = keeps-replied documents (text_reply indexes h from to mode)
 
-keeps-errors_at : (indexes : Files) (documents : Names) (from max : ℕ) (found : Option Held) → Keeps documents (errors_at indexes documents from max found)
-keeps-errors_at indexes documents from max None = λ e. refl
-keeps-errors_at indexes documents from max (Some h) = keeps-told documents (errors_reply indexes h from max)
+keeps-errors_outcome_at : (indexes : Files) (documents : Names) (from max : ℕ) (found : Option Entry) → Keeps documents (errors_outcome_at indexes documents from max found)
+keeps-errors_outcome_at indexes documents from max None = λ e. refl
+keeps-errors_outcome_at indexes documents from max (Some h) = keeps-replied documents (errors_reply indexes h from max)
 
 pub only_edits_change : OnlyEditsChange
-only_edits_change o (Opens doc label bytes) = keeps-opened o doc label (base64_bytes bytes)
-only_edits_change o (Splices doc rev at del bytes) = keeps-spliced o doc rev at del (base64_bytes bytes)
-only_edits_change o (Reads doc from to mode) = keeps-text_at o.indexes o.documents from to mode (get o.documents doc)
-only_edits_change o (ListsErrors doc from max) = keeps-errors_at o.indexes o.documents from max (get o.documents doc)
+only_edits_change o (Opens doc label bytes) = keeps-open_outcome o doc label (base64_bytes bytes)
+only_edits_change o (Splices doc rev at del bytes) = keeps-splice_outcome o doc rev at del (base64_bytes bytes)
+only_edits_change o (Reads doc from to mode) = keeps-text_outcome_at o.indexes o.documents from to mode (get o.documents doc)
+only_edits_change o (ListsErrors doc from max) = keeps-errors_outcome_at o.indexes o.documents from max (get o.documents doc)
 
 pub refusals_change_nothing : RefusalsChangeNothing
 refusals_change_nothing o c fault e = only_edits_change o c (rw e refl)
 
--- ---- want of memory is no answer of the definition
+-- ---- that memory ran out is no answer of the definition
 
 abbrev Answered : Outcome → Type 0
 Answered outcome = outcome.reply ≡ Refused OutOfMemory → ⊥
 
--- no want of memory refuses this
+-- it isn't refused for lack of memory
 abbrev Decided : {A : Type 0} → Result A Fault → Type 0
 Decided {A} answer = answer ≡ Err OutOfMemory → ⊥
 
@@ -103,7 +103,7 @@ caused-open files given bytes =
 caused-splice : (bytes : List ℕ) (at del : ℕ) (ins : List ℕ) → Caused (splice_fault bytes at del ins)
 unfolding splice_fault
 caused-splice bytes at del ins =
-    caused-if (nat_le (at + del) (length bytes)) _ _ (caused-if (nat_le (length (spliced_bytes bytes at del ins)) document_limit) _ _ (λ e. cc) (λ e. cc)) (λ e. cc)
+    caused-if (nat_le (at + del) (length bytes)) _ _ (caused-if (nat_le (length (spliced bytes at del ins)) document_limit) _ _ (λ e. cc) (λ e. cc)) (λ e. cc)
 
 caused-text : (d : Document) (from to : ℕ) → Caused (text_fault d from to)
 unfolding text_fault
@@ -124,20 +124,20 @@ decided-if : {A : Type 0} (b : Bool) (x y : Result A Fault) → Decided x → De
 decided-if true x y p q = p
 decided-if false x y p q = q
 
-answered-put : (indexes : Files) (documents : Names) (doc : List ℕ) (change : Result Held Fault) → Decided change → Answered (put indexes documents doc change)
+answered-put : (indexes : Files) (documents : Names) (doc : List ℕ) (change : Result Entry Fault) → Decided change → Answered (put indexes documents doc change)
 answered-put indexes documents doc (Ok h) p = λ e. cc
 answered-put indexes documents doc (Err f) p = λ e. p cc
 
-answered-told : (documents : Names) (fault : Option DocFault) (reply : Reply) → Caused fault → (reply ≡ Refused OutOfMemory → ⊥)
-    → Answered (told documents (unless fault reply))
-answered-told documents None reply p q = q
-answered-told documents (Some cause.NoIndex) reply p q = λ e. cc
-answered-told documents (Some cause.OutOfRange) reply p q = λ e. cc
-answered-told documents (Some cause.TooLarge) reply p q = λ e. cc
-answered-told documents (Some cause.OutOfMemory) reply p q = λ e. p refl
+answered-replied : (documents : Names) (fault : Option DocFault) (reply : Reply) → Caused fault → (reply ≡ Refused OutOfMemory → ⊥)
+    → Answered (replied documents (unless fault reply))
+answered-replied documents None reply p q = q
+answered-replied documents (Some cause.NoIndex) reply p q = λ e. cc
+answered-replied documents (Some cause.OutOfRange) reply p q = λ e. cc
+answered-replied documents (Some cause.TooLarge) reply p q = λ e. cc
+answered-replied documents (Some cause.OutOfMemory) reply p q = λ e. p refl
 
 answered-in_mode : (documents : Names) (mode : TextMode) (first : Option Place) (answer : Result Reply Fault)
-    → Answered (told documents answer) → Answered (told documents (in_mode mode first answer))
+    → Answered (replied documents answer) → Answered (replied documents (in_mode mode first answer))
 answered-in_mode documents Replacement first answer p = p
 answered-in_mode documents Fatal None answer p = p
 answered-in_mode documents Fatal (Some place) (Ok reply) p = λ e. cc
@@ -147,7 +147,7 @@ answered-if : (b : Bool) (x y : Outcome) → Answered x → Answered y → Answe
 answered-if true x y p q = p
 answered-if false x y p q = q
 
-decided-edited : (h : Held) (rev at del : ℕ) (ins : List ℕ) → Decided (edited h rev at del ins)
+decided-edited : (h : Entry) (rev at del : ℕ) (ins : List ℕ) → Decided (edited h rev at del ins)
 decided-edited h rev at del ins =
     decided-if (rev == h.revision) _ _
     (decided-if (nat_lt h.revision max_revision) _ _ (decided-unless (splice_fault h.bytes at del ins) _ (caused-splice h.bytes at del ins)) (λ e. cc))
@@ -159,41 +159,41 @@ decided-admitted indexes documents given bytes =
     (decided-if (nat_lt (len documents) max_documents) _ _ (decided-unless (open_fault indexes given bytes) _ (caused-open indexes given bytes)) (λ e. cc))
     (λ e. cc)
 
-answered-opened_as : (indexes : Files) (documents : Names) (doc bytes : List ℕ) (label : Option Encoding) → Answered (opened_as indexes documents doc bytes label)
-answered-opened_as indexes documents doc bytes None = λ e. cc
-answered-opened_as indexes documents doc bytes (Some given) =
+answered-open_outcome_as : (indexes : Files) (documents : Names) (doc bytes : List ℕ) (label : Option Encoding) → Answered (open_outcome_as indexes documents doc bytes label)
+answered-open_outcome_as indexes documents doc bytes None = λ e. cc
+answered-open_outcome_as indexes documents doc bytes (Some given) =
     answered-put indexes documents doc (admitted indexes documents given bytes) (decided-admitted indexes documents given bytes)
 
-answered-opened : (o : Office) (doc label : List ℕ) (bytes : Option (List ℕ)) → Answered (opened o doc label bytes)
-answered-opened o doc label None = λ e. cc
-answered-opened o doc label (Some bytes) =
-    answered-if (is_some (get o.documents doc)) (refused o.documents NameTaken) (opened_as o.indexes o.documents doc bytes (lookup_in o.labels label))
-    (λ e. cc) (answered-opened_as o.indexes o.documents doc bytes (lookup_in o.labels label))
+answered-open_outcome : (o : Office) (doc label : List ℕ) (bytes : Option (List ℕ)) → Answered (open_outcome o doc label bytes)
+answered-open_outcome o doc label None = λ e. cc
+answered-open_outcome o doc label (Some bytes) =
+    answered-if (is_some (get o.documents doc)) (refused o.documents NameTaken) (open_outcome_as o.indexes o.documents doc bytes (lookup_in o.labels label))
+    (λ e. cc) (answered-open_outcome_as o.indexes o.documents doc bytes (lookup_in o.labels label))
 
-answered-spliced_at : (indexes : Files) (documents : Names) (doc : List ℕ) (rev at del : ℕ) (ins : List ℕ) (found : Option Held)
-    → Answered (spliced_at indexes documents doc rev at del ins found)
-answered-spliced_at indexes documents doc rev at del ins None = λ e. cc
-answered-spliced_at indexes documents doc rev at del ins (Some h) =
+answered-splice_outcome_at : (indexes : Files) (documents : Names) (doc : List ℕ) (rev at del : ℕ) (ins : List ℕ) (found : Option Entry)
+    → Answered (splice_outcome_at indexes documents doc rev at del ins found)
+answered-splice_outcome_at indexes documents doc rev at del ins None = λ e. cc
+answered-splice_outcome_at indexes documents doc rev at del ins (Some h) =
     answered-put indexes documents doc (edited h rev at del ins) (decided-edited h rev at del ins)
 
-answered-spliced : (o : Office) (doc : List ℕ) (rev at del : ℕ) (ins : Option (List ℕ)) → Answered (spliced o doc rev at del ins)
-answered-spliced o doc rev at del None = λ e. cc
-answered-spliced o doc rev at del (Some ins) = answered-spliced_at o.indexes o.documents doc rev at del ins (get o.documents doc)
+answered-splice_outcome : (o : Office) (doc : List ℕ) (rev at del : ℕ) (ins : Option (List ℕ)) → Answered (splice_outcome o doc rev at del ins)
+answered-splice_outcome o doc rev at del None = λ e. cc
+answered-splice_outcome o doc rev at del (Some ins) = answered-splice_outcome_at o.indexes o.documents doc rev at del ins (get o.documents doc)
 
-answered-text_at : (indexes : Files) (documents : Names) (from to : ℕ) (mode : TextMode) (found : Option Held)
-    → Answered (text_at indexes documents from to mode found)
-answered-text_at indexes documents from to mode None = λ e. cc
-answered-text_at indexes documents from to mode (Some h) =
+answered-text_outcome_at : (indexes : Files) (documents : Names) (from to : ℕ) (mode : TextMode) (found : Option Entry)
+    → Answered (text_outcome_at indexes documents from to mode found)
+answered-text_outcome_at indexes documents from to mode None = λ e. cc
+answered-text_outcome_at indexes documents from to mode (Some h) =
     answered-in_mode documents mode (first_error (document_of indexes h)) _
-    (answered-told documents (text_fault (document_of indexes h) from to) _ (caused-text (document_of indexes h) from to) (λ e. cc))
+    (answered-replied documents (text_fault (document_of indexes h) from to) _ (caused-text (document_of indexes h) from to) (λ e. cc))
 
-answered-errors_at : (indexes : Files) (documents : Names) (from max : ℕ) (found : Option Held) → Answered (errors_at indexes documents from max found)
-answered-errors_at indexes documents from max None = λ e. cc
-answered-errors_at indexes documents from max (Some h) =
-    answered-told documents (errors_fault (document_of indexes h) from) _ (caused-errors (document_of indexes h) from) (λ e. cc)
+answered-errors_outcome_at : (indexes : Files) (documents : Names) (from max : ℕ) (found : Option Entry) → Answered (errors_outcome_at indexes documents from max found)
+answered-errors_outcome_at indexes documents from max None = λ e. cc
+answered-errors_outcome_at indexes documents from max (Some h) =
+    answered-replied documents (errors_fault (document_of indexes h) from) _ (caused-errors (document_of indexes h) from) (λ e. cc)
 
 pub memory_is_never_wanted : MemoryIsNeverWanted
-memory_is_never_wanted o (Opens doc label bytes) = answered-opened o doc label (base64_bytes bytes)
-memory_is_never_wanted o (Splices doc rev at del bytes) = answered-spliced o doc rev at del (base64_bytes bytes)
-memory_is_never_wanted o (Reads doc from to mode) = answered-text_at o.indexes o.documents from to mode (get o.documents doc)
-memory_is_never_wanted o (ListsErrors doc from max) = answered-errors_at o.indexes o.documents from max (get o.documents doc)
+memory_is_never_wanted o (Opens doc label bytes) = answered-open_outcome o doc label (base64_bytes bytes)
+memory_is_never_wanted o (Splices doc rev at del bytes) = answered-splice_outcome o doc rev at del (base64_bytes bytes)
+memory_is_never_wanted o (Reads doc from to mode) = answered-text_outcome_at o.indexes o.documents from to mode (get o.documents doc)
+memory_is_never_wanted o (ListsErrors doc from max) = answered-errors_outcome_at o.indexes o.documents from max (get o.documents doc)

@@ -1,4 +1,4 @@
--- Kept documents, seen as a finite map from names.
+-- Open documents, seen as a finite map from names.
 use Rattle.std.proofs.Common.{◌≡◌, ℕ, ◌+◌, Bool, true, false, cond, List, [], ◌∷◌, map, length, String, string_bytes, refl, sym, ap, ◌∙◌, subst, suc, arith}
 use Rattle.std.specs.declared.alloc.Global.{Global}
 use Rattle.std.specs.declared.option.Option.{Option}
@@ -22,50 +22,50 @@ use Rattle.std.proofs.lemmas.Map.Keys.{sorted_head, sorted_tail}
 use Rattle.std.proofs.lemmas.Map.Views.{IfSome-lookup_from_All, All-values-insert_entry, All-values-set_value}
 use Rattle.std.proofs.lemmas.Map.Text.{is_eq-slice_cmp, btree_map_updates_text}
 use Rattle.index_loader.specs.Files.{Files}
-use Rattle.gateway.specs.declared.desk.kept.Kept.{Kept}
-use Rattle.gateway.specs.Kept.{held, names, AllOpened}
+use Rattle.gateway.specs.declared.desk.open_document.OpenDocument.{OpenDocument}
+use Rattle.gateway.specs.OpenDocuments.{entry_of, names, AllOpened}
 
 abbrev pub Entries : Type 0
-Entries = List (String Global × Kept)
+Entries = List (String Global × OpenDocument)
 
 -- whether a key's bytes are these
 abbrev pub at_text : List ℕ → String Global → Bool
 at_text bs k = is_at (λ q. slice_cmp nat_cmp bs (string_bytes q)) k
 
-find-entries : (bs : List ℕ) (es : Entries) → finite.find (slice_cmp nat_cmp) bs (map (λ e. (string_bytes e.0, held e.1)) es) ≡ option_map held (lookup (at_text bs) es)
+find-entries : (bs : List ℕ) (es : Entries) → finite.find (slice_cmp nat_cmp) bs (map (λ e. (string_bytes e.0, entry_of e.1)) es) ≡ option_map entry_of (lookup (at_text bs) es)
 find-entries bs [] = refl
 find-entries bs (e ∷ es) =
-    elim (at_text bs e.0) as (λ b. cond b (Some (held e.1)) (finite.find (slice_cmp nat_cmp) bs (map (λ e. (string_bytes e.0, held e.1)) es)) ≡ option_map held (cond b (Some e.1) (lookup (at_text bs) es)))
+    elim (at_text bs e.0) as (λ b. cond b (Some (entry_of e.1)) (finite.find (slice_cmp nat_cmp) bs (map (λ e. (string_bytes e.0, entry_of e.1)) es)) ≡ option_map entry_of (cond b (Some e.1) (lookup (at_text bs) es)))
     [ true ↦ refl | false ↦ find-entries bs es ]
 
--- what is held at a name
-pub get_named : (bs : List ℕ) (es : Entries) → finite.get (names es) bs ≡ option_map held (lookup (at_text bs) es)
+-- what is entry_of at a name
+pub get_named : (bs : List ℕ) (es : Entries) → finite.get (names es) bs ≡ option_map entry_of (lookup (at_text bs) es)
 get_named bs es = finite.get-from_entries nat_list_cmp_total _ bs ∙ find-entries bs es
 
-option_map-cond : (b c : Bool) (k : Kept) (o : Option Kept) → b ≡ c → option_map held (cond b (Some k) o) ≡ cond c (Some (held k)) (option_map held o)
-option_map-cond true c k o e = ap (λ b. cond b (Some (held k)) (option_map held o)) e
-option_map-cond false c k o e = ap (λ b. cond b (Some (held k)) (option_map held o)) e
+option_map-cond : (b c : Bool) (k : OpenDocument) (o : Option OpenDocument) → b ≡ c → option_map entry_of (cond b (Some k) o) ≡ cond c (Some (entry_of k)) (option_map entry_of o)
+option_map-cond true c k o e = ap (λ b. cond b (Some (entry_of k)) (option_map entry_of o)) e
+option_map-cond false c k o e = ap (λ b. cond b (Some (entry_of k)) (option_map entry_of o)) e
 
 same_test : (bs cs : List ℕ) → bytes_eq bs cs ≡ eq_by_cmp (slice_cmp nat_cmp) cs bs
 same_test bs cs = sym (is_eq-slice_cmp bs cs) ∙ (eq_by_cmp_equiv nat_list_cmp_total).symm bs cs
 
 -- a document put at a name
-pub names_updated : (bs : List ℕ) (m n : BTreeMap (String Global) Kept) (k : Kept)
+pub names_updated : (bs : List ℕ) (m n : BTreeMap (String Global) OpenDocument) (k : OpenDocument)
     → tree.UpdatesBy string_cmp (λ q. slice_cmp nat_cmp bs (string_bytes q)) m n (Some k)
-    → names n.entries ≡ finite.insert (names m.entries) bs (held k)
+    → names n.entries ≡ finite.insert (names m.entries) bs (entry_of k)
 names_updated bs m n k updates =
     finite.same_map nat_list_cmp_total (finite.slice_cmp-IsAntisymmetric finite.nat_cmp-IsAntisymmetric) _ _ (λ q.
     get_named q n.entries
-    ∙ ap (option_map held) (btree_map_updates_text bs m n (Some k) updates q)
+    ∙ ap (option_map entry_of) (btree_map_updates_text bs m n (Some k) updates q)
     ∙ option_map-cond (bytes_eq bs q) (eq_by_cmp (slice_cmp nat_cmp) q bs) k _ (same_test bs q)
-    ∙ ap (cond (eq_by_cmp (slice_cmp nat_cmp) q bs) (Some (held k))) (sym (get_named q m.entries))
-    ∙ sym (finite.get-insert nat_list_cmp_total (names m.entries) bs (held k) q))
+    ∙ ap (cond (eq_by_cmp (slice_cmp nat_cmp) q bs) (Some (entry_of k))) (sym (get_named q m.entries))
+    ∙ sym (finite.get-insert nat_list_cmp_total (names m.entries) bs (entry_of k) q))
 
-is_some-option_map : (o : Option Kept) → is_some (option_map held o) ≡ is_some o
+is_some-option_map : (o : Option OpenDocument) → is_some (option_map entry_of o) ≡ is_some o
 is_some-option_map None = refl
 is_some-option_map (Some k) = refl
 
--- whether something is held at a name
+-- whether something is entry_of at a name
 pub has_named : (bs : List ℕ) (es : Entries) → is_some (finite.get (names es) bs) ≡ is_some (lookup (at_text bs) es)
 has_named bs es = ap is_some (get_named bs es) ∙ is_some-option_map (lookup (at_text bs) es)
 
@@ -81,37 +81,37 @@ none_at k (e ∷ es) h = (ap is_eq h.0, none_at k es h.1)
 pub len_named : (es : Entries) → IsStrictlySortedBy string_cmp (keys_of es) → finite.len (names es) ≡ length es
 len_named [] s = finite.len-empty _ _
 len_named (e ∷ es) s =
-    finite.len-insert nat_list_cmp_total (names es) (string_bytes e.0) (held e.1)
+    finite.len-insert nat_list_cmp_total (names es) (string_bytes e.0) (entry_of e.1)
     ∙ one_more _ _ _ (has_named (string_bytes e.0) es ∙ ap is_some (lookup-none _ es (none_at e.0 es (sorted_head string_cmp e.0 (keys_of es) s)))) (len_named es (sorted_tail string_cmp e.0 (keys_of es) s))
 
 -- ---- one entry, found by its name
 
-pub held_none : (bs : List ℕ) (es : Entries) → None ≡ lookup (at_text bs) es → finite.get (names es) bs ≡ None
-held_none bs es none = get_named bs es ∙ ap (option_map held) (sym none)
+pub entry_none : (bs : List ℕ) (es : Entries) → None ≡ lookup (at_text bs) es → finite.get (names es) bs ≡ None
+entry_none bs es none = get_named bs es ∙ ap (option_map entry_of) (sym none)
 
-pub held_some : (bs : List ℕ) (es : Entries) (k : Kept) → Some k ≡ lookup (at_text bs) es → finite.get (names es) bs ≡ Some (held k)
-held_some bs es k some = get_named bs es ∙ ap (option_map held) (sym some)
+pub entry_some : (bs : List ℕ) (es : Entries) (k : OpenDocument) → Some k ≡ lookup (at_text bs) es → finite.get (names es) bs ≡ Some (entry_of k)
+entry_some bs es k some = get_named bs es ∙ ap (option_map entry_of) (sym some)
 
-shown : (o : Option (Bor Kept)) → option_map (λ k. held k.now) o ≡ option_map held (option_map (λ k. k.now) o)
+shown : (o : Option (Bor OpenDocument)) → option_map (λ k. entry_of k.now) o ≡ option_map entry_of (option_map (λ k. k.now) o)
 shown None = refl
 shown (Some k) = refl
 
--- what a look-up lends is what is held
-pub held_lent : (bs : List ℕ) (es : Entries) (o : Option (Bor Kept)) → option_map (λ k. k.now) o ≡ lookup (at_text bs) es
-    → option_map (λ k. held k.now) o ≡ finite.get (names es) bs
-held_lent bs es o e = shown o ∙ ap (option_map held) e ∙ sym (get_named bs es)
+-- what a look-up lends is what is entry_of
+pub entry_lent : (bs : List ℕ) (es : Entries) (o : Option (Bor OpenDocument)) → option_map (λ k. k.now) o ≡ lookup (at_text bs) es
+    → option_map (λ k. entry_of k.now) o ≡ finite.get (names es) bs
+entry_lent bs es o e = shown o ∙ ap (option_map entry_of) e ∙ sym (get_named bs es)
 
 -- what is found was opened with the same index files
-pub opened_found : (indexes : Files) (bs : List ℕ) (es : Entries) (k : Kept) → AllOpened indexes es → Some k ≡ lookup (at_text bs) es
+pub opened_found : (indexes : Files) (bs : List ℕ) (es : Entries) (k : OpenDocument) → AllOpened indexes es → Some k ≡ lookup (at_text bs) es
     → k.document.indexes ≡ indexes
 opened_found indexes bs es k all some =
-    let P : Kept → Type 0 = λ x. x.document.indexes ≡ indexes in
+    let P : OpenDocument → Type 0 = λ x. x.document.indexes ≡ indexes in
     subst (λ o. IfSome o P) (sym some) (IfSome-lookup_from_All P (at_text bs) es all)
 
-pub opened_insert : (indexes : Files) (name : String Global) (k : Kept) (es : Entries) → AllOpened indexes es → k.document.indexes ≡ indexes
+pub opened_insert : (indexes : Files) (name : String Global) (k : OpenDocument) (es : Entries) → AllOpened indexes es → k.document.indexes ≡ indexes
     → AllOpened indexes (tree.insert_entry string_cmp es name k)
 opened_insert indexes name k es all same = All-values-insert_entry string_cmp name k (λ x. x.document.indexes ≡ indexes) es all same
 
-pub opened_set : (indexes : Files) (bs : List ℕ) (k : Kept) (es : Entries) → AllOpened indexes es → k.document.indexes ≡ indexes
+pub opened_set : (indexes : Files) (bs : List ℕ) (k : OpenDocument) (es : Entries) → AllOpened indexes es → k.document.indexes ≡ indexes
     → AllOpened indexes (set_value (at_text bs) es k)
 opened_set indexes bs k es all same = All-values-set_value (at_text bs) (λ x. x.document.indexes ≡ indexes) es k all same

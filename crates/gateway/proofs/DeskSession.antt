@@ -15,10 +15,10 @@ use Rattle.decoder_core.specs.Queue.{run, turns}
 use Rattle.piece_rope.specs.Decode.{is_decoded, decode}
 use Rattle.piece_rope.specs.Document.{text_of, errors_of}
 use Rattle.piece_rope.specs.Edits.{open_fault, splice_fault, text_fault, errors_fault}
-use Rattle.gateway.specs.Asked.{Asked, Opens, Splices, Reads, ListsErrors}
-use Rattle.gateway.specs.Desk.{Office, Outcome, max_documents, refused, told, put, base64_bytes, opened_as, opened, spliced_at, spliced, text_at, errors_at, answer_of}
+use Rattle.gateway.specs.Commands.{Asked, Opens, Splices, Reads, ListsErrors, base64_bytes}
+use Rattle.gateway.specs.Desk.{Office, Outcome, max_documents, refused, replied, put, open_outcome_as, open_outcome, splice_outcome_at, splice_outcome, text_outcome_at, errors_outcome_at, answer_of}
 use Rattle.gateway.specs.DeskRuns.{replies_to, office_without_files, session, session_replies}
-use Rattle.gateway.specs.Documents.{Held, Names, fresh, unless, edited, edit_reply, text_reply, errors_reply}
+use Rattle.gateway.specs.Documents.{Entry, Names, fresh, unless, edited, edit_reply, text_reply, errors_reply}
 use Rattle.gateway.specs.declared.desk.fault.Fault.TheVariants.{NameTaken, NoIndex, TooManyDocuments, OutOfRange}
 use Rattle.gateway.specs.declared.desk.reply.Reply.{Reply}
 use Rattle.gateway.specs.declared.desk.reply.Reply.TheVariants.{Edited, Text, Errors, Refused}
@@ -36,12 +36,12 @@ no_bytes : base64_bytes (codes "") ≡ Some []
 unfolding base64_on_literals
 no_bytes = refl
 
--- ---- what is held, and what it decodes to
+-- ---- what is entry_of, and what it decodes to
 
-abbrev truncated : Held
+abbrev truncated : Entry
 truncated = record { given = Utf8; bytes = 0xE2 ∷ 0x82 ∷ 0x41 ∷ []; revision = 0 }
 
-abbrev completed : Held
+abbrev completed : Entry
 completed = record { given = Utf8; bytes = 0xE2 ∷ 0x82 ∷ 0xAC ∷ 0x41 ∷ []; revision = 1 }
 
 truncated_edit : edit_reply no_files truncated ≡ Edited 0 Utf8 0
@@ -90,14 +90,14 @@ one = finite.insert finite.empty name truncated
 abbrev two : Names
 two = finite.insert one name completed
 
-none_held : finite.get (finite.empty {X = Held} {R = slice_cmp nat_cmp}) name ≡ None
-none_held = finite.get-empty (slice_cmp nat_cmp) name
+no_entry : finite.get (finite.empty {X = Entry} {R = slice_cmp nat_cmp}) name ≡ None
+no_entry = finite.get-empty (slice_cmp nat_cmp) name
 
-one_held : finite.get one name ≡ Some truncated
-one_held = finite.get-insert nat_list_cmp_total finite.empty name truncated name
+one_entry : finite.get one name ≡ Some truncated
+one_entry = finite.get-insert nat_list_cmp_total finite.empty name truncated name
 
-two_held : finite.get two name ≡ Some completed
-two_held = finite.get-insert nat_list_cmp_total one name completed name
+two_entries : finite.get two name ≡ Some completed
+two_entries = finite.get-insert nat_list_cmp_total one name completed name
 
 -- ---- the steps
 
@@ -106,31 +106,31 @@ office documents = record { indexes = no_files; labels = name_labels; documents 
 
 opens : answer_of (office finite.empty) (Opens name (codes "utf-8") (codes "4oJB")) ≡ record { reply = Edited 0 Utf8 0; documents = one }
 opens =
-    ap (opened (office finite.empty) name (codes "utf-8")) opened_bytes
-    ∙ ap (λ g. if is_some g then refused finite.empty NameTaken else opened_as no_files finite.empty name truncated.bytes (Some Utf8)) none_held
-    ∙ ap (put no_files finite.empty name) (admitting _ (finite.len-empty (slice_cmp nat_cmp) Held))
+    ap (open_outcome (office finite.empty) name (codes "utf-8")) opened_bytes
+    ∙ ap (λ g. if is_some g then refused finite.empty NameTaken else open_outcome_as no_files finite.empty name truncated.bytes (Some Utf8)) no_entry
+    ∙ ap (put no_files finite.empty name) (admitting _ (finite.len-empty (slice_cmp nat_cmp) Entry))
     ∙ ap (λ r. record { reply = r; documents = one }) truncated_edit
 
 reads_truncated : answer_of (office one) (Reads name 0 2 Replacement) ≡ record { reply = Text 0 (0xEF ∷ 0xBF ∷ 0xBD ∷ 0x41 ∷ []); documents = one }
-reads_truncated = ap (text_at no_files one 0 2 Replacement) one_held ∙ ap (told one) truncated_text
+reads_truncated = ap (text_outcome_at no_files one 0 2 Replacement) one_entry ∙ ap (replied one) truncated_text
 
 lists_errors : answer_of (office one) (ListsErrors name 0 10) ≡ record { reply = Errors 0 1 (record { from = 0; to = 2 } ∷ []); documents = one }
-lists_errors = ap (errors_at no_files one 0 10) one_held ∙ ap (told one) truncated_errors
+lists_errors = ap (errors_outcome_at no_files one 0 10) one_entry ∙ ap (replied one) truncated_errors
 
 splices : answer_of (office one) (Splices name 0 2 0 (codes "rA==")) ≡ record { reply = Edited 0 Utf8 1; documents = two }
 splices =
-    ap (spliced (office one) name 0 2 0) spliced_bytes
-    ∙ ap (spliced_at no_files one name 0 2 0 (0xAC ∷ [])) one_held
+    ap (splice_outcome (office one) name 0 2 0) spliced_bytes
+    ∙ ap (splice_outcome_at no_files one name 0 2 0 (0xAC ∷ [])) one_entry
     ∙ ap (put no_files one name) completing
     ∙ ap (λ r. record { reply = r; documents = two }) completed_edit
 
 reads_completed : answer_of (office two) (Reads name 0 2 Replacement) ≡ record { reply = Text 1 (0xE2 ∷ 0x82 ∷ 0xAC ∷ 0x41 ∷ []); documents = two }
-reads_completed = ap (text_at no_files two 0 2 Replacement) two_held ∙ ap (told two) completed_text
+reads_completed = ap (text_outcome_at no_files two 0 2 Replacement) two_entries ∙ ap (replied two) completed_text
 
 splices_past_end : answer_of (office two) (Splices name 1 5 0 (codes "")) ≡ record { reply = Refused OutOfRange; documents = two }
 splices_past_end =
-    ap (spliced (office two) name 1 5 0) no_bytes
-    ∙ ap (spliced_at no_files two name 1 5 0 []) two_held
+    ap (splice_outcome (office two) name 1 5 0) no_bytes
+    ∙ ap (splice_outcome_at no_files two name 1 5 0 []) two_entries
     ∙ ap (put no_files two name) past_end
 
 -- one step in front of the later ones

@@ -6,7 +6,7 @@ mod DeskSession
 mod DeskSteps
 mod Devices
 mod LineEnds
-mod LostLines
+mod DroppedLines
 mod PlainText
 mod Runs
 mod SentLines

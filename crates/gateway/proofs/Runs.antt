@@ -5,15 +5,15 @@ use Rattle.gateway.specs.declared.serve.RunFault.{RunFault}
 use Rattle.gateway.specs.declared.serve.RunFault.TheVariants.{NotFree, Read, Write, TooManyReads}
 use Rattle.gateway.specs.Desk.{Office}
 use Rattle.gateway.specs.Lines.{complete}
-use Rattle.gateway.specs.Traffic.{Kept, Traffic}
+use Rattle.gateway.specs.Traffic.{Received, Traffic}
 use Rattle.gateway.specs.Events.{line_at, with_line}
 use Rattle.gateway.specs.Serving.{Serves, Breaks, SameOthers, Ran, RanUntil, Runs}
-use Rattle.gateway.specs.Feeding.{Begun, Pumped, PumpedUntil, Pumps}
+use Rattle.gateway.specs.Delivery.{Begun, Pumped, PumpedUntil, Pumps}
 
 -- connection c opened
 pub record Opened (t u : Traffic) (c : ℕ) : Type 0 where
   pub small : c < length t.lines
-  pub is : u ≡ with_line t c (Some (Kept []))
+  pub is : u ≡ with_line t c (Some (Received []))
 
 -- connection c closed
 pub record Closed (t u : Traffic) (c : ℕ) : Type 0 where
@@ -24,14 +24,14 @@ pub record Closed (t u : Traffic) (c : ℕ) : Type 0 where
 
 module _ (c : ℕ) (t u v w : Traffic) (l m x y : Option (List ℕ)) (opened : Opened t u c) (closed : Closed v w c) where
   others : SameOthers u v c → SameOthers t w c
-  others fed d ne =
-      ap (λ s. line_at s d) closed.is ∙ get_or-set_other v.lines c d None None ne ∙ fed d ne
-      ∙ ap (λ s. line_at s d) opened.is ∙ get_or-set_other t.lines c d (Some (Kept [])) None ne
+  others delivered d ne =
+      ap (λ s. line_at s d) closed.is ∙ get_or-set_other v.lines c d None None ne ∙ delivered d ne
+      ∙ ap (λ s. line_at s d) opened.is ∙ get_or-set_other t.lines c d (Some (Received [])) None ne
 
   begun : Begun u c []
   begun = record {
-    known = Kept [];
-    is = ap (λ s. line_at s c) opened.is ∙ get_or-set_same t.lines c (Some (Kept [])) None opened.small;
+    known = Received [];
+    is = ap (λ s. line_at s c) opened.is ∙ get_or-set_same t.lines c (Some (Received [])) None opened.small;
     stands = refl;
   }
 
@@ -44,23 +44,23 @@ module _ (c : ℕ) (t u v w : Traffic) (l m x y : Option (List ℕ)) (opened : O
   ran : Pumped c u v l m x y → Ran c t w l m x y
   ran p = record {
     read = p.read;
-    out = p.fed.out;
+    out = p.delivered.out;
     consumes = p.consumes;
-    appends = p.fed.appends;
-    serves = moved (λ o n. Serves o (complete [] p.read) p.fed.out n) (p.fed.serves [] begun);
+    appends = p.delivered.appends;
+    serves = moved (λ o n. Serves o (complete [] p.read) p.delivered.out n) (p.delivered.serves [] begun);
     closed = gone;
-    others = others p.fed.others;
+    others = others p.delivered.others;
   }
 
   ran_until : PumpedUntil c u v l m x y → RanUntil c t w l m x y
   ran_until p = record {
     read = p.read;
-    out = p.fed.out;
+    out = p.delivered.out;
     consumes = p.consumes;
-    appends = p.fed.appends;
-    breaks = moved (λ o n. Breaks o (complete [] p.read) p.fed.out n) (p.fed.breaks [] begun);
+    appends = p.delivered.appends;
+    breaks = moved (λ o n. Breaks o (complete [] p.read) p.delivered.out n) (p.delivered.breaks [] begun);
     closed = gone;
-    others = others p.fed.others;
+    others = others p.delivered.others;
   }
 
   pub runs : {A : Type 0} (r : Result A RunFault) → Pumps r c u v l m x y → Runs r c t w l m x y

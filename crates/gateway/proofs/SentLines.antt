@@ -6,7 +6,7 @@ use Rattle.serde_json.specs.Events.{SendsValue, items_len}
 use Rattle.serde_json.specs.Written.{has_float, items_have_float}
 use Rattle.serde_json.proofs.FreeTexts.{text_of_value}
 use Rattle.gateway.specs.Replies.{line_of, places_data}
-use Rattle.gateway.specs.Sent.{IsLineOf}
+use Rattle.gateway.specs.Writing.{IsLineOf}
 
 pub line-of : (d : Data) (line : List ℕ) → has_float d ≡ false → IsLineOf (SendsValue d) line → line ≡ line_of d
 line-of d line whole sent = sent.ends ∙ ap (λ t. t ++ 10 ∷ []) (text_of_value d sent.log sent.text sent.sent sent.written whole)

@@ -10,45 +10,45 @@ use Rattle.gateway.specs.declared.desk.reply.Reply.{Reply}
 use Rattle.gateway.specs.declared.desk.reply.Reply.TheVariants.{Edited, Text, Errors, Refused}
 use Rattle.gateway.specs.declared.request.refusal.Refusal.{Refusal}
 use Rattle.gateway.specs.declared.request.refusal.Refusal.TheVariants as refusal
-use Rattle.gateway.specs.Asked.{Asked}
-use Rattle.gateway.specs.Request.{◌>>=◌, value_of, request_of, IsValueOf}
+use Rattle.gateway.specs.Commands.{Asked}
+use Rattle.gateway.specs.Request.{◌>>=◌, json_of_line, request_of, IsJsonOfLine}
 use Rattle.gateway.specs.Replies.{reply_text, refusal_text, memory_text, is_short}
 use Rattle.std.proofs.lemmas.Bool.{false_from_ne_true}
 use Rattle.gateway.specs.Documents.{Names}
 use Rattle.gateway.specs.Desk.{Office, Outcome, Answers, IsOutcome, answer_of}
 use Rattle.gateway.specs.DeskRuns.{is_edited}
 use Rattle.gateway.proofs.DeskLaws.{only_edits_change}
-use Rattle.gateway.proofs.LostLines.{memory_answers}
+use Rattle.gateway.proofs.DroppedLines.{memory_answers}
 use Rattle.gateway.specs.Step.{Step, IsStep, Replies, answered, step_by, step_of, line_limit}
 
--- ---- the text of want of memory
+-- ---- the text that reports that memory ran out
 
 pub memory_same : bytes_eq memory_text memory_text ≡ true
 unfolding escape_byte
 memory_same = refl
 
--- of all replies want of memory alone reads like it
-abbrev pub IsTold : ℕ → Reply → Type 0
-IsTold id (Refused OutOfMemory) = Unit {0}
-IsTold id reply = bytes_eq (reply_text id reply) memory_text ≡ false
+-- of all replies only the one for memory has its text
+abbrev pub IsApart : ℕ → Reply → Type 0
+IsApart id (Refused OutOfMemory) = Unit {0}
+IsApart id reply = bytes_eq (reply_text id reply) memory_text ≡ false
 
-pub told_apart : (id : ℕ) (reply : Reply) → IsTold id reply
+pub texts_apart : (id : ℕ) (reply : Reply) → IsApart id reply
 unfolding escape_byte
-told_apart id (Edited bom encoding rev) = refl
-told_apart id (Text rev text) = refl
-told_apart id (Errors rev total places) = refl
-told_apart id (Refused OutOfMemory) = tt
-told_apart id (Refused BadBase64) = refl
-told_apart id (Refused NoDocument) = refl
-told_apart id (Refused NameTaken) = refl
-told_apart id (Refused UnknownLabel) = refl
-told_apart id (Refused NoIndex) = refl
-told_apart id (Refused TooManyDocuments) = refl
-told_apart id (Refused (Stale rev)) = refl
-told_apart id (Refused RevisionsSpent) = refl
-told_apart id (Refused OutOfRange) = refl
-told_apart id (Refused TooLarge) = refl
-told_apart id (Refused (Malformed place)) = refl
+texts_apart id (Edited bom encoding rev) = refl
+texts_apart id (Text rev text) = refl
+texts_apart id (Errors rev total places) = refl
+texts_apart id (Refused OutOfMemory) = tt
+texts_apart id (Refused BadBase64) = refl
+texts_apart id (Refused NoDocument) = refl
+texts_apart id (Refused NameTaken) = refl
+texts_apart id (Refused UnknownLabel) = refl
+texts_apart id (Refused NoIndex) = refl
+texts_apart id (Refused TooManyDocuments) = refl
+texts_apart id (Refused (Stale rev)) = refl
+texts_apart id (Refused RevisionsSpent) = refl
+texts_apart id (Refused OutOfRange) = refl
+texts_apart id (Refused TooLarge) = refl
+texts_apart id (Refused (Malformed place)) = refl
 
 -- ---- the desk's answer
 
@@ -63,36 +63,36 @@ same_step old new id outcome reply text e o p q =
     let step : List ℕ → Files → LabelTable → Step = λ t i l. record { text = t; office = record { indexes = i; labels = l; documents = new.documents } } in
     ap (answered old id) o ∙ ap (λ t. step t old.indexes old.labels) (sym e) ∙ ap (λ i. step text i old.labels) (sym p) ∙ ap (λ l. step text new.indexes l) (sym q)
 
--- a step whose text isn't that of want of memory
+-- a step with another text
 other_step : (old new : Office) (step : Step) (text other : List ℕ) → text ≡ other → bytes_eq other memory_text ≡ false → step ≡ record { text = text; office = new } → IsStep old step text new
 other_step old new step text other e apart is = rw (e, apart) (rw e at is)
 
 -- a step that memory didn't suffice for
-lost_step : (old new : Office) (step : Step) (text : List ℕ) → text ≡ memory_text → new ≡ old → IsStep old step text new
-lost_step old new step text e same = rw (e, memory_same) same
+memory_step : (old new : Office) (step : Step) (text : List ℕ) → text ≡ memory_text → new ≡ old → IsStep old step text new
+memory_step old new step text e same = rw (e, memory_same) same
 
 -- the desk answered, and its reply was written
 pub desk_step : (old new : Office) (id : ℕ) (command : Asked) (reply : Reply) (text : List ℕ) → text ≡ reply_text id reply → Answers old command reply new
     → IsStep old (answered old id (answer_of old command)) text new
-desk_step old new id command (Refused OutOfMemory) text e a = lost_step old new _ text e (same_office old new a.indexes a.labels a.step)
+desk_step old new id command (Refused OutOfMemory) text e a = memory_step old new _ text e (same_office old new a.indexes a.labels a.step)
 desk_step old new id command reply text e a =
-    other_step old new _ text _ e (told_apart id reply) (same_step old new id _ reply text e a.step a.indexes a.labels)
+    other_step old new _ text _ e (texts_apart id reply) (same_step old new id _ reply text e a.step a.indexes a.labels)
 
--- ---- replies that want memory
+-- ---- replies that need memory
 
-lost_same : (old new : Office) (command : Asked) (reply : Reply) → is_short reply ≡ false → IsOutcome (answer_of old command) reply old.documents new.documents → new.documents ≡ old.documents
-lost_same old new command (Edited bom encoding rev) long is = cc
-lost_same old new command (Refused fault) long is = cc
-lost_same old new command (Text rev text) long is =
+unwritten_same : (old new : Office) (command : Asked) (reply : Reply) → is_short reply ≡ false → IsOutcome (answer_of old command) reply old.documents new.documents → new.documents ≡ old.documents
+unwritten_same old new command (Edited bom encoding rev) long is = cc
+unwritten_same old new command (Refused fault) long is = cc
+unwritten_same old new command (Text rev text) long is =
     sym (ap (λ o. o.documents) is) ∙ only_edits_change old command (ap (λ o. is_edited o.reply) is)
-lost_same old new command (Errors rev total places) long is =
+unwritten_same old new command (Errors rev total places) long is =
     sym (ap (λ o. o.documents) is) ∙ only_edits_change old command (ap (λ o. is_edited o.reply) is)
 
 -- the desk answered, and memory didn't suffice to write its reply
-pub lost_reply_step : (old new : Office) (step : Step) (command : Asked) (reply : Reply) (text : List ℕ) → text ≡ memory_text → (is_short reply ≡ true → ⊥) → Answers old command reply new
+pub unwritten_reply_step : (old new : Office) (step : Step) (command : Asked) (reply : Reply) (text : List ℕ) → text ≡ memory_text → (is_short reply ≡ true → ⊥) → Answers old command reply new
     → IsStep old step text new
-lost_reply_step old new step command reply text e long a =
-    lost_step old new step text e (same_office old new a.indexes a.labels (lost_same old new command reply (false_from_ne_true _ long) a.step))
+unwritten_reply_step old new step command reply text e long a =
+    memory_step old new step text e (same_office old new a.indexes a.labels (unwritten_same old new command reply (false_from_ne_true _ long) a.step))
 
 -- ---- refusals
 
@@ -113,13 +113,13 @@ short_answers o line text new short is =
     rw test is
 
 -- a line whose value was read
-pub read_answers : (o : Office) (line text : List ℕ) (new : Office) (d : Data) → length line ≤ line_limit → value_of line ≡ Ok d → IsStep o (step_by o (request_of d)) text new
+pub read_answers : (o : Office) (line text : List ℕ) (new : Office) (d : Data) → length line ≤ line_limit → json_of_line line ≡ Ok d → IsStep o (step_by o (request_of d)) text new
     → Replies o line text new
 read_answers o line text new d short e is =
     short_answers o line text new short (subst (λ r. IsStep o (step_by o r) text new) (sym (ap (λ v. v >>= request_of) e)) is)
 
--- a line that spells no value, or whose value memory didn't suffice for
-pub unread_answers : (o : Office) (line text : List ℕ) (r : Refusal) → length line ≤ line_limit → IsValueOf line (Err r) → text ≡ refusal_text r → Replies o line text o
+-- a line without a value, or whose value memory didn't suffice for
+pub unread_answers : (o : Office) (line text : List ℕ) (r : Refusal) → length line ≤ line_limit → IsJsonOfLine line (Err r) → text ≡ refusal_text r → Replies o line text o
 unread_answers o line text refusal.OutOfMemory short e is = memory_answers o line text is short
 unread_answers o line text r short e is =
     short_answers o line text o short (subst (λ s. IsStep o (step_by o s) text o) (sym (ap (λ v. v >>= request_of) e)) (refused_step o r text is))

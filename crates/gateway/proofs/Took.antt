@@ -8,16 +8,16 @@ use Rattle.gateway.specs.declared.gateway.GateFault.{GateFault}
 use Rattle.gateway.specs.declared.gateway.GateFault.TheVariants.{BadNumber}
 use Rattle.gateway.specs.Step.{Replies}
 use Rattle.gateway.specs.Lines.{complete, has_end, before_end}
-use Rattle.gateway.specs.Traffic.{Partial, Kept, Stands, Traffic}
-use Rattle.gateway.specs.Events.{connections, at_number, unless_open, numbered, line_at, Took}
+use Rattle.gateway.specs.Traffic.{Partial, Received, Stands, Traffic}
+use Rattle.gateway.specs.Events.{connections, at_number, unless_open, unless_bad_number, line_at, Took}
 use Rattle.gateway.specs.Devices.{AppendsPart}
 use Rattle.gateway.specs.Serving.{Breaks, SameOthers}
-use Rattle.gateway.specs.Feeding.{IsOpen, Begun, Fed, FedUntil, WritesReply}
+use Rattle.gateway.specs.Delivery.{IsOpen, Begun, Delivered, DeliveredUntil, WritesReply}
 use Rattle.gateway.proofs.Cuts.{complete_without, unfinished_without, before_without, cut_at_end, complete_at_end, unfinished_at_end, taken_at_end}
 
 -- ---- connections
 
-good_number : (c : ℕ) (fault : Option GateFault) → numbered c fault ≡ None → c < connections
+good_number : (c : ℕ) (fault : Option GateFault) → unless_bad_number c fault ≡ None → c < connections
 good_number c fault h =
     ltb-true c connections (elim (nat_lt c connections) as (λ t. (if t then fault else Some BadNumber) ≡ None → t ≡ true) [ true ↦ λ _. refl | false ↦ λ no. cc ] h)
 
@@ -71,9 +71,9 @@ module _ (t u : Traffic) (c taken : ℕ) (bytes : List ℕ) (reply : Option (Lis
 
 -- ---- no reply
 
-fed_without : (t u : Traffic) (c taken : ℕ) (bytes : List ℕ) (out : Option (List ℕ)) → has_end bytes ≡ false → Took t c bytes taken None u → IsOpen t c → length t.lines ≡ connections
-    → Fed c (take taken bytes) t u out out
-fed_without t u c taken bytes out e took is_open count =
+delivered_without : (t u : Traffic) (c taken : ℕ) (bytes : List ℕ) (out : Option (List ℕ)) → has_end bytes ≡ false → Took t c bytes taken None u → IsOpen t c → length t.lines ≡ connections
+    → Delivered c (take taken bytes) t u out out
+delivered_without t u c taken bytes out e took is_open count =
     let step = rw e at took.takes.step in
     let all : take taken bytes ≡ bytes = take_all taken bytes (omega (arith, taken_without t u c taken bytes None took e)) in
     rw all (record {
@@ -94,9 +94,9 @@ silent_without t u c taken bytes true e took = let step = rw e at took.takes.ste
 silent_without t u c taken bytes false e took = e
 
 -- no reply came: the bytes have no line feed
-fed_silent : (t u : Traffic) (c taken : ℕ) (bytes : List ℕ) (out : Option (List ℕ)) → Took t c bytes taken None u → IsOpen t c → length t.lines ≡ connections
-    → Fed c (take taken bytes) t u out out
-fed_silent t u c taken bytes out took = fed_without t u c taken bytes out (silent_without t u c taken bytes (has_end bytes) refl took) took
+delivered_silent : (t u : Traffic) (c taken : ℕ) (bytes : List ℕ) (out : Option (List ℕ)) → Took t c bytes taken None u → IsOpen t c → length t.lines ≡ connections
+    → Delivered c (take taken bytes) t u out out
+delivered_silent t u c taken bytes out took = delivered_without t u c taken bytes out (silent_without t u c taken bytes (has_end bytes) refl took) took
 
 -- ---- a reply
 
@@ -114,15 +114,15 @@ module _ (t u : Traffic) (c taken : ℕ) (bytes text : List ℕ) (took : Took t 
       let same : step.text ≡ text = let e = step.is in cc in
       subst (λ x. Replies t.office (line ++ before_end bytes) x u.office) same (step.answers line (stood t u c taken bytes (Some text) took is_open count line b))
 
-  fresh : took.next ≡ Kept []
+  fresh : took.next ≡ Received []
   fresh = let step = rw ended at took.takes.step in step.fresh
 
   front : take taken bytes ≡ before_end bytes ++ 10 ∷ []
   front = ap (λ n. take n bytes) (taken_with t u c taken bytes (Some text) took ended) ∙ taken_at_end bytes (before_end bytes) (cut_at_end bytes ended).0 (cut_at_end bytes ended).1
 
   -- a reply came, and was written
-  fed_answered : (before after : Option (List ℕ)) → Appends before after text → Fed c (take taken bytes) t u before after
-  fed_answered before after gone = rw front (record {
+  delivered_answered : (before after : Option (List ℕ)) → Appends before after text → Delivered c (take taken bytes) t u before after
+  delivered_answered before after gone = rw front (record {
     out = text;
     appends = gone;
     serves = λ line b. rw (complete_at_end line (before_end bytes) [] (before_without bytes)) (u.office, text, [], answers line b, sym (append-nil text), (refl, refl));
@@ -152,8 +152,8 @@ module _ (t u : Traffic) (c taken : ℕ) (bytes text : List ℕ) (took : Took t 
   }
 
   -- a reply came, and its write broke off
-  fed_broken : (before after : Option (List ℕ)) → AppendsPart before after text → FedUntil c bytes t u before after
-  fed_broken before after gone = record {
+  delivered_broken : (before after : Option (List ℕ)) → AppendsPart before after text → DeliveredUntil c bytes t u before after
+  delivered_broken before after gone = record {
     out = gone.0;
     appends = gone.4;
     breaks = breaks_here gone.0 gone.1 gone.2 gone.3;
@@ -163,13 +163,13 @@ module _ (t u : Traffic) (c taken : ℕ) (bytes text : List ℕ) (took : Took t 
 
 -- ---- by the write of the reply
 
-pub fed_written : (A E : Type 0) (x : A) (t u : Traffic) (c taken : ℕ) (bytes : List ℕ) (reply before after : Option (List ℕ)) → Took t c bytes taken reply u → IsOpen t c → length t.lines ≡ connections
-    → WritesReply {A = A} {E = E} (Ok x) reply before after → Fed c (take taken bytes) t u before after
-fed_written A E x t u c taken bytes None before after took is_open count same =
-    subst (λ w. Fed c (take taken bytes) t u before w) (sym same) (fed_silent t u c taken bytes before took is_open count)
-fed_written A E x t u c taken bytes (Some text) before after took is_open count gone = fed_answered t u c taken bytes text took is_open count before after gone
+pub delivered_written : (A E : Type 0) (x : A) (t u : Traffic) (c taken : ℕ) (bytes : List ℕ) (reply before after : Option (List ℕ)) → Took t c bytes taken reply u → IsOpen t c → length t.lines ≡ connections
+    → WritesReply {A = A} {E = E} (Ok x) reply before after → Delivered c (take taken bytes) t u before after
+delivered_written A E x t u c taken bytes None before after took is_open count same =
+    subst (λ w. Delivered c (take taken bytes) t u before w) (sym same) (delivered_silent t u c taken bytes before took is_open count)
+delivered_written A E x t u c taken bytes (Some text) before after took is_open count gone = delivered_answered t u c taken bytes text took is_open count before after gone
 
-pub fed_unwritten : (A E : Type 0) (e : E) (t u : Traffic) (c taken : ℕ) (bytes : List ℕ) (reply before after : Option (List ℕ)) → Took t c bytes taken reply u → IsOpen t c → length t.lines ≡ connections
-    → WritesReply {A = A} {E = E} (Err e) reply before after → FedUntil c bytes t u before after
-fed_unwritten A E e t u c taken bytes None before after took is_open count never = absurd never
-fed_unwritten A E e t u c taken bytes (Some text) before after took is_open count gone = fed_broken t u c taken bytes text took is_open count before after gone
+pub delivered_unwritten : (A E : Type 0) (e : E) (t u : Traffic) (c taken : ℕ) (bytes : List ℕ) (reply before after : Option (List ℕ)) → Took t c bytes taken reply u → IsOpen t c → length t.lines ≡ connections
+    → WritesReply {A = A} {E = E} (Err e) reply before after → DeliveredUntil c bytes t u before after
+delivered_unwritten A E e t u c taken bytes None before after took is_open count never = absurd never
+delivered_unwritten A E e t u c taken bytes (Some text) before after took is_open count gone = delivered_broken t u c taken bytes text took is_open count before after gone

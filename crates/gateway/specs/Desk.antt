@@ -1,16 +1,13 @@
 -- The desk: named documents, and what one command answers and leaves.
 use Rattle.std.specs.Prelude.{◌≡◌, ℕ, nat_lt, List, if◌then◌else◌, Option, Some, None, is_some, Result, Ok, Err}
-use Rattle.std.specs.Result.{result_ok}
 use Rattle.std.specs.FinMap.{get, insert, len}
-use Rattle.base64.specs.Engines.{standard}
-use Rattle.base64.specs.GeneralPurpose.{decode_of}
 use Rattle.enc_names.specs.declared.encoding.Encoding.{Encoding}
 use Rattle.enc_names.specs.Labels.{LabelTable, lookup_in}
 use Rattle.index_loader.specs.Files.{Files}
 use Rattle.piece_rope.specs.Decode.{is_decoded}
 use Rattle.piece_rope.specs.Edits.{open_fault}
-use Rattle.gateway.specs.Asked.{Asked, Opens, Splices, Reads, ListsErrors}
-use Rattle.gateway.specs.Documents.{Held, Names, fresh, unless, edited, edit_reply, text_reply, errors_reply}
+use Rattle.gateway.specs.Commands.{Asked, Opens, Splices, Reads, ListsErrors, base64_bytes}
+use Rattle.gateway.specs.Documents.{Entry, Names, fresh, unless, edited, edit_reply, text_reply, errors_reply}
 use Rattle.gateway.specs.declared.desk.fault.Fault.{Fault}
 use Rattle.gateway.specs.declared.desk.fault.Fault.TheVariants.{BadBase64, NoDocument, NameTaken, UnknownLabel, NoIndex, TooManyDocuments, OutOfMemory}
 use Rattle.gateway.specs.declared.desk.reply.Reply.{Reply}
@@ -36,23 +33,24 @@ abbrev pub refused : Names → Fault → Outcome
 refused documents fault = record { reply = Refused fault; documents = documents }
 
 -- a question answered, or refused
-abbrev pub told : Names → Result Reply Fault → Outcome
-told documents (Ok reply) = record { reply = reply; documents = documents }
-told documents (Err fault) = refused documents fault
+abbrev pub replied : Names → Result Reply Fault → Outcome
+replied documents (Ok reply) = record { reply = reply; documents = documents }
+replied documents (Err fault) = refused documents fault
 
 -- a document put at a name, or refused
-abbrev pub put : Files → Names → List ℕ → Result Held Fault → Outcome
+abbrev pub put : Files → Names → List ℕ → Result Entry Fault → Outcome
 put indexes documents doc (Ok h) = record { reply = edit_reply indexes h; documents = insert documents doc h }
 put indexes documents doc (Err fault) = refused documents fault
 
--- the bytes that a base64 text says (RFC 4648, section 4), where it is what these bytes are written as
-abbrev pub base64_bytes : List ℕ → Option (List ℕ)
-base64_bytes text = result_ok (decode_of standard text)
+-- a refusal as a reply
+abbrev pub reply_of : Result Reply Fault → Reply
+reply_of (Ok reply) = reply
+reply_of (Err fault) = Refused fault
 
 -- ---- open
 
 -- a new document, unless its encoding can't be decoded, no place is free, or it is too large
-abbrev pub admitted : Files → Names → Encoding → List ℕ → Result Held Fault
+abbrev pub admitted : Files → Names → Encoding → List ℕ → Result Entry Fault
 admitted indexes documents given bytes =
     if is_decoded indexes given
     then (if nat_lt (len documents) max_documents
@@ -61,41 +59,41 @@ admitted indexes documents given bytes =
     else Err NoIndex
 
 -- the name is free, and the label may name an encoding
-abbrev pub opened_as : Files → Names → List ℕ → List ℕ → Option Encoding → Outcome
-opened_as indexes documents doc bytes None = refused documents UnknownLabel
-opened_as indexes documents doc bytes (Some given) =
+abbrev pub open_outcome_as : Files → Names → List ℕ → List ℕ → Option Encoding → Outcome
+open_outcome_as indexes documents doc bytes None = refused documents UnknownLabel
+open_outcome_as indexes documents doc bytes (Some given) =
     put indexes documents doc (admitted indexes documents given bytes)
 
-abbrev pub opened : Office → List ℕ → List ℕ → Option (List ℕ) → Outcome
-opened o doc label None = refused o.documents BadBase64
-opened o doc label (Some bytes) =
+abbrev pub open_outcome : Office → List ℕ → List ℕ → Option (List ℕ) → Outcome
+open_outcome o doc label None = refused o.documents BadBase64
+open_outcome o doc label (Some bytes) =
     if is_some (get o.documents doc) then refused o.documents NameTaken
-    else opened_as o.indexes o.documents doc bytes (lookup_in o.labels label)
+    else open_outcome_as o.indexes o.documents doc bytes (lookup_in o.labels label)
 
--- ---- the commands on an open document, which is what may be held at the name
+-- ---- the commands on an open document, which is what may be entry_of at the name
 
-abbrev pub spliced_at : Files → Names → List ℕ → ℕ → ℕ → ℕ → List ℕ → Option Held → Outcome
-spliced_at indexes documents doc rev at del ins None = refused documents NoDocument
-spliced_at indexes documents doc rev at del ins (Some h) = put indexes documents doc (edited h rev at del ins)
+abbrev pub splice_outcome_at : Files → Names → List ℕ → ℕ → ℕ → ℕ → List ℕ → Option Entry → Outcome
+splice_outcome_at indexes documents doc rev at del ins None = refused documents NoDocument
+splice_outcome_at indexes documents doc rev at del ins (Some h) = put indexes documents doc (edited h rev at del ins)
 
-abbrev pub spliced : Office → List ℕ → ℕ → ℕ → ℕ → Option (List ℕ) → Outcome
-spliced o doc rev at del None = refused o.documents BadBase64
-spliced o doc rev at del (Some ins) = spliced_at o.indexes o.documents doc rev at del ins (get o.documents doc)
+abbrev pub splice_outcome : Office → List ℕ → ℕ → ℕ → ℕ → Option (List ℕ) → Outcome
+splice_outcome o doc rev at del None = refused o.documents BadBase64
+splice_outcome o doc rev at del (Some ins) = splice_outcome_at o.indexes o.documents doc rev at del ins (get o.documents doc)
 
-abbrev pub text_at : Files → Names → ℕ → ℕ → TextMode → Option Held → Outcome
-text_at indexes documents from to mode None = refused documents NoDocument
-text_at indexes documents from to mode (Some h) = told documents (text_reply indexes h from to mode)
+abbrev pub text_outcome_at : Files → Names → ℕ → ℕ → TextMode → Option Entry → Outcome
+text_outcome_at indexes documents from to mode None = refused documents NoDocument
+text_outcome_at indexes documents from to mode (Some h) = replied documents (text_reply indexes h from to mode)
 
-abbrev pub errors_at : Files → Names → ℕ → ℕ → Option Held → Outcome
-errors_at indexes documents from max None = refused documents NoDocument
-errors_at indexes documents from max (Some h) = told documents (errors_reply indexes h from max)
+abbrev pub errors_outcome_at : Files → Names → ℕ → ℕ → Option Entry → Outcome
+errors_outcome_at indexes documents from max None = refused documents NoDocument
+errors_outcome_at indexes documents from max (Some h) = replied documents (errors_reply indexes h from max)
 
 -- what a command answers and leaves
 abbrev pub answer_of : Office → Asked → Outcome
-answer_of o (Opens doc label bytes) = opened o doc label (base64_bytes bytes)
-answer_of o (Splices doc rev at del bytes) = spliced o doc rev at del (base64_bytes bytes)
-answer_of o (Reads doc from to mode) = text_at o.indexes o.documents from to mode (get o.documents doc)
-answer_of o (ListsErrors doc from max) = errors_at o.indexes o.documents from max (get o.documents doc)
+answer_of o (Opens doc label bytes) = open_outcome o doc label (base64_bytes bytes)
+answer_of o (Splices doc rev at del bytes) = splice_outcome o doc rev at del (base64_bytes bytes)
+answer_of o (Reads doc from to mode) = text_outcome_at o.indexes o.documents from to mode (get o.documents doc)
+answer_of o (ListsErrors doc from max) = errors_outcome_at o.indexes o.documents from max (get o.documents doc)
 
 -- ---- one step
 

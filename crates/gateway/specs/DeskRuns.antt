@@ -4,7 +4,7 @@ use Rattle.std.specs.FinMap.{empty}
 use Rattle.enc_names.specs.declared.encoding.Encoding.TheVariants.{Utf8}
 use Rattle.enc_names.specs.Labels.{name_labels}
 use Rattle.index_loader.specs.Files.{no_files}
-use Rattle.gateway.specs.Asked.{Asked, Opens, Splices, Reads, ListsErrors}
+use Rattle.gateway.specs.Commands.{Asked, Opens, Splices, Reads, ListsErrors}
 use Rattle.gateway.specs.Desk.{Office, answer_of}
 use Rattle.gateway.specs.declared.desk.fault.Fault.{Fault}
 use Rattle.gateway.specs.declared.desk.fault.Fault.TheVariants.{OutOfRange, OutOfMemory}
@@ -19,7 +19,7 @@ is_edited (Text rev text) = false
 is_edited (Errors rev total places) = false
 is_edited (Refused fault) = false
 
--- what a command leaves is what it found, but for an open or an edit that is accepted
+-- a command changes nothing, but for an open or an edit that is accepted
 abbrev pub OnlyEditsChange : Type 0
 OnlyEditsChange = (o : Office) (c : Asked) → is_edited (answer_of o c).reply ≡ false → (answer_of o c).documents ≡ o.documents
 
@@ -27,7 +27,7 @@ OnlyEditsChange = (o : Office) (c : Asked) → is_edited (answer_of o c).reply �
 abbrev pub RefusalsChangeNothing : Type 0
 RefusalsChangeNothing = (o : Office) (c : Asked) (fault : Fault) → (answer_of o c).reply ≡ Refused fault → (answer_of o c).documents ≡ o.documents
 
--- want of memory is no part of what a command answers
+-- that memory ran out is no part of what a command answers
 abbrev pub MemoryIsNeverWanted : Type 0
 MemoryIsNeverWanted = (o : Office) (c : Asked) → (answer_of o c).reply ≡ Refused OutOfMemory → ⊥
 

@@ -1,5 +1,5 @@
--- Documents as the desk holds them, and what one of them answers.
-use Rattle.std.specs.Prelude.{ℕ, ◌+◌, ◌-◌, ◌==◌, nat_lt, List, length, take, drop, if◌then◌else◌, Option, Some, None, Result, Ok, Err}
+-- The documents of the desk, and what one of them answers.
+use Rattle.std.specs.Prelude.{◌≡◌, ℕ, ◌+◌, ◌-◌, ◌==◌, nat_lt, List, length, take, drop, if◌then◌else◌, Option, Some, None, Result, Ok, Err}
 use Rattle.std.specs.Ordering.{nat_cmp}
 use Rattle.std.specs.Cmp.Lexicographic.{slice_cmp}
 use Rattle.std.specs.FinMap.{FinMap}
@@ -18,15 +18,15 @@ use Rattle.gateway.specs.declared.desk.reply.Reply.TheVariants.{Edited, Text, Er
 use Rattle.gateway.specs.declared.desk.text_mode.TextMode.{TextMode}
 use Rattle.gateway.specs.declared.desk.text_mode.TextMode.TheVariants.{Fatal}
 
--- what is held at a name: nothing derived
-pub record Held : Type 0 where
+-- what is entry_of at a name: nothing derived
+pub record Entry : Type 0 where
   pub given : Encoding
   pub bytes : List ℕ
   pub revision : ℕ
 
--- names, as UTF-8 bytes, with what is held at them
+-- names, as UTF-8 bytes, with what is entry_of at them
 abbrev pub Names : Type 0
-Names = FinMap (slice_cmp nat_cmp) Held
+Names = FinMap (slice_cmp nat_cmp) Entry
 
 -- the documents, beside the loaded index files
 pub record Shelf : Type 0 where
@@ -37,15 +37,15 @@ pub record Shelf : Type 0 where
 abbrev pub max_revision : ℕ
 max_revision = 9007199254740991
 
--- what is held, decoded by the loaded index files
-abbrev pub document_of : Files → Held → Document
+-- what is entry_of, decoded by the loaded index files
+abbrev pub document_of : Files → Entry → Document
 document_of indexes h = record { indexes = indexes; given = h.given; bytes = h.bytes }
 
 -- a document as it opens
-abbrev pub fresh : Encoding → List ℕ → Held
+abbrev pub fresh : Encoding → List ℕ → Entry
 fresh given bytes = record { given = given; bytes = bytes; revision = 0 }
 
--- the refusal that tells a document's fault
+-- the refusal for a document's fault
 abbrev pub fault_of : DocFault → Fault
 fault_of cause.NoIndex = NoIndex
 fault_of cause.OutOfRange = OutOfRange
@@ -57,8 +57,8 @@ abbrev pub unless : {A : Type 0} → Option DocFault → A → Result A Fault
 unless None x = Ok x
 unless (Some fault) x = Err (fault_of fault)
 
--- what is held after an edit that names a revision, or why it is refused
-abbrev pub edited : Held → ℕ → ℕ → ℕ → List ℕ → Result Held Fault
+-- what is entry_of after an edit that names a revision, or why it is refused
+abbrev pub edited : Entry → ℕ → ℕ → ℕ → List ℕ → Result Entry Fault
 edited h rev at del ins =
     if rev == h.revision
     then (if nat_lt h.revision max_revision
@@ -67,8 +67,8 @@ edited h rev at del ins =
     else Err RevisionsSpent)
     else Err (Stale h.revision)
 
--- the reply to an open or an edit that left this
-abbrev pub edit_reply : Files → Held → Reply
+-- the reply to an open or an edit that left this entry
+abbrev pub edit_reply : Files → Entry → Reply
 edit_reply indexes h =
     let d = decoded (document_of indexes h) in
     Edited d.bom d.encoding h.revision
@@ -79,13 +79,25 @@ in_mode Fatal (Some place) (Ok x) = Err (Malformed place)
 in_mode mode first answer = answer
 
 -- the code points from..to, in UTF-8
-abbrev pub text_reply : Files → Held → ℕ → ℕ → TextMode → Result Reply Fault
+abbrev pub text_reply : Files → Entry → ℕ → ℕ → TextMode → Result Reply Fault
 text_reply indexes h from to mode =
     let d = document_of indexes h in
     in_mode mode (first_error d) (unless (text_fault d from to) (Text h.revision (encode_utf8_all (take (to - from) (drop from (text_of d))))))
 
 -- at most max places of errors, the first being number `from`
-abbrev pub errors_reply : Files → Held → ℕ → ℕ → Result Reply Fault
+abbrev pub errors_reply : Files → Entry → ℕ → ℕ → Result Reply Fault
 errors_reply indexes h from max =
     let d = document_of indexes h in
     unless (errors_fault d from) (Errors h.revision (length (errors_of d)) (take max (drop from (errors_of d))))
+
+-- ---- what the code answers
+
+-- The answer is the one defined; or memory ran out.
+abbrev pub Gives : {A : Type 0} → Result A Fault → Result A Fault → Type 0
+Gives defined (Err OutOfMemory) = Unit {0}
+Gives defined answer = defined ≡ answer
+
+-- an accepted change, with its value
+abbrev pub with_value : {A B : Type 0} → A → Result B Fault → Result A Fault
+with_value x (Ok y) = Ok x
+with_value x (Err fault) = Err fault

@@ -4,7 +4,7 @@ use Rattle.gateway.specs.declared.gateway.Event.{Event}
 use Rattle.gateway.specs.declared.gateway.Event.TheVariants.{Open, Bytes, Close}
 use Rattle.gateway.specs.declared.gateway.GateFault.{GateFault}
 use Rattle.gateway.specs.declared.gateway.GateFault.TheVariants.{BadNumber, AlreadyOpen, NotOpen}
-use Rattle.gateway.specs.Traffic.{Partial, Kept, Traffic, Takes}
+use Rattle.gateway.specs.Traffic.{Partial, Received, Traffic, Takes}
 
 -- the number of connections, whose numbers count from 0
 abbrev pub connections : ℕ
@@ -35,14 +35,14 @@ abbrev pub unless_closed : {A : Type 0} → Option A → Option GateFault
 unless_closed None = None
 unless_closed (Some x) = Some AlreadyOpen
 
-abbrev pub numbered : ℕ → Option GateFault → Option GateFault
-numbered c fault = if nat_lt c connections then fault else Some BadNumber
+abbrev pub unless_bad_number : ℕ → Option GateFault → Option GateFault
+unless_bad_number c fault = if nat_lt c connections then fault else Some BadNumber
 
 -- why an event is refused, if it is
 abbrev pub gate_fault : {A : Type 0} → List (Option A) → Happening → Option GateFault
-gate_fault lines (Opening c) = numbered c (unless_closed (at_number lines c))
-gate_fault lines (Bringing c bytes) = numbered c (unless_open (at_number lines c))
-gate_fault lines (Closing c) = numbered c (unless_open (at_number lines c))
+gate_fault lines (Opening c) = unless_bad_number c (unless_closed (at_number lines c))
+gate_fault lines (Bringing c bytes) = unless_bad_number c (unless_open (at_number lines c))
+gate_fault lines (Closing c) = unless_bad_number c (unless_open (at_number lines c))
 
 -- ---- what is accepted
 
@@ -63,6 +63,6 @@ pub record Took (old : Traffic) (c : ℕ) (bytes : List ℕ) (taken : ℕ) (repl
 
 -- what an accepted event does: how many bytes it took, its reply, and the traffic after it
 abbrev pub Happens : Traffic → Happening → ℕ → Option (List ℕ) → Traffic → Type 0
-Happens old (Opening c) taken reply new = (taken ≡ 0) × (reply ≡ None) × (new ≡ with_line old c (Some (Kept [])))
+Happens old (Opening c) taken reply new = (taken ≡ 0) × (reply ≡ None) × (new ≡ with_line old c (Some (Received [])))
 Happens old (Bringing c bytes) taken reply new = Took old c bytes taken reply new
 Happens old (Closing c) taken reply new = (taken ≡ 0) × (reply ≡ None) × (new ≡ with_line old c None)

@@ -74,8 +74,8 @@ errors_data id rev total places =
 abbrev pub bare_data : List ℕ → Data
 bare_data name = object (member (codes "fault") (string name) no_members)
 
-abbrev pub numbered_data : List ℕ → ℕ → Data
-numbered_data name id = object (member (codes "fault") (string name) (member (codes "id") (whole id) no_members))
+abbrev pub fault_with_id_data : List ℕ → ℕ → Data
+fault_with_id_data name id = object (member (codes "fault") (string name) (member (codes "id") (whole id) no_members))
 
 abbrev pub stale_data : ℕ → ℕ → Data
 stale_data id rev = object (member (codes "fault") (string (codes "Stale")) (member (codes "id") (whole id) (member (codes "rev") (whole rev) no_members)))
@@ -84,12 +84,12 @@ abbrev pub malformed_data : ℕ → Place → Data
 malformed_data id place =
     object (member (codes "fault") (string (codes "Malformed")) (member (codes "id") (whole id) (member (codes "place") (place_data place) no_members)))
 
--- Want of memory has no number.
+-- That memory ran out is reported without a number.
 abbrev pub fault_data : ℕ → Fault → Data
 fault_data id (Stale rev) = stale_data id rev
 fault_data id (Malformed place) = malformed_data id place
 fault_data id OutOfMemory = bare_data (codes "OutOfMemory")
-fault_data id f = numbered_data (fault_name f) id
+fault_data id f = fault_with_id_data (fault_name f) id
 
 -- the object that answers the request with this number
 abbrev pub reply_data : ℕ → Reply → Data
@@ -111,7 +111,7 @@ abbrev pub refusal_data : Refusal → Data
 refusal_data refusal.LineTooLong = bare_data (codes "LineTooLong")
 refusal_data refusal.BadJson = bare_data (codes "BadJson")
 refusal_data (refusal.BadRequest id f) = bad_request_data id f
-refusal_data (refusal.UnknownOp id) = numbered_data (codes "UnknownOp") id
+refusal_data (refusal.UnknownOp id) = fault_with_id_data (codes "UnknownOp") id
 refusal_data refusal.OutOfMemory = bare_data (codes "OutOfMemory")
 
 -- ---- text
@@ -120,9 +120,13 @@ refusal_data refusal.OutOfMemory = bare_data (codes "OutOfMemory")
 abbrev pub line_of : Data → List ℕ
 line_of d = compact_text d ++ 10 ∷ []
 
--- the line of this object, which is short enough to stand inline
+-- the most bytes of a line that is stored inline
+abbrev pub inline_limit : ℕ
+inline_limit = 256
+
+-- the line of this object, which is short enough to be stored inline
 abbrev pub IsShortLine : Data → List ℕ → Type 0
-IsShortLine d line = (line ≡ line_of d) × (length line ≤ 256)
+IsShortLine d line = (line ≡ line_of d) × (length line ≤ inline_limit)
 
 abbrev pub reply_text : ℕ → Reply → List ℕ
 reply_text id reply = line_of (reply_data id reply)
@@ -133,7 +137,7 @@ refusal_text r = line_of (refusal_data r)
 abbrev pub memory_text : List ℕ
 memory_text = line_of (bare_data (codes "OutOfMemory"))
 
--- The reply stands inline: it holds no text and no list.
+-- The reply is stored inline: it holds no text and no list.
 abbrev pub is_short : Reply → Bool
 is_short (Edited bom encoding rev) = true
 is_short (Text rev text) = false

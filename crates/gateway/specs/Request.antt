@@ -1,4 +1,4 @@
--- The request that a line spells, over the data that its JSON text stands for. Of two equal keys
+-- The request in a line, over the data that its JSON text stands for. Of two equal keys
 -- the last counts, and a number that has a fraction, an exponent or a minus sign is no whole number.
 use Rattle.std.specs.Prelude.{◌≡◌, ◌<◌, ◌-◌, ◌^◌, ℕ, ◌||◌, ◌==◌, nat_lt, nat_le, List, length, codes, if◌then◌else◌, is_some, Option, Some, None, option_and_then, Result, Ok, Err}
 use Rattle.std.specs.Str.{bytes_eq, is_utf8}
@@ -7,7 +7,7 @@ use Rattle.serde_json.specs.Read.{read}
 use Rattle.serde_json.specs.Find.{get, as_number, as_u64, as_str, as_object}
 use Rattle.serde_json.specs.View.{view}
 use Rattle.serde_json.specs.declared.value.Value.{Value}
-use Rattle.gateway.specs.Asked.{Asked, Opens, Splices, Reads, ListsErrors, asked}
+use Rattle.gateway.specs.Commands.{Asked, Opens, Splices, Reads, ListsErrors, asked}
 use Rattle.gateway.specs.declared.desk.command.Command.{Command}
 use Rattle.gateway.specs.declared.desk.text_mode.TextMode.{TextMode}
 use Rattle.gateway.specs.declared.desk.text_mode.TextMode.TheVariants.{Replacement, Fatal}
@@ -28,8 +28,8 @@ need e (Some x) = Ok x
 -- ---- the value of a line
 
 -- The line is UTF-8 and a JSON text (RFC 8259) that nests at most 127 levels.
-abbrev pub value_of : List ℕ → Result Data Refusal
-value_of line = if is_utf8 line then need BadJson (read line) else Err BadJson
+abbrev pub json_of_line : List ℕ → Result Data Refusal
+json_of_line line = if is_utf8 line then need BadJson (read line) else Err BadJson
 
 -- ---- a field
 
@@ -48,9 +48,13 @@ number_at d name most = option_and_then (at_most most) (option_and_then as_u64 (
 abbrev pub text_at : Data → List ℕ → Option (List ℕ)
 text_at d name = option_and_then as_str (get name d)
 
+-- the most bytes of a document's name
+abbrev pub max_name_len : ℕ
+max_name_len = 64
+
 -- a text of 1 to 64 bytes
 abbrev pub as_name : List ℕ → Option (List ℕ)
-as_name text = if (length text == 0) || nat_lt 64 (length text) then None else Some text
+as_name text = if (length text == 0) || nat_lt max_name_len (length text) then None else Some text
 
 abbrev pub name_at : Data → Option (List ℕ)
 name_at d = option_and_then as_name (text_at d (codes "doc"))
@@ -70,15 +74,15 @@ text_mode_at d = or_replacement (get (codes "mode") d)
 
 -- ---- the fields of each command, in the order of their checks
 
-abbrev pub open_of : Data → Result Asked Field
-open_of d = do
+abbrev pub open_command : Data → Result Asked Field
+open_command d = do
   doc ← need field.Doc (name_at d)
   label ← need field.Label (text_at d (codes "label"))
   bytes ← need field.Bytes (text_at d (codes "bytes"))
   Ok (Opens doc label bytes)
 
-abbrev pub splice_of : Data → Result Asked Field
-splice_of d = do
+abbrev pub splice_command : Data → Result Asked Field
+splice_command d = do
   doc ← need field.Doc (name_at d)
   rev ← need field.Rev (number_at d (codes "rev") max_number)
   at ← need field.At (number_at d (codes "at") max_number)
@@ -86,34 +90,34 @@ splice_of d = do
   bytes ← need field.Bytes (text_at d (codes "bytes"))
   Ok (Splices doc rev at del bytes)
 
-abbrev pub text_of : Data → Result Asked Field
-text_of d = do
+abbrev pub text_command : Data → Result Asked Field
+text_command d = do
   doc ← need field.Doc (name_at d)
   from ← need field.From (number_at d (codes "from") max_number)
   to ← need field.To (number_at d (codes "to") max_number)
   mode ← need field.Mode (text_mode_at d)
   Ok (Reads doc from to mode)
 
-abbrev pub errors_of : Data → Result Asked Field
-errors_of d = do
+abbrev pub errors_command : Data → Result Asked Field
+errors_command d = do
   doc ← need field.Doc (name_at d)
   from ← need field.From (number_at d (codes "from") max_number)
   max ← need field.Max (number_at d (codes "max") max_entries)
   Ok (ListsErrors doc from max)
 
-abbrev pub numbered : ℕ → Result Asked Field → Result (ℕ × Asked) Refusal
-numbered id (Ok command) = Ok (id, command)
-numbered id (Err f) = Err (BadRequest (Some id) f)
+abbrev pub with_id : ℕ → Result Asked Field → Result (ℕ × Asked) Refusal
+with_id id (Ok command) = Ok (id, command)
+with_id id (Err f) = Err (BadRequest (Some id) f)
 
 abbrev pub command_of : Data → ℕ → List ℕ → Result (ℕ × Asked) Refusal
 command_of d id op =
-    if bytes_eq op (codes "open") then numbered id (open_of d)
-    else (if bytes_eq op (codes "splice") then numbered id (splice_of d)
-    else (if bytes_eq op (codes "text") then numbered id (text_of d)
-    else (if bytes_eq op (codes "errors") then numbered id (errors_of d)
+    if bytes_eq op (codes "open") then with_id id (open_command d)
+    else (if bytes_eq op (codes "splice") then with_id id (splice_command d)
+    else (if bytes_eq op (codes "text") then with_id id (text_command d)
+    else (if bytes_eq op (codes "errors") then with_id id (errors_command d)
     else Err (UnknownOp id))))
 
--- what an object asks, and under which number
+-- the request in an object: its number and its command
 abbrev pub request_of : Data → Result (ℕ × Asked) Refusal
 request_of d =
     if is_some (as_object d)
@@ -123,22 +127,22 @@ request_of d =
       command_of d id op)
     else Err (BadRequest None field.Object)
 
--- what a line asks
-abbrev pub spelt : List ℕ → Result (ℕ × Asked) Refusal
-spelt line = value_of line >>= request_of
+-- the request in a line
+abbrev pub request_of_line : List ℕ → Result (ℕ × Asked) Refusal
+request_of_line line = json_of_line line >>= request_of
 
 -- ---- what the code returns
 
-abbrev pub seen_command : Result Command Field → Result Asked Field
-seen_command (Ok command) = Ok (asked command)
-seen_command (Err f) = Err f
+abbrev pub command_asked : Result Command Field → Result Asked Field
+command_asked (Ok command) = Ok (asked command)
+command_asked (Err f) = Err f
 
-abbrev pub seen : Result (ℕ × Command) Refusal → Result (ℕ × Asked) Refusal
-seen (Ok request) = Ok (request.0, asked request.1)
-seen (Err e) = Err e
+abbrev pub request_asked : Result (ℕ × Command) Refusal → Result (ℕ × Asked) Refusal
+request_asked (Ok request) = Ok (request.0, asked request.1)
+request_asked (Err e) = Err e
 
 -- the value of the line or its refusal, or memory ran out, which it can't on no bytes
-abbrev pub IsValueOf : List ℕ → Result Value Refusal → Type 0
-IsValueOf line (Ok value) = value_of line ≡ Ok (view value)
-IsValueOf line (Err OutOfMemory) = 0 < length line
-IsValueOf line (Err e) = value_of line ≡ Err e
+abbrev pub IsJsonOfLine : List ℕ → Result Value Refusal → Type 0
+IsJsonOfLine line (Ok value) = json_of_line line ≡ Ok (view value)
+IsJsonOfLine line (Err OutOfMemory) = 0 < length line
+IsJsonOfLine line (Err e) = json_of_line line ≡ Err e

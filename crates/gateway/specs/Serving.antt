@@ -64,7 +64,7 @@ Runs (Err TooManyReads) c old new left rest before after = Ran c old new left re
 
 -- ---- the devices' numbers, by a run's answer
 
--- how many of the reads told the end
+-- how many of the reads reported the end
 abbrev pub ends_of : {A : Type 0} → Result A RunFault → ℕ
 ends_of (Ok x) = 1
 ends_of (Err e) = 0

@@ -1,8 +1,8 @@
 -- What one complete line does: its reply, and the desk after it.
 use Rattle.std.specs.Prelude.{◌≡◌, ℕ, nat_lt, List, length, Result, Ok, Err, MatchBool}
 use Rattle.std.specs.Str.{bytes_eq}
-use Rattle.gateway.specs.Asked.{Asked}
-use Rattle.gateway.specs.Request.{spelt}
+use Rattle.gateway.specs.Commands.{Asked}
+use Rattle.gateway.specs.Request.{request_of_line}
 use Rattle.gateway.specs.Replies.{reply_text, refusal_text, memory_text}
 use Rattle.gateway.specs.Desk.{Office, Outcome, answer_of}
 use Rattle.gateway.specs.declared.request.refusal.Refusal.{Refusal}
@@ -34,7 +34,7 @@ step_by o (Err refusal) = record { text = refusal_text refusal; office = o }
 
 -- what a line does that is not too long
 abbrev pub step_of : Office → List ℕ → Step
-step_of o line = step_by o (spelt line)
+step_of o line = step_by o (request_of_line line)
 
 -- The reply and the desk after it are those of the step; or memory ran out, and nothing changed.
 abbrev pub IsStep : Office → Step → List ℕ → Office → Type 0

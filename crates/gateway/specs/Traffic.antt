@@ -4,20 +4,20 @@ use Rattle.gateway.specs.Desk.{Office}
 use Rattle.gateway.specs.Step.{line_limit, Replies}
 use Rattle.gateway.specs.Lines.{has_end, before_end}
 
--- What is known of a line that is begun: its bytes; or, where they were dropped, how many came, counted up to the first that is too many.
+-- What is known of a line that is begun: its bytes; or, where they were dropped, how many were received, counted up to the first that is too many.
 pub data Partial : Type 0 where
-  Kept : List ℕ → Partial
-  Lost : ℕ → Partial
+  Received : List ℕ → Partial
+  Dropped : ℕ → Partial
 
--- The line that is begun may be this one. A lost line may be any of its length.
+-- The line that is begun may be this one. A line whose bytes were dropped may be any of its length.
 abbrev pub Stands : Partial → List ℕ → Type 0
-Stands (Kept xs) line = line ≡ xs
-Stands (Lost n) line = n ≡ min (length line) (line_limit + 1)
+Stands (Received xs) line = line ≡ xs
+Stands (Dropped n) line = n ≡ min (length line) (line_limit + 1)
 
 -- what the two fields of a line stand for
 abbrev pub partial_of : Option ℕ → List ℕ → Partial
-partial_of None xs = Kept xs
-partial_of (Some n) xs = Lost n
+partial_of None xs = Received xs
+partial_of (Some n) xs = Dropped n
 
 -- the desk, and the line that is begun on each connection that is open
 pub record Traffic : Type 0 where
@@ -28,7 +28,7 @@ pub record Traffic : Type 0 where
 pub record Completes (old : Office) (begun : Partial) (bytes : List ℕ) (reply : Option (List ℕ)) (new : Office) (next : Partial) : Type 0 where
   pub text : List ℕ
   pub is : reply ≡ Some text
-  pub fresh : next ≡ Kept []
+  pub fresh : next ≡ Received []
   pub answers : (line : List ℕ) → Stands begun line → Replies old (line ++ bytes) text new
 
 -- Bytes went on with a line: nothing was answered.

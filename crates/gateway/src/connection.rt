@@ -1,14 +1,14 @@
 //! The connections, by their numbers.
 ghost use Rattle.std.specs.Prelude.{◌≡◌, ◌<◌, ◌↔◌, List, [], None, Some, length, replicate, slice_set, MatchResult, IfOk, OnOk, OnErr, IsTrue, IsSome};
-ghost use Rattle.gateway.specs.Traffic.{Kept};
+ghost use Rattle.gateway.specs.Traffic.{Received};
 ghost use Rattle.gateway.specs.Events.{connections, at_number};
 
 use std::alloc::Global;
 use std::marker::Model;
 
-mod line;
+mod begun_line;
 
-pub use line::Line;
+pub use begun_line::BegunLine;
 
 /// How many connections there are. Their numbers count from 0.
 pub const CONNECTIONS: usize = 1;
@@ -16,7 +16,7 @@ pub const CONNECTIONS: usize = 1;
 /// The lines that are begun, one for each connection that is open. Contracts see their list.
 #[derive(Drop)]
 pub struct Connections {
-    lines: [Option<Line>; CONNECTIONS],
+    lines: [Option<BegunLine>; CONNECTIONS],
 }
 
 impl Model for Connections {
@@ -24,7 +24,7 @@ impl Model for Connections {
     ghost use Rattle.gateway.specs.declared.connection.TheConstants.{CONNECTIONS};
     ghost use Rattle.std.specs.Coded.{coded_list, coded_option};
     ghost use Rattle.gateway.specs.Traffic.{Partial};
-    ghost use Rattle.gateway.specs.TrafficCode.{partial_code};
+    ghost use Rattle.gateway.specs.Codes.{partial_code};
 
     ghost Value = { List (Option Partial) };
 
@@ -63,8 +63,8 @@ impl Connections {
         self.lines[c as usize].is_some()
     }
 
-    /// Puts a line in the place of what stands at a connection's number.
-    pub fn put(&mut self, c: u8, line: Option<Line>)
+    /// Replaces the line of a connection; `None` closes it.
+    pub fn put(&mut self, c: u8, line: Option<BegunLine>)
         requires { c < connections }
         ensures { self.new ≡ slice_set self.old c line }
     {
@@ -72,7 +72,7 @@ impl Connections {
     }
 
     /// Takes the line out that is begun on a connection, if the connection is open.
-    pub fn take(&mut self, c: u8) -> Option<Line>
+    pub fn take(&mut self, c: u8) -> Option<BegunLine>
         requires { c < connections }
         ensures line { result ≡ at_number self.old c }
         ensures rest { self.new ≡ slice_set self.old c None }

@@ -1,9 +1,8 @@
 //! The desk: names of documents, their revisions, and one reply to each command.
 ghost use Rattle.std.specs.Prelude.{◌≡◌, Ok};
 ghost use Rattle.std.specs.FinMap as map;
-ghost use Rattle.gateway.specs.Asked.{asked, Opens, Splices, Reads, ListsErrors};
-ghost use Rattle.gateway.specs.Desk.{Answers};
-ghost use Rattle.gateway.specs.Told.{reply_of};
+ghost use Rattle.gateway.specs.Commands.{asked, Opens, Splices, Reads, ListsErrors};
+ghost use Rattle.gateway.specs.Desk.{Answers, reply_of};
 
 use decoder_core::OutOfMemory;
 use enc_names::Labels;
@@ -16,8 +15,8 @@ mod causes;
 mod command;
 mod documents;
 mod fault;
-mod kept;
 mod laws;
+mod open_document;
 mod reply;
 #[cfg(test)]
 mod tests;
@@ -43,7 +42,7 @@ pub struct Desk<'i> {
 
 impl<'i> Model for Desk<'i> {
     ghost use Rattle.gateway.specs.Desk.{Office};
-    ghost use Rattle.gateway.specs.DeskCodes.{office_code};
+    ghost use Rattle.gateway.specs.Codes.{office_code};
 
     ghost Value = { Office };
 
@@ -126,7 +125,7 @@ impl<'i> Desk<'i> {
         ensures { Answers self.now (Reads doc.now from to mode) (reply_of result) self.now }
     {
         match self.documents.get(doc) {
-            Some(kept) => kept.text(from, to, mode),
+            Some(found) => found.text(from, to, mode),
             None => Err(Fault::NoDocument),
         }
     }
@@ -136,7 +135,7 @@ impl<'i> Desk<'i> {
         ensures { Answers self.now (ListsErrors doc.now from max) (reply_of result) self.now }
     {
         match self.documents.get(doc) {
-            Some(kept) => kept.errors(from, max),
+            Some(found) => found.errors(from, max),
             None => Err(Fault::NoDocument),
         }
     }

@@ -1,7 +1,7 @@
 //! What the gateway reads from and writes to.
 //!
-//! A device tells contracts its bytes, where it knows them, and, without a limit, how often it was
-//! called and how often it failed. The numbers are there for contracts alone: they take no memory.
+//! Contracts see a device's bytes, where they are known, and, without a limit, how often it was
+//! called and how often it failed. The numbers exist for contracts alone: they take no memory.
 ghost use Rattle.std.specs.Prelude.{◌≡◌, ℕ, ◌+◌, ◌<◌, ◌≤◌, List, length, Option, IfOk, OnOk, OnErr};
 ghost use Rattle.std.specs.Io.KnownBytes.{ReadConsumes, WriteAppends, Appends};
 ghost use Rattle.gateway.specs.Devices.{failures_after, ends_after, AppendsPart};
@@ -19,20 +19,20 @@ pub struct Failed;
 
 /// What bytes are read from.
 pub trait Feed {
-    /// The bytes that reads will give from here on, where they are known.
+    /// The bytes that are still to be read, where they are known.
     ghost left: { Self → Option (List ℕ) };
 
     /// How often it was read.
     ghost reads: { Self → ℕ };
 
-    /// How many of the reads told the end.
+    /// How many of the reads reported the end.
     ghost ends: { Self → ℕ };
 
     /// How many of the reads failed.
     ghost failures: { Self → ℕ };
 
-    /// Puts bytes into the front of `buf`, and says how many; none where there is no room, or else
-    /// at the end.
+    /// Reads bytes into the front of `buf`, and returns how many; none where `buf` is empty, or at the
+    /// end.
     fn read(&mut self, buf: &mut [u8]) -> Result<usize, Failed>
         ensures bound { IfOk result (λ n. n ≤ length buf.new) }
         ensures bytes { ReadConsumes (left self.old) (left self.new) result buf.new }
@@ -52,7 +52,7 @@ pub trait Outlet {
     /// How many of the writes failed.
     ghost failures: { Self → ℕ };
 
-    /// Takes bytes from the front of `buf`, and says how many: at least one, if there is one.
+    /// Writes bytes from the front of `buf`, and returns how many: at least one, if there is one.
     fn write(&mut self, buf: &[u8]) -> Result<usize, Failed>
         ensures bound { IfOk result (λ n. n ≤ length buf.now) }
         ensures some { IfOk result (λ n. 0 < length buf.now → 0 < n) }
@@ -61,7 +61,7 @@ pub trait Outlet {
         ensures failures { failures self.new ≡ failures_after result (failures self.old) };
 }
 
-/// Writes all bytes. Where a write fails, some of them went out, but not all.
+/// Writes all bytes. Where a write fails, a prefix of them was written, but not all.
 pub fn write_all<W: Outlet>(writer: &mut W, bytes: &[u8]) -> Result<(), Failed>
     ensures ok { OnOk result (Appends (W.written writer.old) (W.written writer.new) bytes.now) }
     ensures err { OnErr result (AppendsPart (W.written writer.old) (W.written writer.new) bytes.now) }

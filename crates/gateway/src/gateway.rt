@@ -1,29 +1,29 @@
-//! The gateway: one event at a time, on numbered connections.
+//! The gateway: one event at a time, on connections that have numbers.
 ghost use Rattle.std.specs.Prelude.{◌≡◌, ◌<◌, List, [], None, Some, length, replicate, MatchResult, IfOk, OnOk, OnErr};
-ghost use Rattle.gateway.specs.Traffic.{Kept};
+ghost use Rattle.gateway.specs.Traffic.{Received};
 
-use crate::connection::{Connections, Line};
+use crate::connection::{BegunLine, Connections};
 use crate::desk::Desk;
 use crate::reply_line::ReplyLine;
 use std::alloc::Global;
 use std::marker::Model;
 
 #[cfg(test)]
-mod tests;
+pub(crate) mod tests;
 
 /// What happens on a connection, which is named by its number, from 0 up to `CONNECTIONS`.
 #[derive(Clone, Copy)]
 pub enum Event<'a> {
     /// The connection opens, with no line begun.
     Open(u8),
-    /// Bytes came. An event takes them up to and with the first line feed; the caller goes on
+    /// Bytes were received. An event takes them up to and with the first line feed; the caller goes on
     /// with the rest.
     Bytes(u8, &'a [u8]),
     /// The connection closes, and a line that is begun is dropped.
     Close(u8),
 }
 
-/// Why an event is refused. The causes are asked in this order.
+/// Why an event is refused. The causes are checked in this order.
 #[derive(Clone, Copy, PartialEq, Eq, Debug)]
 pub enum GateFault {
     /// There is no connection of this number.
@@ -34,7 +34,7 @@ pub enum GateFault {
     NotOpen,
 }
 
-/// What an event gave.
+/// What an event returns.
 #[derive(Drop)]
 pub struct Out {
     /// How many bytes the event took: none, unless it brought some.
@@ -44,7 +44,7 @@ pub struct Out {
 }
 
 impl Out {
-    // No byte was taken, and nothing is answered.
+    /// No byte was taken, and nothing is answered.
     fn nothing() -> Out
         ensures taken { result.taken ≡ 0 }
         ensures reply { result.reply ≡ None }
@@ -57,7 +57,7 @@ impl Out {
 }
 
 /// A desk, and the connections over which lines come in. Contracts see the desk and, for each
-/// connection that is open, what is kept of the line that is begun.
+/// connection that is open, the line that is begun.
 #[derive(Drop)]
 pub struct Gateway<'i> {
     desk: Desk<'i>,
@@ -67,7 +67,7 @@ pub struct Gateway<'i> {
 
 impl<'i> Model for Gateway<'i> {
     ghost use Rattle.gateway.specs.Traffic.{Traffic};
-    ghost use Rattle.gateway.specs.TrafficCode.{traffic_code};
+    ghost use Rattle.gateway.specs.Codes.{traffic_code};
 
     ghost Value = { Traffic };
 
@@ -91,8 +91,8 @@ impl<'i> Gateway<'i> {
         }
     }
 
-    /// Takes one event. One that is refused changes nothing. Want of memory is no fault: a line
-    /// whose bytes find no room is answered at its line feed.
+    /// Takes one event. One that is refused changes nothing. Running out of memory is no fault: a
+    /// line whose bytes were dropped is answered at its line feed.
     pub fn event(&mut self, event: Event<'_>) -> Result<Out, GateFault>
         ensures fault { MatchResult result (λ out. gate_fault self.old.lines (happening event.entry) ≡ None)
             (λ fault. gate_fault self.old.lines (happening event.entry) ≡ Some fault) }
@@ -120,7 +120,7 @@ impl<'i> Gateway<'i> {
         if self.connections.is_open(c) {
             return Err(GateFault::AlreadyOpen);
         }
-        self.connections.put(c, Some(Line::new(self.alloc)));
+        self.connections.put(c, Some(BegunLine::new(self.alloc)));
         Ok(Out::nothing())
     }
 

@@ -14,38 +14,41 @@ use std::alloc::{AllocError, Global};
 use std::marker::Model;
 
 /// One reply on a line of its own, with its line end. A reply without texts of a document and
-/// without lists stands inline and takes no memory. Contracts see its bytes.
+/// without lists is stored inline and takes no memory. Contracts see its bytes.
 #[derive(Drop)]
 pub struct ReplyLine {
-    line: Line,
+    storage: Storage,
 }
 
+/// Where the bytes of a reply line are.
 #[derive(Drop)]
-enum Line {
-    Short(ShortText),
-    Long(Vec<u8>),
+enum Storage {
+    /// In the value itself.
+    Inline(ShortText),
+    /// In memory of their own.
+    Allocated(Vec<u8>),
 }
 
 impl Model for ReplyLine {
     ghost use Rattle.std.specs.Prelude.{List, ℕ};
-    ghost use Rattle.gateway.specs.ReplyBytes.{bytes_of};
+    ghost use Rattle.gateway.specs.Writing.{bytes_of};
 
     ghost Value = { List ℕ };
 
-    ghost view = { λ reply. bytes_of reply.line };
+    ghost view = { λ reply. bytes_of reply.storage };
 }
 
 impl ReplyLine {
     ghost use Rattle.std.specs.Prelude.{◌≡◌, ◌≤◌, length, true, IfOk, IsOk};
-    ghost use Rattle.gateway.specs.Replies.{reply_text, refusal_text, memory_text, is_short};
+    ghost use Rattle.gateway.specs.Replies.{reply_text, refusal_text, memory_text, is_short, inline_limit};
 
     /// The bytes of the line, the line end included.
     pub fn bytes(&self) -> &[u8]
         ensures { result.now ≡ self.now }
     {
-        match &self.line {
-            Line::Short(text) => text.as_slice(),
-            Line::Long(bytes) => bytes.as_slice(),
+        match &self.storage {
+            Storage::Inline(text) => text.as_slice(),
+            Storage::Allocated(bytes) => bytes.as_slice(),
         }
     }
 
@@ -53,11 +56,11 @@ impl ReplyLine {
     ///
     /// # Errors
     ///
-    /// A growth of memory was refused, which comes only at a text or a list.
+    /// Memory ran out, which happens only for a text or a list.
     pub(crate) fn of(alloc: Global, id: u64, reply: &Reply) -> Result<ReplyLine, AllocError>
         ensures text { IfOk result (λ line. line ≡ reply_text id reply.now) }
         ensures short { is_short reply.now ≡ true → IsOk result }
-        ensures inline { is_short reply.now ≡ true → IfOk result (λ line. length line ≤ 256) }
+        ensures inline { is_short reply.now ≡ true → IfOk result (λ line. length line ≤ inline_limit) }
     {
         match reply {
             Reply::Edited { bom, encoding, rev } => {
@@ -66,39 +69,40 @@ impl ReplyLine {
             Reply::Text { rev, text } => {
                 let bytes = long::text(alloc, id, *rev, text.as_str())?;
                 Ok(ReplyLine {
-                    line: Line::Long(bytes),
+                    storage: Storage::Allocated(bytes),
                 })
             }
             Reply::Errors { rev, total, places } => {
                 let bytes = long::errors(alloc, id, *rev, *total, places.as_slice())?;
                 Ok(ReplyLine {
-                    line: Line::Long(bytes),
+                    storage: Storage::Allocated(bytes),
                 })
             }
             Reply::Refused { fault } => Ok(ReplyLine::inline(short::fault(id, *fault))),
         }
     }
 
+    /// The line with this text.
     fn inline(text: ShortText) -> ReplyLine
         ensures { result ≡ text }
     {
         ReplyLine {
-            line: Line::Short(text),
+            storage: Storage::Inline(text),
         }
     }
 
     /// The line that answers a line which is refused.
     pub(crate) fn refused(refusal: Refusal) -> ReplyLine
         ensures text { result ≡ refusal_text refusal }
-        ensures inline { length result ≤ 256 }
+        ensures inline { length result ≤ inline_limit }
     {
         ReplyLine::inline(short::refusal(refusal))
     }
 
-    /// The line for want of memory, which names no request.
+    /// The line that reports that memory ran out, which names no request.
     pub(crate) fn out_of_memory() -> ReplyLine
         ensures text { result ≡ memory_text }
-        ensures inline { length result ≤ 256 }
+        ensures inline { length result ≤ inline_limit }
     {
         ReplyLine::inline(short::out_of_memory())
     }

@@ -1,4 +1,4 @@
-//! What a line asks: its JSON value, and the command that the value's fields spell.
+//! The request in a line: its JSON value, and the command in the value's fields.
 
 mod commands;
 mod field;

@@ -1,4 +1,4 @@
-//! One complete line: the request that it spells, and its reply.
+//! One complete line: its request, and its reply.
 ghost use Rattle.serde_json.specs.View.{view};
 ghost use Rattle.gateway.specs.Request.{request_of};
 ghost use Rattle.gateway.specs.Step.{Replies, IsStep, step_by};
@@ -25,7 +25,7 @@ pub(crate) fn respond(desk: &mut Desk<'_>, alloc: Global, line: &[u8]) -> ReplyL
     }
 }
 
-// Answers the request that a value spells.
+/// Answers the request in a JSON value.
 fn answer(desk: &mut Desk<'_>, alloc: Global, value: &Value) -> ReplyLine
     ensures { IsStep desk.old (step_by desk.old (request_of (view value.now))) result desk.new }
 {

@@ -3,9 +3,9 @@ ghost use Rattle.std.specs.Prelude.{◌≡◌, ◌+◌, ◌<◌, ◌≤◌, ◌�
 ghost use Rattle.std.specs.Io.KnownBytes.{IsAtEnd};
 ghost use Rattle.gateway.specs.Devices.{failures_after};
 ghost use Rattle.gateway.specs.Events.{connections, gate_fault, Opening, Bringing, Happens, with_line};
-ghost use Rattle.gateway.specs.Traffic.{Kept};
+ghost use Rattle.gateway.specs.Traffic.{Received};
 ghost use Rattle.gateway.specs.Serving.{Runs, ends_of, read_failures_of, write_failures_of, IsReadUp};
-ghost use Rattle.gateway.specs.Feeding.{IsOpen, WritesReply, Feeds, FeedsFront, Pumps, EndsAt, progress_ends_of};
+ghost use Rattle.gateway.specs.Delivery.{IsOpen, WritesReply, Delivers, DeliversFront, Pumps, EndsAt, progress_ends_of};
 
 use crate::device::{Failed, Feed, Outlet, write_all};
 use crate::gateway::{Event, Gateway, Out};
@@ -29,19 +29,21 @@ pub enum RunFault {
     Read,
     /// A write failed.
     Write,
-    /// The reader was read 2^32 times.
+    /// The reader was read `MOST_READS` times, which is 2^32, without an end.
     TooManyReads,
 }
 
 /// Whether there is more to read.
 enum Progress {
+    /// Bytes were read, and there may be more.
     More,
+    /// The end was reported.
     End,
 }
 
-/// Opens connection `c`, feeds it what the reader gives, and writes the replies, each before the
-/// next line is decided. Closes the connection at the reader's end or at a fault. The documents
-/// stay in the gateway.
+/// Opens connection `c`, delivers to it the bytes that are read, and writes the replies, each before
+/// the next line is decided. Closes the connection at the reader's end or at a fault. The documents
+/// stay open in the gateway.
 pub fn run<R: Feed, W: Outlet>(
     gateway: &mut Gateway<'_>,
     c: u8,
@@ -63,12 +65,13 @@ pub fn run<R: Feed, W: Outlet>(
     result
 }
 
+/// Opens a connection.
 fn open(gateway: &mut Gateway<'_>, c: u8) -> Result<(), RunFault>
     ensures fault { result ≡ Err RunFault.NotFree ↔ IsSome (gate_fault gateway.old.lines (Opening c)) }
     ensures only { IfErr result (λ e. e ≡ RunFault.NotFree) }
     ensures refused { OnErr result (gateway.new ≡ gateway.old) }
     ensures number { OnOk result (c < length gateway.old.lines) }
-    ensures opened { OnOk result (gateway.new ≡ with_line gateway.old c (Some (Kept []))) }
+    ensures opened { OnOk result (gateway.new ≡ with_line gateway.old c (Some (Received []))) }
     ensures is_open { OnOk result (IsOpen gateway.new c) }
 {
     match gateway.event(Event::Open(c)) {
@@ -77,6 +80,7 @@ fn open(gateway: &mut Gateway<'_>, c: u8) -> Result<(), RunFault>
     }
 }
 
+/// Closes a connection that is open.
 fn close(gateway: &mut Gateway<'_>, c: u8)
     requires { IsOpen gateway.old c }
     ensures number { c < length gateway.old.lines }
@@ -85,7 +89,7 @@ fn close(gateway: &mut Gateway<'_>, c: u8)
     let _ = gateway.event(Event::Close(c));
 }
 
-// Reads and feeds until the end or a fault.
+/// Reads and delivers until the end or a fault.
 fn pump<R: Feed, W: Outlet>(
     gateway: &mut Gateway<'_>,
     c: u8,
@@ -111,7 +115,7 @@ fn pump<R: Feed, W: Outlet>(
     Err(RunFault::TooManyReads)
 }
 
-// Reads once, and feeds what came.
+/// Reads once, and delivers the bytes that were read.
 fn read_once<R: Feed, W: Outlet>(
     gateway: &mut Gateway<'_>,
     c: u8,
@@ -136,26 +140,26 @@ fn read_once<R: Feed, W: Outlet>(
     if n == 0 {
         return Ok(Progress::End);
     }
-    match feed(gateway, c, &buffer[..n], writer) {
+    match deliver(gateway, c, &buffer[..n], writer) {
         Ok(()) => Ok(Progress::More),
         Err(Failed) => Err(RunFault::Write),
     }
 }
 
-// Feeds all of the bytes, line by line.
-fn feed<W: Outlet>(
+/// Delivers all of the bytes to the gateway, line by line.
+fn deliver<W: Outlet>(
     gateway: &mut Gateway<'_>,
     c: u8,
     bytes: &[u8],
     writer: &mut W,
 ) -> Result<(), Failed>
     requires { IsOpen gateway.old c }
-    ensures feeds { Feeds result c bytes.now gateway.old gateway.new (W.written writer.old) (W.written writer.new) }
+    ensures delivers { Delivers result c bytes.now gateway.old gateway.new (W.written writer.old) (W.written writer.new) }
     ensures failures { W.failures writer.new ≡ failures_after result (W.failures writer.old) }
 {
     let mut done = 0;
     while done < bytes.len() {
-        match feed_line(gateway, c, &bytes[done..], writer) {
+        match deliver_line(gateway, c, &bytes[done..], writer) {
             Ok(taken) => done += taken,
             Err(Failed) => return Err(Failed),
         }
@@ -163,9 +167,9 @@ fn feed<W: Outlet>(
     Ok(())
 }
 
-// Feeds the bytes up to and with the first line feed, and writes the reply to the line that they
-// complete. Says how many bytes they were.
-fn feed_line<W: Outlet>(
+/// Delivers the bytes up to and with the first line deliver, and writes the reply to the line that they
+/// complete. Says how many bytes they were.
+fn deliver_line<W: Outlet>(
     gateway: &mut Gateway<'_>,
     c: u8,
     bytes: &[u8],
@@ -174,7 +178,7 @@ fn feed_line<W: Outlet>(
     requires { IsOpen gateway.old c }
     ensures bound { IfOk result (λ n. n ≤ length bytes.now) }
     ensures some { IfOk result (λ n. 0 < length bytes.now → 0 < n) }
-    ensures feeds { FeedsFront result c bytes.now gateway.old gateway.new (W.written writer.old) (W.written writer.new) }
+    ensures delivers { DeliversFront result c bytes.now gateway.old gateway.new (W.written writer.old) (W.written writer.new) }
     ensures failures { W.failures writer.new ≡ failures_after result (W.failures writer.old) }
 {
     let Out { taken, reply } = bring(gateway, c, bytes);
@@ -184,8 +188,8 @@ fn feed_line<W: Outlet>(
     }
 }
 
-// Takes the bytes up to and with the first line feed, and none behind it: the next line is decided
-// when the reply to this one has gone out.
+/// Takes the bytes up to and with the first line deliver, and none behind it: the next line is decided
+/// when the reply to this one has been written.
 fn bring(gateway: &mut Gateway<'_>, c: u8, bytes: &[u8]) -> Out
     requires { IsOpen gateway.old c }
     ensures step { Happens gateway.old (Bringing c bytes.now) result.taken result.reply gateway.new }
@@ -197,6 +201,7 @@ fn bring(gateway: &mut Gateway<'_>, c: u8, bytes: &[u8]) -> Out
     }
 }
 
+/// Writes the reply, if there is one.
 fn write_reply<W: Outlet>(writer: &mut W, reply: Option<ReplyLine>) -> Result<(), Failed>
     ensures writes { WritesReply result reply (W.written writer.old) (W.written writer.new) }
     ensures failures { W.failures writer.new ≡ failures_after result (W.failures writer.old) }

@@ -1,4 +1,4 @@
-//! What a file holds.
+//! The bytes of a file.
 
 use crate::fault::Unread;
 use std::alloc::Global;
@@ -10,7 +10,8 @@ use std::rt::Files;
 /// The most bytes of a file.
 const FILE_LIMIT: u64 = 16_777_216;
 
-/// What a file holds, or `None` where there is no such file. One of more than 16 MiB can't be read.
+/// The bytes of a file, or `None` where there is no such file. A file of more than `FILE_LIMIT`
+/// bytes, which is 16 MiB, can't be read.
 pub fn bytes_of<T: Files>(
     rt: &T,
     alloc: Global,

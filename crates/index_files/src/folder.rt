@@ -121,15 +121,15 @@ const INDEX_FILES: [(IndexKind, &str); 34] = [
     (IndexKind::Gb18030Ranges, "index-gb18030-ranges.txt"),
 ];
 
-/// The index files of a folder, each read once, in the order of the list. One that isn't there is
-/// left out; a folder that isn't there has none.
+/// The index files of a folder, each read once, in the order of the list. An absent file is left
+/// out; an absent folder has none.
 pub fn indexes_in<T: Files>(rt: &T, alloc: Global, folder: &str) -> Result<Indexes, FolderFault> {
     let mut indexes = Indexes::new();
     put_all(rt, alloc, folder, &INDEX_FILES, &mut indexes)?;
     Ok(indexes)
 }
 
-/// Puts the index files that are there among the others.
+/// Adds the index files that exist.
 fn put_all<T: Files>(
     rt: &T,
     alloc: Global,
@@ -145,7 +145,7 @@ fn put_all<T: Files>(
     Ok(())
 }
 
-/// Puts one index file among the others, if it is there.
+/// Adds one index file, if it exists.
 fn put_index<T: Files>(
     rt: &T,
     alloc: Global,

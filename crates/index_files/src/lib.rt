@@ -1,4 +1,4 @@
-//! The files that the programs read: the index files of a folder, and what a file holds.
+//! The files that the programs read: the index files of a folder, and the bytes of any file.
 #![tactic(auto)]
 
 mod fault;

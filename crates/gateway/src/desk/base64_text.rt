@@ -1,13 +1,13 @@
-//! Bytes that a command spells in base64.
-ghost use Rattle.gateway.specs.Told.{Says};
+//! Bytes that a command holds in base64.
+ghost use Rattle.gateway.specs.Commands.{Says};
 
 use crate::desk::fault::Fault;
 use base64::DecodeAllocError;
 use base64::engine::general_purpose::STANDARD;
 use std::alloc::Global;
 
-/// The bytes that a text says in base64 (RFC 4648, section 4): the text has to be what these bytes
-/// are written as, with padding, no bits to spare and no white space.
+/// The bytes of a text in base64 (RFC 4648, section 4), which has to be exactly what these bytes
+/// encode to: padded, with no spare bits and no white space.
 pub fn bytes_of(alloc: Global, text: &str) -> Result<Vec<u8>, Fault>
     ensures { Says text.now result }
 {

@@ -1,4 +1,4 @@
-//! Why a command is refused, where a layer below says why.
+//! Refusals whose cause a layer below reports.
 ghost use Rattle.std.specs.Prelude.{◌≡◌};
 ghost use Rattle.gateway.specs.Documents.{fault_of};
 ghost use Rattle.gateway.specs.declared.desk.fault.Fault.TheVariants.{OutOfMemory};

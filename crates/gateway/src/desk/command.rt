@@ -1,8 +1,8 @@
-//! What a client asks of the desk.
+//! The commands of a client.
 
 use crate::desk::text_mode::TextMode;
 
-/// One command, its texts lent by the line that spelt it.
+/// One command. Its texts are borrowed from the line that it was parsed from.
 #[derive(Clone, Copy)]
 pub enum Command<'a> {
     /// Opens a document at revision 0.
@@ -27,7 +27,7 @@ pub enum Command<'a> {
         /// The bytes to put in their place, in base64 (RFC 4648, section 4).
         bytes: &'a str,
     },
-    /// Asks for the code points `from..to` of a document's text.
+    /// Returns the code points `from..to` of a document's text.
     Text {
         /// The document's name.
         doc: &'a str,
@@ -38,7 +38,7 @@ pub enum Command<'a> {
         /// What becomes of the document's errors.
         mode: TextMode,
     },
-    /// Asks for a page of the places of a document's errors.
+    /// Returns a page of the places of a document's errors.
     Errors {
         /// The document's name.
         doc: &'a str,

@@ -2,13 +2,12 @@
 ghost use Rattle.std.specs.Prelude.{◌≡◌, IfSome, OnOk, OnErr, string_bytes};
 ghost use Rattle.std.specs.Option.{option_map};
 ghost use Rattle.std.specs.FinMap as map;
-ghost use Rattle.gateway.specs.Desk.{IsOutcome, admitted, put, spliced_at};
-ghost use Rattle.gateway.specs.Kept.{AllOpened, held, names};
-ghost use Rattle.gateway.specs.Told.{reply_of};
+ghost use Rattle.gateway.specs.Desk.{IsOutcome, admitted, put, splice_outcome_at, reply_of};
+ghost use Rattle.gateway.specs.OpenDocuments.{AllOpened, entry_of, names};
 ghost use Rattle.index_loader.specs.Files.{Files};
 
 use crate::desk::fault::Fault;
-use crate::desk::kept::Kept;
+use crate::desk::open_document::OpenDocument;
 use crate::desk::reply::Reply;
 use decoder_core::meter;
 use enc_names::Encoding;
@@ -26,18 +25,18 @@ const MAX_DOCUMENTS: usize = 64;
 #[derive(Drop)]
 pub struct Documents<'i> {
     indexes: &'i Indexes,
-    named: BTreeMap<String, Kept<'i>>,
+    named: BTreeMap<String, OpenDocument<'i>>,
 }
 
 impl<'i> Model for Documents<'i> {
     ghost use Rattle.gateway.specs.Documents.{Shelf};
-    ghost use Rattle.gateway.specs.DeskCodes.{shelf_code};
+    ghost use Rattle.gateway.specs.Codes.{shelf_code};
 
     ghost Value = { Shelf };
 
     ghost coded = { shelf_code };
 
-    ghost use Rattle.gateway.specs.Kept.{AllOpened, names};
+    ghost use Rattle.gateway.specs.OpenDocuments.{AllOpened, names};
 
     ghost view = { λ d. record { indexes = d.indexes.now; named = names d.named.entries } };
 
@@ -56,8 +55,8 @@ impl<'i> Documents<'i> {
     }
 
     /// The document of this name.
-    pub fn get(&self, name: &str) -> Option<&Kept<'i>>
-        ensures held { option_map (λ k. held k.now) result ≡ map.get self.now.named name.now }
+    pub fn get(&self, name: &str) -> Option<&OpenDocument<'i>>
+        ensures entry { option_map (λ k. entry_of k.now) result ≡ map.get self.now.named name.now }
         ensures indexes { IfSome result (λ k. k.now.document.indexes ≡ self.now.indexes) }
     {
         self.named.get(name)
@@ -85,17 +84,17 @@ impl<'i> Documents<'i> {
             return Err(Fault::TooManyDocuments);
         }
         let document = Doc::open(alloc, self.indexes, given, bytes, &mut meter())?;
-        let kept = Kept {
+        let opened = OpenDocument {
             document,
             revision: 0,
         };
-        let reply = kept.edit_reply();
+        let reply = opened.edit_reply();
         let name = String::from_str(alloc, name)?;
-        self.insert(name, kept)?;
+        self.insert(name, opened)?;
         Ok(reply)
     }
 
-    /// Splices the document of this name, as `Kept::splice` does.
+    /// Splices the document of this name, as `OpenDocument::splice` does.
     pub fn splice(
         &mut self,
         name: &str,
@@ -105,7 +104,7 @@ impl<'i> Documents<'i> {
         ins: &[u8],
     ) -> Result<Reply, Fault>
         ensures step { IsOutcome
-            (spliced_at self.old.indexes self.old.named name.now rev at del ins.now (map.get self.old.named name.now))
+            (splice_outcome_at self.old.indexes self.old.named name.now rev at del ins.now (map.get self.old.named name.now))
             (reply_of result) self.old.named self.new.named }
         ensures indexes { self.new.indexes ≡ self.old.indexes }
     {
@@ -120,19 +119,19 @@ impl<'i> Documents<'i> {
     }
 
     /// Puts a document, opened with the same index files, at its name.
-    fn insert(&mut self, name: String, kept: Kept<'i>) -> Result<(), AllocError>
-        requires { kept.document.indexes ≡ self.old.indexes }
-        ensures ok { OnOk result (self.new ≡ record { indexes = self.old.indexes; named = map.insert self.old.named (string_bytes name) (held kept.entry) }) }
+    fn insert(&mut self, name: String, opened: OpenDocument<'i>) -> Result<(), AllocError>
+        requires { opened.document.indexes ≡ self.old.indexes }
+        ensures ok { OnOk result (self.new ≡ record { indexes = self.old.indexes; named = map.insert self.old.named (string_bytes name) (entry_of opened.entry) }) }
         ensures err { OnErr result (self.new ≡ self.old) }
     {
-        self.named.insert(name, kept)?;
+        self.named.insert(name, opened)?;
         Ok(())
     }
 }
 
 /// Splices the document of this name among those that are open.
 fn splice_in(
-    named: &mut BTreeMap<String, Kept<'_>>,
+    named: &mut BTreeMap<String, OpenDocument<'_>>,
     name: &str,
     rev: u64,
     at: u64,
@@ -140,13 +139,13 @@ fn splice_in(
     ins: &[u8],
 ) -> Result<Reply, Fault>
     ensures step { (indexes : Files) → AllOpened indexes named.old.entries → IsOutcome
-        (spliced_at indexes (names named.old.entries) name.now rev at del ins.now (map.get (names named.old.entries) name.now))
+        (splice_outcome_at indexes (names named.old.entries) name.now rev at del ins.now (map.get (names named.old.entries) name.now))
         (reply_of result) (names named.old.entries) (names named.new.entries) }
     ensures opened { (indexes : Files) → AllOpened indexes named.old.entries → AllOpened indexes named.new.entries }
 {
-    let Some(kept) = named.get_mut(name) else {
+    let Some(found) = named.get_mut(name) else {
         return Err(Fault::NoDocument);
     };
-    kept.splice(rev, at, del, ins)?;
-    Ok(kept.edit_reply())
+    found.splice(rev, at, del, ins)?;
+    Ok(found.edit_reply())
 }

@@ -1,8 +1,7 @@
 //! Laws of the desk's definition, which every desk meets.
 ghost use Rattle.gateway.specs.DeskRuns.{OnlyEditsChange, RefusalsChangeNothing, MemoryIsNeverWanted};
 
-/// What a refused command leaves is what it found; and the definition itself refuses nothing for
-/// want of memory.
+/// A refused command changes nothing; and the definition itself never refuses for lack of memory.
 pub fn refusals_change_nothing()
     ensures edits { OnlyEditsChange }
     ensures documents { RefusalsChangeNothing }

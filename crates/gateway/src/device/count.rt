@@ -13,7 +13,7 @@ pub enum Count {
 }
 
 impl Count {
-    ghost use Rattle.gateway.specs.Count.{counted};
+    ghost use Rattle.gateway.specs.Devices.{counted};
 
     /// Once more.
     pub fn next(&mut self)

@@ -1,6 +1,6 @@
 //! Devices over memory.
 ghost use Rattle.std.specs.Prelude.{◌≡◌, Some, []};
-ghost use Rattle.gateway.specs.Count.{counted};
+ghost use Rattle.gateway.specs.Devices.{counted};
 
 use super::count::Count;
 use super::{Failed, Feed, Outlet};
@@ -15,7 +15,7 @@ pub struct MemFeed<'a> {
 }
 
 impl<'a> MemFeed<'a> {
-    /// The device that gives these bytes, and then the end.
+    /// The device from which these bytes are read, and then the end.
     pub fn new(bytes: &'a [u8]) -> MemFeed<'a>
         ensures left { ⟦<MemFeed<'a> as Feed>⟧.left result ≡ Some bytes.now }
         ensures reads { ⟦<MemFeed<'a> as Feed>⟧.reads result ≡ 0 }
@@ -50,23 +50,23 @@ impl<'a> Feed for MemFeed<'a> {
     }
 }
 
-/// Holds what is written to it. A write fails where memory runs out.
+/// A buffer to write to. A write fails where memory runs out.
 #[derive(Drop)]
 pub struct MemOutlet {
-    held: Vec<u8>,
+    contents: Vec<u8>,
     writes: Count,
     failures: Count,
 }
 
 impl MemOutlet {
-    /// The device that holds no byte yet.
+    /// An empty buffer.
     pub fn new(alloc: Global) -> MemOutlet
         ensures written { ⟦<MemOutlet as Outlet>⟧.written result ≡ Some [] }
         ensures writes { ⟦<MemOutlet as Outlet>⟧.writes result ≡ 0 }
         ensures failures { ⟦<MemOutlet as Outlet>⟧.failures result ≡ 0 }
     {
         MemOutlet {
-            held: Vec::new(alloc),
+            contents: Vec::new(alloc),
             writes: Count::Never,
             failures: Count::Never,
         }
@@ -76,12 +76,12 @@ impl MemOutlet {
     pub fn bytes(&self) -> &[u8]
         ensures { ⟦<MemOutlet as Outlet>⟧.written self.now ≡ Some result.now }
     {
-        &self.held
+        &self.contents
     }
 }
 
 impl Outlet for MemOutlet {
-    ghost written = { λ d. Some d.held.items };
+    ghost written = { λ d. Some d.contents.items };
 
     ghost writes = { λ d. counted d.writes };
 
@@ -89,7 +89,7 @@ impl Outlet for MemOutlet {
 
     fn write(&mut self, buf: &[u8]) -> Result<usize, Failed> {
         self.writes.next();
-        match self.held.extend_from_slice(buf) {
+        match self.contents.extend_from_slice(buf) {
             Ok(()) => Ok(buf.len()),
             Err(_) => {
                 self.failures.next();

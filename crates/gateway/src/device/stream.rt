@@ -1,12 +1,12 @@
 //! Devices over std's readers and writers.
 ghost use Rattle.std.specs.Prelude.{◌≡◌};
-ghost use Rattle.gateway.specs.Count.{counted};
+ghost use Rattle.gateway.specs.Devices.{counted};
 
 use super::count::Count;
 use super::{Failed, Feed, Outlet};
 use std::io::{Read, Write};
 
-/// A reader. A read that answers an error fails.
+/// A device over a reader. A read fails where the reader returns an error.
 #[derive(Drop)]
 pub struct FromRead<R> {
     reader: R,
@@ -16,7 +16,7 @@ pub struct FromRead<R> {
 }
 
 impl<R: Read> FromRead<R> {
-    /// The device over `reader`, read from never.
+    /// The device over `reader`, with no reads yet.
     pub fn new(reader: R) -> FromRead<R>
         ensures left { ⟦<FromRead<R> as Feed>⟧.left result ≡ R.remaining reader }
         ensures reads { ⟦<FromRead<R> as Feed>⟧.reads result ≡ 0 }
@@ -58,7 +58,8 @@ impl<R: Read> Feed for FromRead<R> {
     }
 }
 
-/// A writer. A write that answers an error fails, and so does one that takes no byte of some.
+/// A device over a writer. A write fails where the writer returns an error, and where it takes no
+/// byte although there are some.
 #[derive(Drop)]
 pub struct ToWrite<W> {
     writer: W,
@@ -67,7 +68,7 @@ pub struct ToWrite<W> {
 }
 
 impl<W: Write> ToWrite<W> {
-    /// The device over `writer`, written to never.
+    /// The device over `writer`, with no writes yet.
     pub fn new(writer: W) -> ToWrite<W>
         ensures written { ⟦<ToWrite<W> as Outlet>⟧.written result ≡ W.contents writer }
         ensures writes { ⟦<ToWrite<W> as Outlet>⟧.writes result ≡ 0 }

@@ -10,7 +10,7 @@ use std::alloc::Global;
 use std::process::Abort;
 use std::test::Fail;
 
-// Three line feeds in pieces: the lines that they complete, and what is begun behind them.
+/// Three line feeds in pieces: the lines that they complete, and what is begun behind them.
 fn cut_lines()
     ensures whole { complete [] (codes "ab\n\nc\r\nd") ≡ codes "ab" ∷ [] ∷ codes "c\r" ∷ [] }
     ensures rest { unfinished [] (codes "ab\n\nc\r\nd") ≡ codes "d" }
@@ -18,70 +18,68 @@ fn cut_lines()
     ensures none { unfinished (codes "a") (codes "b") ≡ codes "ab" }
 {}
 
-fn gateway<'i>(alloc: Global, indexes: &'i Indexes) -> Result<Gateway<'i>, Fail> {
+/// A gateway without index files, whose labels are the names alone.
+pub(crate) fn new_gateway<'i>(alloc: Global, indexes: &'i Indexes) -> Result<Gateway<'i>, Fail> {
     let labels = Labels::names(alloc)?;
     let desk = Desk::new(alloc, indexes, labels)?;
     Ok(Gateway::new(alloc, desk))
 }
 
-fn expect_fault(rt: &impl Abort, gateway: &mut Gateway<'_>, event: Event<'_>, expected: GateFault) {
-    match gateway.event(event) {
-        Err(fault) => assert_eq!(rt; fault, expected),
-        Ok(_) => panic!(rt; "accepted"),
-    }
-}
-
-// The event takes this many bytes and gives no reply.
-fn expect_none(rt: &impl Abort, gateway: &mut Gateway<'_>, event: Event<'_>, taken: usize) {
-    match gateway.event(event) {
-        Ok(out) => {
-            assert_eq!(rt; out.taken, taken);
-            assert!(rt; out.reply.is_none());
-        }
-        Err(_) => panic!(rt; "refused"),
-    }
-}
-
-fn expect_reply(
+/// Asserts that these bytes on connection 0 are taken up to so many, with this reply or none.
+pub(crate) fn expect_event(
     rt: &impl Abort,
     gateway: &mut Gateway<'_>,
     bytes: &str,
     taken: usize,
-    expected: &str,
+    reply: Option<&str>,
 ) {
     match gateway.event(Event::Bytes(0, bytes.as_bytes())) {
         Ok(out) => {
-            assert_eq!(rt; out.taken, taken);
-            match &out.reply {
-                Some(reply) => assert_eq!(rt; reply.bytes(), expected.as_bytes(), "to {bytes}"),
-                None => panic!(rt; "no reply"),
-            }
+            assert_eq!(rt; out.taken, taken, "of {bytes}");
+            let line = out.reply.as_ref().map(|line| line.bytes());
+            assert_eq!(rt; line, reply.map(str::as_bytes), "to {bytes}");
         }
-        Err(_) => panic!(rt; "refused"),
+        Err(_) => panic!(rt; "refused: {bytes}"),
+    }
+}
+
+/// Asserts that the events, one after another, are refused by these faults or accepted without a
+/// reply.
+fn expect_faults(
+    rt: &impl Abort,
+    gateway: &mut Gateway<'_>,
+    rows: &[(Event<'_>, Option<GateFault>)],
+) {
+    for (n, (event, fault)) in rows.iter().enumerate() {
+        match gateway.event(*event) {
+            Ok(out) => {
+                assert!(rt; fault.is_none(), "row {n} is accepted");
+                assert!(rt;
+                    out.taken == 0 && out.reply.is_none(),
+                    "row {n} has a reply"
+                );
+            }
+            Err(refusal) => assert_eq!(rt; Some(refusal), *fault, "row {n}"),
+        }
     }
 }
 
 #[test]
 fn refused_events(rt: HostRuntime) -> Result<(), Fail> {
     let indexes = Indexes::new();
-    let mut gateway = gateway(rt.alloc(), &indexes)?;
-    expect_fault(
-        &rt,
-        &mut gateway,
-        Event::Bytes(0, b"\n"),
-        GateFault::NotOpen,
-    );
-    expect_fault(&rt, &mut gateway, Event::Close(0), GateFault::NotOpen);
-    expect_fault(&rt, &mut gateway, Event::Open(1), GateFault::BadNumber);
-    expect_fault(
-        &rt,
-        &mut gateway,
-        Event::Bytes(255, b"\n"),
-        GateFault::BadNumber,
-    );
-    expect_fault(&rt, &mut gateway, Event::Close(16), GateFault::BadNumber);
-    expect_none(&rt, &mut gateway, Event::Open(0), 0);
-    expect_fault(&rt, &mut gateway, Event::Open(0), GateFault::AlreadyOpen);
+    let mut gateway = new_gateway(rt.alloc(), &indexes)?;
+    let rows = [
+        (Event::Bytes(0, b"\n"), Some(GateFault::NotOpen)),
+        (Event::Close(0), Some(GateFault::NotOpen)),
+        (Event::Open(1), Some(GateFault::BadNumber)),
+        (Event::Bytes(255, b"\n"), Some(GateFault::BadNumber)),
+        (Event::Close(16), Some(GateFault::BadNumber)),
+        (Event::Open(0), None),
+        (Event::Open(0), Some(GateFault::AlreadyOpen)),
+        (Event::Bytes(0, b""), None),
+        (Event::Close(0), None),
+    ];
+    expect_faults(&rt, &mut gateway, &rows);
     Ok(())
 }
 
@@ -89,63 +87,15 @@ fn refused_events(rt: HostRuntime) -> Result<(), Fail> {
 fn line_cut_into_pieces(rt: HostRuntime) -> Result<(), Fail> {
     cut_lines();
     let indexes = Indexes::new();
-    let mut gateway = gateway(rt.alloc(), &indexes)?;
-    expect_none(&rt, &mut gateway, Event::Open(0), 0);
-    expect_none(&rt, &mut gateway, Event::Bytes(0, b""), 0);
-    expect_none(&rt, &mut gateway, Event::Bytes(0, b"{\"id\":1,\"op"), 11);
-    expect_reply(
-        &rt,
-        &mut gateway,
-        "\":\"zap\"}\r\n{\"id\":2",
-        10,
-        "{\"fault\":\"UnknownOp\",\"id\":1}\n",
-    );
-    expect_none(&rt, &mut gateway, Event::Bytes(0, b"{\"id\":2"), 7);
-    expect_none(&rt, &mut gateway, Event::Close(0), 0);
-    expect_none(&rt, &mut gateway, Event::Open(0), 0);
-    expect_reply(&rt, &mut gateway, "\n", 1, "{\"fault\":\"BadJson\"}\n");
-    Ok(())
-}
-
-#[test]
-fn refused_lines(rt: HostRuntime) -> Result<(), Fail> {
-    let indexes = Indexes::new();
-    let mut gateway = gateway(rt.alloc(), &indexes)?;
-    expect_none(&rt, &mut gateway, Event::Open(0), 0);
-    let opened = "{\"bom\":0,\"encoding\":\"UTF-8\",\"id\":1,\"rev\":0}\n";
-    for (line, reply) in [
-        ("\n", "{\"fault\":\"BadJson\"}\n"),
-        ("[]\n", "{\"fault\":\"BadRequest\",\"field\":\"\"}\n"),
-        (
-            "{\"id\":1,\"op\":\"zap\"}\n",
-            "{\"fault\":\"UnknownOp\",\"id\":1}\n",
-        ),
-        (
-            "{\"id\":1,\"op\":\"open\",\"doc\":\"a\",\"label\":\"utf-8\",\"bytes\":\"4oJ\"}\n",
-            "{\"fault\":\"BadBase64\",\"id\":1}\n",
-        ),
-        (
-            "{\"id\":1,\"op\":\"text\",\"doc\":\"a\",\"from\":0,\"to\":0}\n",
-            "{\"fault\":\"NoDocument\",\"id\":1}\n",
-        ),
-        (
-            "{\"id\":1,\"op\":\"open\",\"doc\":\"a\",\"label\":\"utf-8\",\"bytes\":\"\"}\n",
-            opened,
-        ),
-        (
-            "{\"id\":1,\"op\":\"open\",\"doc\":\"a\",\"label\":\"utf-8\",\"bytes\":\"\"}\n",
-            "{\"fault\":\"NameTaken\",\"id\":1}\n",
-        ),
-        (
-            "{\"id\":1,\"op\":\"open\",\"doc\":\"b\",\"label\":\"sjis\",\"bytes\":\"\"}\n",
-            "{\"fault\":\"UnknownLabel\",\"id\":1}\n",
-        ),
-        (
-            "{\"id\":1,\"op\":\"open\",\"doc\":\"b\",\"label\":\"gb18030\",\"bytes\":\"\"}\n",
-            "{\"fault\":\"NoIndex\",\"id\":1}\n",
-        ),
-    ] {
-        expect_reply(&rt, &mut gateway, line, line.len(), reply);
-    }
+    let mut gateway = new_gateway(rt.alloc(), &indexes)?;
+    let zap = Some("{\"fault\":\"UnknownOp\",\"id\":1}\n");
+    expect_faults(&rt, &mut gateway, &[(Event::Open(0), None)]);
+    expect_event(&rt, &mut gateway, "{\"id\":1,\"op", 11, None);
+    expect_event(&rt, &mut gateway, "\":\"zap\"}\r\n{\"id\":2", 10, zap);
+    expect_event(&rt, &mut gateway, "{\"id\":2", 7, None);
+    let again = [(Event::Close(0), None), (Event::Open(0), None)];
+    expect_faults(&rt, &mut gateway, &again);
+    let empty = Some("{\"fault\":\"BadJson\"}\n");
+    expect_event(&rt, &mut gateway, "\n", 1, empty);
     Ok(())
 }

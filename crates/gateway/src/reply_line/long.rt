@@ -2,7 +2,7 @@
 ghost use Rattle.std.specs.Prelude.{◌≡◌, IfOk, OnOk};
 ghost use Rattle.serde_json.specs.Data.{array};
 ghost use Rattle.serde_json.specs.Events.{SendsValue, SendsItems};
-ghost use Rattle.gateway.specs.Sent.{IsLineOf};
+ghost use Rattle.gateway.specs.Writing.{IsLineOf};
 ghost use Rattle.gateway.specs.Replies.{line_of, text_data, errors_data, place_data, places_data};
 
 use enc_names::Place;
@@ -35,7 +35,8 @@ pub(super) fn errors(
     line(alloc, &reply)
 }
 
-// What is written fails only where memory does: no key, number or text is refused.
+/// Writes a reply on a line of its own. It fails only where memory runs out: no key, number or text
+/// is refused.
 fn line<T: Serialize>(alloc: Global, reply: &T) -> Result<Vec<u8>, AllocError>
     ensures { IfOk result (λ line. IsLineOf (T.writes reply.now) line.items) }
 {
@@ -46,6 +47,7 @@ fn line<T: Serialize>(alloc: Global, reply: &T) -> Result<Vec<u8>, AllocError>
     Ok(line)
 }
 
+/// The reply to `text`.
 #[derive(Clone, Copy)]
 struct TextReply<'a> {
     id: u64,
@@ -70,6 +72,7 @@ impl Serialize for TextReply<'_> {
     }
 }
 
+/// The reply to `errors`.
 #[derive(Clone, Copy)]
 struct ErrorsReply<'a> {
     id: u64,
@@ -98,6 +101,7 @@ impl Serialize for ErrorsReply<'_> {
     }
 }
 
+/// Writes a list of places.
 fn send_places<S: Serializer>(places: &[Place], out: &mut S) -> Result<(), S::Error>
     ensures { OnOk result (SendsValue (array (places_data places.now)) (S.written out.old) (S.written out.new)) }
 {
@@ -108,6 +112,7 @@ fn send_places<S: Serializer>(places: &[Place], out: &mut S) -> Result<(), S::Er
     out.end_seq()
 }
 
+/// Writes a place as a list of its two ends.
 fn send_place<S: Serializer>(place: Place, out: &mut S) -> Result<(), S::Error>
     ensures { OnOk result (SendsValue (place_data place) (S.written out.old) (S.written out.new)) }
 {

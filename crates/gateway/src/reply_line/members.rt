@@ -3,17 +3,17 @@ ghost use Rattle.std.specs.Prelude.{◌≡◌, ◌≤◌, ◌+◌, ◌++◌, ◌
 ghost use Rattle.serde_json.specs.Data.{object};
 ghost use Rattle.serde_json.specs.Written.{compact_text, comma_if};
 ghost use Rattle.json.specs.Print.{quoted};
-ghost use Rattle.gateway.specs.Plain.{all_plain};
+ghost use Rattle.gateway.specs.Writing.{all_plain, members_of, are_plain, room_of, content_data, content_is_plain, content_room, number_room, place_room};
 ghost use Rattle.gateway.specs.Replies.{IsShortLine, whole, place_data};
-ghost use Rattle.gateway.specs.Members.{members_of, are_plain, room_of, content_data, content_is_plain, content_room};
 
 use crate::reply_line::short_text::{CAPACITY, ShortText};
 use enc_names::Place;
 use itoa::Buffer;
 
-/// What stands at a key.
+/// The value of a member.
 #[derive(Clone, Copy)]
 pub(super) enum Content<'a> {
+    /// A whole number.
     Number(u64),
     /// A text with nothing that JSON escapes.
     Text(&'a str),
@@ -39,6 +39,7 @@ pub(super) fn line(members: &[(&str, Content<'_>)]) -> ShortText
     line
 }
 
+/// Appends a member, with a comma in front if it is a later one.
 fn put(line: &mut ShortText, later: bool, key: &str, content: Content<'_>)
     requires plain { IsTrue (all_plain key.now) }
     requires plain_content { IsTrue (content_is_plain content) }
@@ -60,18 +61,20 @@ fn put(line: &mut ShortText, later: bool, key: &str, content: Content<'_>)
     }
 }
 
+/// Appends a number in decimal digits.
 fn put_number(line: &mut ShortText, number: u64)
-    requires { length line.old + 20 ≤ CAPACITY }
+    requires { length line.old + number_room ≤ CAPACITY }
     ensures text { line.new ≡ line.old ++ compact_text (whole number) }
-    ensures room { length line.new ≤ length line.old + 20 }
+    ensures room { length line.new ≤ length line.old + number_room }
 {
     line.extend(Buffer::new().format(number).as_bytes());
 }
 
+/// Appends a place as a list of its two ends.
 fn put_place(line: &mut ShortText, place: Place)
-    requires { length line.old + 43 ≤ CAPACITY }
+    requires { length line.old + place_room ≤ CAPACITY }
     ensures text { line.new ≡ line.old ++ compact_text (place_data place) }
-    ensures room { length line.new ≤ length line.old + 43 }
+    ensures room { length line.new ≤ length line.old + place_room }
 {
     line.push(b'[');
     put_number(line, place.from);

@@ -1,8 +1,8 @@
 //! The replies that take no memory.
 ghost use Rattle.std.specs.Prelude.{◌≡◌, ◌≤◌, length, codes, IsTrue};
 ghost use Rattle.enc_names.specs.Names.{name_of};
-ghost use Rattle.gateway.specs.Plain.{all_plain};
-ghost use Rattle.gateway.specs.Replies.{IsShortLine, edited_data, fault_data, refusal_data, bare_data, numbered_data, malformed_data, bad_request_data, fault_name, field_name};
+ghost use Rattle.gateway.specs.Writing.{all_plain, name_room};
+ghost use Rattle.gateway.specs.Replies.{IsShortLine, edited_data, fault_data, refusal_data, bare_data, fault_with_id_data, malformed_data, bad_request_data, fault_name, field_name};
 
 use crate::desk::Fault;
 use crate::reply_line::members::{Content, line};
@@ -34,10 +34,11 @@ pub(super) fn fault(id: u64, fault: Fault) -> ShortText
             ("rev", Content::Number(rev)),
         ]),
         Fault::Malformed { place } => malformed(id, place),
-        _ => numbered(fault_name(fault), id),
+        _ => fault_with_id(fault_name(fault), id),
     }
 }
 
+/// The document has an error at this place.
 fn malformed(id: u64, place: Place) -> ShortText
     ensures { IsShortLine (malformed_data id place) result }
 {
@@ -56,7 +57,7 @@ pub(super) fn refusal(refusal: Refusal) -> ShortText
         Refusal::LineTooLong => bare("LineTooLong"),
         Refusal::BadJson => bare("BadJson"),
         Refusal::BadRequest { id, field } => bad_request(id, field),
-        Refusal::UnknownOp { id } => numbered("UnknownOp", id),
+        Refusal::UnknownOp { id } => fault_with_id("UnknownOp", id),
         Refusal::OutOfMemory => out_of_memory(),
     }
 }
@@ -68,22 +69,25 @@ pub(super) fn out_of_memory() -> ShortText
     bare("OutOfMemory")
 }
 
+/// A fault alone.
 fn bare(fault: &str) -> ShortText
     requires plain { IsTrue (all_plain fault.now) }
-    requires len { length fault.now ≤ 20 }
+    requires len { length fault.now ≤ name_room }
     ensures { IsShortLine (bare_data fault.now) result }
 {
     line(&[("fault", Content::Text(fault))])
 }
 
-fn numbered(fault: &str, id: u64) -> ShortText
+/// A fault that answers the request with this number.
+fn fault_with_id(fault: &str, id: u64) -> ShortText
     requires plain { IsTrue (all_plain fault.now) }
-    requires len { length fault.now ≤ 20 }
-    ensures { IsShortLine (numbered_data fault.now id) result }
+    requires len { length fault.now ≤ name_room }
+    ensures { IsShortLine (fault_with_id_data fault.now id) result }
 {
     line(&[("fault", Content::Text(fault)), ("id", Content::Number(id))])
 }
 
+/// A field is missing or wrong.
 fn bad_request(id: Option<u64>, field: Field) -> ShortText
     ensures { IsShortLine (bad_request_data id field) result }
 {
@@ -95,18 +99,20 @@ fn bad_request(id: Option<u64>, field: Field) -> ShortText
     }
 }
 
+/// The encoding's name in the Encoding Standard.
 fn encoding_name(encoding: Encoding) -> &'static str
     ensures value { result.now ≡ name_of encoding }
     ensures plain { IsTrue (all_plain result.now) }
-    ensures len { length result.now ≤ 20 }
+    ensures len { length result.now ≤ name_room }
 {
     encoding.name()
 }
 
+/// A fault's name in replies.
 fn fault_name(fault: Fault) -> &'static str
     ensures value { result.now ≡ fault_name fault }
     ensures plain { IsTrue (all_plain result.now) }
-    ensures len { length result.now ≤ 20 }
+    ensures len { length result.now ≤ name_room }
 {
     match fault {
         Fault::BadBase64 => "BadBase64",
@@ -124,10 +130,11 @@ fn fault_name(fault: Fault) -> &'static str
     }
 }
 
+/// A field's name in replies.
 fn field_name(field: Field) -> &'static str
     ensures value { result.now ≡ field_name field }
     ensures plain { IsTrue (all_plain result.now) }
-    ensures len { length result.now ≤ 20 }
+    ensures len { length result.now ≤ name_room }
 {
     match field {
         Field::Object => "",

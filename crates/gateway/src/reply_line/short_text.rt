@@ -1,11 +1,11 @@
-//! Text of at most 256 bytes that stands inline.
+//! A short text that needs no memory.
 
 use std::marker::Model;
 
 /// The most bytes of a short text.
 pub(super) const CAPACITY: usize = 256;
 
-/// A text that needs no memory. Contracts see its bytes.
+/// A text of at most `CAPACITY` bytes, stored inline. Contracts see its bytes.
 #[derive(Drop)]
 pub(super) struct ShortText {
     bytes: [u8; CAPACITY],
@@ -14,19 +14,21 @@ pub(super) struct ShortText {
 
 impl Model for ShortText {
     ghost use Rattle.std.specs.Prelude.{ℕ, ◌≤◌, List, take};
+    ghost use Rattle.gateway.specs.declared.reply_line.short_text.TheConstants.{CAPACITY};
 
     ghost Value = { List ℕ };
 
     ghost view = { λ t. take t.len t.bytes };
 
-    ghost invariant = { λ t. t.len ≤ 256 };
+    ghost invariant = { λ t. t.len ≤ CAPACITY };
 }
 
 impl ShortText {
     ghost use Rattle.std.specs.Prelude.{◌≡◌, ◌≤◌, ◌+◌, List, [], ◌∷◌, ◌++◌, length, IsTrue};
     ghost use Rattle.json.specs.Print.{quoted};
-    ghost use Rattle.gateway.specs.Plain.{all_plain};
+    ghost use Rattle.gateway.specs.Writing.{all_plain};
 
+    /// The empty text.
     pub(super) fn new() -> ShortText
         ensures { result ≡ [] }
     {
@@ -36,12 +38,14 @@ impl ShortText {
         }
     }
 
+    /// The bytes.
     pub(super) fn as_slice(&self) -> &[u8]
         ensures { result.now ≡ self.now }
     {
         &self.bytes[..self.len]
     }
 
+    /// Appends a byte.
     pub(super) fn push(&mut self, byte: u8)
         requires { length self.old + 1 ≤ CAPACITY }
         ensures { self.new ≡ self.old ++ byte ∷ [] }
@@ -50,6 +54,7 @@ impl ShortText {
         self.len += 1;
     }
 
+    /// Appends bytes.
     pub(super) fn extend(&mut self, more: &[u8])
         requires { length self.old + length more.now ≤ CAPACITY }
         ensures { self.new ≡ self.old ++ more.now }

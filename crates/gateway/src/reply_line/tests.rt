@@ -7,12 +7,10 @@ ghost use Rattle.gateway.specs.declared.desk.reply.Reply.TheVariants.{Edited, Te
 ghost use Rattle.gateway.specs.declared.request.field.Field.TheVariants as field;
 ghost use Rattle.gateway.specs.declared.request.refusal.Refusal.TheVariants as refusal;
 
-use crate::desk::{Fault, Reply, ReplyPlaces, ReplyText};
+use crate::desk::{Fault, Reply, ReplyText};
 use crate::reply_line::ReplyLine;
 use crate::request::{Field, Refusal};
-use enc_names::{Encoding, Place};
-use std::alloc::Global;
-use std::process::Abort;
+use enc_names::Place;
 use std::test::Fail;
 
 fn stored_session()
@@ -53,127 +51,50 @@ fn refused_lines()
     ensures memory { refusal_text refusal.OutOfMemory ≡ codes "{\"fault\":\"OutOfMemory\"}\n" }
 {}
 
-fn expect(rt: &impl Abort, line: &ReplyLine, expected: &str) {
-    assert_eq!(rt; line.bytes(), expected.as_bytes());
-}
-
-#[test]
-fn replies_of_the_stored_session(rt: HostRuntime) -> Result<(), Fail> {
-    stored_session();
-    let alloc = rt.alloc();
-    let (bom, encoding) = (0, Encoding::Utf8);
-    let open = Reply::Edited {
-        bom,
-        encoding,
-        rev: 0,
-    };
-    expect(
-        &rt,
-        &ReplyLine::of(alloc, 1, &open)?,
-        "{\"bom\":0,\"encoding\":\"UTF-8\",\"id\":1,\"rev\":0}\n",
-    );
-    let text = ReplyText::new(String::from_str(alloc, "\u{fffd}A")?);
-    expect(
-        &rt,
-        &ReplyLine::of(alloc, 2, &Reply::Text { rev: 0, text })?,
-        "{\"id\":2,\"rev\":0,\"text\":\"\u{fffd}A\"}\n",
-    );
-    let places = ReplyPlaces::new([Place { from: 0, to: 2 }].to_vec(alloc)?);
-    let errors = Reply::Errors {
-        rev: 0,
-        total: 1,
-        places,
-    };
-    expect(
-        &rt,
-        &ReplyLine::of(alloc, 3, &errors)?,
-        "{\"errors\":[[0,2]],\"id\":3,\"rev\":0,\"total\":1}\n",
-    );
-    let fault = Reply::Refused {
-        fault: Fault::OutOfRange,
-    };
-    expect(
-        &rt,
-        &ReplyLine::of(alloc, 6, &fault)?,
-        "{\"fault\":\"OutOfRange\",\"id\":6}\n",
-    );
-    Ok(())
-}
-
 #[test]
 fn replies_that_are_refusals(rt: HostRuntime) -> Result<(), Fail> {
+    stored_session();
     other_replies();
-    let alloc = rt.alloc();
-    let stale = Reply::Refused {
-        fault: Fault::Stale { rev: 1 },
-    };
-    expect(
-        &rt,
-        &ReplyLine::of(alloc, 1, &stale)?,
-        "{\"fault\":\"Stale\",\"id\":1,\"rev\":1}\n",
-    );
     let place = Place { from: 0, to: 2 };
-    let malformed = Reply::Refused {
-        fault: Fault::Malformed { place },
-    };
-    expect(
-        &rt,
-        &ReplyLine::of(alloc, 1, &malformed)?,
-        "{\"fault\":\"Malformed\",\"id\":1,\"place\":[0,2]}\n",
-    );
-    let memory = Reply::Refused {
-        fault: Fault::OutOfMemory,
-    };
-    expect(
-        &rt,
-        &ReplyLine::of(alloc, 1, &memory)?,
-        "{\"fault\":\"OutOfMemory\"}\n",
-    );
-    expect(
-        &rt,
-        &ReplyLine::out_of_memory(),
-        "{\"fault\":\"OutOfMemory\"}\n",
-    );
+    for (fault, text) in [
+        (
+            Fault::Stale { rev: 1 },
+            "{\"fault\":\"Stale\",\"id\":1,\"rev\":1}\n",
+        ),
+        (
+            Fault::Malformed { place },
+            "{\"fault\":\"Malformed\",\"id\":1,\"place\":[0,2]}\n",
+        ),
+        (Fault::OutOfMemory, "{\"fault\":\"OutOfMemory\"}\n"),
+    ] {
+        let line = ReplyLine::of(rt.alloc(), 1, &Reply::Refused { fault })?;
+        assert_eq!(rt; line.bytes(), text.as_bytes());
+    }
     Ok(())
 }
 
 #[test]
 fn replies_to_refused_lines(rt: HostRuntime) {
     refused_lines();
-    expect(
-        &rt,
-        &ReplyLine::refused(Refusal::LineTooLong),
-        "{\"fault\":\"LineTooLong\"}\n",
-    );
-    expect(
-        &rt,
-        &ReplyLine::refused(Refusal::BadJson),
-        "{\"fault\":\"BadJson\"}\n",
-    );
-    let object = Refusal::BadRequest {
-        id: None,
-        field: Field::Object,
-    };
-    expect(
-        &rt,
-        &ReplyLine::refused(object),
-        "{\"fault\":\"BadRequest\",\"field\":\"\"}\n",
-    );
     let mode = Refusal::BadRequest {
         id: Some(3),
         field: Field::Mode,
     };
-    expect(
-        &rt,
-        &ReplyLine::refused(mode),
-        "{\"fault\":\"BadRequest\",\"field\":\"mode\",\"id\":3}\n",
-    );
-    let op = Refusal::UnknownOp { id: 1 };
-    expect(
-        &rt,
-        &ReplyLine::refused(op),
-        "{\"fault\":\"UnknownOp\",\"id\":1}\n",
-    );
+    for (refusal, text) in [
+        (Refusal::LineTooLong, "{\"fault\":\"LineTooLong\"}\n"),
+        (
+            mode,
+            "{\"fault\":\"BadRequest\",\"field\":\"mode\",\"id\":3}\n",
+        ),
+        (
+            Refusal::UnknownOp { id: 1 },
+            "{\"fault\":\"UnknownOp\",\"id\":1}\n",
+        ),
+        (Refusal::OutOfMemory, "{\"fault\":\"OutOfMemory\"}\n"),
+    ] {
+        let line = ReplyLine::refused(refusal);
+        assert_eq!(rt; line.bytes(), text.as_bytes());
+    }
 }
 
 #[test]
@@ -181,10 +102,7 @@ fn text_is_escaped_in_the_shortest_way(rt: HostRuntime) -> Result<(), Fail> {
     let alloc = rt.alloc();
     let text = ReplyText::new(String::from_str(alloc, "\"\\\u{8}\t\n\u{c}\r\u{1f}\u{7f}")?);
     let line = ReplyLine::of(alloc, 1, &Reply::Text { rev: 0, text })?;
-    expect(
-        &rt,
-        &line,
-        "{\"id\":1,\"rev\":0,\"text\":\"\\\"\\\\\\b\\t\\n\\f\\r\\u001f\u{7f}\"}\n",
-    );
+    let wanted = "{\"id\":1,\"rev\":0,\"text\":\"\\\"\\\\\\b\\t\\n\\f\\r\\u001f\u{7f}\"}\n";
+    assert_eq!(rt; line.bytes(), wanted.as_bytes());
     Ok(())
 }

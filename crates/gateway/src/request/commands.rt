@@ -1,7 +1,7 @@
 //! From a JSON value to a command.
 ghost use Rattle.std.specs.Prelude.{◌≡◌};
 ghost use Rattle.serde_json.specs.View.{view};
-ghost use Rattle.gateway.specs.Request.{open_of, splice_of, text_of, errors_of, request_of, seen_command, seen};
+ghost use Rattle.gateway.specs.Request.{open_command, splice_command, text_command, errors_command, request_of, command_asked, request_asked};
 ghost use Rattle.gateway.specs.declared.request.refusal.Refusal.TheVariants.{BadRequest};
 
 use crate::desk::Command;
@@ -19,7 +19,7 @@ const MAX_ENTRIES: u64 = 10_000;
 ///
 /// `BadRequest` with the first faulty field in the order of the command's fields, `UnknownOp`.
 pub(crate) fn request(value: &Value) -> Result<(u64, Command<'_>), Refusal>
-    ensures { seen result ≡ request_of (view value.now) }
+    ensures { request_asked result ≡ request_of (view value.now) }
 {
     if !value.is_object() {
         return Err(bad(None, Field::Object));
@@ -39,14 +39,16 @@ pub(crate) fn request(value: &Value) -> Result<(u64, Command<'_>), Refusal>
     }
 }
 
+/// The refusal for a field.
 fn bad(id: Option<u64>, field: Field) -> Refusal
     ensures { result ≡ BadRequest id field }
 {
     Refusal::BadRequest { id, field }
 }
 
+/// The command `open`, or the first faulty field.
 fn open(value: &Value) -> Result<Command<'_>, Field>
-    ensures { seen_command result ≡ open_of (view value.now) }
+    ensures { command_asked result ≡ open_command (view value.now) }
 {
     let doc = fields::name(value).ok_or(Field::Doc)?;
     let label = fields::text(value, "label").ok_or(Field::Label)?;
@@ -54,8 +56,9 @@ fn open(value: &Value) -> Result<Command<'_>, Field>
     Ok(Command::Open { doc, label, bytes })
 }
 
+/// The command `splice`, or the first faulty field.
 fn splice(value: &Value) -> Result<Command<'_>, Field>
-    ensures { seen_command result ≡ splice_of (view value.now) }
+    ensures { command_asked result ≡ splice_command (view value.now) }
 {
     let doc = fields::name(value).ok_or(Field::Doc)?;
     let rev = fields::number(value, "rev", MAX_NUMBER).ok_or(Field::Rev)?;
@@ -71,8 +74,9 @@ fn splice(value: &Value) -> Result<Command<'_>, Field>
     })
 }
 
+/// The command `text`, or the first faulty field.
 fn text(value: &Value) -> Result<Command<'_>, Field>
-    ensures { seen_command result ≡ text_of (view value.now) }
+    ensures { command_asked result ≡ text_command (view value.now) }
 {
     let doc = fields::name(value).ok_or(Field::Doc)?;
     let from = fields::number(value, "from", MAX_NUMBER).ok_or(Field::From)?;
@@ -86,8 +90,9 @@ fn text(value: &Value) -> Result<Command<'_>, Field>
     })
 }
 
+/// The command `errors`, or the first faulty field.
 fn errors(value: &Value) -> Result<Command<'_>, Field>
-    ensures { seen_command result ≡ errors_of (view value.now) }
+    ensures { command_asked result ≡ errors_command (view value.now) }
 {
     let doc = fields::name(value).ok_or(Field::Doc)?;
     let from = fields::number(value, "from", MAX_NUMBER).ok_or(Field::From)?;

@@ -9,9 +9,10 @@ use serde_json::Value;
 /// The greatest number that a request may hold: 2^53 - 1.
 pub(super) const MAX_NUMBER: u64 = 9_007_199_254_740_991;
 
+/// The most bytes of a document's name.
 const MAX_NAME_LEN: usize = 64;
 
-/// A whole number up to `most`, spelt without fraction, exponent or minus sign.
+/// A whole number up to `most`, written without fraction, exponent or minus sign.
 pub(super) fn number(value: &Value, name: &str, most: u64) -> Option<u64>
     ensures { result ≡ number_at (view value.now) name.now most }
 {

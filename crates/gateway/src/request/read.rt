@@ -1,17 +1,17 @@
 //! From bytes to a JSON value.
-ghost use Rattle.gateway.specs.Request.{IsValueOf};
+ghost use Rattle.gateway.specs.Request.{IsJsonOfLine};
 
 use crate::request::refusal::Refusal;
 use serde_json::{Category, Value};
 use std::alloc::Global;
 
-/// The JSON value that a line spells; the line comes without its line end.
+/// The JSON value of a line, which comes without its line feed.
 ///
 /// # Errors
 ///
 /// `BadJson` for bytes that are no UTF-8 or no JSON text, `OutOfMemory`.
 pub(crate) fn read(alloc: Global, line: &[u8]) -> Result<Value, Refusal>
-    ensures { IsValueOf line.now result }
+    ensures { IsJsonOfLine line.now result }
 {
     match Value::from_slice(alloc, line) {
         Ok(value) => Ok(value),

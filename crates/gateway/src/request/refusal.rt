@@ -2,7 +2,7 @@
 
 use crate::request::field::Field;
 
-/// A refusal of a line, in the order in which the causes are asked. `id` is the request's number,
+/// A refusal of a line, in the order in which the causes are checked. `id` is the request's number,
 /// where it was read.
 #[derive(Clone, Copy, PartialEq, Eq, Debug)]
 pub(crate) enum Refusal {
@@ -10,7 +10,7 @@ pub(crate) enum Refusal {
     LineTooLong,
     /// The line is no JSON text in UTF-8.
     BadJson,
-    /// The first field that is wanting or wrong.
+    /// The first field that is missing or wrong.
     BadRequest { id: Option<u64>, field: Field },
     /// There is no such operation.
     UnknownOp { id: u64 },

@@ -1,7 +1,7 @@
-//! Worked lines: what they spell, computed on the definition, and what is read from them.
+//! Worked lines: their requests, computed on the definition, and what is parsed from them.
 ghost use Rattle.std.specs.Prelude.{◌≡◌, ◌∷◌, [], codes, Ok, Err, Some, None};
-ghost use Rattle.gateway.specs.Asked.{Opens, Splices, Reads, ListsErrors};
-ghost use Rattle.gateway.specs.Request.{spelt};
+ghost use Rattle.gateway.specs.Commands.{Opens, Splices, Reads, ListsErrors};
+ghost use Rattle.gateway.specs.Request.{request_of_line};
 ghost use Rattle.gateway.specs.declared.desk.text_mode.TextMode.TheVariants.{Replacement, Fatal};
 ghost use Rattle.gateway.specs.declared.request.field.Field.TheVariants as field;
 ghost use Rattle.gateway.specs.declared.request.refusal.Refusal.TheVariants.{BadJson, BadRequest, UnknownOp};
@@ -10,68 +10,69 @@ use crate::desk::{Command, TextMode};
 use crate::request::{Field, Refusal, read, request};
 use std::alloc::Global;
 use std::process::Abort;
+use std::test::Fail;
 
 fn lines_of_no_command()
-    ensures empty { spelt [] ≡ Err BadJson }
-    ensures cut { spelt (codes "{") ≡ Err BadJson }
-    ensures not_utf8 { spelt (34 ∷ 255 ∷ 34 ∷ []) ≡ Err BadJson }
-    ensures surrogate { spelt (codes "\"\\ud800\"") ≡ Err BadJson }
-    ensures infinite { spelt (codes "1e400") ≡ Err BadJson }
-    ensures list { spelt (codes "[]\r") ≡ Err (BadRequest None field.Object) }
-    ensures no_id { spelt (codes "{\"op\":7}") ≡ Err (BadRequest None field.Id) }
-    ensures no_op { spelt (codes "{\"id\":1}") ≡ Err (BadRequest (Some 1) field.Op) }
-    ensures zap { spelt (codes "{\"id\":1,\"op\":\"zap\"}") ≡ Err (UnknownOp 1) }
+    ensures empty { request_of_line [] ≡ Err BadJson }
+    ensures cut { request_of_line (codes "{") ≡ Err BadJson }
+    ensures not_utf8 { request_of_line (34 ∷ 255 ∷ 34 ∷ []) ≡ Err BadJson }
+    ensures surrogate { request_of_line (codes "\"\\ud800\"") ≡ Err BadJson }
+    ensures infinite { request_of_line (codes "1e400") ≡ Err BadJson }
+    ensures list { request_of_line (codes "[]\r") ≡ Err (BadRequest None field.Object) }
+    ensures no_id { request_of_line (codes "{\"op\":7}") ≡ Err (BadRequest None field.Id) }
+    ensures no_op { request_of_line (codes "{\"id\":1}") ≡ Err (BadRequest (Some 1) field.Op) }
+    ensures zap { request_of_line (codes "{\"id\":1,\"op\":\"zap\"}") ≡ Err (UnknownOp 1) }
 {}
 
 fn numbers()
-    ensures greatest { spelt (codes "{\"id\":9007199254740991,\"op\":\"\"}")
+    ensures greatest { request_of_line (codes "{\"id\":9007199254740991,\"op\":\"\"}")
         ≡ Err (UnknownOp 9007199254740991) }
-    ensures above { spelt (codes "{\"id\":9007199254740992,\"op\":\"\"}")
+    ensures above { request_of_line (codes "{\"id\":9007199254740992,\"op\":\"\"}")
         ≡ Err (BadRequest None field.Id) }
-    ensures point { spelt (codes "{\"id\":1.0,\"op\":\"\"}") ≡ Err (BadRequest None field.Id) }
-    ensures exponent { spelt (codes "{\"id\":1e2,\"op\":\"\"}") ≡ Err (BadRequest None field.Id) }
-    ensures minus { spelt (codes "{\"id\":-0,\"op\":\"\"}") ≡ Err (BadRequest None field.Id) }
-    ensures text { spelt (codes "{\"id\":\"1\",\"op\":\"\"}") ≡ Err (BadRequest None field.Id) }
-    ensures last { spelt (codes "{\"id\":1,\"op\":\"\",\"id\":2}") ≡ Err (UnknownOp 2) }
+    ensures point { request_of_line (codes "{\"id\":1.0,\"op\":\"\"}") ≡ Err (BadRequest None field.Id) }
+    ensures exponent { request_of_line (codes "{\"id\":1e2,\"op\":\"\"}") ≡ Err (BadRequest None field.Id) }
+    ensures minus { request_of_line (codes "{\"id\":-0,\"op\":\"\"}") ≡ Err (BadRequest None field.Id) }
+    ensures text { request_of_line (codes "{\"id\":\"1\",\"op\":\"\"}") ≡ Err (BadRequest None field.Id) }
+    ensures last { request_of_line (codes "{\"id\":1,\"op\":\"\",\"id\":2}") ≡ Err (UnknownOp 2) }
 {}
 
 fn commands()
-    ensures open { spelt (codes
+    ensures open { request_of_line (codes
         "{\"id\":1,\"op\":\"open\",\"doc\":\"a\",\"label\":\"utf-8\",\"bytes\":\"4oJB\"}")
         ≡ Ok (1, Opens (codes "a") (codes "utf-8") (codes "4oJB")) }
-    ensures splice { spelt (codes
+    ensures splice { request_of_line (codes
         "{\"id\":4,\"op\":\"splice\",\"doc\":\"a\",\"rev\":0,\"at\":2,\"del\":1,\"bytes\":\"rA==\"}")
         ≡ Ok (4, Splices (codes "a") 0 2 1 (codes "rA==")) }
-    ensures text { spelt (codes "{\"id\":2,\"op\":\"text\",\"doc\":\"a\",\"from\":0,\"to\":2}")
+    ensures text { request_of_line (codes "{\"id\":2,\"op\":\"text\",\"doc\":\"a\",\"from\":0,\"to\":2}")
         ≡ Ok (2, Reads (codes "a") 0 2 Replacement) }
-    ensures mode { spelt (codes
+    ensures mode { request_of_line (codes
         "{\"id\":2,\"op\":\"text\",\"doc\":\"a\",\"from\":0,\"to\":2,\"mode\":\"replacement\"}")
         ≡ Ok (2, Reads (codes "a") 0 2 Replacement) }
-    ensures fatal { spelt (codes
+    ensures fatal { request_of_line (codes
         "{\"id\":2,\"op\":\"text\",\"doc\":\"a\",\"from\":0,\"to\":2,\"mode\":\"fatal\"}")
         ≡ Ok (2, Reads (codes "a") 0 2 Fatal) }
-    ensures errors { spelt (codes
+    ensures errors { request_of_line (codes
         "{\"id\":3,\"op\":\"errors\",\"doc\":\"a\",\"from\":0,\"max\":10000}")
         ≡ Ok (3, ListsErrors (codes "a") 0 10000) }
 {}
 
 fn faulty_fields()
-    ensures no_name { spelt (codes "{\"id\":1,\"op\":\"text\",\"doc\":\"\"}")
+    ensures no_name { request_of_line (codes "{\"id\":1,\"op\":\"text\",\"doc\":\"\"}")
         ≡ Err (BadRequest (Some 1) field.Doc) }
-    ensures first { spelt (codes "{\"id\":1,\"op\":\"text\",\"from\":-1}")
+    ensures first { request_of_line (codes "{\"id\":1,\"op\":\"text\",\"from\":-1}")
         ≡ Err (BadRequest (Some 1) field.Doc) }
-    ensures null_mode { spelt (codes
+    ensures null_mode { request_of_line (codes
         "{\"id\":1,\"op\":\"text\",\"doc\":\"a\",\"from\":0,\"to\":2,\"mode\":null}")
         ≡ Err (BadRequest (Some 1) field.Mode) }
-    ensures other_mode { spelt (codes
+    ensures other_mode { request_of_line (codes
         "{\"id\":1,\"op\":\"text\",\"doc\":\"a\",\"from\":0,\"to\":2,\"mode\":\"html\"}")
         ≡ Err (BadRequest (Some 1) field.Mode) }
-    ensures max { spelt (codes
+    ensures max { request_of_line (codes
         "{\"id\":1,\"op\":\"errors\",\"doc\":\"a\",\"from\":0,\"max\":10001}")
         ≡ Err (BadRequest (Some 1) field.Max) }
 {}
 
-// The refusal of a line, or none.
+/// The refusal of a line, or none.
 fn refusal(alloc: Global, line: &str) -> Option<Refusal> {
     match read(alloc, line.as_bytes()) {
         Ok(value) => request(&value).err(),
@@ -79,82 +80,155 @@ fn refusal(alloc: Global, line: &str) -> Option<Refusal> {
     }
 }
 
-fn expect_fault(rt: &impl Abort, alloc: Global, fields: &str, field: Field) {
+/// Asserts that these lines have these refusals.
+fn refusals(rt: &impl Abort, alloc: Global, rows: &[(&str, Refusal)]) {
+    for (line, wanted) in rows {
+        assert_eq!(rt; refusal(alloc, line), Some(*wanted), "{line}");
+    }
+}
+
+/// The refusal for a field of request 1.
+fn bad(field: Field) -> Refusal {
     let id = Some(1);
-    assert_eq!(rt;
-        refusal(alloc, fields),
-        Some(Refusal::BadRequest { id, field })
-    );
+    Refusal::BadRequest { id, field }
+}
+
+/// The refusal for a field of a line without a number.
+fn bad_line(field: Field) -> Refusal {
+    Refusal::BadRequest { id: None, field }
 }
 
 #[test]
-fn lines_that_spell_no_command(rt: HostRuntime) {
+fn lines_without_a_command(rt: HostRuntime) {
     lines_of_no_command();
-    let alloc = rt.alloc();
-    assert_eq!(rt; refusal(alloc, ""), Some(Refusal::BadJson));
-    let (id, field) = (None, Field::Object);
-    assert_eq!(rt;
-        refusal(alloc, "[]"),
-        Some(Refusal::BadRequest { id, field })
-    );
-    let (id, field) = (Some(1), Field::Op);
-    assert_eq!(rt;
-        refusal(alloc, "{\"id\":1}"),
-        Some(Refusal::BadRequest { id, field })
-    );
-    let zap = "{\"id\":1,\"op\":\"zap\"}";
-    assert_eq!(rt; refusal(alloc, zap), Some(Refusal::UnknownOp { id: 1 }));
-}
-
-#[test]
-fn numbers_that_are_no_id(rt: HostRuntime) {
     numbers();
-    let alloc = rt.alloc();
-    let lines = [
-        "{\"id\":9007199254740992,\"op\":\"\"}",
-        "{\"id\":18446744073709551616,\"op\":\"\"}",
-        "{\"id\":1.5,\"op\":\"\"}",
-        "{\"id\":\"1\",\"op\":\"\"}",
+    let rows = [
+        ("", Refusal::BadJson),
+        ("[]", bad_line(Field::Object)),
+        (r#"{"id":9007199254740992,"op":""}"#, bad_line(Field::Id)),
+        (
+            r#"{"id":18446744073709551616,"op":""}"#,
+            bad_line(Field::Id),
+        ),
+        (r#"{"id":1.5,"op":""}"#, bad_line(Field::Id)),
+        (r#"{"id":"1","op":""}"#, bad_line(Field::Id)),
+        (r#"{"id":1}"#, bad(Field::Op)),
+        (r#"{"id":1,"op":"zap"}"#, Refusal::UnknownOp { id: 1 }),
     ];
-    for line in lines {
-        let (id, field) = (None, Field::Id);
-        assert_eq!(rt;
-            refusal(alloc, line),
-            Some(Refusal::BadRequest { id, field })
-        );
-    }
+    refusals(&rt, rt.alloc(), &rows);
 }
 
 #[test]
-fn commands_of_the_stored_session(rt: HostRuntime) {
-    commands();
-    let alloc = rt.alloc();
-    let line =
-        "{\"id\":4,\"op\":\"splice\",\"doc\":\"a\",\"rev\":0,\"at\":2,\"del\":1,\"bytes\":\"rA==\"}";
-    match read(alloc, line.as_bytes()) {
-        Ok(value) => {
-            let asked = request(&value);
-            assert!(rt;
-                matches!(
-                    asked,
-                    Ok((
-                        4,
-                        Command::Splice {
-                            doc: "a",
-                            rev: 0,
-                            at: 2,
-                            del: 1,
-                            bytes: "rA=="
-                        }
-                    ))
-                )
-            );
-        }
-        Err(_) => assert!(rt; false),
-    }
+fn the_first_faulty_field_is_named(rt: HostRuntime) {
+    faulty_fields();
+    let rows = [
+        (r#"{"id":1,"op":"text","from":-1}"#, bad(Field::Doc)),
+        (
+            r#"{"id":1,"op":"open","doc":"a","label":1,"bytes":2}"#,
+            bad(Field::Label),
+        ),
+        (
+            r#"{"id":1,"op":"splice","doc":"a","rev":null,"at":-1}"#,
+            bad(Field::Rev),
+        ),
+        (
+            r#"{"id":1,"op":"splice","doc":"a","rev":0,"at":-1,"del":-1}"#,
+            bad(Field::At),
+        ),
+        (
+            r#"{"id":1,"op":"splice","doc":"a","rev":0,"at":0,"del":1.5}"#,
+            bad(Field::Del),
+        ),
+        (
+            r#"{"id":1,"op":"splice","doc":"a","rev":0,"at":2,"del":1}"#,
+            bad(Field::Bytes),
+        ),
+        (
+            r#"{"id":1,"op":"text","doc":"a","to":"2"}"#,
+            bad(Field::From),
+        ),
+        (
+            r#"{"id":1,"op":"text","doc":"a","from":0,"to":"2","mode":1}"#,
+            bad(Field::To),
+        ),
+        (
+            r#"{"id":1,"op":"text","doc":"a","from":0,"to":2,"mode":"html"}"#,
+            bad(Field::Mode),
+        ),
+        (
+            r#"{"id":1,"op":"errors","doc":"a","from":0,"max":10001}"#,
+            bad(Field::Max),
+        ),
+    ];
+    refusals(&rt, rt.alloc(), &rows);
 }
 
-// The mode of the text that a line asks for.
+/// A line with so many levels of JSON, in a field that is ignored.
+fn nested(alloc: Global, levels: usize) -> Result<String, Fail> {
+    let mut line = String::from_str(alloc, r#"{"id":1,"op":"zap","x":"#)?;
+    for _ in 1..levels {
+        line.push('[')?;
+    }
+    for _ in 1..levels {
+        line.push(']')?;
+    }
+    line.push('}')?;
+    Ok(line)
+}
+
+#[test]
+fn json_of_127_and_of_128_levels(rt: HostRuntime) -> Result<(), Fail> {
+    let deepest = nested(rt.alloc(), 127)?;
+    let too_deep = nested(rt.alloc(), 128)?;
+    let rows = [
+        (deepest.as_str(), Refusal::UnknownOp { id: 1 }),
+        (too_deep.as_str(), Refusal::BadJson),
+    ];
+    refusals(&rt, rt.alloc(), &rows);
+    Ok(())
+}
+
+/// A line that opens a document whose name is this escape so many times, and then this text.
+fn named(alloc: Global, escape: &str, count: usize, end: &str) -> Result<String, Fail> {
+    let mut line = String::from_str(alloc, r#"{"id":1,"op":"open","doc":""#)?;
+    for _ in 0..count {
+        line.push_str(escape)?;
+    }
+    line.push_str(end)?;
+    line.push_str("\",\"label\":0}")?;
+    Ok(line)
+}
+
+#[test]
+fn names_of_64_and_65_bytes_by_escapes(rt: HostRuntime) -> Result<(), Fail> {
+    // U+0061 has one byte in UTF-8, U+00E9 two, and U+1F600, by its surrogates, four.
+    for (escape, count) in [(r"\u0061", 64), (r"\u00e9", 32), (r"\ud83d\ude00", 16)] {
+        let longest = named(rt.alloc(), escape, count, "")?;
+        let too_long = named(rt.alloc(), escape, count, "a")?;
+        let rows = [
+            (longest.as_str(), bad(Field::Label)),
+            (too_long.as_str(), bad(Field::Doc)),
+        ];
+        refusals(&rt, rt.alloc(), &rows);
+    }
+    Ok(())
+}
+
+#[test]
+fn splice_of_the_stored_session(rt: HostRuntime) {
+    commands();
+    let line = r#"{"id":4,"op":"splice","doc":"a","rev":0,"at":2,"del":1,"bytes":"rA=="}"#;
+    let parsed = match read(rt.alloc(), line.as_bytes()) {
+        Ok(value) => {
+            let (doc, bytes) = ("a", "rA==");
+            matches!(request(&value), Ok((4, Command::Splice { doc: d, rev: 0, at: 2, del: 1, bytes: b })) if d == doc && b == bytes)
+        }
+        Err(_) => false,
+    };
+    assert!(rt; parsed);
+}
+
+/// The mode of the text that a line asks for.
 fn mode_asked(alloc: Global, line: &str) -> Option<TextMode> {
     let value = read(alloc, line.as_bytes()).ok()?;
     match request(&value) {
@@ -165,47 +239,20 @@ fn mode_asked(alloc: Global, line: &str) -> Option<TextMode> {
 
 #[test]
 fn modes_of_a_text(rt: HostRuntime) {
-    let alloc = rt.alloc();
-    let absent = "{\"id\":2,\"op\":\"text\",\"doc\":\"a\",\"from\":0,\"to\":2}";
-    assert_eq!(rt; mode_asked(alloc, absent), Some(TextMode::Replacement));
-    let named =
-        "{\"id\":2,\"op\":\"text\",\"doc\":\"a\",\"from\":0,\"to\":2,\"mode\":\"replacement\"}";
-    assert_eq!(rt; mode_asked(alloc, named), Some(TextMode::Replacement));
-    let fatal = "{\"id\":2,\"op\":\"text\",\"doc\":\"a\",\"from\":0,\"to\":2,\"mode\":\"fatal\"}";
-    assert_eq!(rt; mode_asked(alloc, fatal), Some(TextMode::Fatal));
-}
-
-#[test]
-fn the_first_faulty_field_is_named(rt: HostRuntime) {
-    faulty_fields();
-    let alloc = rt.alloc();
-    expect_fault(
-        &rt,
-        alloc,
-        "{\"id\":1,\"op\":\"text\",\"from\":-1}",
-        Field::Doc,
-    );
-    let splice = "{\"id\":1,\"op\":\"splice\",\"doc\":\"a\",\"rev\":0,\"at\":2,\"del\":1}";
-    expect_fault(&rt, alloc, splice, Field::Bytes);
-    let errors = "{\"id\":1,\"op\":\"errors\",\"doc\":\"a\",\"from\":0,\"max\":10001}";
-    expect_fault(&rt, alloc, errors, Field::Max);
-    let text = "{\"id\":1,\"op\":\"text\",\"doc\":\"a\",\"from\":0,\"to\":2,\"mode\":\"html\"}";
-    expect_fault(&rt, alloc, text, Field::Mode);
-}
-
-#[test]
-fn each_later_field_is_asked_in_its_turn(rt: HostRuntime) {
-    let alloc = rt.alloc();
-    let open = "{\"id\":1,\"op\":\"open\",\"doc\":\"a\",\"label\":1,\"bytes\":2}";
-    expect_fault(&rt, alloc, open, Field::Label);
-    let rev = "{\"id\":1,\"op\":\"splice\",\"doc\":\"a\",\"rev\":null,\"at\":-1}";
-    expect_fault(&rt, alloc, rev, Field::Rev);
-    let at = "{\"id\":1,\"op\":\"splice\",\"doc\":\"a\",\"rev\":0,\"at\":-1,\"del\":-1}";
-    expect_fault(&rt, alloc, at, Field::At);
-    let del = "{\"id\":1,\"op\":\"splice\",\"doc\":\"a\",\"rev\":0,\"at\":0,\"del\":1.5}";
-    expect_fault(&rt, alloc, del, Field::Del);
-    let from = "{\"id\":1,\"op\":\"text\",\"doc\":\"a\",\"to\":\"2\"}";
-    expect_fault(&rt, alloc, from, Field::From);
-    let to = "{\"id\":1,\"op\":\"text\",\"doc\":\"a\",\"from\":0,\"to\":\"2\",\"mode\":1}";
-    expect_fault(&rt, alloc, to, Field::To);
+    for (line, mode) in [
+        (
+            r#"{"id":2,"op":"text","doc":"a","from":0,"to":2}"#,
+            TextMode::Replacement,
+        ),
+        (
+            r#"{"id":2,"op":"text","doc":"a","from":0,"to":2,"mode":"replacement"}"#,
+            TextMode::Replacement,
+        ),
+        (
+            r#"{"id":2,"op":"text","doc":"a","from":0,"to":2,"mode":"fatal"}"#,
+            TextMode::Fatal,
+        ),
+    ] {
+        assert_eq!(rt; mode_asked(rt.alloc(), line), Some(mode), "{line}");
+    }
 }

@@ -1,10 +1,9 @@
 //! Runs over memory and over devices that break off.
 
-use crate::desk::Desk;
-use crate::device::{FromRead, MemFeed, MemOutlet, ToWrite};
+use crate::device::{Feed, FromRead, MemFeed, MemOutlet, ToWrite};
+use crate::gateway::tests::{expect_event, new_gateway};
 use crate::gateway::{Event, GateFault, Gateway};
 use crate::serve::{RunFault, run};
-use enc_names::Labels;
 use index_loader::Indexes;
 use memchr::memchr;
 use std::alloc::Global;
@@ -50,17 +49,18 @@ impl Read for Failing<'_> {
     }
 }
 
-/// Takes as many bytes as it has room for, and then fails.
+/// Takes at most so many bytes a write, and fails where there is no room left.
 #[derive(Drop)]
 struct Narrow<'a> {
-    held: &'a mut Vec<u8>,
+    out: &'a mut Vec<u8>,
+    at_once: usize,
     room: usize,
 }
 
 impl Write for Narrow<'_> {
     fn write(&mut self, buf: &[u8]) -> io::Result<usize> {
-        let n = self.room.min(buf.len());
-        if n == 0 || self.held.extend_from_slice(&buf[..n]).is_err() {
+        let n = self.room.min(self.at_once).min(buf.len());
+        if n == 0 || self.out.extend_from_slice(&buf[..n]).is_err() {
             return Err(io::Error::from(ErrorKind::BrokenPipe));
         }
         self.room -= n;
@@ -98,13 +98,13 @@ impl Read for Asking<'_> {
 /// Holds what is written to it. At a line end nothing is owed any more.
 #[derive(Drop)]
 struct Answered<'a> {
-    held: &'a mut Vec<u8>,
+    out: &'a mut Vec<u8>,
     owed: &'a Cell<bool>,
 }
 
 impl Write for Answered<'_> {
     fn write(&mut self, buf: &[u8]) -> io::Result<usize> {
-        if self.held.extend_from_slice(buf).is_err() {
+        if self.out.extend_from_slice(buf).is_err() {
             return Err(io::Error::from(ErrorKind::BrokenPipe));
         }
         if buf.ends_with(b"\n") {
@@ -118,73 +118,82 @@ impl Write for Answered<'_> {
     }
 }
 
-fn gateway<'i>(alloc: Global, indexes: &'i Indexes) -> Result<Gateway<'i>, Fail> {
-    let labels = Labels::names(alloc)?;
-    let desk = Desk::new(alloc, indexes, labels)?;
-    Ok(Gateway::new(alloc, desk))
-}
-
-// The reply to one line on connection 0, which is closed before and after.
+/// The reply to one line on connection 0, which is closed before and after.
 fn expect_reply(rt: &impl Abort, gateway: &mut Gateway<'_>, line: &str, expected: &str) {
     assert!(rt; gateway.event(Event::Open(0)).is_ok());
-    match gateway.event(Event::Bytes(0, line.as_bytes())) {
-        Ok(out) => match &out.reply {
-            Some(reply) => assert_eq!(rt; reply.bytes(), expected.as_bytes()),
-            None => panic!(rt; "no reply"),
-        },
-        Err(_) => panic!(rt; "refused"),
-    }
+    expect_event(rt, gateway, line, line.len(), Some(expected));
     assert!(rt; gateway.event(Event::Close(0)).is_ok());
 }
 
-// The stored session, written to a device that takes `room` bytes.
-fn run_narrow(gateway: &mut Gateway<'_>, held: &mut Vec<u8>, room: usize) -> Result<(), RunFault> {
+/// Asserts that a run on connection 0 has this result and writes these replies.
+fn expect_run<R: Feed>(
+    rt: &impl Abort,
+    alloc: Global,
+    gateway: &mut Gateway<'_>,
+    reader: &mut R,
+    wanted: Result<(), RunFault>,
+    replies: &str,
+) {
+    let mut writer = MemOutlet::new(alloc);
+    assert_eq!(rt; run(gateway, 0, reader, &mut writer), wanted);
+    assert_eq!(rt; writer.bytes(), replies.as_bytes());
+}
+
+/// Asserts that a run of these lines, by a gateway of its own, writes these replies.
+fn expect_replies(rt: &impl Abort, alloc: Global, lines: &[u8], replies: &str) -> Result<(), Fail> {
+    let indexes = Indexes::new();
+    let mut gateway = new_gateway(alloc, &indexes)?;
+    let mut reader = MemFeed::new(lines);
+    expect_run(rt, alloc, &mut gateway, &mut reader, Ok(()), replies);
+    Ok(())
+}
+
+/// A run of the stored session, written to a device that takes `at_once` bytes a write and `room`
+/// bytes in all.
+fn run_narrow(
+    gateway: &mut Gateway<'_>,
+    out: &mut Vec<u8>,
+    at_once: usize,
+    room: usize,
+) -> Result<(), RunFault> {
     let mut reader = MemFeed::new(SESSION.as_bytes());
-    let mut writer = ToWrite::new(Narrow { held, room });
+    let mut writer = ToWrite::new(Narrow { out, at_once, room });
     run(gateway, 0, &mut reader, &mut writer)
 }
 
-// The lines, each given when the reply to the one before has been written.
+/// A run of lines, each given when the reply to the one before has been written.
 fn run_asking<'a>(
     gateway: &mut Gateway<'_>,
     lines: &'a str,
-    held: &'a mut Vec<u8>,
+    out: &'a mut Vec<u8>,
     owed: &'a Cell<bool>,
 ) -> Result<(), RunFault> {
     let mut reader = FromRead::new(Asking {
         rest: lines.as_bytes(),
         owed,
     });
-    let mut writer = ToWrite::new(Answered { held, owed });
+    let mut writer = ToWrite::new(Answered { out, owed });
     run(gateway, 0, &mut reader, &mut writer)
 }
 
 #[test]
 fn stored_session(rt: HostRuntime) -> Result<(), Fail> {
-    let indexes = Indexes::new();
-    let mut gateway = gateway(rt.alloc(), &indexes)?;
-    let mut reader = MemFeed::new(SESSION.as_bytes());
-    let mut writer = MemOutlet::new(rt.alloc());
-    assert_eq!(rt; run(&mut gateway, 0, &mut reader, &mut writer), Ok(()));
-    assert_eq!(rt; writer.bytes(), REPLIES.as_bytes());
-    Ok(())
+    expect_replies(&rt, rt.alloc(), SESSION.as_bytes(), REPLIES)
 }
 
 #[test]
 fn each_reply_goes_out_before_the_next_read(rt: HostRuntime) -> Result<(), Fail> {
     let indexes = Indexes::new();
-    let mut gateway = gateway(rt.alloc(), &indexes)?;
-    let mut held = Vec::new(rt.alloc());
+    let mut gateway = new_gateway(rt.alloc(), &indexes)?;
+    let mut out = Vec::new(rt.alloc());
     let owed = Cell::new(false);
-    assert_eq!(rt; run_asking(&mut gateway, SESSION, &mut held, &owed), Ok(()));
-    assert_eq!(rt; held.as_slice(), REPLIES.as_bytes());
+    assert_eq!(rt; run_asking(&mut gateway, SESSION, &mut out, &owed), Ok(()));
+    assert_eq!(rt; out.as_slice(), REPLIES.as_bytes());
     Ok(())
 }
 
 #[test]
 fn text_in_mode_fatal(rt: HostRuntime) -> Result<(), Fail> {
-    let indexes = Indexes::new();
-    let mut gateway = gateway(rt.alloc(), &indexes)?;
     let lines = "\
 {\"id\":0,\"op\":\"open\",\"doc\":\"a\",\"label\":\"utf-8\",\"bytes\":\"4oJB\"}
 {\"id\":1,\"op\":\"text\",\"doc\":\"a\",\"from\":0,\"to\":2,\"mode\":\"fatal\"}
@@ -193,9 +202,6 @@ fn text_in_mode_fatal(rt: HostRuntime) -> Result<(), Fail> {
 {\"id\":4,\"op\":\"splice\",\"doc\":\"a\",\"rev\":0,\"at\":2,\"del\":0,\"bytes\":\"rA==\"}
 {\"id\":5,\"op\":\"text\",\"doc\":\"a\",\"from\":0,\"to\":2,\"mode\":\"fatal\"}
 ";
-    let mut reader = MemFeed::new(lines.as_bytes());
-    let mut writer = MemOutlet::new(rt.alloc());
-    assert_eq!(rt; run(&mut gateway, 0, &mut reader, &mut writer), Ok(()));
     let replies = "\
 {\"bom\":0,\"encoding\":\"UTF-8\",\"id\":0,\"rev\":0}
 {\"fault\":\"Malformed\",\"id\":1,\"place\":[0,2]}
@@ -204,38 +210,32 @@ fn text_in_mode_fatal(rt: HostRuntime) -> Result<(), Fail> {
 {\"bom\":0,\"encoding\":\"UTF-8\",\"id\":4,\"rev\":1}
 {\"id\":5,\"rev\":1,\"text\":\"\u{20ac}A\"}
 ";
-    assert_eq!(rt; writer.bytes(), replies.as_bytes());
-    Ok(())
+    expect_replies(&rt, rt.alloc(), lines.as_bytes(), replies)
 }
 
 #[test]
 fn documents_stay_between_runs(rt: HostRuntime) -> Result<(), Fail> {
     let indexes = Indexes::new();
-    let mut gateway = gateway(rt.alloc(), &indexes)?;
-    let mut writer = MemOutlet::new(rt.alloc());
-    for line in SESSION.split_inclusive('\n') {
+    let mut gateway = new_gateway(rt.alloc(), &indexes)?;
+    let replies = REPLIES.split_inclusive('\n');
+    for (line, reply) in SESSION.split_inclusive('\n').zip(replies) {
         let mut reader = FromRead::new(line.as_bytes());
-        assert_eq!(rt; run(&mut gateway, 0, &mut reader, &mut writer), Ok(()));
+        expect_run(&rt, rt.alloc(), &mut gateway, &mut reader, Ok(()), reply);
     }
-    assert_eq!(rt; writer.bytes(), REPLIES.as_bytes());
     Ok(())
 }
 
 #[test]
 fn number_that_is_not_free(rt: HostRuntime) -> Result<(), Fail> {
     let indexes = Indexes::new();
-    let mut gateway = gateway(rt.alloc(), &indexes)?;
+    let mut gateway = new_gateway(rt.alloc(), &indexes)?;
     let mut reader = MemFeed::new(SESSION.as_bytes());
     let mut writer = MemOutlet::new(rt.alloc());
-    assert_eq!(rt;
-        run(&mut gateway, 1, &mut reader, &mut writer),
-        Err(RunFault::NotFree)
-    );
     assert!(rt; gateway.event(Event::Open(0)).is_ok());
-    assert_eq!(rt;
-        run(&mut gateway, 0, &mut reader, &mut writer),
-        Err(RunFault::NotFree)
-    );
+    for number in [0, 1, 255] {
+        let result = run(&mut gateway, number, &mut reader, &mut writer);
+        assert_eq!(rt; result, Err(RunFault::NotFree), "connection {number}");
+    }
     assert_eq!(rt; writer.bytes().len(), 0);
     Ok(())
 }
@@ -243,64 +243,68 @@ fn number_that_is_not_free(rt: HostRuntime) -> Result<(), Fail> {
 #[test]
 fn reader_that_fails_in_mid_line(rt: HostRuntime) -> Result<(), Fail> {
     let indexes = Indexes::new();
-    let mut gateway = gateway(rt.alloc(), &indexes)?;
-    let text = "{\"id\":1,\"op\":\"zap\"}\n\n{\"id\"";
+    let mut gateway = new_gateway(rt.alloc(), &indexes)?;
+    let lines = "{\"id\":1,\"op\":\"zap\"}\n\n{\"id\"";
     let mut reader = FromRead::new(Failing {
-        rest: text.as_bytes(),
+        rest: lines.as_bytes(),
     });
-    let mut writer = MemOutlet::new(rt.alloc());
-    assert_eq!(rt;
-        run(&mut gateway, 0, &mut reader, &mut writer),
-        Err(RunFault::Read)
-    );
     let replies = "{\"fault\":\"UnknownOp\",\"id\":1}\n{\"fault\":\"BadJson\"}\n";
-    assert_eq!(rt; writer.bytes(), replies.as_bytes());
-    expect_reply(
+    expect_run(
         &rt,
+        rt.alloc(),
         &mut gateway,
-        "[]\n",
-        "{\"fault\":\"BadRequest\",\"field\":\"\"}\n",
+        &mut reader,
+        Err(RunFault::Read),
+        replies,
     );
+    let object = "{\"fault\":\"BadRequest\",\"field\":\"\"}\n";
+    expect_reply(&rt, &mut gateway, "[]\n", object);
     Ok(())
 }
 
 #[test]
-fn writer_that_takes_ten_bytes(rt: HostRuntime) -> Result<(), Fail> {
+fn writer_that_takes_a_few_bytes_at_a_time(rt: HostRuntime) -> Result<(), Fail> {
     let indexes = Indexes::new();
-    let mut gateway = gateway(rt.alloc(), &indexes)?;
-    let mut held = Vec::new(rt.alloc());
-    let result = run_narrow(&mut gateway, &mut held, 10);
-    assert_eq!(rt; result, Err(RunFault::Write));
-    assert_eq!(rt; held.as_slice(), b"{\"bom\":0,\"".as_slice());
-    match gateway.event(Event::Close(0)) {
-        Err(fault) => assert_eq!(rt; fault, GateFault::NotOpen),
-        Ok(_) => panic!(rt; "the connection is open"),
+    for at_once in [1, 3, 7] {
+        let mut gateway = new_gateway(rt.alloc(), &indexes)?;
+        let mut out = Vec::new(rt.alloc());
+        let result = run_narrow(&mut gateway, &mut out, at_once, usize::MAX);
+        assert_eq!(rt; result, Ok(()), "{at_once} at once");
+        assert_eq!(rt; out.as_slice(), REPLIES.as_bytes(), "{at_once} at once");
     }
-    let text = "{\"id\":2,\"op\":\"text\",\"doc\":\"a\",\"from\":0,\"to\":2}\n";
-    expect_reply(
-        &rt,
-        &mut gateway,
-        text,
-        "{\"id\":2,\"rev\":0,\"text\":\"\u{fffd}A\"}\n",
+    Ok(())
+}
+
+#[test]
+fn writer_that_takes_ten_bytes_and_fails(rt: HostRuntime) -> Result<(), Fail> {
+    let indexes = Indexes::new();
+    let mut gateway = new_gateway(rt.alloc(), &indexes)?;
+    let mut out = Vec::new(rt.alloc());
+    let result = run_narrow(&mut gateway, &mut out, usize::MAX, 10);
+    assert_eq!(rt; result, Err(RunFault::Write));
+    assert_eq!(rt; out.as_slice(), b"{\"bom\":0,\"".as_slice());
+    assert_eq!(rt;
+        gateway.event(Event::Close(0)).err(),
+        Some(GateFault::NotOpen)
     );
+    let line = "{\"id\":2,\"op\":\"text\",\"doc\":\"a\",\"from\":0,\"to\":2}\n";
+    let reply = "{\"id\":2,\"rev\":0,\"text\":\"\u{fffd}A\"}\n";
+    expect_reply(&rt, &mut gateway, line, reply);
     Ok(())
 }
 
 #[test]
 fn lines_at_the_limit(rt: HostRuntime) -> Result<(), Fail> {
-    let indexes = Indexes::new();
-    let mut gateway = gateway(rt.alloc(), &indexes)?;
     let mut text = Vec::new(rt.alloc());
     text.resize(4_194_304, b' ')?;
     text.push(b'\n')?;
     text.resize(8_388_610, b' ')?;
     text.push(b'\n')?;
     text.extend_from_slice(b"[]\n")?;
-    let mut reader = MemFeed::new(text.as_slice());
-    let mut writer = MemOutlet::new(rt.alloc());
-    assert_eq!(rt; run(&mut gateway, 0, &mut reader, &mut writer), Ok(()));
-    let replies =
-        "{\"fault\":\"BadJson\"}\n{\"fault\":\"LineTooLong\"}\n{\"fault\":\"BadRequest\",\"field\":\"\"}\n";
-    assert_eq!(rt; writer.bytes(), replies.as_bytes());
-    Ok(())
+    let replies = "\
+{\"fault\":\"BadJson\"}
+{\"fault\":\"LineTooLong\"}
+{\"fault\":\"BadRequest\",\"field\":\"\"}
+";
+    expect_replies(&rt, rt.alloc(), &text, replies)
 }

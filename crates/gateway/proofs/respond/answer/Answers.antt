@@ -1,6 +1,6 @@
 use Rattle.std.proofs.Common.{subst}
 use Rattle.gateway.specs.Step.{IsStep, step_by}
-use Rattle.gateway.proofs.StepReplies.{desk_step, lost_reply_step}
+use Rattle.gateway.proofs.StepReplies.{desk_step, unwritten_reply_step}
 use Rattle.gateway.proofs.respond.answer.Goals as goal
 
 pub returns-in-Ok-of : goal.returns-in-Ok-of
@@ -10,4 +10,4 @@ returns-in-Ok-of c =
 
 pub returns-in-Ok : goal.returns-in-Ok
 returns-in-Ok c =
-    lost_reply_step _ _ _ _ c.answer-reply.result _ c.out_of_memory.ensures.text (λ short. let no = c.in-Err-of.ensures.short short in cc) c.answer-reply.ensures.step
+    unwritten_reply_step _ _ _ _ c.answer-reply.result _ c.out_of_memory.ensures.text (λ short. let no = c.in-Err-of.ensures.short short in cc) c.answer-reply.ensures.step

@@ -1,4 +1,4 @@
-use Rattle.gateway.proofs.LostLines.{too_long_answers}
+use Rattle.gateway.proofs.DroppedLines.{too_long_answers}
 use Rattle.gateway.proofs.StepReplies.{read_answers, unread_answers}
 use Rattle.gateway.proofs.respond.respond.Goals as goal
 

@@ -1,5 +1,5 @@
 use Rattle.std.proofs.Common.{◌≡◌, ◌+◌}
-use Rattle.gateway.specs.Feeding.{Pumped}
+use Rattle.gateway.specs.Delivery.{Pumped}
 use Rattle.gateway.proofs.serve.pump.Given as goal
 
 abbrev pub invariant-loop : goal.invariant-loop

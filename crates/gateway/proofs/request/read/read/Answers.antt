@@ -2,12 +2,12 @@ use Rattle.std.proofs.Common.{◌≡◌, ℕ, List, Bool, true, false, None, Err
 use Rattle.std.specs.Str.{is_utf8}
 use Rattle.std.proofs.lemmas.Str.{is_utf8-from_IsUtf8, IsUtf8-from_is_utf8}
 use Rattle.serde_json.specs.Read.{read as read_text}
-use Rattle.gateway.specs.Request.{value_of}
+use Rattle.gateway.specs.Request.{json_of_line}
 use Rattle.gateway.specs.declared.request.refusal.Refusal.TheVariants.{BadJson}
 use Rattle.gateway.proofs.request.read.read.Goals as goal
 
 -- A text that isn't read is refused, be it UTF-8 or not.
-refused : (line : List ℕ) (b : Bool) → is_utf8 line ≡ b → (IsUtf8 line → read_text line ≡ None) → value_of line ≡ Err BadJson
+refused : (line : List ℕ) (b : Bool) → is_utf8 line ≡ b → (IsUtf8 line → read_text line ≡ None) → json_of_line line ≡ Err BadJson
 refused line true e h = let none = h (IsUtf8-from_is_utf8 line e) in rw (e, none)
 refused line false e h = rw e
 

@@ -1,0 +1,34 @@
+-- What the program does between its input and its output: a run on one connection, by a gateway
+-- that begins with no document.
+use Rattle.std.specs.Prelude.{ℕ, List, None, Option, Result, Ok, Err, replicate}
+use Rattle.std.specs.FinMap.{empty}
+use Rattle.enc_names.specs.Labels.{LabelTable}
+use Rattle.index_loader.specs.Files.{Files}
+use Rattle.gateway.specs.Events.{connections}
+use Rattle.gateway.specs.Serving.{Runs}
+use Rattle.gateway.specs.Traffic.{Traffic}
+use Rattle.gateway.specs.declared.serve.RunFault.{RunFault}
+use Rattle.gateway.specs.declared.serve.RunFault.TheVariants as fault
+use Rattle.gate.specs.declared.failure.Failure.{Failure}
+use Rattle.gate.specs.declared.failure.Failure.TheVariants.{Read, Write, TooManyReads}
+
+-- a gateway with these index files and labels, no document, and no connection open
+abbrev pub beginning : Files → LabelTable → Traffic
+beginning indexes labels = record {
+  office = record { indexes = indexes; labels = labels; documents = empty };
+  lines = replicate connections None;
+}
+
+-- The answer of the run, by the program's. A failure that no run has is that of a connection that
+-- isn't free, which connection 0 of such a gateway is.
+abbrev pub run_answer : {A : Type 0} → Result A Failure → Result A RunFault
+run_answer (Ok x) = Ok x
+run_answer (Err Read) = Err fault.Read
+run_answer (Err Write) = Err fault.Write
+run_answer (Err TooManyReads) = Err fault.TooManyReads
+run_answer (Err failure) = Err fault.NotFree
+
+-- the run on connection 0, and the gateway behind it
+pub record Served {A : Type 0} (answer : Result A RunFault) (old : Traffic) (left rest before after : Option (List ℕ)) : Type 0 where
+  pub new : Traffic
+  pub runs : Runs answer 0 old new left rest before after
