@@ -1,4 +1,4 @@
-//! What the words of the command line ask.
+//! The command line.
 
 use clap::{Arg, ArgAction, Command, Error};
 use std::alloc::Global;

@@ -34,7 +34,7 @@ fn print_sums(rt: &HostRuntime, indexes: &Indexes) -> Result<(), Failure> {
     Ok(())
 }
 
-/// Does what the words ask.
+/// Runs the program's words.
 fn attempt(rt: &HostRuntime) -> Result<(), Failure> {
     let words: Vec<String> = env::args(rt)?.skip(1).collect(rt.alloc())?;
     let indexes = match folder_of(rt.alloc(), &words)? {
@@ -47,6 +47,6 @@ fn attempt(rt: &HostRuntime) -> Result<(), Failure> {
 fn main(rt: HostRuntime) -> ExitCode {
     match attempt(&rt) {
         Ok(()) => ExitCode::SUCCESS,
-        Err(failure) => ExitCode::from(failure.told(&rt)),
+        Err(failure) => ExitCode::from(failure.report(&rt)),
     }
 }

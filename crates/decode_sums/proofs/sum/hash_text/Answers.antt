@@ -1,4 +1,3 @@
-use Rattle.std.proofs.Common.{◌≡◌, ◌++◌, ◌∙◌, sym, ap, List, ℕ}
 use Rattle.std.proofs.lemmas.List.{append_assoc}
 use Rattle.decode_sums.proofs.sum.hash_text.Goals as goal
 
