@@ -1,0 +1,8 @@
+use Rattle.std.proofs.Common.{sym, string_bytes}
+use Rattle.std.proofs.lemmas.Str.{encodes-chars, IsUtf8-string_bytes}
+use Rattle.decode_sums.proofs.sum.text_of.Goals as goal
+
+pub returns-clause-text : goal.returns-clause-text
+returns-clause-text c =
+    let text = c.in_ok-decode_whole.field-0.text in
+    rw (← c.in_ok-decode_whole.ensures.text) (sym (encodes-chars (string_bytes text) (IsUtf8-string_bytes text)))

@@ -1,0 +1,52 @@
+//! The program: a checksum for each encoding over the texts of all short documents.
+#![tactic(auto)]
+
+mod command_line;
+mod failure;
+mod form;
+mod sum;
+
+use codec::CodecFault;
+use command_line::folder_of;
+use enc_names::Encoding;
+use failure::Failure;
+use form::FORMS;
+use index_files::indexes_in;
+use index_loader::Indexes;
+use std::env;
+use std::process::ExitCode;
+use sum::sum_of;
+
+/// Prints the sum of each encoding.
+fn print_sums(rt: &HostRuntime, indexes: &Indexes) -> Result<(), Failure> {
+    for encoding in &Encoding::ALL {
+        let name = encoding.name();
+        match sum_of(rt.alloc(), indexes, *encoding, &FORMS) {
+            Ok(sum) => {
+                let digits = hex::encode(rt.alloc(), sum)?;
+                println!(rt; "{name:<14} {digits}")?;
+            }
+            Err(CodecFault::NoIndex) => println!(rt; "{name:<14} no index")?,
+            Err(CodecFault::OutOfMemory) => return Err(Failure::OutOfMemory),
+            Err(CodecFault::Malformed(_)) => unreachable!(),
+        }
+    }
+    Ok(())
+}
+
+/// Runs the program's words.
+fn attempt(rt: &HostRuntime) -> Result<(), Failure> {
+    let words: Vec<String> = env::args(rt)?.skip(1).collect(rt.alloc())?;
+    let indexes = match folder_of(rt.alloc(), &words)? {
+        Some(folder) => indexes_in(rt, rt.alloc(), folder)?,
+        None => Indexes::new(),
+    };
+    print_sums(rt, &indexes)
+}
+
+fn main(rt: HostRuntime) -> ExitCode {
+    match attempt(&rt) {
+        Ok(()) => ExitCode::SUCCESS,
+        Err(failure) => ExitCode::from(failure.report(&rt)),
+    }
+}
