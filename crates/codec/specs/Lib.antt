@@ -1,7 +1,7 @@
 pub mod Any
 pub mod AnyLaws
 pub mod Behind
-pub mod Choice
+pub mod Coding
 pub mod Decode
 pub mod Exact
 pub mod Gathered

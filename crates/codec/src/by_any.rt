@@ -10,6 +10,7 @@ ghost use Rattle.codec.specs.Mark.{mark_length};
 use crate::decoder::AnyDecoder;
 use crate::decoding::{Decoding, decode_by};
 use crate::mark::Mark;
+use crate::own::{OwnDecoder, by_own};
 use crate::sniffing::{UTF_16BE, UTF_16LE};
 use decoder_core::{Meter, OutOfMemory, Utf8Decoder};
 use enc_names::Encoding;
@@ -56,6 +57,13 @@ fn decode_marked(
     }
 }
 
+/// Decoding by one of the decoders.
+macro_rules! decode_arm {
+    ($name:ident, $decoder:expr, $alloc:expr, $bytes:expr, $meter:expr) => {
+        decode_by($alloc, $decoder, $bytes, 0, $meter)
+    };
+}
+
 /// Decodes bytes with no byte order mark by the encoding's own decoder: which one it is, is asked
 /// once and not for each byte.
 fn decode_own(
@@ -70,18 +78,5 @@ fn decode_own(
     ensures meter_least { meter.old ≤ meter.new }
     ensures meter_most { meter.new ≤ min (meter.old + length bytes.now) (2 ^ 64 - 1) }
 {
-    match decoder {
-        AnyDecoder::Utf8(d) => decode_by(alloc, d, bytes, 0, meter),
-        AnyDecoder::Gb18030(d) => decode_by(alloc, d, bytes, 0, meter),
-        AnyDecoder::Big5(d) => decode_by(alloc, d, bytes, 0, meter),
-        AnyDecoder::EucJp(d) => decode_by(alloc, d, bytes, 0, meter),
-        AnyDecoder::Iso2022Jp(d) => decode_by(alloc, d, bytes, 0, meter),
-        AnyDecoder::ShiftJis(d) => decode_by(alloc, d, bytes, 0, meter),
-        AnyDecoder::EucKr(d) => decode_by(alloc, d, bytes, 0, meter),
-        AnyDecoder::SingleByte(d) => decode_by(alloc, d, bytes, 0, meter),
-        AnyDecoder::XUserDefined(d) => decode_by(alloc, d, bytes, 0, meter),
-        AnyDecoder::Replacement(d) => decode_by(alloc, d, bytes, 0, meter),
-        AnyDecoder::Utf16Be => decode_by(alloc, &UTF_16BE, bytes, 0, meter),
-        AnyDecoder::Utf16Le => decode_by(alloc, &UTF_16LE, bytes, 0, meter),
-    }
+    by_own!(decoder.own(), decode_arm, alloc, bytes, meter)
 }

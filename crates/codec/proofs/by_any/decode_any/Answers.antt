@@ -5,17 +5,17 @@ use Rattle.decoder_core.specs.declared.placed.Placed.{Placed}
 use Rattle.decoder_core.specs.Placed.{places}
 use Rattle.decoder_core.specs.Queue.{run}
 use Rattle.decoder_core.specs.Text.{code_points, error_places}
-use Rattle.codec.specs.declared.decoder.AnyDecoder.{AnyDecoder}
+use Rattle.codec.specs.declared.own.OwnDecoder.{OwnDecoder}
 use Rattle.codec.specs.Any.{any, any_start, run_behind}
 use Rattle.codec.specs.Mark.{Mark, mark_of, mark_length}
 use Rattle.codec.proofs.AnyRun.{any-run}
 use Rattle.codec.proofs.by_any.decode_any.Goals as goal
 
 -- the items behind a byte order mark, if there is one
-abbrev items_behind : AnyDecoder → List ℕ → Option Mark → List Placed
+abbrev items_behind : OwnDecoder → List ℕ → Option Mark → List Placed
 items_behind d bytes mark = places (length bytes) (unwrap_or (option_map (λ (m : Mark). m.len) mark) 0) (run_behind d mark bytes)
 
-sniffed : (d : AnyDecoder) (bytes : List ℕ) (mark : Option Mark) → mark ≡ mark_of bytes
+sniffed : (d : OwnDecoder) (bytes : List ℕ) (mark : Option Mark) → mark ≡ mark_of bytes
     → items_behind d bytes mark ≡ places (length bytes) (mark_length bytes) (run (any d) (any_start d) bytes)
 sniffed d bytes mark e = ap (items_behind d bytes) e ∙ sym (ap (places (length bytes) (mark_length bytes)) (any-run d bytes))
 
