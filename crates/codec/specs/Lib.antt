@@ -4,7 +4,7 @@ pub mod Behind
 pub mod Coding
 pub mod Decode
 pub mod Exact
-pub mod Gathered
+pub mod Gathering
 pub mod Lifted
 pub mod LiftedLaws
 pub mod Mark
@@ -12,4 +12,3 @@ pub mod Refused
 pub mod Sniffed
 pub mod SniffedLaws
 pub mod Sniffing
-pub mod Written

@@ -1,6 +1,6 @@
 //! The encodings' own decoders, and how the one decoder is made of them.
 ghost use Rattle.std.specs.Prelude.{◌≡◌};
-ghost use Rattle.decoder_core.specs.Few.{bytes_of};
+ghost use Rattle.decoder_core.specs.Steps.{bytes_of};
 ghost use Rattle.codec.specs.Any.{decoder_in, given, given_start};
 
 use crate::sniffing::{UTF_16BE, UTF_16LE};

@@ -3,7 +3,7 @@ ghost use Rattle.std.specs.Prelude.{◌≡◌, []};
 ghost use Rattle.std.specs.Char.{IsScalar};
 ghost use Rattle.decoder_core.specs.declared.handler.Answer.TheVariants.{Nothing, Gives, Finished};
 ghost use Rattle.decoder_core.specs.declared.item.Item.TheVariants.{One};
-ghost use Rattle.decoder_core.specs.Few.{bytes_of};
+ghost use Rattle.decoder_core.specs.Steps.{bytes_of};
 ghost use Rattle.decoder_core.specs.Forms.{found};
 
 use crate::few::Few;

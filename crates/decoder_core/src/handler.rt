@@ -2,7 +2,7 @@
 ghost use Rattle.std.specs.Prelude.{◌≡◌, ℕ, Bool, true, Option};
 ghost use Rattle.decoder_core.specs.Queue.{Turn, Falls};
 ghost use Rattle.decoder_core.specs.Counts.{Counts};
-ghost use Rattle.decoder_core.specs.Few.{bytes_of};
+ghost use Rattle.decoder_core.specs.Steps.{bytes_of};
 
 use crate::few::Few;
 use crate::item::Item;

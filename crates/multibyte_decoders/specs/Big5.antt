@@ -3,7 +3,7 @@ use Rattle.std.specs.Prelude.{ℕ, ◌+◌, ◌-◌, ◌*◌, Bool, ◌||◌, na
 use Rattle.decoder_core.specs.declared.item.Item.{Item}
 use Rattle.decoder_core.specs.declared.item.Item.TheVariants.{Two}
 use Rattle.decoder_core.specs.Queue.{Table}
-use Rattle.decoder_core.specs.Utf8.{within}
+use Rattle.decoder_core.specs.Forms.{within}
 use Rattle.multibyte_decoders.specs.declared.pairs.PairState.{PairState}
 use Rattle.multibyte_decoders.specs.Pairs.{ascii_item, one_of, pair_table}
 

@@ -3,7 +3,7 @@ use Rattle.std.specs.Prelude.{ℕ, ◌+◌, ◌-◌, ◌*◌, Bool, ◌&&◌, �
 use Rattle.decoder_core.specs.declared.item.Item.TheVariants.{One, Error}
 use Rattle.decoder_core.specs.Queue.{Turn}
 use Rattle.decoder_core.specs.Forms.{gives, holds, finishes}
-use Rattle.decoder_core.specs.Utf8.{within}
+use Rattle.decoder_core.specs.Forms.{within}
 use Rattle.index_loader.specs.Index.{Loaded}
 use Rattle.multibyte_decoders.specs.declared.euc_jp.EucJpState.{EucJpState}
 use Rattle.multibyte_decoders.specs.declared.euc_jp.EucJpState.TheVariants.{Idle, Lead, Jis0212Lead}

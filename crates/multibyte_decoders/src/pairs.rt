@@ -1,7 +1,7 @@
 //! What the decoders of single bytes and pairs have in common.
 ghost use Rattle.std.specs.Prelude.{◌≡◌, ℕ, Bool, Option};
 ghost use Rattle.decoder_core.specs.declared.item.Item.{Item};
-ghost use Rattle.decoder_core.specs.Few.{bytes_of};
+ghost use Rattle.decoder_core.specs.Steps.{bytes_of};
 ghost use Rattle.multibyte_decoders.specs.Pairs.{pair_table};
 
 use crate::turns::{begin, complete};

@@ -1,6 +1,6 @@
 //! Turns that the decoders have in common.
 ghost use Rattle.std.specs.Prelude.{◌≡◌};
-ghost use Rattle.decoder_core.specs.Few.{bytes_of};
+ghost use Rattle.decoder_core.specs.Steps.{bytes_of};
 ghost use Rattle.multibyte_decoders.specs.Pairs.{ascii_item, begins, completes, one_of};
 
 use decoder_core::forms::{give, hold, restore, scalar};
