@@ -1,4 +1,4 @@
--- The turns of the one decoder end, and its steps give few items, as those of the encodings' own decoders. There is nothing to believe here.
+-- Proofs that a trait asks for; there is nothing to believe here. The turns of the one decoder end, and its steps give few items, as those of the encodings' own decoders.
 use Rattle.std.proofs.Common.{refl, lit≤}
 use Rattle.index_loader.specs.Index.{code_point_of}
 use Rattle.decoder_core.specs.Queue.{Falls}

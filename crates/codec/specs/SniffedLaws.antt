@@ -1,4 +1,4 @@
--- A decoder that looks for a byte order mark comes to an end, and gives few items, as the decoder does that stands behind the look.
+-- Proofs that a trait asks for; there is nothing to believe here. A decoder that looks for a byte order mark comes to an end, and gives few items, as the decoder does that stands behind the look.
 use Rattle.std.proofs.Common.{◌≡◌, ◌≢◌, refl, sym, ap, subst, ◌∙◌, ℕ, ◌+◌, ◌*◌, ◌<◌, ◌≤◌, ◌==◌, List, [], ◌∷◌, ◌++◌, length, length-append, Option, Some, None, arith}
 use Rattle.decoder_core.specs.declared.handler.Answer.TheVariants.{Nothing as no_item, Finished}
 use Rattle.decoder_core.specs.declared.utf16.ByteOrder.TheVariants.{BigEndian, LittleEndian}

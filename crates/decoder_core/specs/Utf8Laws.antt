@@ -1,4 +1,4 @@
--- Why UTF-8's turns end, and how few items a step gives.
+-- Proofs that a trait asks for; there is nothing to believe here. Why UTF-8's turns end, and how few items a step gives.
 use Rattle.std.proofs.Common.{◌≡◌, ◌≢◌, ℕ, ◌+◌, ◌*◌, ◌<◌, ◌≤◌, false, ◌==◌, List, [], ◌∷◌, ◌++◌, length, Some, if◌then◌else◌, arith, refl, lit<, lit≤}
 use Rattle.decoder_core.specs.declared.item.Item.{Item}
 use Rattle.decoder_core.specs.declared.item.Item.TheVariants.{Error}

@@ -1,4 +1,4 @@
--- The states of each decoder here hold at most three bytes, and its turns keep to that.
+-- Proofs that a trait asks for; there is nothing to believe here. The states of each decoder here hold at most three bytes, and its turns keep to that.
 use Rattle.std.specs.Prelude.{ℕ, ◌≤◌, Bool, Option, Some, None}
 use Rattle.std.proofs.Common.{arith, rules}
 use Rattle.decoder_core.specs.declared.item.Item.{Item}
