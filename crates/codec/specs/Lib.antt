@@ -3,6 +3,7 @@ pub mod AnyLaws
 pub mod Behind
 pub mod Coding
 pub mod Decode
+pub mod Decoding
 pub mod Exact
 pub mod Gathering
 pub mod Lifted
