@@ -1,30 +1,46 @@
 -- The run of the one decoder is that of the decoder in force behind the byte order mark.
 use Rattle.std.proofs.Common.{◌≡◌, refl, sym, ap, ◌∙◌, ℕ, List, Option}
-use Rattle.decoder_core.specs.Queue.{run}
-use Rattle.decoder_core.proofs.Lifting.{run-lift}
-use Rattle.codec.specs.declared.decoder.AnyDecoder.{AnyDecoder}
-use Rattle.codec.specs.declared.decoder.AnyDecoder.TheVariants.{Utf8 as by_utf8, Gb18030 as by_gb18030, Big5 as by_big5, EucJp as by_euc_jp, Iso2022Jp as by_iso_2022_jp, ShiftJis as by_shift_jis, EucKr as by_euc_kr, SingleByte as by_single_byte, XUserDefined as by_x_user_defined, Replacement as by_replacement, Utf16Be as by_utf16_be, Utf16Le as by_utf16_le}
-use Rattle.codec.specs.declared.state.AnyState.TheVariants.{Utf8 as in_utf8, Gb18030 as in_gb18030, Big5 as in_big5, EucJp as in_euc_jp, Iso2022Jp as in_iso_2022_jp, ShiftJis as in_shift_jis, EucKr as in_euc_kr, SingleByte as in_single_byte, XUserDefined as in_x_user_defined, Replacement as in_replacement, Utf16Be as in_utf16_be, Utf16Le as in_utf16_le}
-use Rattle.codec.specs.Any.{any, any_start, given, given_start, own_run, run_behind, behind_mark}
+use Rattle.decoder_core.specs.declared.item.Ended.{Ended}
+use Rattle.decoder_core.specs.Lift.{IsLifted}
+use Rattle.decoder_core.specs.Queue.{Table, Fed, run, feed}
+use Rattle.decoder_core.proofs.Lifting.{run-lift, feed-lift}
+use Rattle.codec.specs.declared.own.OwnDecoder.{OwnDecoder}
+use Rattle.codec.specs.declared.own.OwnDecoder.TheVariants as by
+use Rattle.codec.specs.declared.state.AnyState.{AnyState}
+use Rattle.codec.specs.declared.state.AnyState.TheVariants as state
+use Rattle.codec.specs.Any.{Standing, any, any_start, given, given_start, standing_of, run_behind, behind_mark}
 use Rattle.codec.specs.AnyLaws.{lawful}
 use Rattle.codec.specs.Mark.{Mark}
 use Rattle.codec.proofs.Looking.{run-looked}
 
-given-run : (d : AnyDecoder) (bytes : List ℕ) → run (any d) (given_start d) bytes ≡ own_run d bytes
-given-run (by_utf8 d) bytes = run-lift in_utf8 _ (any (by_utf8 d)) (λ s o. refl) _ bytes
-given-run (by_gb18030 d) bytes = run-lift in_gb18030 _ (any (by_gb18030 d)) (λ s o. refl) _ bytes
-given-run (by_big5 d) bytes = run-lift in_big5 _ (any (by_big5 d)) (λ s o. refl) _ bytes
-given-run (by_euc_jp d) bytes = run-lift in_euc_jp _ (any (by_euc_jp d)) (λ s o. refl) _ bytes
-given-run (by_iso_2022_jp d) bytes = run-lift in_iso_2022_jp _ (any (by_iso_2022_jp d)) (λ s o. refl) _ bytes
-given-run (by_shift_jis d) bytes = run-lift in_shift_jis _ (any (by_shift_jis d)) (λ s o. refl) _ bytes
-given-run (by_euc_kr d) bytes = run-lift in_euc_kr _ (any (by_euc_kr d)) (λ s o. refl) _ bytes
-given-run (by_single_byte d) bytes = run-lift in_single_byte _ (any (by_single_byte d)) (λ s o. refl) _ bytes
-given-run (by_x_user_defined d) bytes = run-lift in_x_user_defined _ (any (by_x_user_defined d)) (λ s o. refl) _ bytes
-given-run (by_replacement d) bytes = run-lift in_replacement _ (any (by_replacement d)) (λ s o. refl) _ bytes
-given-run by_utf16_be bytes = run-lift in_utf16_be _ (any by_utf16_be) (λ s o. refl) _ bytes
-given-run by_utf16_le bytes = run-lift in_utf16_le _ (any by_utf16_le) (λ s o. refl) _ bytes
+-- a table does from a state on what is wanted
+pub record Does (runs : List ℕ → List Ended) (states : List ℕ → AnyState) (table : Table AnyState) (start : AnyState) : Type 0 where
+  pub run : (bytes : List ℕ) → run table start bytes ≡ runs bytes
+  pub state : (bytes : List ℕ) → (feed table start bytes).state ≡ states bytes
 
-pub any-run : (d : AnyDecoder) (bytes : List ℕ) → run (any d) (any_start d) bytes ≡ behind_mark d bytes
+lifting : {S : Type 0} (put : S → AnyState) (small : Table S) (start : S) (big : Table AnyState) → IsLifted put small big
+    → Does (run small start) (λ bytes. put (feed small start bytes).state) big (put start)
+lifting put small start big same = record {
+  run = run-lift put small big same start;
+  state = λ bytes. ap (λ (f : Fed AnyState). f.state) (feed-lift put small big same start bytes);
+}
+
+-- it does from the first state of the encoding given on what that encoding's own decoder does alone
+pub does : (d : OwnDecoder) → Does (standing_of d).run (standing_of d).state (any d) (given_start d)
+does (by.Utf8 d) = lifting state.Utf8 _ _ (any (by.Utf8 d)) (λ s o. refl)
+does (by.Gb18030 d) = lifting state.Gb18030 _ _ (any (by.Gb18030 d)) (λ s o. refl)
+does (by.Big5 d) = lifting state.Big5 _ _ (any (by.Big5 d)) (λ s o. refl)
+does (by.EucJp d) = lifting state.EucJp _ _ (any (by.EucJp d)) (λ s o. refl)
+does (by.Iso2022Jp d) = lifting state.Iso2022Jp _ _ (any (by.Iso2022Jp d)) (λ s o. refl)
+does (by.ShiftJis d) = lifting state.ShiftJis _ _ (any (by.ShiftJis d)) (λ s o. refl)
+does (by.EucKr d) = lifting state.EucKr _ _ (any (by.EucKr d)) (λ s o. refl)
+does (by.SingleByte d) = lifting state.SingleByte _ _ (any (by.SingleByte d)) (λ s o. refl)
+does (by.XUserDefined d) = lifting state.XUserDefined _ _ (any (by.XUserDefined d)) (λ s o. refl)
+does (by.Replacement d) = lifting state.Replacement _ _ (any (by.Replacement d)) (λ s o. refl)
+does by.Utf16Be = lifting state.Utf16Be _ _ (any by.Utf16Be) (λ s o. refl)
+does by.Utf16Le = lifting state.Utf16Le _ _ (any by.Utf16Le) (λ s o. refl)
+
+pub any-run : (d : OwnDecoder) (bytes : List ℕ) → run (any d) (any_start d) bytes ≡ behind_mark d bytes
 any-run d bytes =
     run-looked (given_start d) (given d) (lawful d) (behind_mark d) (λ q. refl) (λ q. refl) (λ q. refl)
-    (λ q none. given-run d q ∙ ap (λ (m : Option Mark). run_behind d m q) (sym none)) bytes
+    (λ q none. (does d).run q ∙ ap (λ (m : Option Mark). run_behind d m q) (sym none)) bytes

@@ -1,4 +1,4 @@
--- States of the one decoder that are equal are identical.
+-- Proofs that a trait asks for; there is nothing to believe here. States of the one decoder that are equal are identical.
 use Rattle.std.specs.Prelude.{◌≡◌, true}
 use Rattle.std.proofs.Common.{ap, rules}
 use Rattle.iso2022jp.specs.Exact.{iso_2022_jp_exact}

@@ -1,10 +1,11 @@
 pub mod Any
 pub mod AnyLaws
 pub mod Behind
-pub mod Choice
+pub mod Coding
 pub mod Decode
+pub mod Decoding
 pub mod Exact
-pub mod Gathered
+pub mod Gathering
 pub mod Lifted
 pub mod LiftedLaws
 pub mod Mark
@@ -12,4 +13,3 @@ pub mod Refused
 pub mod Sniffed
 pub mod SniffedLaws
 pub mod Sniffing
-pub mod Written

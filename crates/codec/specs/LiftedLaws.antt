@@ -1,4 +1,4 @@
--- A decoder among several comes to an end, and gives as few items, as it does alone.
+-- Proofs that a trait asks for; there is nothing to believe here. A decoder among several comes to an end, and gives as few items, as it does alone.
 use Rattle.std.proofs.Common.{◌≡◌, ◌≢◌, refl, sym, ap, subst, ◌∙◌, ℕ, ◌+◌, ◌*◌, ◌<◌, ◌≤◌, List, [], ◌∷◌, ◌++◌, length, Option, Some, None, arith, lit<, lit≤}
 use Rattle.decoder_core.specs.declared.handler.Answer.TheVariants.{Finished}
 use Rattle.decoder_core.specs.Queue.{Table, Falls, front, behind}

@@ -1,11 +1,11 @@
--- A decoder that looks for a byte order mark comes to an end, and gives few items, as the decoder does that stands behind the look.
+-- Proofs that a trait asks for; there is nothing to believe here. A decoder that looks for a byte order mark comes to an end, and gives few items, as the decoder does that stands behind the look.
 use Rattle.std.proofs.Common.{◌≡◌, ◌≢◌, refl, sym, ap, subst, ◌∙◌, ℕ, ◌+◌, ◌*◌, ◌<◌, ◌≤◌, ◌==◌, List, [], ◌∷◌, ◌++◌, length, length-append, Option, Some, None, arith}
 use Rattle.decoder_core.specs.declared.handler.Answer.TheVariants.{Nothing as no_item, Finished}
 use Rattle.decoder_core.specs.declared.utf16.ByteOrder.TheVariants.{BigEndian, LittleEndian}
 use Rattle.decoder_core.specs.ByCases.{by_if}
 use Rattle.decoder_core.specs.Counts.{Counts, cost}
 use Rattle.decoder_core.specs.Forms.{holds}
-use Rattle.decoder_core.specs.Holding.{falls_of, counts_of}
+use Rattle.decoder_core.specs.Holding.{Holding, falls_of, counts_of}
 use Rattle.decoder_core.specs.Queue.{Turn, Table, Falls, front, behind}
 use Rattle.decoder_core.specs.Utf8.{utf8_start}
 use Rattle.decoder_core.specs.Utf8Laws.{utf8_falls, utf8_counts}
@@ -15,6 +15,7 @@ use Rattle.codec.specs.declared.prefix.Prefix.{Prefix}
 use Rattle.codec.specs.declared.prefix.Prefix.TheVariants.{Nothing, Ef, EfBb, Fe, Ff}
 use Rattle.codec.specs.declared.state.AnyState.{AnyState}
 use Rattle.codec.specs.declared.state.AnyState.TheVariants.{Sniffing as in_sniffing, Utf8 as in_utf8, Utf16Be as in_utf16_be, Utf16Le as in_utf16_le}
+use Rattle.codec.specs.Coding.{Coding}
 use Rattle.codec.specs.Lifted.{lifted_at, lifted, finished}
 use Rattle.codec.specs.LiftedLaws.{falls_lifted, counts_lifted, falls_finished, counts_finished}
 use Rattle.codec.specs.Sniffing.{spelt, restarts, sniffing, sniffing_byte}
@@ -181,20 +182,25 @@ module _ (start : AnyState) (given : Table AnyState) (lawful : Lawful start give
 
 -- ---- decoders that stand behind the look
 
-module _ {S : Type 0} (own : S → AnyState) (part : AnyState → Option S) (found : (s : S) → part (own s) ≡ Some s)
-    (given : (s : S) → seen (own s) ≡ Given) (small : Table S) where
-  keeps_at : (t : AnyState) (read : Option ℕ) (o : Option S) → seen t ≡ Given → seen (lifted_at own small t read o).state ≡ Given
-  keeps_at t read (Some s) e = given (small s read).state
+module _ (c : Coding) (put : c.State → AnyState) (part : AnyState → Option c.State) (found : (s : c.State) → part (put s) ≡ Some s)
+    (given : (s : c.State) → seen (put s) ≡ Given) where
+  keeps_at : (t : AnyState) (read : Option ℕ) (o : Option c.State) → seen t ≡ Given → seen (lifted_at put c.table t read o).state ≡ Given
+  keeps_at t read (Some s) e = given (c.table s read).state
   keeps_at t read None e = e
 
-  pub lawful_lifted : (start : S) (falls : Falls small) (counts : Counts small) → falls.held start ≤ 14 → counts.bytes start ≤ 5 → Lawful (own start) (lifted own part small)
-  lawful_lifted start falls counts light few = record {
+  pub lawful_lifted : (falls : Falls c.table) (counts : Counts c.table) → falls.held c.start ≤ 14 → counts.bytes c.start ≤ 5
+      → Lawful (put c.start) (lifted put part c.table)
+  lawful_lifted falls counts light few = record {
     keeps = λ t read. keeps_at t read (part t);
-    falls = falls_lifted own part found small falls;
-    counts = counts_lifted own part found small counts;
-    light = Prim.rw (given start, found start) light;
-    few = Prim.rw (given start, found start) few;
+    falls = falls_lifted put part found c.table falls;
+    counts = counts_lifted put part found c.table counts;
+    light = Prim.rw (given c.start, found c.start) light;
+    few = Prim.rw (given c.start, found c.start) few;
   }
+
+  pub lawful_holding : (holding : Holding c.table) → 7 * holding.bytes c.start ≤ 14 → holding.bytes c.start ≤ 5
+      → Lawful (put c.start) (lifted put part c.table)
+  lawful_holding holding light few = lawful_lifted (falls_of c.table holding) (counts_of c.table holding) light few
 
 pub lawful_finished : (start : AnyState) → weight (λ _. 0) start ≤ 14 → bytes (λ _. 0) start ≤ 5 → Lawful start finished
 lawful_finished start light few = record { keeps = λ s read e. e; falls = falls_finished; counts = counts_finished; light = light; few = few }

@@ -1,15 +1,16 @@
 //! Decoding of bytes by the decoder of their encoding.
-ghost use Rattle.std.specs.Prelude.{◌≡◌, ◌+◌, ◌-◌, ◌^◌, ◌≤◌, min, length, IfOk, OnOk, string_bytes};
-ghost use Rattle.std.specs.Str.{chars};
+ghost use Rattle.std.specs.Prelude.{◌-◌, ◌≤◌, length, IfOk};
+ghost use Rattle.decoder_core.specs.Counted.{Counted};
 ghost use Rattle.decoder_core.specs.Queue.{run};
 ghost use Rattle.decoder_core.specs.Placed.{places};
-ghost use Rattle.decoder_core.specs.Text.{code_points, error_places};
 ghost use Rattle.codec.specs.Any.{any, any_start, own_run, marked_run};
+ghost use Rattle.codec.specs.Decoding.{IsDecoding};
 ghost use Rattle.codec.specs.Mark.{mark_length};
 
 use crate::decoder::AnyDecoder;
 use crate::decoding::{Decoding, decode_by};
 use crate::mark::Mark;
+use crate::own::{OwnDecoder, by_own};
 use crate::sniffing::{UTF_16BE, UTF_16LE};
 use decoder_core::{Meter, OutOfMemory, Utf8Decoder};
 use enc_names::Encoding;
@@ -23,11 +24,8 @@ pub fn decode_any(
     bytes: &[u8],
     meter: &mut Meter,
 ) -> Result<Decoding, OutOfMemory>
-    ensures text { IfOk result (λ d. chars (string_bytes d.text) ≡ code_points (places (length bytes.now) (mark_length bytes.now) (run (any decoder.now) (any_start decoder.now) bytes.now))) }
-    ensures errors { IfOk result (λ d. d.errors.items ≡ error_places (places (length bytes.now) (mark_length bytes.now) (run (any decoder.now) (any_start decoder.now) bytes.now))) }
-    ensures meter { OnOk result (meter.new ≡ min (meter.old + (length bytes.now - mark_length bytes.now)) (2 ^ 64 - 1)) }
-    ensures meter_least { meter.old ≤ meter.new }
-    ensures meter_most { meter.new ≤ min (meter.old + (length bytes.now - mark_length bytes.now)) (2 ^ 64 - 1) }
+    ensures ok { IfOk result (IsDecoding (places (length bytes.now) (mark_length bytes.now) (run (any decoder.now) (any_start decoder.now) bytes.now))) }
+    ensures meter { Counted meter.old meter.new (length bytes.now - mark_length bytes.now) result }
 {
     match Mark::of(bytes) {
         Some(mark) => decode_marked(alloc, mark, bytes, meter),
@@ -43,17 +41,21 @@ fn decode_marked(
     meter: &mut Meter,
 ) -> Result<Decoding, OutOfMemory>
     requires { mark.len ≤ length bytes.now }
-    ensures text { IfOk result (λ d. chars (string_bytes d.text) ≡ code_points (places (length bytes.now) mark.len (marked_run mark bytes.now))) }
-    ensures errors { IfOk result (λ d. d.errors.items ≡ error_places (places (length bytes.now) mark.len (marked_run mark bytes.now))) }
-    ensures meter { OnOk result (meter.new ≡ min (meter.old + (length bytes.now - mark.len)) (2 ^ 64 - 1)) }
-    ensures meter_least { meter.old ≤ meter.new }
-    ensures meter_most { meter.new ≤ min (meter.old + (length bytes.now - mark.len)) (2 ^ 64 - 1) }
+    ensures ok { IfOk result (IsDecoding (places (length bytes.now) mark.len (marked_run mark bytes.now))) }
+    ensures meter { Counted meter.old meter.new (length bytes.now - mark.len) result }
 {
     match mark.encoding {
         Encoding::Utf16Be => decode_by(alloc, &UTF_16BE, bytes, mark.len, meter),
         Encoding::Utf16Le => decode_by(alloc, &UTF_16LE, bytes, mark.len, meter),
         _ => decode_by(alloc, &Utf8Decoder, bytes, mark.len, meter),
     }
+}
+
+/// Decoding by one of the decoders.
+macro_rules! decode_arm {
+    ($name:ident, $decoder:expr, $alloc:expr, $bytes:expr, $meter:expr) => {
+        decode_by($alloc, $decoder, $bytes, 0, $meter)
+    };
 }
 
 /// Decodes bytes with no byte order mark by the encoding's own decoder: which one it is, is asked
@@ -64,24 +66,8 @@ fn decode_own(
     bytes: &[u8],
     meter: &mut Meter,
 ) -> Result<Decoding, OutOfMemory>
-    ensures text { IfOk result (λ d. chars (string_bytes d.text) ≡ code_points (places (length bytes.now) 0 (own_run decoder.now bytes.now))) }
-    ensures errors { IfOk result (λ d. d.errors.items ≡ error_places (places (length bytes.now) 0 (own_run decoder.now bytes.now))) }
-    ensures meter { OnOk result (meter.new ≡ min (meter.old + length bytes.now) (2 ^ 64 - 1)) }
-    ensures meter_least { meter.old ≤ meter.new }
-    ensures meter_most { meter.new ≤ min (meter.old + length bytes.now) (2 ^ 64 - 1) }
+    ensures ok { IfOk result (IsDecoding (places (length bytes.now) 0 (own_run decoder.now bytes.now))) }
+    ensures meter { Counted meter.old meter.new (length bytes.now) result }
 {
-    match decoder {
-        AnyDecoder::Utf8(d) => decode_by(alloc, d, bytes, 0, meter),
-        AnyDecoder::Gb18030(d) => decode_by(alloc, d, bytes, 0, meter),
-        AnyDecoder::Big5(d) => decode_by(alloc, d, bytes, 0, meter),
-        AnyDecoder::EucJp(d) => decode_by(alloc, d, bytes, 0, meter),
-        AnyDecoder::Iso2022Jp(d) => decode_by(alloc, d, bytes, 0, meter),
-        AnyDecoder::ShiftJis(d) => decode_by(alloc, d, bytes, 0, meter),
-        AnyDecoder::EucKr(d) => decode_by(alloc, d, bytes, 0, meter),
-        AnyDecoder::SingleByte(d) => decode_by(alloc, d, bytes, 0, meter),
-        AnyDecoder::XUserDefined(d) => decode_by(alloc, d, bytes, 0, meter),
-        AnyDecoder::Replacement(d) => decode_by(alloc, d, bytes, 0, meter),
-        AnyDecoder::Utf16Be => decode_by(alloc, &UTF_16BE, bytes, 0, meter),
-        AnyDecoder::Utf16Le => decode_by(alloc, &UTF_16LE, bytes, 0, meter),
-    }
+    by_own!(decoder.own(), decode_arm, alloc, bytes, meter)
 }

@@ -1,9 +1,9 @@
 //! What decoding some bytes gives.
-ghost use Rattle.std.specs.Prelude.{◌≡◌, ◌+◌, ◌-◌, ◌^◌, ◌≤◌, min, length, drop, IfOk, OnOk, string_bytes};
-ghost use Rattle.std.specs.Str.{chars};
+ghost use Rattle.std.specs.Prelude.{◌-◌, ◌≤◌, length, IfOk, drop};
+ghost use Rattle.decoder_core.specs.Counted.{Counted};
 ghost use Rattle.decoder_core.specs.Queue.{run};
 ghost use Rattle.decoder_core.specs.Placed.{places};
-ghost use Rattle.decoder_core.specs.Text.{code_points, error_places};
+ghost use Rattle.codec.specs.Decoding.{IsDecoding};
 
 use crate::gathering::Gathering;
 use decoder_core::{Decoder, Meter, OutOfMemory, one_run, run_piece};
@@ -29,11 +29,8 @@ pub fn decode_by<D: Decoder>(
     meter: &mut Meter,
 ) -> Result<Decoding, OutOfMemory>
     requires { skip ≤ length bytes.now }
-    ensures text { IfOk result (λ d. chars (string_bytes d.text) ≡ code_points (places (length bytes.now) skip (run (D.table decoder.now) (D.initial decoder.now) (drop skip bytes.now)))) }
-    ensures errors { IfOk result (λ d. d.errors.items ≡ error_places (places (length bytes.now) skip (run (D.table decoder.now) (D.initial decoder.now) (drop skip bytes.now)))) }
-    ensures meter { OnOk result (meter.new ≡ min (meter.old + (length bytes.now - skip)) (2 ^ 64 - 1)) }
-    ensures meter_least { meter.old ≤ meter.new }
-    ensures meter_most { meter.new ≤ min (meter.old + (length bytes.now - skip)) (2 ^ 64 - 1) }
+    ensures ok { IfOk result (IsDecoding (places (length bytes.now) skip (run (D.table decoder.now) (D.initial decoder.now) (drop skip bytes.now)))) }
+    ensures meter { Counted meter.old meter.new (length bytes.now - skip) result }
 {
     let mut gathering = Gathering::new(alloc, skip as u64);
     let rest = &bytes[skip..];

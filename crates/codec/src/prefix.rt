@@ -1,6 +1,6 @@
 //! The beginnings of byte order marks.
 ghost use Rattle.std.specs.Prelude.{◌≡◌, [], ◌∷◌, ◌++◌};
-ghost use Rattle.decoder_core.specs.Few.{bytes_of};
+ghost use Rattle.decoder_core.specs.Steps.{bytes_of};
 ghost use Rattle.codec.specs.Sniffing.{spelt};
 
 use decoder_core::Few;

@@ -1,6 +1,6 @@
 //! The look for a byte order mark.
 ghost use Rattle.std.specs.Prelude.{◌≡◌};
-ghost use Rattle.decoder_core.specs.Few.{bytes_of};
+ghost use Rattle.decoder_core.specs.Steps.{bytes_of};
 ghost use Rattle.codec.specs.Sniffing.{sniffing};
 
 use crate::prefix::Prefix;

@@ -1,4 +1,4 @@
--- Proofs by the cases of a test.
+-- Proofs that a trait asks for; there is nothing to believe here. Proofs by the cases of a test.
 use Rattle.std.proofs.Common.{◌≡◌, Bool, true, false, refl, if◌then◌else◌}
 
 pub by_if : {A : Type 0} (P : A → Type 0) (c : Bool) {x y : A} → P x → P y → P (if c then x else y)

@@ -1,13 +1,11 @@
-pub mod Alone
 pub mod AsciiRuns
 pub mod Bulk
 pub mod ByCases
 pub mod Collected
+pub mod Counted
 pub mod Counts
 pub mod Examples
-pub mod Few
 pub mod Forms
-pub mod Held
 pub mod Holding
 pub mod Lift
 pub mod OneByteLaws
@@ -19,6 +17,7 @@ pub mod ReplacementLaws
 pub mod Seen
 pub mod Shown
 pub mod SingleByte
+pub mod Steps
 pub mod Text
 pub mod Utf16
 pub mod Utf16Laws

@@ -1,4 +1,4 @@
--- The decoders of one byte a character hold nothing between two bytes.
+-- Proofs that a trait asks for; there is nothing to believe here. The decoders of one byte a character hold nothing between two bytes.
 use Rattle.std.specs.Prelude.{ℕ, Option}
 use Rattle.std.proofs.Common.{lit≤}
 use Rattle.decoder_core.specs.Holding.{Holding, gives_at_byte, finishes_at_end}

@@ -1,4 +1,4 @@
--- Why the replacement decoder's turns end, and how few items a step gives.
+-- Proofs that a trait asks for; there is nothing to believe here. Why the replacement decoder's turns end, and how few items a step gives.
 use Rattle.std.proofs.Common.{◌≡◌, ◌≢◌, ℕ, ◌+◌, ◌*◌, ◌<◌, ◌≤◌, List, [], ◌∷◌, length, Option, Some, None, arith, refl, lit<, lit≤}
 use Rattle.decoder_core.specs.declared.handler.Answer.TheVariants.{Finished}
 use Rattle.decoder_core.specs.declared.replacement.ReplacementState.{ReplacementState}

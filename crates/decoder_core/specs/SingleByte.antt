@@ -1,19 +1,14 @@
 -- The single-byte decoder (Encoding Standard, "single-byte decoder").
 use Rattle.std.specs.Prelude.{ℕ, ◌-◌, [], Option, Some, None, if◌then◌else◌}
 use Rattle.decoder_core.specs.declared.item.Item.{Item}
-use Rattle.decoder_core.specs.declared.item.Item.TheVariants.{One, Error}
+use Rattle.decoder_core.specs.declared.item.Item.TheVariants.{One}
 use Rattle.decoder_core.specs.declared.one_byte.OneByteState.{OneByteState}
 use Rattle.decoder_core.specs.Queue.{Table}
-use Rattle.decoder_core.specs.Forms.{gives, finishes, is_ascii}
-
--- the item of what an index holds; null is an error
-abbrev pub entry : Option ℕ → Item
-entry (Some c) = One c
-entry None = Error
+use Rattle.decoder_core.specs.Forms.{found, gives, finishes, is_ascii}
 
 -- an ASCII byte is itself; another is looked up in the encoding's index
 abbrev pub single_byte_item : (ℕ → Option ℕ) → ℕ → Item
-single_byte_item index b = if is_ascii b then One b else entry (index (b - 0x80))
+single_byte_item index b = if is_ascii b then One b else found (index (b - 0x80))
 
 abbrev pub single_byte : (ℕ → Option ℕ) → Table OneByteState
 single_byte index s None = finishes s

@@ -5,7 +5,7 @@ use Rattle.decoder_core.specs.declared.utf16.ByteOrder.{ByteOrder}
 use Rattle.decoder_core.specs.declared.utf16.ByteOrder.TheVariants.{BigEndian, LittleEndian}
 use Rattle.decoder_core.specs.Queue.{Turn, Table}
 use Rattle.decoder_core.specs.Forms.{gives, holds, finishes}
-use Rattle.decoder_core.specs.Utf8.{within}
+use Rattle.decoder_core.specs.Forms.{within}
 
 -- the Standard's two values, each of which can be null: the first byte of a unit, and a lead surrogate
 pub record Utf16 : Type 0 where

@@ -1,4 +1,4 @@
--- The states of the UTF-16 decoders hold at most three bytes, and their turns keep to that.
+-- Proofs that a trait asks for; there is nothing to believe here. The states of the UTF-16 decoders hold at most three bytes, and their turns keep to that.
 use Rattle.std.specs.Prelude.{ℕ, ◌+◌, ◌≤◌, Option, Some, None}
 use Rattle.std.proofs.Common.{rules, lit≤}
 use Rattle.decoder_core.specs.declared.utf16.ByteOrder.{ByteOrder}

@@ -1,9 +1,9 @@
 -- The UTF-8 decoder (Encoding Standard, "UTF-8 decoder").
-use Rattle.std.specs.Prelude.{ℕ, ◌+◌, ◌-◌, ◌*◌, Bool, ◌&&◌, nat_le, ◌==◌, List, [], ◌∷◌, Some, None, if◌then◌else◌}
+use Rattle.std.specs.Prelude.{ℕ, ◌+◌, ◌-◌, ◌*◌, ◌==◌, List, [], ◌∷◌, Some, None, if◌then◌else◌}
 use Rattle.decoder_core.specs.declared.item.Item.{Item}
 use Rattle.decoder_core.specs.declared.item.Item.TheVariants.{One, Error}
 use Rattle.decoder_core.specs.Queue.{Turn, Table}
-use Rattle.decoder_core.specs.Forms.{gives, holds, finishes, is_ascii}
+use Rattle.decoder_core.specs.Forms.{gives, holds, finishes, is_ascii, within}
 
 -- the Standard's five values: code point, bytes seen, bytes needed, lower boundary, upper boundary
 pub record Utf8 : Type 0 where
@@ -15,9 +15,6 @@ pub record Utf8 : Type 0 where
 
 abbrev pub utf8_start : Utf8
 utf8_start = record { code_point = 0; seen = 0; needed = 0; lower = 0x80; upper = 0xBF }
-
-abbrev pub within : ℕ → ℕ → ℕ → Bool
-within low high b = nat_le low b && nat_le b high
 
 -- a code point, or an error, with nothing pending
 abbrev pub utf8_gives : Item → List ℕ → Turn Utf8

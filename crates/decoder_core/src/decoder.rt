@@ -1,7 +1,7 @@
 //! Decoders, one byte at a time.
 ghost use Rattle.std.specs.Prelude.{◌≡◌, ℕ, Bool, true, List, [], ◌∷◌, Option, IfSome};
-ghost use Rattle.decoder_core.specs.Alone.{alone};
 ghost use Rattle.decoder_core.specs.Bulk.{IsBulk};
+ghost use Rattle.decoder_core.specs.Steps.{alone};
 ghost use Rattle.decoder_core.specs.Queue.{Turn, Falls, run, feed};
 
 use crate::bulk::{Bulk, NO_BULK};

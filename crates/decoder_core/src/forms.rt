@@ -3,7 +3,8 @@ ghost use Rattle.std.specs.Prelude.{◌≡◌, []};
 ghost use Rattle.std.specs.Char.{IsScalar};
 ghost use Rattle.decoder_core.specs.declared.handler.Answer.TheVariants.{Nothing, Gives, Finished};
 ghost use Rattle.decoder_core.specs.declared.item.Item.TheVariants.{One};
-ghost use Rattle.decoder_core.specs.Few.{bytes_of};
+ghost use Rattle.decoder_core.specs.Steps.{bytes_of};
+ghost use Rattle.decoder_core.specs.Forms.{found};
 
 use crate::few::Few;
 use crate::handler::{Answer, Handled};
@@ -65,6 +66,16 @@ pub fn finish<S>(next: S) -> Handled<S>
         state: next,
         answer: Answer::Finished,
         back: Few::Zero,
+    }
+}
+
+/// The item of what was looked up; null is an error.
+pub fn found(code_point: Option<Scalar>) -> Item
+    ensures { result ≡ found code_point }
+{
+    match code_point {
+        Some(code_point) => Item::One(code_point),
+        None => Item::Error,
     }
 }
 

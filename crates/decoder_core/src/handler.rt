@@ -4,7 +4,7 @@ ghost use Rattle.decoder_core.specs.Bulk.{IsBulk};
 ghost use Rattle.decoder_core.specs.AsciiRuns.{TakesAscii};
 ghost use Rattle.decoder_core.specs.Queue.{Turn, Falls};
 ghost use Rattle.decoder_core.specs.Counts.{Counts};
-ghost use Rattle.decoder_core.specs.Few.{bytes_of};
+ghost use Rattle.decoder_core.specs.Steps.{bytes_of};
 
 use crate::ascii_runs::AsciiRuns;
 use crate::bulk::{Bulk, NO_BULK};

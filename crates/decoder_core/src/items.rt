@@ -1,5 +1,5 @@
 //! The items of one step.
-ghost use Rattle.decoder_core.specs.Alone.{alone};
+ghost use Rattle.decoder_core.specs.Steps.{alone};
 ghost use Rattle.std.specs.Prelude.{◌≡◌, ◌+◌, ◌<◌, ◌++◌, [], ◌∷◌, length};
 
 use crate::item::{Ended, Item};
@@ -35,7 +35,7 @@ pub struct Items {
 impl Model for Items {
     ghost use Rattle.std.specs.Prelude.{List};
     ghost use Rattle.decoder_core.specs.declared.item.Ended.{Ended};
-    ghost use Rattle.decoder_core.specs.Held.{held_list, HeldFits};
+    ghost use Rattle.decoder_core.specs.Steps.{held_list, HeldFits};
 
     ghost Value = { List Ended };
 

@@ -3,6 +3,7 @@ ghost use Rattle.std.specs.Prelude.{◌≡◌, ℕ, ◌+◌, List, [], ◌∷◌
 ghost use Rattle.decoder_core.specs.declared.handler.Answer.TheVariants.{Finished};
 ghost use Rattle.decoder_core.specs.declared.item.Ended.{Ended};
 ghost use Rattle.decoder_core.specs.Queue.{Runs, run, feed, further, told, fed_after, turn_at, queue_after};
+ghost use Rattle.decoder_core.specs.Lift.{IsLifted, lift_fed};
 ghost use Rattle.decoder_core.specs.Shown.{shown_from, shown_items, ended_at};
 
 use crate::decoder::Decoder;
@@ -26,4 +27,14 @@ pub fn one_run<D: Decoder>(_decoder: &D)
     ensures shown_parts { (read : ℕ) (s : D.State) (p q : List ℕ) → shown_from (D.table _decoder.now) read s (p ++ q) ≡ shown_from (D.table _decoder.now) read s p ++ shown_from (D.table _decoder.now) (read + length p) (feed (D.table _decoder.now) s p).state q }
     ensures finished { (s : D.State) (b : ℕ) (q : List ℕ) → (D.table _decoder.now s (Some b)).answer ≡ Finished → let done = (D.table _decoder.now s (Some b)).state in (feed (D.table _decoder.now) done q ≡ record { state = done; items = [] }) × (run (D.table _decoder.now) done q ≡ []) }
     ensures exact { (a b : D.State) → D.State.eq a b ≡ true → a ≡ b }
+{}
+
+/// The laws of a decoder that stands for others; the call does nothing.
+///
+/// Where each state of the smaller decoder is seen by `f` as one of the larger, and the larger does
+/// there what the smaller does, the runs of the two are the same (`runs`), and what they do over
+/// bytes that are fed is the same but for `f` (`feeds`).
+pub fn among<D: Decoder, E: Decoder>(_small: &D, _big: &E)
+    ensures runs { (f : D.State → E.State) → IsLifted f (D.table _small.now) (E.table _big.now) → (s : D.State) (q : List ℕ) → run (E.table _big.now) (f s) q ≡ run (D.table _small.now) s q }
+    ensures feeds { (f : D.State → E.State) → IsLifted f (D.table _small.now) (E.table _big.now) → (s : D.State) (q : List ℕ) → feed (E.table _big.now) (f s) q ≡ lift_fed f (feed (D.table _small.now) s q) }
 {}

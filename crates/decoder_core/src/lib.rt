@@ -44,7 +44,7 @@ pub use few::Few;
 pub use handler::{Answer, Handled, Handler};
 pub use item::{Ended, Item};
 pub use items::Items;
-pub use laws::one_run;
+pub use laws::{among, one_run};
 pub use makers::meter;
 pub use memory::OutOfMemory;
 pub use one_byte::OneByteState;

@@ -8,7 +8,7 @@ ghost use Rattle.decoder_core.specs.OneByteLaws.{single_byte_holding};
 ghost use Rattle.decoder_core.specs.SingleByte.{single_byte, single_byte_item};
 
 use crate::ascii_runs::AsciiRuns;
-use crate::forms::{finish, give, scalar};
+use crate::forms::{finish, found, give, scalar};
 use crate::handler::{Handled, Handler};
 use crate::item::Item;
 use crate::one_byte::OneByteState;
@@ -45,10 +45,7 @@ impl<'i> SingleByteDecoder<'i> {
         if byte <= 0x7F {
             return Item::One(scalar(u32::from(byte)));
         }
-        match self.index.code_point(u32::from(byte - 0x80)) {
-            Some(code_point) => Item::One(code_point),
-            None => Item::Error,
-        }
+        found(self.index.code_point(u32::from(byte - 0x80)))
     }
 }
 

@@ -1,6 +1,6 @@
 //! How a decoder is made of its handler: turns are taken until the bytes at hand are used up.
 ghost use Rattle.std.specs.Prelude.{◌≡◌, [], ◌∷◌, IfSome};
-ghost use Rattle.decoder_core.specs.Alone.{alone};
+ghost use Rattle.decoder_core.specs.Steps.{alone};
 ghost use Rattle.decoder_core.specs.Queue.{run, feed};
 
 use crate::ascii_runs::AsciiRuns;

@@ -2,7 +2,7 @@
 ghost use Rattle.std.specs.Prelude.{◌≡◌, ℕ, ◌+◌, ◌-◌, ◌*◌, ◌≤◌, ◌<◌};
 ghost use Rattle.decoder_core.specs.Utf8.{Utf8, utf8, utf8_start, utf8_first, utf8_begins, utf8_trail};
 ghost use Rattle.decoder_core.specs.Pending.{IsPending};
-ghost use Rattle.decoder_core.specs.Few.{bytes_of};
+ghost use Rattle.decoder_core.specs.Steps.{bytes_of};
 ghost use Rattle.decoder_core.specs.Utf8Laws.{utf8_falls, utf8_counts};
 ghost use Rattle.std.proofs.Common.{rules};
 

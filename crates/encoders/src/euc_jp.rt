@@ -1,6 +1,6 @@
 //! The EUC-JP encoder.
 ghost use Rattle.std.specs.Prelude.{◌≡◌, ◌≤◌};
-ghost use Rattle.decoder_core.specs.Few.{bytes_of};
+ghost use Rattle.decoder_core.specs.Steps.{bytes_of};
 ghost use Rattle.encoders.specs.EucJp.{euc_jp_bytes, euc_jp_pair};
 
 use crate::shift_jis::minus_folded;

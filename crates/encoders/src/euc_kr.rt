@@ -1,6 +1,6 @@
 //! The EUC-KR encoder.
 ghost use Rattle.std.specs.Prelude.{◌≡◌, ◌≤◌};
-ghost use Rattle.decoder_core.specs.Few.{bytes_of};
+ghost use Rattle.decoder_core.specs.Steps.{bytes_of};
 ghost use Rattle.index_loader.specs.Table.{pointer_limit};
 ghost use Rattle.encoders.specs.EucKr.{euc_kr_bytes, euc_kr_pair};
 

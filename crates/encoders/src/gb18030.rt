@@ -1,6 +1,6 @@
 //! The encoders of gb18030 and GBK.
 ghost use Rattle.std.specs.Prelude.{◌≡◌, ◌≤◌};
-ghost use Rattle.decoder_core.specs.Few.{bytes_of};
+ghost use Rattle.decoder_core.specs.Steps.{bytes_of};
 ghost use Rattle.index_loader.specs.Table.{pointer_limit};
 ghost use Rattle.encoders.specs.Gb18030.{gb18030_bytes, gb18030_four, gb18030_pair, gbk_bytes};
 

@@ -1,6 +1,6 @@
 //! The Shift_JIS encoder.
 ghost use Rattle.std.specs.Prelude.{◌≡◌, ◌≤◌, IfSome};
-ghost use Rattle.decoder_core.specs.Few.{bytes_of};
+ghost use Rattle.decoder_core.specs.Steps.{bytes_of};
 ghost use Rattle.index_loader.specs.Table.{pointer_limit};
 ghost use Rattle.encoders.specs.ShiftJis.{minus_folded, shift_jis_bytes, shift_jis_pair, shift_jis_pointer};
 

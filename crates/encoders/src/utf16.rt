@@ -1,6 +1,6 @@
 //! The encoders of UTF-16BE and UTF-16LE.
 ghost use Rattle.std.specs.Prelude.{◌≡◌, ◌<◌, [], ◌∷◌, Some};
-ghost use Rattle.decoder_core.specs.Few.{bytes_of};
+ghost use Rattle.decoder_core.specs.Steps.{bytes_of};
 ghost use Rattle.encoders.specs.Stateless.{stateless};
 ghost use Rattle.encoders.specs.Utf16.{unit_bytes, utf16_bytes};
 

@@ -3,9 +3,9 @@ use Rattle.std.specs.Prelude.{Bool, List, [], ◌∷◌, replicate, set, Option,
 use Rattle.std.specs.List.{list_all}
 use Rattle.std.specs.Option.{option_map_or}
 use Rattle.enc_names.specs.declared.encoding.Encoding.{Encoding}
-use Rattle.enc_names.specs.declared.encoding.Encoding.TheVariants.{Utf8, Utf16Be, Utf16Le, Replacement, XUserDefined, Gbk, Gb18030, Big5, EucJp, Iso2022Jp, ShiftJis, EucKr}
 use Rattle.index_loader.specs.declared.kind.IndexKind.{IndexKind}
-use Rattle.index_loader.specs.declared.kind.IndexKind.TheVariants.{SingleByte, Jis0208, Jis0212, Big5 as big5_kind, EucKr as euc_kr_kind, Gb18030 as gb18030_kind, Gb18030Ranges, Katakana}
+use Rattle.index_loader.specs.declared.kind.IndexKind.TheVariants.{Jis0208, Jis0212, Big5, EucKr, Gb18030, Gb18030Ranges, Katakana}
+use Rattle.index_loader.specs.Families.{Family, OfUtf8, OfSingleByte, OfGb18030, OfBig5, OfEucJp, OfIso2022Jp, OfShiftJis, OfEucKr, OfReplacement, OfUtf16Be, OfUtf16Le, OfXUserDefined, family_of}
 use Rattle.index_loader.specs.Index.{Loaded}
 use Rattle.index_loader.specs.Kinds.{home_of, slot_of}
 pub use Rattle.index_loader.specs.Pairs.{Pairs}
@@ -30,21 +30,24 @@ index_of files kind = option_map (λ pairs. record { kind = home_of kind; pairs 
 abbrev pub with_index : Files → Loaded → Files
 with_index files index = option_map_or (λ slot. record { slots = set files.slots slot (Some index.pairs) }) (slot_of index.kind) files
 
+-- the kinds of the files that a decoder needs; ISO-2022-JP is served with its encoder's file or not at all
+abbrev pub files_of : Family → List IndexKind
+files_of OfUtf8 = []
+files_of OfUtf16Be = []
+files_of OfUtf16Le = []
+files_of OfReplacement = []
+files_of OfXUserDefined = []
+files_of OfShiftJis = Jis0208 ∷ []
+files_of OfEucJp = Jis0208 ∷ Jis0212 ∷ []
+files_of OfIso2022Jp = Jis0208 ∷ Katakana ∷ []
+files_of OfEucKr = EucKr ∷ []
+files_of OfBig5 = Big5 ∷ []
+files_of OfGb18030 = Gb18030 ∷ Gb18030Ranges ∷ []
+files_of (OfSingleByte kind) = kind ∷ []
+
 -- the kinds of the files that an encoding needs
 abbrev pub files_needed : Encoding → List IndexKind
-files_needed Utf8 = []
-files_needed Utf16Be = []
-files_needed Utf16Le = []
-files_needed Replacement = []
-files_needed XUserDefined = []
-files_needed ShiftJis = Jis0208 ∷ []
-files_needed EucJp = Jis0208 ∷ Jis0212 ∷ []
-files_needed Iso2022Jp = Jis0208 ∷ Katakana ∷ []
-files_needed EucKr = euc_kr_kind ∷ []
-files_needed Big5 = big5_kind ∷ []
-files_needed Gb18030 = gb18030_kind ∷ Gb18030Ranges ∷ []
-files_needed Gbk = gb18030_kind ∷ Gb18030Ranges ∷ []
-files_needed encoding = SingleByte encoding ∷ []
+files_needed encoding = files_of (family_of encoding)
 
 -- all files that an encoding needs are there
 abbrev pub has_files : Files → Encoding → Bool

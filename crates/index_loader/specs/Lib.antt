@@ -1,4 +1,5 @@
 pub mod Examples
+pub mod Families
 pub mod File
 pub mod FileLaws
 pub mod Files

@@ -1,4 +1,4 @@
--- States of the ISO-2022-JP decoder that are equal are identical.
+-- Proofs that a trait asks for; there is nothing to believe here. States of the ISO-2022-JP decoder that are equal are identical.
 use Rattle.std.specs.Prelude.{◌≡◌, Bool, true, false, ◌&&◌}
 use Rattle.std.proofs.Common.{refl, rules}
 use Rattle.iso2022jp.specs.declared.output.OutputState.{OutputState}

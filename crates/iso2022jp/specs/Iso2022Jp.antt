@@ -4,7 +4,7 @@ use Rattle.decoder_core.specs.declared.item.Item.{Item}
 use Rattle.decoder_core.specs.declared.item.Item.TheVariants.{One, Error}
 use Rattle.decoder_core.specs.Queue.{Turn}
 use Rattle.decoder_core.specs.Forms.{gives, holds, finishes, is_ascii}
-use Rattle.decoder_core.specs.Utf8.{within}
+use Rattle.decoder_core.specs.Forms.{within}
 use Rattle.iso2022jp.specs.declared.output.OutputState.{OutputState}
 use Rattle.iso2022jp.specs.declared.output.OutputState.TheVariants.{Ascii, Roman, Katakana, Jis0208}
 use Rattle.iso2022jp.specs.declared.state.DecoderState.{DecoderState}

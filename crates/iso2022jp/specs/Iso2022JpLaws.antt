@@ -1,4 +1,4 @@
--- The states of the ISO-2022-JP decoder hold at most two bytes, and its turns keep to that.
+-- Proofs that a trait asks for; there is nothing to believe here. The states of the ISO-2022-JP decoder hold at most two bytes, and its turns keep to that.
 use Rattle.std.specs.Prelude.{◌≡◌, ℕ, ◌≤◌, [], ◌∷◌, Option, Some, None}
 use Rattle.std.proofs.Common.{refl, rules, lit≤}
 use Rattle.decoder_core.specs.Holding.{AtByte, AtEnd, Holding, turns_at_byte, turns_at_end}

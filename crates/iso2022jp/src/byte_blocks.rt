@@ -1,6 +1,6 @@
 //! Bytes that grow at their end, block by block.
 ghost use Rattle.std.specs.Prelude.{◌≡◌, ◌≤◌, ◌++◌, [], length, IfOk, OnOk};
-ghost use Rattle.decoder_core.specs.Few.{bytes_of};
+ghost use Rattle.decoder_core.specs.Steps.{bytes_of};
 
 use decoder_core::Few;
 use std::alloc::{AllocError, Global};

@@ -1,7 +1,7 @@
 //! The ISO-2022-JP decoder.
 ghost use Rattle.std.specs.Prelude.{◌≡◌};
 ghost use Rattle.index_loader.specs.Index.{code_point_of};
-ghost use Rattle.decoder_core.specs.Few.{bytes_of};
+ghost use Rattle.decoder_core.specs.Steps.{bytes_of};
 ghost use Rattle.decoder_core.specs.Holding.{falls_of, counts_of};
 ghost use Rattle.iso2022jp.specs.Exact.{iso_2022_jp_exact};
 ghost use Rattle.iso2022jp.specs.Iso2022Jp.{iso_2022_jp, iso_2022_jp_start, pair_item, ready_byte, escaped, state_end};

@@ -1,6 +1,6 @@
 //! Encoders: one turn of an encoder as the Encoding Standard states it.
 ghost use Rattle.std.specs.Prelude.{◌≡◌, ◌≤◌, ℕ, All, length, take};
-ghost use Rattle.decoder_core.specs.Few.{bytes_of};
+ghost use Rattle.decoder_core.specs.Steps.{bytes_of};
 ghost use Rattle.iso2022jp.specs.EncoderSteps.{PutsItself, Table, Turn};
 
 use decoder_core::Few;

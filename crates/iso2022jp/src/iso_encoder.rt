@@ -1,6 +1,6 @@
 //! The ISO-2022-JP encoder.
 ghost use Rattle.std.specs.Prelude.{◌≡◌, ◌≤◌, IfSome, true};
-ghost use Rattle.decoder_core.specs.Few.{bytes_of};
+ghost use Rattle.decoder_core.specs.Steps.{bytes_of};
 ghost use Rattle.enc_names.specs.declared.encoding.Encoding.TheVariants.{Iso2022Jp};
 ghost use Rattle.index_loader.specs.Files.{has_files};
 ghost use Rattle.index_loader.specs.Index.{code_point_of};

@@ -1,13 +1,11 @@
 -- The Big5 decoder (Encoding Standard, "Big5 decoder").
-use Rattle.std.specs.Prelude.{ℕ, ◌+◌, ◌-◌, ◌*◌, Bool, ◌||◌, nat_lt, ◌==◌, [], Option, Some, None, if◌then◌else◌}
+use Rattle.std.specs.Prelude.{ℕ, ◌+◌, ◌-◌, ◌*◌, Bool, ◌||◌, nat_lt, ◌==◌, Option, Some, None, if◌then◌else◌}
 use Rattle.decoder_core.specs.declared.item.Item.{Item}
-use Rattle.decoder_core.specs.declared.item.Item.TheVariants.{Two, Error}
-use Rattle.decoder_core.specs.Queue.{Turn}
-use Rattle.decoder_core.specs.Forms.{gives, finishes}
-use Rattle.decoder_core.specs.Utf8.{within}
+use Rattle.decoder_core.specs.declared.item.Item.TheVariants.{Two}
+use Rattle.decoder_core.specs.Queue.{Table}
+use Rattle.decoder_core.specs.Forms.{within}
 use Rattle.multibyte_decoders.specs.declared.pairs.PairState.{PairState}
-use Rattle.multibyte_decoders.specs.declared.pairs.PairState.TheVariants.{Idle, Lead}
-use Rattle.multibyte_decoders.specs.Pairs.{begins, completes, one_of}
+use Rattle.multibyte_decoders.specs.Pairs.{ascii_item, one_of, pair_table}
 
 abbrev pub is_big5_trail : ℕ → Bool
 is_big5_trail b = within 0x40 0x7E b || within 0xA1 0xFE b
@@ -27,8 +25,8 @@ big5_item index pointer =
 abbrev pub big5_pair : (ℕ → Option ℕ) → ℕ → ℕ → Option Item
 big5_pair index lead b = if is_big5_trail b then big5_item index (big5_pointer lead b) else None
 
-abbrev pub big5 : (ℕ → Option ℕ) → PairState → Option ℕ → Turn PairState
-big5 index Idle None = finishes Idle
-big5 index (Lead lead) None = gives Idle Error []
-big5 index Idle (Some b) = begins Idle (within 0x81 0xFE b) (Lead b) b
-big5 index (Lead lead) (Some b) = completes Idle (big5_pair index lead b) b
+abbrev pub is_big5_lead : ℕ → Bool
+is_big5_lead b = within 0x81 0xFE b
+
+abbrev pub big5 : (ℕ → Option ℕ) → Table PairState
+big5 index = pair_table is_big5_lead ascii_item (big5_pair index)

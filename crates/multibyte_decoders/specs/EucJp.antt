@@ -3,11 +3,11 @@ use Rattle.std.specs.Prelude.{ℕ, ◌+◌, ◌-◌, ◌*◌, Bool, ◌&&◌, �
 use Rattle.decoder_core.specs.declared.item.Item.TheVariants.{One, Error}
 use Rattle.decoder_core.specs.Queue.{Turn}
 use Rattle.decoder_core.specs.Forms.{gives, holds, finishes}
-use Rattle.decoder_core.specs.Utf8.{within}
+use Rattle.decoder_core.specs.Forms.{within}
 use Rattle.index_loader.specs.Index.{Loaded}
 use Rattle.multibyte_decoders.specs.declared.euc_jp.EucJpState.{EucJpState}
 use Rattle.multibyte_decoders.specs.declared.euc_jp.EucJpState.TheVariants.{Idle, Lead, Jis0212Lead}
-use Rattle.multibyte_decoders.specs.Pairs.{begins, completes, one_of}
+use Rattle.multibyte_decoders.specs.Pairs.{ascii_item, begins, completes, one_of}
 
 abbrev pub is_euc_jp_lead : ℕ → Bool
 is_euc_jp_lead b = b == 0x8E || b == 0x8F || within 0xA1 0xFE b
@@ -32,7 +32,7 @@ abbrev pub euc_jp : (ℕ → Option ℕ) → (ℕ → Option ℕ) → EucJpState
 euc_jp jis0208 jis0212 Idle None = finishes Idle
 euc_jp jis0208 jis0212 (Lead lead) None = gives Idle Error []
 euc_jp jis0208 jis0212 (Jis0212Lead lead) None = gives Idle Error []
-euc_jp jis0208 jis0212 Idle (Some b) = begins Idle (is_euc_jp_lead b) (Lead b) b
+euc_jp jis0208 jis0212 Idle (Some b) = begins Idle (is_euc_jp_lead b) (Lead b) (ascii_item b)
 euc_jp jis0208 jis0212 (Lead lead) (Some b) = euc_jp_second jis0208 lead b
 euc_jp jis0208 jis0212 (Jis0212Lead lead) (Some b) = completes Idle (one_of (euc_jp_pair jis0212 lead b)) b
 

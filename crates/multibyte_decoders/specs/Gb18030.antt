@@ -2,12 +2,12 @@
 use Rattle.std.specs.Prelude.{ℕ, ◌+◌, ◌-◌, ◌*◌, Bool, ◌||◌, nat_lt, ◌==◌, [], ◌∷◌, Option, Some, None, if◌then◌else◌}
 use Rattle.decoder_core.specs.declared.item.Item.TheVariants.{One, Error}
 use Rattle.decoder_core.specs.Queue.{Turn}
-use Rattle.decoder_core.specs.Forms.{gives, holds, finishes, is_ascii}
-use Rattle.decoder_core.specs.Utf8.{within}
+use Rattle.decoder_core.specs.Forms.{found, gives, holds, finishes}
+use Rattle.decoder_core.specs.Forms.{within}
 use Rattle.index_loader.specs.Index.{Loaded}
 use Rattle.multibyte_decoders.specs.declared.gb18030.Gb18030State.{Gb18030State}
 use Rattle.multibyte_decoders.specs.declared.gb18030.Gb18030State.TheVariants.{Idle, First, Second, Third}
-use Rattle.multibyte_decoders.specs.Pairs.{completes, one_of}
+use Rattle.multibyte_decoders.specs.Pairs.{ascii_item, begins, completes, one_of}
 
 abbrev pub is_gb18030_trail : ℕ → Bool
 is_gb18030_trail b = within 0x40 0x7E b || within 0x80 0xFE b
@@ -24,19 +24,11 @@ abbrev pub gb18030_four : ℕ → ℕ → ℕ → ℕ → ℕ
 gb18030_four first second third b =
     (first - 0x81) * 12600 + (second - 0x30) * 1260 + (third - 0x81) * 10 + (b - 0x30)
 
--- four bytes, in index gb18030 ranges; one without a code point puts nothing back
-abbrev pub gb18030_ranged : Option ℕ → Turn Gb18030State
-gb18030_ranged (Some c) = gives Idle (One c) []
-gb18030_ranged None = gives Idle Error []
-
 -- a byte with nothing pending
 abbrev pub gb18030_single : ℕ → Turn Gb18030State
-gb18030_single b =
-    if is_ascii b then gives Idle (One b) []
-    else if b == 0x80 then gives Idle (One 0x20AC) []
-    else if within 0x81 0xFE b then holds (First b)
-    else gives Idle Error []
+gb18030_single b = begins Idle (within 0x81 0xFE b) (First b) (if b == 0x80 then One 0x20AC else ascii_item b)
 
+-- four bytes without a code point put nothing back
 abbrev pub gb18030 : (ℕ → Option ℕ) → (ℕ → Option ℕ) → Gb18030State → Option ℕ → Turn Gb18030State
 gb18030 index ranges Idle None = finishes Idle
 gb18030 index ranges (First first) None = gives Idle Error []
@@ -50,7 +42,7 @@ gb18030 index ranges (Second first second) (Some b) =
     if within 0x81 0xFE b then holds (Third first second b)
     else gives Idle Error (second ∷ b ∷ [])
 gb18030 index ranges (Third first second third) (Some b) =
-    if within 0x30 0x39 b then gb18030_ranged (ranges (gb18030_four first second third b))
+    if within 0x30 0x39 b then gives Idle (found (ranges (gb18030_four first second third b))) []
     else gives Idle Error (second ∷ third ∷ b ∷ [])
 
 -- the decoder's index and its ranges

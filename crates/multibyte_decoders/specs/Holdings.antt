@@ -1,6 +1,7 @@
--- The states of each decoder here hold at most three bytes, and its turns keep to that.
-use Rattle.std.specs.Prelude.{ℕ, ◌≤◌, Option, Some, None}
+-- Proofs that a trait asks for; there is nothing to believe here. The states of each decoder here hold at most three bytes, and its turns keep to that.
+use Rattle.std.specs.Prelude.{ℕ, ◌≤◌, Bool, Option, Some, None}
 use Rattle.std.proofs.Common.{arith, rules}
+use Rattle.decoder_core.specs.declared.item.Item.{Item}
 use Rattle.decoder_core.specs.Holding.{AtByte, AtEnd, Holding, turns_at_end}
 use Rattle.multibyte_decoders.specs.declared.pairs.PairState.{PairState}
 use Rattle.multibyte_decoders.specs.declared.pairs.PairState.TheVariants.{Idle, Lead}
@@ -9,11 +10,12 @@ use Rattle.multibyte_decoders.specs.declared.euc_jp.EucJpState.TheVariants.{Idle
 use Rattle.multibyte_decoders.specs.declared.gb18030.Gb18030State.{Gb18030State}
 use Rattle.multibyte_decoders.specs.declared.gb18030.Gb18030State.TheVariants.{Idle as gb18030_idle, First, Second, Third}
 use Rattle.multibyte_decoders.specs.Holding.{turns_at_byte}
-use Rattle.multibyte_decoders.specs.ShiftJis.{shift_jis}
+use Rattle.multibyte_decoders.specs.Big5.{big5, big5_pair, is_big5_lead}
+use Rattle.multibyte_decoders.specs.EucKr.{euc_kr, euc_kr_pair, is_euc_kr_lead}
+use Rattle.multibyte_decoders.specs.Pairs.{ascii_item, pair_table}
+use Rattle.multibyte_decoders.specs.ShiftJis.{shift_jis, shift_jis_pair, shift_jis_single, is_shift_jis_lead}
 use Rattle.multibyte_decoders.specs.EucJp.{euc_jp}
-use Rattle.multibyte_decoders.specs.EucKr.{euc_kr}
-use Rattle.multibyte_decoders.specs.Big5.{big5}
-use Rattle.multibyte_decoders.specs.Gb18030.{gb18030, gb18030_ranged}
+use Rattle.multibyte_decoders.specs.Gb18030.{gb18030}
 
 -- the number of bytes that a state holds
 abbrev pub pair_bytes : PairState → ℕ
@@ -46,53 +48,33 @@ gb18030_few (First first) = Prim.omega arith
 gb18030_few (Second first second) = Prim.omega arith
 gb18030_few (Third first second third) = Prim.omega arith
 
-pub shift_jis_byte : (jis0208 : ℕ → Option ℕ) (s : PairState) (b : ℕ) → AtByte pair_bytes (pair_bytes s) (shift_jis jis0208 s (Some b))
-shift_jis_byte jis0208 Idle b = Prim.search (rules, turns_at_byte)
-shift_jis_byte jis0208 (Lead lead) b = Prim.search (rules, turns_at_byte)
+-- the decoders of single bytes and pairs
+pub pair_byte : (is_lead : ℕ → Bool) (single : ℕ → Item) (pair : ℕ → ℕ → Option Item) (s : PairState) (b : ℕ)
+    → AtByte pair_bytes (pair_bytes s) (pair_table is_lead single pair s (Some b))
+pair_byte is_lead single pair Idle b = Prim.search (rules, turns_at_byte)
+pair_byte is_lead single pair (Lead lead) b = Prim.search (rules, turns_at_byte)
 
-pub shift_jis_end : (jis0208 : ℕ → Option ℕ) (s : PairState) → AtEnd pair_bytes (pair_bytes s) (shift_jis jis0208 s None)
-shift_jis_end jis0208 Idle = Prim.search (rules, turns_at_end)
-shift_jis_end jis0208 (Lead lead) = Prim.search (rules, turns_at_end)
+pub pair_end : (is_lead : ℕ → Bool) (single : ℕ → Item) (pair : ℕ → ℕ → Option Item) (s : PairState)
+    → AtEnd pair_bytes (pair_bytes s) (pair_table is_lead single pair s None)
+pair_end is_lead single pair Idle = Prim.search (rules, turns_at_end)
+pair_end is_lead single pair (Lead lead) = Prim.search (rules, turns_at_end)
+
+abbrev pub pair_holding : (is_lead : ℕ → Bool) (single : ℕ → Item) (pair : ℕ → ℕ → Option Item) → Holding (pair_table is_lead single pair)
+pair_holding is_lead single pair = record {
+  bytes = pair_bytes;
+  few = pair_few;
+  at_byte = pair_byte is_lead single pair;
+  at_end = pair_end is_lead single pair;
+}
 
 abbrev pub shift_jis_holding : (jis0208 : ℕ → Option ℕ) → Holding (shift_jis jis0208)
-shift_jis_holding jis0208 = record {
-  bytes = pair_bytes;
-  few = pair_few;
-  at_byte = shift_jis_byte jis0208;
-  at_end = shift_jis_end jis0208;
-}
-
-pub euc_kr_byte : (index : ℕ → Option ℕ) (s : PairState) (b : ℕ) → AtByte pair_bytes (pair_bytes s) (euc_kr index s (Some b))
-euc_kr_byte index Idle b = Prim.search (rules, turns_at_byte)
-euc_kr_byte index (Lead lead) b = Prim.search (rules, turns_at_byte)
-
-pub euc_kr_end : (index : ℕ → Option ℕ) (s : PairState) → AtEnd pair_bytes (pair_bytes s) (euc_kr index s None)
-euc_kr_end index Idle = Prim.search (rules, turns_at_end)
-euc_kr_end index (Lead lead) = Prim.search (rules, turns_at_end)
+shift_jis_holding jis0208 = pair_holding is_shift_jis_lead shift_jis_single (shift_jis_pair jis0208)
 
 abbrev pub euc_kr_holding : (index : ℕ → Option ℕ) → Holding (euc_kr index)
-euc_kr_holding index = record {
-  bytes = pair_bytes;
-  few = pair_few;
-  at_byte = euc_kr_byte index;
-  at_end = euc_kr_end index;
-}
-
-pub big5_byte : (index : ℕ → Option ℕ) (s : PairState) (b : ℕ) → AtByte pair_bytes (pair_bytes s) (big5 index s (Some b))
-big5_byte index Idle b = Prim.search (rules, turns_at_byte)
-big5_byte index (Lead lead) b = Prim.search (rules, turns_at_byte)
-
-pub big5_end : (index : ℕ → Option ℕ) (s : PairState) → AtEnd pair_bytes (pair_bytes s) (big5 index s None)
-big5_end index Idle = Prim.search (rules, turns_at_end)
-big5_end index (Lead lead) = Prim.search (rules, turns_at_end)
+euc_kr_holding index = pair_holding is_euc_kr_lead ascii_item (euc_kr_pair index)
 
 abbrev pub big5_holding : (index : ℕ → Option ℕ) → Holding (big5 index)
-big5_holding index = record {
-  bytes = pair_bytes;
-  few = pair_few;
-  at_byte = big5_byte index;
-  at_end = big5_end index;
-}
+big5_holding index = pair_holding is_big5_lead ascii_item (big5_pair index)
 
 pub euc_jp_byte : (jis0208 jis0212 : ℕ → Option ℕ) (s : EucJpState) (b : ℕ) → AtByte euc_jp_bytes (euc_jp_bytes s) (euc_jp jis0208 jis0212 s (Some b))
 euc_jp_byte jis0208 jis0212 euc_jp_idle b = Prim.search (rules, turns_at_byte)
@@ -112,15 +94,11 @@ euc_jp_holding jis0208 jis0212 = record {
   at_end = euc_jp_end jis0208 jis0212;
 }
 
-gb18030_ranged_byte : (found : Option ℕ) → AtByte gb18030_bytes 3 (gb18030_ranged found)
-gb18030_ranged_byte (Some c) = Prim.search (rules, turns_at_byte)
-gb18030_ranged_byte None = Prim.search (rules, turns_at_byte)
-
 pub gb18030_byte : (index ranges : ℕ → Option ℕ) (s : Gb18030State) (b : ℕ) → AtByte gb18030_bytes (gb18030_bytes s) (gb18030 index ranges s (Some b))
 gb18030_byte index ranges gb18030_idle b = Prim.search (rules, turns_at_byte)
 gb18030_byte index ranges (First first) b = Prim.search (rules, turns_at_byte)
 gb18030_byte index ranges (Second first second) b = Prim.search (rules, turns_at_byte)
-gb18030_byte index ranges (Third first second third) b = Prim.search (rules, turns_at_byte, gb18030_ranged_byte)
+gb18030_byte index ranges (Third first second third) b = Prim.search (rules, turns_at_byte)
 
 pub gb18030_end : (index ranges : ℕ → Option ℕ) (s : Gb18030State) → AtEnd gb18030_bytes (gb18030_bytes s) (gb18030 index ranges s None)
 gb18030_end index ranges gb18030_idle = Prim.search (rules, turns_at_end)

@@ -4,12 +4,13 @@ ghost use Rattle.std.proofs.Common.{rules};
 ghost use Rattle.index_loader.specs.Index.{code_point_of};
 ghost use Rattle.decoder_core.specs.Holding.{falls_of, counts_of};
 ghost use Rattle.multibyte_decoders.specs.declared.pairs.PairState.TheVariants.{Idle};
-ghost use Rattle.multibyte_decoders.specs.Big5.{big5, big5_pair, big5_pointer, big5_item};
+ghost use Rattle.multibyte_decoders.specs.Big5.{big5, big5_pair, big5_pointer, big5_item, is_big5_lead};
+ghost use Rattle.multibyte_decoders.specs.Pairs.{ascii_item};
 ghost use Rattle.multibyte_decoders.specs.Holdings.{big5_holding};
 
-use crate::pairs::PairState;
-use crate::turns::{begin, complete, one_of};
-use decoder_core::forms::{finish, give, scalar};
+use crate::pairs::{PairRules, PairState, pair_turn};
+use crate::turns::{ascii_item, one_of};
+use decoder_core::forms::scalar;
 use decoder_core::{AsciiRuns, Handled, Handler, Item};
 use index_loader::Index;
 use std::marker::Model;
@@ -37,16 +38,6 @@ impl<'i> Big5Decoder<'i> {
         Big5Decoder { index }
     }
 
-    /// The item of a lead and the byte after it.
-    fn pair(&self, lead: u8, byte: u8) -> Option<Item>
-        ensures { result ≡ big5_pair (code_point_of self.now) lead byte }
-    {
-        match byte {
-            0x40..=0x7E | 0xA1..=0xFE => self.item(pointer(lead, byte)),
-            _ => None,
-        }
-    }
-
     /// The item of a pointer: four pointers give two code points.
     fn item(&self, pointer: u32) -> Option<Item>
         ensures { result ≡ big5_item (code_point_of self.now) pointer }
@@ -67,6 +58,29 @@ fn pointer(lead: u8, trail: u8) -> u32
 {
     let trail_offset = if trail < 0x7F { 0x40 } else { 0x62 };
     u32::from(lead.saturating_sub(0x81)) * 157 + u32::from(trail.saturating_sub(trail_offset))
+}
+
+impl<'i> PairRules for Big5Decoder<'i> {
+    ghost leads = { λ d. is_big5_lead };
+
+    ghost singles = { λ d. ascii_item };
+
+    ghost pairs = { λ d. big5_pair (code_point_of d) };
+
+    fn is_lead(&self, byte: u8) -> bool {
+        (0x81..=0xFE).contains(&byte)
+    }
+
+    fn single(&self, byte: u8) -> Item {
+        ascii_item(byte)
+    }
+
+    fn pair(&self, lead: u8, byte: u8) -> Option<Item> {
+        match byte {
+            0x40..=0x7E | 0xA1..=0xFE => self.item(pointer(lead, byte)),
+            _ => None,
+        }
+    }
 }
 
 impl<'i> Handler for Big5Decoder<'i> {
@@ -91,17 +105,7 @@ impl<'i> Handler for Big5Decoder<'i> {
     // In the loop over the bytes.
     #[inline(always)]
     fn turn(&self, state: PairState, byte: Option<u8>) -> Handled<PairState> {
-        match (state, byte) {
-            (PairState::Idle, None) => finish(PairState::Idle),
-            (PairState::Lead(_), None) => give(PairState::Idle, Item::Error),
-            (PairState::Idle, Some(byte)) => {
-                let is_lead = (0x81..=0xFE).contains(&byte);
-                begin(PairState::Idle, is_lead, PairState::Lead(byte), byte)
-            }
-            (PairState::Lead(lead), Some(byte)) => {
-                complete(PairState::Idle, self.pair(lead, byte), byte)
-            }
-        }
+        pair_turn(self, state, byte)
     }
 
     ghost ends = { λ d. falls_of _ (big5_holding (code_point_of d)) };

@@ -2,13 +2,13 @@
 ghost use Rattle.std.specs.Prelude.{◌≡◌};
 ghost use Rattle.std.proofs.Common.{rules};
 ghost use Rattle.index_loader.specs.Index.{code_point_of};
-ghost use Rattle.decoder_core.specs.Few.{bytes_of};
+ghost use Rattle.decoder_core.specs.Steps.{bytes_of};
 ghost use Rattle.decoder_core.specs.Holding.{falls_of, counts_of};
 ghost use Rattle.multibyte_decoders.specs.declared.euc_jp.EucJpState.TheVariants.{Idle};
 ghost use Rattle.multibyte_decoders.specs.EucJp.{euc_jp, euc_jp_second, euc_jp_pair};
 ghost use Rattle.multibyte_decoders.specs.Holdings.{euc_jp_holding};
 
-use crate::turns::{begin, complete, one_of};
+use crate::turns::{ascii_item, begin, complete, one_of};
 use decoder_core::forms::{finish, give, give_one, hold};
 use decoder_core::{AsciiRuns, Handled, Handler, Item};
 use enc_names::Scalar;
@@ -107,7 +107,8 @@ impl<'i> Handler for EucJpDecoder<'i> {
             (_, None) => give(EucJpState::Idle, Item::Error),
             (EucJpState::Idle, Some(byte)) => {
                 let is_lead = matches!(byte, 0x8E | 0x8F | 0xA1..=0xFE);
-                begin(EucJpState::Idle, is_lead, EucJpState::Lead(byte), byte)
+                let held = EucJpState::Lead(byte);
+                begin(EucJpState::Idle, is_lead, held, ascii_item(byte))
             }
             (EucJpState::Lead(lead), Some(byte)) => self.second(lead, byte),
             (EucJpState::Jis0212Lead(lead), Some(byte)) => complete(

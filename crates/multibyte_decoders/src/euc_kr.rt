@@ -4,14 +4,13 @@ ghost use Rattle.std.proofs.Common.{rules};
 ghost use Rattle.index_loader.specs.Index.{code_point_of};
 ghost use Rattle.decoder_core.specs.Holding.{falls_of, counts_of};
 ghost use Rattle.multibyte_decoders.specs.declared.pairs.PairState.TheVariants.{Idle};
-ghost use Rattle.multibyte_decoders.specs.EucKr.{euc_kr, euc_kr_pair};
+ghost use Rattle.multibyte_decoders.specs.EucKr.{euc_kr, euc_kr_pair, is_euc_kr_lead};
+ghost use Rattle.multibyte_decoders.specs.Pairs.{ascii_item};
 ghost use Rattle.multibyte_decoders.specs.Holdings.{euc_kr_holding};
 
-use crate::pairs::PairState;
-use crate::turns::{begin, complete, one_of};
-use decoder_core::forms::{finish, give};
+use crate::pairs::{PairRules, PairState, pair_turn};
+use crate::turns::{ascii_item, one_of};
 use decoder_core::{AsciiRuns, Handled, Handler, Item};
-use enc_names::Scalar;
 use index_loader::Index;
 use std::marker::Model;
 
@@ -37,15 +36,28 @@ impl<'i> EucKrDecoder<'i> {
     {
         EucKrDecoder { index }
     }
+}
 
-    /// The code point of a lead and the byte after it.
-    fn pair(&self, lead: u8, byte: u8) -> Option<Scalar>
-        ensures { result ≡ euc_kr_pair (code_point_of self.now) lead byte }
-    {
+impl<'i> PairRules for EucKrDecoder<'i> {
+    ghost leads = { λ d. is_euc_kr_lead };
+
+    ghost singles = { λ d. ascii_item };
+
+    ghost pairs = { λ d. euc_kr_pair (code_point_of d) };
+
+    fn is_lead(&self, byte: u8) -> bool {
+        (0x81..=0xFE).contains(&byte)
+    }
+
+    fn single(&self, byte: u8) -> Item {
+        ascii_item(byte)
+    }
+
+    fn pair(&self, lead: u8, byte: u8) -> Option<Item> {
         match byte {
             0x41..=0xFE => {
                 let row = u32::from(lead.saturating_sub(0x81));
-                self.index.code_point(row * 190 + u32::from(byte - 0x41))
+                one_of(self.index.code_point(row * 190 + u32::from(byte - 0x41)))
             }
             _ => None,
         }
@@ -74,17 +86,7 @@ impl<'i> Handler for EucKrDecoder<'i> {
     // In the loop over the bytes.
     #[inline(always)]
     fn turn(&self, state: PairState, byte: Option<u8>) -> Handled<PairState> {
-        match (state, byte) {
-            (PairState::Idle, None) => finish(PairState::Idle),
-            (PairState::Lead(_), None) => give(PairState::Idle, Item::Error),
-            (PairState::Idle, Some(byte)) => {
-                let is_lead = (0x81..=0xFE).contains(&byte);
-                begin(PairState::Idle, is_lead, PairState::Lead(byte), byte)
-            }
-            (PairState::Lead(lead), Some(byte)) => {
-                complete(PairState::Idle, one_of(self.pair(lead, byte)), byte)
-            }
-        }
+        pair_turn(self, state, byte)
     }
 
     ghost ends = { λ d. falls_of _ (euc_kr_holding (code_point_of d)) };

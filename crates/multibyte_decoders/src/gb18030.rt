@@ -2,14 +2,14 @@
 ghost use Rattle.std.specs.Prelude.{◌≡◌};
 ghost use Rattle.std.proofs.Common.{rules};
 ghost use Rattle.index_loader.specs.Index.{code_point_of};
-ghost use Rattle.decoder_core.specs.Few.{bytes_of};
+ghost use Rattle.decoder_core.specs.Steps.{bytes_of};
 ghost use Rattle.decoder_core.specs.Holding.{falls_of, counts_of};
 ghost use Rattle.multibyte_decoders.specs.declared.gb18030.Gb18030State.TheVariants.{Idle};
-ghost use Rattle.multibyte_decoders.specs.Gb18030.{gb18030, gb18030_single, gb18030_pair, gb18030_pointer, gb18030_four, gb18030_ranged};
+ghost use Rattle.multibyte_decoders.specs.Gb18030.{gb18030, gb18030_single, gb18030_pair, gb18030_pointer, gb18030_four};
 ghost use Rattle.multibyte_decoders.specs.Holdings.{gb18030_holding};
 
-use crate::turns::{complete, one_of};
-use decoder_core::forms::{finish, give, give_one, hold, restore};
+use crate::turns::{ascii_item, begin, complete, one_of};
+use decoder_core::forms::{finish, found, give, hold, restore, scalar};
 use decoder_core::{AsciiRuns, Few, Handled, Handler, Item};
 use enc_names::Scalar;
 use index_loader::Index;
@@ -65,18 +65,6 @@ impl<'i> Gb18030Decoder<'i> {
             _ => None,
         }
     }
-
-    /// The fourth of four bytes.
-    fn fourth(&self, pointer: u32) -> Handled<Gb18030State>
-        ensures state { result.state ≡ (gb18030_ranged (code_point_of self.now.ranges pointer)).state }
-        ensures answer { result.answer ≡ (gb18030_ranged (code_point_of self.now.ranges pointer)).answer }
-        ensures back { bytes_of result.back ≡ (gb18030_ranged (code_point_of self.now.ranges pointer)).back }
-    {
-        match self.ranges.code_point(pointer) {
-            Some(code_point) => give(Gb18030State::Idle, Item::One(code_point)),
-            None => give(Gb18030State::Idle, Item::Error),
-        }
-    }
 }
 
 /// The pointer of two bytes.
@@ -103,12 +91,12 @@ fn single(byte: u8) -> Handled<Gb18030State>
     ensures answer { result.answer ≡ (gb18030_single byte).answer }
     ensures back { bytes_of result.back ≡ (gb18030_single byte).back }
 {
-    match byte {
-        0..=0x7F => give_one(Gb18030State::Idle, u32::from(byte)),
-        0x80 => give_one(Gb18030State::Idle, 0x20AC),
-        0x81..=0xFE => hold(Gb18030State::First(byte)),
-        _ => give(Gb18030State::Idle, Item::Error),
-    }
+    let item = match byte {
+        0x80 => Item::One(scalar(0x20AC)),
+        _ => ascii_item(byte),
+    };
+    let is_lead = (0x81..=0xFE).contains(&byte);
+    begin(Gb18030State::Idle, is_lead, Gb18030State::First(byte), item)
 }
 
 impl<'i> Handler for Gb18030Decoder<'i> {
@@ -152,7 +140,8 @@ impl<'i> Handler for Gb18030Decoder<'i> {
                 restore(Gb18030State::Idle, Item::Error, Few::Two(second, byte))
             }
             (Gb18030State::Third(first, second, third), Some(byte @ 0x30..=0x39)) => {
-                self.fourth(four(first, second, third, byte))
+                let pointer = four(first, second, third, byte);
+                give(Gb18030State::Idle, found(self.ranges.code_point(pointer)))
             }
             (Gb18030State::Third(_, second, third), Some(byte)) => restore(
                 Gb18030State::Idle,

@@ -2,15 +2,14 @@
 ghost use Rattle.std.specs.Prelude.{◌≡◌};
 ghost use Rattle.std.proofs.Common.{rules};
 ghost use Rattle.index_loader.specs.Index.{code_point_of};
-ghost use Rattle.decoder_core.specs.Few.{bytes_of};
 ghost use Rattle.decoder_core.specs.Holding.{falls_of, counts_of};
 ghost use Rattle.multibyte_decoders.specs.declared.pairs.PairState.TheVariants.{Idle};
-ghost use Rattle.multibyte_decoders.specs.ShiftJis.{shift_jis, shift_jis_single, shift_jis_pair, shift_jis_pointer, shift_jis_code_point};
+ghost use Rattle.multibyte_decoders.specs.ShiftJis.{shift_jis, shift_jis_single, shift_jis_pair, shift_jis_pointer, shift_jis_code_point, is_shift_jis_lead};
 ghost use Rattle.multibyte_decoders.specs.Holdings.{shift_jis_holding};
 
-use crate::pairs::PairState;
-use crate::turns::{complete, one_of};
-use decoder_core::forms::{finish, give, give_one, hold, scalar};
+use crate::pairs::{PairRules, PairState, pair_turn};
+use crate::turns::one_of;
+use decoder_core::forms::scalar;
 use decoder_core::{AsciiRuns, Handled, Handler, Item};
 use enc_names::Scalar;
 use index_loader::Index;
@@ -39,16 +38,6 @@ impl<'i> ShiftJisDecoder<'i> {
         ShiftJisDecoder { jis0208 }
     }
 
-    /// The code point of a lead and the byte after it.
-    fn pair(&self, lead: u8, byte: u8) -> Option<Scalar>
-        ensures { result ≡ shift_jis_pair (code_point_of self.now) lead byte }
-    {
-        match byte {
-            0x40..=0x7E | 0x80..=0xFC => self.code_point(pointer(lead, byte)),
-            _ => None,
-        }
-    }
-
     /// The code point of a pointer.
     fn code_point(&self, pointer: u32) -> Option<Scalar>
         ensures { result ≡ shift_jis_code_point (code_point_of self.now) pointer }
@@ -70,17 +59,30 @@ fn pointer(lead: u8, trail: u8) -> u32
         + u32::from(trail.saturating_sub(trail_offset))
 }
 
-/// A byte with no lead pending.
-fn single(byte: u8) -> Handled<PairState>
-    ensures state { result.state ≡ (shift_jis_single byte).state }
-    ensures answer { result.answer ≡ (shift_jis_single byte).answer }
-    ensures back { bytes_of result.back ≡ (shift_jis_single byte).back }
-{
-    match byte {
-        0..=0x80 => give_one(PairState::Idle, u32::from(byte)),
-        0xA1..=0xDF => give_one(PairState::Idle, 0xFF61 - 0xA1 + u32::from(byte)),
-        0x81..=0x9F | 0xE0..=0xFC => hold(PairState::Lead(byte)),
-        _ => give(PairState::Idle, Item::Error),
+impl<'i> PairRules for ShiftJisDecoder<'i> {
+    ghost leads = { λ d. is_shift_jis_lead };
+
+    ghost singles = { λ d. shift_jis_single };
+
+    ghost pairs = { λ d. shift_jis_pair (code_point_of d) };
+
+    fn is_lead(&self, byte: u8) -> bool {
+        matches!(byte, 0x81..=0x9F | 0xE0..=0xFC)
+    }
+
+    fn single(&self, byte: u8) -> Item {
+        match byte {
+            0..=0x80 => Item::One(scalar(u32::from(byte))),
+            0xA1..=0xDF => Item::One(scalar(0xFF61 - 0xA1 + u32::from(byte))),
+            _ => Item::Error,
+        }
+    }
+
+    fn pair(&self, lead: u8, byte: u8) -> Option<Item> {
+        match byte {
+            0x40..=0x7E | 0x80..=0xFC => one_of(self.code_point(pointer(lead, byte))),
+            _ => None,
+        }
     }
 }
 
@@ -106,14 +108,7 @@ impl<'i> Handler for ShiftJisDecoder<'i> {
     // In the loop over the bytes.
     #[inline(always)]
     fn turn(&self, state: PairState, byte: Option<u8>) -> Handled<PairState> {
-        match (state, byte) {
-            (PairState::Idle, None) => finish(PairState::Idle),
-            (PairState::Lead(_), None) => give(PairState::Idle, Item::Error),
-            (PairState::Idle, Some(byte)) => single(byte),
-            (PairState::Lead(lead), Some(byte)) => {
-                complete(PairState::Idle, one_of(self.pair(lead, byte)), byte)
-            }
-        }
+        pair_turn(self, state, byte)
     }
 
     ghost ends = { λ d. falls_of _ (shift_jis_holding (code_point_of d)) };

@@ -1,23 +1,34 @@
 //! Turns that the decoders have in common.
 ghost use Rattle.std.specs.Prelude.{◌≡◌};
-ghost use Rattle.decoder_core.specs.Few.{bytes_of};
-ghost use Rattle.multibyte_decoders.specs.Pairs.{begins, completes, one_of};
+ghost use Rattle.decoder_core.specs.Steps.{bytes_of};
+ghost use Rattle.multibyte_decoders.specs.Pairs.{ascii_item, begins, completes, one_of};
 
-use decoder_core::forms::{give, give_one, hold, restore};
+use decoder_core::forms::{give, hold, restore, scalar};
 use decoder_core::{Few, Handled, Item};
 use enc_names::Scalar;
 
-/// A byte with no lead pending: an ASCII byte is itself, a lead is held in the state `held`, and
-/// all else is an error.
-pub(crate) fn begin<S: Copy>(idle: S, is_lead: bool, held: S, byte: u8) -> Handled<S>
-    ensures state { result.state ≡ (begins idle is_lead held byte).state }
-    ensures answer { result.answer ≡ (begins idle is_lead held byte).answer }
-    ensures back { bytes_of result.back ≡ (begins idle is_lead held byte).back }
+/// An ASCII byte is itself, and all else an error.
+pub(crate) fn ascii_item(byte: u8) -> Item
+    ensures { result ≡ ascii_item byte }
 {
-    match byte {
-        0..=0x7F => give_one(idle, u32::from(byte)),
-        _ if is_lead => hold(held),
-        _ => give(idle, Item::Error),
+    if byte <= 0x7F {
+        Item::One(scalar(u32::from(byte)))
+    } else {
+        Item::Error
+    }
+}
+
+/// A byte with no lead pending: a lead is held in the state `held`, and another byte is an item by
+/// itself.
+pub(crate) fn begin<S: Copy>(idle: S, is_lead: bool, held: S, item: Item) -> Handled<S>
+    ensures state { result.state ≡ (begins idle is_lead held item).state }
+    ensures answer { result.answer ≡ (begins idle is_lead held item).answer }
+    ensures back { bytes_of result.back ≡ (begins idle is_lead held item).back }
+{
+    if is_lead {
+        hold(held)
+    } else {
+        give(idle, item)
     }
 }
 

@@ -1,7 +1,6 @@
-use Rattle.std.proofs.Common.{◌≡◌, ℕ, ◌+◌, ◌-◌, sym, ap, ◌∙◌, arith, List, length, take, drop}
+use Rattle.std.proofs.Common.{◌≡◌, ℕ, ◌+◌, ◌-◌, sym, ap, ◌∙◌, arith, List, length, take, drop, Result, Ok, Err, IfOk}
 use Rattle.std.proofs.lemmas.List.{take_all, length-drop}
 use Rattle.std.specs.String.{string_bytes}
-use Rattle.std.proofs.lemmas.Result.{IfOk-weaker}
 use Rattle.std.proofs.lemmas.Str.{chars_from_encodes, IsUtf8-string_bytes}
 use Rattle.decoder_core.specs.Queue.{Fed}
 use Rattle.decoder_core.specs.Queue.{run}
@@ -15,6 +14,10 @@ laws_of g c = record {
   runs = c.one_run.ensures.parts;
   feeds = λ s p q. ap (λ (f : Fed _). f.state) (c.one_run.ensures.feed_parts s p q);
 }
+
+IfOk-both : {A E : Type 0} (r : Result A E) {P Q R : A → Type 0} → IfOk r P → IfOk r Q → ((x : A) → P x → Q x → R x) → IfOk r R
+IfOk-both (Ok x) p q f = f x p q
+IfOk-both (Err e) p q f = tt
 
 -- the bytes behind the first `skip`, as the slice is taken
 rest-is : {X : Type 0} (skip : ℕ) (bytes : List X) → take (length bytes - skip) (drop skip bytes) ≡ drop skip bytes
@@ -32,11 +35,11 @@ gathered g c =
     c.new-gathering.result c.run_piece.new.sink c.take_last.new.self c.as_slice.result.now whole (omega arith) c.new-gathering.ensures c.in_ok-state.ensures.items
     c.in_ok-state.ensures.state (c.as_slice.ensures ∙ c.finish-last.ensures.items) c.in_ok-take_last.ensures)
 
-pub returns-clause-text : goal.returns-clause-text
-returns-clause-text g c =
-    IfOk-weaker c.finish.result _ _
-    (λ d e. sym (chars_from_encodes _ (string_bytes d.text) (IsUtf8-string_bytes d.text) ((gathered g c).text ∙ sym e)))
-    c.finish.ensures.text
-
-pub returns-clause-errors : goal.returns-clause-errors
-returns-clause-errors g c = IfOk-weaker c.finish.result _ _ (λ d e. e ∙ (gathered g c).errors) c.finish.ensures.errors
+pub returns-clause-ok : goal.returns-clause-ok
+returns-clause-ok g c =
+    let all = gathered g c in
+    IfOk-both c.finish.result c.finish.ensures.text c.finish.ensures.errors
+    (λ d text errors. record {
+      text = sym (chars_from_encodes _ (string_bytes d.text) (IsUtf8-string_bytes d.text) (all.text ∙ sym text));
+      errors = errors ∙ all.errors;
+    })

@@ -2,7 +2,7 @@ use Rattle.std.proofs.Common.{◌≡◌, ◌≢◌, ◌++◌, suc, List, length,
 use Rattle.decoder_core.specs.declared.item.Ended.{Ended}
 use Rattle.decoder_core.specs.Queue.{run}
 use Rattle.decoder_core.specs.Counts.{cost}
-use Rattle.decoder_core.specs.Few.{bytes_of}
+use Rattle.decoder_core.specs.Steps.{bytes_of}
 use Rattle.decoder_core.specs.declared.handler.Answer.{Answer}
 use Rattle.decoder_core.specs.declared.handler.Answer.TheVariants.{Finished}
 use Rattle.decoder_core.proofs.Driving.{turned, run_finished, pushed}

@@ -1,6 +1,6 @@
 use Rattle.std.proofs.Common.{◌≡◌, [], ◌++◌, ◌+◌, ◌*◌, ◌<◌, ◌≤◌, length}
 use Rattle.decoder_core.specs.Queue.{run}
-use Rattle.decoder_core.specs.Few.{bytes_of}
+use Rattle.decoder_core.specs.Steps.{bytes_of}
 use Rattle.decoder_core.proofs.turns.finish_by.Given as goal
 
 abbrev pub invariant-turns : goal.invariant-turns

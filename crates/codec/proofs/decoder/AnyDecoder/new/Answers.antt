@@ -1,4 +1,5 @@
 use Rattle.std.proofs.lemmas.Option.{IfSome_then}
+use Rattle.codec.specs.Any.{decoder_in}
 use Rattle.codec.proofs.Choosing.{chosen, decodes, behind}
 use Rattle.codec.proofs.decoder.AnyDecoder.new.Goals as goal
 
@@ -7,8 +8,12 @@ returns-clause-variant c = rw c.choose.ensures (chosen c.args.indexes.now c.args
 
 pub returns-clause-decode : goal.returns-clause-decode
 returns-clause-decode c =
-    rw c.choose.ensures (IfSome_then _ (chosen c.args.indexes.now c.args.encoding).does (decodes c.args.indexes.now c.args.encoding))
+    let files = c.args.indexes.now in
+    let encoding = c.args.encoding in
+    rw c.choose.ensures (IfSome_then (decoder_in files encoding) (chosen files encoding).does (decodes files encoding))
 
 pub returns-clause-behind : goal.returns-clause-behind
 returns-clause-behind c =
-    rw c.choose.ensures (IfSome_then _ (chosen c.args.indexes.now c.args.encoding).does (behind c.args.indexes.now c.args.encoding))
+    let files = c.args.indexes.now in
+    let encoding = c.args.encoding in
+    rw c.choose.ensures (IfSome_then (decoder_in files encoding) (chosen files encoding).does (behind files encoding))

@@ -1,6 +1,6 @@
 use Rattle.std.proofs.Common.{◌≡◌, length, take}
 use Rattle.std.specs.Prelude.{fold}
-use Rattle.codec.specs.Gathered.{with_ended}
+use Rattle.codec.specs.Gathering.{with_ended}
 use Rattle.codec.proofs.gathering.Gathering.take_last.Given as goal
 
 abbrev pub invariant-items : goal.invariant-items

@@ -2,7 +2,7 @@ use Rattle.std.proofs.Common.{◌≡◌, ℕ, ◌+◌, ◌-◌, ◌≤◌, List,
 use Rattle.std.proofs.lemmas.Slice.{take-put_mid}
 use Rattle.std.proofs.lemmas.Str.{IsUtf8-append}
 use borrow.Rule.Slice.PartMut.{put_mid}
-use Rattle.codec.specs.Written.{Written}
+use Rattle.codec.specs.Gathering.{Written}
 use Rattle.codec.proofs.text_blocks.TextBlocks.put_bytes.Goals as goal
 
 filled_more : (at k n : ℕ) (block put text : List ℕ) → put ≡ text → length text ≡ n → at ≤ length block → take (at + n) (put_mid at k block put) ≡ take at block ++ text

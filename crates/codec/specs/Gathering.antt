@@ -1,4 +1,4 @@
--- Text and errors as they are gathered, item by item.
+-- The gathering of text and errors, item by item.
 use Rattle.std.specs.Prelude.{ℕ, ℤ, pos, ◌+ℤ◌, ◌-ℤ◌, List, ◌++◌}
 use Rattle.std.specs.Int.{saturate_unsigned, w64}
 use Rattle.std.specs.Str.{encode_utf8_all}
@@ -7,6 +7,11 @@ use Rattle.decoder_core.specs.declared.item.Item.{Item}
 use Rattle.decoder_core.specs.declared.item.Ended.{Ended}
 use Rattle.decoder_core.specs.Shown.{Shown}
 use Rattle.decoder_core.specs.Text.{item_code_points, error_place}
+
+-- the UTF-8 bytes written so far, and how many more can be written before memory is asked for
+pub record Written : Type 0 where
+  pub bytes : List ℕ
+  pub room : ℕ
 
 -- the text so far in UTF-8, the places of the errors so far among all the bytes, the number of bytes before those that are decoded, and the
 -- end of the last item, counted from the first that is decoded

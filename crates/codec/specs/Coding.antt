@@ -1,0 +1,63 @@
+-- The decoder of each encoding (Encoding Standard, "The encoding", "Legacy single-byte encodings" and the sections behind it).
+use Rattle.std.specs.Prelude.{ℕ, List, Option, Some, None}
+use Rattle.index_loader.specs.Families.{Family, OfUtf8, OfSingleByte, OfGb18030, OfBig5, OfEucJp, OfIso2022Jp, OfShiftJis, OfEucKr, OfReplacement, OfUtf16Be, OfUtf16Le, OfXUserDefined}
+use Rattle.index_loader.specs.declared.kind.IndexKind.{IndexKind}
+use Rattle.index_loader.specs.declared.kind.IndexKind.TheVariants.{Jis0208, Jis0212, Big5, EucKr, Gb18030, Gb18030Ranges}
+use Rattle.index_loader.specs.Index.{Loaded, code_point_of}
+use Rattle.decoder_core.specs.declared.item.Ended.{Ended}
+use Rattle.decoder_core.specs.Queue.{Table, run, feed}
+use Rattle.decoder_core.specs.Utf8.{Utf8, utf8, utf8_start}
+use Rattle.decoder_core.specs.declared.one_byte.OneByteState.{OneByteState}
+use Rattle.decoder_core.specs.declared.one_byte.OneByteState.TheVariants.{Idle as one_byte_idle}
+use Rattle.decoder_core.specs.declared.replacement.ReplacementState.{ReplacementState}
+use Rattle.decoder_core.specs.declared.replacement.ReplacementState.TheVariants.{Unread}
+use Rattle.decoder_core.specs.declared.utf16.ByteOrder.TheVariants.{BigEndian, LittleEndian}
+use Rattle.decoder_core.specs.Utf16.{Utf16, utf16, utf16_start}
+use Rattle.decoder_core.specs.SingleByte.{single_byte}
+use Rattle.decoder_core.specs.XUserDefined.{x_user_defined}
+use Rattle.decoder_core.specs.Replacement.{replacement}
+use Rattle.multibyte_decoders.specs.declared.pairs.PairState.{PairState}
+use Rattle.multibyte_decoders.specs.declared.pairs.PairState.TheVariants.{Idle}
+use Rattle.multibyte_decoders.specs.declared.euc_jp.EucJpState.{EucJpState}
+use Rattle.multibyte_decoders.specs.declared.euc_jp.EucJpState.TheVariants.{Idle as euc_jp_idle}
+use Rattle.multibyte_decoders.specs.declared.gb18030.Gb18030State.{Gb18030State}
+use Rattle.multibyte_decoders.specs.declared.gb18030.Gb18030State.TheVariants.{Idle as gb18030_idle}
+use Rattle.multibyte_decoders.specs.Big5.{big5}
+use Rattle.multibyte_decoders.specs.EucJp.{euc_jp}
+use Rattle.multibyte_decoders.specs.EucKr.{euc_kr}
+use Rattle.multibyte_decoders.specs.Gb18030.{gb18030}
+use Rattle.multibyte_decoders.specs.ShiftJis.{shift_jis}
+use Rattle.iso2022jp.specs.Iso2022Jp.{Iso2022Jp, iso_2022_jp, iso_2022_jp_start}
+
+-- a decoder: its states, what it does in each, and the first of them
+pub record Coding : Type 1 where
+  pub State : Type 0
+  pub table : Table State
+  pub start : State
+
+-- look-ups in an index; one that isn't there has no code point
+abbrev pub looked_up : Option Loaded → ℕ → Option ℕ
+looked_up (Some index) = code_point_of index
+looked_up None = λ pointer. None
+
+-- the decoder of each family over the index files that are there
+abbrev pub coding : (IndexKind → Option Loaded) → Family → Coding
+coding index OfUtf8 = record { State = Utf8; table = utf8; start = utf8_start }
+coding index (OfSingleByte kind) = record { State = OneByteState; table = single_byte (looked_up (index kind)); start = one_byte_idle }
+coding index OfGb18030 = record { State = Gb18030State; table = gb18030 (looked_up (index Gb18030)) (looked_up (index Gb18030Ranges)); start = gb18030_idle }
+coding index OfBig5 = record { State = PairState; table = big5 (looked_up (index Big5)); start = Idle }
+coding index OfEucJp = record { State = EucJpState; table = euc_jp (looked_up (index Jis0208)) (looked_up (index Jis0212)); start = euc_jp_idle }
+coding index OfIso2022Jp = record { State = Iso2022Jp; table = iso_2022_jp (looked_up (index Jis0208)); start = iso_2022_jp_start }
+coding index OfShiftJis = record { State = PairState; table = shift_jis (looked_up (index Jis0208)); start = Idle }
+coding index OfEucKr = record { State = PairState; table = euc_kr (looked_up (index EucKr)); start = Idle }
+coding index OfReplacement = record { State = ReplacementState; table = replacement; start = Unread }
+coding index OfUtf16Be = record { State = Utf16; table = utf16 BigEndian; start = utf16_start }
+coding index OfUtf16Le = record { State = Utf16; table = utf16 LittleEndian; start = utf16_start }
+coding index OfXUserDefined = record { State = OneByteState; table = x_user_defined; start = one_byte_idle }
+
+-- the items of a decoder's run from its first state, and the state that it is in behind some bytes
+abbrev pub coding_run : Coding → List ℕ → List Ended
+coding_run c bytes = run c.table c.start bytes
+
+abbrev pub coding_state : (c : Coding) → List ℕ → c.State
+coding_state c bytes = (feed c.table c.start bytes).state
