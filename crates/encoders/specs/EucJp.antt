@@ -1,6 +1,6 @@
 -- EUC-JP (Encoding Standard, "EUC-JP encoder"), which never writes index jis0212.
 use Rattle.std.specs.Prelude.{ℕ, ◌+◌, ◌-◌, ◌/◌, ◌%◌, ◌==◌, List, Option, Some, option_map, if◌then◌else◌}
-use Rattle.decoder_core.specs.Utf8.{within}
+use Rattle.decoder_core.specs.Forms.{within}
 use Rattle.index_loader.specs.Index.{Loaded}
 use Rattle.encoders.specs.ShiftJis.{minus_folded}
 use Rattle.encoders.specs.Stateless.{ascii_or, one, two}

@@ -1,6 +1,6 @@
 -- Shift_JIS (Encoding Standard, "Shift_JIS encoder" and "index Shift_JIS pointer").
 use Rattle.std.specs.Prelude.{ℕ, ◌+◌, ◌-◌, ◌/◌, ◌%◌, ◌==◌, not, nat_lt, List, filter, Option, Some, option_map, if◌then◌else◌}
-use Rattle.decoder_core.specs.Utf8.{within}
+use Rattle.decoder_core.specs.Forms.{within}
 use Rattle.index_loader.specs.Index.{Loaded, pointers_of}
 use Rattle.index_loader.specs.Pairs.{least}
 use Rattle.encoders.specs.Stateless.{ascii_or, one, two}

@@ -1,6 +1,6 @@
 -- Single-byte encodings (Encoding Standard, "single-byte encoder"), and x-user-defined ("x-user-defined encoder").
 use Rattle.std.specs.Prelude.{ℕ, ◌+◌, ◌-◌, List, Option, Some, None, option_map, if◌then◌else◌}
-use Rattle.decoder_core.specs.Utf8.{within}
+use Rattle.decoder_core.specs.Forms.{within}
 use Rattle.index_loader.specs.Index.{Loaded, pointer_of}
 use Rattle.encoders.specs.Stateless.{ascii_or, one}
 

@@ -1,7 +1,7 @@
 -- The ISO-2022-JP encoder (Encoding Standard, "ISO-2022-JP encoder").
 use Rattle.std.specs.Prelude.{ℕ, ◌+◌, ◌-◌, ◌/◌, ◌%◌, ◌==◌, ◌||◌, ◌&&◌, Bool, true, false, not, List, [], ◌∷◌, ◌++◌, Option, Some, None, option_and_then, Result, Ok, Err, if◌then◌else◌}
 use Rattle.decoder_core.specs.Forms.{is_ascii}
-use Rattle.decoder_core.specs.Utf8.{within}
+use Rattle.decoder_core.specs.Forms.{within}
 use Rattle.index_loader.specs.Index.{Loaded, code_point_of}
 use Rattle.index_loader.specs.Files.{Files, index_of}
 use Rattle.index_loader.specs.declared.kind.IndexKind.TheVariants.{Jis0208 as jis0208_kind, Katakana as katakana_kind}
