@@ -1,5 +1,6 @@
 pub mod ByCodePointLemmas
 pub mod Digits
+pub mod Exclusion
 pub mod FileLawLemmas
 pub mod IndexLemmas
 pub mod KindPlaces

@@ -1,0 +1,4 @@
+pub mod Driving
+pub mod Filling
+pub mod PlainRuns
+pub mod Restoring

@@ -1,0 +1,12 @@
+pub mod Big5
+pub mod Encode
+pub mod EucJp
+pub mod EucKr
+pub mod Found
+pub mod Gb18030
+pub mod ShiftJis
+pub mod SingleByte
+pub mod Stateless
+pub mod StatelessLaws
+pub mod Steps
+pub mod Utf16

@@ -1,0 +1,96 @@
+//! The Big5 encoder.
+ghost use Rattle.std.specs.Prelude.{◌≡◌, ◌≤◌, IfSome};
+ghost use Rattle.decoder_core.specs.Few.{bytes_of};
+ghost use Rattle.index_loader.specs.Table.{pointer_limit};
+ghost use Rattle.encoders.specs.Big5.{big5_bytes, big5_pair, big5_pointer, takes_last};
+
+use crate::stateless::Stateless;
+use decoder_core::Few;
+use enc_names::Scalar;
+use index_loader::{Index, pointer_exclusion};
+use std::marker::Model;
+
+/// The least pointer that is written: those below are the Hong Kong supplement's.
+const LEAST_POINTER: u32 = 5024;
+
+/// Whether the last pointer of a code point is taken.
+fn takes_last(code_point: char) -> bool
+    ensures { result ≡ takes_last code_point }
+{
+    matches!(
+        u32::from(code_point),
+        0x2550 | 0x255E | 0x2561 | 0x256A | 0x5341 | 0x5345
+    )
+}
+
+/// The pointer of a code point that is written (Encoding Standard, "index Big5 pointer").
+fn big5_pointer(index: &Index, code_point: char) -> Option<u32>
+    ensures value { result ≡ big5_pointer index.now code_point }
+    ensures bound { IfSome result (λ p. p ≤ pointer_limit index.now.kind) }
+{
+    if !takes_last(code_point) {
+        return index.pointer_from(Scalar::from(code_point), LEAST_POINTER);
+    }
+    pointer_exclusion();
+    let pointer = index.last_pointer(Scalar::from(code_point))?;
+    if pointer < LEAST_POINTER {
+        None
+    } else {
+        Some(pointer)
+    }
+}
+
+/// The two bytes of a pointer.
+fn big5_pair(pointer: u32) -> Few
+    requires { pointer ≤ 19781 }
+    ensures { bytes_of result ≡ big5_pair pointer }
+{
+    let lead = (pointer / 157) as u8 + 0x81;
+    let trail = (pointer % 157) as u8;
+    let offset = if trail < 0x3F { 0x40 } else { 0x62 };
+    Few::Two(lead, trail + offset)
+}
+
+/// The Big5 encoder, which borrows its index. Contracts see the index.
+#[derive(Drop)]
+pub(crate) struct Big5Encoder<'i> {
+    index: &'i Index,
+}
+
+impl<'i> Model for Big5Encoder<'i> {
+    ghost use Rattle.std.specs.Prelude.{◌≡◌};
+    ghost use Rattle.index_loader.specs.Index.{Loaded};
+    ghost use Rattle.index_loader.specs.Table.{pointer_limit};
+
+    ghost Value = { Loaded };
+
+    ghost view = { λ e. e.index.now };
+
+    ghost invariant = { λ e. pointer_limit e.index.now.kind ≡ 19781 };
+}
+
+impl<'i> Big5Encoder<'i> {
+    /// The encoder over its index.
+    pub(crate) fn new(index: &'i Index) -> Big5Encoder<'i>
+        requires { pointer_limit index.now.kind ≡ 19781 }
+        ensures { result ≡ index.now }
+    {
+        Big5Encoder { index }
+    }
+}
+
+impl<'i> Stateless for Big5Encoder<'i> {
+    ghost use Rattle.encoders.specs.StatelessLaws.{by_ascii_or};
+
+    ghost encodes = { big5_bytes };
+
+    #[inline(always)]
+    fn bytes(&self, code_point: char) -> Option<Few> {
+        if code_point.is_ascii() {
+            return Some(Few::One(code_point as u8));
+        }
+        Some(big5_pair(big5_pointer(self.index, code_point)?))
+    }
+
+    ghost ascii = { λ e c is. by_ascii_or c is };
+}

@@ -1,0 +1,1 @@
+//! Worked examples, as equations over the definitions that computing them proves.

@@ -1,0 +1,39 @@
+//! Why a text isn't encoded.
+use iso2022jp::{FromFault, Unencodable};
+use std::alloc::AllocError;
+
+/// Why a text isn't encoded; where several stand, the first of them.
+#[derive(Clone, Copy, PartialEq, Eq, Debug)]
+pub enum EncodeFault {
+    /// An index file of the encoding isn't there.
+    NoIndex,
+    /// The encoding has no encoder: it is replacement.
+    NoEncoder,
+    /// A code point has no bytes, in mode `Fatal`.
+    Unencodable(Unencodable),
+    /// A growth of memory was refused, in place of any answer.
+    OutOfMemory,
+}
+
+impl From<AllocError> for EncodeFault {
+    ghost use Rattle.std.specs.Prelude.{◌≡◌};
+    ghost use Rattle.encoders.specs.declared.fault.EncodeFault.TheVariants.{OutOfMemory};
+    ghost from_gives = { λ value fault. fault ≡ OutOfMemory };
+
+    fn from(_: AllocError) -> EncodeFault {
+        EncodeFault::OutOfMemory
+    }
+}
+
+impl From<FromFault> for EncodeFault {
+    ghost use Rattle.std.specs.Prelude.{◌≡◌};
+    ghost use Rattle.encoders.specs.Encode.{from_fault};
+    ghost from_gives = { λ value fault. fault ≡ from_fault value };
+
+    fn from(fault: FromFault) -> EncodeFault {
+        match fault {
+            FromFault::Unencodable(unencodable) => EncodeFault::Unencodable(unencodable),
+            FromFault::OutOfMemory => EncodeFault::OutOfMemory,
+        }
+    }
+}

@@ -1,0 +1,25 @@
+//! Encoders of all encodings (Encoding Standard, "encode"): the bytes of a code point in each, over
+//! its indexes, and one call for them all.
+#![tactic(auto)]
+
+mod big5;
+mod dispatch;
+mod euc_jp;
+mod euc_kr;
+#[cfg(test)]
+mod examples;
+mod fault;
+mod gb18030;
+mod mode;
+mod shift_jis;
+mod single_byte;
+mod stateless;
+#[cfg(test)]
+mod tests;
+mod utf16;
+mod x_user_defined;
+
+pub use dispatch::encode;
+pub use fault::EncodeFault;
+pub use iso2022jp::Unencodable;
+pub use mode::EncodeMode;

@@ -1,0 +1,1 @@
+//! Texts in all encodings, over small index files.

@@ -1,0 +1,23 @@
+-- The bytes in front of a text that the encoder puts as they are in its state ASCII.
+use Rattle.std.proofs.Common.{◌≡◌, ℕ, ◌<◌, Bool, true, List, All, Option, get_or, take, length, ◌≤◌, rules, arith, subst, sym, ◌∙◌}
+use Rattle.std.proofs.lemmas.Bool.Decides.{nat_tests}
+use Rattle.std.proofs.lemmas.List.Folds.{length-prefix_len}
+use Rattle.std.proofs.lemmas.List.{get_or-take}
+use Rattle.std.proofs.lemmas.List.Sums.{prefix_len_passes, prefix_len-le-length}
+use Rattle.std.specs.List.{prefix_len}
+use Rattle.lane_ascii.specs.Runs.{is_plain, plain_len}
+use Rattle.iso2022jp.specs.declared.output.OutputState.TheVariants.{Ascii}
+use Rattle.iso2022jp.specs.EncoderSteps.{PutsItself}
+use Rattle.iso2022jp.specs.Iso2022JpEncoder.{iso_2022_jp_encoder}
+
+itself : (pointer : ℕ → Option ℕ) (b : ℕ) → is_plain b ≡ true → PutsItself (iso_2022_jp_encoder pointer) Ascii b
+itself pointer b plain = Prim.search (rules, nat_tests)
+
+pub plain_run : (pointer : ℕ → Option ℕ) (text : List ℕ) → All (PutsItself (iso_2022_jp_encoder pointer) Ascii) (take (plain_len text) text)
+plain_run pointer text = λ k d lt.
+    let below : k < plain_len text = rw (length-prefix_len is_plain text) at lt in
+    subst (PutsItself (iso_2022_jp_encoder pointer) Ascii) (sym (get_or-take (plain_len text) text k d below))
+    (itself pointer (get_or text k d) (prefix_len_passes is_plain text k d below))
+
+pub plain_within : (text : List ℕ) → plain_len text ≤ length text
+plain_within text = prefix_len-le-length is_plain text

@@ -1,0 +1,4 @@
+pub mod Masks
+pub mod Prefixes
+pub mod Swaps
+pub mod Widens

@@ -1,0 +1,11 @@
+-- Pairs of neighbours.
+use Rattle.std.specs.Prelude.{ℕ, List, ◌∷◌, ◌++◌, take, drop}
+
+-- neighbours swapped; an odd last one stays
+abbrev pub swapped : List ℕ → List ℕ
+swapped (a ∷ b ∷ rest) = b ∷ a ∷ swapped rest
+swapped rest = rest
+
+-- the same, behind the first n
+abbrev pub swapped_from : ℕ → List ℕ → List ℕ
+swapped_from n bytes = take n bytes ++ swapped (drop n bytes)

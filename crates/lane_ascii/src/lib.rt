@@ -1,0 +1,14 @@
+//! Lane-wise kernels over bytes. Each gives what its plain definition over the whole slice gives,
+//! and none takes memory.
+#![tactic(auto)]
+
+mod class;
+mod room;
+mod runs;
+mod swap;
+mod widening;
+
+pub use room::NeedsRoom;
+pub use runs::{ascii_run, plain_run_iso};
+pub use swap::swap_pairs;
+pub use widening::widen;
