@@ -4,6 +4,7 @@ mod DeskLaws
 mod DeskNames
 mod DeskSession
 mod DeskSteps
+mod EncodeSteps
 mod Devices
 mod LineEnds
 mod DroppedLines

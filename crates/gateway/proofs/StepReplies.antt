@@ -5,9 +5,9 @@ use Rattle.json.specs.Print.{escape_byte}
 use Rattle.serde_json.specs.Data.{Data}
 use Rattle.enc_names.specs.Labels.{LabelTable}
 use Rattle.index_loader.specs.Files.{Files}
-use Rattle.gateway.specs.declared.desk.fault.Fault.TheVariants.{BadBase64, NoDocument, NameTaken, UnknownLabel, NoIndex, TooManyDocuments, Stale, RevisionsSpent, OutOfRange, TooLarge, Malformed, OutOfMemory}
+use Rattle.gateway.specs.declared.desk.fault.Fault.TheVariants.{BadBase64, NoDocument, NameTaken, UnknownLabel, NoIndex, TooManyDocuments, Stale, RevisionsSpent, OutOfRange, NoEncoder, Unencodable, TooLarge, Malformed, OutOfMemory}
 use Rattle.gateway.specs.declared.desk.reply.Reply.{Reply}
-use Rattle.gateway.specs.declared.desk.reply.Reply.TheVariants.{Edited, Text, Errors, Refused}
+use Rattle.gateway.specs.declared.desk.reply.Reply.TheVariants.{Edited, Text, Bytes, Errors, Refused}
 use Rattle.gateway.specs.declared.request.refusal.Refusal.{Refusal}
 use Rattle.gateway.specs.declared.request.refusal.Refusal.TheVariants as refusal
 use Rattle.gateway.specs.Commands.{Asked}
@@ -36,6 +36,7 @@ pub texts_apart : (id : ℕ) (reply : Reply) → IsApart id reply
 unfolding escape_byte
 texts_apart id (Edited bom encoding rev) = refl
 texts_apart id (Text rev text) = refl
+texts_apart id (Bytes rev bytes) = refl
 texts_apart id (Errors rev total places) = refl
 texts_apart id (Refused OutOfMemory) = tt
 texts_apart id (Refused BadBase64) = refl
@@ -47,6 +48,8 @@ texts_apart id (Refused TooManyDocuments) = refl
 texts_apart id (Refused (Stale rev)) = refl
 texts_apart id (Refused RevisionsSpent) = refl
 texts_apart id (Refused OutOfRange) = refl
+texts_apart id (Refused NoEncoder) = refl
+texts_apart id (Refused (Unencodable code_point index)) = refl
 texts_apart id (Refused TooLarge) = refl
 texts_apart id (Refused (Malformed place)) = refl
 
@@ -84,6 +87,8 @@ unwritten_same : (old new : Office) (command : Asked) (reply : Reply) → is_sho
 unwritten_same old new command (Edited bom encoding rev) long is = cc
 unwritten_same old new command (Refused fault) long is = cc
 unwritten_same old new command (Text rev text) long is =
+    sym (ap (λ o. o.documents) is) ∙ only_edits_change old command (ap (λ o. is_edited o.reply) is)
+unwritten_same old new command (Bytes rev bytes) long is =
     sym (ap (λ o. o.documents) is) ∙ only_edits_change old command (ap (λ o. is_edited o.reply) is)
 unwritten_same old new command (Errors rev total places) long is =
     sym (ap (λ o. o.documents) is) ∙ only_edits_change old command (ap (λ o. is_edited o.reply) is)

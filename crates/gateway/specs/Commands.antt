@@ -1,7 +1,8 @@
 -- The commands: what a client asks of the desk. Texts are lists of UTF-8 bytes.
 use Rattle.std.specs.Prelude.{ℕ, List, ◌≡◌, Vec, Option, Some, None, Result, Ok, Err}
+use Rattle.encoders.specs.declared.mode.EncodeMode.{EncodeMode}
 use Rattle.gateway.specs.declared.desk.command.Command.{Command}
-use Rattle.gateway.specs.declared.desk.command.Command.TheVariants.{Open, Splice, Text, Errors}
+use Rattle.gateway.specs.declared.desk.command.Command.TheVariants.{Open, Splice, Text, Source, Encode, Errors}
 use Rattle.gateway.specs.declared.desk.text_mode.TextMode.{TextMode}
 use Rattle.std.specs.Result.{result_ok}
 use Rattle.std.specs.declared.alloc.Global.{Global}
@@ -17,6 +18,10 @@ pub data Asked : Type 0 where
   Splices : List ℕ → ℕ → ℕ → ℕ → List ℕ → Asked
   -- doc from to mode
   Reads : List ℕ → ℕ → ℕ → TextMode → Asked
+  -- doc at len
+  ReadsBytes : List ℕ → ℕ → ℕ → Asked
+  -- doc from to label mode
+  Encodes : List ℕ → ℕ → ℕ → List ℕ → EncodeMode → Asked
   -- doc from max
   ListsErrors : List ℕ → ℕ → ℕ → Asked
 
@@ -24,6 +29,8 @@ abbrev pub asked : Command → Asked
 asked (Open doc label bytes) = Opens doc.now label.now bytes.now
 asked (Splice doc rev at del bytes) = Splices doc.now rev at del bytes.now
 asked (Text doc from to mode) = Reads doc.now from to mode
+asked (Source doc at len) = ReadsBytes doc.now at len
+asked (Encode doc from to label mode) = Encodes doc.now from to label.now mode
 asked (Errors doc from max) = ListsErrors doc.now from max
 
 -- ---- bytes in base64

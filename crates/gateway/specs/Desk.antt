@@ -6,8 +6,9 @@ use Rattle.enc_names.specs.Labels.{LabelTable, lookup_in}
 use Rattle.index_loader.specs.Files.{Files}
 use Rattle.piece_rope.specs.Decode.{is_decoded}
 use Rattle.piece_rope.specs.Edits.{open_fault}
-use Rattle.gateway.specs.Commands.{Asked, Opens, Splices, Reads, ListsErrors, base64_bytes}
-use Rattle.gateway.specs.Documents.{Entry, Names, fresh, unless, edited, edit_reply, text_reply, errors_reply}
+use Rattle.encoders.specs.declared.mode.EncodeMode.{EncodeMode}
+use Rattle.gateway.specs.Commands.{Asked, Opens, Splices, Reads, ReadsBytes, Encodes, ListsErrors, base64_bytes}
+use Rattle.gateway.specs.Documents.{Entry, Names, fresh, unless, edited, edit_reply, text_reply, source_reply, encode_reply, errors_reply}
 use Rattle.gateway.specs.declared.desk.fault.Fault.{Fault}
 use Rattle.gateway.specs.declared.desk.fault.Fault.TheVariants.{BadBase64, NoDocument, NameTaken, UnknownLabel, NoIndex, TooManyDocuments, OutOfMemory}
 use Rattle.gateway.specs.declared.desk.reply.Reply.{Reply}
@@ -84,6 +85,19 @@ abbrev pub text_outcome_at : Files → Names → ℕ → ℕ → TextMode → Op
 text_outcome_at indexes documents from to mode None = refused documents NoDocument
 text_outcome_at indexes documents from to mode (Some h) = replied documents (text_reply indexes h from to mode)
 
+abbrev pub source_outcome_at : Names → ℕ → ℕ → Option Entry → Outcome
+source_outcome_at documents at len None = refused documents NoDocument
+source_outcome_at documents at len (Some h) = replied documents (source_reply h at len)
+
+-- the label may name an encoding
+abbrev pub encode_outcome_as : Files → Names → ℕ → ℕ → EncodeMode → Entry → Option Encoding → Outcome
+encode_outcome_as indexes documents from to mode h None = refused documents UnknownLabel
+encode_outcome_as indexes documents from to mode h (Some target) = replied documents (encode_reply indexes h from to target mode)
+
+abbrev pub encode_outcome_at : Office → ℕ → ℕ → List ℕ → EncodeMode → Option Entry → Outcome
+encode_outcome_at o from to label mode None = refused o.documents NoDocument
+encode_outcome_at o from to label mode (Some h) = encode_outcome_as o.indexes o.documents from to mode h (lookup_in o.labels label)
+
 abbrev pub errors_outcome_at : Files → Names → ℕ → ℕ → Option Entry → Outcome
 errors_outcome_at indexes documents from max None = refused documents NoDocument
 errors_outcome_at indexes documents from max (Some h) = replied documents (errors_reply indexes h from max)
@@ -93,6 +107,8 @@ abbrev pub answer_of : Office → Asked → Outcome
 answer_of o (Opens doc label bytes) = open_outcome o doc label (base64_bytes bytes)
 answer_of o (Splices doc rev at del bytes) = splice_outcome o doc rev at del (base64_bytes bytes)
 answer_of o (Reads doc from to mode) = text_outcome_at o.indexes o.documents from to mode (get o.documents doc)
+answer_of o (ReadsBytes doc at len) = source_outcome_at o.documents at len (get o.documents doc)
+answer_of o (Encodes doc from to label mode) = encode_outcome_at o from to label mode (get o.documents doc)
 answer_of o (ListsErrors doc from max) = errors_outcome_at o.indexes o.documents from max (get o.documents doc)
 
 -- ---- one step

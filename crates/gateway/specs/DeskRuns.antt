@@ -9,13 +9,14 @@ use Rattle.gateway.specs.Desk.{Office, answer_of}
 use Rattle.gateway.specs.declared.desk.fault.Fault.{Fault}
 use Rattle.gateway.specs.declared.desk.fault.Fault.TheVariants.{OutOfRange, OutOfMemory}
 use Rattle.gateway.specs.declared.desk.reply.Reply.{Reply}
-use Rattle.gateway.specs.declared.desk.reply.Reply.TheVariants.{Edited, Text, Errors, Refused}
+use Rattle.gateway.specs.declared.desk.reply.Reply.TheVariants.{Edited, Text, Bytes, Errors, Refused}
 use Rattle.gateway.specs.declared.desk.text_mode.TextMode.TheVariants.{Replacement}
 
 -- the reply accepts an open or an edit
 abbrev pub is_edited : Reply → Bool
 is_edited (Edited bom encoding rev) = true
 is_edited (Text rev text) = false
+is_edited (Bytes rev bytes) = false
 is_edited (Errors rev total places) = false
 is_edited (Refused fault) = false
 

@@ -5,16 +5,20 @@ use Rattle.std.specs.Cmp.Lexicographic.{slice_cmp}
 use Rattle.std.specs.FinMap.{FinMap}
 use Rattle.enc_names.specs.declared.encoding.Encoding.{Encoding}
 use Rattle.enc_names.specs.declared.place.Place.{Place}
-use Rattle.index_loader.specs.Files.{Files}
+use Rattle.index_loader.specs.Files.{Files, has_files}
+use Rattle.encoders.specs.declared.fault.EncodeFault.{EncodeFault}
+use Rattle.encoders.specs.declared.fault.EncodeFault.TheVariants as encoder
+use Rattle.encoders.specs.declared.mode.EncodeMode.{EncodeMode}
+use Rattle.encoders.specs.Encode.{encoded}
 use Rattle.piece_rope.specs.declared.fault.DocFault.{DocFault}
 use Rattle.piece_rope.specs.declared.fault.DocFault.TheVariants as cause
 use Rattle.std.specs.Str.{encode_utf8_all}
 use Rattle.piece_rope.specs.Document.{Document, decoded, text_of, errors_of, first_error}
-use Rattle.piece_rope.specs.Edits.{spliced, splice_fault, text_fault, errors_fault}
+use Rattle.piece_rope.specs.Edits.{spliced, splice_fault, source_fault, text_fault, errors_fault}
 use Rattle.gateway.specs.declared.desk.fault.Fault.{Fault}
-use Rattle.gateway.specs.declared.desk.fault.Fault.TheVariants.{NoIndex, Stale, RevisionsSpent, OutOfRange, TooLarge, Malformed, OutOfMemory}
+use Rattle.gateway.specs.declared.desk.fault.Fault.TheVariants.{NoIndex, Stale, RevisionsSpent, OutOfRange, NoEncoder, Unencodable, TooLarge, Malformed, OutOfMemory}
 use Rattle.gateway.specs.declared.desk.reply.Reply.{Reply}
-use Rattle.gateway.specs.declared.desk.reply.Reply.TheVariants.{Edited, Text, Errors}
+use Rattle.gateway.specs.declared.desk.reply.Reply.TheVariants.{Edited, Text, Bytes, Errors}
 use Rattle.gateway.specs.declared.desk.text_mode.TextMode.{TextMode}
 use Rattle.gateway.specs.declared.desk.text_mode.TextMode.TheVariants.{Fatal}
 
@@ -83,6 +87,30 @@ abbrev pub text_reply : Files → Entry → ℕ → ℕ → TextMode → Result 
 text_reply indexes h from to mode =
     let d = document_of indexes h in
     in_mode mode (first_error d) (unless (text_fault d from to) (Text h.revision (encode_utf8_all (take (to - from) (drop from (text_of d))))))
+
+-- the len bytes from `at` on
+abbrev pub source_reply : Entry → ℕ → ℕ → Result Reply Fault
+source_reply h at len = unless (source_fault h.bytes at len) (Bytes h.revision (take len (drop at h.bytes)))
+
+-- the reply with encoded bytes, or the encoder's cause; memory is no cause that a definition has
+abbrev pub bytes_reply : ℕ → Result (List ℕ) EncodeFault → Result Reply Fault
+bytes_reply rev (Ok bytes) = Ok (Bytes rev bytes)
+bytes_reply rev (Err encoder.NoIndex) = Err NoIndex
+bytes_reply rev (Err (encoder.Unencodable e)) = Err (Unencodable e.code_point e.index)
+bytes_reply rev (Err cause) = Err NoEncoder
+
+-- an answer, unless there is a fault
+abbrev pub unless_fault : {A : Type 0} → Option DocFault → Result A Fault → Result A Fault
+unless_fault None answer = answer
+unless_fault (Some fault) answer = Err (fault_of fault)
+
+-- the code points from..to, encoded from scratch (Encoding Standard, "encode")
+abbrev pub encode_reply : Files → Entry → ℕ → ℕ → Encoding → EncodeMode → Result Reply Fault
+encode_reply indexes h from to target mode =
+    let d = document_of indexes h in
+    if has_files indexes target
+    then unless_fault (text_fault d from to) (bytes_reply h.revision (encoded indexes target mode (take (to - from) (drop from (text_of d)))))
+    else Err NoIndex
 
 -- at most max places of errors, the first being number `from`
 abbrev pub errors_reply : Files → Entry → ℕ → ℕ → Result Reply Fault

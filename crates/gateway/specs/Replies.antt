@@ -2,13 +2,15 @@
 use Rattle.std.specs.Prelude.{◌≡◌, ◌≤◌, ℕ, length, List, [], ◌∷◌, ◌++◌, Bool, true, false, codes, Option, Some, None}
 use Rattle.serde_json.specs.Data.{Data, number, string, array, object, unsigned, Items, no_items, item, Members, no_members, member}
 use Rattle.serde_json.specs.Written.{compact_text}
+use Rattle.base64.specs.Engines.{standard}
+use Rattle.base64.specs.GeneralPurpose.{encode_of}
 use Rattle.enc_names.specs.Names.{name_of}
 use Rattle.enc_names.specs.declared.encoding.Encoding.{Encoding}
 use Rattle.enc_names.specs.declared.place.Place.{Place}
 use Rattle.gateway.specs.declared.desk.fault.Fault.{Fault}
-use Rattle.gateway.specs.declared.desk.fault.Fault.TheVariants.{BadBase64, NoDocument, NameTaken, UnknownLabel, NoIndex, TooManyDocuments, Stale, RevisionsSpent, OutOfRange, TooLarge, Malformed, OutOfMemory}
+use Rattle.gateway.specs.declared.desk.fault.Fault.TheVariants.{BadBase64, NoDocument, NameTaken, UnknownLabel, NoIndex, TooManyDocuments, Stale, RevisionsSpent, OutOfRange, NoEncoder, Unencodable, TooLarge, Malformed, OutOfMemory}
 use Rattle.gateway.specs.declared.desk.reply.Reply.{Reply}
-use Rattle.gateway.specs.declared.desk.reply.Reply.TheVariants.{Edited, Text, Errors, Refused}
+use Rattle.gateway.specs.declared.desk.reply.Reply.TheVariants.{Edited, Text, Bytes, Errors, Refused}
 use Rattle.gateway.specs.declared.request.field.Field.{Field}
 use Rattle.gateway.specs.declared.request.field.Field.TheVariants as field
 use Rattle.gateway.specs.declared.request.refusal.Refusal.{Refusal}
@@ -26,6 +28,8 @@ fault_name TooManyDocuments = codes "TooManyDocuments"
 fault_name (Stale rev) = codes "Stale"
 fault_name RevisionsSpent = codes "RevisionsSpent"
 fault_name OutOfRange = codes "OutOfRange"
+fault_name NoEncoder = codes "NoEncoder"
+fault_name (Unencodable code_point index) = codes "Unencodable"
 fault_name TooLarge = codes "TooLarge"
 fault_name (Malformed place) = codes "Malformed"
 fault_name OutOfMemory = codes "OutOfMemory"
@@ -40,6 +44,7 @@ field_name field.Bytes = codes "bytes"
 field_name field.Rev = codes "rev"
 field_name field.At = codes "at"
 field_name field.Del = codes "del"
+field_name field.Len = codes "len"
 field_name field.From = codes "from"
 field_name field.To = codes "to"
 field_name field.Mode = codes "mode"
@@ -65,6 +70,13 @@ edited_data id bom encoding rev =
 abbrev pub text_data : ℕ → ℕ → List ℕ → Data
 text_data id rev text = object (member (codes "id") (whole id) (member (codes "rev") (whole rev) (member (codes "text") (string text) no_members)))
 
+abbrev pub base64_data : ℕ → ℕ → List ℕ → Data
+base64_data id rev text = object (member (codes "bytes") (string text) (member (codes "id") (whole id) (member (codes "rev") (whole rev) no_members)))
+
+-- bytes in base64 (RFC 4648, section 4)
+abbrev pub bytes_data : ℕ → ℕ → List ℕ → Data
+bytes_data id rev bytes = base64_data id rev (encode_of standard bytes)
+
 abbrev pub errors_data : ℕ → ℕ → ℕ → List Place → Data
 errors_data id rev total places =
     object (member (codes "errors") (array (places_data places)) (member (codes "id") (whole id)
@@ -80,6 +92,11 @@ fault_with_id_data name id = object (member (codes "fault") (string name) (membe
 abbrev pub stale_data : ℕ → ℕ → Data
 stale_data id rev = object (member (codes "fault") (string (codes "Stale")) (member (codes "id") (whole id) (member (codes "rev") (whole rev) no_members)))
 
+abbrev pub unencodable_data : ℕ → ℕ → ℕ → Data
+unencodable_data id code_point index =
+    object (member (codes "code_point") (whole code_point) (member (codes "fault") (string (codes "Unencodable"))
+    (member (codes "id") (whole id) (member (codes "index") (whole index) no_members))))
+
 abbrev pub malformed_data : ℕ → Place → Data
 malformed_data id place =
     object (member (codes "fault") (string (codes "Malformed")) (member (codes "id") (whole id) (member (codes "place") (place_data place) no_members)))
@@ -87,6 +104,7 @@ malformed_data id place =
 -- That memory ran out is reported without a number.
 abbrev pub fault_data : ℕ → Fault → Data
 fault_data id (Stale rev) = stale_data id rev
+fault_data id (Unencodable code_point index) = unencodable_data id code_point index
 fault_data id (Malformed place) = malformed_data id place
 fault_data id OutOfMemory = bare_data (codes "OutOfMemory")
 fault_data id f = fault_with_id_data (fault_name f) id
@@ -95,6 +113,7 @@ fault_data id f = fault_with_id_data (fault_name f) id
 abbrev pub reply_data : ℕ → Reply → Data
 reply_data id (Edited bom encoding rev) = edited_data id bom encoding rev
 reply_data id (Text rev text) = text_data id rev text
+reply_data id (Bytes rev bytes) = bytes_data id rev bytes
 reply_data id (Errors rev total places) = errors_data id rev total places
 reply_data id (Refused f) = fault_data id f
 
@@ -141,5 +160,6 @@ memory_text = line_of (bare_data (codes "OutOfMemory"))
 abbrev pub is_short : Reply → Bool
 is_short (Edited bom encoding rev) = true
 is_short (Text rev text) = false
+is_short (Bytes rev bytes) = false
 is_short (Errors rev total places) = false
 is_short (Refused f) = true

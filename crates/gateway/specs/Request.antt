@@ -7,8 +7,10 @@ use Rattle.serde_json.specs.Read.{read}
 use Rattle.serde_json.specs.Find.{get, as_number, as_u64, as_str, as_object}
 use Rattle.serde_json.specs.View.{view}
 use Rattle.serde_json.specs.declared.value.Value.{Value}
-use Rattle.gateway.specs.Commands.{Asked, Opens, Splices, Reads, ListsErrors, asked}
+use Rattle.gateway.specs.Commands.{Asked, Opens, Splices, Reads, ReadsBytes, Encodes, ListsErrors, asked}
 use Rattle.gateway.specs.declared.desk.command.Command.{Command}
+use Rattle.encoders.specs.declared.mode.EncodeMode.{EncodeMode}
+use Rattle.encoders.specs.declared.mode.EncodeMode.TheVariants as encode_mode
 use Rattle.gateway.specs.declared.desk.text_mode.TextMode.{TextMode}
 use Rattle.gateway.specs.declared.desk.text_mode.TextMode.TheVariants.{Replacement, Fatal}
 use Rattle.gateway.specs.declared.request.field.Field.{Field}
@@ -72,6 +74,19 @@ or_replacement (Some d) = option_and_then as_text_mode (as_str d)
 abbrev pub text_mode_at : Data → Option TextMode
 text_mode_at d = or_replacement (get (codes "mode") d)
 
+abbrev pub as_encode_mode : List ℕ → Option EncodeMode
+as_encode_mode text =
+    if bytes_eq text (codes "fatal") then Some encode_mode.Fatal
+    else (if bytes_eq text (codes "html") then Some encode_mode.Html else None)
+
+abbrev pub or_fatal : Option Data → Option EncodeMode
+or_fatal None = Some encode_mode.Fatal
+or_fatal (Some d) = option_and_then as_encode_mode (as_str d)
+
+-- the mode of an encoding, which is `fatal` where it is absent
+abbrev pub encode_mode_at : Data → Option EncodeMode
+encode_mode_at d = or_fatal (get (codes "mode") d)
+
 -- ---- the fields of each command, in the order of their checks
 
 abbrev pub open_command : Data → Result Asked Field
@@ -98,6 +113,22 @@ text_command d = do
   mode ← need field.Mode (text_mode_at d)
   Ok (Reads doc from to mode)
 
+abbrev pub source_command : Data → Result Asked Field
+source_command d = do
+  doc ← need field.Doc (name_at d)
+  at ← need field.At (number_at d (codes "at") max_number)
+  len ← need field.Len (number_at d (codes "len") max_number)
+  Ok (ReadsBytes doc at len)
+
+abbrev pub encode_command : Data → Result Asked Field
+encode_command d = do
+  doc ← need field.Doc (name_at d)
+  from ← need field.From (number_at d (codes "from") max_number)
+  to ← need field.To (number_at d (codes "to") max_number)
+  label ← need field.Label (text_at d (codes "label"))
+  mode ← need field.Mode (encode_mode_at d)
+  Ok (Encodes doc from to label mode)
+
 abbrev pub errors_command : Data → Result Asked Field
 errors_command d = do
   doc ← need field.Doc (name_at d)
@@ -114,8 +145,10 @@ command_of d id op =
     if bytes_eq op (codes "open") then with_id id (open_command d)
     else (if bytes_eq op (codes "splice") then with_id id (splice_command d)
     else (if bytes_eq op (codes "text") then with_id id (text_command d)
+    else (if bytes_eq op (codes "source") then with_id id (source_command d)
+    else (if bytes_eq op (codes "encode") then with_id id (encode_command d)
     else (if bytes_eq op (codes "errors") then with_id id (errors_command d)
-    else Err (UnknownOp id))))
+    else Err (UnknownOp id))))))
 
 -- the request in an object: its number and its command
 abbrev pub request_of : Data → Result (ℕ × Asked) Refusal

@@ -1,11 +1,12 @@
 //! The desk: names of documents, their revisions, and one reply to each command.
 ghost use Rattle.std.specs.Prelude.{◌≡◌, Ok};
 ghost use Rattle.std.specs.FinMap as map;
-ghost use Rattle.gateway.specs.Commands.{asked, Opens, Splices, Reads, ListsErrors};
+ghost use Rattle.gateway.specs.Commands.{asked, Opens, Splices, Reads, ReadsBytes, Encodes, ListsErrors};
 ghost use Rattle.gateway.specs.Desk.{Answers, reply_of};
 
 use decoder_core::OutOfMemory;
 use enc_names::Labels;
+use encoders::EncodeMode;
 use index_loader::Indexes;
 use std::alloc::Global;
 use std::marker::Model;
@@ -27,7 +28,7 @@ pub use command::Command;
 use documents::Documents;
 pub use fault::Fault;
 pub use laws::refusals_change_nothing;
-pub use reply::{Reply, ReplyPlaces, ReplyText};
+pub use reply::{Reply, ReplyBytes, ReplyPlaces, ReplyText};
 pub use text_mode::TextMode;
 
 /// Named documents, beside the labels and the index files by which they are opened. Contracts
@@ -83,6 +84,14 @@ impl<'i> Desk<'i> {
                 to,
                 mode,
             } => self.text(doc, from, to, mode),
+            Command::Source { doc, at, len } => self.source(doc, at, len),
+            Command::Encode {
+                doc,
+                from,
+                to,
+                label,
+                mode,
+            } => self.encode(doc, from, to, label, mode),
             Command::Errors { doc, from, max } => self.errors(doc, from, max),
         };
         match answer {
@@ -127,6 +136,36 @@ impl<'i> Desk<'i> {
         match self.documents.get(doc) {
             Some(found) => found.text(from, to, mode),
             None => Err(Fault::NoDocument),
+        }
+    }
+
+    /// The `len` bytes of a document from `at` on.
+    fn source(&self, doc: &str, at: u64, len: u64) -> Result<Reply, Fault>
+        ensures { Answers self.now (ReadsBytes doc.now at len) (reply_of result) self.now }
+    {
+        match self.documents.get(doc) {
+            Some(open) => open.source(at, len),
+            None => Err(Fault::NoDocument),
+        }
+    }
+
+    /// The code points `from..to` of a document in the encoding that a label names.
+    fn encode(
+        &self,
+        doc: &str,
+        from: u64,
+        to: u64,
+        label: &str,
+        mode: EncodeMode,
+    ) -> Result<Reply, Fault>
+        ensures { Answers self.now (Encodes doc.now from to label.now mode) (reply_of result) self.now }
+    {
+        let Some(open) = self.documents.get(doc) else {
+            return Err(Fault::NoDocument);
+        };
+        match self.labels.lookup(label.as_bytes()) {
+            Some(target) => open.encode(self.alloc, from, to, target, mode),
+            None => Err(Fault::UnknownLabel),
         }
     }
 

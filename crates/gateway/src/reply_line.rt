@@ -72,6 +72,12 @@ impl ReplyLine {
                     storage: Storage::Allocated(bytes),
                 })
             }
+            Reply::Bytes { rev, bytes } => {
+                let bytes = long::bytes(alloc, id, *rev, bytes.as_slice())?;
+                Ok(ReplyLine {
+                    storage: Storage::Allocated(bytes),
+                })
+            }
             Reply::Errors { rev, total, places } => {
                 let bytes = long::errors(alloc, id, *rev, *total, places.as_slice())?;
                 Ok(ReplyLine {

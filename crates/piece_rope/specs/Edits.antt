@@ -30,6 +30,9 @@ splice_fault bytes at del ins =
     then (if nat_le (length (spliced bytes at del ins)) document_limit then None else Some TooLarge)
     else Some OutOfRange
 
+unfoldable pub source_fault : List ℕ → ℕ → ℕ → Option DocFault
+source_fault bytes at len = if nat_le (at + len) (length bytes) then None else Some OutOfRange
+
 unfoldable pub text_fault : Document → ℕ → ℕ → Option DocFault
 text_fault d i j = if nat_le i j && nat_le j (length (text_of d)) then None else Some OutOfRange
 

@@ -1,9 +1,9 @@
 //! Documents.
 ghost use Rattle.std.specs.Prelude.{◌≡◌, ◌≢◌, ◌+◌, ◌-◌, ◌^◌, ◌≤◌, min, length, take, drop, None, IfOk, OnOk, OnErr, string_bytes};
-ghost use Rattle.std.specs.Str.{encode_utf8_all};
+ghost use Rattle.std.specs.Str.{chars, encode_utf8_all};
 
 use crate::fault::DocFault;
-use crate::limits::{DOCUMENT_LIMIT, checked_cut};
+use crate::limits::{DOCUMENT_LIMIT, checked_cut, checked_part};
 use crate::scalars::scalars_between;
 use crate::spliced::spliced_bytes;
 use codec::{AnyDecoder, Decoding, decode_any, sniff};
@@ -39,7 +39,7 @@ impl<'i> Model for Doc<'i> {
 impl<'i> Doc<'i> {
     ghost use Rattle.codec.specs.Mark.{mark_length};
     ghost use Rattle.piece_rope.specs.Document.{text_of, errors_of, first_error, decoded};
-    ghost use Rattle.piece_rope.specs.Edits.{Faults, spliced, spliced_document, open_fault, splice_fault, text_fault, errors_fault};
+    ghost use Rattle.piece_rope.specs.Edits.{Faults, spliced, spliced_document, open_fault, splice_fault, source_fault, text_fault, errors_fault};
 
     /// A document of these bytes, in the encoding given where no byte order mark puts another in
     /// force. Refused with `NoIndex` where an index file of the encoding given isn't there, then
@@ -107,11 +107,22 @@ impl<'i> Doc<'i> {
     #[tactic(auto, unfolding(crate::specs::Edits::text_fault))]
     pub fn text(&self, i: u64, j: u64) -> Result<String, DocFault>
         ensures ok { IfOk result (λ text. string_bytes text ≡ encode_utf8_all (take (j - i) (drop i (text_of self.now)))) }
+        ensures chars { IfOk result (λ text. chars (string_bytes text) ≡ take (j - i) (drop i (text_of self.now))) }
         ensures faults { Faults (text_fault self.now i j) result }
     {
         let text = &self.decoding.text;
         let part = scalars_between(text.as_str(), i, j).ok_or(DocFault::OutOfRange)?;
         Ok(String::from_str(*text.allocator(), part)?)
+    }
+
+    /// The `len` bytes from `at` on, as they are in the document. Refused with `OutOfRange` where
+    /// they aren't all there.
+    pub fn source(&self, at: u64, len: u64) -> Result<Vec<u8>, DocFault>
+        ensures ok { IfOk result (λ bytes. bytes.items ≡ take len (drop at self.now.bytes)) }
+        ensures faults { Faults (source_fault self.now.bytes at len) result }
+    {
+        let part = checked_part(&self.bytes, at, len)?;
+        Ok(Vec::from_slice(*self.bytes.allocator(), part)?)
     }
 
     /// The places of the errors from number `from` on, at most `max` of them. Refused with

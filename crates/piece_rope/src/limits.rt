@@ -1,6 +1,6 @@
 //! What a document's bytes may be.
-ghost use Rattle.std.specs.Prelude.{◌≡◌, ◌+◌, ◌≤◌, length, IfOk, OnOk};
-ghost use Rattle.piece_rope.specs.Edits.{Faults, document_limit, splice_fault, spliced};
+ghost use Rattle.std.specs.Prelude.{◌≡◌, ◌+◌, ◌≤◌, length, take, drop, IfOk, OnOk};
+ghost use Rattle.piece_rope.specs.Edits.{Faults, document_limit, source_fault, splice_fault, spliced};
 
 use crate::fault::DocFault;
 
@@ -31,4 +31,17 @@ pub(crate) fn checked_cut(
         return Err(DocFault::TooLarge);
     }
     Ok((at as usize, del as usize))
+}
+
+/// The `len` bytes from `at` on. Refused with `OutOfRange` where they aren't all there.
+#[tactic(auto, unfolding(crate::specs::Edits::source_fault))]
+pub(crate) fn checked_part(bytes: &[u8], at: u64, len: u64) -> Result<&[u8], DocFault>
+    ensures ok { IfOk result (λ part. part.now ≡ take len (drop at bytes.now)) }
+    ensures faults { Faults (source_fault bytes.now at len) result }
+{
+    let end = at.checked_add(len).ok_or(DocFault::OutOfRange)?;
+    if end > bytes.len() as u64 {
+        return Err(DocFault::OutOfRange);
+    }
+    Ok(&bytes[at as usize..end as usize])
 }

@@ -34,6 +34,7 @@ fn offset_of(text: &str, n: u64) -> Option<usize>
 fn split_at_scalar(text: &str, n: u64) -> Option<(&str, &str)>
     ensures variant { is_some result ≡ nat_le n (length (chars text.now)) }
     ensures front { IfSome result (λ x. x.0.now ≡ encode_utf8_all (take n (chars text.now))) }
+    ensures chars { IfSome result (λ x. chars x.0.now ≡ take n (chars text.now)) }
     ensures back { IfSome result (λ x. chars x.1.now ≡ drop n (chars text.now)) }
 {
     Some(text.split_at(offset_of(text, n)?))
@@ -43,6 +44,7 @@ fn split_at_scalar(text: &str, n: u64) -> Option<(&str, &str)>
 pub(crate) fn scalars_between(text: &str, i: u64, j: u64) -> Option<&str>
     ensures variant { is_some result ≡ (nat_le i j && nat_le j (length (chars text.now))) }
     ensures part { IfSome result (λ part. part.now ≡ encode_utf8_all (take (j - i) (drop i (chars text.now)))) }
+    ensures chars { IfSome result (λ part. chars part.now ≡ take (j - i) (drop i (chars text.now))) }
 {
     let count = j.checked_sub(i)?;
     let (_, rest) = split_at_scalar(text, i)?;

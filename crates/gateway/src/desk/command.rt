@@ -1,6 +1,7 @@
 //! The commands of a client.
 
 use crate::desk::text_mode::TextMode;
+use encoders::EncodeMode;
 
 /// One command. Its texts are borrowed from the line that it was parsed from.
 #[derive(Clone, Copy)]
@@ -37,6 +38,28 @@ pub enum Command<'a> {
         to: u64,
         /// What becomes of the document's errors.
         mode: TextMode,
+    },
+    /// Returns bytes of a document as they are.
+    Source {
+        /// The document's name.
+        doc: &'a str,
+        /// How many bytes stand before the first wanted.
+        at: u64,
+        /// How many bytes are wanted.
+        len: u64,
+    },
+    /// Returns the code points `from..to` of a document's text, encoded.
+    Encode {
+        /// The document's name.
+        doc: &'a str,
+        /// How many code points stand before the first wanted.
+        from: u64,
+        /// How many code points stand before the end of those wanted.
+        to: u64,
+        /// What names the encoding of the reply's bytes.
+        label: &'a str,
+        /// What becomes of code points that the encoding doesn't have.
+        mode: EncodeMode,
     },
     /// Returns a page of the places of a document's errors.
     Errors {

@@ -1,13 +1,18 @@
 //! One open document and its revision.
-ghost use Rattle.std.specs.Prelude.{◌≡◌, OnErr};
-ghost use Rattle.gateway.specs.Documents.{edited, edit_reply, text_reply, errors_reply, Gives, with_value};
+ghost use Rattle.std.specs.Prelude.{◌≡◌, ℕ, List, Result, OnErr};
+ghost use Rattle.gateway.specs.Documents.{edited, edit_reply, text_reply, source_reply, bytes_reply, encode_reply, errors_reply, Gives, with_value};
 ghost use Rattle.gateway.specs.OpenDocuments.{entry_of};
+ghost use Rattle.encoders.specs.Encode.{IsEncoded};
+ghost use Rattle.encoders.specs.declared.fault.EncodeFault.{EncodeFault};
 
 use crate::desk::fault::Fault;
-use crate::desk::reply::{Reply, ReplyPlaces, ReplyText};
+use crate::desk::reply::{Reply, ReplyBytes, ReplyPlaces, ReplyText};
 use crate::desk::text_mode::TextMode;
 use decoder_core::meter;
+use enc_names::Encoding;
+use encoders::{EncodeFault, EncodeMode, encode};
 use piece_rope::Doc;
+use std::alloc::Global;
 
 /// The greatest revision, 2^53 - 1: the greatest whole number that a line may hold.
 const MAX_REVISION: u64 = 9_007_199_254_740_991;
@@ -65,6 +70,38 @@ impl OpenDocument<'_> {
         }
     }
 
+    /// The `len` bytes from `at` on.
+    pub fn source(&self, at: u64, len: u64) -> Result<Reply, Fault>
+        ensures { Gives (source_reply (entry_of self.now) at len) result }
+    {
+        let bytes = self.document.source(at, len)?;
+        Ok(Reply::Bytes {
+            rev: self.revision,
+            bytes: ReplyBytes::new(bytes),
+        })
+    }
+
+    /// The code points `from..to` in this encoding, from its first state to its end.
+    pub fn encode(
+        &self,
+        alloc: Global,
+        from: u64,
+        to: u64,
+        target: Encoding,
+        mode: EncodeMode,
+    ) -> Result<Reply, Fault>
+        ensures { Gives (encode_reply self.now.document.indexes (entry_of self.now) from to target mode) result }
+    {
+        let document = &self.document;
+        let indexes = document.indexes();
+        if !indexes.has(target) {
+            return Err(Fault::NoIndex);
+        }
+        let part = document.text(from, to)?;
+        let answer = encode(alloc, target, indexes, mode, part.as_str());
+        encoded_reply(self.revision, answer)
+    }
+
     /// At most `max` places of errors, from number `from` on.
     pub fn errors(&self, from: u64, max: u64) -> Result<Reply, Fault>
         ensures { Gives (errors_reply self.now.document.indexes (entry_of self.now) from max) result }
@@ -75,5 +112,24 @@ impl OpenDocument<'_> {
             total: self.document.error_count(),
             places: ReplyPlaces::new(places),
         })
+    }
+}
+
+/// The reply with what an encoder answered.
+fn encoded_reply(rev: u64, answer: Result<Vec<u8>, EncodeFault>) -> Result<Reply, Fault>
+    ensures { (wanted : Result (List ℕ) EncodeFault) → IsEncoded wanted answer → Gives (bytes_reply rev wanted) result }
+{
+    match answer {
+        Ok(bytes) => Ok(Reply::Bytes {
+            rev,
+            bytes: ReplyBytes::new(bytes),
+        }),
+        Err(EncodeFault::NoIndex) => Err(Fault::NoIndex),
+        Err(EncodeFault::NoEncoder) => Err(Fault::NoEncoder),
+        Err(EncodeFault::Unencodable(found)) => Err(Fault::Unencodable {
+            code_point: u32::from(found.code_point),
+            index: found.index,
+        }),
+        Err(EncodeFault::OutOfMemory) => Err(Fault::OutOfMemory),
     }
 }

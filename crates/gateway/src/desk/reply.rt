@@ -36,6 +36,38 @@ impl ReplyText {
     }
 }
 
+/// The bytes of a reply. Contracts see their list.
+#[derive(Drop)]
+pub struct ReplyBytes {
+    bytes: Vec<u8>,
+}
+
+impl Model for ReplyBytes {
+    ghost use Rattle.std.specs.Prelude.{List, ℕ};
+
+    ghost Value = { List ℕ };
+
+    ghost view = { λ s. s.bytes.items };
+}
+
+impl ReplyBytes {
+    ghost use Rattle.std.specs.Prelude.{◌≡◌};
+
+    /// The same bytes, without a copy.
+    pub fn new(bytes: Vec<u8>) -> ReplyBytes
+        ensures { result ≡ bytes.items }
+    {
+        ReplyBytes { bytes }
+    }
+
+    /// The bytes.
+    pub fn as_slice(&self) -> &[u8]
+        ensures { result.now ≡ self.now }
+    {
+        self.bytes.as_slice()
+    }
+}
+
 /// The places of a reply, in bytes of the document and in their order. Contracts see their list.
 #[derive(Drop)]
 pub struct ReplyPlaces {
@@ -87,6 +119,13 @@ pub enum Reply {
         rev: u64,
         /// The code points asked for. An error is one, U+FFFD.
         text: ReplyText,
+    },
+    /// The bytes asked for: those of the document, or of its text in another encoding.
+    Bytes {
+        /// The document's revision.
+        rev: u64,
+        /// The bytes.
+        bytes: ReplyBytes,
     },
     /// A page of the places of errors.
     Errors {

@@ -3,8 +3,9 @@ ghost use Rattle.std.specs.Prelude.{◌≡◌, IfOk, OnOk};
 ghost use Rattle.serde_json.specs.Data.{array};
 ghost use Rattle.serde_json.specs.Events.{SendsValue, SendsItems};
 ghost use Rattle.gateway.specs.Writing.{IsLineOf};
-ghost use Rattle.gateway.specs.Replies.{line_of, text_data, errors_data, place_data, places_data};
+ghost use Rattle.gateway.specs.Replies.{line_of, text_data, base64_data, bytes_data, errors_data, place_data, places_data};
 
+use base64::engine::general_purpose::STANDARD;
 use enc_names::Place;
 use serde::{Described, Serialize, Serializer};
 use std::alloc::{AllocError, Global};
@@ -14,6 +15,15 @@ pub(super) fn text(alloc: Global, id: u64, rev: u64, text: &str) -> Result<Vec<u
     ensures { IfOk result (λ line. line.items ≡ line_of (text_data id rev text.now)) }
 {
     line(alloc, &TextReply { id, rev, text })
+}
+
+/// The line with the bytes that were asked for, in base64.
+pub(super) fn bytes(alloc: Global, id: u64, rev: u64, bytes: &[u8]) -> Result<Vec<u8>, AllocError>
+    ensures { IfOk result (λ line. line.items ≡ line_of (bytes_data id rev bytes.now)) }
+{
+    let text = STANDARD.encode(alloc, bytes)?;
+    let text = text.as_str();
+    line(alloc, &BytesReply { id, rev, text })
 }
 
 /// The line with a page of error places.
@@ -68,6 +78,32 @@ impl Serialize for TextReply<'_> {
         out.u64(self.rev)?;
         out.key("text")?;
         out.str(self.text)?;
+        out.end_map()
+    }
+}
+
+/// The reply to `source` and to `encode`.
+#[derive(Clone, Copy)]
+struct BytesReply<'a> {
+    id: u64,
+    rev: u64,
+    /// The bytes in base64 (RFC 4648, section 4).
+    text: &'a str,
+}
+
+impl Described for BytesReply<'_> {
+    ghost writes = { λ reply. SendsValue (base64_data reply.id reply.rev reply.text.now) };
+}
+
+impl Serialize for BytesReply<'_> {
+    fn serialize<S: Serializer>(&self, out: &mut S) -> Result<(), S::Error> {
+        out.begin_map(Some(3))?;
+        out.key("bytes")?;
+        out.str(self.text)?;
+        out.key("id")?;
+        out.u64(self.id)?;
+        out.key("rev")?;
+        out.u64(self.rev)?;
         out.end_map()
     }
 }

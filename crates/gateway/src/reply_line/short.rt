@@ -2,7 +2,7 @@
 ghost use Rattle.std.specs.Prelude.{◌≡◌, ◌≤◌, length, codes, IsTrue};
 ghost use Rattle.enc_names.specs.Names.{name_of};
 ghost use Rattle.gateway.specs.Writing.{all_plain, name_room};
-ghost use Rattle.gateway.specs.Replies.{IsShortLine, edited_data, fault_data, refusal_data, bare_data, fault_with_id_data, malformed_data, bad_request_data, fault_name, field_name};
+ghost use Rattle.gateway.specs.Replies.{IsShortLine, edited_data, fault_data, refusal_data, bare_data, fault_with_id_data, unencodable_data, malformed_data, bad_request_data, fault_name, field_name};
 
 use crate::desk::Fault;
 use crate::reply_line::members::{Content, line};
@@ -33,9 +33,22 @@ pub(super) fn fault(id: u64, fault: Fault) -> ShortText
             ("id", Content::Number(id)),
             ("rev", Content::Number(rev)),
         ]),
+        Fault::Unencodable { code_point, index } => unencodable(id, code_point, index),
         Fault::Malformed { place } => malformed(id, place),
         _ => fault_with_id(fault_name(fault), id),
     }
+}
+
+/// A code point can't be encoded.
+fn unencodable(id: u64, code_point: u32, index: u64) -> ShortText
+    ensures { IsShortLine (unencodable_data id code_point index) result }
+{
+    line(&[
+        ("code_point", Content::Number(u64::from(code_point))),
+        ("fault", Content::Text("Unencodable")),
+        ("id", Content::Number(id)),
+        ("index", Content::Number(index)),
+    ])
 }
 
 /// The document has an error at this place.
@@ -124,6 +137,8 @@ fn fault_name(fault: Fault) -> &'static str
         Fault::Stale { .. } => "Stale",
         Fault::RevisionsSpent => "RevisionsSpent",
         Fault::OutOfRange => "OutOfRange",
+        Fault::NoEncoder => "NoEncoder",
+        Fault::Unencodable { .. } => "Unencodable",
         Fault::TooLarge => "TooLarge",
         Fault::Malformed { .. } => "Malformed",
         Fault::OutOfMemory => "OutOfMemory",
@@ -146,6 +161,7 @@ fn field_name(field: Field) -> &'static str
         Field::Rev => "rev",
         Field::At => "at",
         Field::Del => "del",
+        Field::Len => "len",
         Field::From => "from",
         Field::To => "to",
         Field::Mode => "mode",

@@ -1,7 +1,7 @@
 //! From a JSON value to a command.
 ghost use Rattle.std.specs.Prelude.{◌≡◌};
 ghost use Rattle.serde_json.specs.View.{view};
-ghost use Rattle.gateway.specs.Request.{open_command, splice_command, text_command, errors_command, request_of, command_asked, request_asked};
+ghost use Rattle.gateway.specs.Request.{open_command, splice_command, text_command, source_command, encode_command, errors_command, request_of, command_asked, request_asked};
 ghost use Rattle.gateway.specs.declared.request.refusal.Refusal.TheVariants.{BadRequest};
 
 use crate::desk::Command;
@@ -30,6 +30,8 @@ pub(crate) fn request(value: &Value) -> Result<(u64, Command<'_>), Refusal>
         "open" => open(value),
         "splice" => splice(value),
         "text" => text(value),
+        "source" => source(value),
+        "encode" => encode(value),
         "errors" => errors(value),
         _ => return Err(Refusal::UnknownOp { id }),
     };
@@ -86,6 +88,34 @@ fn text(value: &Value) -> Result<Command<'_>, Field>
         doc,
         from,
         to,
+        mode,
+    })
+}
+
+/// The command `source`, or the first faulty field.
+fn source(value: &Value) -> Result<Command<'_>, Field>
+    ensures { command_asked result ≡ source_command (view value.now) }
+{
+    let doc = fields::name(value).ok_or(Field::Doc)?;
+    let at = fields::number(value, "at", MAX_NUMBER).ok_or(Field::At)?;
+    let len = fields::number(value, "len", MAX_NUMBER).ok_or(Field::Len)?;
+    Ok(Command::Source { doc, at, len })
+}
+
+/// The command `encode`, or the first faulty field.
+fn encode(value: &Value) -> Result<Command<'_>, Field>
+    ensures { command_asked result ≡ encode_command (view value.now) }
+{
+    let doc = fields::name(value).ok_or(Field::Doc)?;
+    let from = fields::number(value, "from", MAX_NUMBER).ok_or(Field::From)?;
+    let to = fields::number(value, "to", MAX_NUMBER).ok_or(Field::To)?;
+    let label = fields::text(value, "label").ok_or(Field::Label)?;
+    let mode = fields::encode_mode(value).ok_or(Field::Mode)?;
+    Ok(Command::Encode {
+        doc,
+        from,
+        to,
+        label,
         mode,
     })
 }

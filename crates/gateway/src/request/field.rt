@@ -13,6 +13,7 @@ pub(crate) enum Field {
     Rev,
     At,
     Del,
+    Len,
     From,
     To,
     Mode,

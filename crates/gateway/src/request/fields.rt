@@ -1,9 +1,10 @@
 //! The fields of an object, each by its kind. An absent field and one of another kind are alike.
 ghost use Rattle.std.specs.Prelude.{◌≡◌, ◌↔◌, IsTrue, IsSome, option_map};
 ghost use Rattle.serde_json.specs.View.{view};
-ghost use Rattle.gateway.specs.Request.{number_at, text_at, name_at, text_mode_at};
+ghost use Rattle.gateway.specs.Request.{number_at, text_at, name_at, text_mode_at, encode_mode_at};
 
 use crate::desk::TextMode;
+use encoders::EncodeMode;
 use serde_json::Value;
 
 /// The greatest number that a request may hold: 2^53 - 1.
@@ -48,6 +49,20 @@ pub(super) fn text_mode(value: &Value) -> Option<TextMode>
     match mode.as_str()? {
         "replacement" => Some(TextMode::Replacement),
         "fatal" => Some(TextMode::Fatal),
+        _ => None,
+    }
+}
+
+/// The mode of an encoding, which is fatal where it is absent.
+pub(super) fn encode_mode(value: &Value) -> Option<EncodeMode>
+    ensures { result ≡ encode_mode_at (view value.now) }
+{
+    let Some(mode) = value.get("mode") else {
+        return Some(EncodeMode::Fatal);
+    };
+    match mode.as_str()? {
+        "fatal" => Some(EncodeMode::Fatal),
+        "html" => Some(EncodeMode::Html),
         _ => None,
     }
 }

@@ -13,5 +13,8 @@ split_at-requires c = (IsCut-at c.args.text.now c.args.n _ c.utf8.text (some_if 
 pub returns-clause-front : goal.returns-clause-front
 returns-clause-front c = c.split_at.ensures.front ∙ (IsCut-at c.args.text.now c.args.n _ c.utf8.text (some_if _ _ _ c.in_ok-offset_of.ensures)).front
 
+pub returns-clause-chars : goal.returns-clause-chars
+returns-clause-chars c = ap chars c.split_at.ensures.front ∙ (IsCut-at c.args.text.now c.args.n _ c.utf8.text (some_if _ _ _ c.in_ok-offset_of.ensures)).begun
+
 pub returns-clause-back : goal.returns-clause-back
 returns-clause-back c = ap chars c.split_at.ensures.back ∙ (IsCut-at c.args.text.now c.args.n _ c.utf8.text (some_if _ _ _ c.in_ok-offset_of.ensures)).rest
