@@ -7,6 +7,6 @@ use Rattle.gateway.proofs.reply_line.long.bytes.Goals as goal
 pub returns : goal.returns
 returns c =
     IfOk-weaker c.line.result _ _
-    (λ line sent. line-of (base64_data c.args.id c.args.rev c.as_str.result.now) line.items refl sent
-    ∙ ap (λ (text : List ℕ). line_of (base64_data c.args.id c.args.rev text)) (c.as_str.ensures.value ∙ c.in_ok-text.ensures.text))
+    (λ line sent. line-of (base64_data c.args.id c.args.rev c.as_str-text.result.now) line.items refl sent
+    ∙ ap (λ (text : List ℕ). line_of (base64_data c.args.id c.args.rev text)) (c.as_str-text.ensures.value ∙ c.in_ok-text.ensures.text))
     c.line.ensures
