@@ -1,3 +1,3 @@
 pub mod Documents
-pub mod Failures
+pub mod Ending
 pub mod Hashed

@@ -1,21 +1,16 @@
 //! How the program ends where it can't go on.
-ghost use Rattle.std.specs.Prelude.{◌≡◌};
-ghost use Rattle.decode_sums.specs.Failures.{failure_of};
-ghost use Rattle.decode_sums.specs.declared.failure.Failure.TheVariants.{Words, Device, OutOfMemory};
 
-use index_files::{FolderFault, IndexFileFault};
+use index_files::FolderFault;
 use std::alloc::AllocError;
-use std::io;
+use std::{fmt, io};
 
-/// Why the program ends early.
+/// Why the program ends early. Displayed as a line of text without its line end.
 #[derive(Debug, Drop)]
 pub enum Failure {
-    /// Help is to be printed, or the words are no command line of the program.
-    Words(clap::Error),
-    /// The index file of this name can't be read.
-    CannotRead(&'static str),
-    /// An index file is faulty.
-    Index(IndexFileFault),
+    /// The command line has more than a folder.
+    Words,
+    /// The index files of the folder can't be loaded.
+    Folder(FolderFault),
     /// The words can't be read, or the output failed.
     Device(io::Error),
     /// Memory ran out.
@@ -23,45 +18,51 @@ pub enum Failure {
 }
 
 impl Failure {
-    /// Prints the failure, and returns the exit status: 0 for help, 2 for a mistake in the words or
-    /// the files, and else 1.
-    pub fn report(&self, rt: &HostRuntime) -> u8 {
-        let _ = match self {
-            Failure::Words(error) => error.print(rt),
-            Failure::CannotRead(name) => eprintln!(rt; "decode_sums: cannot read {name}"),
-            Failure::Index(fault) => eprintln!(rt; "decode_sums: {fault}"),
-            Failure::Device(error) => eprintln!(rt; "decode_sums: {error}"),
-            Failure::OutOfMemory => eprintln!(rt; "decode_sums: out of memory"),
-        };
+    ghost use Rattle.std.specs.Prelude.{◌≡◌};
+    ghost use Rattle.decode_sums.specs.Ending.{status_of};
+
+    /// The exit status: 2 for a mistake in the words or the files, and else 1.
+    pub fn status(&self) -> u8
+        ensures { result ≡ status_of self.now }
+    {
         match self {
-            Failure::Words(error) if !error.use_stderr() => 0,
-            Failure::Words(_) | Failure::CannotRead(_) | Failure::Index(_) => 2,
+            Failure::Words => 2,
+            Failure::Folder(FolderFault::CannotRead(_) | FolderFault::Index(_)) => 2,
+            Failure::Folder(FolderFault::OutOfMemory) => 1,
             Failure::Device(_) | Failure::OutOfMemory => 1,
         }
     }
 }
 
-impl From<clap::Error> for Failure {
-    ghost from_gives = { λ error failure. failure ≡ Words error };
-
-    fn from(error: clap::Error) -> Failure {
-        Failure::Words(error)
-    }
-}
-
-impl From<FolderFault> for Failure {
-    ghost from_gives = { λ fault failure. failure ≡ failure_of fault };
-
-    fn from(fault: FolderFault) -> Failure {
-        match fault {
-            FolderFault::CannotRead(name) => Failure::CannotRead(name),
-            FolderFault::Index(fault) => Failure::Index(fault),
-            FolderFault::OutOfMemory => Failure::OutOfMemory,
+impl fmt::Display for Failure {
+    fn fmt<W: fmt::Write>(&self, f: &mut fmt::Formatter<W>) -> fmt::Result {
+        match self {
+            Failure::Words => f.write_str("usage: decode_sums [DIR], DIR having the index files"),
+            Failure::Folder(FolderFault::CannotRead(name)) => write!(f, "cannot read {name}"),
+            Failure::Folder(FolderFault::Index(fault)) => write!(f, "{fault}"),
+            Failure::Device(error) => write!(f, "{error}"),
+            Failure::Folder(FolderFault::OutOfMemory) | Failure::OutOfMemory => {
+                f.write_str("out of memory")
+            }
         }
     }
 }
 
+impl From<FolderFault> for Failure {
+    ghost use Rattle.std.specs.Prelude.{◌≡◌};
+    ghost use Rattle.decode_sums.specs.declared.failure.Failure.TheVariants.{Folder};
+
+    ghost from_gives = { λ fault failure. failure ≡ Folder fault };
+
+    fn from(fault: FolderFault) -> Failure {
+        Failure::Folder(fault)
+    }
+}
+
 impl From<io::Error> for Failure {
+    ghost use Rattle.std.specs.Prelude.{◌≡◌};
+    ghost use Rattle.decode_sums.specs.declared.failure.Failure.TheVariants.{Device};
+
     ghost from_gives = { λ error failure. failure ≡ Device error };
 
     fn from(error: io::Error) -> Failure {
@@ -70,6 +71,9 @@ impl From<io::Error> for Failure {
 }
 
 impl From<AllocError> for Failure {
+    ghost use Rattle.std.specs.Prelude.{◌≡◌};
+    ghost use Rattle.decode_sums.specs.declared.failure.Failure.TheVariants.{OutOfMemory};
+
     ghost from_gives = { λ _ failure. failure ≡ OutOfMemory };
 
     fn from(_: AllocError) -> Failure {

@@ -1,13 +1,11 @@
 //! The program: a checksum for each encoding over the texts of all short documents.
 #![tactic(auto)]
 
-mod command_line;
 mod failure;
 mod form;
 mod sum;
 
 use codec::CodecFault;
-use command_line::folder_of;
 use enc_names::Encoding;
 use failure::Failure;
 use form::FORMS;
@@ -34,12 +32,14 @@ fn print_sums(rt: &HostRuntime, indexes: &Indexes) -> Result<(), Failure> {
     Ok(())
 }
 
-/// Runs the program's words.
+/// Prints the sums over the index files of the folder that the words name; without one only five
+/// encodings have a sum.
 fn attempt(rt: &HostRuntime) -> Result<(), Failure> {
     let words: Vec<String> = env::args(rt)?.skip(1).collect(rt.alloc())?;
-    let indexes = match folder_of(rt.alloc(), &words)? {
-        Some(folder) => indexes_in(rt, rt.alloc(), folder)?,
-        None => Indexes::new(),
+    let indexes = match words.as_slice() {
+        [] => Indexes::new(),
+        [folder] => indexes_in(rt, rt.alloc(), folder.as_str())?,
+        _ => return Err(Failure::Words),
     };
     print_sums(rt, &indexes)
 }
@@ -47,6 +47,9 @@ fn attempt(rt: &HostRuntime) -> Result<(), Failure> {
 fn main(rt: HostRuntime) -> ExitCode {
     match attempt(&rt) {
         Ok(()) => ExitCode::SUCCESS,
-        Err(failure) => ExitCode::from(failure.report(&rt)),
+        Err(failure) => {
+            let _ = eprintln!(rt; "decode_sums: {failure}");
+            ExitCode::from(failure.status())
+        }
     }
 }
