@@ -72,7 +72,6 @@ module _ (files : Files) (mode : EncodeMode) (cs : List ℕ) (r : Result (Vec �
       → IsEncoded (if is_some (pairs_of files kind) && (is_some (pairs_of files other) && true) then by_bytes (over (index_of files kind) (λ index. over (index_of files other) (own index))) (is_html mode) cs else Err NoIndex) r
   over_both kind other own i j made e f same h = rw (there files kind i e, there files other j f, e, f) (rw same at h)
 
-
   pub over_single : (e : Encoding) (i made : Loaded) → index_of files (SingleByte e) ≡ Some i → made ≡ i → IsEncoded (by_bytes (single_byte_bytes made) (is_html mode) cs) r
       → e ≢ Utf8 → e ≢ Gbk → e ≢ Gb18030 → e ≢ Big5 → e ≢ EucJp → e ≢ Iso2022Jp → e ≢ ShiftJis → e ≢ EucKr → e ≢ Replacement → e ≢ Utf16Be → e ≢ Utf16Le → e ≢ XUserDefined → IsEncoded (encoded files e mode cs) r
   unfolding encoded

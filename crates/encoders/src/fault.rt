@@ -18,6 +18,7 @@ pub enum EncodeFault {
 impl From<AllocError> for EncodeFault {
     ghost use Rattle.std.specs.Prelude.{◌≡◌};
     ghost use Rattle.encoders.specs.declared.fault.EncodeFault.TheVariants.{OutOfMemory};
+
     ghost from_gives = { λ value fault. fault ≡ OutOfMemory };
 
     fn from(_: AllocError) -> EncodeFault {
@@ -28,6 +29,7 @@ impl From<AllocError> for EncodeFault {
 impl From<FromFault> for EncodeFault {
     ghost use Rattle.std.specs.Prelude.{◌≡◌};
     ghost use Rattle.encoders.specs.Encode.{from_fault};
+
     ghost from_gives = { λ value fault. fault ≡ from_fault value };
 
     fn from(fault: FromFault) -> EncodeFault {

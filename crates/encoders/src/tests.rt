@@ -138,7 +138,13 @@ fn shift_jis_minus_sign_and_hiragana(rt: HostRuntime) -> Result<(), Fail> {
 fn euc_jp_kanji_and_katakana(rt: HostRuntime) -> Result<(), Fail> {
     let alloc = rt.alloc();
     gives(&rt, alloc, Encoding::EucJp, "\u{4E9C}", b"\xB0\xA1")?;
-    gives(&rt, alloc, Encoding::EucJp, "\u{FF71}\u{A5}", b"\x8E\xB1\x5C")
+    gives(
+        &rt,
+        alloc,
+        Encoding::EucJp,
+        "\u{FF71}\u{A5}",
+        b"\x8E\xB1\x5C",
+    )
 }
 
 #[test]
@@ -280,13 +286,37 @@ fn shift_jis_passes_over_duplicates(rt: HostRuntime) -> Result<(), Fail> {
     for file in [two, three].iter() {
         let indexes = with_jis0208(alloc, *file)?;
         let want = Ok(b"\xFA\x54" as &[u8]);
-        expect(&rt, alloc, &indexes, Encoding::ShiftJis, mode, "\u{2170}", want)?;
+        expect(
+            &rt,
+            alloc,
+            &indexes,
+            Encoding::ShiftJis,
+            mode,
+            "\u{2170}",
+            want,
+        )?;
         let want = Ok(b"\xF9\xA1" as &[u8]);
-        expect(&rt, alloc, &indexes, Encoding::EucJp, mode, "\u{2170}", want)?;
+        expect(
+            &rt,
+            alloc,
+            &indexes,
+            Encoding::EucJp,
+            mode,
+            "\u{2170}",
+            want,
+        )?;
     }
     let indexes = with_jis0208(alloc, "8272\t0x2170\n")?;
     let want = Err(EncodeFault::Unencodable(unencodable(0, '\u{2170}')));
-    expect(&rt, alloc, &indexes, Encoding::ShiftJis, mode, "\u{2170}", want)
+    expect(
+        &rt,
+        alloc,
+        &indexes,
+        Encoding::ShiftJis,
+        mode,
+        "\u{2170}",
+        want,
+    )
 }
 
 #[test]
@@ -332,7 +362,15 @@ fn replacement_has_no_encoder(rt: HostRuntime) -> Result<(), Fail> {
     for text in ["", "a"].iter() {
         let mode = EncodeMode::Html;
         let want = Err(EncodeFault::NoEncoder);
-        expect(&rt, alloc, &indexes, Encoding::Replacement, mode, *text, want)?;
+        expect(
+            &rt,
+            alloc,
+            &indexes,
+            Encoding::Replacement,
+            mode,
+            *text,
+            want,
+        )?;
     }
     Ok(())
 }
@@ -340,7 +378,8 @@ fn replacement_has_no_encoder(rt: HostRuntime) -> Result<(), Fail> {
 #[test]
 fn place_counts_code_points_behind_a_run(rt: HostRuntime) -> Result<(), Fail> {
     let alloc = rt.alloc();
-    let text = "a plain run of more than sixty-four bytes, so that whole lanes are copied\u{3042}\u{20AC}";
+    let text =
+        "a plain run of more than sixty-four bytes, so that whole lanes are copied\u{3042}\u{20AC}";
     let indexes = small_indexes(alloc)?;
     let mode = EncodeMode::Fatal;
     let want = Err(EncodeFault::Unencodable(unencodable(74, '\u{20AC}')));

@@ -1,5 +1,6 @@
 //! The encoder over small indexes, from each of its states.
 use crate::{FromFault, OutputState, Unencodable, encode_from, escape_of};
+use enc_names::Encoding;
 use index_loader::{Index, IndexFault, IndexKind, Indexes};
 use std::alloc::Global;
 use std::process::Abort;
@@ -40,6 +41,7 @@ fn gives(
     after: OutputState,
 ) -> Result<(), Fail> {
     let indexes = small_indexes(alloc)?;
+    assert!(rt; indexes.has(Encoding::Iso2022Jp));
     let Call { text, .. } = *call;
     let got = encode_from(alloc, &indexes, call.state, text, call.html, call.end);
     let Ok((encoded, state)) = got else {
@@ -79,6 +81,7 @@ fn refuses(
     code_point: char,
 ) -> Result<(), Fail> {
     let indexes = small_indexes(alloc)?;
+    assert!(rt; indexes.has(Encoding::Iso2022Jp));
     let got = encode_from(alloc, &indexes, call.state, call.text, call.html, call.end);
     let Err(fault) = got else {
         panic!(rt; "{} is encoded", call.text);
