@@ -17,7 +17,8 @@ use std::simd::prelude::*;
 ///
 /// Refused where `units` is too short for the whole form. Then nothing is written.
 pub fn utf8_to_utf16(text: &str, units: &mut [u16]) -> Result<usize, NeedsRoom>
-    ensures answer { result ≡ utf16_answer (total_width utf16_width (chars text.now)) (length units.old) }
+    ensures answer { result
+        ≡ utf16_answer (total_width utf16_width (chars text.now)) (length units.old) }
     ensures written { units.new ≡ (if is_ok result
         then over_front (utf16_forms (chars text.now)) units.old else units.old) }
 {
