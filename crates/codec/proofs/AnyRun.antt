@@ -8,7 +8,7 @@ use Rattle.codec.specs.declared.own.OwnDecoder.{OwnDecoder}
 use Rattle.codec.specs.declared.own.OwnDecoder.TheVariants as by
 use Rattle.codec.specs.declared.state.AnyState.{AnyState}
 use Rattle.codec.specs.declared.state.AnyState.TheVariants as state
-use Rattle.codec.specs.Any.{Standing, any, any_start, given, given_start, standing_of, run_behind, behind_mark}
+use Rattle.codec.specs.Any.{any, any_start, given, given_start, standing_of, run_behind, behind_mark}
 use Rattle.codec.specs.AnyLaws.{lawful}
 use Rattle.codec.specs.Mark.{Mark}
 use Rattle.codec.proofs.Looking.{run-looked}

@@ -19,7 +19,7 @@ use Rattle.codec.specs.declared.prefix.Prefix.{Prefix}
 use Rattle.codec.specs.declared.prefix.Prefix.TheVariants.{Nothing, Ef, EfBb, Fe, Ff}
 use Rattle.codec.specs.declared.state.AnyState.{AnyState}
 use Rattle.codec.specs.declared.state.AnyState.TheVariants.{Sniffing}
-use Rattle.codec.specs.Any.{Standing, any, any_start, given, given_start, standing, standing_of}
+use Rattle.codec.specs.Any.{Standing, any, any_start, given, given_start, standing}
 use Rattle.codec.specs.AnyLaws.{lawful}
 use Rattle.codec.specs.Behind.{state_in, state_behind}
 use Rattle.codec.specs.Coding.{coding, coding_run}
