@@ -38,7 +38,7 @@ find-entries bs (e ∷ es) =
     elim (at_text bs e.0) as (λ b. cond b (Some (entry_of e.1)) (finite.find (slice_cmp nat_cmp) bs (map (λ e. (string_bytes e.0, entry_of e.1)) es)) ≡ option_map entry_of (cond b (Some e.1) (lookup (at_text bs) es)))
     [ true ↦ refl | false ↦ find-entries bs es ]
 
--- what is entry_of at a name
+-- what is held at a name
 pub get_named : (bs : List ℕ) (es : Entries) → finite.get (names es) bs ≡ option_map entry_of (lookup (at_text bs) es)
 get_named bs es = finite.get-from_entries nat_list_cmp_total _ bs ∙ find-entries bs es
 
@@ -65,7 +65,7 @@ is_some-option_map : (o : Option OpenDocument) → is_some (option_map entry_of 
 is_some-option_map None = refl
 is_some-option_map (Some k) = refl
 
--- whether something is entry_of at a name
+-- whether something is held at a name
 pub has_named : (bs : List ℕ) (es : Entries) → is_some (finite.get (names es) bs) ≡ is_some (lookup (at_text bs) es)
 has_named bs es = ap is_some (get_named bs es) ∙ is_some-option_map (lookup (at_text bs) es)
 
@@ -96,7 +96,7 @@ shown : (o : Option (Bor OpenDocument)) → option_map (λ k. entry_of k.now) o 
 shown None = refl
 shown (Some k) = refl
 
--- what a look-up lends is what is entry_of
+-- what a look-up lends is what is held
 pub entry_lent : (bs : List ℕ) (es : Entries) (o : Option (Bor OpenDocument)) → option_map (λ k. k.now) o ≡ lookup (at_text bs) es
     → option_map (λ k. entry_of k.now) o ≡ finite.get (names es) bs
 entry_lent bs es o e = shown o ∙ ap (option_map entry_of) e ∙ sym (get_named bs es)

@@ -36,7 +36,7 @@ no_bytes : base64_bytes (codes "") ≡ Some []
 unfolding base64_on_literals
 no_bytes = refl
 
--- ---- what is entry_of, and what it decodes to
+-- ---- what is held, and what it decodes to
 
 abbrev truncated : Entry
 truncated = record { given = Utf8; bytes = 0xE2 ∷ 0x82 ∷ 0x41 ∷ []; revision = 0 }

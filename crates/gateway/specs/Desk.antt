@@ -71,7 +71,7 @@ open_outcome o doc label (Some bytes) =
     if is_some (get o.documents doc) then refused o.documents NameTaken
     else open_outcome_as o.indexes o.documents doc bytes (lookup_in o.labels label)
 
--- ---- the commands on an open document, which is what may be entry_of at the name
+-- ---- the commands on an open document, which is what may be held at the name
 
 abbrev pub splice_outcome_at : Files → Names → List ℕ → ℕ → ℕ → ℕ → List ℕ → Option Entry → Outcome
 splice_outcome_at indexes documents doc rev at del ins None = refused documents NoDocument

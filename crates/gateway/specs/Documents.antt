@@ -22,13 +22,13 @@ use Rattle.gateway.specs.declared.desk.reply.Reply.TheVariants.{Edited, Text, By
 use Rattle.gateway.specs.declared.desk.text_mode.TextMode.{TextMode}
 use Rattle.gateway.specs.declared.desk.text_mode.TextMode.TheVariants.{Fatal}
 
--- what is entry_of at a name: nothing derived
+-- what is held at a name: nothing derived
 pub record Entry : Type 0 where
   pub given : Encoding
   pub bytes : List ℕ
   pub revision : ℕ
 
--- names, as UTF-8 bytes, with what is entry_of at them
+-- names, as UTF-8 bytes, with what is held at them
 abbrev pub Names : Type 0
 Names = FinMap (slice_cmp nat_cmp) Entry
 
@@ -41,7 +41,7 @@ pub record Shelf : Type 0 where
 abbrev pub max_revision : ℕ
 max_revision = 9007199254740991
 
--- what is entry_of, decoded by the loaded index files
+-- what is held, decoded by the loaded index files
 abbrev pub document_of : Files → Entry → Document
 document_of indexes h = record { indexes = indexes; given = h.given; bytes = h.bytes }
 
@@ -61,7 +61,7 @@ abbrev pub unless : {A : Type 0} → Option DocFault → A → Result A Fault
 unless None x = Ok x
 unless (Some fault) x = Err (fault_of fault)
 
--- what is entry_of after an edit that names a revision, or why it is refused
+-- what is held after an edit that names a revision, or why it is refused
 abbrev pub edited : Entry → ℕ → ℕ → ℕ → List ℕ → Result Entry Fault
 edited h rev at del ins =
     if rev == h.revision

@@ -1,7 +1,7 @@
--- Bytes cut at their line delivers.
+-- Bytes cut at their line feeds.
 use Rattle.std.specs.Prelude.{ℕ, ◌==◌, List, [], ◌∷◌, ◌++◌, Bool, true, false, if◌then◌else◌}
 
--- the complete lines, without their line delivers, where some bytes of the first have come before
+-- the complete lines, without their line feeds, where some bytes of the first have come before
 abbrev pub complete : List ℕ → List ℕ → List (List ℕ)
 complete line [] = []
 complete line (b ∷ bs) = if b == 10 then line ∷ complete [] bs else complete (line ++ b ∷ []) bs

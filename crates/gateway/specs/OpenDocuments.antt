@@ -12,7 +12,7 @@ use Rattle.gateway.specs.Documents.{Entry, Names}
 abbrev pub entry_of : OpenDocument → Entry
 entry_of k = record { given = k.document.given; bytes = k.document.bytes; revision = k.revision }
 
--- the names with what is entry_of
+-- the names with what is held at them
 abbrev pub names : List (String Global × OpenDocument) → Names
 names es = from_entries (map (λ e. (string_bytes e.0, entry_of e.1)) es)
 

@@ -167,7 +167,7 @@ fn deliver<W: Outlet>(
     Ok(())
 }
 
-/// Delivers the bytes up to and with the first line deliver, and writes the reply to the line that they
+/// Delivers the bytes up to and with the first line feed, and writes the reply to the line that they
 /// complete. Says how many bytes they were.
 fn deliver_line<W: Outlet>(
     gateway: &mut Gateway<'_>,
@@ -188,7 +188,7 @@ fn deliver_line<W: Outlet>(
     }
 }
 
-/// Takes the bytes up to and with the first line deliver, and none behind it: the next line is decided
+/// Takes the bytes up to and with the first line feed, and none behind it: the next line is decided
 /// when the reply to this one has been written.
 fn bring(gateway: &mut Gateway<'_>, c: u8, bytes: &[u8]) -> Out
     requires { IsOpen gateway.old c }
