@@ -20,6 +20,7 @@ use crate::piece::run_piece;
 use crate::placed::Placed;
 use crate::sink::Sink;
 use crate::utf8::Utf8Decoder;
+use crate::x_user_defined::XUserDefinedDecoder;
 use enc_names::Scalar;
 use std::alloc::{AllocError, Global};
 
@@ -303,8 +304,8 @@ fn a_refusing_sink_stops_the_run(rt: HostRuntime) {
     };
     let mut count = meter();
     let outcome = run_piece(
-        &Utf8Decoder,
-        Utf8Decoder.start(),
+        &XUserDefinedDecoder,
+        XUserDefinedDecoder.start(),
         b"abcd",
         &mut sink,
         &mut count,

@@ -20,7 +20,11 @@ fn letters_behind<D: Decoder>(decoder: &D, bytes: &[u8]) -> usize {
 fn expect_bulk<D: Decoder>(rt: &impl Abort, decoder: &D, pending: &[u8]) {
     assert_eq!(rt; letters_behind(decoder, &[]), 64);
     for count in 1..=pending.len() {
-        assert_eq!(rt; letters_behind(decoder, &pending[..count]), 0, "behind {count} bytes");
+        assert_eq!(rt;
+            letters_behind(decoder, &pending[..count]),
+            0,
+            "behind {count} bytes"
+        );
     }
 }
 
