@@ -1,0 +1,27 @@
+-- How many levels a tree has.
+use Rattle.std.proofs.Common.{◌≡◌, ℕ, zero, suc, ◌*◌, ◌/◌, ◌^◌, ◌<◌, ◌≤◌, length, sym, ap, ◌∙◌, subst, arith}
+use Rattle.std.specs.Prelude.{List, Option, Some}
+use Rattle.sum_tree.specs.Row.{Row}
+use Rattle.sum_tree.specs.Listed.{items_in, IsSoundRoot}
+
+one_below : (d : ℕ) → 1 ≤ 2 ^ d
+one_below zero = omega arith
+one_below (suc d) = let h = one_below d in omega arith
+
+below : (h d : ℕ) → 2 ^ h < 2 ^ d → h < d
+below zero zero p = absurd (omega arith)
+below zero (suc d) p = omega arith
+below (suc h) zero p = let n = one_below h in absurd (omega arith)
+below (suc h) (suc d) p = let n = below h d (omega arith) in omega arith
+
+-- a tree of fewer than 2 ^ d elements has fewer than d levels below its root
+pub few_levels : {T : Type 0} (root : Option (Row T)) (r : Row T) (xs : List T) (d : ℕ) → items_in root ≡ xs → root ≡ Some r → IsSoundRoot root → length xs < 2 ^ d → r.height < d
+few_levels root r xs d e is sound few =
+    let s = subst IsSoundRoot is sound in
+    let n = ap length (sym e ∙ ap items_in is) in
+    below r.height d (omega (arith, s.wide))
+
+-- a power of two behind the first is even
+pub even : (h w : ℕ) → 0 < h → w ≡ 2 ^ h → 2 * (w / 2) ≡ w
+even zero w p e = absurd (omega arith)
+even (suc h) w p e = omega arith

@@ -1,0 +1,5 @@
+pub mod Edits
+pub mod Levels
+pub mod Reaching
+pub mod Searching
+pub mod Totals

@@ -1,0 +1,108 @@
+use Rattle.std.proofs.Common.{rules, ◌-◌, ◌++◌, refl, sym, ap, ◌∙◌, arith}
+use Rattle.std.specs.Prelude.{slice_get}
+use Rattle.std.specs.List.{remove}
+use Rattle.sum_tree.proofs.Edits.{removes, edit_front, edit_back, edit_middle, edit_last, get_front, get_back}
+use Rattle.sum_tree.proofs.Totals.{summable_front, summable_back, summable_as}
+use Rattle.sum_tree.proofs.node.Child.+remove.Goals as goal
+
+pub remove-x-requires : goal.remove-x-requires
+remove-x-requires g t c κs within =
+    let cut = edit_front (removes {T = g.row.T.Denot}) c.args.self.items c.in-Two.a.items c.in-Two.b.items c.args.i c.in-Two.ensures.opened.items (omega arith) in
+    let fit = summable_front g.met.S.Summary.laws g.T.Summed.sum_of g.met.S.Summary.fits_left (remove c.args.self.items c.args.i) (remove c.in-Two.a.items c.args.i) c.in-Two.b.items cut c.requires.summable in
+    search rules
+
+pub two_front-requires-clause-summable : goal.two_front-requires-clause-summable
+two_front-requires-clause-summable g t c =
+    let cut = edit_front (removes {T = g.row.T.Denot}) c.args.self.items c.in-Two.a.items c.in-Two.b.items c.args.i c.in-Two.ensures.opened.items (omega arith) in
+    summable_as g.met.S.Summary.laws g.T.Summed.sum_of _ _ (cut ∙ ap (λ l. l ++ c.in-Two.b.items) (sym c.remove-x.ensures.items)) c.requires.summable
+
+pub returns-then-i-count-clause-items : goal.returns-then-i-count-clause-items
+returns-then-i-count-clause-items g t c =
+    let cut = edit_front (removes {T = g.row.T.Denot}) c.args.self.items c.in-Two.a.items c.in-Two.b.items c.args.i c.in-Two.ensures.opened.items (omega arith) in
+    c.two_front.ensures.items ∙ ap (λ l. l ++ c.in-Two.b.items) c.remove-x.ensures.items ∙ sym cut
+
+pub returns-then-i-count-clause-element : goal.returns-then-i-count-clause-element
+returns-then-i-count-clause-element g t c =
+    ap (λ l. slice_get l c.args.i) c.in-Two.ensures.opened.items ∙ get_front c.in-Two.a.items c.in-Two.b.items c.args.i (omega arith) ∙ c.remove-x.ensures.element
+
+pub remove-x-requires-else-i-count : goal.remove-x-requires-else-i-count
+remove-x-requires-else-i-count g t c κs within =
+    let cut = edit_back (removes {T = g.row.T.Denot}) c.args.self.items c.in-Two.a.items c.in-Two.b.items c.args.i (c.args.i - c.count-else-i-count.result) c.in-Two.ensures.opened.items (omega arith) in
+    let fit = summable_back g.met.S.Summary.laws g.T.Summed.sum_of g.met.S.Summary.fits_right (remove c.args.self.items c.args.i) c.in-Two.a.items (remove c.in-Two.b.items (c.args.i - c.count-else-i-count.result)) cut c.requires.summable in
+    search rules
+
+pub two_back-requires-clause-summable : goal.two_back-requires-clause-summable
+two_back-requires-clause-summable g t c =
+    let cut = edit_back (removes {T = g.row.T.Denot}) c.args.self.items c.in-Two.a.items c.in-Two.b.items c.args.i (c.args.i - c.count-else-i-count.result) c.in-Two.ensures.opened.items (omega arith) in
+    summable_as g.met.S.Summary.laws g.T.Summed.sum_of _ _ (cut ∙ ap (λ l. c.in-Two.a.items ++ l) (sym c.remove-x-else-i-count.ensures.items)) c.requires.summable
+
+pub returns-else-i-count-clause-items : goal.returns-else-i-count-clause-items
+returns-else-i-count-clause-items g t c =
+    let cut = edit_back (removes {T = g.row.T.Denot}) c.args.self.items c.in-Two.a.items c.in-Two.b.items c.args.i (c.args.i - c.count-else-i-count.result) c.in-Two.ensures.opened.items (omega arith) in
+    c.two_back.ensures.items ∙ ap (λ l. c.in-Two.a.items ++ l) c.remove-x-else-i-count.ensures.items ∙ sym cut
+
+pub returns-else-i-count-clause-element : goal.returns-else-i-count-clause-element
+returns-else-i-count-clause-element g t c =
+    ap (λ l. slice_get l c.args.i) c.in-Two.ensures.opened.items ∙ get_back c.in-Two.a.items c.in-Two.b.items c.args.i (c.args.i - c.count-else-i-count.result) (omega arith) ∙ c.remove-x-else-i-count.ensures.element
+
+pub remove-x-requires-then-i-count-2 : goal.remove-x-requires-then-i-count-2
+remove-x-requires-then-i-count-2 g t c κs within =
+    let cut = edit_front (removes {T = g.row.T.Denot}) c.args.self.items c.in-Three.a.items (c.in-Three.b.items ++ c.in-Three.c.items) c.args.i c.in-Three.ensures.opened.items (omega arith) in
+    let fit = summable_front g.met.S.Summary.laws g.T.Summed.sum_of g.met.S.Summary.fits_left (remove c.args.self.items c.args.i) (remove c.in-Three.a.items c.args.i) (c.in-Three.b.items ++ c.in-Three.c.items) cut c.requires.summable in
+    search rules
+
+pub three_front-requires-clause-summable : goal.three_front-requires-clause-summable
+three_front-requires-clause-summable g t c =
+    let cut = edit_front (removes {T = g.row.T.Denot}) c.args.self.items c.in-Three.a.items (c.in-Three.b.items ++ c.in-Three.c.items) c.args.i c.in-Three.ensures.opened.items (omega arith) in
+    summable_as g.met.S.Summary.laws g.T.Summed.sum_of _ _ (cut ∙ ap (λ l. l ++ (c.in-Three.b.items ++ c.in-Three.c.items)) (sym c.remove-x-then-i-count-2.ensures.items)) c.requires.summable
+
+pub returns-then-i-count-2-clause-items : goal.returns-then-i-count-2-clause-items
+returns-then-i-count-2-clause-items g t c =
+    let cut = edit_front (removes {T = g.row.T.Denot}) c.args.self.items c.in-Three.a.items (c.in-Three.b.items ++ c.in-Three.c.items) c.args.i c.in-Three.ensures.opened.items (omega arith) in
+    c.three_front.ensures.items ∙ ap (λ l. l ++ (c.in-Three.b.items ++ c.in-Three.c.items)) c.remove-x-then-i-count-2.ensures.items ∙ sym cut
+
+pub returns-then-i-count-2-clause-element : goal.returns-then-i-count-2-clause-element
+returns-then-i-count-2-clause-element g t c =
+    ap (λ l. slice_get l c.args.i) c.in-Three.ensures.opened.items ∙ get_front c.in-Three.a.items (c.in-Three.b.items ++ c.in-Three.c.items) c.args.i (omega arith) ∙ c.remove-x-then-i-count-2.ensures.element
+
+pub remove-x-requires-then-j-count : goal.remove-x-requires-then-j-count
+remove-x-requires-then-j-count g t c κs within =
+    let cut = edit_middle (removes {T = g.row.T.Denot}) c.args.self.items c.in-Three.a.items c.in-Three.b.items c.in-Three.c.items c.args.i (c.args.i - c.count-in-Three-2.result) c.in-Three.ensures.opened.items (omega arith) (omega arith) in
+    let behind = summable_back g.met.S.Summary.laws g.T.Summed.sum_of g.met.S.Summary.fits_right _ _ _ cut c.requires.summable in
+    let fit = summable_front g.met.S.Summary.laws g.T.Summed.sum_of g.met.S.Summary.fits_left ((remove c.in-Three.b.items (c.args.i - c.count-in-Three-2.result)) ++ c.in-Three.c.items) (remove c.in-Three.b.items (c.args.i - c.count-in-Three-2.result)) c.in-Three.c.items refl behind in
+    search rules
+
+pub three_middle-requires-clause-summable : goal.three_middle-requires-clause-summable
+three_middle-requires-clause-summable g t c =
+    let cut = edit_middle (removes {T = g.row.T.Denot}) c.args.self.items c.in-Three.a.items c.in-Three.b.items c.in-Three.c.items c.args.i (c.args.i - c.count-in-Three-2.result) c.in-Three.ensures.opened.items (omega arith) (omega arith) in
+    summable_as g.met.S.Summary.laws g.T.Summed.sum_of _ _ (cut ∙ ap (λ l. c.in-Three.a.items ++ (l ++ c.in-Three.c.items)) (sym c.remove-x-then-j-count.ensures.items)) c.requires.summable
+
+pub returns-then-j-count-clause-items : goal.returns-then-j-count-clause-items
+returns-then-j-count-clause-items g t c =
+    let cut = edit_middle (removes {T = g.row.T.Denot}) c.args.self.items c.in-Three.a.items c.in-Three.b.items c.in-Three.c.items c.args.i (c.args.i - c.count-in-Three-2.result) c.in-Three.ensures.opened.items (omega arith) (omega arith) in
+    c.three_middle.ensures.items ∙ ap (λ l. c.in-Three.a.items ++ (l ++ c.in-Three.c.items)) c.remove-x-then-j-count.ensures.items ∙ sym cut
+
+pub returns-then-j-count-clause-element : goal.returns-then-j-count-clause-element
+returns-then-j-count-clause-element g t c =
+    ap (λ l. slice_get l c.args.i) c.in-Three.ensures.opened.items ∙ get_back c.in-Three.a.items (c.in-Three.b.items ++ c.in-Three.c.items) c.args.i (c.args.i - c.count-in-Three-2.result) (omega arith) ∙ get_front c.in-Three.b.items c.in-Three.c.items (c.args.i - c.count-in-Three-2.result) (omega arith) ∙ c.remove-x-then-j-count.ensures.element
+
+pub remove-x-requires-else-j-count : goal.remove-x-requires-else-j-count
+remove-x-requires-else-j-count g t c κs within =
+    let cut = edit_last (removes {T = g.row.T.Denot}) c.args.self.items c.in-Three.a.items c.in-Three.b.items c.in-Three.c.items c.args.i (c.args.i - c.count-in-Three-2.result) (c.args.i - c.count-in-Three-2.result - c.count-else-j-count.result) c.in-Three.ensures.opened.items (omega arith) (omega arith) in
+    let behind = summable_back g.met.S.Summary.laws g.T.Summed.sum_of g.met.S.Summary.fits_right _ _ _ cut c.requires.summable in
+    let fit = summable_back g.met.S.Summary.laws g.T.Summed.sum_of g.met.S.Summary.fits_right (c.in-Three.b.items ++ (remove c.in-Three.c.items (c.args.i - c.count-in-Three-2.result - c.count-else-j-count.result))) c.in-Three.b.items (remove c.in-Three.c.items (c.args.i - c.count-in-Three-2.result - c.count-else-j-count.result)) refl behind in
+    search rules
+
+pub three_back-requires-clause-summable : goal.three_back-requires-clause-summable
+three_back-requires-clause-summable g t c =
+    let cut = edit_last (removes {T = g.row.T.Denot}) c.args.self.items c.in-Three.a.items c.in-Three.b.items c.in-Three.c.items c.args.i (c.args.i - c.count-in-Three-2.result) (c.args.i - c.count-in-Three-2.result - c.count-else-j-count.result) c.in-Three.ensures.opened.items (omega arith) (omega arith) in
+    summable_as g.met.S.Summary.laws g.T.Summed.sum_of _ _ (cut ∙ ap (λ l. c.in-Three.a.items ++ (c.in-Three.b.items ++ l)) (sym c.remove-x-else-j-count.ensures.items)) c.requires.summable
+
+pub returns-else-j-count-clause-items : goal.returns-else-j-count-clause-items
+returns-else-j-count-clause-items g t c =
+    let cut = edit_last (removes {T = g.row.T.Denot}) c.args.self.items c.in-Three.a.items c.in-Three.b.items c.in-Three.c.items c.args.i (c.args.i - c.count-in-Three-2.result) (c.args.i - c.count-in-Three-2.result - c.count-else-j-count.result) c.in-Three.ensures.opened.items (omega arith) (omega arith) in
+    c.three_back.ensures.items ∙ ap (λ l. c.in-Three.a.items ++ (c.in-Three.b.items ++ l)) c.remove-x-else-j-count.ensures.items ∙ sym cut
+
+pub returns-else-j-count-clause-element : goal.returns-else-j-count-clause-element
+returns-else-j-count-clause-element g t c =
+    ap (λ l. slice_get l c.args.i) c.in-Three.ensures.opened.items ∙ get_back c.in-Three.a.items (c.in-Three.b.items ++ c.in-Three.c.items) c.args.i (c.args.i - c.count-in-Three-2.result) (omega arith) ∙ get_back c.in-Three.b.items c.in-Three.c.items (c.args.i - c.count-in-Three-2.result) (c.args.i - c.count-in-Three-2.result - c.count-else-j-count.result) (omega arith) ∙ c.remove-x-else-j-count.ensures.element

@@ -1,0 +1,20 @@
+use Rattle.std.proofs.Common.{length, sym, ap, ◌∙◌, arith}
+use Rattle.std.specs.List.{remove}
+use Rattle.std.proofs.lemmas.List.Edits.{length-remove}
+use Rattle.sum_tree.specs.Listed.{items_in}
+use Rattle.sum_tree.proofs.Totals.{summable_as, whole_fits}
+use Rattle.sum_tree.proofs.tree.SumTree.remove.Goals as goal
+
+pub removed-item-requires-clause-summable : goal.removed-item-requires-clause-summable
+removed-item-requires-clause-summable g c =
+    let items = c.args.self.now.items in
+    let seen = ap (λ r. r.items) c.self.view_is in
+    let count = ap length seen in
+    let held = c.self.invariant.summable.short in
+    let edited = length-remove items c.args.i c.requires.place in
+    summable_as g.met.S.Summary.laws g.T.Summed.sum_of (remove items c.args.i) _
+    (ap (λ l. remove l c.args.i) (sym seen ∙ ap items_in (sym c.take.ensures.value)))
+    (record {
+      fit = whole_fits g.S.Summary.fits g.S.Summary.empty g.S.Summary.op g.T.Summed.sum_of (remove items c.args.i) c.requires.fit;
+      short = omega arith;
+    })

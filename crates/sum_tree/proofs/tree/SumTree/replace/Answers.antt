@@ -1,0 +1,19 @@
+use Rattle.std.proofs.Common.{length, sym, ap, ◌∙◌, arith}
+use Rattle.std.proofs.Common.{slice_set, length-set}
+use Rattle.sum_tree.specs.Listed.{items_in}
+use Rattle.sum_tree.proofs.Totals.{summable_as, whole_fits}
+use Rattle.sum_tree.proofs.tree.SumTree.replace.Goals as goal
+
+pub replaced-old-requires-clause-summable : goal.replaced-old-requires-clause-summable
+replaced-old-requires-clause-summable g c =
+    let items = c.args.self.now.items in
+    let seen = ap (λ r. r.items) c.self.view_is in
+    let count = ap length seen in
+    let held = c.self.invariant.summable.short in
+    let edited = length-set items c.args.i c.args.item in
+    summable_as g.met.S.Summary.laws g.T.Summed.sum_of (slice_set items c.args.i c.args.item) _
+    (ap (λ l. slice_set l c.args.i c.args.item) (sym seen ∙ ap items_in (sym c.take.ensures.value)))
+    (record {
+      fit = whole_fits g.S.Summary.fits g.S.Summary.empty g.S.Summary.op g.T.Summed.sum_of (slice_set items c.args.i c.args.item) c.requires.fit;
+      short = omega arith;
+    })

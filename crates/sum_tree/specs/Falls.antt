@@ -1,0 +1,13 @@
+-- A node is higher than its children.
+use Rattle.std.specs.Prelude.{◌≤◌, max}
+use Rattle.std.proofs.Common.{arith}
+use Rattle.sum_tree.specs.declared.node.Node.{Node}
+use Rattle.sum_tree.specs.declared.node.Node.TheVariants.{Vacant, Leaf, Two, Three}
+use Rattle.sum_tree.specs.declared.node.Child.TheDeep.{deep-Node}
+use Rattle.sum_tree.specs.Level.{row_of}
+
+pub falls : {T S : Type 0} (t : _) (s : _) (n : Node T S) → max (deep-Node T S t s n) 0 ≤ (row_of n).height
+falls t s Vacant = omega arith
+falls t s (Leaf x) = omega arith
+falls t s (Two a b) = omega arith
+falls t s (Three a b c) = omega arith

@@ -1,0 +1,10 @@
+pub mod Falls
+pub mod Grown
+pub mod Level
+pub mod Listed
+pub mod Opened
+pub mod Reached
+pub mod Row
+pub mod Shrunk
+pub mod Sums
+pub mod Visited

@@ -1,0 +1,29 @@
+//! A list with the sums of its prefixes: a balanced tree in which an element is reached, inserted,
+//! replaced or removed along one path.
+#![tactic(auto)]
+
+mod build;
+mod counter;
+mod finder;
+mod grown;
+mod insert;
+mod laws;
+mod makers;
+mod memory;
+mod node;
+mod pool;
+mod remove;
+mod replace;
+mod root;
+mod search;
+mod shrunk;
+mod summary;
+mod tree;
+
+pub use counter::Visits;
+pub use finder::Finder;
+pub use laws::sums_of_lists;
+pub use makers::visits;
+pub use memory::OutOfMemory;
+pub use summary::{Dimension, Summary, Summed};
+pub use tree::SumTree;

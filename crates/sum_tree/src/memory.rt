@@ -1,0 +1,4 @@
+//! The one refusal of calls that allocate.
+
+/// A growth of memory was refused.
+pub type OutOfMemory = std::alloc::AllocError;

@@ -1,0 +1,57 @@
+//! Removing an element below a node.
+ghost use Rattle.std.specs.Prelude.{◌≡◌, ◌+◌, ◌<◌, ◌≤◌, length, slice_get, vec_len, vec_capacity};
+ghost use Rattle.std.specs.List.{remove};
+ghost use Rattle.sum_tree.specs.Sums.{IsSummable};
+ghost use Rattle.sum_tree.specs.Shrunk.{shrunk, IsShrunk};
+
+use crate::node::{Child, Opened};
+use crate::pool::Pool;
+use crate::shrunk::{Shrunk, three_back, three_front, three_middle, two_back, two_front};
+use crate::summary::{Summary, Summed};
+
+impl<T: Summed<S> + Drop, S: Summary> Child<T, S> {
+    /// Element number `i`, and what is left of the node without it.
+    pub(crate) fn remove(self, i: usize, pool: &mut Pool<T, S>) -> (T, Shrunk<T, S>)
+        requires place { i < length self.items }
+        requires space { vec_len pool.old + self.nodes ≤ vec_capacity pool.old }
+        requires summable { IsSummable S.fits S.empty S.op T.sum_of (remove self.items i) }
+        ensures element { slice_get self.items i ≡ Some result.0 }
+        ensures items { (shrunk result.1).items ≡ remove self.items i }
+        ensures shape { IsShrunk self.height (vec_len pool.new) result.1 }
+        ensures boxes { vec_len pool.new + (shrunk result.1).nodes
+            ≡ vec_len pool.old + self.nodes }
+        ensures capacity { vec_capacity pool.new ≡ vec_capacity pool.old }
+    {
+        match self.open() {
+            Opened::Leaf(node, x) => {
+                pool.push_reserved(node);
+                (x, Shrunk::Gone)
+            }
+            Opened::Two(node, a, b) => {
+                if i < a.count() {
+                    let (x, front) = a.remove(i, pool);
+                    (x, two_front(node, front, b, pool))
+                } else {
+                    let j = i - a.count();
+                    let (x, back) = b.remove(j, pool);
+                    (x, two_back(node, a, back, pool))
+                }
+            }
+            Opened::Three(node, a, b, c) => {
+                if i < a.count() {
+                    let (x, front) = a.remove(i, pool);
+                    return (x, Shrunk::Kept(three_front(node, front, b, c, pool)));
+                }
+                let j = i - a.count();
+                if j < b.count() {
+                    let (x, middle) = b.remove(j, pool);
+                    (x, Shrunk::Kept(three_middle(node, a, middle, c, pool)))
+                } else {
+                    let k = j - b.count();
+                    let (x, back) = c.remove(k, pool);
+                    (x, Shrunk::Kept(three_back(node, a, b, back, pool)))
+                }
+            }
+        }
+    }
+}

@@ -1,0 +1,126 @@
+//! Reaching an element below a node, by its number or by the sum in front of it.
+ghost use Rattle.std.specs.Prelude.{◌≡◌, ◌<◌, length, slice_get};
+ghost use Rattle.sum_tree.specs.Sums.{total, IsSummable};
+ghost use Rattle.sum_tree.specs.Visited.{RisesBy};
+ghost use Rattle.sum_tree.specs.Reached.{IsReachable, IsSought, IsElement, IsPrefix};
+
+use crate::counter::Visits;
+use crate::node::{Child, Parts};
+use crate::summary::{Dimension, Summary, Summed};
+
+impl<T: Summed<S> + Drop, S: Summary> Child<T, S> {
+    /// Element number `i`.
+    pub(crate) fn get(&self, i: usize) -> &T
+        requires { i < length self.now.items }
+        ensures { slice_get self.now.items i ≡ Some result.now }
+    {
+        match self.parts() {
+            Parts::Leaf(x) => x,
+            Parts::Two(a, b) => {
+                if i < a.count() {
+                    a.get(i)
+                } else {
+                    b.get(i - a.count())
+                }
+            }
+            Parts::Three(a, b, c) => {
+                if i < a.count() {
+                    return a.get(i);
+                }
+                let j = i - a.count();
+                if j < b.count() {
+                    b.get(j)
+                } else {
+                    c.get(j - b.count())
+                }
+            }
+        }
+    }
+
+    /// The sum of this one and of the node's elements behind it.
+    fn behind(&self, before: S) -> S
+        requires { IsReachable S.fits S.empty S.op T.sum_of before self.now.items }
+        ensures { result ≡ S.op before (total S.empty S.op T.sum_of self.now.items) }
+    {
+        before.join(self.total())
+    }
+
+    /// The sum in front of element number `i`, where this one is the sum in front of the node.
+    pub(crate) fn prefix(&self, before: S, i: usize, visits: &mut Visits) -> S
+        requires place { i < length self.now.items }
+        requires fit { IsReachable S.fits S.empty S.op T.sum_of before self.now.items }
+        ensures prefix { IsPrefix S.empty S.op T.sum_of before self.now.items i result }
+        ensures visited { RisesBy self.now.height visits.old visits.new }
+    {
+        match self.parts() {
+            Parts::Leaf(_) => before,
+            Parts::Two(a, b) => {
+                visits.count();
+                if i < a.count() {
+                    a.prefix(before, i, visits)
+                } else {
+                    b.prefix(a.behind(before), i - a.count(), visits)
+                }
+            }
+            Parts::Three(a, b, c) => {
+                visits.count();
+                if i < a.count() {
+                    return a.prefix(before, i, visits);
+                }
+                let j = i - a.count();
+                let behind = a.behind(before);
+                if j < b.count() {
+                    b.prefix(behind, j, visits)
+                } else {
+                    c.prefix(b.behind(behind), j - b.count(), visits)
+                }
+            }
+        }
+    }
+
+    /// The element that the target lies in, its number and the sum in front of it, where this one
+    /// is the sum in front of the node.
+    pub(crate) fn find<D: Dimension<S>>(
+        &self,
+        before: S,
+        dimension: &D,
+        target: u64,
+        visits: &mut Visits,
+    ) -> (usize, S, &T)
+        requires fit { IsReachable S.fits S.empty S.op T.sum_of before self.now.items }
+        requires sought { IsSought (D.measure dimension.now) target S.empty S.op T.sum_of
+            before self.now.items }
+        ensures found { IsElement (D.measure dimension.now) target S.empty S.op T.sum_of
+            before self.now.items result.0 result.1 result.2.now }
+        ensures visited { RisesBy self.now.height visits.old visits.new }
+    {
+        match self.parts() {
+            Parts::Leaf(x) => (0, before, x),
+            Parts::Two(a, b) => {
+                visits.count();
+                let middle = a.behind(before);
+                if target < dimension.of(&middle) {
+                    a.find(before, dimension, target, visits)
+                } else {
+                    let (k, sum, x) = b.find(middle, dimension, target, visits);
+                    (a.count() + k, sum, x)
+                }
+            }
+            Parts::Three(a, b, c) => {
+                visits.count();
+                let first = a.behind(before);
+                if target < dimension.of(&first) {
+                    return a.find(before, dimension, target, visits);
+                }
+                let second = b.behind(first);
+                if target < dimension.of(&second) {
+                    let (k, sum, x) = b.find(first, dimension, target, visits);
+                    (a.count() + k, sum, x)
+                } else {
+                    let (k, sum, x) = c.find(second, dimension, target, visits);
+                    (a.count() + b.count() + k, sum, x)
+                }
+            }
+        }
+    }
+}

@@ -1,0 +1,53 @@
+//! What elements are summed by, and what sums are searched by.
+ghost use Rattle.std.specs.Prelude.{◌≡◌, ℕ, ◌≤◌};
+ghost use Rattle.sum_tree.specs.Sums.{MonoidLaws};
+
+/// A sum of elements. Joins are over unbounded numbers; a join can be computed where its result
+/// fits, so where each of its numbers is below 2^64.
+pub trait Summary: Copy {
+    ghost empty: { Self };
+
+    ghost op: { Self → Self → Self };
+
+    ghost fits: { Self → Type 0 };
+
+    /// The sum of no element.
+    fn unit() -> Self
+        ensures { result ≡ empty };
+
+    /// The sum of what this one sums and of what the other one sums behind it.
+    fn join(self, other: Self) -> Self
+        requires { fits (op self other) }
+        ensures { result ≡ op self other };
+
+    ghost laws: { MonoidLaws empty op };
+
+    ghost empty_fits: { fits empty };
+
+    ghost fits_left: { (a b : Self) → fits (op a b) → fits a };
+
+    ghost fits_right: { (a b : Self) → fits (op a b) → fits b };
+}
+
+/// An element that has a sum.
+pub trait Summed<S: Summary> {
+    ghost sum_of: { Self → S };
+
+    /// The element's sum.
+    fn sum(&self) -> S
+        ensures { result ≡ sum_of self.now };
+}
+
+/// A number of a sum that elements are sought by. It is 0 of no element and never falls where
+/// more is joined.
+pub trait Dimension<S: Summary> {
+    ghost measure: { Self → S → ℕ };
+
+    /// The number of this sum.
+    fn of(&self, sum: &S) -> u64
+        ensures { result ≡ measure self.now sum.now };
+
+    ghost zero: { (d : Self) → measure d S.empty ≡ 0 };
+
+    ghost monotone: { (d : Self) (a b : S) → measure d a ≤ measure d (S.op a b) };
+}

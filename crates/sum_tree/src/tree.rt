@@ -1,0 +1,246 @@
+//! The tree as a list.
+ghost use Rattle.std.specs.Prelude.{◌≡◌, ℕ, ◌+◌, ◌-◌, ◌^◌, ◌<◌, ◌≤◌, [], length, take, slice_get, slice_set, option_copied, IfOk, OnErr, OnOk};
+ghost use Rattle.std.specs.List.{insert, remove};
+ghost use Rattle.sum_tree.specs.Sums.{total, AllRunsFit};
+ghost use Rattle.sum_tree.specs.Reached.{IsFirstAbove, IsSearched};
+
+use crate::build::built;
+use crate::counter::Visits;
+use crate::finder::Finder;
+use crate::memory::OutOfMemory;
+use crate::node::Child;
+use crate::pool::{Pool, add_places};
+use crate::root::{inserted, removed, replaced, searched, summed};
+use crate::summary::{Dimension, Summary, Summed};
+use std::alloc::{AllocError, Global};
+use std::marker::Model;
+
+/// A list of elements with the sums of its prefixes. Contracts see the list, and beside it how many
+/// inserts are sure to need no memory.
+#[derive(Drop)]
+pub struct SumTree<T: Summed<S> + Drop, S: Summary> {
+    root: Option<Child<T, S>>,
+    pool: Pool<T, S>,
+    spare: usize,
+    alloc: Global,
+}
+
+impl<T: Summed<S> + Drop, S: Summary> Model for SumTree<T, S> {
+    ghost use Rattle.std.specs.Prelude.{vec_len, vec_capacity};
+    ghost use Rattle.sum_tree.specs.Listed.{Listed, items_in, IsTree};
+
+    ghost Value = { Listed T };
+
+    ghost view = { λ a. record { items = items_in a.root; spare = a.spare } };
+
+    ghost invariant = { λ a. IsTree S.fits S.empty S.op T.sum_of a.root (vec_len a.pool)
+        (vec_capacity a.pool) a.spare };
+}
+
+impl<T: Summed<S> + Drop, S: Summary> SumTree<T, S> {
+    /// The empty list. Its memory comes from `alloc`.
+    pub fn new(alloc: Global) -> SumTree<T, S>
+        ensures items { result.items ≡ [] }
+        ensures spare { result.spare ≡ 0 }
+    {
+        SumTree {
+            root: None,
+            pool: Vec::new(alloc),
+            spare: 0,
+            alloc,
+        }
+    }
+
+    /// Moves the elements into a list of their own, in time proportional to their number. Where
+    /// memory is refused they stay where they are.
+    pub fn build(alloc: Global, items: &mut Vec<T>) -> Result<SumTree<T, S>, OutOfMemory>
+        requires { AllRunsFit S.fits S.empty S.op T.sum_of items.old.items }
+        ensures ok { OnOk result (items.new.items ≡ []) }
+        ensures list { IfOk result (λ tree. tree.items ≡ items.old.items) }
+        ensures err { OnErr result (items.new.items ≡ items.old.items) }
+    {
+        let mut tree = SumTree::new(alloc);
+        tree.reserve(items.len())?;
+        tree.fill(items);
+        Ok(tree)
+    }
+
+    /// Moves the elements into the empty list, within what was reserved.
+    fn fill(&mut self, items: &mut Vec<T>)
+        requires empty { self.old.items ≡ [] }
+        requires room { length items.old.items ≤ self.old.spare }
+        requires fit { AllRunsFit S.fits S.empty S.op T.sum_of items.old.items }
+        ensures items { self.new.items ≡ items.old.items }
+        ensures emptied { items.new.items ≡ [] }
+    {
+        let count = items.len();
+        self.root = built(items, &mut self.pool);
+        self.spare -= count;
+    }
+
+    /// The number of elements.
+    pub fn len(&self) -> usize
+        ensures { result ≡ length self.now.items }
+    {
+        match &self.root {
+            Some(root) => root.count(),
+            None => 0,
+        }
+    }
+
+    /// How many inserts are sure to need no memory.
+    pub fn spare(&self) -> usize
+        ensures { result ≡ self.now.spare }
+    {
+        self.spare
+    }
+
+    /// Makes sure that this many inserts need no memory. Where memory is refused the list and its
+    /// places are as before.
+    pub fn reserve(&mut self, n: usize) -> Result<(), OutOfMemory>
+        ensures items { self.new.items ≡ self.old.items }
+        ensures ok { OnOk result (n ≤ self.new.spare) }
+        ensures kept { self.old.spare ≤ self.new.spare }
+        ensures err { OnErr result (self.new.spare ≡ self.old.spare) }
+    {
+        if n <= self.spare {
+            return Ok(());
+        }
+        let missing = n - self.spare;
+        let boxes = self
+            .len()
+            .checked_add(missing)
+            .and_then(|places| places.checked_mul(2))
+            .ok_or(AllocError)?;
+        self.pool.reserve(boxes)?;
+        add_places(self.alloc, &mut self.pool, missing)?;
+        self.spare = n;
+        Ok(())
+    }
+
+    /// Puts an element in front of number `i`, or at the end. It takes one of the places that were
+    /// reserved, and no memory.
+    pub fn insert(&mut self, i: usize, item: T)
+        requires place { i ≤ length self.old.items }
+        requires room { 0 < self.old.spare }
+        requires fit { AllRunsFit S.fits S.empty S.op T.sum_of (insert self.old.items i item) }
+        ensures items { self.new.items ≡ insert self.old.items i item }
+        ensures spare { self.new.spare + 1 ≡ self.old.spare }
+    {
+        let _capacity = self.pool.capacity();
+        let root = inserted(self.root.take(), i, item, &mut self.pool);
+        self.root = Some(root);
+        self.spare -= 1;
+    }
+
+    /// Takes element number `i` out. Its place can be taken by an insert, and it takes no memory.
+    pub fn remove(&mut self, i: usize) -> T
+        requires place { i < length self.old.items }
+        requires fit { AllRunsFit S.fits S.empty S.op T.sum_of (remove self.old.items i) }
+        ensures element { slice_get self.old.items i ≡ Some result }
+        ensures items { self.new.items ≡ remove self.old.items i }
+        ensures spare { self.new.spare ≡ self.old.spare + 1 }
+    {
+        let _capacity = self.pool.capacity();
+        let (item, rest) = removed(self.root.take(), i, &mut self.pool);
+        self.root = rest;
+        self.spare += 1;
+        item
+    }
+
+    /// Puts this element in the place of number `i`, which it returns. It takes no memory.
+    pub fn replace(&mut self, i: usize, item: T) -> T
+        requires place { i < length self.old.items }
+        requires fit { AllRunsFit S.fits S.empty S.op T.sum_of (slice_set self.old.items i item) }
+        ensures element { slice_get self.old.items i ≡ Some result }
+        ensures items { self.new.items ≡ slice_set self.old.items i item }
+        ensures spare { self.new.spare ≡ self.old.spare }
+    {
+        let _capacity = self.pool.capacity();
+        let (old, root) = replaced(self.root.take(), i, item);
+        self.root = Some(root);
+        old
+    }
+
+    /// Element number `i`.
+    pub fn get(&self, i: usize) -> &T
+        requires { i < length self.now.items }
+        ensures { slice_get self.now.items i ≡ Some result.now }
+    {
+        match &self.root {
+            Some(root) => root.get(i),
+            None => unreachable!(),
+        }
+    }
+
+    /// The sum of all elements.
+    pub fn total(&self) -> S
+        ensures { result ≡ total S.empty S.op T.sum_of self.now.items }
+    {
+        match &self.root {
+            Some(root) => root.total(),
+            None => S::unit(),
+        }
+    }
+
+    /// The sum of the first `i` elements. It visits one node on each level at most.
+    pub fn prefix(&self, i: usize, visits: &mut Visits) -> S
+        requires { i ≤ length self.now.items }
+        ensures sum { result ≡ total S.empty S.op T.sum_of (take i self.now.items) }
+        ensures most { (d : ℕ) → length self.now.items < 2 ^ d → visits.new ≤ visits.old + (d + 2) }
+        ensures least { 0 < length self.now.items
+            → visits.old < 2 ^ 64 - 1 → visits.old < visits.new }
+        ensures kept { visits.old ≤ visits.new }
+    {
+        match &self.root {
+            Some(root) => summed(root, i, visits),
+            None => S::unit(),
+        }
+    }
+
+    /// The first place behind which the dimension is above the target, else the number of elements,
+    /// and the sum of the elements in front of it. It visits one node on each level at most.
+    pub fn seek<D: Dimension<S>>(
+        &self,
+        dimension: &D,
+        target: u64,
+        visits: &mut Visits,
+    ) -> (usize, S)
+        ensures place { IsFirstAbove (D.measure dimension.now) target S.empty S.op T.sum_of
+            self.now.items result.0 result.1 }
+        ensures most { (d : ℕ) → length self.now.items < 2 ^ d → visits.new ≤ visits.old + (d + 2) }
+        ensures least { 0 < length self.now.items
+            → visits.old < 2 ^ 64 - 1 → visits.old < visits.new }
+        ensures kept { visits.old ≤ visits.new }
+    {
+        let (k, sum, _) = self.search(dimension, target, visits);
+        (k, sum)
+    }
+
+    /// The list for those who find elements by sums alone.
+    pub fn finder(&self) -> Finder<'_, T, S>
+        ensures { result ≡ self.now.items }
+    {
+        Finder::over(self)
+    }
+
+    /// What `seek` gives, and the element there.
+    pub(crate) fn search<D: Dimension<S>>(
+        &self,
+        dimension: &D,
+        target: u64,
+        visits: &mut Visits,
+    ) -> (usize, S, Option<&T>)
+        ensures found { IsSearched (D.measure dimension.now) target S.empty S.op T.sum_of
+            self.now.items result.0 result.1 (option_copied result.2) }
+        ensures most { (d : ℕ) → length self.now.items < 2 ^ d → visits.new ≤ visits.old + (d + 2) }
+        ensures least { 0 < length self.now.items
+            → visits.old < 2 ^ 64 - 1 → visits.old < visits.new }
+        ensures kept { visits.old ≤ visits.new }
+    {
+        match &self.root {
+            Some(root) => searched(root, dimension, target, visits),
+            None => (0, S::unit(), None),
+        }
+    }
+}
