@@ -191,6 +191,23 @@ fn windows_1252_document_with_its_index_file(rt: HostRuntime) -> Result<(), Fail
     Ok(())
 }
 
+#[test]
+fn range_of_a_document_encoded_with_the_index_files(rt: HostRuntime) -> Result<(), Fail> {
+    let folder = Folder::new(&rt, "encoded")?;
+    folder.write(&rt, "index-jis0208.txt", b"283\t0x3042\n")?;
+    folder.write(&rt, "index-iso-2022-jp-katakana.txt", b"0\t0x3002\n")?;
+    // U+3042 and U+1F600.
+    let lines =
+        "{\"id\":0,\"op\":\"open\",\"doc\":\"d\",\"label\":\"utf-8\",\"bytes\":\"44GC8J+YgA==\"}\n{\"id\":1,\"op\":\"encode\",\"doc\":\"d\",\"from\":0,\"to\":2,\"label\":\"iso-2022-jp\",\"mode\":\"html\"}\n{\"id\":2,\"op\":\"encode\",\"doc\":\"d\",\"from\":0,\"to\":2,\"label\":\"iso-2022-jp\"}\n{\"id\":3,\"op\":\"source\",\"doc\":\"d\",\"at\":0,\"len\":3}\n";
+    let done = performed(&rt, &["stdio", "--indexes", folder.as_str()], lines)?;
+    folder.remove(&rt)?;
+    assert_eq!(rt;
+        done.output.as_str(),
+        "{\"bom\":0,\"encoding\":\"UTF-8\",\"id\":0,\"rev\":0}\n{\"bytes\":\"GyRCJCIbKEImIzEyODUxMjs=\",\"id\":1,\"rev\":0}\n{\"code_point\":128512,\"fault\":\"Unencodable\",\"id\":2,\"index\":1}\n{\"bytes\":\"44GC\",\"id\":3,\"rev\":0}\n"
+    );
+    Ok(())
+}
+
 /// The single-byte encodings that have a file of their own, each with the file's name.
 const SINGLE_BYTE: [(&str, &str); 27] = [
     ("IBM866", "index-ibm866.txt"),

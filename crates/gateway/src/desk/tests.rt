@@ -7,6 +7,7 @@ use crate::desk::{Command, Desk, Fault, Reply, TextMode};
 use base64::engine::general_purpose::STANDARD;
 use decoder_core::meter;
 use enc_names::{Encoding, Labels, Place};
+use encoders::EncodeMode;
 use index_loader::Indexes;
 use piece_rope::Doc;
 use std::alloc::Global;
@@ -25,13 +26,15 @@ enum Wanted<'a> {
     Edited(u64),
     /// This text, at this revision.
     Text(u64, &'a str),
+    /// These bytes, at this revision.
+    Bytes(u64, &'a [u8]),
     /// So many errors in all, and these places.
     Errors(u64, &'a [(u64, u64)]),
     /// This fault.
     Refused(Fault),
 }
 
-use Wanted::{Edited, Errors, Refused, Text};
+use Wanted::{Bytes, Edited, Errors, Refused, Text};
 
 /// A desk without index files, whose labels are the names alone.
 fn desk(alloc: Global, indexes: &Indexes) -> Result<Desk<'_>, Fail> {
@@ -69,6 +72,30 @@ fn fatal(doc: &str, from: u64, to: u64) -> Command<'_> {
     text_in(TextMode::Fatal, doc, from, to)
 }
 
+fn source(doc: &str, at: u64, len: u64) -> Command<'_> {
+    Command::Source { doc, at, len }
+}
+
+fn encode_in<'a>(
+    mode: EncodeMode,
+    doc: &'a str,
+    from: u64,
+    to: u64,
+    label: &'a str,
+) -> Command<'a> {
+    Command::Encode {
+        doc,
+        from,
+        to,
+        label,
+        mode,
+    }
+}
+
+fn encode<'a>(doc: &'a str, from: u64, to: u64, label: &'a str) -> Command<'a> {
+    encode_in(EncodeMode::Fatal, doc, from, to, label)
+}
+
 fn errors(doc: &str, from: u64, max: u64) -> Command<'_> {
     Command::Errors { doc, from, max }
 }
@@ -80,6 +107,7 @@ fn is_wanted(reply: &Reply, wanted: Wanted<'_>) -> bool {
             *bom == 0 && *encoding == Encoding::Utf8 && *rev == at
         }
         (Reply::Text { rev, text }, Text(at, is)) => *rev == at && text.as_str() == is,
+        (Reply::Bytes { rev, bytes }, Bytes(at, are)) => *rev == at && bytes.as_slice() == are,
         (Reply::Errors { total, places, .. }, Errors(count, ends)) => {
             let places = places.as_slice();
             let mut pairs = places.iter().zip(ends);
@@ -122,6 +150,51 @@ fn empty_document_and_pages_of_errors(rt: HostRuntime) -> Result<(), Fail> {
         (errors("faulty", 1, 1), Errors(3, &[(1, 2)])),
         (errors("faulty", 3, 1), Errors(3, &[])),
         (errors("faulty", 4, 1), Refused(Fault::OutOfRange)),
+    ];
+    replies_of_a_new_desk(&rt, rt.alloc(), &rows)
+}
+
+#[test]
+fn bytes_as_they_are(rt: HostRuntime) -> Result<(), Fail> {
+    // E2 82 41, whose first two bytes are an error of the text.
+    let rows = [
+        (open("a", "utf-8", "4oJB"), Edited(0)),
+        (source("a", 0, 3), Bytes(0, &[0xE2, 0x82, 0x41])),
+        (source("a", 1, 1), Bytes(0, &[0x82])),
+        (source("a", 3, 0), Bytes(0, &[])),
+        (source("a", 3, 1), Refused(Fault::OutOfRange)),
+        (source("a", u64::MAX, 1), Refused(Fault::OutOfRange)),
+        (source("b", 0, 0), Refused(Fault::NoDocument)),
+    ];
+    replies_of_a_new_desk(&rt, rt.alloc(), &rows)
+}
+
+#[test]
+fn ranges_of_a_text_encoded(rt: HostRuntime) -> Result<(), Fail> {
+    // A and U+1F600; an error is U+FFFD. The first cause is reported, in the fixed order.
+    let unencodable = Refused(Fault::Unencodable {
+        code_point: 0x1_F600,
+        index: 1,
+    });
+    let html = EncodeMode::Html;
+    let rows = [
+        (open("d", "utf-8", "QfCfmIDi"), Edited(0)),
+        (encode("d", 1, 2, "utf-16be"), Bytes(0, &[0xD8, 0x3D, 0xDE, 0])),
+        (encode("d", 0, 1, "utf-16le"), Bytes(0, b"A\0")),
+        (encode("d", 2, 3, "utf-8"), Bytes(0, &[0xEF, 0xBF, 0xBD])),
+        (encode("d", 0, 3, "x-user-defined"), unencodable),
+        (
+            encode_in(html, "d", 0, 3, "x-user-defined"),
+            Bytes(0, b"A&#128512;&#65533;"),
+        ),
+        (encode("e", 9, 8, "none"), Refused(Fault::NoDocument)),
+        (encode("d", 9, 8, "none"), Refused(Fault::UnknownLabel)),
+        (encode("d", 9, 8, "big5"), Refused(Fault::NoIndex)),
+        (encode("d", 0, 4, "replacement"), Refused(Fault::OutOfRange)),
+        (encode("d", 1, 0, "replacement"), Refused(Fault::OutOfRange)),
+        (encode("d", 0, 3, "replacement"), Refused(Fault::NoEncoder)),
+        (encode("d", 0, 0, "replacement"), Refused(Fault::NoEncoder)),
+        (text("d", 0, 1), Text(0, "A")),
     ];
     replies_of_a_new_desk(&rt, rt.alloc(), &rows)
 }

@@ -65,6 +65,13 @@ fn replies_that_are_refusals(rt: HostRuntime) -> Result<(), Fail> {
             Fault::Malformed { place },
             "{\"fault\":\"Malformed\",\"id\":1,\"place\":[0,2]}\n",
         ),
+        (
+            Fault::Unencodable {
+                code_point: 128_512,
+                index: 2,
+            },
+            "{\"code_point\":128512,\"fault\":\"Unencodable\",\"id\":1,\"index\":2}\n",
+        ),
         (Fault::OutOfMemory, "{\"fault\":\"OutOfMemory\"}\n"),
     ] {
         let line = ReplyLine::of(rt.alloc(), 1, &Reply::Refused { fault })?;

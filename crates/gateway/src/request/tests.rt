@@ -1,7 +1,8 @@
 //! Worked lines: their requests, computed on the definition, and what is parsed from them.
 ghost use Rattle.std.specs.Prelude.{◌≡◌, ◌∷◌, [], codes, Ok, Err, Some, None};
-ghost use Rattle.gateway.specs.Commands.{Opens, Splices, Reads, ListsErrors};
+ghost use Rattle.gateway.specs.Commands.{Opens, Splices, Reads, ReadsBytes, Encodes, ListsErrors};
 ghost use Rattle.gateway.specs.Request.{request_of_line};
+ghost use Rattle.encoders.specs.declared.mode.EncodeMode.TheVariants as encode_mode;
 ghost use Rattle.gateway.specs.declared.desk.text_mode.TextMode.TheVariants.{Replacement, Fatal};
 ghost use Rattle.gateway.specs.declared.request.field.Field.TheVariants as field;
 ghost use Rattle.gateway.specs.declared.request.refusal.Refusal.TheVariants.{BadJson, BadRequest, UnknownOp};
@@ -51,6 +52,14 @@ fn commands()
     ensures fatal { request_of_line (codes
         "{\"id\":2,\"op\":\"text\",\"doc\":\"a\",\"from\":0,\"to\":2,\"mode\":\"fatal\"}")
         ≡ Ok (2, Reads (codes "a") 0 2 Fatal) }
+    ensures source { request_of_line (codes "{\"id\":5,\"op\":\"source\",\"doc\":\"a\",\"at\":1,\"len\":2}")
+        ≡ Ok (5, ReadsBytes (codes "a") 1 2) }
+    ensures encode { request_of_line (codes
+        "{\"id\":6,\"op\":\"encode\",\"doc\":\"a\",\"from\":1,\"to\":2,\"label\":\"big5\"}")
+        ≡ Ok (6, Encodes (codes "a") 1 2 (codes "big5") encode_mode.Fatal) }
+    ensures html { request_of_line (codes
+        "{\"id\":6,\"op\":\"encode\",\"doc\":\"a\",\"from\":1,\"to\":2,\"label\":\"big5\",\"mode\":\"html\"}")
+        ≡ Ok (6, Encodes (codes "a") 1 2 (codes "big5") encode_mode.Html) }
     ensures errors { request_of_line (codes
         "{\"id\":3,\"op\":\"errors\",\"doc\":\"a\",\"from\":0,\"max\":10000}")
         ≡ Ok (3, ListsErrors (codes "a") 0 10000) }
