@@ -26,3 +26,15 @@ returns-clause-fatal c = refl
 pub returns-clause-errors : goal.returns-clause-errors
 unfolding is_utf8 chars serde_json_on_literals
 returns-clause-errors c = refl
+
+pub returns-clause-source : goal.returns-clause-source
+unfolding is_utf8 chars serde_json_on_literals
+returns-clause-source c = refl
+
+pub returns-clause-encode : goal.returns-clause-encode
+unfolding is_utf8 chars serde_json_on_literals
+returns-clause-encode c = refl
+
+pub returns-clause-html : goal.returns-clause-html
+unfolding is_utf8 chars serde_json_on_literals
+returns-clause-html c = refl
