@@ -179,7 +179,10 @@ fn ranges_of_a_text_encoded(rt: HostRuntime) -> Result<(), Fail> {
     let html = EncodeMode::Html;
     let rows = [
         (open("d", "utf-8", "QfCfmIDi"), Edited(0)),
-        (encode("d", 1, 2, "utf-16be"), Bytes(0, &[0xD8, 0x3D, 0xDE, 0])),
+        (
+            encode("d", 1, 2, "utf-16be"),
+            Bytes(0, &[0xD8, 0x3D, 0xDE, 0]),
+        ),
         (encode("d", 0, 1, "utf-16le"), Bytes(0, b"A\0")),
         (encode("d", 2, 3, "utf-8"), Bytes(0, &[0xEF, 0xBF, 0xBD])),
         (encode("d", 0, 3, "x-user-defined"), unencodable),
