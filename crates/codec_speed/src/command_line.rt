@@ -17,9 +17,9 @@ fn command<'a>(alloc: Global) -> Result<Command<'a>, Error> {
         .value_name("DIR")
         .help("The folder of the index files; without one the samples are listed")
         .action(ArgAction::Set);
-    let decode_speed = Command::new(alloc, "decode_speed")
-        .about("How fast a megabyte of ordinary text is decoded in each encoding.")
+    let codec_speed = Command::new(alloc, "codec_speed")
+        .about("How fast a megabyte of text is decoded and encoded in each encoding.")
         .no_binary_name(true)
         .arg(indexes)?;
-    Ok(decode_speed)
+    Ok(codec_speed)
 }

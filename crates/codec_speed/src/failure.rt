@@ -20,15 +20,15 @@ pub enum Failure {
 }
 
 impl Failure {
-    /// Tells the user, and gives the exit status: 0 for help, 2 for a mistake in the words or the
+    /// Prints the failure, and returns the exit status: 0 for help, 2 for a mistake in the words or the
     /// files, and else 1.
-    pub fn told(&self, rt: &HostRuntime) -> u8 {
+    pub fn print(&self, rt: &HostRuntime) -> u8 {
         let _ = match self {
             Failure::Words(error) => error.print(rt),
-            Failure::CannotRead(name) => eprintln!(rt; "decode_speed: cannot read {name}"),
-            Failure::Index(fault) => eprintln!(rt; "decode_speed: {fault}"),
-            Failure::Device(error) => eprintln!(rt; "decode_speed: {error}"),
-            Failure::OutOfMemory => eprintln!(rt; "decode_speed: out of memory"),
+            Failure::CannotRead(name) => eprintln!(rt; "codec_speed: cannot read {name}"),
+            Failure::Index(fault) => eprintln!(rt; "codec_speed: {fault}"),
+            Failure::Device(error) => eprintln!(rt; "codec_speed: {error}"),
+            Failure::OutOfMemory => eprintln!(rt; "codec_speed: out of memory"),
         };
         match self {
             Failure::Words(error) if !error.use_stderr() => 0,

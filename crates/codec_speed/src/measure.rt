@@ -1,15 +1,16 @@
-//! The time that decoding takes.
+//! The time that decoding and encoding take.
 ghost use Rattle.std.specs.Prelude.{◌≡◌, ◌*◌, ◌/◌, max};
 ghost use Rattle.std.specs.Duration.{as_nanos};
 
 use crate::failure::Failure;
 use codec::{CodecFault, decode_whole};
 use enc_names::Encoding;
+use encoders::{EncodeFault, EncodeMode, encode};
 use index_loader::Indexes;
 use std::alloc::Global;
 use std::time::{Clock, Duration, Instant};
 
-/// How often each document is decoded.
+/// How often each document is decoded, and its text encoded.
 const ROUNDS: u32 = 20;
 
 /// What decoding a document took.
@@ -22,7 +23,7 @@ pub struct Timing {
 }
 
 /// The fastest of some decodings of a document, or `None` where the encoding lacks an index file.
-pub fn fastest<C: Clock>(
+pub fn fastest_decoding<C: Clock>(
     clock: &C,
     alloc: Global,
     indexes: &Indexes,
@@ -35,6 +36,38 @@ pub fn fastest<C: Clock>(
         best = faster(best, next);
     }
     Ok(best)
+}
+
+/// The fastest of some encodings of a text, or `None` where the encoding lacks an index file.
+pub fn fastest_encoding<C: Clock>(
+    clock: &C,
+    alloc: Global,
+    indexes: &Indexes,
+    encoding: Encoding,
+    text: &str,
+) -> Result<Option<Duration>, Failure> {
+    let mut best = encoded_once(clock, alloc, indexes, encoding, text)?;
+    for _ in 1..ROUNDS {
+        let next = encoded_once(clock, alloc, indexes, encoding, text)?;
+        best = best.min(next);
+    }
+    Ok(best)
+}
+
+/// One encoding of a text, or `None` where the encoding lacks an index file.
+fn encoded_once<C: Clock>(
+    clock: &C,
+    alloc: Global,
+    indexes: &Indexes,
+    encoding: Encoding,
+    text: &str,
+) -> Result<Option<Duration>, Failure> {
+    let start = Instant::now(clock)?;
+    match encode(alloc, encoding, indexes, EncodeMode::Html, text) {
+        Ok(_) => Ok(Some(start.elapsed(clock)?)),
+        Err(EncodeFault::OutOfMemory) => Err(Failure::OutOfMemory),
+        Err(_) => Ok(None),
+    }
 }
 
 /// The measure with the smaller time.
