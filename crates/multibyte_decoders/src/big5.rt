@@ -39,6 +39,8 @@ impl<'i> Big5Decoder<'i> {
     }
 
     /// The item of a pointer: four pointers give two code points.
+    // In the loop over the bytes.
+    #[inline(always)]
     fn item(&self, pointer: u32) -> Option<Item>
         ensures { result ≡ big5_item (code_point_of self.now) pointer }
     {
@@ -53,6 +55,8 @@ impl<'i> Big5Decoder<'i> {
 }
 
 /// The pointer of a lead and a trail.
+// In the loop over the bytes.
+#[inline(always)]
 fn pointer(lead: u8, trail: u8) -> u32
     ensures { result ≡ big5_pointer lead trail }
 {
@@ -67,14 +71,20 @@ impl<'i> PairRules for Big5Decoder<'i> {
 
     ghost pairs = { λ d. big5_pair (code_point_of d) };
 
+    // In the loop over the bytes.
+    #[inline(always)]
     fn is_lead(&self, byte: u8) -> bool {
         (0x81..=0xFE).contains(&byte)
     }
 
+    // In the loop over the bytes.
+    #[inline(always)]
     fn single(&self, byte: u8) -> Item {
         ascii_item(byte)
     }
 
+    // In the loop over the bytes.
+    #[inline(always)]
     fn pair(&self, lead: u8, byte: u8) -> Option<Item> {
         match byte {
             0x40..=0x7E | 0xA1..=0xFE => self.item(pointer(lead, byte)),

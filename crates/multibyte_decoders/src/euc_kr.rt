@@ -45,14 +45,20 @@ impl<'i> PairRules for EucKrDecoder<'i> {
 
     ghost pairs = { λ d. euc_kr_pair (code_point_of d) };
 
+    // In the loop over the bytes.
+    #[inline(always)]
     fn is_lead(&self, byte: u8) -> bool {
         (0x81..=0xFE).contains(&byte)
     }
 
+    // In the loop over the bytes.
+    #[inline(always)]
     fn single(&self, byte: u8) -> Item {
         ascii_item(byte)
     }
 
+    // In the loop over the bytes.
+    #[inline(always)]
     fn pair(&self, lead: u8, byte: u8) -> Option<Item> {
         match byte {
             0x41..=0xFE => {

@@ -39,6 +39,8 @@ impl<'i> ShiftJisDecoder<'i> {
     }
 
     /// The code point of a pointer.
+    // In the loop over the bytes.
+    #[inline(always)]
     fn code_point(&self, pointer: u32) -> Option<Scalar>
         ensures { result ≡ shift_jis_code_point (code_point_of self.now) pointer }
     {
@@ -50,6 +52,8 @@ impl<'i> ShiftJisDecoder<'i> {
 }
 
 /// The pointer of a lead and a trail.
+// In the loop over the bytes.
+#[inline(always)]
 fn pointer(lead: u8, trail: u8) -> u32
     ensures { result ≡ shift_jis_pointer lead trail }
 {
@@ -66,10 +70,14 @@ impl<'i> PairRules for ShiftJisDecoder<'i> {
 
     ghost pairs = { λ d. shift_jis_pair (code_point_of d) };
 
+    // In the loop over the bytes.
+    #[inline(always)]
     fn is_lead(&self, byte: u8) -> bool {
         matches!(byte, 0x81..=0x9F | 0xE0..=0xFC)
     }
 
+    // In the loop over the bytes.
+    #[inline(always)]
     fn single(&self, byte: u8) -> Item {
         match byte {
             0..=0x80 => Item::One(scalar(u32::from(byte))),
@@ -78,6 +86,8 @@ impl<'i> PairRules for ShiftJisDecoder<'i> {
         }
     }
 
+    // In the loop over the bytes.
+    #[inline(always)]
     fn pair(&self, lead: u8, byte: u8) -> Option<Item> {
         match byte {
             0x40..=0x7E | 0x80..=0xFC => one_of(self.code_point(pointer(lead, byte))),

@@ -8,6 +8,8 @@ use decoder_core::{Few, Handled, Item};
 use enc_names::Scalar;
 
 /// An ASCII byte is itself, and all else an error.
+// In the loop over the bytes.
+#[inline(always)]
 pub(crate) fn ascii_item(byte: u8) -> Item
     ensures { result ≡ ascii_item byte }
 {
@@ -20,6 +22,8 @@ pub(crate) fn ascii_item(byte: u8) -> Item
 
 /// A byte with no lead pending: a lead is held in the state `held`, and another byte is an item by
 /// itself.
+// In the loop over the bytes.
+#[inline(always)]
 pub(crate) fn begin<S: Copy>(idle: S, is_lead: bool, held: S, item: Item) -> Handled<S>
     ensures state { result.state ≡ (begins idle is_lead held item).state }
     ensures answer { result.answer ≡ (begins idle is_lead held item).answer }
@@ -34,6 +38,8 @@ pub(crate) fn begin<S: Copy>(idle: S, is_lead: bool, held: S, item: Item) -> Han
 
 /// After the last byte of a sequence: its item, or else an error, which puts the byte back if it
 /// is an ASCII byte.
+// In the loop over the bytes.
+#[inline(always)]
 pub(crate) fn complete<S>(idle: S, item: Option<Item>, byte: u8) -> Handled<S>
     ensures state { result.state ≡ idle }
     ensures answer { result.answer ≡ (completes idle item byte).answer }
@@ -47,6 +53,8 @@ pub(crate) fn complete<S>(idle: S, item: Option<Item>, byte: u8) -> Handled<S>
 }
 
 /// An item of one code point, where there is one.
+// In the loop over the bytes.
+#[inline(always)]
 pub(crate) fn one_of(found: Option<Scalar>) -> Option<Item>
     ensures { result ≡ one_of found }
 {
