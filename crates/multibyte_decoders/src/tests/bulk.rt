@@ -29,20 +29,42 @@ fn expect_bulk<D: Decoder>(rt: &impl Abort, decoder: &D, pending: &[u8]) {
 }
 
 #[test]
-fn ascii_where_no_lead_is_pending(rt: HostRuntime) -> Result<(), Fail> {
+fn shift_jis_takes_ascii_where_no_lead_is_pending(rt: HostRuntime) -> Result<(), Fail> {
+    let index = Index::parse(rt.alloc(), IndexKind::Jis0208, JIS0208)?;
+    expect_bulk(&rt, &ShiftJisDecoder::new(&index), &[0x82]);
+    Ok(())
+}
+
+#[test]
+fn euc_jp_takes_ascii_where_no_lead_is_pending(rt: HostRuntime) -> Result<(), Fail> {
     let jis0208 = Index::parse(rt.alloc(), IndexKind::Jis0208, JIS0208)?;
     let jis0212 = Index::parse(rt.alloc(), IndexKind::Jis0212, JIS0212)?;
-    expect_bulk(&rt, &ShiftJisDecoder::new(&jis0208), &[0x82]);
-    let decoder = EucJpDecoder::new(&jis0208, &jis0212);
-    expect_bulk(&rt, &decoder, &[0x8F, 0xA2]);
-    expect_bulk(&rt, &decoder, &[0xA4]);
+    expect_bulk(&rt, &EucJpDecoder::new(&jis0208, &jis0212), &[0x8F, 0xA2]);
+    Ok(())
+}
+
+#[test]
+fn euc_kr_takes_ascii_where_no_lead_is_pending(rt: HostRuntime) -> Result<(), Fail> {
     let index = Index::parse(rt.alloc(), IndexKind::EucKr, EUC_KR)?;
     expect_bulk(&rt, &EucKrDecoder::new(&index), &[0xB0]);
+    Ok(())
+}
+
+#[test]
+fn big5_takes_ascii_where_no_lead_is_pending(rt: HostRuntime) -> Result<(), Fail> {
     let index = Index::parse(rt.alloc(), IndexKind::Big5, BIG5)?;
     expect_bulk(&rt, &Big5Decoder::new(&index), &[0xA4]);
+    Ok(())
+}
+
+#[test]
+fn gb18030_takes_ascii_where_no_lead_is_pending(rt: HostRuntime) -> Result<(), Fail> {
     let index = Index::parse(rt.alloc(), IndexKind::Gb18030, GB18030)?;
     let ranges = Index::parse(rt.alloc(), IndexKind::Gb18030Ranges, RANGES)?;
-    let decoder = Gb18030Decoder::new(&index, &ranges);
-    expect_bulk(&rt, &decoder, &[0x81, 0x30, 0x81]);
+    expect_bulk(
+        &rt,
+        &Gb18030Decoder::new(&index, &ranges),
+        &[0x81, 0x30, 0x81],
+    );
     Ok(())
 }
