@@ -1,4 +1,6 @@
 pub mod AnyRun
 pub mod Choosing
+pub mod Few
 pub mod Gathered
 pub mod Looking
+pub mod Near

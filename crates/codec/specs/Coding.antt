@@ -1,4 +1,4 @@
--- The decoder of each encoding (Encoding Standard, "The encoding", "Legacy single-byte encodings" and the sections behind it).
+-- The decoder of each encoding (Encoding Standard, the decoder of each encoding).
 use Rattle.std.specs.Prelude.{ℕ, List, Option, Some, None}
 use Rattle.index_loader.specs.Families.{Family, OfUtf8, OfSingleByte, OfGb18030, OfBig5, OfEucJp, OfIso2022Jp, OfShiftJis, OfEucKr, OfReplacement, OfUtf16Be, OfUtf16Le, OfXUserDefined}
 use Rattle.index_loader.specs.declared.kind.IndexKind.{IndexKind}

@@ -9,6 +9,7 @@ pub mod Gathering
 pub mod Lifted
 pub mod LiftedLaws
 pub mod Mark
+pub mod Near
 pub mod Refused
 pub mod Sniffed
 pub mod SniffedLaws

@@ -7,10 +7,10 @@ ghost use Rattle.codec.specs.Any.{any, any_start, own_run, marked_run};
 ghost use Rattle.codec.specs.Decoding.{IsDecoding};
 ghost use Rattle.codec.specs.Mark.{mark_length};
 
+use crate::by_own;
 use crate::decoder::AnyDecoder;
 use crate::decoding::{Decoding, decode_by};
 use crate::mark::Mark;
-use crate::own::{OwnDecoder, by_own};
 use crate::sniffing::{UTF_16BE, UTF_16LE};
 use decoder_core::{Meter, OutOfMemory, Utf8Decoder};
 use enc_names::Encoding;

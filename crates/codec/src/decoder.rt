@@ -18,7 +18,7 @@ use enc_names::Encoding;
 use index_loader::Indexes;
 use std::marker::Model;
 
-/// The decoder of an encoding, whichever it is (Encoding Standard, "Encodings"), which first looks
+/// The decoder of an encoding, whichever it is (Encoding Standard, "decode"), which first looks
 /// for a byte order mark: UTF-8 or UTF-16 is in force behind theirs, whatever encoding is given. It
 /// borrows the indexes that the encoding given needs. Each encoding's decoder does here in its own
 /// states what it does alone; in a state that none of these encodings has it is finished. Contracts

@@ -48,26 +48,25 @@ pub enum OwnDecoder<'i> {
 
 /// Which decoder it is, asked once: `$arm!(NAME, DECODER, $with ..)` by the name that the decoder
 /// has here and its states have in `AnyState`.
+#[macro_export]
 macro_rules! by_own {
     ($own:expr, $arm:ident $(, $with:expr)*) => {
         match $own {
-            OwnDecoder::Utf8(d) => $arm!(Utf8, d $(, $with)*),
-            OwnDecoder::Gb18030(d) => $arm!(Gb18030, d $(, $with)*),
-            OwnDecoder::Big5(d) => $arm!(Big5, d $(, $with)*),
-            OwnDecoder::EucJp(d) => $arm!(EucJp, d $(, $with)*),
-            OwnDecoder::Iso2022Jp(d) => $arm!(Iso2022Jp, d $(, $with)*),
-            OwnDecoder::ShiftJis(d) => $arm!(ShiftJis, d $(, $with)*),
-            OwnDecoder::EucKr(d) => $arm!(EucKr, d $(, $with)*),
-            OwnDecoder::SingleByte(d) => $arm!(SingleByte, d $(, $with)*),
-            OwnDecoder::XUserDefined(d) => $arm!(XUserDefined, d $(, $with)*),
-            OwnDecoder::Replacement(d) => $arm!(Replacement, d $(, $with)*),
-            OwnDecoder::Utf16Be => $arm!(Utf16Be, &UTF_16BE $(, $with)*),
-            OwnDecoder::Utf16Le => $arm!(Utf16Le, &UTF_16LE $(, $with)*),
+            $crate::OwnDecoder::Utf8(d) => $arm!(Utf8, d $(, $with)*),
+            $crate::OwnDecoder::Gb18030(d) => $arm!(Gb18030, d $(, $with)*),
+            $crate::OwnDecoder::Big5(d) => $arm!(Big5, d $(, $with)*),
+            $crate::OwnDecoder::EucJp(d) => $arm!(EucJp, d $(, $with)*),
+            $crate::OwnDecoder::Iso2022Jp(d) => $arm!(Iso2022Jp, d $(, $with)*),
+            $crate::OwnDecoder::ShiftJis(d) => $arm!(ShiftJis, d $(, $with)*),
+            $crate::OwnDecoder::EucKr(d) => $arm!(EucKr, d $(, $with)*),
+            $crate::OwnDecoder::SingleByte(d) => $arm!(SingleByte, d $(, $with)*),
+            $crate::OwnDecoder::XUserDefined(d) => $arm!(XUserDefined, d $(, $with)*),
+            $crate::OwnDecoder::Replacement(d) => $arm!(Replacement, d $(, $with)*),
+            $crate::OwnDecoder::Utf16Be => $arm!(Utf16Be, &$crate::UTF_16BE $(, $with)*),
+            $crate::OwnDecoder::Utf16Le => $arm!(Utf16Le, &$crate::UTF_16LE $(, $with)*),
         }
     };
 }
-
-pub(crate) use by_own;
 
 /// A turn of an encoding's own decoder in a state of its own, as one of the states of all.
 macro_rules! turn_among {

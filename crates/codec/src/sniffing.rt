@@ -8,12 +8,12 @@ use crate::state::AnyState;
 use decoder_core::{Answer, ByteOrder, Few, Handled, Handler, Utf8Decoder, Utf16Decoder};
 
 /// The decoder of UTF-16BE.
-pub(crate) const UTF_16BE: Utf16Decoder = Utf16Decoder {
+pub const UTF_16BE: Utf16Decoder = Utf16Decoder {
     order: ByteOrder::BigEndian,
 };
 
 /// The decoder of UTF-16LE.
-pub(crate) const UTF_16LE: Utf16Decoder = Utf16Decoder {
+pub const UTF_16LE: Utf16Decoder = Utf16Decoder {
     order: ByteOrder::LittleEndian,
 };
 

@@ -1,4 +1,4 @@
--- Decoders over a queue of bytes (Encoding Standard, "Encodings" and "I/O queues"): a table says what one turn of a decoder's handler
+-- Decoders over a queue of bytes (Encoding Standard, "Encoders and decoders" and "I/O queues"): a table says what one turn of a decoder's handler
 -- does, and a run takes turns until the handler answers finished.
 use Rattle.std.specs.Prelude.{◌≡◌, ◌≢◌, ℕ, zero, suc, ◌+◌, ◌*◌, ◌<◌, List, [], ◌∷◌, ◌++◌, length, map, Option, Some, None}
 use Rattle.decoder_core.specs.declared.item.Item.{Item}

@@ -11,7 +11,7 @@ use crate::bulk::{Bulk, NO_BULK};
 use crate::few::Few;
 use crate::item::Item;
 
-/// What a handler answers (Encoding Standard, "Encodings"): continue, an item, or finished.
+/// What a handler answers (Encoding Standard, "Encoders and decoders"): continue, an item, or finished.
 #[derive(Clone, Copy, PartialEq, Eq, Debug)]
 pub enum Answer {
     /// Continue: the next byte is read.

@@ -1,8 +1,8 @@
 //! Items: what a decoder gives.
 use enc_names::Scalar;
 
-/// What one turn of a decoder gives (Encoding Standard, "Encodings": one or more code points, or
-/// error). An error stands for U+FFFD in the decoded text.
+/// What one turn of a decoder gives (Encoding Standard, "Encoders and decoders": one or more code
+/// points, or error). An error stands for U+FFFD in the decoded text.
 #[derive(Clone, Copy, PartialEq, Eq, Debug)]
 pub enum Item {
     /// A code point.

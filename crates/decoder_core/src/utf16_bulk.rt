@@ -3,12 +3,13 @@ ghost use Rattle.std.specs.Prelude.{◌≡◌, ◌*◌, ◌≤◌, length, take}
 ghost use Rattle.lane_ascii.specs.Pairs.{swapped};
 ghost use Rattle.decoder_core.specs.Bulk.{IsBulk};
 ghost use Rattle.decoder_core.specs.Utf16.{utf16, utf16_start, unit_of, units_of};
+ghost use Rattle.decoder_core.specs.declared.bulk.Stride.TheVariants.{Utf16};
 ghost use Rattle.decoder_core.specs.declared.utf16.ByteOrder.TheVariants.{LittleEndian};
 
 use crate::bulk::{Bulk, NO_BULK, Stride};
 use crate::utf16::ByteOrder;
 use lane_ascii::swap_pairs;
-use lane_utf::{first_lone_surrogate, utf16_to_utf8};
+use lane_utf::{ToUtf8Fault, utf16_to_utf8};
 
 /// The most units that are taken at once: each is at most three bytes of UTF-8, so that the block
 /// has room for them.
@@ -22,16 +23,28 @@ pub(crate) fn utf16_bulk(order: ByteOrder, bytes: &[u8], text: &mut [u8; 1024]) 
     let count = (bytes.len() / 2).min(MOST);
     let mut units = [0; 341];
     read_units(order, &bytes[..2 * count], count, &mut units);
-    let paired = first_lone_surrogate(&units[..count])
-        .unwrap_or(count)
-        .min(count);
-    match utf16_to_utf8(&units[..paired], text) {
-        Ok(written) => Bulk {
-            taken: 2 * paired,
-            written,
-            stride: Stride::Utf16,
-        },
-        Err(_) => NO_BULK,
+    match utf16_to_utf8(&units[..count], text) {
+        Ok(written) => unit_bulk(count, written),
+        Err(ToUtf8Fault::LoneSurrogate(at)) => {
+            let paired = at.min(count);
+            match utf16_to_utf8(&units[..paired], text) {
+                Ok(written) => unit_bulk(paired, written),
+                Err(_) => NO_BULK,
+            }
+        }
+        Err(ToUtf8Fault::NeedsRoom(_)) => NO_BULK,
+    }
+}
+
+/// So many units were taken.
+fn unit_bulk(units: usize, written: usize) -> Bulk
+    requires { units ≤ 341 }
+    ensures { result ≡ record { taken = 2 * units; written = written; stride = Utf16 } }
+{
+    Bulk {
+        taken: 2 * units,
+        written,
+        stride: Stride::Utf16,
     }
 }
 

@@ -24,15 +24,34 @@ pub(crate) fn utf8_bulk(bytes: &[u8], text: &mut [u8; 1024]) -> Bulk
 }
 
 /// How many bytes of well-formed UTF-8 there are at the front, as far as the block takes them. What
-/// is behind the block is not read, so that each byte is tested once or twice.
+/// is behind the block is not read, so that each byte is tested once.
 #[inline(always)]
 fn block_run(bytes: &[u8]) -> usize
     ensures within { result ≤ length bytes.now }
     ensures room { result ≤ 1024 }
     ensures valid { IsUtf8 (take result bytes.now) }
 {
-    match bytes.get(..1024) {
-        Some(front) => valid_run(front),
-        None => valid_run(bytes),
+    valid_run(&bytes[..block_end(bytes)])
+}
+
+/// Where the block ends: before a character that would go on behind 1024 bytes, since a test of a
+/// part that ends inside a character looks for the fault byte by byte.
+#[inline(always)]
+fn block_end(bytes: &[u8]) -> usize
+    ensures within { result ≤ length bytes.now }
+    ensures room { result ≤ 1024 }
+{
+    match bytes.get(1021..1025) {
+        Some([_, _, _, behind]) if !is_trail(*behind) => 1024,
+        Some([_, _, last, _]) if !is_trail(*last) => 1023,
+        Some([_, before, _, _]) if !is_trail(*before) => 1022,
+        Some(_) => 1021,
+        None => bytes.len().min(1024),
     }
+}
+
+/// Whether the byte stands behind the first of a character.
+#[inline(always)]
+fn is_trail(byte: u8) -> bool {
+    matches!(byte, 0x80..=0xBF)
 }

@@ -1,23 +1,14 @@
 -- What the calls that read a label file answer, want of memory aside.
 use Rattle.std.specs.Prelude.{◌≡◌, ℕ, List, ◌++◌, Option, Some, None, option_map, Result, Ok, Err, ⊤}
-use Rattle.serde_json.specs.View.{view}
-use Rattle.serde_json.specs.declared.value.Value.{Value}
 use Rattle.enc_names.specs.declared.labels.LabelFault.{LabelFault}
 use Rattle.enc_names.specs.declared.labels.LabelFault.TheVariants.{NotJson, BadShape, OutOfMemory}
 use Rattle.enc_names.specs.Labels.{LabelTable}
-use Rattle.enc_names.specs.LabelFile.{json_of, labels_of_file}
+use Rattle.enc_names.specs.LabelFile.{labels_of_file}
 
 -- the labels or the fault of the file, or else memory ran out
 abbrev pub AnswersFile : List ℕ → Result LabelTable LabelFault → Type 0
 AnswersFile bytes (Err OutOfMemory) = Unit {0}
 AnswersFile bytes answer = labels_of_file bytes ≡ answer
-
--- the value of the file, or else it has none or memory ran out
-abbrev pub IsValueOf : List ℕ → Result Value LabelFault → Type 0
-IsValueOf bytes (Ok value) = json_of bytes ≡ Some (view value)
-IsValueOf bytes (Err NotJson) = json_of bytes ≡ None
-IsValueOf bytes (Err BadShape) = ⊥
-IsValueOf bytes (Err OutOfMemory) = Unit {0}
 
 -- labels and then more
 abbrev pub behind : LabelTable → Option LabelTable → Option LabelTable

@@ -2,13 +2,13 @@
 -- each with a list of encodings, each with a name and a list of labels.
 use Rattle.std.specs.Prelude.{ℕ, Bool, List, [], ◌∷◌, codes, if◌then◌else◌, Option, Some, None, option_map, option_and_then, Result, Ok, Err}
 use Rattle.std.specs.List.{flat_map}
-use Rattle.std.specs.Str.{bytes_eq, is_utf8}
+use Rattle.std.specs.Str.{bytes_eq}
 use Rattle.serde_json.specs.Data.{Data, Items, no_items, item}
 use Rattle.serde_json.specs.Find.{get, as_str, as_array}
-use Rattle.serde_json.specs.Read.{read}
 use Rattle.enc_names.specs.declared.encoding.Encoding.{Encoding}
 use Rattle.enc_names.specs.declared.labels.LabelFault.{LabelFault}
 use Rattle.enc_names.specs.declared.labels.LabelFault.TheVariants.{NotJson, BadShape}
+use Rattle.enc_names.specs.Json.{json_of}
 use Rattle.enc_names.specs.Labels.{LabelTable, folded}
 use Rattle.enc_names.specs.Names.{name_of, encodings}
 
@@ -69,10 +69,6 @@ abbrev pub table_of_json : Data → Option LabelTable
 table_of_json d = option_map (flat_map (flat_map labels_listed)) (groups_of d)
 
 -- ---- its bytes
-
--- the value of a text that is UTF-8 and JSON (RFC 8259) of at most 127 levels
-abbrev pub json_of : List ℕ → Option Data
-json_of bytes = if is_utf8 bytes then read bytes else None
 
 -- what is there, or else the fault
 abbrev pub need : {A : Type 0} → LabelFault → Option A → Result A LabelFault

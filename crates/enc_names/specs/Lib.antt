@@ -1,3 +1,4 @@
+pub mod Json
 pub mod LabelAnswers
 pub mod LabelEntries
 pub mod LabelFile

@@ -89,97 +89,80 @@ pub enum Encoding {
     XUserDefined,
 }
 
+/// The Standard's table of encodings, a row each with its name: `$read!($value ..; ROWS)`.
+macro_rules! table {
+    ($read:ident $(, $value:expr)?) => {
+        $read! {
+            $($value)?;
+            Utf8 "UTF-8",
+            Ibm866 "IBM866",
+            Iso8859_2 "ISO-8859-2",
+            Iso8859_3 "ISO-8859-3",
+            Iso8859_4 "ISO-8859-4",
+            Iso8859_5 "ISO-8859-5",
+            Iso8859_6 "ISO-8859-6",
+            Iso8859_7 "ISO-8859-7",
+            Iso8859_8 "ISO-8859-8",
+            Iso8859_8I "ISO-8859-8-I",
+            Iso8859_10 "ISO-8859-10",
+            Iso8859_13 "ISO-8859-13",
+            Iso8859_14 "ISO-8859-14",
+            Iso8859_15 "ISO-8859-15",
+            Iso8859_16 "ISO-8859-16",
+            Koi8R "KOI8-R",
+            Koi8U "KOI8-U",
+            Macintosh "macintosh",
+            Windows874 "windows-874",
+            Windows1250 "windows-1250",
+            Windows1251 "windows-1251",
+            Windows1252 "windows-1252",
+            Windows1253 "windows-1253",
+            Windows1254 "windows-1254",
+            Windows1255 "windows-1255",
+            Windows1256 "windows-1256",
+            Windows1257 "windows-1257",
+            Windows1258 "windows-1258",
+            XMacCyrillic "x-mac-cyrillic",
+            Gbk "GBK",
+            Gb18030 "gb18030",
+            Big5 "Big5",
+            EucJp "EUC-JP",
+            Iso2022Jp "ISO-2022-JP",
+            ShiftJis "Shift_JIS",
+            EucKr "EUC-KR",
+            Replacement "replacement",
+            Utf16Be "UTF-16BE",
+            Utf16Le "UTF-16LE",
+            XUserDefined "x-user-defined",
+        }
+    };
+}
+
+/// The encodings of the table, in its order.
+macro_rules! encodings_of {
+    (; $($encoding:ident $name:literal,)*) => {
+        [$(Encoding::$encoding),*]
+    };
+}
+
+/// The name of an encoding in the table.
+macro_rules! name_in {
+    ($value:expr; $($encoding:ident $name:literal,)*) => {
+        match $value {
+            $(Encoding::$encoding => $name,)*
+        }
+    };
+}
+
 impl Encoding {
     /// Every encoding once, in the order of the Standard's table.
-    pub const ALL: [Encoding; 40] = [
-        Encoding::Utf8,
-        Encoding::Ibm866,
-        Encoding::Iso8859_2,
-        Encoding::Iso8859_3,
-        Encoding::Iso8859_4,
-        Encoding::Iso8859_5,
-        Encoding::Iso8859_6,
-        Encoding::Iso8859_7,
-        Encoding::Iso8859_8,
-        Encoding::Iso8859_8I,
-        Encoding::Iso8859_10,
-        Encoding::Iso8859_13,
-        Encoding::Iso8859_14,
-        Encoding::Iso8859_15,
-        Encoding::Iso8859_16,
-        Encoding::Koi8R,
-        Encoding::Koi8U,
-        Encoding::Macintosh,
-        Encoding::Windows874,
-        Encoding::Windows1250,
-        Encoding::Windows1251,
-        Encoding::Windows1252,
-        Encoding::Windows1253,
-        Encoding::Windows1254,
-        Encoding::Windows1255,
-        Encoding::Windows1256,
-        Encoding::Windows1257,
-        Encoding::Windows1258,
-        Encoding::XMacCyrillic,
-        Encoding::Gbk,
-        Encoding::Gb18030,
-        Encoding::Big5,
-        Encoding::EucJp,
-        Encoding::Iso2022Jp,
-        Encoding::ShiftJis,
-        Encoding::EucKr,
-        Encoding::Replacement,
-        Encoding::Utf16Be,
-        Encoding::Utf16Le,
-        Encoding::XUserDefined,
-    ];
+    pub const ALL: [Encoding; 40] = table!(encodings_of);
 
-    /// The encoding's name, spelt as in the Standard's table.
+    /// The encoding's name, spelled as in the Standard's table.
     pub fn name(self) -> &'static str
         ensures { result.now ≡ name_of self }
     {
-        match self {
-            Encoding::Utf8 => "UTF-8",
-            Encoding::Ibm866 => "IBM866",
-            Encoding::Iso8859_2 => "ISO-8859-2",
-            Encoding::Iso8859_3 => "ISO-8859-3",
-            Encoding::Iso8859_4 => "ISO-8859-4",
-            Encoding::Iso8859_5 => "ISO-8859-5",
-            Encoding::Iso8859_6 => "ISO-8859-6",
-            Encoding::Iso8859_7 => "ISO-8859-7",
-            Encoding::Iso8859_8 => "ISO-8859-8",
-            Encoding::Iso8859_8I => "ISO-8859-8-I",
-            Encoding::Iso8859_10 => "ISO-8859-10",
-            Encoding::Iso8859_13 => "ISO-8859-13",
-            Encoding::Iso8859_14 => "ISO-8859-14",
-            Encoding::Iso8859_15 => "ISO-8859-15",
-            Encoding::Iso8859_16 => "ISO-8859-16",
-            Encoding::Koi8R => "KOI8-R",
-            Encoding::Koi8U => "KOI8-U",
-            Encoding::Macintosh => "macintosh",
-            Encoding::Windows874 => "windows-874",
-            Encoding::Windows1250 => "windows-1250",
-            Encoding::Windows1251 => "windows-1251",
-            Encoding::Windows1252 => "windows-1252",
-            Encoding::Windows1253 => "windows-1253",
-            Encoding::Windows1254 => "windows-1254",
-            Encoding::Windows1255 => "windows-1255",
-            Encoding::Windows1256 => "windows-1256",
-            Encoding::Windows1257 => "windows-1257",
-            Encoding::Windows1258 => "windows-1258",
-            Encoding::XMacCyrillic => "x-mac-cyrillic",
-            Encoding::Gbk => "GBK",
-            Encoding::Gb18030 => "gb18030",
-            Encoding::Big5 => "Big5",
-            Encoding::EucJp => "EUC-JP",
-            Encoding::Iso2022Jp => "ISO-2022-JP",
-            Encoding::ShiftJis => "Shift_JIS",
-            Encoding::EucKr => "EUC-KR",
-            Encoding::Replacement => "replacement",
-            Encoding::Utf16Be => "UTF-16BE",
-            Encoding::Utf16Le => "UTF-16LE",
-            Encoding::XUserDefined => "x-user-defined",
-        }
+        table!(name_in, self)
     }
 
     /// The encoding with this name, ASCII case apart.

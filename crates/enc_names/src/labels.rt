@@ -7,6 +7,7 @@ ghost use Rattle.enc_names.specs.Labels.{labels_of, lookup_in, matches, name_lab
 mod file;
 
 use crate::encoding::Encoding;
+use crate::json::parse_json;
 use std::alloc::{AllocError, Global};
 use std::marker::Model;
 
@@ -81,7 +82,7 @@ impl Labels {
     pub fn from_json(alloc: Global, bytes: &[u8]) -> Result<Labels, LabelFault>
         ensures { AnswersFile bytes.now result }
     {
-        let value = file::value_of(alloc, bytes)?;
+        let value = parse_json(alloc, bytes)?.ok_or(LabelFault::NotJson)?;
         let mut entries = Vec::new(alloc);
         file::add_file(alloc, &mut entries, &value)?;
         Ok(Labels { entries })

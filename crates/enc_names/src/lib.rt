@@ -4,6 +4,7 @@
 mod encoding;
 #[cfg(test)]
 mod examples;
+mod json;
 mod labels;
 mod place;
 mod scalar;
@@ -11,6 +12,7 @@ mod scalar;
 mod tests;
 
 pub use encoding::Encoding;
+pub use json::parse_json;
 pub use labels::{LabelFault, Labels};
 pub use place::Place;
 pub use scalar::Scalar;

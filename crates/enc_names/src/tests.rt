@@ -1,62 +1,12 @@
-use crate::{Encoding, LabelFault, Labels, Place, Scalar};
+use crate::{Encoding, LabelFault, Labels, Scalar};
 use std::alloc::{AllocError, Global};
 use std::test::Fail;
-
-/// The names of the Encoding Standard's table, in its order.
-const NAMES: [&str; 40] = [
-    "UTF-8",
-    "IBM866",
-    "ISO-8859-2",
-    "ISO-8859-3",
-    "ISO-8859-4",
-    "ISO-8859-5",
-    "ISO-8859-6",
-    "ISO-8859-7",
-    "ISO-8859-8",
-    "ISO-8859-8-I",
-    "ISO-8859-10",
-    "ISO-8859-13",
-    "ISO-8859-14",
-    "ISO-8859-15",
-    "ISO-8859-16",
-    "KOI8-R",
-    "KOI8-U",
-    "macintosh",
-    "windows-874",
-    "windows-1250",
-    "windows-1251",
-    "windows-1252",
-    "windows-1253",
-    "windows-1254",
-    "windows-1255",
-    "windows-1256",
-    "windows-1257",
-    "windows-1258",
-    "x-mac-cyrillic",
-    "GBK",
-    "gb18030",
-    "Big5",
-    "EUC-JP",
-    "ISO-2022-JP",
-    "Shift_JIS",
-    "EUC-KR",
-    "replacement",
-    "UTF-16BE",
-    "UTF-16LE",
-    "x-user-defined",
-];
-
-#[test]
-fn forty_names_in_the_order_of_the_table(rt: HostRuntime) {
-    for (encoding, name) in Encoding::ALL.iter().zip(NAMES) {
-        assert_eq!(rt; encoding.name(), name);
-    }
-}
 
 #[test]
 fn each_name_is_a_label_in_any_case(rt: HostRuntime) -> Result<(), Fail> {
     let labels = Labels::names(rt.alloc())?;
-    for (encoding, name) in Encoding::ALL.iter().zip(NAMES) {
+    for encoding in &Encoding::ALL {
+        let name = encoding.name();
         assert_eq!(rt; labels.lookup(name.as_bytes()), Some(*encoding), "{name}");
         let lower = name.to_ascii_lowercase(rt.alloc())?;
         assert_eq!(rt; labels.lookup(lower.as_bytes()), Some(*encoding), "{lower}");
@@ -197,10 +147,4 @@ fn scalar_values_leave_out_surrogates(rt: HostRuntime) {
             assert_eq!(rt; Scalar::from(scalar.to_char()), scalar);
         }
     }
-}
-
-#[test]
-fn place_is_its_two_ends(rt: HostRuntime) {
-    let place = Place { from: 2, to: 5 };
-    assert_eq!(rt; (place.from, place.to), (2, 5));
 }

@@ -19,9 +19,12 @@ use Rattle.enc_names.specs.declared.encoding.Encoding.{Encoding}
 use Rattle.encoders.specs.declared.mode.EncodeMode.{EncodeMode}
 use Rattle.encoders.specs.Encode.{IsEncoded, bytes_only, encoded, from_fault, is_html, over}
 use Rattle.encoders.specs.Stateless.{stateless}
-use Rattle.enc_names.specs.declared.encoding.Encoding.TheVariants.{Utf8, Gbk, Gb18030, Big5, EucJp, Iso2022Jp, ShiftJis, EucKr, Replacement, Utf16Be, Utf16Le, XUserDefined, Ibm866, Iso8859_2, Iso8859_3, Iso8859_4, Iso8859_5, Iso8859_6, Iso8859_7, Iso8859_8, Iso8859_8I, Iso8859_10, Iso8859_13, Iso8859_14, Iso8859_15, Iso8859_16, Koi8R, Koi8U, Macintosh, Windows874, Windows1250, Windows1251, Windows1252, Windows1253, Windows1254, Windows1255, Windows1256, Windows1257, Windows1258, XMacCyrillic}
+use Rattle.enc_names.specs.declared.encoding.Encoding.TheVariants.{Utf8, Gbk, Gb18030, Big5, EucJp, Iso2022Jp, ShiftJis, EucKr, Replacement, Utf16Be, Utf16Le, XUserDefined}
 use Rattle.index_loader.specs.declared.kind.IndexKind.TheVariants.{SingleByte}
 use Rattle.encoders.specs.SingleByte.{single_byte_bytes}
+use Rattle.lane_utf.specs.Utf16.{utf16_forms}
+use Rattle.encoders.specs.Utf16.{units_bytes, utf16_bytes}
+use Rattle.encoders.proofs.Utf16Forms.{utf16_all}
 use Rattle.encoders.specs.Steps.{IsFrom, Put, behind, encoded_from}
 
 there-at : {A B : Type 0} (f : A → B) (o : Option A) (i : B) → option_map f o ≡ Some i → is_some o ≡ true
@@ -50,6 +53,9 @@ utf8-all html index (c ∷ cs) = ap (λ (r : Result (Put ⊤) Unencodable). behi
 
 pub by_utf8 : (html : Bool) (bytes : List ℕ) → IsUtf8 bytes → by_bytes (λ c. Some (encode_utf8 c)) html (chars bytes) ≡ Ok bytes
 by_utf8 html bytes is = ap bytes_only (utf8-all html 0 (chars bytes)) ∙ ap Ok (encodes-chars bytes is)
+
+pub by_utf16 : (big html : Bool) (cs : List ℕ) → by_bytes (utf16_bytes big) html cs ≡ Ok (units_bytes big (utf16_forms cs))
+by_utf16 big html cs = ap bytes_only (utf16_all big html 0 cs)
 
 -- a fault from a state on, as one of the whole
 pub failed : {S : Type 0} (w v : Result (Put S) Unencodable) (f : FromFault) → w ≡ v → IsFrom w (Err f) → IsEncoded (bytes_only v) (Err (from_fault f))
@@ -87,31 +93,4 @@ module _ (files : Files) (mode : EncodeMode) (cs : List ℕ) (r : Result (Vec �
   over_single Utf16Be i made x s h n0 n1 n2 n3 n4 n5 n6 n7 n8 n9 n10 n11 = absurd (n9 refl)
   over_single Utf16Le i made x s h n0 n1 n2 n3 n4 n5 n6 n7 n8 n9 n10 n11 = absurd (n10 refl)
   over_single XUserDefined i made x s h n0 n1 n2 n3 n4 n5 n6 n7 n8 n9 n10 n11 = absurd (n11 refl)
-  over_single Ibm866 i made x s h n0 n1 n2 n3 n4 n5 n6 n7 n8 n9 n10 n11 = over_one (SingleByte Ibm866) single_byte_bytes i made x s h
-  over_single Iso8859_2 i made x s h n0 n1 n2 n3 n4 n5 n6 n7 n8 n9 n10 n11 = over_one (SingleByte Iso8859_2) single_byte_bytes i made x s h
-  over_single Iso8859_3 i made x s h n0 n1 n2 n3 n4 n5 n6 n7 n8 n9 n10 n11 = over_one (SingleByte Iso8859_3) single_byte_bytes i made x s h
-  over_single Iso8859_4 i made x s h n0 n1 n2 n3 n4 n5 n6 n7 n8 n9 n10 n11 = over_one (SingleByte Iso8859_4) single_byte_bytes i made x s h
-  over_single Iso8859_5 i made x s h n0 n1 n2 n3 n4 n5 n6 n7 n8 n9 n10 n11 = over_one (SingleByte Iso8859_5) single_byte_bytes i made x s h
-  over_single Iso8859_6 i made x s h n0 n1 n2 n3 n4 n5 n6 n7 n8 n9 n10 n11 = over_one (SingleByte Iso8859_6) single_byte_bytes i made x s h
-  over_single Iso8859_7 i made x s h n0 n1 n2 n3 n4 n5 n6 n7 n8 n9 n10 n11 = over_one (SingleByte Iso8859_7) single_byte_bytes i made x s h
-  over_single Iso8859_8 i made x s h n0 n1 n2 n3 n4 n5 n6 n7 n8 n9 n10 n11 = over_one (SingleByte Iso8859_8) single_byte_bytes i made x s h
-  over_single Iso8859_8I i made x s h n0 n1 n2 n3 n4 n5 n6 n7 n8 n9 n10 n11 = over_one (SingleByte Iso8859_8I) single_byte_bytes i made x s h
-  over_single Iso8859_10 i made x s h n0 n1 n2 n3 n4 n5 n6 n7 n8 n9 n10 n11 = over_one (SingleByte Iso8859_10) single_byte_bytes i made x s h
-  over_single Iso8859_13 i made x s h n0 n1 n2 n3 n4 n5 n6 n7 n8 n9 n10 n11 = over_one (SingleByte Iso8859_13) single_byte_bytes i made x s h
-  over_single Iso8859_14 i made x s h n0 n1 n2 n3 n4 n5 n6 n7 n8 n9 n10 n11 = over_one (SingleByte Iso8859_14) single_byte_bytes i made x s h
-  over_single Iso8859_15 i made x s h n0 n1 n2 n3 n4 n5 n6 n7 n8 n9 n10 n11 = over_one (SingleByte Iso8859_15) single_byte_bytes i made x s h
-  over_single Iso8859_16 i made x s h n0 n1 n2 n3 n4 n5 n6 n7 n8 n9 n10 n11 = over_one (SingleByte Iso8859_16) single_byte_bytes i made x s h
-  over_single Koi8R i made x s h n0 n1 n2 n3 n4 n5 n6 n7 n8 n9 n10 n11 = over_one (SingleByte Koi8R) single_byte_bytes i made x s h
-  over_single Koi8U i made x s h n0 n1 n2 n3 n4 n5 n6 n7 n8 n9 n10 n11 = over_one (SingleByte Koi8U) single_byte_bytes i made x s h
-  over_single Macintosh i made x s h n0 n1 n2 n3 n4 n5 n6 n7 n8 n9 n10 n11 = over_one (SingleByte Macintosh) single_byte_bytes i made x s h
-  over_single Windows874 i made x s h n0 n1 n2 n3 n4 n5 n6 n7 n8 n9 n10 n11 = over_one (SingleByte Windows874) single_byte_bytes i made x s h
-  over_single Windows1250 i made x s h n0 n1 n2 n3 n4 n5 n6 n7 n8 n9 n10 n11 = over_one (SingleByte Windows1250) single_byte_bytes i made x s h
-  over_single Windows1251 i made x s h n0 n1 n2 n3 n4 n5 n6 n7 n8 n9 n10 n11 = over_one (SingleByte Windows1251) single_byte_bytes i made x s h
-  over_single Windows1252 i made x s h n0 n1 n2 n3 n4 n5 n6 n7 n8 n9 n10 n11 = over_one (SingleByte Windows1252) single_byte_bytes i made x s h
-  over_single Windows1253 i made x s h n0 n1 n2 n3 n4 n5 n6 n7 n8 n9 n10 n11 = over_one (SingleByte Windows1253) single_byte_bytes i made x s h
-  over_single Windows1254 i made x s h n0 n1 n2 n3 n4 n5 n6 n7 n8 n9 n10 n11 = over_one (SingleByte Windows1254) single_byte_bytes i made x s h
-  over_single Windows1255 i made x s h n0 n1 n2 n3 n4 n5 n6 n7 n8 n9 n10 n11 = over_one (SingleByte Windows1255) single_byte_bytes i made x s h
-  over_single Windows1256 i made x s h n0 n1 n2 n3 n4 n5 n6 n7 n8 n9 n10 n11 = over_one (SingleByte Windows1256) single_byte_bytes i made x s h
-  over_single Windows1257 i made x s h n0 n1 n2 n3 n4 n5 n6 n7 n8 n9 n10 n11 = over_one (SingleByte Windows1257) single_byte_bytes i made x s h
-  over_single Windows1258 i made x s h n0 n1 n2 n3 n4 n5 n6 n7 n8 n9 n10 n11 = over_one (SingleByte Windows1258) single_byte_bytes i made x s h
-  over_single XMacCyrillic i made x s h n0 n1 n2 n3 n4 n5 n6 n7 n8 n9 n10 n11 = over_one (SingleByte XMacCyrillic) single_byte_bytes i made x s h
+  over_single e i made x s h n0 n1 n2 n3 n4 n5 n6 n7 n8 n9 n10 n11 = over_one (SingleByte e) single_byte_bytes i made x s h

@@ -1,2 +1,3 @@
 pub mod AsciiRuns
 pub mod Choosing
+pub mod Utf16Forms

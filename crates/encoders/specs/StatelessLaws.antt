@@ -1,4 +1,4 @@
--- What all encoders that keep no state have in common.
+-- Proofs that a trait asks for; there is nothing to believe here. What all encoders that keep no state have in common.
 use Rattle.std.specs.Prelude.{◌≡◌, ℕ, Bool, true, List, Option, Some, if◌then◌else◌}
 use Rattle.std.proofs.Common.{ap}
 use Rattle.decoder_core.specs.Forms.{is_ascii}

@@ -18,7 +18,7 @@ use crate::mode::EncodeMode;
 use crate::shift_jis::ShiftJisEncoder;
 use crate::single_byte::SingleByteEncoder;
 use crate::stateless::{ByBytes, Stateless};
-use crate::utf16::Utf16Encoder;
+use crate::utf16::encode_utf16;
 use crate::x_user_defined::XUserDefinedEncoder;
 use enc_names::Encoding;
 use index_loader::{Index, IndexKind, Indexes};
@@ -41,8 +41,8 @@ pub fn encode(
     match encoding {
         Encoding::Utf8 => Ok(Vec::from_slice(alloc, text.as_bytes())?),
         Encoding::Replacement => Err(EncodeFault::NoEncoder),
-        Encoding::Utf16Be => encode_with(alloc, &Utf16Encoder { big: true }, mode, text),
-        Encoding::Utf16Le => encode_with(alloc, &Utf16Encoder { big: false }, mode, text),
+        Encoding::Utf16Be => Ok(encode_utf16(alloc, true, text)?),
+        Encoding::Utf16Le => Ok(encode_utf16(alloc, false, text)?),
         Encoding::XUserDefined => encode_bytes(alloc, &XUserDefinedEncoder, mode, text),
         Encoding::Iso2022Jp => {
             if !indexes.has(encoding) {

@@ -1,57 +1,75 @@
-//! The encoders of UTF-16BE and UTF-16LE.
-ghost use Rattle.std.specs.Prelude.{◌≡◌, ◌<◌, [], ◌∷◌, Some};
-ghost use Rattle.decoder_core.specs.Steps.{bytes_of};
-ghost use Rattle.encoders.specs.Stateless.{stateless};
-ghost use Rattle.encoders.specs.Utf16.{unit_bytes, utf16_bytes};
+//! UTF-16BE and UTF-16LE.
+ghost use Rattle.std.specs.Prelude.{◌≡◌, ◌*◌, ◌≤◌, ◌++◌, false, length, take, IfOk, OnOk};
+ghost use Rattle.std.specs.Str.{chars};
+ghost use Rattle.lane_utf.specs.Utf16.{utf16_forms};
+ghost use Rattle.encoders.specs.Utf16.{units_bytes};
 
-use crate::stateless::bytes_turn;
-use decoder_core::Few;
-use iso2022jp::{Encoder, EncoderTurn};
+use lane_ascii::swap_pairs;
+use lane_utf::{count_utf16, utf8_to_utf16};
+use std::alloc::{AllocError, Global};
 
-/// The bytes of a code unit, big-endian or not.
-fn unit_bytes(big: bool, unit: u32) -> (u8, u8)
-    requires { unit < 0x10000 }
-    ensures { result.0 ∷ result.1 ∷ [] ≡ unit_bytes big unit }
+/// How many bytes of a text are converted at once; they have at most as many units.
+const PART: usize = 512;
+
+/// The UTF-16 form of a text (Unicode, chapter 3, D91), big-endian or not, without a byte order
+/// mark.
+pub(crate) fn encode_utf16(alloc: Global, big: bool, text: &str) -> Result<Vec<u8>, AllocError>
+    ensures { IfOk result (λ bytes. bytes.items ≡ units_bytes big (utf16_forms (chars text.now))) }
 {
-    let high = (unit / 0x100) as u8;
-    let low = (unit % 0x100) as u8;
-    if big { (high, low) } else { (low, high) }
+    let mut bytes = Vec::with_capacity(alloc, count_utf16(text).saturating_mul(2))?;
+    let mut rest = text;
+    'parts: while !rest.is_empty() {
+        let (part, behind) = rest.split_at(rest.floor_char_boundary(PART));
+        put_part(big, part, &mut bytes)?;
+        rest = behind;
+    }
+    Ok(bytes)
 }
 
-/// The bytes of a code point (Unicode, chapter 3, D91), big-endian or not.
-fn utf16_bytes(big: bool, code_point: char) -> Few
-    ensures { Some (bytes_of result) ≡ utf16_bytes big code_point }
+/// Puts the bytes of a part.
+fn put_part(big: bool, part: &str, bytes: &mut Vec<u8>) -> Result<(), AllocError>
+    requires { length part.now ≤ 512 }
+    ensures { OnOk result (bytes.new.items ≡ bytes.old.items ++ units_bytes big (utf16_forms (chars part.now))) }
 {
-    let value = u32::from(code_point);
-    if value < 0x10000 {
-        let (a, b) = unit_bytes(big, value);
-        return Few::Two(a, b);
-    }
-    let above = value - 0x10000;
-    let (a, b) = unit_bytes(big, 0xD800 + above / 0x400);
-    let (c, d) = unit_bytes(big, 0xDC00 + above % 0x400);
-    Few::Four(a, b, c, d)
+    let mut units = [0; 512];
+    let mut block = [0; 1024];
+    let count = form_of(part, &mut units);
+    write_units(big, &units[..count], &mut block);
+    bytes.extend_from_slice(&block[..2 * count])
 }
 
-/// The UTF-16 encoder, which has each code point and puts no byte order mark.
-#[derive(Drop)]
-pub(crate) struct Utf16Encoder {
-    /// Whether the more significant byte of a unit comes first.
-    pub big: bool,
+/// Writes the units of a part, and returns their number.
+fn form_of(part: &str, units: &mut [u16; 512]) -> usize
+    requires { length part.now ≤ 512 }
+    ensures few { result ≤ 512 }
+    ensures form { take result units.new ≡ utf16_forms (chars part.now) }
+{
+    match utf8_to_utf16(part, units) {
+        Ok(count) => count,
+        Err(_) => unreachable!(),
+    }
 }
 
-impl Encoder for Utf16Encoder {
-    type State = ();
-
-    ghost table = { λ e. stateless (utf16_bytes e.big) };
-
-    #[inline(always)]
-    fn turn(&self, _state: (), code_point: char) -> EncoderTurn<()> {
-        bytes_turn(code_point, Some(utf16_bytes(self.big, code_point)))
+/// Writes the bytes of the units.
+fn write_units(big: bool, units: &[u16], block: &mut [u8; 1024])
+    requires { length units.now ≤ 512 }
+    ensures { take (2 * length units.now) block.new ≡ units_bytes big units.now }
+{
+    write_little(units, block);
+    if big {
+        swap_pairs(&mut block[..2 * units.len()]);
     }
+}
 
-    /// None, since no code point is one byte.
-    fn plain_run(&self, _state: (), _text: &[u8]) -> usize {
-        0
+/// Writes the bytes of the units, the low byte of each first.
+fn write_little(units: &[u16], block: &mut [u8; 1024])
+    requires { length units.now ≤ 512 }
+    ensures { take (2 * length units.now) block.new ≡ units_bytes false units.now }
+{
+    let mut at = 0;
+    'units: while at < units.len() {
+        block[2 * at] = (units[at] % 0x100) as u8;
+        block[2 * at + 1] = (units[at] / 0x100) as u8;
+        at += 1;
     }
 }

@@ -1,34 +1,32 @@
 -- The least and the greatest of the numbers of a list that pass a test.
-use Rattle.std.proofs.Common.{◌≡◌, ℕ, ◌+◌, ◌≤◌, ◌<◌, ◌&&◌, Bool, true, not, List, filter, Option, Some, None, nat_le, subst, sym, arith}
+use Rattle.std.proofs.Common.{◌≡◌, ℕ, ◌+◌, ◌≤◌, ◌<◌, ◌&&◌, Bool, true, not, List, filter, Option, Some, None, IfSome, nat_le, subst, sym, arith}
 use Rattle.std.proofs.lemmas.Bool.Decides.{nat_tests}
 use Rattle.index_loader.specs.Pairs.{least, greatest}
-use Rattle.index_loader.proofs.Members.{Within, IsLeast, IsGreatest, has-filter, from-filter, is-least, is-greatest, least-is, greatest-is}
+use Rattle.index_loader.proofs.Members.{IsFirst, IsLeast, IsGreatest, moved-first, has-filter, from-filter, is-least, is-greatest, least-is, greatest-is}
 
 module _ (test : ℕ → Bool) (ns : List ℕ) where
+  -- what comes first stays so where it passes
+  first-kept : (order : ℕ → ℕ → Type 0) (o : Option ℕ) → IfSome o (λ n. test n ≡ true) → IsFirst order ns o → IsFirst order (filter test ns) o
+  first-kept order None passes none = λ k h. none k (from-filter test ns k h).0
+  first-kept order (Some n) passes one = (has-filter test ns n one.0 passes, λ k h. one.1 k (from-filter test ns k h).0)
+
+  least-of : (o : Option ℕ) → IfSome o (λ n. test n ≡ true) → o ≡ least ns → o ≡ least (filter test ns)
+  least-of o passes e = least-is (filter test ns) o (first-kept (λ m n. m ≤ n) o passes (subst (IsLeast ns) (sym e) (is-least ns)))
+
+  greatest-of : (o : Option ℕ) → IfSome o (λ n. test n ≡ true) → o ≡ greatest ns → o ≡ greatest (filter test ns)
+  greatest-of o passes e = greatest-is (filter test ns) o (first-kept (λ m n. n ≤ m) o passes (subst (IsGreatest ns) (sym e) (is-greatest ns)))
+
   pub least-none : None ≡ least ns → None ≡ least (filter test ns)
-  least-none e =
-      let none : IsLeast ns None = subst (IsLeast ns) (sym e) (is-least ns) in
-      least-is (filter test ns) None (λ k h. none k (from-filter test ns k h).0)
+  least-none e = least-of None tt e
 
   pub least-kept : (n : ℕ) → Some n ≡ least ns → test n ≡ true → Some n ≡ least (filter test ns)
-  least-kept n e passes =
-      let one : IsLeast ns (Some n) = subst (IsLeast ns) (sym e) (is-least ns) in
-      least-is (filter test ns) (Some n) (has-filter test ns n one.0 passes, λ k h. one.1 k (from-filter test ns k h).0)
+  least-kept n e passes = least-of (Some n) passes e
 
   pub greatest-none : None ≡ greatest ns → None ≡ greatest (filter test ns)
-  greatest-none e =
-      let none : IsGreatest ns None = subst (IsGreatest ns) (sym e) (is-greatest ns) in
-      greatest-is (filter test ns) None (λ k h. none k (from-filter test ns k h).0)
+  greatest-none e = greatest-of None tt e
 
   pub greatest-kept : (n : ℕ) → Some n ≡ greatest ns → test n ≡ true → Some n ≡ greatest (filter test ns)
-  greatest-kept n e passes =
-      let one : IsGreatest ns (Some n) = subst (IsGreatest ns) (sym e) (is-greatest ns) in
-      greatest-is (filter test ns) (Some n) (has-filter test ns n one.0 passes, λ k h. one.1 k (from-filter test ns k h).0)
-
--- lists with the same numbers have the same least
-is-moved : (ns ms : List ℕ) (o : Option ℕ) → Within ns ms → Within ms ns → IsLeast ns o → IsLeast ms o
-is-moved ns ms None there back none = λ k h. none k (back k h)
-is-moved ns ms (Some n) there back one = (there n one.0, λ k h. one.1 k (back k h))
+  greatest-kept n e passes = greatest-of (Some n) passes e
 
 above : (bound k : ℕ) → nat_le bound k ≡ true → bound ≤ k
 above bound k h = grind (arith, nat_tests)
@@ -49,7 +47,7 @@ least-behind low high ns n e from =
     let one : IsLeast ns (Some n) = subst (IsLeast ns) (sym e) (is-least ns) in
     let outside : ℕ → Bool = λ p. not (nat_le low p && nat_le p high) in
     least-is (filter outside ns) (least (filter (nat_le (high + 1)) ns))
-    (is-moved (filter (nat_le (high + 1)) ns) (filter outside ns) (least (filter (nat_le (high + 1)) ns))
+    (moved-first (λ m n. m ≤ n) (filter (nat_le (high + 1)) ns) (filter outside ns) (least (filter (nat_le (high + 1)) ns))
     (λ k h. let r = from-filter (nat_le (high + 1)) ns k h in has-filter outside ns k r.0 (is-outside low high k (above (high + 1) k r.1)))
     (λ k h. let r = from-filter outside ns k h in
     let b = one.1 k r.0 in

@@ -16,8 +16,8 @@ use Rattle.index_loader.specs.declared.fault.IndexFault.{IndexFault}
 use Rattle.index_loader.specs.declared.kind.IndexKind.{IndexKind}
 use Rattle.index_loader.specs.File.{FaultIs, IsReading, has_needed_rows, if_complete, pairs_from, pairs_with}
 use Rattle.index_loader.specs.Index.{Loaded, is_ranges}
-use Rattle.index_loader.specs.FileLaws.{AreSpelt, IsEntry, IsFaulty, IsFirstFault, Repeats, reading_at}
-use Rattle.index_loader.specs.Lines.{lines_of, allows, code_point_in, code_point_spelt, fields_of, is_skipped, number_in, pair_behind, pair_in, pair_of_text, pair_with, refusal_of, stripped}
+use Rattle.index_loader.specs.FileLaws.{AreParsed, IsEntry, IsFaulty, IsFirstFault, Repeats, reading_at}
+use Rattle.index_loader.specs.Lines.{lines_of, allows, code_point_in, scalar_in, fields_of, is_skipped, number_in, pair_behind, pair_in, pair_of_text, pair_with, refusal_of, stripped}
 use Rattle.index_loader.specs.Pairs.{Pairs, code_point_at, inserted}
 use Rattle.index_loader.specs.Rows.{IsRising}
 use Rattle.index_loader.specs.Scalars.{as_scalar}
@@ -120,24 +120,24 @@ abbrev Step : IndexKind → List (List ℕ) → ℕ → Result Pairs IndexFault 
 Step kind lines n (Ok pairs) = ReadTo kind lines (n + 1) pairs
 Step kind lines n (Err fault) = (fault.line ≡ n + 1) × IsFaulty kind lines n fault.cause
 
--- what a line without a cause spells
-abbrev spells : Option (ℕ × ℕ) → Result (Option (ℕ × ℕ)) IndexCause
-spells o = Ok o
+-- what a line without a cause holds
+abbrev holds : Option (ℕ × ℕ) → Result (Option (ℕ × ℕ)) IndexCause
+holds o = Ok o
 
-ok-nothing : (pair : ℕ × ℕ) → spells (Some pair) ≡ spells None → ⊥
+ok-nothing : (pair : ℕ × ℕ) → holds (Some pair) ≡ holds None → ⊥
 ok-nothing pair e = cc
 
-same-pair : (a b : ℕ × ℕ) → spells (Some a) ≡ spells (Some b) → a ≡ b
+same-pair : (a b : ℕ × ℕ) → holds (Some a) ≡ holds (Some b) → a ≡ b
 same-pair a b e = cc
 
-ok-err : (o : Option (ℕ × ℕ)) (cause : IndexCause) → spells o ≡ Err cause → ⊥
+ok-err : (o : Option (ℕ × ℕ)) (cause : IndexCause) → holds o ≡ Err cause → ⊥
 ok-err o cause e = cc
 
 good-nothing : (kind : IndexKind) (lines : List (List ℕ)) (k : ℕ) (cause : IndexCause) → reading_at kind lines k ≡ Ok None → IsFaulty kind lines k cause → ⊥
 good-nothing kind lines k cause is faulty =
     ⊎_elim
     (λ (e : reading_at kind lines k ≡ Err cause). ok-err None cause (sym is ∙ e))
-    (λ (twice : (cause ≡ DuplicatePointer) × Repeats kind lines k). ok-nothing twice.1.pair (sym twice.1.spelt ∙ is))
+    (λ (twice : (cause ≡ DuplicatePointer) × Repeats kind lines k). ok-nothing twice.1.pair (sym twice.1.parsed ∙ is))
     faulty
 
 good-inserted : (kind : IndexKind) (lines : List (List ℕ)) (n k : ℕ) (pairs : Pairs) (new : ℕ × ℕ) → ReadTo kind lines n pairs → k ≡ n → reading_at kind lines k ≡ Ok (Some new) → is_some (code_point_at pairs new.0) ≡ false → (cause : IndexCause) → IsFaulty kind lines k cause → ⊥
@@ -146,22 +146,22 @@ good-inserted kind lines n k pairs new read here is fresh cause faulty =
     (λ (e : reading_at kind lines k ≡ Err cause). ok-err (Some new) cause (sym is ∙ e))
     (λ (twice : (cause ≡ DuplicatePointer) × Repeats kind lines k).
     let rep = twice.1 in
-    let same : rep.pair ≡ new = same-pair rep.pair new (sym rep.spelt ∙ is) in
-    let old : Has rep.other pairs = read.into rep.earlier rep.other (let above = rep.above in omega arith) rep.spelt_above in
+    let same : rep.pair ≡ new = same-pair rep.pair new (sym rep.parsed ∙ is) in
+    let old : Has rep.other pairs = read.into rep.earlier rep.other (let above = rep.above in omega arith) rep.parsed_above in
     let pointer : rep.other.0 ≡ new.0 = rep.same ∙ ap (λ (p : ℕ × ℕ). p.0) same in
     fresh-pointer pairs new rep.other fresh old pointer)
     faulty
 
--- a line that spells nothing
+-- a line that holds nothing
 step-nothing : (kind : IndexKind) (lines : List (List ℕ)) (n : ℕ) (pairs : Pairs) → ReadTo kind lines n pairs → reading_at kind lines n ≡ Ok None → ReadTo kind lines (n + 1) pairs
 step-nothing kind lines n pairs read is = record {
   from = λ pair h. let r = read.from pair h in (r.0, omega arith, r.2);
-  into = λ k pair lt spelt.
+  into = λ k pair lt parsed.
       ⊎_elim
-      (λ (before : k < n). read.into k pair before spelt)
+      (λ (before : k < n). read.into k pair before parsed)
       (λ (last : n ≤ k).
       let here : k ≡ n = omega arith in
-      let spelt' : Ok (Some pair) ≡ Ok None = sym spelt ∙ ap (reading_at kind lines) here ∙ is in absurd (ok-nothing pair spelt'))
+      let parsed' : Ok (Some pair) ≡ Ok None = sym parsed ∙ ap (reading_at kind lines) here ∙ is in absurd (ok-nothing pair parsed'))
       (cases_lt k n);
   good = λ k cause lt faulty.
       ⊎_elim
@@ -182,12 +182,12 @@ step-inserted kind lines n pairs new read is fresh = record {
       (λ (e : new ≡ pair). (n, omega arith, subst (λ (p : ℕ × ℕ). reading_at kind lines n ≡ Ok (Some p)) e is))
       (λ (old : Has pair pairs). let r = read.from pair old in (r.0, omega arith, r.2))
       (from-inserted new pair pairs h);
-  into = λ k pair lt spelt.
+  into = λ k pair lt parsed.
       ⊎_elim
-      (λ (before : k < n). kept-inserted new pair pairs (read.into k pair before spelt))
+      (λ (before : k < n). kept-inserted new pair pairs (read.into k pair before parsed))
       (λ (last : n ≤ k).
       let here : k ≡ n = omega arith in
-      let same : Ok (Some new) ≡ Ok (Some pair) = sym is ∙ ap (reading_at kind lines) (sym here) ∙ spelt in
+      let same : Ok (Some new) ≡ Ok (Some pair) = sym is ∙ ap (reading_at kind lines) (sym here) ∙ parsed in
       subst (λ (p : ℕ × ℕ). Has p (inserted new pairs)) (same-pair new pair same) (has-inserted new pairs))
       (cases_lt k n);
   good = λ k cause lt faulty.
@@ -205,7 +205,7 @@ step-pair : (kind : IndexKind) (lines : List (List ℕ)) (n : ℕ) (pairs : Pair
 step-pair kind lines n pairs new read is true there =
     let p = pair-of_pointer pairs new.0 there in
     let r = read.from p.0 p.1 in
-    (refl, inr (refl, record { pair = new; spelt = is; earlier = r.0; above = r.1; other = p.0; spelt_above = r.2; same = p.2 }))
+    (refl, inr (refl, record { pair = new; parsed = is; earlier = r.0; above = r.1; other = p.0; parsed_above = r.2; same = p.2 }))
 step-pair kind lines n pairs new read is false fresh = step-inserted kind lines n pairs new read is fresh
 
 step : (kind : IndexKind) (lines : List (List ℕ)) (n : ℕ) (pairs : Pairs) → ReadTo kind lines n pairs → (r : Result (Option (ℕ × ℕ)) IndexCause) → reading_at kind lines n ≡ r → Step kind lines n (pairs_with (n + 1) pairs r)
@@ -237,7 +237,7 @@ run kind lines (suc m) n pairs e read =
 read-none : (kind : IndexKind) (lines : List (List ℕ)) → ReadTo kind lines 0 []
 read-none kind lines = record {
   from = λ pair h. absurd h;
-  into = λ k pair lt spelt. absurd (omega arith);
+  into = λ k pair lt parsed. absurd (omega arith);
   good = λ k cause lt faulty. absurd (omega arith);
   rising = tt;
 }
@@ -245,15 +245,15 @@ read-none kind lines = record {
 outcome : (kind : IndexKind) (lines : List (List ℕ)) → Outcome kind lines (pairs_from kind (Ok []) 1 lines)
 outcome kind lines = run kind lines (length lines) 0 [] (omega arith) (read-none kind lines)
 
--- the code point that a field spells is a scalar value
+-- the code point that a field holds is a scalar value
 as_scalar-scalar : (n c : ℕ) → as_scalar n ≡ Some c → IsScalar c
 as_scalar-scalar n c is = go (scalar n) refl is where
   go : (b : Bool) → scalar n ≡ b → (if b then Some n else None) ≡ Some c → IsScalar c
   go true e same = let f : n ≡ c = cc in rw (← f) e
   go false e same = absurd (none-some c same)
 
-spelt-scalar : (text : List ℕ) (c : ℕ) → code_point_spelt text ≡ Some c → IsScalar c
-spelt-scalar text c is = go (starts_with nat_eq text (0x30 ∷ 0x78 ∷ [])) (number_in 16 (drop 2 text)) is where
+parsed-scalar : (text : List ℕ) (c : ℕ) → scalar_in text ≡ Some c → IsScalar c
+parsed-scalar text c is = go (starts_with nat_eq text (0x30 ∷ 0x78 ∷ [])) (number_in 16 (drop 2 text)) is where
   go : (b : Bool) (o : Option ℕ) → (if b then option_and_then as_scalar o else None) ≡ Some c → IsScalar c
   go true None same = absurd (none-some c same)
   go true (Some n) same = as_scalar-scalar n c same
@@ -261,7 +261,7 @@ spelt-scalar text c is = go (starts_with nat_eq text (0x30 ∷ 0x78 ∷ [])) (nu
 
 behind-scalar : (fields : List (List ℕ)) (c : ℕ) → code_point_in fields ≡ Some c → IsScalar c
 behind-scalar [] c is = absurd (none-some c is)
-behind-scalar (field ∷ fields) c is = spelt-scalar (stripped field) c is
+behind-scalar (field ∷ fields) c is = parsed-scalar (stripped field) c is
 
 -- a pair with its code point may stand in the file
 entry-with : (kind : IndexKind) (pointer : ℕ) (o : Option ℕ) (pair : ℕ × ℕ) → ((c : ℕ) → o ≡ Some c → IsScalar c) → pair_with kind pointer o ≡ Ok (Some pair) → IsEntry kind pair
@@ -286,13 +286,13 @@ entry-of_text kind text pair is = go (is_skipped text) is where
   go false same = entry-in kind (fields_of text) pair same
 
 -- what a reading without a fault says
-pub spelt-pairs : (kind : IndexKind) (lines : List (List ℕ)) (pairs : Pairs) → pairs_from kind (Ok []) 1 lines ≡ Ok pairs → AreSpelt kind lines pairs
-spelt-pairs kind lines pairs is =
+pub parsed-pairs : (kind : IndexKind) (lines : List (List ℕ)) (pairs : Pairs) → pairs_from kind (Ok []) 1 lines ≡ Ok pairs → AreParsed kind lines pairs
+parsed-pairs kind lines pairs is =
     let read : ReadTo kind lines (length lines) pairs = subst (λ (r : Result Pairs IndexFault). Outcome kind lines r) is (outcome kind lines) in
     record {
-      spelt = λ pair. (
-        λ there. let r = read.from pair (has-contains pairs pair there) in record { place = r.0; within = r.1; spelt = r.2 },
-        λ spells. contains-has pairs pair (read.into spells.place pair spells.within spells.spelt),
+      parsed = λ pair. (
+        λ there. let r = read.from pair (has-contains pairs pair there) in record { place = r.0; within = r.1; parsed = r.2 },
+        λ holds. contains-has pairs pair (read.into holds.place pair holds.within holds.parsed),
       );
       rising = read.rising;
       entries = λ k d lt. let r = read.from (get_or pairs k d) (has-get_or pairs k d lt) in entry-of_text kind (strip_carriage_return (get_or lines r.0 [])) (get_or pairs k d) r.2;
@@ -337,18 +337,18 @@ from-incomplete kind (Ok ps) fault is lt = go (is_ranges kind && not (has_needed
   go false same = same
 
 -- the laws of a reading
-pub reading-pairs : (kind : IndexKind) (bytes : List ℕ) (r : Result Loaded IndexFault) → IsReading kind bytes r → IfOk r (λ index. AreSpelt kind (lines_of bytes) index.pairs)
-reading-pairs kind bytes (Ok index) reading = spelt-pairs kind (lines_of bytes) index.pairs (from-complete kind _ index.pairs reading.0)
+pub reading-pairs : (kind : IndexKind) (bytes : List ℕ) (r : Result Loaded IndexFault) → IsReading kind bytes r → IfOk r (λ index. AreParsed kind (lines_of bytes) index.pairs)
+reading-pairs kind bytes (Ok index) reading = parsed-pairs kind (lines_of bytes) index.pairs (from-complete kind _ index.pairs reading.0)
 reading-pairs kind bytes (Err fault) reading = tt
 
-fault-spelt : (cause : IndexCause) (fault : IndexFault) (spelt : Result Pairs IndexFault) → FaultIs cause fault spelt → 0 < fault.line → spelt ≡ Err fault
-fault-spelt BadPointer fault spelt is lt = is
-fault-spelt BadCodePoint fault spelt is lt = is
-fault-spelt PointerTooLarge fault spelt is lt = is
-fault-spelt BadRanges fault spelt is lt = is
-fault-spelt DuplicatePointer fault spelt is lt = is
-fault-spelt OutOfMemory fault spelt is lt = absurd (omega arith)
+fault-parsed : (cause : IndexCause) (fault : IndexFault) (parsed : Result Pairs IndexFault) → FaultIs cause fault parsed → 0 < fault.line → parsed ≡ Err fault
+fault-parsed BadPointer fault parsed is lt = is
+fault-parsed BadCodePoint fault parsed is lt = is
+fault-parsed PointerTooLarge fault parsed is lt = is
+fault-parsed BadRanges fault parsed is lt = is
+fault-parsed DuplicatePointer fault parsed is lt = is
+fault-parsed OutOfMemory fault parsed is lt = absurd (omega arith)
 
 pub reading-fault : (kind : IndexKind) (bytes : List ℕ) (r : Result Loaded IndexFault) → IsReading kind bytes r → IfErr r (λ fault. 0 < fault.line → IsFirstFault kind (lines_of bytes) fault)
 reading-fault kind bytes (Ok index) reading = tt
-reading-fault kind bytes (Err fault) reading = λ lt. first-fault kind (lines_of bytes) fault (from-incomplete kind _ fault (fault-spelt fault.cause fault _ reading lt) lt)
+reading-fault kind bytes (Err fault) reading = λ lt. first-fault kind (lines_of bytes) fault (from-incomplete kind _ fault (fault-parsed fault.cause fault _ reading lt) lt)

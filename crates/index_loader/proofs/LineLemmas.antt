@@ -7,7 +7,7 @@ use Rattle.index_loader.specs.declared.fault.IndexCause.{IndexCause}
 use Rattle.index_loader.specs.declared.fault.IndexCause.TheVariants.{BadPointer, BadCodePoint, PointerTooLarge, BadRanges, DuplicatePointer, OutOfMemory}
 use Rattle.index_loader.specs.declared.fault.IndexFault.{IndexFault}
 use Rattle.index_loader.specs.declared.kind.IndexKind.{IndexKind}
-use Rattle.index_loader.specs.File.{FaultIs, IsLineCause, has_needed_rows, if_complete, pairs_beside, pairs_from, pairs_spelt, with_line}
+use Rattle.index_loader.specs.File.{FaultIs, IsLineCause, has_needed_rows, if_complete, pairs_beside, pairs_from, pairs_parsed, with_line}
 use Rattle.index_loader.specs.Lines.{allows, allows_row, greatest_pointer, lines_of}
 use Rattle.index_loader.specs.Index.{is_ranges}
 use Rattle.index_loader.specs.Pairs.{Pairs}
@@ -24,11 +24,11 @@ fault-stays kind fault number (line ∷ lines) = fault-stays kind fault (number 
 
 -- the last lines, behind a faulty one
 pub lines-faulty : (kind : IndexKind) (above : Pairs) (number : ℕ) (line : List ℕ) (lines : List (List ℕ)) (fault : IndexFault) → with_line kind (Ok above) (number, line) ≡ Err fault → pairs_from kind (Ok above) number (line ∷ lines) ≡ Err fault
-lines-faulty kind above number line lines fault is = ap (λ spelt. pairs_from kind spelt (number + 1) lines) is ∙ fault-stays kind fault (number + 1) lines
+lines-faulty kind above number line lines fault is = ap (λ parsed. pairs_from kind parsed (number + 1) lines) is ∙ fault-stays kind fault (number + 1) lines
 
 -- one line
 pub lines-more : (kind : IndexKind) (above : Pairs) (number : ℕ) (line : List ℕ) (lines : List (List ℕ)) (pairs : Pairs) → with_line kind (Ok above) (number, line) ≡ Ok pairs → pairs_from kind (Ok above) number (line ∷ lines) ≡ pairs_from kind (Ok pairs) (number + 1) lines
-lines-more kind above number line lines pairs is = ap (λ spelt. pairs_from kind spelt (number + 1) lines) is
+lines-more kind above number line lines pairs is = ap (λ parsed. pairs_from kind parsed (number + 1) lines) is
 
 -- a pair whose pointer stands above
 pub pair-duplicate : (number : ℕ) (places : List (Option ℕ)) (pair : ℕ × ℕ) → is_some (get_or places pair.0 None) ≡ true → pairs_beside number (pairs_in places) pair ≡ Err (record { line = number; cause = DuplicatePointer })
@@ -54,17 +54,17 @@ allowed-place kind pointer code_point allowed =
     allowed
 
 -- a line's fault is no want of memory
-pub fault-of_line : (spelt : Result Pairs IndexFault) (line : ℕ) (cause : IndexCause) → IsLineCause cause → spelt ≡ Err (record { line = line; cause = cause }) → FaultIs cause (record { line = line; cause = cause }) spelt
-fault-of_line spelt line BadPointer of is = is
-fault-of_line spelt line BadCodePoint of is = is
-fault-of_line spelt line PointerTooLarge of is = is
-fault-of_line spelt line BadRanges of is = is
-fault-of_line spelt line DuplicatePointer of is = is
-fault-of_line spelt line OutOfMemory of is = absurd of
+pub fault-of_line : (parsed : Result Pairs IndexFault) (line : ℕ) (cause : IndexCause) → IsLineCause cause → parsed ≡ Err (record { line = line; cause = cause }) → FaultIs cause (record { line = line; cause = cause }) parsed
+fault-of_line parsed line BadPointer of is = is
+fault-of_line parsed line BadCodePoint of is = is
+fault-of_line parsed line PointerTooLarge of is = is
+fault-of_line parsed line BadRanges of is = is
+fault-of_line parsed line DuplicatePointer of is = is
+fault-of_line parsed line OutOfMemory of is = absurd of
 
 -- the file as a whole
-pub spelt-complete : (kind : IndexKind) (bytes : List ℕ) (pairs : Pairs) → pairs_from kind (Ok []) 1 (lines_of bytes) ≡ Ok pairs → false ≡ (is_ranges kind && not (has_needed_rows pairs)) → pairs_spelt kind bytes ≡ Ok pairs
-spelt-complete kind bytes pairs is complete = ap (if_complete kind) is ∙ rw (← complete) refl
+pub parsed-complete : (kind : IndexKind) (bytes : List ℕ) (pairs : Pairs) → pairs_from kind (Ok []) 1 (lines_of bytes) ≡ Ok pairs → false ≡ (is_ranges kind && not (has_needed_rows pairs)) → pairs_parsed kind bytes ≡ Ok pairs
+parsed-complete kind bytes pairs is complete = ap (if_complete kind) is ∙ rw (← complete) refl
 
-pub spelt-lacking : (kind : IndexKind) (bytes : List ℕ) (pairs : Pairs) → pairs_from kind (Ok []) 1 (lines_of bytes) ≡ Ok pairs → true ≡ (is_ranges kind && not (has_needed_rows pairs)) → pairs_spelt kind bytes ≡ Err (record { line = 0; cause = BadRanges })
-spelt-lacking kind bytes pairs is lacking = ap (if_complete kind) is ∙ rw (← lacking) refl
+pub parsed-lacking : (kind : IndexKind) (bytes : List ℕ) (pairs : Pairs) → pairs_from kind (Ok []) 1 (lines_of bytes) ≡ Ok pairs → true ≡ (is_ranges kind && not (has_needed_rows pairs)) → pairs_parsed kind bytes ≡ Err (record { line = 0; cause = BadRanges })
+parsed-lacking kind bytes pairs is lacking = ap (if_complete kind) is ∙ rw (← lacking) refl

@@ -57,15 +57,16 @@ from-map f [] n h = absurd h
 from-map f (y ∷ ys) n (inl e) = (y, inl refl, e)
 from-map f (y ∷ ys) n (inr h) = let r = from-map f ys n h in (r.0, inr r.1, r.2)
 
--- the number is in the list, and none is below it; or the list has none
-abbrev pub IsLeast : List ℕ → Option ℕ → Type 0
-IsLeast ns None = (n : ℕ) → Has n ns → ⊥
-IsLeast ns (Some m) = Has m ns × ((n : ℕ) → Has n ns → m ≤ n)
+-- the number is in the list, and it stands in this order to each; or the list has none
+abbrev pub IsFirst : (ℕ → ℕ → Type 0) → List ℕ → Option ℕ → Type 0
+IsFirst order ns None = (n : ℕ) → Has n ns → ⊥
+IsFirst order ns (Some m) = Has m ns × ((n : ℕ) → Has n ns → order m n)
 
--- the number is in the list, and none is above it; or the list has none
+abbrev pub IsLeast : List ℕ → Option ℕ → Type 0
+IsLeast ns o = IsFirst (λ m n. m ≤ n) ns o
+
 abbrev pub IsGreatest : List ℕ → Option ℕ → Type 0
-IsGreatest ns None = (n : ℕ) → Has n ns → ⊥
-IsGreatest ns (Some m) = Has m ns × ((n : ℕ) → Has n ns → n ≤ m)
+IsGreatest ns o = IsFirst (λ m n. n ≤ m) ns o
 
 least-cons : (n : ℕ) (ns : List ℕ) (o : Option ℕ) → IsLeast ns o → IsLeast (n ∷ ns) (Some (lesser n o))
 least-cons n ns None none = (inl refl, λ k h. ⊎_elim (λ (e : n ≡ k). omega arith) (λ (h : Has k ns). absurd (none k h)) h)
@@ -99,45 +100,34 @@ pub is-greatest : (ns : List ℕ) → IsGreatest ns (greatest ns)
 is-greatest [] = λ n h. h
 is-greatest (n ∷ ns) = greatest-cons n ns (greatest ns) (is-greatest ns)
 
--- there is one least
-same-least : (ns : List ℕ) (o p : Option ℕ) → IsLeast ns o → IsLeast ns p → o ≡ p
-same-least ns None None a b = refl
-same-least ns None (Some n) a b = absurd (a n b.0)
-same-least ns (Some m) None a b = absurd (b m a.0)
-same-least ns (Some m) (Some n) a b = let x = a.1 n b.0 in let y = b.1 m a.0 in ap Some (omega arith)
-
--- there is one greatest
-same-greatest : (ns : List ℕ) (o p : Option ℕ) → IsGreatest ns o → IsGreatest ns p → o ≡ p
-same-greatest ns None None a b = refl
-same-greatest ns None (Some n) a b = absurd (a n b.0)
-same-greatest ns (Some m) None a b = absurd (b m a.0)
-same-greatest ns (Some m) (Some n) a b = let x = a.1 n b.0 in let y = b.1 m a.0 in ap Some (omega arith)
+-- there is one
+same-first : (order : ℕ → ℕ → Type 0) (ns : List ℕ) → ((m n : ℕ) → order m n → order n m → m ≡ n) → (o p : Option ℕ) → IsFirst order ns o → IsFirst order ns p → o ≡ p
+same-first order ns one None None a b = refl
+same-first order ns one None (Some n) a b = absurd (a n b.0)
+same-first order ns one (Some m) None a b = absurd (b m a.0)
+same-first order ns one (Some m) (Some n) a b = ap Some (one m n (a.1 n b.0) (b.1 m a.0))
 
 pub least-is : (ns : List ℕ) (o : Option ℕ) → IsLeast ns o → o ≡ least ns
-least-is ns o is = same-least ns o (least ns) is (is-least ns)
+least-is ns o is = same-first (λ m n. m ≤ n) ns (λ m n a b. omega arith) o (least ns) is (is-least ns)
 
 pub greatest-is : (ns : List ℕ) (o : Option ℕ) → IsGreatest ns o → o ≡ greatest ns
-greatest-is ns o is = same-greatest ns o (greatest ns) is (is-greatest ns)
+greatest-is ns o is = same-first (λ m n. n ≤ m) ns (λ m n a b. omega arith) o (greatest ns) is (is-greatest ns)
 
 -- every element of one list is one of the other
 abbrev pub Within : {X : Type 0} → List X → List X → Type 0
 Within {X} xs ys = (x : X) → Has x xs → Has x ys
 
-moved-least : (ns ms : List ℕ) (o : Option ℕ) → Within ns ms → Within ms ns → IsLeast ns o → IsLeast ms o
-moved-least ns ms None to from none = λ n h. none n (from n h)
-moved-least ns ms (Some m) to from is = (to m is.0, λ n h. is.1 n (from n h))
-
-moved-greatest : (ns ms : List ℕ) (o : Option ℕ) → Within ns ms → Within ms ns → IsGreatest ns o → IsGreatest ms o
-moved-greatest ns ms None to from none = λ n h. none n (from n h)
-moved-greatest ns ms (Some m) to from is = (to m is.0, λ n h. is.1 n (from n h))
+pub moved-first : (order : ℕ → ℕ → Type 0) (ns ms : List ℕ) (o : Option ℕ) → Within ns ms → Within ms ns → IsFirst order ns o → IsFirst order ms o
+moved-first order ns ms None to from none = λ n h. none n (from n h)
+moved-first order ns ms (Some m) to from is = (to m is.0, λ n h. is.1 n (from n h))
 
 -- lists with the same elements have the same least
 pub least-same : (ns ms : List ℕ) → Within ns ms → Within ms ns → least ns ≡ least ms
-least-same ns ms to from = least-is ms (least ns) (moved-least ns ms (least ns) to from (is-least ns))
+least-same ns ms to from = least-is ms (least ns) (moved-first (λ m n. m ≤ n) ns ms (least ns) to from (is-least ns))
 
 -- and the same greatest
 pub greatest-same : (ns ms : List ℕ) → Within ns ms → Within ms ns → greatest ns ≡ greatest ms
-greatest-same ns ms to from = greatest-is ms (greatest ns) (moved-greatest ns ms (greatest ns) to from (is-greatest ns))
+greatest-same ns ms to from = greatest-is ms (greatest ns) (moved-first (λ m n. n ≤ m) ns ms (greatest ns) to from (is-greatest ns))
 
 pub within-filter : {X : Type 0} (test : X → Bool) (xs ys : List X) → Within xs ys → Within (filter test xs) (filter test ys)
 within-filter test xs ys to x h = let r = from-filter test xs x h in has-filter test ys x (to x r.0) r.1

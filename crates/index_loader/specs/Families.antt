@@ -1,4 +1,4 @@
--- Which encodings share a decoder (Encoding Standard, "Encodings"): the single-byte encodings have one, each over its own index file, and
+-- Which encodings share a decoder (Encoding Standard, "Names and labels" and "Legacy single-byte encodings"): the single-byte encodings have one, each over its own index file, and
 -- GBK has that of gb18030.
 use Rattle.enc_names.specs.declared.encoding.Encoding.{Encoding}
 use Rattle.enc_names.specs.declared.encoding.Encoding.TheVariants.{Utf8, Gbk, Gb18030, Big5, EucJp, Iso2022Jp, ShiftJis, EucKr, Replacement, Utf16Be, Utf16Le, XUserDefined}

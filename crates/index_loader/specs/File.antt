@@ -1,4 +1,4 @@
--- What an index file spells (Encoding Standard, "Indexes").
+-- What an index file holds (Encoding Standard, "Indexes").
 use Rattle.std.specs.Prelude.{◌≡◌, ℕ, ◌==◌, Bool, false, not, ◌&&◌, List, [], fold, Option, Some, None, is_some, Result, Ok, Err, if◌then◌else◌, ⊤}
 use Rattle.std.specs.List.{enumerate_from}
 use Rattle.index_loader.specs.declared.fault.IndexCause.{IndexCause}
@@ -15,7 +15,7 @@ abbrev pub pairs_beside : ℕ → Pairs → ℕ × ℕ → Result Pairs IndexFau
 pairs_beside number above pair =
     if is_some (code_point_at above pair.0) then Err (record { line = number; cause = DuplicatePointer }) else Ok (inserted pair above)
 
--- what a line spells beside the pairs of the lines above
+-- the pairs of the lines above and of this one
 abbrev pub pairs_with : ℕ → Pairs → Result (Option (ℕ × ℕ)) IndexCause → Result Pairs IndexFault
 pairs_with number above (Err cause) = Err (record { line = number; cause = cause })
 pairs_with number above (Ok None) = Ok above
@@ -26,7 +26,7 @@ abbrev pub with_line : IndexKind → Result Pairs IndexFault → ℕ × List ℕ
 with_line kind (Err fault) line = Err fault
 with_line kind (Ok above) line = pairs_with line.0 above (pair_on kind line.1)
 
--- the pairs that numbered lines spell beside those of the lines above, or the fault of the first faulty line
+-- the pairs of the lines above and of these numbered ones, or the fault of the first faulty line
 abbrev pub pairs_from : IndexKind → Result Pairs IndexFault → ℕ → List (List ℕ) → Result Pairs IndexFault
 pairs_from kind above number lines = fold (with_line kind) above (enumerate_from number lines)
 
@@ -45,9 +45,9 @@ if_complete kind (Err fault) = Err fault
 if_complete kind (Ok pairs) =
     if is_ranges kind && not (has_needed_rows pairs) then Err (record { line = 0; cause = BadRanges }) else Ok pairs
 
--- the pairs that a file spells, or its first fault
-abbrev pub pairs_spelt : IndexKind → List ℕ → Result Pairs IndexFault
-pairs_spelt kind bytes = if_complete kind (pairs_from kind (Ok []) 1 (lines_of bytes))
+-- the pairs that a file holds, or its first fault
+abbrev pub pairs_parsed : IndexKind → List ℕ → Result Pairs IndexFault
+pairs_parsed kind bytes = if_complete kind (pairs_from kind (Ok []) 1 (lines_of bytes))
 
 -- a cause that a line can have
 abbrev pub IsLineCause : IndexCause → Type 0
@@ -56,10 +56,10 @@ IsLineCause _ = ⊤
 
 -- the fault is the file's first, or memory was refused
 abbrev pub FaultIs : IndexCause → IndexFault → Result Pairs IndexFault → Type 0
-FaultIs OutOfMemory fault spelt = fault.line ≡ 0
-FaultIs _ fault spelt = spelt ≡ Err fault
+FaultIs OutOfMemory fault parsed = fault.line ≡ 0
+FaultIs _ fault parsed = parsed ≡ Err fault
 
 -- what a reading of the file answers: an index of its pairs, or a fault
 abbrev pub IsReading : IndexKind → List ℕ → Result Loaded IndexFault → Type 0
-IsReading kind bytes (Ok index) = (pairs_spelt kind bytes ≡ Ok index.pairs) × (index.kind ≡ home_of kind)
-IsReading kind bytes (Err fault) = FaultIs fault.cause fault (pairs_spelt kind bytes)
+IsReading kind bytes (Ok index) = (pairs_parsed kind bytes ≡ Ok index.pairs) × (index.kind ≡ home_of kind)
+IsReading kind bytes (Err fault) = FaultIs fault.cause fault (pairs_parsed kind bytes)

@@ -5,7 +5,7 @@ use Rattle.index_loader.specs.declared.kind.IndexKind.TheVariants.{Gb18030Ranges
 use Rattle.index_loader.specs.Pairs.{Pairs, code_point_at, pointers_with, least, greatest}
 use Rattle.index_loader.specs.Ranges.{range_code_point, range_pointer}
 
--- an index: the kind of its file and the pairs that the file spells
+-- an index: the kind of its file and the pairs that the file holds
 pub record Loaded : Type 0 where
   pub kind : IndexKind
   pub pairs : Pairs

@@ -1,4 +1,4 @@
--- What a line of an index file spells (Encoding Standard, "Indexes").
+-- What a line of an index file holds (Encoding Standard, "Indexes").
 use Rattle.std.specs.Prelude.{ℕ, ◌==◌, nat_le, nat_eq, Bool, not, ◌&&◌, ◌||◌, List, [], ◌∷◌, length, drop, reverse, slice_index, Option, Some, None, Result, Ok, Err, if◌then◌else◌, option_and_then}
 use Rattle.std.specs.Char.{is_digit}
 use Rattle.std.specs.List.{list_all, slice_split, starts_with}
@@ -19,7 +19,7 @@ lines_of bytes = slice_split (λ b. b == 0x0A) bytes
 abbrev pub fields_of : List ℕ → List (List ℕ)
 fields_of line = slice_split (λ b. b == 0x09) line
 
--- empty lines and lines that start with '#' spell nothing
+-- empty lines and lines that start with '#' hold nothing
 abbrev pub is_skipped : List ℕ → Bool
 is_skipped line = length line == 0 || slice_index line 0 == 0x23
 
@@ -32,14 +32,14 @@ behind_spaces (b ∷ bs) = if b == 0x20 then behind_spaces bs else b ∷ bs
 abbrev pub stripped : List ℕ → List ℕ
 stripped text = reverse (behind_spaces (reverse (behind_spaces text)))
 
--- the number that a text of digits in this base spells, digits above 9 in either case
+-- the number of a text of digits in this base, digits above 9 in either case
 abbrev pub number_in : ℕ → List ℕ → Option ℕ
 number_in base text =
     if length text == 0 || not (list_all (λ b. is_digit b base) text) then None else Some (digits_value base text)
 
--- the scalar value that `0x` and hexadecimal digits spell
-abbrev pub code_point_spelt : List ℕ → Option ℕ
-code_point_spelt text =
+-- the scalar value of a text of `0x` and hexadecimal digits
+abbrev pub scalar_in : List ℕ → Option ℕ
+scalar_in text =
     if starts_with nat_eq text (0x30 ∷ 0x78 ∷ []) then option_and_then as_scalar (number_in 16 (drop 2 text)) else None
 
 -- the greatest pointer of a kind; of the ranges, before the row of the planes above the first
@@ -67,7 +67,7 @@ allows kind pointer code_point =
 abbrev pub refusal_of : IndexKind → IndexCause
 refusal_of kind = if is_ranges kind then BadRanges else PointerTooLarge
 
--- a pointer and the code point that is spelt behind it
+-- a pointer and the code point behind it, if there is one
 abbrev pub pair_with : IndexKind → ℕ → Option ℕ → Result (Option (ℕ × ℕ)) IndexCause
 pair_with kind pointer None = Err BadCodePoint
 pair_with kind pointer (Some code_point) =
@@ -76,22 +76,22 @@ pair_with kind pointer (Some code_point) =
 -- the second of the fields behind the first
 abbrev pub code_point_in : List (List ℕ) → Option ℕ
 code_point_in [] = None
-code_point_in (field ∷ fields) = code_point_spelt (stripped field)
+code_point_in (field ∷ fields) = scalar_in (stripped field)
 
--- a pointer, if one is spelt, and the fields behind it
+-- a pointer, if there is one, and the fields behind it
 abbrev pub pair_behind : IndexKind → Option ℕ → List (List ℕ) → Result (Option (ℕ × ℕ)) IndexCause
 pair_behind kind None fields = Err BadPointer
 pair_behind kind (Some pointer) fields = pair_with kind pointer (code_point_in fields)
 
--- the pair that the fields of a line spell, or the first cause why they spell none
+-- the pair in the fields of a line, or the first cause why there is none
 abbrev pub pair_in : IndexKind → List (List ℕ) → Result (Option (ℕ × ℕ)) IndexCause
 pair_in kind [] = Err BadPointer
 pair_in kind (field ∷ fields) = pair_behind kind (number_in 10 (stripped field)) fields
 
--- what a line without its CR spells
+-- what a line without its CR holds
 abbrev pub pair_of_text : IndexKind → List ℕ → Result (Option (ℕ × ℕ)) IndexCause
 pair_of_text kind text = if is_skipped text then Ok None else pair_in kind (fields_of text)
 
--- what a line spells: nothing, a pair, or the first cause why it spells none
+-- what a line holds: nothing, a pair, or the first cause why it is refused
 abbrev pub pair_on : IndexKind → List ℕ → Result (Option (ℕ × ℕ)) IndexCause
 pair_on kind line = pair_of_text kind (strip_carriage_return line)

@@ -1,6 +1,6 @@
 //! Fields of a line: decimal pointers and hexadecimal code points.
 ghost use Rattle.std.specs.Prelude.{◌≡◌, ◌≤◌, min, option_map};
-ghost use Rattle.index_loader.specs.Lines.{behind_spaces, code_point_spelt, number_in, stripped};
+ghost use Rattle.index_loader.specs.Lines.{behind_spaces, scalar_in, number_in, stripped};
 
 use enc_names::Scalar;
 
@@ -25,7 +25,7 @@ pub(crate) fn stripped(text: &[u8]) -> &[u8]
     text
 }
 
-/// The number that a text of digits spells, in base 10 or 16, or `None` where it is empty or has
+/// The number of a text of digits, in base 10 or 16, or `None` where it is empty or has
 /// another character. Numbers above `u32::MAX` count as this one: no pointer and no code point
 /// is so large.
 pub(crate) fn number_in(base: u32, text: &[u8]) -> Option<u32>
@@ -44,9 +44,9 @@ pub(crate) fn number_in(base: u32, text: &[u8]) -> Option<u32>
     Some(number)
 }
 
-/// The scalar value that `0x` and hexadecimal digits spell.
-pub(crate) fn code_point_spelt(text: &[u8]) -> Option<Scalar>
-    ensures { result ≡ code_point_spelt text.now }
+/// The scalar value of a text of `0x` and hexadecimal digits.
+pub(crate) fn scalar_in(text: &[u8]) -> Option<Scalar>
+    ensures { result ≡ scalar_in text.now }
 {
     let digits = text.strip_prefix(b"0x")?;
     Scalar::new(number_in(16, digits)?)

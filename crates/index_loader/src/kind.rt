@@ -1,9 +1,10 @@
 //! The kinds of index files.
-ghost use Rattle.std.specs.Prelude.{◌≡◌, ◌<◌, IfSome};
+ghost use Rattle.std.specs.Prelude.{◌≡◌, ◌<◌, ◌↔◌, IfSome, IsTrue, position};
 ghost use Rattle.index_loader.specs.Index.{is_ranges};
-ghost use Rattle.index_loader.specs.Kinds.{home_of, single_byte_slot, slot_of};
+ghost use Rattle.index_loader.specs.Kinds.{home_of, same_kind, slot_of};
 ghost use Rattle.index_loader.specs.Lines.{greatest_pointer};
 
+use crate::files::INDEX_FILES;
 use enc_names::Encoding;
 
 /// A kind of index file (Encoding Standard, "Indexes").
@@ -28,21 +29,13 @@ pub enum IndexKind {
 }
 
 impl IndexKind {
-    /// The place of this kind among all kinds, if there are files of this kind.
+    /// The place of this kind's file among the index files, if there are files of this kind.
+    #[tactic(auto, unfolding(crate::specs::Kinds::slot_of))]
     pub(crate) fn slot(self) -> Option<usize>
         ensures value { result ≡ slot_of self }
         ensures bound { IfSome result (λ slot. slot < 34) }
     {
-        match self {
-            IndexKind::SingleByte(encoding) => slot_of_single_byte(encoding),
-            IndexKind::Jis0208 => Some(27),
-            IndexKind::Jis0212 => Some(28),
-            IndexKind::Big5 => Some(29),
-            IndexKind::EucKr => Some(30),
-            IndexKind::Gb18030 => Some(31),
-            IndexKind::Gb18030Ranges => Some(32),
-            IndexKind::Katakana => Some(33),
-        }
+        place_of(self.home(), &INDEX_FILES)
     }
 
     /// The kind under which the file of this kind is kept: ISO-8859-8-I has that of ISO-8859-8.
@@ -81,40 +74,17 @@ impl IndexKind {
     }
 }
 
-/// The place of a single-byte encoding's index, if it has one.
-fn slot_of_single_byte(encoding: Encoding) -> Option<usize>
-    ensures value { result ≡ single_byte_slot encoding }
-    ensures bound { IfSome result (λ slot. slot < 27) }
+/// Whether both are one kind.
+fn is_same(one: IndexKind, other: IndexKind) -> bool
+    ensures value { result ≡ same_kind one other }
+    ensures same { IsTrue result ↔ (one ≡ other) }
 {
-    let slot = match encoding {
-        Encoding::Ibm866 => 0,
-        Encoding::Iso8859_2 => 1,
-        Encoding::Iso8859_3 => 2,
-        Encoding::Iso8859_4 => 3,
-        Encoding::Iso8859_5 => 4,
-        Encoding::Iso8859_6 => 5,
-        Encoding::Iso8859_7 => 6,
-        Encoding::Iso8859_8 | Encoding::Iso8859_8I => 7,
-        Encoding::Iso8859_10 => 8,
-        Encoding::Iso8859_13 => 9,
-        Encoding::Iso8859_14 => 10,
-        Encoding::Iso8859_15 => 11,
-        Encoding::Iso8859_16 => 12,
-        Encoding::Koi8R => 13,
-        Encoding::Koi8U => 14,
-        Encoding::Macintosh => 15,
-        Encoding::Windows874 => 16,
-        Encoding::Windows1250 => 17,
-        Encoding::Windows1251 => 18,
-        Encoding::Windows1252 => 19,
-        Encoding::Windows1253 => 20,
-        Encoding::Windows1254 => 21,
-        Encoding::Windows1255 => 22,
-        Encoding::Windows1256 => 23,
-        Encoding::Windows1257 => 24,
-        Encoding::Windows1258 => 25,
-        Encoding::XMacCyrillic => 26,
-        _ => return None,
-    };
-    Some(slot)
+    one == other
+}
+
+/// The place of a kind's file among these.
+fn place_of(kind: IndexKind, files: &[(IndexKind, &str)]) -> Option<usize>
+    ensures { result ≡ position (λ file. same_kind kind file.0) files.now }
+{
+    files.iter().position(|file| is_same(kind, file.0))
 }

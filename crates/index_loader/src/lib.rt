@@ -1,9 +1,10 @@
-//! Index files of the Encoding Standard: their reading, and look-ups in what they spell.
+//! Index files of the Encoding Standard: how they are named and parsed, and look-ups in them.
 #![tactic(auto)]
 
 mod by_code_point;
 mod fault;
 mod field;
+mod files;
 mod first_pointers;
 mod index;
 mod indexes;
@@ -17,6 +18,7 @@ mod table;
 mod tests;
 
 pub use fault::{IndexCause, IndexFault};
+pub use files::INDEX_FILES;
 pub use index::Index;
 pub use indexes::Indexes;
 pub use kind::IndexKind;

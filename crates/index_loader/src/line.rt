@@ -7,7 +7,7 @@ ghost use Rattle.index_loader.specs.Lines.{allows, code_point_in, is_skipped, pa
 ghost use Rattle.index_loader.specs.Split.{parts_behind};
 
 use crate::fault::IndexCause;
-use crate::field::{code_point_spelt, number_in, stripped};
+use crate::field::{number_in, scalar_in, stripped};
 use crate::kind::IndexKind;
 use enc_names::Scalar;
 
@@ -39,7 +39,7 @@ fn without_cr(line: &[u8]) -> &[u8]
     }
 }
 
-/// Whether a line spells nothing, being empty or a comment.
+/// Whether a line holds nothing, being empty or a comment.
 fn is_skipped(line: &[u8]) -> bool
     ensures { result ≡ is_skipped line.now }
 {
@@ -85,10 +85,10 @@ fn code_point_behind(behind: Option<&[u8]>) -> Option<Scalar>
     ensures { result ≡ code_point_in (parts_behind 0x09 (option_copied behind.entry)) }
 {
     let (second, _) = split_at_byte(behind?, b'\t');
-    code_point_spelt(stripped(second))
+    scalar_in(stripped(second))
 }
 
-/// What a line spells: nothing, a pair, or the first cause why it spells none.
+/// What a line holds: nothing, a pair, or the first cause why it is refused.
 pub(crate) fn pair_on(kind: IndexKind, line: &[u8]) -> Result<Option<(u32, Scalar)>, IndexCause>
     ensures value { result ≡ pair_on kind line.now }
     ensures allowed { IfOk result (λ o. IfSome o (λ pair. IsTrue (allows kind pair.0 pair.1))) }

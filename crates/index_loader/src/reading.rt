@@ -47,7 +47,7 @@ fn put_pair(
     Ok(())
 }
 
-/// Puts what a line spells into the table.
+/// Puts the pair that a line holds, if it holds one, into the table.
 fn put_line(table: &mut Table, kind: IndexKind, number: u64, line: &[u8]) -> Result<(), IndexFault>
     requires { length table.old ≡ table_len kind }
     ensures len { length table.new ≡ length table.old }
@@ -65,7 +65,7 @@ fn put_line(table: &mut Table, kind: IndexKind, number: u64, line: &[u8]) -> Res
     }
 }
 
-/// The table of what the lines of a file spell.
+/// The table of what the lines of a file hold.
 pub(crate) fn read_table(alloc: Global, kind: IndexKind, bytes: &[u8]) -> Result<Table, IndexFault>
     ensures len { IfOk result (λ table. length table ≡ table_len kind) }
     ensures ok { IfOk result (λ table. pairs_from kind (Ok []) 1 (lines_of bytes.now) ≡ Ok (pairs_in table)) }

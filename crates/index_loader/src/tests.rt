@@ -1,6 +1,6 @@
-//! Index files of a few lines: what they spell, their faults, and look-ups in them.
+//! Index files of a few lines: what they hold, their faults, and look-ups in them.
 ghost use Rattle.std.specs.Prelude.{IsTrue};
-ghost use Rattle.index_loader.specs.Examples.{Faults, LookUps, Spellings};
+ghost use Rattle.index_loader.specs.Examples.{Faults, LookUps, ParsedFiles};
 ghost use Rattle.index_loader.specs.Kinds.{has_files_of};
 
 use crate::fault::IndexCause;
@@ -106,7 +106,7 @@ fn a_misspelt_pointer_is_the_first_cause(rt: HostRuntime) {
 }
 
 #[test]
-fn a_code_point_is_spelt_with_0x_and_digits(rt: HostRuntime) {
+fn a_code_point_is_written_with_0x_and_digits(rt: HostRuntime) {
     assert_eq!(rt;
         fault(rt.alloc(), b"0"),
         Some((1, IndexCause::BadCodePoint))
@@ -138,7 +138,7 @@ fn leading_zeros_have_no_limit(rt: HostRuntime) -> Result<(), Fail> {
 }
 
 #[test]
-fn lines_that_spell_nothing_are_counted(rt: HostRuntime) {
+fn lines_that_hold_nothing_are_counted(rt: HostRuntime) {
     let bytes = b"# a comment\r\n\r\n\n 5 \t 0x2a \tname\r\nx\n";
     assert_eq!(rt; fault(rt.alloc(), bytes), Some((5, IndexCause::BadPointer)));
 }
@@ -300,7 +300,7 @@ fn small_files_of_each_kind_parse(rt: HostRuntime) {
 /// The worked examples hold, by computing.
 fn examples()
     ensures faults { Faults }
-    ensures spellings { Spellings }
+    ensures parsed_files { ParsedFiles }
     ensures look_ups { LookUps }
 {}
 

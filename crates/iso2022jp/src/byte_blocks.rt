@@ -45,6 +45,8 @@ impl ByteBlocks {
     }
 
     /// Empties the block into the vector.
+    // Once in a thousand bytes: what is left in the loop over the code points is small.
+    #[inline(never)]
     fn flush(&mut self) -> Result<(), AllocError>
         ensures bytes { self.new.bytes ≡ self.old.bytes }
         ensures room { OnOk result (self.new.room ≡ 1024) }

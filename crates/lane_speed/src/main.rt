@@ -8,12 +8,16 @@ mod measure;
 mod plain;
 #[cfg(test)]
 mod tests;
+mod text_kernels;
+mod text_measure;
+mod text_plain;
 
 use command_line::is_to_measure;
 use failure::Failure;
 use measure::{SIZES, Work, fastest, megabytes_per_second, passed};
 use std::env;
 use std::process::ExitCode;
+use text_measure::{TextWork, copies_of, fastest_pass};
 
 /// Text of lines, as it is in ASCII.
 const LINES: &[u8] = b"<p>Minutes of the council, third reading.</p>\r\n<ul>\n";
@@ -27,6 +31,53 @@ fn show_all(rt: &HostRuntime, measures: bool) -> Result<(), Failure> {
     show::<kernels::MemchrCount, plain::CountLineEnds>(rt, measures, "memchr, LF alone", LINES)?;
     show::<kernels::SwapPairs, plain::SwapPairs>(rt, measures, "swap_pairs", LINES)?;
     show::<kernels::Widen, plain::Widen>(rt, measures, "widen", LINES)
+}
+
+/// Texts whose code points have one, two and three bytes, with spaces between the words.
+const TEXTS: [(&str, &str); 3] = [
+    ("English", "The minutes of the council, third reading. "),
+    ("Russian", "Протокол заседания совета, третье чтение. "),
+    ("Japanese", "評議会の議事録、第三回の朗読。新しい図書館の計画について。"),
+];
+
+/// Shows each kernel over text beside the standard library's way, a line a kernel and text.
+fn show_texts(rt: &HostRuntime, measures: bool) -> Result<(), Failure> {
+    show_text::<text_kernels::CountScalars, text_plain::CountScalars>(
+        rt,
+        measures,
+        "count_scalars",
+    )?;
+    show_text::<text_kernels::CountUtf16, text_plain::CountUtf16>(rt, measures, "count_utf16")?;
+    show_text::<text_kernels::ValidRun, text_plain::ValidRun>(rt, measures, "valid_run")?;
+    show_text::<text_kernels::ToUtf16, text_plain::ToUtf16>(rt, measures, "utf8_to_utf16")?;
+    show_text::<text_kernels::ToUtf8, text_plain::ToUtf8>(rt, measures, "utf16_to_utf8")?;
+    show_text::<text_kernels::FirstLoneSurrogate, text_plain::FirstLoneSurrogate>(
+        rt,
+        measures,
+        "first_lone_surrogate",
+    )
+}
+
+/// Prints a kernel's name, or its speed and the standard library's over each text, in bytes of the
+/// text's UTF-8.
+fn show_text<K: TextWork, P: TextWork>(
+    rt: &HostRuntime,
+    measures: bool,
+    name: &str,
+) -> Result<(), Failure> {
+    if !measures {
+        println!(rt; "{name}")?;
+        return Ok(());
+    }
+    for (language, sample) in &TEXTS {
+        let text = copies_of(rt.alloc(), sample)?;
+        let kernel = fastest_pass::<K, HostRuntime>(rt, rt.alloc(), text.as_str())?;
+        let plain = fastest_pass::<P, HostRuntime>(rt, rt.alloc(), text.as_str())?;
+        let kernel = megabytes_per_second(text.len(), kernel);
+        let plain = megabytes_per_second(text.len(), plain);
+        println!(rt; "{name:<20} {language:<9} {kernel:>7} MB/s, std {plain:>6} MB/s")?;
+    }
+    Ok(())
 }
 
 /// Prints a kernel's name, or its speed and its plain twin's at each size.
@@ -55,6 +106,7 @@ fn attempt(rt: &HostRuntime) -> Result<(), Failure> {
     let words: Vec<String> = env::args(rt)?.skip(1).collect(rt.alloc())?;
     let measures = is_to_measure(rt.alloc(), &words)?;
     show_all(rt, measures)?;
+    show_texts(rt, measures)?;
     if !measures {
         println!(rt; "'lane_speed --measure' measures them.")?;
     }

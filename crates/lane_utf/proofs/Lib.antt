@@ -5,5 +5,6 @@ pub mod Measures
 pub mod Passing
 pub mod Putting
 pub mod TextSums
+pub mod Threes
 pub mod UnitSums
 pub mod UnitMasks

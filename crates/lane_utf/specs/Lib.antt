@@ -3,6 +3,7 @@ pub mod Front
 pub mod Next
 pub mod Scan
 pub mod Selected
+pub mod Threes
 pub mod Utf16
 pub mod Weights
 pub mod Widths

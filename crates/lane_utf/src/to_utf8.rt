@@ -5,12 +5,13 @@ ghost use Rattle.std.specs.Simd.Lanes.{put_chunk};
 ghost use Rattle.std.specs.Str.{encode_utf8_all, all_scalars, IsAscii};
 ghost use Rattle.lane_utf.specs.Conversions.{over_front, utf8_answer};
 ghost use Rattle.lane_utf.specs.Front.{IsFront};
+ghost use Rattle.lane_utf.specs.Threes.{AreThrees};
 ghost use Rattle.lane_utf.specs.Utf16.{code_points, first_lone, utf16_forms};
 ghost use Rattle.lane_utf.specs.Widths.{utf8_width};
 
 use crate::faults::ToUtf8Fault;
 use crate::surrogates::{first_lone_surrogate, is_lead};
-use crate::utf8_length::utf8_length;
+use crate::utf8_length::{third_bytes, utf8_length};
 use std::simd::prelude::*;
 
 /// Writes the UTF-8 form of the units (Unicode, chapter 3, D91 and D92) over the front of `bytes`,
@@ -47,8 +48,8 @@ fn convert(units: &[u16], bytes: &mut [u8]) -> Result<usize, ToUtf8Fault>
     Ok(needed)
 }
 
-/// Writes the UTF-8 form, for which there is room: ASCII units by blocks of sixteen, others code
-/// point by code point until the next block.
+/// Writes the UTF-8 form, for which there is room: ASCII units by blocks of sixteen, units of three
+/// bytes by blocks of eight, others code point by code point until the next block.
 fn write(units: &[u16], bytes: &mut [u8])
     requires paired { first_lone units.now ≡ None }
     requires room { length (encode_utf8_all (code_points units.now)) ≤ length bytes.old }
@@ -65,7 +66,13 @@ fn write(units: &[u16], bytes: &mut [u8])
                 written += 16;
                 continue;
             }
-            tested = read + 16;
+            if is_three_block(units, read) {
+                put_threes(units, read, bytes, written);
+                read += 8;
+                written += 24;
+                continue;
+            }
+            tested = read + 8;
         }
         let (code_point, width) = front(units, read);
         written = put(bytes, written, code_point);
@@ -95,6 +102,43 @@ fn narrow(units: &[u16], read: usize, bytes: &mut [u8], written: usize)
 {
     let bytes_of: u8x16 = u16x16::from_slice(&units[read..]).cast();
     bytes_of.copy_to_slice(&mut bytes[written..]);
+}
+
+/// Whether each of the next eight units stands for three bytes.
+#[inline(always)]
+fn is_three_block(units: &[u16], at: usize) -> bool
+    requires { at + 8 ≤ length units.now }
+    ensures { result ≡ true → AreThrees (take 8 (drop at units.now)) }
+{
+    third_bytes(u16x8::from_slice(&units[at..])) == 0xFF
+}
+
+/// Writes the next eight units, each of which stands for three bytes.
+#[inline(always)]
+fn put_threes(units: &[u16], read: usize, bytes: &mut [u8], written: usize)
+    requires units { read + 8 ≤ length units.now }
+    requires bytes { written + 24 ≤ length bytes.old }
+    requires threes { AreThrees (take 8 (drop read units.now)) }
+    ensures { bytes.new ≡ put_chunk written bytes.old (encode_utf8_all (take 8 (drop read units.now))) }
+{
+    let mut at = 0;
+    'block: while at < 8 {
+        put_three(bytes, written + 3 * at, u32::from(units[read + at]));
+        at += 1;
+    }
+}
+
+/// Writes the bytes of a code point that has three.
+#[inline(always)]
+fn put_three(bytes: &mut [u8], at: usize, c: u32)
+    requires least { 0x800 ≤ c }
+    requires most { c < 0x10000 }
+    requires room { at + 3 ≤ length bytes.old }
+    ensures { bytes.new ≡ put_chunk at bytes.old (encode_utf8 c) }
+{
+    bytes[at] = 0xE0 + (c / 0x1000) as u8;
+    bytes[at + 1] = 0x80 + (c / 0x40 % 0x40) as u8;
+    bytes[at + 2] = 0x80 + (c % 0x40) as u8;
 }
 
 /// The code point at a unit, and how many units it takes.
@@ -128,9 +172,7 @@ fn put(bytes: &mut [u8], at: usize, c: u32) -> usize
         bytes[at + 1] = 0x80 + (c % 0x40) as u8;
         at + 2
     } else if c < 0x1_0000 {
-        bytes[at] = 0xE0 + (c / 0x1000) as u8;
-        bytes[at + 1] = 0x80 + (c / 0x40 % 0x40) as u8;
-        bytes[at + 2] = 0x80 + (c % 0x40) as u8;
+        put_three(bytes, at, c);
         at + 3
     } else {
         bytes[at] = 0xF0 + (c / 0x4_0000) as u8;

@@ -66,7 +66,7 @@ fn second_bytes<const N: usize>(lanes: Simd<u16, N>) -> u64
 
 /// The lanes that stand for a third byte.
 #[inline(always)]
-fn third_bytes<const N: usize>(lanes: Simd<u16, N>) -> u64
+pub(crate) fn third_bytes<const N: usize>(lanes: Simd<u16, N>) -> u64
     requires { N ≤ 64 }
     ensures { result ≡ mask_l (map has_three lanes.entry) }
 {

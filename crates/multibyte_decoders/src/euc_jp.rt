@@ -51,6 +51,8 @@ impl<'i> EucJpDecoder<'i> {
     }
 
     /// A byte after a lead.
+    // In the loop over the bytes.
+    #[inline(always)]
     fn second(&self, lead: u8, byte: u8) -> Handled<EucJpState>
         ensures state { result.state ≡ (euc_jp_second (code_point_of self.now.jis0208) lead byte).state }
         ensures answer { result.answer ≡ (euc_jp_second (code_point_of self.now.jis0208) lead byte).answer }
@@ -69,6 +71,8 @@ impl<'i> EucJpDecoder<'i> {
 }
 
 /// The code point of a pair in one of the two indexes.
+// In the loop over the bytes.
+#[inline(always)]
 fn pair(index: &Index, lead: u8, byte: u8) -> Option<Scalar>
     ensures { result ≡ euc_jp_pair (code_point_of index.now) lead byte }
 {

@@ -57,6 +57,8 @@ impl<'i> Gb18030Decoder<'i> {
     }
 
     /// The code point of two bytes.
+    // In the loop over the bytes.
+    #[inline(always)]
     fn pair(&self, first: u8, byte: u8) -> Option<Scalar>
         ensures { result ≡ gb18030_pair (code_point_of self.now.index) first byte }
     {
@@ -68,6 +70,8 @@ impl<'i> Gb18030Decoder<'i> {
 }
 
 /// The pointer of two bytes.
+// In the loop over the bytes.
+#[inline(always)]
 fn pointer(first: u8, trail: u8) -> u32
     ensures { result ≡ gb18030_pointer first trail }
 {
@@ -86,6 +90,8 @@ fn four(first: u8, second: u8, third: u8, fourth: u8) -> u32
 }
 
 /// A byte with nothing pending.
+// In the loop over the bytes.
+#[inline(always)]
 fn single(byte: u8) -> Handled<Gb18030State>
     ensures state { result.state ≡ (gb18030_single byte).state }
     ensures answer { result.answer ≡ (gb18030_single byte).answer }

@@ -83,7 +83,7 @@ pub const ISO_2022_JP: &[u8] = b"\
     \x1b$B8E$$AR8K$OD9$$$\"$$$@;H$o$l$F$$$J$+$C$?$,!\"5nG/$N=)$+$iD.$N?M$?$A$,>/$7$:$DJRIU$1$r;O$a$\
     ?!#20:,$rD>$7!\"JI$rGr$/EI$j!\"Bg$-$JAk$rFnB&$K3+$1$?!#K\\C*$O6a$/$NBg9)$,;3$NLZ$G:n$j!\";R$I$b\
     $?$A$O3(K\\$r;}$A4s$C$?!#=U$K$J$l$P!\"$3$3$O@E$+$KK\\$rFI$_!\"OC$rJ9$-!\"$^$?=q$/$?$a$N>l=j$K$J\
-    $k$@$m$&!#\x1b(B";
+    $k$@$m$&!#";
 
 /// The story in Korean.
 pub const EUC_KR: &[u8] = b"\

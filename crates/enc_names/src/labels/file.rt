@@ -3,27 +3,14 @@ ghost use Rattle.std.specs.Prelude.{◌≡◌, option_and_then, option_map};
 ghost use Rattle.std.specs.List.{flat_map};
 ghost use Rattle.serde_json.specs.Find.{as_array, as_str, get};
 ghost use Rattle.serde_json.specs.View.{items_view, view};
-ghost use Rattle.enc_names.specs.LabelAnswers.{behind, Gathers, IsValueOf};
+ghost use Rattle.enc_names.specs.LabelAnswers.{behind, Gathers};
 ghost use Rattle.enc_names.specs.LabelEntries.{table_of};
 ghost use Rattle.enc_names.specs.LabelFile.{group_of, label_of, labels_listed, listed_of, table_of_json, text_at};
 
 use super::{Label, LabelFault};
 use crate::encoding::Encoding;
-use serde_json::{Category, Value};
+use serde_json::Value;
 use std::alloc::{AllocError, Global};
-
-/// The file's JSON value.
-pub(super) fn value_of(alloc: Global, bytes: &[u8]) -> Result<Value, LabelFault>
-    ensures { IsValueOf bytes.now result }
-{
-    match Value::from_slice(alloc, bytes) {
-        Ok(value) => Ok(value),
-        Err(error) => match error.classify() {
-            Category::Memory => Err(LabelFault::OutOfMemory),
-            _ => Err(LabelFault::NotJson),
-        },
-    }
-}
 
 /// Adds the labels of a whole file.
 pub(super) fn add_file(

@@ -1,23 +1,17 @@
-use Rattle.std.proofs.Common.{arith, ◌≡◌, ◌≤◌, take, length, sym, ◌⊎◌, inl, inr}
-use Rattle.std.proofs.Math.Seq.{take-length}
+use Rattle.std.proofs.Common.{arith, take, refl}
 use Rattle.decoder_core.proofs.Utf8Runs.{utf8-within, utf8-valid}
 use Rattle.decoder_core.proofs.utf8_bulk.block_run.Goals as goal
 
-pub returns-in-Some-clause-within : goal.returns-in-Some-clause-within
-returns-in-Some-clause-within c = (utf8-within _ 1024 c.in-Some.front.now c.args.bytes.now c.in-Some.ensures.lookup.0.2 c.valid_run.ensures.longest).0
+pub returns-clause-within : goal.returns-clause-within
+returns-clause-within c = let bytes = c.args.bytes.now in (utf8-within _ c.block_end.result (take c.block_end.result bytes) bytes refl c.valid_run.ensures.longest).0
 
-pub returns-in-Some-clause-room : goal.returns-in-Some-clause-room
-returns-in-Some-clause-room c = (utf8-within _ 1024 c.in-Some.front.now c.args.bytes.now c.in-Some.ensures.lookup.0.2 c.valid_run.ensures.longest).1
+pub returns-clause-room : goal.returns-clause-room
+returns-clause-room c =
+    let bytes = c.args.bytes.now in
+    let front = (utf8-within _ c.block_end.result (take c.block_end.result bytes) bytes refl c.valid_run.ensures.longest).1 in
+    Prim.omega (arith, front, c.block_end.ensures.room)
 
-pub returns-in-Some-clause-valid : goal.returns-in-Some-clause-valid
-returns-in-Some-clause-valid c =
-    utf8-valid _ 1024 c.in-Some.front.now c.args.bytes.now c.in-Some.ensures.lookup.0.2 c.valid_run.ensures.longest c.valid_run.ensures.valid
-
-pub returns-in-None-clause-within : goal.returns-in-None-clause-within
-returns-in-None-clause-within c =
-    (utf8-within _ (length c.args.bytes.now) c.args.bytes.now c.args.bytes.now (sym (take-length c.args.bytes.now)) c.valid_run-in-None.ensures.longest).0
-
-pub returns-in-None-clause-room : goal.returns-in-None-clause-room
-returns-in-None-clause-room c =
-    let within = (utf8-within _ (length c.args.bytes.now) c.args.bytes.now c.args.bytes.now (sym (take-length c.args.bytes.now)) c.valid_run-in-None.ensures.longest).0 in
-    elim c.in-None.ensures.lookup.0 [ inl never ↦ absurd (Prim.omega (arith, never)) | inr short ↦ Prim.omega (arith, within, short) ]
+pub returns-clause-valid : goal.returns-clause-valid
+returns-clause-valid c =
+    let bytes = c.args.bytes.now in
+    utf8-valid _ c.block_end.result (take c.block_end.result bytes) bytes refl c.valid_run.ensures.longest c.valid_run.ensures.valid

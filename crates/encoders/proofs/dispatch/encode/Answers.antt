@@ -1,4 +1,4 @@
-use Rattle.std.proofs.Common.{rules, ◌≡◌, sym, ap, ◌∙◌}
+use Rattle.std.proofs.Common.{rules, true, false, ◌≡◌, sym, ap, ◌∙◌}
 use Rattle.std.specs.Str.{chars}
 use Rattle.index_loader.specs.declared.kind.IndexKind.TheVariants.{SingleByte, Jis0208, Jis0212, Big5 as big5_kind, EucKr as euc_kr_kind, Gb18030 as gb18030_kind, Gb18030Ranges}
 use Rattle.encoders.specs.Encode.{encoded, is_html}
@@ -7,13 +7,23 @@ use Rattle.encoders.specs.EucJp.{euc_jp_bytes}
 use Rattle.encoders.specs.EucKr.{euc_kr_bytes}
 use Rattle.encoders.specs.Gb18030.{gb18030_bytes, gbk_bytes}
 use Rattle.encoders.specs.ShiftJis.{shift_jis_bytes}
-use Rattle.encoders.proofs.Choosing.{over_one, over_first, over_both, over_single, by_utf8}
+use Rattle.encoders.proofs.Choosing.{over_one, over_first, over_both, over_single, by_utf8, by_utf16}
 use Rattle.encoders.proofs.dispatch.encode.Goals as goal
 
 pub returns-in_ok-from_slice-in-Utf8 : goal.returns-in_ok-from_slice-in-Utf8
 unfolding encoded
 returns-in_ok-from_slice-in-Utf8 c =
     rw (c.in-Utf8.is, c.in_ok-from_slice-in-Utf8.ensures.items, c.as_bytes.ensures.value) (by_utf8 (is_html c.args.mode) c.args.text.now c.utf8.text)
+
+pub returns-in_ok-encode_utf16-in-Utf16Be : goal.returns-in_ok-encode_utf16-in-Utf16Be
+unfolding encoded
+returns-in_ok-encode_utf16-in-Utf16Be c =
+    rw (c.in-Utf16Be.is, c.in_ok-encode_utf16-in-Utf16Be.ensures) (by_utf16 true (is_html c.args.mode) (chars c.args.text.now))
+
+pub returns-in_ok-encode_utf16-in-Utf16Le : goal.returns-in_ok-encode_utf16-in-Utf16Le
+unfolding encoded
+returns-in_ok-encode_utf16-in-Utf16Le c =
+    rw (c.in-Utf16Le.is, c.in_ok-encode_utf16-in-Utf16Le.ensures) (by_utf16 false (is_html c.args.mode) (chars c.args.text.now))
 
 pub returns-in_ok-index-in-ShiftJis : goal.returns-in_ok-index-in-ShiftJis
 unfolding encoded

@@ -9,7 +9,7 @@ use Rattle.index_loader.proofs.reading.read_table.Given as goal
 abbrev pub invariant-loop-rest : goal.invariant-loop-rest
 invariant-loop-rest l = record {
   places : length l.table ≡ table_len l.fn.kind;
-  spelt : pairs_from l.fn.kind (Ok []) 1 (lines_of l.fn.bytes) ≡ pairs_from l.fn.kind (Ok (pairs_in l.table)) (l.number + 1) (parts_behind 0x0A (option_copied l.rest));
+  parsed : pairs_from l.fn.kind (Ok []) 1 (lines_of l.fn.bytes) ≡ pairs_from l.fn.kind (Ok (pairs_in l.table)) (l.number + 1) (parts_behind 0x0A (option_copied l.rest));
   count : option_map_or (λ text. l.number + length text.now) l.rest 0 ≤ length l.fn.bytes;
 }
 

@@ -6,6 +6,7 @@ use Rattle.lane_utf.specs.Utf16.{code_points, first_lone}
 use Rattle.lane_utf.proofs.Putting.{room_for, put_goes_on, block_room, block_goes_on}
 use Rattle.std.proofs.lemmas.Simd.{length-chunk}
 use Rattle.lane_utf.proofs.UnitMasks.{ascii_units, ascii_bytes}
+use Rattle.lane_utf.proofs.Threes.{threes_length, threes_paired, three_bytes}
 use Rattle.lane_utf.proofs.to_utf8.write.Goals as goal
 
 pub put-written-requires-clause-room : goal.put-written-requires-clause-room
@@ -50,4 +51,30 @@ units-preserved-then-is_ascii_block c =
       writing = block_goes_on _ c.units.written c.units.bytes _ _ (take 16 behind) _ 16 c.narrow.new.bytes c.units.invariant.writing room
           (ascii_bytes 16 behind within ascii c.units.invariant.paired ∙ ap (λ k. take 16 behind ++ encode_utf8_all (code_points k)) same)
           (length-chunk c.units.read 16 units (omega arith)) c.narrow.ensures;
+    }
+
+pub put_threes-requires-clause-bytes : goal.put_threes-requires-clause-bytes
+put_threes-requires-clause-bytes c =
+    let units = c.args.units.now in
+    let behind = drop c.units.read units in
+    let threes = c.is_three_block.ensures c.if-is_three_block.true in
+    let within : 8 ≤ length behind = omega (arith, length-drop c.units.read units) in
+    let room : length (encode_utf8_all (code_points units)) ≤ length c.units.bytes = omega (arith, c.requires.room, c.units.auto.bytes) in
+    block_room _ c.units.written c.units.bytes _ _ (encode_utf8_all (take 8 behind)) _ 24 c.units.invariant.writing room
+    (three_bytes 8 behind within threes c.units.invariant.paired) (threes_length 8 8 behind threes (omega arith) within)
+
+pub units-preserved-then-is_three_block : goal.units-preserved-then-is_three_block
+units-preserved-then-is_three_block c =
+    let units = c.args.units.now in
+    let behind = drop c.units.read units in
+    let threes = c.is_three_block.ensures c.if-is_three_block.true in
+    let within : 8 ≤ length behind = omega (arith, length-drop c.units.read units) in
+    let same = drop-drop 8 c.units.read units in
+    let room : length (encode_utf8_all (code_points units)) ≤ length c.units.bytes = omega (arith, c.requires.room, c.units.auto.bytes) in
+    record {
+      within = omega arith;
+      paired = ap first_lone (sym same) ∙ threes_paired 8 behind within threes c.units.invariant.paired;
+      writing = block_goes_on _ c.units.written c.units.bytes _ _ (encode_utf8_all (take 8 behind)) _ 24 c.put_threes.new.bytes c.units.invariant.writing room
+          (three_bytes 8 behind within threes c.units.invariant.paired ∙ ap (λ k. encode_utf8_all (take 8 behind) ++ encode_utf8_all (code_points k)) same)
+          (threes_length 8 8 behind threes (omega arith) within) c.put_threes.ensures;
     }

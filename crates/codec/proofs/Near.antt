@@ -1,0 +1,36 @@
+-- How far before the bytes read so far an item ends: by the bytes given back, of which there are few.
+use Rattle.std.proofs.Common.{◌≡◌, refl, sym, ap, ◌∙◌, subst, ℕ, zero, suc, ◌+◌, ◌*◌, ◌<◌, ◌≤◌, List, [], ◌∷◌, ◌++◌, length, arith, Option, Some, None}
+use Rattle.decoder_core.specs.declared.item.Ended.{Ended}
+use Rattle.decoder_core.specs.declared.handler.Answer.{Answer}
+use Rattle.decoder_core.specs.declared.handler.Answer.TheVariants.{Nothing, Gives, Finished}
+use Rattle.decoder_core.specs.Queue.{Table, turn_at, queue_after, told, turns, run}
+use Rattle.decoder_core.specs.Counts.{Counts, cost}
+use Rattle.codec.specs.declared.own.OwnDecoder.{OwnDecoder}
+use Rattle.codec.specs.Any.{any}
+use Rattle.codec.specs.AnyLaws.{any_counts}
+use Rattle.codec.specs.Near.{AreNear}
+
+near-more : (m n : ℕ) (es : List Ended) → m ≤ n → AreNear m es → AreNear n es
+near-more m n [] l h = tt
+near-more m n (e ∷ es) l h = (Prim.omega (arith, l, h.0), near-more m n es l h.1)
+
+module _ {S : Type 0} (table : Table S) (c : Counts table) where
+  near-told : (a : Answer) (left room : ℕ) (next : S) (es : List Ended) → left + c.bytes next + cost a ≤ room + 1 → AreNear room es → AreNear room (told a left es)
+  near-told Nothing left room next es h k = k
+  near-told (Gives i) left room next es h k = (Prim.omega (arith, h), k)
+  near-told Finished left room next es h k = tt
+
+  near-turns : (n : ℕ) (s : S) (q : List ℕ) (room : ℕ) → length q + c.bytes s ≤ room → AreNear room (turns table n s q)
+  unfolding turns
+  near-turns zero s q room l = tt
+  near-turns (suc n) s q room l =
+      near-told (turn_at table s q).answer (length (queue_after table s q)) room (turn_at table s q).state (turns table n (turn_at table s q).state (queue_after table s q))
+      (Prim.omega (arith, c.costs s q, l))
+      (near-turns n (turn_at table s q).state (queue_after table s q) room (Prim.omega (arith, c.costs s q, l)))
+
+  near-run : (s : S) (q : List ℕ) (room : ℕ) → length q + c.bytes s ≤ room → AreNear room (run table s q)
+  unfolding run
+  near-run s q room l = near-turns (8 * length q + 32) s q room l
+
+pub near-any : (d : OwnDecoder) (s : _) (q : List ℕ) → AreNear (length q + 7) (run (any d) s q)
+near-any d s q = near-run (any d) (any_counts d) s q (length q + 7) (Prim.omega (arith, (any_counts d).few s))

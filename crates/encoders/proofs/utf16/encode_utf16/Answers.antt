@@ -1,0 +1,26 @@
+use Rattle.std.proofs.Common.{arith, length, ◌<◌, ◌∙◌, sym}
+use Rattle.encoders.proofs.Utf16Forms.{part-some, part-text, behind-text, parts-go-on, parts-end, some-left}
+use Rattle.encoders.proofs.utf16.encode_utf16.Goals as goal
+
+pub parts-smaller : goal.parts-smaller
+parts-smaller c =
+    let rest = c.parts.rest.now in
+    let some : 0 < length rest = some-left rest (sym c.is_empty.ensures ∙ c.parts-test.true) in
+    let front = part-some rest c.floor_char_boundary.result c.parts.invariant.0 some c.floor_char_boundary.ensures.nearest in
+    Prim.omega (arith, front, c.split_at.ensures.back_len)
+
+pub parts-preserved : goal.parts-preserved
+parts-preserved c =
+    let rest = c.parts.rest.now in
+    let end = c.floor_char_boundary.result in
+    let here = c.floor_char_boundary.ensures.boundary in
+    let part = c.split_at.result.0.now in
+    let behind = c.split_at.result.1.now in
+    let spelt = c.parts.invariant.0 in (
+      behind-text rest behind end spelt here c.split_at.ensures.back,
+      c.parts.invariant.1 ∙ parts-go-on c.args.big rest part behind c.parts.bytes.items c.put_part.new.bytes.items end (part-text rest part end spelt here c.split_at.ensures.front)
+          c.split_at.ensures.front c.split_at.ensures.back c.in_ok-put_part.ensures,
+    )
+
+pub returns : goal.returns
+returns c = parts-end c.args.big c.parts.rest.now c.parts.bytes.items _ (sym c.is_empty.ensures ∙ c.parts-test.false) c.parts.invariant.1
