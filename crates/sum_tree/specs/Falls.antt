@@ -1,4 +1,4 @@
--- A node is higher than its children.
+-- Proofs that a trait asks for; there is nothing to believe here. A node is higher than its children.
 use Rattle.std.specs.Prelude.{◌≤◌, max}
 use Rattle.std.proofs.Common.{arith}
 use Rattle.sum_tree.specs.declared.node.Node.{Node}

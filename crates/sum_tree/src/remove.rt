@@ -4,9 +4,10 @@ ghost use Rattle.std.specs.List.{remove};
 ghost use Rattle.sum_tree.specs.Sums.{IsSummable};
 ghost use Rattle.sum_tree.specs.Shrunk.{shrunk, IsShrunk};
 
+use crate::grown::{beside_left, beside_right};
 use crate::node::{Child, Opened};
 use crate::pool::Pool;
-use crate::shrunk::{Shrunk, three_back, three_front, three_middle, two_back, two_front};
+use crate::shrunk::{Shrunk, settled, taken_left, taken_right};
 use crate::summary::{Summary, Summed};
 
 impl<T: Summed<S> + Drop, S: Summary> Child<T, S> {
@@ -30,26 +31,31 @@ impl<T: Summed<S> + Drop, S: Summary> Child<T, S> {
             Opened::Two(node, a, b) => {
                 if i < a.count() {
                     let (x, front) = a.remove(i, pool);
-                    (x, two_front(node, front, b, pool))
+                    let children = taken_right(front, b, pool);
+                    (x, settled(node, children, pool))
                 } else {
                     let j = i - a.count();
                     let (x, back) = b.remove(j, pool);
-                    (x, two_back(node, a, back, pool))
+                    let children = taken_left(a, back, pool);
+                    (x, settled(node, children, pool))
                 }
             }
             Opened::Three(node, a, b, c) => {
                 if i < a.count() {
                     let (x, front) = a.remove(i, pool);
-                    return (x, Shrunk::Kept(three_front(node, front, b, c, pool)));
+                    let children = taken_right(front, b, pool);
+                    return (x, Shrunk::Kept(beside_right(node, children, c)));
                 }
                 let j = i - a.count();
                 if j < b.count() {
                     let (x, middle) = b.remove(j, pool);
-                    (x, Shrunk::Kept(three_middle(node, a, middle, c, pool)))
+                    let children = taken_left(a, middle, pool);
+                    (x, Shrunk::Kept(beside_right(node, children, c)))
                 } else {
                     let k = j - b.count();
                     let (x, back) = c.remove(k, pool);
-                    (x, Shrunk::Kept(three_back(node, a, b, back, pool)))
+                    let children = taken_left(b, back, pool);
+                    (x, Shrunk::Kept(beside_left(node, a, children)))
                 }
             }
         }

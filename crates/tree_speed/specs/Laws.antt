@@ -1,4 +1,4 @@
--- Loads are sums.
+-- Proofs that a trait asks for; there is nothing to believe here. Loads are sums.
 use Rattle.std.specs.Prelude.{◌≡◌, ℕ, ◌≤◌, refl}
 use Rattle.std.proofs.Common.{arith}
 use Rattle.sum_tree.specs.Sums.{MonoidLaws}

@@ -1,6 +1,7 @@
-use Rattle.std.proofs.Common.{rules, ◌-◌, ◌++◌, refl, sym, ap, ◌∙◌, arith}
+use Rattle.std.proofs.Common.{rules, ◌-◌, ◌++◌, append_assoc, refl, sym, ap, ◌∙◌, arith}
 use Rattle.std.specs.Prelude.{slice_get}
 use Rattle.std.specs.List.{remove}
+use Rattle.sum_tree.specs.Shrunk.{shrunk}
 use Rattle.sum_tree.proofs.Edits.{removes, edit_front, edit_back, edit_middle, edit_last, get_front, get_back}
 use Rattle.sum_tree.proofs.Totals.{summable_front, summable_back, summable_as}
 use Rattle.sum_tree.proofs.node.Child.+remove.Goals as goal
@@ -11,15 +12,20 @@ remove-x-requires g t c κs within =
     let fit = summable_front g.met.S.Summary.laws g.T.Summed.sum_of g.met.S.Summary.fits_left (remove c.args.self.items c.args.i) (remove c.in-Two.a.items c.args.i) c.in-Two.b.items cut c.requires.summable in
     search rules
 
-pub two_front-requires-clause-summable : goal.two_front-requires-clause-summable
-two_front-requires-clause-summable g t c =
+pub taken_right-children-requires-clause-summable : goal.taken_right-children-requires-clause-summable
+taken_right-children-requires-clause-summable g t c =
     let cut = edit_front (removes {T = g.row.T.Denot}) c.args.self.items c.in-Two.a.items c.in-Two.b.items c.args.i c.in-Two.ensures.opened.items (omega arith) in
     summable_as g.met.S.Summary.laws g.T.Summed.sum_of _ _ (cut ∙ ap (λ l. l ++ c.in-Two.b.items) (sym c.remove-x.ensures.items)) c.requires.summable
+
+pub settled-requires-clause-summable : goal.settled-requires-clause-summable
+settled-requires-clause-summable g t c =
+    let cut = edit_front (removes {T = g.row.T.Denot}) c.args.self.items c.in-Two.a.items c.in-Two.b.items c.args.i c.in-Two.ensures.opened.items (omega arith) in
+    summable_as g.met.S.Summary.laws g.T.Summed.sum_of _ _ (cut ∙ ap (λ l. l ++ c.in-Two.b.items) (sym c.remove-x.ensures.items) ∙ sym c.taken_right-children.ensures.items) c.requires.summable
 
 pub returns-then-i-count-clause-items : goal.returns-then-i-count-clause-items
 returns-then-i-count-clause-items g t c =
     let cut = edit_front (removes {T = g.row.T.Denot}) c.args.self.items c.in-Two.a.items c.in-Two.b.items c.args.i c.in-Two.ensures.opened.items (omega arith) in
-    c.two_front.ensures.items ∙ ap (λ l. l ++ c.in-Two.b.items) c.remove-x.ensures.items ∙ sym cut
+    c.settled.ensures.items ∙ c.taken_right-children.ensures.items ∙ ap (λ l. l ++ c.in-Two.b.items) c.remove-x.ensures.items ∙ sym cut
 
 pub returns-then-i-count-clause-element : goal.returns-then-i-count-clause-element
 returns-then-i-count-clause-element g t c =
@@ -31,15 +37,20 @@ remove-x-requires-else-i-count g t c κs within =
     let fit = summable_back g.met.S.Summary.laws g.T.Summed.sum_of g.met.S.Summary.fits_right (remove c.args.self.items c.args.i) c.in-Two.a.items (remove c.in-Two.b.items (c.args.i - c.count-else-i-count.result)) cut c.requires.summable in
     search rules
 
-pub two_back-requires-clause-summable : goal.two_back-requires-clause-summable
-two_back-requires-clause-summable g t c =
+pub taken_left-children-requires-clause-summable : goal.taken_left-children-requires-clause-summable
+taken_left-children-requires-clause-summable g t c =
     let cut = edit_back (removes {T = g.row.T.Denot}) c.args.self.items c.in-Two.a.items c.in-Two.b.items c.args.i (c.args.i - c.count-else-i-count.result) c.in-Two.ensures.opened.items (omega arith) in
     summable_as g.met.S.Summary.laws g.T.Summed.sum_of _ _ (cut ∙ ap (λ l. c.in-Two.a.items ++ l) (sym c.remove-x-else-i-count.ensures.items)) c.requires.summable
+
+pub settled-requires-else-i-count-clause-summable : goal.settled-requires-else-i-count-clause-summable
+settled-requires-else-i-count-clause-summable g t c =
+    let cut = edit_back (removes {T = g.row.T.Denot}) c.args.self.items c.in-Two.a.items c.in-Two.b.items c.args.i (c.args.i - c.count-else-i-count.result) c.in-Two.ensures.opened.items (omega arith) in
+    summable_as g.met.S.Summary.laws g.T.Summed.sum_of _ _ (cut ∙ ap (λ l. c.in-Two.a.items ++ l) (sym c.remove-x-else-i-count.ensures.items) ∙ sym c.taken_left-children.ensures.items) c.requires.summable
 
 pub returns-else-i-count-clause-items : goal.returns-else-i-count-clause-items
 returns-else-i-count-clause-items g t c =
     let cut = edit_back (removes {T = g.row.T.Denot}) c.args.self.items c.in-Two.a.items c.in-Two.b.items c.args.i (c.args.i - c.count-else-i-count.result) c.in-Two.ensures.opened.items (omega arith) in
-    c.two_back.ensures.items ∙ ap (λ l. c.in-Two.a.items ++ l) c.remove-x-else-i-count.ensures.items ∙ sym cut
+    c.settled-else-i-count.ensures.items ∙ c.taken_left-children.ensures.items ∙ ap (λ l. c.in-Two.a.items ++ l) c.remove-x-else-i-count.ensures.items ∙ sym cut
 
 pub returns-else-i-count-clause-element : goal.returns-else-i-count-clause-element
 returns-else-i-count-clause-element g t c =
@@ -51,15 +62,20 @@ remove-x-requires-then-i-count-2 g t c κs within =
     let fit = summable_front g.met.S.Summary.laws g.T.Summed.sum_of g.met.S.Summary.fits_left (remove c.args.self.items c.args.i) (remove c.in-Three.a.items c.args.i) (c.in-Three.b.items ++ c.in-Three.c.items) cut c.requires.summable in
     search rules
 
-pub three_front-requires-clause-summable : goal.three_front-requires-clause-summable
-three_front-requires-clause-summable g t c =
+pub taken_right-children-requires-then-i-count-2-clause-summable : goal.taken_right-children-requires-then-i-count-2-clause-summable
+taken_right-children-requires-then-i-count-2-clause-summable g t c =
     let cut = edit_front (removes {T = g.row.T.Denot}) c.args.self.items c.in-Three.a.items (c.in-Three.b.items ++ c.in-Three.c.items) c.args.i c.in-Three.ensures.opened.items (omega arith) in
-    summable_as g.met.S.Summary.laws g.T.Summed.sum_of _ _ (cut ∙ ap (λ l. l ++ (c.in-Three.b.items ++ c.in-Three.c.items)) (sym c.remove-x-then-i-count-2.ensures.items)) c.requires.summable
+    summable_front g.met.S.Summary.laws g.T.Summed.sum_of g.met.S.Summary.fits_left _ _ c.in-Three.c.items (cut ∙ ap (λ l. l ++ (c.in-Three.b.items ++ c.in-Three.c.items)) (sym c.remove-x-then-i-count-2.ensures.items) ∙ sym (append_assoc (shrunk c.remove-x-then-i-count-2.result.1).items c.in-Three.b.items c.in-Three.c.items)) c.requires.summable
+
+pub beside_right-requires-clause-summable : goal.beside_right-requires-clause-summable
+beside_right-requires-clause-summable g t c =
+    let cut = edit_front (removes {T = g.row.T.Denot}) c.args.self.items c.in-Three.a.items (c.in-Three.b.items ++ c.in-Three.c.items) c.args.i c.in-Three.ensures.opened.items (omega arith) in
+    summable_as g.met.S.Summary.laws g.T.Summed.sum_of _ _ (cut ∙ ap (λ l. l ++ (c.in-Three.b.items ++ c.in-Three.c.items)) (sym c.remove-x-then-i-count-2.ensures.items) ∙ sym (append_assoc (shrunk c.remove-x-then-i-count-2.result.1).items c.in-Three.b.items c.in-Three.c.items) ∙ ap (λ l. l ++ c.in-Three.c.items) (sym c.taken_right-children-then-i-count-2.ensures.items)) c.requires.summable
 
 pub returns-then-i-count-2-clause-items : goal.returns-then-i-count-2-clause-items
 returns-then-i-count-2-clause-items g t c =
     let cut = edit_front (removes {T = g.row.T.Denot}) c.args.self.items c.in-Three.a.items (c.in-Three.b.items ++ c.in-Three.c.items) c.args.i c.in-Three.ensures.opened.items (omega arith) in
-    c.three_front.ensures.items ∙ ap (λ l. l ++ (c.in-Three.b.items ++ c.in-Three.c.items)) c.remove-x-then-i-count-2.ensures.items ∙ sym cut
+    c.beside_right.ensures.items ∙ ap (λ l. l ++ c.in-Three.c.items) c.taken_right-children-then-i-count-2.ensures.items ∙ append_assoc (shrunk c.remove-x-then-i-count-2.result.1).items c.in-Three.b.items c.in-Three.c.items ∙ ap (λ l. l ++ (c.in-Three.b.items ++ c.in-Three.c.items)) c.remove-x-then-i-count-2.ensures.items ∙ sym cut
 
 pub returns-then-i-count-2-clause-element : goal.returns-then-i-count-2-clause-element
 returns-then-i-count-2-clause-element g t c =
@@ -72,15 +88,20 @@ remove-x-requires-then-j-count g t c κs within =
     let fit = summable_front g.met.S.Summary.laws g.T.Summed.sum_of g.met.S.Summary.fits_left ((remove c.in-Three.b.items (c.args.i - c.count-in-Three-2.result)) ++ c.in-Three.c.items) (remove c.in-Three.b.items (c.args.i - c.count-in-Three-2.result)) c.in-Three.c.items refl behind in
     search rules
 
-pub three_middle-requires-clause-summable : goal.three_middle-requires-clause-summable
-three_middle-requires-clause-summable g t c =
+pub taken_left-children-requires-then-j-count-clause-summable : goal.taken_left-children-requires-then-j-count-clause-summable
+taken_left-children-requires-then-j-count-clause-summable g t c =
     let cut = edit_middle (removes {T = g.row.T.Denot}) c.args.self.items c.in-Three.a.items c.in-Three.b.items c.in-Three.c.items c.args.i (c.args.i - c.count-in-Three-2.result) c.in-Three.ensures.opened.items (omega arith) (omega arith) in
-    summable_as g.met.S.Summary.laws g.T.Summed.sum_of _ _ (cut ∙ ap (λ l. c.in-Three.a.items ++ (l ++ c.in-Three.c.items)) (sym c.remove-x-then-j-count.ensures.items)) c.requires.summable
+    summable_front g.met.S.Summary.laws g.T.Summed.sum_of g.met.S.Summary.fits_left _ _ c.in-Three.c.items (cut ∙ ap (λ l. c.in-Three.a.items ++ (l ++ c.in-Three.c.items)) (sym c.remove-x-then-j-count.ensures.items) ∙ sym (append_assoc c.in-Three.a.items (shrunk c.remove-x-then-j-count.result.1).items c.in-Three.c.items)) c.requires.summable
+
+pub beside_right-requires-then-j-count-clause-summable : goal.beside_right-requires-then-j-count-clause-summable
+beside_right-requires-then-j-count-clause-summable g t c =
+    let cut = edit_middle (removes {T = g.row.T.Denot}) c.args.self.items c.in-Three.a.items c.in-Three.b.items c.in-Three.c.items c.args.i (c.args.i - c.count-in-Three-2.result) c.in-Three.ensures.opened.items (omega arith) (omega arith) in
+    summable_as g.met.S.Summary.laws g.T.Summed.sum_of _ _ (cut ∙ ap (λ l. c.in-Three.a.items ++ (l ++ c.in-Three.c.items)) (sym c.remove-x-then-j-count.ensures.items) ∙ sym (append_assoc c.in-Three.a.items (shrunk c.remove-x-then-j-count.result.1).items c.in-Three.c.items) ∙ ap (λ l. l ++ c.in-Three.c.items) (sym c.taken_left-children-then-j-count.ensures.items)) c.requires.summable
 
 pub returns-then-j-count-clause-items : goal.returns-then-j-count-clause-items
 returns-then-j-count-clause-items g t c =
     let cut = edit_middle (removes {T = g.row.T.Denot}) c.args.self.items c.in-Three.a.items c.in-Three.b.items c.in-Three.c.items c.args.i (c.args.i - c.count-in-Three-2.result) c.in-Three.ensures.opened.items (omega arith) (omega arith) in
-    c.three_middle.ensures.items ∙ ap (λ l. c.in-Three.a.items ++ (l ++ c.in-Three.c.items)) c.remove-x-then-j-count.ensures.items ∙ sym cut
+    c.beside_right-then-j-count.ensures.items ∙ ap (λ l. l ++ c.in-Three.c.items) c.taken_left-children-then-j-count.ensures.items ∙ append_assoc c.in-Three.a.items (shrunk c.remove-x-then-j-count.result.1).items c.in-Three.c.items ∙ ap (λ l. c.in-Three.a.items ++ (l ++ c.in-Three.c.items)) c.remove-x-then-j-count.ensures.items ∙ sym cut
 
 pub returns-then-j-count-clause-element : goal.returns-then-j-count-clause-element
 returns-then-j-count-clause-element g t c =
@@ -93,15 +114,20 @@ remove-x-requires-else-j-count g t c κs within =
     let fit = summable_back g.met.S.Summary.laws g.T.Summed.sum_of g.met.S.Summary.fits_right (c.in-Three.b.items ++ (remove c.in-Three.c.items (c.args.i - c.count-in-Three-2.result - c.count-else-j-count.result))) c.in-Three.b.items (remove c.in-Three.c.items (c.args.i - c.count-in-Three-2.result - c.count-else-j-count.result)) refl behind in
     search rules
 
-pub three_back-requires-clause-summable : goal.three_back-requires-clause-summable
-three_back-requires-clause-summable g t c =
+pub taken_left-children-requires-else-j-count-clause-summable : goal.taken_left-children-requires-else-j-count-clause-summable
+taken_left-children-requires-else-j-count-clause-summable g t c =
     let cut = edit_last (removes {T = g.row.T.Denot}) c.args.self.items c.in-Three.a.items c.in-Three.b.items c.in-Three.c.items c.args.i (c.args.i - c.count-in-Three-2.result) (c.args.i - c.count-in-Three-2.result - c.count-else-j-count.result) c.in-Three.ensures.opened.items (omega arith) (omega arith) in
-    summable_as g.met.S.Summary.laws g.T.Summed.sum_of _ _ (cut ∙ ap (λ l. c.in-Three.a.items ++ (c.in-Three.b.items ++ l)) (sym c.remove-x-else-j-count.ensures.items)) c.requires.summable
+    summable_back g.met.S.Summary.laws g.T.Summed.sum_of g.met.S.Summary.fits_right _ c.in-Three.a.items _ (cut ∙ ap (λ l. c.in-Three.a.items ++ (c.in-Three.b.items ++ l)) (sym c.remove-x-else-j-count.ensures.items)) c.requires.summable
+
+pub beside_left-requires-clause-summable : goal.beside_left-requires-clause-summable
+beside_left-requires-clause-summable g t c =
+    let cut = edit_last (removes {T = g.row.T.Denot}) c.args.self.items c.in-Three.a.items c.in-Three.b.items c.in-Three.c.items c.args.i (c.args.i - c.count-in-Three-2.result) (c.args.i - c.count-in-Three-2.result - c.count-else-j-count.result) c.in-Three.ensures.opened.items (omega arith) (omega arith) in
+    summable_as g.met.S.Summary.laws g.T.Summed.sum_of _ _ (cut ∙ ap (λ l. c.in-Three.a.items ++ (c.in-Three.b.items ++ l)) (sym c.remove-x-else-j-count.ensures.items) ∙ ap (λ l. c.in-Three.a.items ++ l) (sym c.taken_left-children-else-j-count.ensures.items)) c.requires.summable
 
 pub returns-else-j-count-clause-items : goal.returns-else-j-count-clause-items
 returns-else-j-count-clause-items g t c =
     let cut = edit_last (removes {T = g.row.T.Denot}) c.args.self.items c.in-Three.a.items c.in-Three.b.items c.in-Three.c.items c.args.i (c.args.i - c.count-in-Three-2.result) (c.args.i - c.count-in-Three-2.result - c.count-else-j-count.result) c.in-Three.ensures.opened.items (omega arith) (omega arith) in
-    c.three_back.ensures.items ∙ ap (λ l. c.in-Three.a.items ++ (c.in-Three.b.items ++ l)) c.remove-x-else-j-count.ensures.items ∙ sym cut
+    c.beside_left.ensures.items ∙ ap (λ l. c.in-Three.a.items ++ l) c.taken_left-children-else-j-count.ensures.items ∙ ap (λ l. c.in-Three.a.items ++ (c.in-Three.b.items ++ l)) c.remove-x-else-j-count.ensures.items ∙ sym cut
 
 pub returns-else-j-count-clause-element : goal.returns-else-j-count-clause-element
 returns-else-j-count-clause-element g t c =
