@@ -1,2 +1,16 @@
+pub mod Answering
+pub mod Chaining
+pub mod Counting
+pub mod Editing
+pub mod Erring
+pub mod Joining
 pub mod Keeping
+pub mod Kept
+pub mod Making
+pub mod Measuring
+pub mod Metering
 pub mod Offsets
+pub mod Preparing
+pub mod Reading
+pub mod Remembering
+pub mod Texts

@@ -4,7 +4,7 @@ use Rattle.enc_names.specs.declared.encoding.Encoding.{Encoding}
 use Rattle.index_loader.specs.Files.{Files}
 use Rattle.piece_rope.specs.declared.fault.DocFault.{DocFault}
 use Rattle.piece_rope.specs.declared.fault.DocFault.TheVariants.{NoIndex, OutOfRange, TooLarge, OutOfMemory}
-use Rattle.codec.specs.Decode.{is_decoded}
+use Rattle.state_memo.specs.Decoding.{is_decoded}
 use Rattle.piece_rope.specs.Document.{Document, text_of, errors_of}
 
 -- the most bytes that a document has

@@ -1,5 +1,14 @@
+pub mod Chain
 pub mod Decode
 pub mod Document
+pub mod Edit
 pub mod Edits
+pub mod Entry
+pub mod ErrorCount
+pub mod Errors
 pub mod Examples
 pub mod Kept
+pub mod Made
+pub mod Resync
+pub mod Sizes
+pub mod Window

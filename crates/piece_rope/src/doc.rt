@@ -1,17 +1,29 @@
 //! Documents.
-ghost use Rattle.std.specs.Prelude.{◌≡◌, ◌≢◌, ◌+◌, ◌-◌, ◌^◌, ◌≤◌, min, length, take, drop, None, IfOk, OnOk, OnErr, string_bytes};
+ghost use Rattle.std.specs.Prelude.{◌≡◌, ◌≢◌, ℕ, ◌+◌, ◌-◌, ◌*◌, ◌^◌, ◌≤◌, false, min, length, map, take, drop, Some, None, IfOk, OnOk, OnErr, string_bytes};
 ghost use Rattle.std.specs.Str.{chars, encode_utf8_all};
+ghost use Rattle.state_memo.specs.Decoding.{OwnDecoder, any_start, decoder_in, marks, total_width, utf16_width, utf8_width};
+ghost use Rattle.piece_rope.specs.Chain.{Chain, bytes_of};
+ghost use Rattle.piece_rope.specs.Entry.{here_of};
+ghost use Rattle.piece_rope.specs.Made.{AreMade, IsMade, body_of, tail_of};
+ghost use Rattle.piece_rope.specs.Sizes.{AreSized, AreCounted, shortest};
 
+use crate::bytes::push_bytes;
+use crate::edit::{Edit, prepare};
+use crate::entered::Entered;
+use crate::errors::{errors_between, nth_error};
 use crate::fault::DocFault;
+use crate::fresh::{Fresh, fresh_pieces};
+use crate::install::install;
+use crate::lengths::{Lengths, whole_sum};
 use crate::limits::{DOCUMENT_LIMIT, checked_cut, checked_part};
-use crate::scalars::scalars_between;
-use crate::spliced::spliced_bytes;
-use codec::{AnyDecoder, Decoding, decode_any, sniff};
-use decoder_core::Meter;
+use crate::pieces::{Pieces, built, first_bytes};
+use crate::text::text_between;
 use enc_names::{Encoding, Place};
 use index_loader::Indexes;
+use state_memo::{AnyDecoder, Meter, Outcome, Sum, finish_of, piece_laws, sniff, start_of};
 use std::alloc::Global;
 use std::marker::Model;
+use sum_tree::Finder;
 
 /// A document: its bytes and the encoding given for them, beside the indexes that it was opened
 /// with. Whatever is asked of it is answered as decoding its bytes from scratch answers it
@@ -21,25 +33,28 @@ use std::marker::Model;
 pub struct Doc<'i> {
     indexes: &'i Indexes,
     given: Encoding,
-    bytes: Vec<u8>,
-    decoding: Decoding,
+    pieces: Pieces,
+    tail: Outcome,
+    alloc: Global,
 }
 
 impl<'i> Model for Doc<'i> {
+    ghost use Rattle.piece_rope.specs.Chain.{bytes_of};
     ghost use Rattle.piece_rope.specs.Document.{Document};
     ghost use Rattle.piece_rope.specs.Kept.{IsKept};
 
     ghost Value = { Document };
 
-    ghost view = { λ d. record { indexes = d.indexes.now; given = d.given; bytes = d.bytes.items } };
+    ghost view = { λ d. record { indexes = d.indexes.now; given = d.given; bytes = bytes_of d.pieces.items } };
 
-    ghost invariant = { λ d. IsKept (record { indexes = d.indexes.now; given = d.given; bytes = d.bytes.items }) d.decoding };
+    ghost invariant = { λ d. IsKept d.indexes.now d.given d.pieces.items d.tail };
 }
 
 impl<'i> Doc<'i> {
-    ghost use Rattle.codec.specs.Mark.{mark_length};
+    ghost use Rattle.state_memo.specs.Decoding.{mark_length};
     ghost use Rattle.piece_rope.specs.Document.{text_of, errors_of, first_error, decoded};
-    ghost use Rattle.piece_rope.specs.Edits.{Faults, spliced, spliced_document, open_fault, splice_fault, source_fault, text_fault, errors_fault};
+    ghost use Rattle.piece_rope.specs.Edits.{Faults, spliced_document, open_fault, splice_fault, source_fault, text_fault, errors_fault};
+    ghost use Rattle.piece_rope.specs.Kept.{Resyncs};
 
     /// A document of these bytes, in the encoding given where no byte order mark puts another in
     /// force. Refused with `NoIndex` where an index file of the encoding given isn't there, then
@@ -64,20 +79,25 @@ impl<'i> Doc<'i> {
         if bytes.len() > DOCUMENT_LIMIT {
             return Err(DocFault::TooLarge);
         }
-        let bytes = Vec::from_slice(alloc, bytes)?;
-        let decoding = decode_any(alloc, &decoder, &bytes, meter)?;
+        piece_laws(&decoder);
+        let fresh = fresh_pieces(alloc, &decoder, start_of(&decoder), bytes, meter)?;
+        let Fresh { mut pieces, exit } = fresh;
+        let tail = finish_of(alloc, &decoder, exit)?;
+        let pieces = built(alloc, &mut pieces)?;
         Ok(Doc {
             indexes,
             given: encoding,
-            bytes,
-            decoding,
+            pieces,
+            tail,
+            alloc,
         })
     }
 
     /// Takes `del` bytes out at `at` and puts `ins` in their place. Refused with `OutOfRange` where
     /// the bytes to take out aren't all there, then with `TooLarge` where there would be more than
-    /// 2,097,152 bytes. The meter counts the bytes decoded, at most those of the document as it is
-    /// then.
+    /// 2,097,152 bytes. The meter counts the bytes decoded, also those of an edit that is refused
+    /// for memory: at most the bytes put in, those behind the edit until the decoder is in the
+    /// state in which it was there before, and 8,192 more.
     pub fn splice(
         &mut self,
         at: u64,
@@ -89,16 +109,24 @@ impl<'i> Doc<'i> {
         ensures err { OnErr result (self.new ≡ self.old) }
         ensures faults { Faults (splice_fault self.old.bytes at del ins.now) result }
         ensures meter_least { meter.old ≤ meter.new }
-        ensures meter_most { meter.new ≤ meter.old + length (spliced self.old.bytes at del ins.now) }
+        ensures meter_most { (m : ℕ) → Resyncs self.old at del ins.now m → meter.new ≤ meter.old + (length ins.now + m + 4 * 2048) }
         ensures meter_refused { splice_fault self.old.bytes at del ins.now ≢ None → meter.new ≡ meter.old }
     {
-        let (at, del) = checked_cut(&self.bytes, at, del, ins)?;
+        let (at, to) = checked_cut(&self.pieces, at, del, ins)?;
         let decoder = AnyDecoder::new(self.indexes, self.given).ok_or(DocFault::NoIndex)?;
-        let alloc = *self.bytes.allocator();
-        let bytes = spliced_bytes(alloc, &self.bytes, at, del, ins)?;
-        let decoding = decode_any(alloc, &decoder, &bytes, meter)?;
-        self.bytes = bytes;
-        self.decoding = decoding;
+        piece_laws(&decoder);
+        let end = self.tail.exit;
+        let edit = prepare(self.alloc, &decoder, &self.pieces, end, at, to, ins, meter)?;
+        let Edit {
+            first,
+            last,
+            fresh,
+            renewals,
+            tail,
+        } = edit;
+        self.pieces.reserve(fresh.len())?;
+        install(&mut self.pieces, first, last, fresh, renewals);
+        self.tail = tail;
         Ok(())
     }
 
@@ -110,9 +138,11 @@ impl<'i> Doc<'i> {
         ensures chars { IfOk result (λ text. chars (string_bytes text) ≡ take (j - i) (drop i (text_of self.now))) }
         ensures faults { Faults (text_fault self.now i j) result }
     {
-        let text = &self.decoding.text;
-        let part = scalars_between(text.as_str(), i, j).ok_or(DocFault::OutOfRange)?;
-        Ok(String::from_str(*text.allocator(), part)?)
+        if i > j || j > self.lengths().scalars {
+            return Err(DocFault::OutOfRange);
+        }
+        let text = text_between(self.alloc, &self.pieces, &self.tail, i, j)?;
+        Ok(text)
     }
 
     /// The `len` bytes from `at` on, as they are in the document. Refused with `OutOfRange` where
@@ -121,8 +151,17 @@ impl<'i> Doc<'i> {
         ensures ok { IfOk result (λ bytes. bytes.items ≡ take len (drop at self.now.bytes)) }
         ensures faults { Faults (source_fault self.now.bytes at len) result }
     {
-        let part = checked_part(&self.bytes, at, len)?;
-        Ok(Vec::from_slice(*self.bytes.allocator(), part)?)
+        let (from, to) = checked_part(&self.pieces, at, len)?;
+        let mut bytes = Vec::new(self.alloc);
+        push_bytes(&mut bytes, &self.pieces, from, to)?;
+        Ok(bytes)
+    }
+
+    /// The indexes that the document was opened with.
+    pub fn indexes(&self) -> &'i Indexes
+        ensures { result.now ≡ self.now.indexes }
+    {
+        self.indexes
     }
 
     /// The places of the errors from number `from` on, at most `max` of them. Refused with
@@ -132,50 +171,76 @@ impl<'i> Doc<'i> {
         ensures ok { IfOk result (λ places. places.items ≡ take max (drop from (errors_of self.now))) }
         ensures faults { Faults (errors_fault self.now from) result }
     {
-        let errors = &self.decoding.errors;
-        if from > errors.len() as u64 {
+        let total = self.lengths().errors;
+        if from > total {
             return Err(DocFault::OutOfRange);
         }
-        let rest = &errors[from as usize..];
-        let count = max.min(rest.len() as u64) as usize;
-        Ok(Vec::from_slice(*errors.allocator(), &rest[..count])?)
+        let to = from + max.min(total - from);
+        let bom = self.bom_len();
+        let places = errors_between(self.alloc, &self.pieces, &self.tail, bom, from, to)?;
+        Ok(places)
     }
 
     /// The place of the first error, if there is one.
-    #[tactic(auto, unfolding(crate::specs::Document::errors_of))]
     pub fn fatal(&self) -> Option<Place>
         ensures { result ≡ first_error self.now }
     {
-        self.decoding.errors.first().copied()
-    }
-
-    /// The number of errors.
-    pub fn error_count(&self) -> u64
-        ensures { result ≡ length (errors_of self.now) }
-    {
-        self.decoding.errors.len() as u64
+        nth_error(&self.pieces, &self.tail, self.bom_len(), 0)
     }
 
     /// The encoding in force: that of the byte order mark, or else the one given.
-    #[tactic(auto, unfolding(codec::specs::Decode::decode))]
+    #[tactic(auto, unfolding(crate::specs::Decode::decode))]
     pub fn encoding(&self) -> Encoding
         ensures { result ≡ (decoded self.now).encoding }
     {
-        sniff(self.given, &self.bytes).encoding
+        sniff(self.given, first_bytes(&self.pieces)).encoding
     }
 
     /// The number of bytes of the byte order mark, 0 where there is none.
-    #[tactic(auto, unfolding(codec::specs::Decode::decode))]
+    #[tactic(auto, unfolding(crate::specs::Decode::decode))]
     pub fn bom_len(&self) -> u64
         ensures { result ≡ (decoded self.now).bom }
     {
-        sniff(self.given, &self.bytes).bom_len
+        sniff(self.given, first_bytes(&self.pieces)).bom_len
     }
 
-    /// The indexes that the document was opened with.
-    pub fn indexes(&self) -> &'i Indexes
-        ensures { result.now ≡ self.now.indexes }
+    /// How long the document and its text are.
+    pub fn lengths(&self) -> Lengths
+        ensures bytes { result.bytes ≡ length self.now.bytes }
+        ensures scalars { result.scalars ≡ length (text_of self.now) }
+        ensures utf16 { result.utf16 ≡ total_width utf16_width (text_of self.now) }
+        ensures utf8 { result.utf8 ≡ total_width utf8_width (text_of self.now) }
+        ensures errors { result.errors ≡ length (errors_of self.now) }
+        ensures lines { result.lines ≡ marks false (text_of self.now) + 1 }
     {
-        self.indexes
+        let sum = whole_sum(&self.pieces, &self.tail);
+        Lengths {
+            bytes: sum.bytes,
+            scalars: sum.scalars,
+            utf16: sum.utf16,
+            utf8: sum.utf8,
+            errors: sum.errors,
+            lines: sum.marks + 1,
+        }
+    }
+
+    /// The pieces in order, to be found by the sums in front of them.
+    pub fn finder(&self) -> Finder<'_, Entered, Sum>
+        ensures made { AreMade 0 (body_of self.now) (map here_of result) }
+        ensures chain { (d : OwnDecoder) → decoder_in self.now.indexes self.now.given ≡ Some d → Chain d (any_start d) result }
+        ensures bytes { bytes_of result ≡ self.now.bytes }
+        ensures small { AreSized 1 result }
+        ensures wide { 2 ≤ length result → AreSized shortest result }
+        ensures counted { AreCounted result }
+    {
+        self.pieces.finder()
+    }
+
+    /// What the end of the bytes gives behind all pieces, as an outcome without bytes.
+    pub fn tail(&self) -> &Outcome
+        ensures made { IsMade (length self.now.bytes) (tail_of self.now) result.now }
+        ensures bytes { result.now.sum.bytes ≡ 0 }
+    {
+        &self.tail
     }
 }

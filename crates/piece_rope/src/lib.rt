@@ -1,17 +1,31 @@
 //! A document is its bytes: whatever is asked of it is answered as decoding its bytes from scratch
-//! answers it.
+//! answers it. It is kept in pieces that remember what they decode to, so that an edit costs what
+//! it changes.
 #![tactic(auto)]
 
+mod bytes;
 mod doc;
-mod fault;
-mod limits;
-mod scalars;
-mod spliced;
-
-pub use doc::Doc;
-pub use fault::DocFault;
-
+mod edit;
+mod entered;
+mod errors;
 #[cfg(test)]
 mod examples;
+mod fault;
+mod fresh;
+mod install;
+mod later;
+mod lengths;
+mod limits;
+mod pieces;
+mod scalars;
 #[cfg(test)]
 mod tests;
+mod text;
+mod window;
+
+pub use doc::Doc;
+pub use entered::Entered;
+pub use fault::DocFault;
+pub use lengths::Lengths;
+pub use state_memo::{Axis, Outcome, Sum, Text};
+pub use sum_tree::{Finder, Visits};

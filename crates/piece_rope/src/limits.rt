@@ -1,28 +1,33 @@
 //! What a document's bytes may be.
-ghost use Rattle.std.specs.Prelude.{◌≡◌, ◌+◌, ◌≤◌, length, take, drop, IfOk, OnOk};
+ghost use Rattle.std.specs.Prelude.{◌≡◌, ◌+◌, ◌≤◌, length, IfOk, OnOk};
+ghost use Rattle.piece_rope.specs.Chain.{bytes_of};
 ghost use Rattle.piece_rope.specs.Edits.{Faults, document_limit, source_fault, splice_fault, spliced};
+ghost use Rattle.piece_rope.specs.Sizes.{AreCounted};
 
 use crate::fault::DocFault;
+use crate::pieces::Pieces;
+use crate::window::count_bytes;
 
 /// The most bytes that a document has.
 pub(crate) const DOCUMENT_LIMIT: usize = 2_097_152;
 
-/// Where a splice cuts the bytes and how many it takes out, as sizes in memory. Refused with
-/// `OutOfRange` and then with `TooLarge`.
+/// Where a splice cuts the bytes, as sizes in memory: from and to. Refused with `OutOfRange` and
+/// then with `TooLarge`.
 #[tactic(auto, unfolding(crate::specs::Edits::splice_fault))]
 pub(crate) fn checked_cut(
-    bytes: &[u8],
+    pieces: &Pieces,
     at: u64,
     del: u64,
     ins: &[u8],
 ) -> Result<(usize, usize), DocFault>
-    requires { length bytes.now ≤ document_limit }
-    ensures ok { IfOk result (λ cut. cut.0 ≡ at × cut.1 ≡ del) }
-    ensures within { OnOk result (at + del ≤ length bytes.now) }
-    ensures small { OnOk result (length (spliced bytes.now at del ins.now) ≤ document_limit) }
-    ensures faults { Faults (splice_fault bytes.now at del ins.now) result }
+    requires counted { AreCounted pieces.now.items }
+    requires within { length (bytes_of pieces.now.items) ≤ document_limit }
+    ensures ok { IfOk result (λ cut. cut.0 ≡ at × cut.1 ≡ at + del) }
+    ensures within { OnOk result (at + del ≤ length (bytes_of pieces.now.items)) }
+    ensures small { OnOk result (length (spliced (bytes_of pieces.now.items) at del ins.now) ≤ document_limit) }
+    ensures faults { Faults (splice_fault (bytes_of pieces.now.items) at del ins.now) result }
 {
-    let len = bytes.len();
+    let len = count_bytes(pieces);
     let end = at.checked_add(del).ok_or(DocFault::OutOfRange)?;
     if end > len as u64 {
         return Err(DocFault::OutOfRange);
@@ -30,18 +35,22 @@ pub(crate) fn checked_cut(
     if len - del as usize + ins.len() > DOCUMENT_LIMIT {
         return Err(DocFault::TooLarge);
     }
-    Ok((at as usize, del as usize))
+    Ok((at as usize, end as usize))
 }
 
-/// The `len` bytes from `at` on. Refused with `OutOfRange` where they aren't all there.
+/// Where the `len` bytes from `at` on begin and end, as sizes in memory. Refused with `OutOfRange`
+/// where they aren't all there.
 #[tactic(auto, unfolding(crate::specs::Edits::source_fault))]
-pub(crate) fn checked_part(bytes: &[u8], at: u64, len: u64) -> Result<&[u8], DocFault>
-    ensures ok { IfOk result (λ part. part.now ≡ take len (drop at bytes.now)) }
-    ensures faults { Faults (source_fault bytes.now at len) result }
+pub(crate) fn checked_part(pieces: &Pieces, at: u64, len: u64) -> Result<(usize, usize), DocFault>
+    requires counted { AreCounted pieces.now.items }
+    ensures ok { IfOk result (λ cut. cut.0 ≡ at × cut.1 ≡ at + len) }
+    ensures within { OnOk result (at + len ≤ length (bytes_of pieces.now.items)) }
+    ensures faults { Faults (source_fault (bytes_of pieces.now.items) at len) result }
 {
+    let size = count_bytes(pieces) as u64;
     let end = at.checked_add(len).ok_or(DocFault::OutOfRange)?;
-    if end > bytes.len() as u64 {
+    if end > size {
         return Err(DocFault::OutOfRange);
     }
-    Ok(&bytes[at as usize..end as usize])
+    Ok((at as usize, end as usize))
 }

@@ -1,6 +1,6 @@
 use Rattle.std.proofs.Common.{refl}
-use Rattle.decoder_core.specs.Queue.{run, turns}
-use Rattle.codec.specs.Decode.{decode}
+use Rattle.state_memo.specs.Decoding.{run, turns}
+use Rattle.piece_rope.specs.Decode.{decode}
 use Rattle.piece_rope.specs.Document.{text_of, errors_of}
 use Rattle.piece_rope.proofs.examples.sequence_cut_short_by_ascii.Goals as goal
 

@@ -1,11 +1,37 @@
-use Rattle.std.proofs.Common.{◌≤◌, arith, length}
-use Rattle.piece_rope.specs.Edits.{document_limit}
-use Rattle.piece_rope.proofs.Keeping.{IsKept-decoded, chosen}
+use Rattle.std.proofs.Common.{ap, sym, ◌∙◌, subst, List, length, arith}
+use Rattle.std.specs.Option.{is_some}
+use Rattle.state_memo.specs.Decoding.{AnyState}
+use Rattle.piece_rope.specs.Entry.{Entry}
+use Rattle.piece_rope.specs.Edit.{IsRope}
+use Rattle.piece_rope.specs.Kept.{IsKept}
+use Rattle.piece_rope.proofs.Chaining.{laws_from}
+use Rattle.piece_rope.proofs.Making.{item_laws}
+use Rattle.piece_rope.proofs.Keeping.{decoder-known, join-rope, kept-rope, new-rope}
+use Rattle.piece_rope.proofs.Remembering.{ending-exit, ending-own}
 use Rattle.piece_rope.proofs.doc.Doc.open.Goals as goal
+
+pub built-requires : goal.built-requires
+built-requires c =
+    let d = c.in_ok-decoder.decoder in
+    let e = c.piece_laws.ensures in
+    let laws = laws_from d e.none e.parts e.exact e.same e.exit e.bytes in
+    let f = c.in_ok-fresh.ensures in
+    let ps = c.in_ok-fresh.fresh.pieces.items in
+    let rope = new-rope d c.start_of.result c.in_ok-fresh.fresh.exit c.args.bytes.now ps c.start_of.ensures f.bytes f.chain f.exit f.small f.wide f.few in
+    join-rope d laws ps c.in_ok-fresh.fresh.exit rope (omega (arith, ap length f.bytes, c.if-bytes-gt-DOCUMENT_LIMIT.false))
 
 pub invariant_of-result : goal.invariant_of-result
 invariant_of-result c =
-    let can = chosen _ c.new.result c.in_ok-decoder.ensures.ok_part c.new.ensures.variant c.new.ensures.decode in
-    let within : length c.in_ok-bytes.bytes.items ≤ document_limit = rw c.in_ok-bytes.ensures.items (omega arith) in
-    IsKept-decoded c.args.indexes.now c.args.encoding c.in_ok-bytes.bytes.items c.in_ok-decoding.decoding _ can.0 (can.1 c.in_ok-bytes.bytes.items) within
-    (rw c.deref.ensures.value at c.in_ok-decoding.ensures.ok.text) (rw c.deref.ensures.value at c.in_ok-decoding.ensures.ok.errors)
+    let d = c.in_ok-decoder.decoder in
+    let e = c.piece_laws.ensures in
+    let laws = laws_from d e.none e.parts e.exact e.same e.exit e.bytes in
+    let f = c.in_ok-fresh.ensures in
+    let ps = c.in_ok-fresh.fresh.pieces.items in
+    let exit = c.in_ok-fresh.fresh.exit in
+    let tail = c.in_ok-tail.tail in
+    let rope = new-rope d c.start_of.result exit c.args.bytes.now ps c.start_of.ensures f.bytes f.chain f.exit f.small f.wide f.few in
+    let scratch = decoder-known _ c.new.result c.in_ok-decoder.ensures.ok_part c.new.ensures.decode in
+    let own = subst (λ (s : AnyState). IsRope d ps s) (sym (ending-exit d exit tail c.in_ok-tail.ensures)) rope in
+    subst (λ (xs : List Entry). IsKept c.args.indexes.now c.args.encoding xs tail) (sym c.in_ok-pieces.ensures)
+    (kept-rope c.args.indexes.now c.args.encoding d ps tail laws (item_laws d e.runs e.shown e.near) (sym c.new.ensures.value ∙ c.in_ok-decoder.ensures.ok_part) (sym c.new.ensures.variant ∙ ap is_some c.in_ok-decoder.ensures.ok_part)
+    (omega (arith, ap length f.bytes, c.if-bytes-gt-DOCUMENT_LIMIT.false)) own (ending-own d exit tail c.in_ok-tail.ensures) scratch e.joined)

@@ -1,0 +1,201 @@
+-- Chains of pieces, taken apart and put together.
+use Rattle.std.proofs.Common.{◌≡◌, ◌≢◌, refl, sym, ap, ◌∙◌, subst, ℕ, zero, suc, ◌+◌, ◌≤◌, true, false, List, [], ◌∷◌, ◌++◌, take, drop, length, slice_get, Option, Some, None, arith, append-nil, take-append-drop, length-append}
+use Rattle.std.proofs.lemmas.Grind.{flat_map-append}
+use Rattle.std.proofs.lemmas.List.{length-take-le}
+use Rattle.std.proofs.lemmas.Option.{slice_get_within}
+use Rattle.state_memo.specs.Decoding.{feed, OwnDecoder, AnyState, any}
+use Rattle.state_memo.specs.declared.outcome.Outcome.{Outcome}
+use Rattle.state_memo.specs.Memo.{same_state, recalled}
+use Rattle.state_memo.specs.Outcome.{outcome_of}
+use Rattle.piece_rope.specs.Entry.{Entry}
+use Rattle.piece_rope.specs.declared.entered.Renewal.{Renewal}
+use Rattle.piece_rope.specs.Resync.{LastDiffers, Passed}
+use Rattle.piece_rope.specs.Chain.{IsOwn, Chain, bytes_of, state_after, renew, renew_by, renewed}
+
+-- what is said of one decoder's runs
+pub record Laws (d : OwnDecoder) : Type 0 where
+  pub none : (s : AnyState) → (feed (any d) s []).state ≡ s
+  pub parts : (s : AnyState) (p q : List ℕ) → (feed (any d) s (p ++ q)).state ≡ (feed (any d) (feed (any d) s p).state q).state
+  pub exact : (a b : AnyState) → same_state a b ≡ true → a ≡ b
+  pub same : (a : AnyState) → same_state a a ≡ true
+  pub exit : (s : AnyState) (bytes : List ℕ) → (outcome_of d s bytes).exit ≡ (feed (any d) s bytes).state
+  pub bytes : (s : AnyState) (bytes : List ℕ) → (outcome_of d s bytes).sum.bytes ≡ length bytes
+
+pub laws_from : (d : OwnDecoder) → ((s : AnyState) → (feed (any d) s []).state ≡ s)
+    → ((s : AnyState) (p q : List ℕ) → (feed (any d) s (p ++ q)).state ≡ (feed (any d) (feed (any d) s p).state q).state)
+    → ((a b : AnyState) → same_state a b ≡ true → a ≡ b) → ((a : AnyState) → same_state a a ≡ true)
+    → ((s : AnyState) (bytes : List ℕ) → (outcome_of d s bytes).exit ≡ (feed (any d) s bytes).state)
+    → ((s : AnyState) (bytes : List ℕ) → (outcome_of d s bytes).sum.bytes ≡ length bytes) → Laws d
+laws_from d none parts exact same exit bytes = record { none = none; parts = parts; exact = exact; same = same; exit = exit; bytes = bytes }
+
+pub bytes-append : (xs ys : List Entry) → bytes_of (xs ++ ys) ≡ bytes_of xs ++ bytes_of ys
+bytes-append xs ys = flat_map-append (λ (p : Entry). p.piece.bytes) xs ys
+
+pub take-next : {X : Type 0} (xs : List X) (n : ℕ) (x : X) → slice_get xs n ≡ Some x → take (suc n) xs ≡ take n xs ++ x ∷ []
+take-next [] zero x e = absurd cc
+take-next [] (suc n) x e = absurd cc
+take-next (y ∷ xs) zero x e = let f : y ≡ x = cc in ap (λ (z : _). z ∷ []) f
+take-next (y ∷ xs) (suc n) x e = ap (λ (zs : List _). y ∷ zs) (take-next xs n x e)
+
+pub get-behind : {X : Type 0} (xs : List X) (first n : ℕ) → slice_get (drop first xs) n ≡ slice_get xs (first + n)
+get-behind xs zero n = let e : 0 + n ≡ n = omega arith in ap (λ (k : ℕ). slice_get xs k) (sym e)
+get-behind [] (suc first) n = refl
+get-behind (x ∷ xs) (suc first) n = let e : suc (first + n) ≡ suc first + n = omega arith in get-behind xs first n ∙ ap (λ (k : ℕ). slice_get (x ∷ xs) k) e
+
+pub at-behind : {X : Type 0} (xs : List X) (first n index : ℕ) (x : X) → index ≡ first + n → slice_get xs index ≡ Some x → slice_get (drop first xs) n ≡ Some x
+at-behind xs first n index x e at = get-behind xs first n ∙ ap (λ (k : ℕ). slice_get xs k) (sym e) ∙ at
+
+pub length-snoc : {X : Type 0} (xs ys : List X) (x : X) → ys ≡ xs ++ x ∷ [] → length ys ≡ suc (length xs)
+length-snoc xs ys x e = ap length e ∙ rw (length-append xs (x ∷ [])) (omega arith)
+
+pub bytes-snoc : (ps : List Entry) (n : ℕ) (p : Entry) → slice_get ps n ≡ Some p → bytes_of (take (suc n) ps) ≡ bytes_of (take n ps) ++ p.piece.bytes
+bytes-snoc ps n p at =
+    ap bytes_of (take-next ps n p at) ∙ bytes-append (take n ps) (p ∷ []) ∙ ap (λ (bs : List ℕ). bytes_of (take n ps) ++ bs) (append-nil p.piece.bytes)
+
+pub bytes-next : (ps : List Entry) (n : ℕ) (p : Entry) → slice_get ps n ≡ Some p
+    → length (bytes_of (take (suc n) ps)) ≡ length (bytes_of (take n ps)) + length p.piece.bytes
+bytes-next ps n p at =
+    ap (λ (xs : List Entry). length (bytes_of xs)) (take-next ps n p at)
+    ∙ ap length (bytes-append (take n ps) (p ∷ []))
+    ∙ length-append (bytes_of (take n ps)) (p.piece.bytes ++ [])
+    ∙ ap (λ (bs : List ℕ). length (bytes_of (take n ps)) + length bs) (append-nil p.piece.bytes)
+
+renew_by-bytes : (p : Entry) (s : AnyState) (o found : Option Outcome) → (renew_by p s o found).piece.bytes ≡ p.piece.bytes
+renew_by-bytes p s (Some o) found = refl
+renew_by-bytes p s None (Some o) = refl
+renew_by-bytes p s None None = refl
+
+pub renew-bytes : (p : Entry) (r : Renewal) → (renew p r).piece.bytes ≡ p.piece.bytes
+renew-bytes p r = renew_by-bytes p r.entry r.outcome (recalled p.piece.known r.entry)
+
+pub renewed-bytes : (ps : List Entry) (rs : List Renewal) → bytes_of (renewed ps rs) ≡ bytes_of ps
+renewed-bytes [] [] = refl
+renewed-bytes (p ∷ ps) [] = refl
+renewed-bytes [] (r ∷ rs) = refl
+renewed-bytes (p ∷ ps) (r ∷ rs) =
+    ap (λ (bs : List ℕ). bs ++ bytes_of (renewed ps rs)) (renew-bytes p r) ∙ ap (λ (bs : List ℕ). p.piece.bytes ++ bs) (renewed-bytes ps rs)
+
+pub renewed-append : (xs ys : List Entry) (rs : List Renewal) → length rs ≡ length xs → renewed (xs ++ ys) rs ≡ renewed xs rs ++ ys
+renewed-append [] [] [] e = refl
+renewed-append [] (y ∷ ys) [] e = refl
+renewed-append [] ys (r ∷ rs) e = absurd (omega (arith, e))
+renewed-append (x ∷ xs) ys [] e = absurd (omega (arith, e))
+renewed-append (x ∷ xs) ys (r ∷ rs) e = ap (λ (zs : List Entry). renew x r ∷ zs) (renewed-append xs ys rs (omega (arith, e)))
+
+pub renewed-more : (xs : List Entry) (p : Entry) (rs : List Renewal) (r : Renewal) → length rs ≡ length xs
+    → renewed (xs ++ p ∷ []) (rs ++ r ∷ []) ≡ renewed xs rs ++ renew p r ∷ []
+renewed-more [] p [] r e = refl
+renewed-more [] p (q ∷ rs) r e = absurd (omega (arith, e))
+renewed-more (x ∷ xs) p [] r e = absurd (omega (arith, e))
+renewed-more (x ∷ xs) p (q ∷ rs) r e = ap (λ (zs : List Entry). renew x q ∷ zs) (renewed-more xs p rs r (omega (arith, e)))
+
+pub renewed-whole : (ps : List Entry) (rs : List Renewal) (n : ℕ) → length rs ≡ n → n ≤ length ps → renewed ps rs ≡ renewed (take n ps) rs ++ drop n ps
+renewed-whole ps rs n e within =
+    ap (λ (xs : List Entry). renewed xs rs) (sym (take-append-drop n ps))
+    ∙ renewed-append (take n ps) (drop n ps) rs (e ∙ sym (length-take-le n ps within))
+
+module _ (d : OwnDecoder) (laws : Laws d) where
+  pub state-append : (s : AnyState) (xs ys : List Entry) → state_after d s (xs ++ ys) ≡ state_after d (state_after d s xs) ys
+  state-append s xs ys = ap (λ (bs : List ℕ). (feed (any d) s bs).state) (bytes-append xs ys) ∙ laws.parts s (bytes_of xs) (bytes_of ys)
+
+  pub chain-append : (s : AnyState) (xs ys : List Entry) → Chain d s xs → Chain d (state_after d s xs) ys → Chain d s (xs ++ ys)
+  chain-append s [] ys c more = subst (λ (t : AnyState). Chain d t ys) (laws.none s) more
+  chain-append s (x ∷ xs) ys c more =
+      (c.0, c.1, chain-append (feed (any d) s x.piece.bytes).state xs ys c.2 (subst (λ (t : AnyState). Chain d t ys) (laws.parts s x.piece.bytes (bytes_of xs)) more))
+
+  pub chain-front : (s : AnyState) (xs ys : List Entry) → Chain d s (xs ++ ys) → Chain d s xs
+  chain-front s [] ys c = tt
+  chain-front s (x ∷ xs) ys c = (c.0, c.1, chain-front (feed (any d) s x.piece.bytes).state xs ys c.2)
+
+  pub chain-back : (s : AnyState) (xs ys : List Entry) → Chain d s (xs ++ ys) → Chain d (state_after d s xs) ys
+  chain-back s [] ys c = subst (λ (t : AnyState). Chain d t ys) (sym (laws.none s)) c
+  chain-back s (x ∷ xs) ys c =
+      subst (λ (t : AnyState). Chain d t ys) (sym (laws.parts s x.piece.bytes (bytes_of xs))) (chain-back (feed (any d) s x.piece.bytes).state xs ys c.2)
+
+  pub entry-at : (s : AnyState) (ps : List Entry) (n : ℕ) (p : Entry) → Chain d s ps → slice_get ps n ≡ Some p → p.entry ≡ state_after d s (take n ps)
+  entry-at s [] zero p c at = absurd cc
+  entry-at s [] (suc n) p c at = absurd cc
+  entry-at s (x ∷ ps) zero p c at = let e : p ≡ x = cc in ap (λ (y : Entry). y.entry) e ∙ c.0 ∙ sym (laws.none s)
+  entry-at s (x ∷ ps) (suc n) p c at =
+      entry-at (feed (any d) s x.piece.bytes).state ps n p c.2 at ∙ sym (laws.parts s x.piece.bytes (bytes_of (take n ps)))
+
+  pub own-at : (s : AnyState) (ps : List Entry) (n : ℕ) (p : Entry) → Chain d s ps → slice_get ps n ≡ Some p → IsOwn d p
+  own-at s [] zero p c at = absurd cc
+  own-at s [] (suc n) p c at = absurd cc
+  own-at s (x ∷ ps) zero p c at = let e : x ≡ p = cc in subst (λ (y : Entry). IsOwn d y) e c.1
+  own-at s (x ∷ ps) (suc n) p c at = own-at (feed (any d) s x.piece.bytes).state ps n p c.2 at
+
+  rechain : (s : AnyState) (ps : List Entry) (n : ℕ) (p : Entry) → slice_get ps n ≡ Some p → Chain d s (drop n ps) → Chain d p.entry (drop n ps)
+  rechain s [] zero p at c = absurd cc
+  rechain s [] (suc n) p at c = absurd cc
+  rechain s (x ∷ ps) zero p at c = let e : x ≡ p = cc in (ap (λ (y : Entry). y.entry) e, c.1, subst (λ (t : AnyState). Chain d (feed (any d) t x.piece.bytes).state ps) (sym c.0 ∙ ap (λ (y : Entry). y.entry) e) c.2)
+  rechain s (x ∷ ps) (suc n) p at c = rechain s ps n p at c
+
+  -- one more piece gone over
+  pub gone-on : (entry state : AnyState) (ps : List Entry) (n : ℕ) (p : Entry) (rs : List Renewal) (r : Renewal)
+      → slice_get ps n ≡ Some p → length rs ≡ n → n ≤ length ps → Chain d entry (renewed (take n ps) rs) → state ≡ state_after d entry (take n ps)
+      → (renew p r).entry ≡ state → IsOwn d (renew p r)
+      → Chain d entry (renewed (take (suc n) ps) (rs ++ r ∷ []))
+  gone-on entry state ps n p rs r at count within chain state_is entry_is own =
+      let whole : renewed (take (suc n) ps) (rs ++ r ∷ []) ≡ renewed (take n ps) rs ++ renew p r ∷ [] =
+      ap (λ (xs : List Entry). renewed xs (rs ++ r ∷ [])) (take-next ps n p at) ∙ renewed-more (take n ps) p rs r (count ∙ sym (length-take-le n ps within)) in
+      let here : (renew p r).entry ≡ state_after d entry (renewed (take n ps) rs) =
+      entry_is ∙ state_is ∙ ap (λ (bs : List ℕ). (feed (any d) entry bs).state) (sym (renewed-bytes (take n ps) rs)) in
+      subst (λ (xs : List Entry). Chain d entry xs) (sym whole) (chain-append entry (renewed (take n ps) rs) (renew p r ∷ []) chain (here, own, tt))
+
+  pub state-next : (entry state exit : AnyState) (ps : List Entry) (n : ℕ) (p : Entry) → slice_get ps n ≡ Some p → state ≡ state_after d entry (take n ps)
+      → exit ≡ (feed (any d) state p.piece.bytes).state → exit ≡ state_after d entry (take (suc n) ps)
+  state-next entry state exit ps n p at state_is exit_is =
+      exit_is
+      ∙ ap (λ (bs : List ℕ). (feed (any d) state bs).state) (sym (append-nil p.piece.bytes))
+      ∙ ap (λ (s : AnyState). state_after d s (p ∷ [])) state_is
+      ∙ sym (state-append entry (take n ps) (p ∷ []))
+      ∙ ap (λ (xs : List Entry). state_after d entry xs) (sym (take-next ps n p at))
+
+  pub next-chain : (entry state : AnyState) (ps : List Entry) (p : Entry) (rs more : List Renewal) (r : Renewal)
+      → more ≡ rs ++ r ∷ [] → slice_get ps (length rs) ≡ Some p → Chain d entry (renewed (take (length rs) ps) rs) → state ≡ state_after d entry (take (length rs) ps)
+      → (renew p r).entry ≡ state → IsOwn d (renew p r)
+      → Chain d entry (renewed (take (length more) ps) more)
+  next-chain entry state ps p rs more r more_is at chain state_is entry_is own =
+      let within = slice_get_within ps (length rs) p at in
+      let long = length-snoc rs more r more_is in
+      rw (long, more_is) (gone-on entry state ps (length rs) p rs r at refl (omega (arith, within)) chain state_is entry_is own)
+
+  pub differs-here : (entry state : AnyState) (ps : List Entry) (n count : ℕ) (p : Entry) → count ≡ suc n → slice_get ps n ≡ Some p → state ≡ state_after d entry (take n ps)
+      → p.entry ≢ state → LastDiffers d entry ps count
+  differs-here entry state ps n count p count_is at state_is ne j q e there same =
+      let k : j ≡ n = omega (arith, e, count_is) in
+      let same-piece : Some p ≡ Some q = sym at ∙ ap (λ (i : ℕ). slice_get ps i) (sym k) ∙ there in
+      let same-entry : p.entry ≡ q.entry = cc in
+      ne (same-entry ∙ same ∙ ap (λ (i : ℕ). state_after d entry (take i ps)) k ∙ sym state_is)
+
+  pub passed-more : (entry state : AnyState) (ps : List Entry) (n : ℕ) (p : Entry) (old mid new : ℕ) → slice_get ps n ≡ Some p → state ≡ state_after d entry (take n ps)
+      → p.entry ≢ state → mid ≤ old + length (bytes_of (take n ps)) → new ≤ mid + length p.piece.bytes → Passed d entry ps old new
+  passed-more entry state ps n p old mid new at state_is ne most here = record {
+    count = suc n;
+    within = omega (arith, slice_get_within ps n p at);
+    differs = differs-here entry state ps n (suc n) p refl at state_is ne;
+    most = omega (arith, most, here, bytes-next ps n p at);
+  }
+
+  -- the rest is as it was
+  pub rest-chains : (entry from : AnyState) (ps : List Entry) (n : ℕ) (p : Entry) (rs : List Renewal)
+      → slice_get ps n ≡ Some p → length rs ≡ n → n ≤ length ps → Chain d from ps → Chain d entry (renewed (take n ps) rs)
+      → p.entry ≡ state_after d entry (take n ps) → Chain d entry (renewed ps rs)
+  rest-chains entry from ps n p rs at count within old chain same =
+      let back = chain-back from (take n ps) (drop n ps) (subst (λ (xs : List Entry). Chain d from xs) (sym (take-append-drop n ps)) old) in
+      let rest = rechain (state_after d from (take n ps)) ps n p at back in
+      let here : p.entry ≡ state_after d entry (renewed (take n ps) rs) = same ∙ ap (λ (bs : List ℕ). (feed (any d) entry bs).state) (sym (renewed-bytes (take n ps) rs)) in
+      subst (λ (xs : List Entry). Chain d entry xs) (sym (renewed-whole ps rs n count within))
+      (chain-append entry (renewed (take n ps) rs) (drop n ps) chain (subst (λ (s : AnyState). Chain d s (drop n ps)) here rest))
+
+  -- states that are equal at a place are equal at the end
+  pub same-end : (entry from : AnyState) (ps : List Entry) (n : ℕ) → state_after d from (take n ps) ≡ state_after d entry (take n ps)
+      → state_after d from ps ≡ state_after d entry ps
+  same-end entry from ps n same =
+      let cut : (s : AnyState) → state_after d s ps ≡ state_after d (state_after d s (take n ps)) (drop n ps) =
+      λ (s : AnyState). ap (λ (xs : List Entry). state_after d s xs) (sym (take-append-drop n ps)) ∙ state-append s (take n ps) (drop n ps) in
+      cut from ∙ ap (λ (s : AnyState). state_after d s (drop n ps)) same ∙ sym (cut entry)
+
+  pub differs : (a b : AnyState) → same_state a b ≡ false → a ≢ b
+  differs a b f e = absurd (let t = sym (laws.same b) ∙ ap (λ (x : AnyState). same_state x b) (sym e) ∙ f in cc)

@@ -1,0 +1,61 @@
+-- The sums of pieces count their bytes.
+use Rattle.std.proofs.Common.{◌≡◌, refl, ap, ◌∙◌, ℕ, zero, suc, ◌+◌, ◌<◌, ◌≤◌, List, [], ◌∷◌, take, length, Option, Some, None, option_map, arith, length-append, add-one}
+use Rattle.state_memo.specs.Decoding.{OwnDecoder, AnyState, feed, any}
+use Rattle.state_memo.specs.declared.axis.Axis.TheVariants.{Byte}
+use Rattle.state_memo.specs.declared.outcome.Outcome.{Outcome}
+use Rattle.state_memo.specs.Outcome.{Contents, contents_of, outcome_of}
+use Rattle.state_memo.specs.declared.sum.Sum.{Sum}
+use Rattle.state_memo.specs.Sums.{no_sum, joined, measure}
+use Rattle.sum_tree.specs.Reached.{IsFirstAbove}
+use Rattle.piece_rope.specs.Entry.{Entry, here, entry_sum, outcome_or, sums_of}
+use Rattle.piece_rope.specs.Chain.{Chain, bytes_of}
+use Rattle.piece_rope.specs.Sizes.{AreSized, AreCounted, AreShort}
+use Rattle.piece_rope.proofs.Chaining.{Laws}
+use Rattle.piece_rope.specs.Window.{bytes_before, IsPlace}
+
+-- the sum of pieces
+abbrev pub sums : List Entry → Sum
+sums ps = sums_of ps
+
+pub sums-bytes : (ps : List Entry) → AreCounted ps → (sums ps).bytes ≡ length (bytes_of ps)
+sums-bytes [] c = refl
+sums-bytes (p ∷ ps) c = omega (arith, c.0, sums-bytes ps c.1, length-append p.piece.bytes (bytes_of ps))
+
+pub counted-take : (n : ℕ) (ps : List Entry) → AreCounted ps → AreCounted (take n ps)
+counted-take zero ps c = tt
+counted-take (suc n) [] c = tt
+counted-take (suc n) (p ∷ ps) c = (c.0, counted-take n ps c.1)
+
+pub here-contents : (s : AnyState) (o : Option Outcome) (c : Contents) → option_map contents_of o ≡ Some c → contents_of (outcome_or s o) ≡ c
+here-contents s None c e = absurd cc
+here-contents s (Some o) c e = cc
+
+pub chain-counted : (d : OwnDecoder) → Laws d → (s : AnyState) (ps : List Entry) → Chain d s ps → AreCounted ps
+chain-counted d laws s [] c = tt
+chain-counted d laws s (p ∷ ps) c =
+    (ap (λ (x : Contents). x.sum.bytes) (here-contents p.entry (here p) (outcome_of d p.entry p.piece.bytes) c.1.here_is) ∙ laws.bytes p.entry p.piece.bytes, chain-counted d laws (feed (any d) s p.piece.bytes).state ps c.2)
+
+pub short-of : (least : ℕ) (ps : List Entry) → AreSized least ps → AreCounted ps → AreShort ps
+short-of least [] s c = tt
+short-of least (p ∷ ps) s c = (omega (arith, s.1, c.0), short-of least ps s.2 c.1)
+
+pub few-pieces : (least : ℕ) (ps : List Entry) → 1 ≤ least → AreSized least ps → length ps ≤ length (bytes_of ps)
+few-pieces least [] some s = omega arith
+few-pieces least (p ∷ ps) some s = omega (arith, some, s.0, few-pieces least ps some s.2, length-append p.piece.bytes (bytes_of ps))
+
+-- a search by bytes finds the place
+pub found-place : (ps : List Entry) (target k : ℕ) (s : Sum) → AreCounted ps → IsFirstAbove (measure Byte) target no_sum joined entry_sum ps k s → IsPlace ps target k s.bytes
+found-place ps target k s c found =
+    let count : (n : ℕ) → (sums (take n ps)).bytes ≡ bytes_before ps n = λ n. sums-bytes (take n ps) (counted-take n ps c) in
+    let before : s.bytes ≡ bytes_before ps k = ap (λ (t : Sum). t.bytes) found.sum ∙ count k in
+    record {
+      within = found.within;
+      before_is = before;
+      low = low k before found.before;
+      high = λ l. omega (arith, found.behind l, count (k + 1), ap (λ (n : ℕ). bytes_before ps n) (add-one k));
+    }
+  where
+    low : (k : ℕ) → s.bytes ≡ bytes_before ps k → ((j : ℕ) → j < k → measure Byte (sums (take (j + 1) ps)) ≤ target) → s.bytes ≤ target
+    low zero e below = omega (arith, e)
+    low (suc j) e below =
+        omega (arith, e, below j (omega arith), sums-bytes (take (j + 1) ps) (counted-take (j + 1) ps c), ap (λ (n : ℕ). bytes_before ps n) (add-one j))

@@ -1,0 +1,62 @@
+-- The numbers that a document keeps are its own.
+use Rattle.std.proofs.Common.{◌≡◌, refl, sym, ap, ◌∙◌, ℕ, ◌+◌, ◌^◌, ◌<◌, ◌≤◌, false, List, [], ◌∷◌, ◌++◌, length, slice_get, Some, arith, append-nil}
+use Rattle.enc_names.specs.declared.encoding.Encoding.{Encoding}
+use Rattle.index_loader.specs.Files.{Files}
+use Rattle.state_memo.specs.Decoding.{mark_of, marks, total_width, utf16_width, utf8_width}
+use Rattle.state_memo.specs.declared.outcome.Outcome.{Outcome}
+use Rattle.state_memo.specs.declared.sum.Sum.{Sum}
+use Rattle.state_memo.specs.Sums.{joined}
+use Rattle.piece_rope.specs.Chain.{bytes_of}
+use Rattle.piece_rope.specs.Document.{Document, text_of, errors_of}
+use Rattle.piece_rope.specs.Entry.{Entry, sums_of}
+use Rattle.piece_rope.specs.Kept.{IsKept}
+use Rattle.piece_rope.specs.Sizes.{CanJoin, HasSizes}
+use Rattle.piece_rope.proofs.Answering.{errors-whole, text-whole}
+use Rattle.piece_rope.proofs.Counting.{few-pieces, short-of, sums-bytes}
+use Rattle.piece_rope.proofs.Joining.{whole-marks}
+
+pub join-kept : (files : Files) (given : Encoding) (ps : List Entry) (tail : Outcome) → IsKept files given ps tail → CanJoin ps
+join-kept files given ps tail kept = record {
+  short = short-of 1 ps kept.sizes.small kept.counted;
+  few = omega (arith, few-pieces 1 ps (omega arith) kept.sizes.small, kept.within);
+}
+
+pub record HasLengths (d : Document) (s : Sum) : Type 0 where
+  pub bytes : s.bytes ≡ length d.bytes
+  pub scalars : s.scalars ≡ length (text_of d)
+  pub utf16 : s.utf16 ≡ total_width utf16_width (text_of d)
+  pub utf8 : s.utf8 ≡ total_width utf8_width (text_of d)
+  pub errors : s.errors ≡ length (errors_of d)
+  pub marks : s.marks ≡ marks false (text_of d)
+  pub few : s.marks + 1 < 2 ^ 64
+
+pub kept-lengths : (files : Files) (given : Encoding) (ps : List Entry) (tail : Outcome) → IsKept files given ps tail
+    → HasLengths (record { indexes = files; given = given; bytes = bytes_of ps }) (joined (sums_of ps) tail.sum)
+kept-lengths files given ps tail kept =
+    let doc : Document = record { indexes = files; given = given; bytes = bytes_of ps } in
+    let text = sym (text-whole doc ps tail kept.whole) in
+    let n = kept.numbers in
+    record {
+      bytes = omega (arith, sums-bytes ps kept.counted, kept.no_bytes);
+      scalars = n.scalars ∙ ap length text;
+      utf16 = n.utf16 ∙ ap (total_width utf16_width) text;
+      utf8 = n.utf8 ∙ ap (total_width utf8_width) text;
+      errors = n.errors ∙ sym (errors-whole doc ps tail kept.whole);
+      marks = n.marks ∙ ap (marks false) text;
+      few = whole-marks ps tail (join-kept files given ps tail kept) kept.no_bytes;
+    }
+
+mark-front : (xs ys : List ℕ) → 3 ≤ length xs → mark_of (xs ++ ys) ≡ mark_of xs
+mark-front [] ys l = absurd (omega (arith, l))
+mark-front (a ∷ []) ys l = absurd (omega (arith, l))
+mark-front (a ∷ b ∷ []) ys l = absurd (omega (arith, l))
+mark-front (a ∷ b ∷ c ∷ xs) ys l = refl
+
+-- the first piece has a byte order mark whole
+pub mark-first : (ps : List Entry) (p : Entry) → HasSizes ps → slice_get ps 0 ≡ Some p → mark_of p.piece.bytes ≡ mark_of (bytes_of ps)
+mark-first [] p sizes at = absurd cc
+mark-first (q ∷ []) p sizes at = let e : p ≡ q = cc in ap (λ (x : Entry). mark_of x.piece.bytes) e ∙ ap mark_of (sym (append-nil q.piece.bytes))
+mark-first (q ∷ r ∷ ps) p sizes at =
+    let e : p ≡ q = cc in
+    let wide = sizes.wide (omega arith) in
+    ap (λ (x : Entry). mark_of x.piece.bytes) e ∙ sym (mark-front q.piece.bytes (bytes_of (r ∷ ps)) (omega (arith, wide.0)))

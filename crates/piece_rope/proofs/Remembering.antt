@@ -1,0 +1,82 @@
+-- What a piece remembers stays its own.
+use Rattle.std.proofs.Common.{◌≡◌, ℕ, refl, sym, ap, ◌∙◌, subst, zero, suc, Bool, true, false, List, [], ◌∷◌, take, Option, Some, None, option_map, cond}
+use Rattle.state_memo.specs.Decoding.{feed, AnyState, OwnDecoder, any}
+use Rattle.state_memo.specs.declared.outcome.Outcome.{Outcome}
+use Rattle.state_memo.specs.declared.known.Known.{Known}
+use Rattle.state_memo.specs.Outcome.{Contents, contents_of, outcome_of, ending_of}
+use Rattle.state_memo.specs.Sums.{sum_of}
+use Rattle.state_memo.specs.Memo.{same_state, recalled, without, installed, put_first}
+use Rattle.piece_rope.specs.Entry.{Entry}
+use Rattle.piece_rope.proofs.Chaining.{Laws}
+use Rattle.piece_rope.specs.Chain.{AreRight, IsOwn, renew, renew_by}
+
+module _ (d : OwnDecoder) (laws : Laws d) (bytes : List ℕ) where
+  right-pick : (b : Bool) (x y : List Known) → AreRight d bytes x → AreRight d bytes y → AreRight d bytes (cond b x y)
+  right-pick true x y p q = p
+  right-pick false x y p q = q
+
+  pub right-without : (ks : List Known) (s : AnyState) → AreRight d bytes ks → AreRight d bytes (without ks s)
+  right-without [] s r = tt
+  right-without (k ∷ ks) s r = right-pick (same_state k.entry s) ks (k ∷ without ks s) r.1 (r.0, right-without ks s r.1)
+
+  pub right-take : (n : ℕ) (ks : List Known) → AreRight d bytes ks → AreRight d bytes (take n ks)
+  right-take zero ks r = tt
+  right-take (suc n) [] r = tt
+  right-take (suc n) (k ∷ ks) r = (r.0, right-take n ks r.1)
+
+  recalled-by : (b : Bool) (k : Known) (s : AnyState) (rest : Option Outcome) (o : Outcome) → same_state k.entry s ≡ b → contents_of k.outcome ≡ outcome_of d k.entry bytes
+      → (rest ≡ Some o → contents_of o ≡ outcome_of d s bytes) → cond b (Some k.outcome) rest ≡ Some o → contents_of o ≡ outcome_of d s bytes
+  recalled-by true k s rest o same right later found =
+      let e : o ≡ k.outcome = cc in
+      ap contents_of e ∙ right ∙ ap (λ (t : AnyState). outcome_of d t bytes) (laws.exact k.entry s same)
+  recalled-by false k s rest o same right later found = later found
+
+  pub right-recalled : (ks : List Known) (s : AnyState) (o : Outcome) → AreRight d bytes ks → recalled ks s ≡ Some o → contents_of o ≡ outcome_of d s bytes
+  right-recalled [] s o r found = absurd cc
+  right-recalled (k ∷ ks) s o r found = recalled-by (same_state k.entry s) k s (recalled ks s) o refl r.0 (right-recalled ks s o r.1) found
+
+  pub exit-recalled : (ks : List Known) (s : AnyState) (o : Outcome) → AreRight d bytes ks → recalled ks s ≡ Some o → o.exit ≡ (feed (any d) s bytes).state
+  exit-recalled ks s o r found = ap (λ (x : Contents). x.exit) (right-recalled ks s o r found) ∙ laws.exit s bytes
+
+  pub right-entered : (ks : List Known) (s : AnyState) (o : Outcome) → AreRight d bytes ks → recalled ks s ≡ Some o → AreRight d bytes (put_first (Some o) ks s)
+  right-entered ks s o r found = (right-recalled ks s o r found, right-without ks s r)
+
+-- what is put first is found
+found-first : (b : Bool) (o : Outcome) (rest : Option Outcome) → b ≡ true → cond b (Some o) rest ≡ Some o
+found-first true o rest e = refl
+found-first false o rest e = absurd cc
+
+module _ (d : OwnDecoder) (laws : Laws d) where
+  pub own-installed : (bytes : List ℕ) (known : List Known) (s : AnyState) (o : Outcome) → AreRight d bytes known → contents_of o ≡ outcome_of d s bytes
+      → IsOwn d (record { piece = record { bytes = bytes; known = installed known s o }; entry = s })
+  own-installed bytes known s o right is = record {
+    right = (is, right-take d laws bytes 3 (without known s) (right-without d laws bytes known s right));
+    here_is = ap (option_map contents_of) (found-first (same_state s s) o (recalled (take 3 (without known s)) s) (laws.same s)) ∙ ap Some is;
+  }
+
+  own-entered : (p : Entry) (s : AnyState) (o : Outcome) → AreRight d p.piece.bytes p.piece.known → recalled p.piece.known s ≡ Some o
+      → IsOwn d (record { piece = record { bytes = p.piece.bytes; known = put_first (Some o) p.piece.known s }; entry = s })
+  own-entered p s o right found = record {
+    right = right-entered d laws p.piece.bytes p.piece.known s o right found;
+    here_is = ap (option_map contents_of) (found-first (same_state s s) o (recalled (without p.piece.known s) s) (laws.same s)) ∙ ap Some (right-recalled d laws p.piece.bytes p.piece.known s o right found);
+  }
+
+  pub own-renewed : (p : Entry) (s : AnyState) (o : Outcome) → IsOwn d p → recalled p.piece.known s ≡ Some o
+      → IsOwn d (renew p (record { entry = s; outcome = None }))
+  own-renewed p s o own found =
+      subst (λ (x : Option Outcome). IsOwn d (renew_by p s None x)) (sym found)
+      (subst (λ (x : Option Outcome). IsOwn d (record { piece = record { bytes = p.piece.bytes; known = put_first x p.piece.known s }; entry = s })) (sym found) (own-entered p s o own.right found))
+
+  pub entry-renewed : (p : Entry) (s : AnyState) (o : Outcome) → recalled p.piece.known s ≡ Some o → (renew p (record { entry = s; outcome = None })).entry ≡ s
+  entry-renewed p s o found = subst (λ (x : Option Outcome). (renew_by p s None x).entry ≡ s) (sym found) refl
+
+pub ending-exit : (d : OwnDecoder) (s : AnyState) (o : Outcome) → contents_of o ≡ ending_of d s → o.exit ≡ s
+unfolding ending_of
+ending-exit d s o e = ap (λ (c : Contents). c.exit) e
+
+pub ending-own : (d : OwnDecoder) (s : AnyState) (o : Outcome) → contents_of o ≡ ending_of d s → contents_of o ≡ ending_of d o.exit
+ending-own d s o e = e ∙ ap (ending_of d) (sym (ending-exit d s o e))
+
+pub ending-bytes : (d : OwnDecoder) (s : AnyState) (o : Outcome) → contents_of o ≡ ending_of d s → o.sum.bytes ≡ 0
+unfolding ending_of sum_of
+ending-bytes d s o e = ap (λ (c : Contents). c.sum.bytes) e

@@ -1,0 +1,67 @@
+-- The texts of pieces, read piece by piece.
+use Rattle.std.proofs.Common.{◌≡◌, refl, sym, ap, ◌∙◌, ℕ, zero, suc, ◌+◌, ◌-◌, ◌<◌, ◌≤◌, List, [], ◌∷◌, ◌++◌, take, drop, length, slice_get, Some, arith, append_assoc, length-append, take-append-drop, add-one}
+use Rattle.std.proofs.lemmas.Grind.{flat_map-append}
+use Rattle.std.proofs.lemmas.Option.{slice_get_within}
+use Rattle.std.proofs.Math.Seq.{drop-append-add}
+use Rattle.sum_tree.specs.Reached.{IsFirstAbove}
+use Rattle.state_memo.specs.declared.axis.Axis.TheVariants.{Scalar}
+use Rattle.state_memo.specs.declared.sum.Sum.{Sum}
+use Rattle.state_memo.specs.Sums.{no_sum, joined, measure}
+use Rattle.piece_rope.specs.Entry.{Entry, entry_sum, here_of, texts_of}
+use Rattle.piece_rope.proofs.Chaining.{take-next}
+use Rattle.piece_rope.proofs.Counting.{sums}
+use Rattle.piece_rope.proofs.Reading.{drop-next}
+
+pub texts-append : (xs ys : List Entry) → texts_of (xs ++ ys) ≡ texts_of xs ++ texts_of ys
+texts-append xs ys = flat_map-append (λ (p : Entry). (here_of p).text) xs ys
+
+pub sums-scalars : (ps : List Entry) → (sums ps).scalars ≡ length (texts_of ps)
+sums-scalars [] = refl
+sums-scalars (p ∷ ps) = omega (arith, (here_of p).summed.scalars, sums-scalars ps, length-append (here_of p).text (texts_of ps))
+
+pub texts-split : (ps : List Entry) (k : ℕ) → texts_of ps ≡ texts_of (take k ps) ++ texts_of (drop k ps)
+texts-split ps k = ap texts_of (sym (take-append-drop k ps)) ∙ texts-append (take k ps) (drop k ps)
+
+pub texts-behind : (ps : List Entry) (end : List ℕ) (k : ℕ) (p : Entry) → slice_get ps k ≡ Some p → texts_of (drop k ps) ++ end ≡ (here_of p).text ++ (texts_of (drop (k + 1) ps) ++ end)
+texts-behind ps end k p at =
+    ap (λ (xs : List Entry). texts_of xs ++ end) (drop-next ps k p at)
+    ∙ append_assoc (here_of p).text (texts_of (drop (suc k) ps)) end
+    ∙ ap (λ (n : ℕ). (here_of p).text ++ (texts_of (drop n ps) ++ end)) (sym (add-one k))
+
+-- where the code points from a place on stand
+pub record IsTextPlace (ps : List Entry) (target k before : ℕ) : Type 0 where
+  pub within : k ≤ length ps
+  pub before_is : before ≡ length (texts_of (take k ps))
+  pub low : before ≤ target
+  pub high : k < length ps → target < length (texts_of (take (suc k) ps))
+
+pub text-place : (ps : List Entry) (target k : ℕ) (s : Sum) → IsFirstAbove (measure Scalar) target no_sum joined entry_sum ps k s → IsTextPlace ps target k s.scalars
+text-place ps target k s found =
+    let before : s.scalars ≡ length (texts_of (take k ps)) = ap (λ (t : Sum). t.scalars) found.sum ∙ sums-scalars (take k ps) in
+    record {
+      within = found.within;
+      before_is = before;
+      low = low k before found.before;
+      high = λ l. omega (arith, found.behind l, sums-scalars (take (k + 1) ps), ap (λ (n : ℕ). length (texts_of (take n ps))) (add-one k));
+    }
+  where
+    low : (k : ℕ) → s.scalars ≡ length (texts_of (take k ps)) → ((j : ℕ) → j < k → measure Scalar (sums (take (j + 1) ps)) ≤ target) → s.scalars ≤ target
+    low zero e below = omega (arith, e)
+    low (suc j) e below = omega (arith, e, below j (omega arith), sums-scalars (take (j + 1) ps), ap (λ (n : ℕ). length (texts_of (take n ps))) (add-one j))
+
+pub text-from : (ps : List Entry) (end : List ℕ) (from k before : ℕ) → IsTextPlace ps from k before → drop (from - before) (texts_of (drop k ps) ++ end) ≡ drop from (texts_of ps ++ end)
+text-from ps end from k before place =
+    let front = texts_of (take k ps) in
+    let e : from ≡ length front + (from - before) = omega (arith, place.before_is, place.low) in
+    let all : texts_of ps ++ end ≡ front ++ (texts_of (drop k ps) ++ end) = ap (λ (cs : List ℕ). cs ++ end) (texts-split ps k) ∙ append_assoc front (texts_of (drop k ps)) end in
+    sym (drop-append-add front (texts_of (drop k ps) ++ end) (from - before)) ∙ ap (λ (cs : List ℕ). drop (length front + (from - before)) cs) (sym all) ∙ ap (λ (n : ℕ). drop n (texts_of ps ++ end)) (sym e)
+
+pub text-enough : (ps : List Entry) (end : List ℕ) (from to k before : ℕ) → IsTextPlace ps from k before → from ≤ to → to ≤ length (texts_of ps ++ end)
+    → from - before + (to - from) ≤ length (texts_of (drop k ps) ++ end)
+text-enough ps end from to k before place order within =
+    omega (arith, place.before_is, place.low, order, within, ap length (texts-split ps k), length-append (texts_of (take k ps)) (texts_of (drop k ps)), length-append (texts_of ps) end, length-append (texts_of (drop k ps)) end)
+
+pub text-within : (ps : List Entry) (from k before : ℕ) → IsTextPlace ps from k before → (p : Entry) → slice_get ps k ≡ Some p → from - before ≤ length (here_of p).text
+text-within ps from k before place p at =
+    let next : texts_of (take (suc k) ps) ≡ texts_of (take k ps) ++ ((here_of p).text ++ []) = ap texts_of (take-next ps k p at) ∙ texts-append (take k ps) (p ∷ []) in
+    omega (arith, place.high (slice_get_within ps k p at), ap length next, length-append (texts_of (take k ps)) ((here_of p).text ++ []), length-append (here_of p).text [], place.before_is)

@@ -1,0 +1,7 @@
+use Rattle.std.proofs.Common.{◌≡◌, drop, slice_get}
+use Rattle.state_memo.specs.Runs.{items_of_runs}
+use Rattle.piece_rope.specs.Errors.{errors_at}
+use Rattle.piece_rope.proofs.errors.error_in.Given as goal
+
+abbrev pub invariant-runs : goal.invariant-runs
+invariant-runs l = slice_get (errors_at l.base l.from (items_of_runs (drop l.run-index l.runs))) l.left ≡ slice_get (errors_at l.base l.fn.from l.outcome.items) l.n

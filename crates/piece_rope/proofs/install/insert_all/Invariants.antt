@@ -1,0 +1,14 @@
+use Rattle.std.proofs.Common.{◌≡◌, ◌≤◌, ◌++◌, length, take, drop}
+use Rattle.piece_rope.specs.Sizes.{CanJoin}
+use Rattle.piece_rope.proofs.install.insert_all.Given as goal
+
+abbrev pub invariant-fresh : goal.invariant-fresh
+invariant-fresh l = record {
+  within : l.first ≤ length l.pieces.items;
+  items : take l.first l.pieces.items ++ (l.fresh.items ++ drop l.first l.pieces.items) ≡ take l.first l.initial.pieces.items ++ (l.fn.fresh.items ++ drop l.first l.initial.pieces.items);
+  room : length l.fresh.items ≤ l.pieces.spare;
+  join : CanJoin (take l.first l.pieces.items ++ (l.fresh.items ++ drop l.first l.pieces.items));
+}
+
+abbrev pub decreases-fresh : goal.decreases-fresh
+decreases-fresh l = length l.fresh.items

@@ -1,0 +1,9 @@
+use Rattle.std.proofs.Common.{sym, subst}
+use Rattle.state_memo.specs.declared.sum.Sum.{Sum}
+use Rattle.state_memo.specs.Sums.{Fits, joined}
+use Rattle.piece_rope.proofs.Joining.{whole-fits}
+use Rattle.piece_rope.proofs.lengths.whole_sum.Goals as goal
+
+pub join-requires : goal.join-requires
+join-requires c =
+    subst (λ (s : Sum). Fits (joined s c.args.tail.now.sum)) (sym c.total.ensures) (whole-fits c.args.pieces.now.items c.args.tail.now c.requires.few c.requires.tail)

@@ -1,0 +1,48 @@
+use Rattle.std.proofs.Common.{◌≡◌, refl, [], ap, ◌∙◌, ℕ, ◌+◌, ◌-◌, List, ◌++◌, take, drop, min, length, arith, string_bytes}
+use Rattle.std.specs.Str.{chars}
+use Rattle.std.proofs.lemmas.Str.{chars-nil}
+use Rattle.state_memo.specs.declared.outcome.Outcome.{Outcome}
+use Rattle.piece_rope.specs.Entry.{here_of, texts_of}
+use Rattle.piece_rope.proofs.Reading.{read-step, read-enough}
+use Rattle.piece_rope.proofs.Texts.{text-place, text-from, text-enough, text-within, texts-behind}
+use Rattle.piece_rope.proofs.text.text_between.Goals as goal
+
+pub pieces-init : goal.pieces-init
+pieces-init c =
+    let ps = c.args.pieces.now.items in
+    let end = c.args.tail.now.text in
+    let k = c.seek-first.result.0 in
+    let s = c.seek-first.result.1 in
+    let place = text-place ps c.args.i k s c.seek-first.ensures.place in
+    let empty : chars (string_bytes c.new-text.result) ≡ [] = ap chars c.new-text.ensures.bytes ∙ chars-nil in
+    record {
+      text = ap (λ (cs : List ℕ). cs ++ take (c.args.j - c.args.i) (drop (c.args.i - s.scalars) (texts_of (drop k ps) ++ end))) empty ∙ ap (λ (cs : List ℕ). take (c.args.j - c.args.i) cs) (text-from ps end c.args.i k s.scalars place);
+      enough = text-enough ps end c.args.i c.args.j k s.scalars place c.requires.order c.requires.within;
+      within = text-within ps c.args.i k s.scalars place;
+      place = place.within;
+    }
+
+pub pieces-preserved : goal.pieces-preserved
+pieces-preserved c =
+    let ps = c.args.pieces.now.items in
+    let end = c.args.tail.now.text in
+    let k = c.pieces.place in
+    let p = c.get.result.now in
+    let here = (here_of p).text in
+    let own : c.here.result.now ≡ here_of p = c.here.ensures in
+    let rest = drop c.pieces.skip here in
+    let count = c.in_ok-taken.taken in
+    let count_is : count ≡ min c.pieces.left (length rest) = c.in_ok-taken.ensures.count ∙ ap (λ (o : Outcome). min c.pieces.left (length (drop c.pieces.skip o.text))) own in
+    let added : chars (string_bytes c.push_part.new.text) ≡ chars (string_bytes c.pieces.text) ++ take count rest =
+    c.in_ok-taken.ensures.part ∙ ap (λ (o : Outcome). chars (string_bytes c.pieces.text) ++ take count (drop c.pieces.skip o.text)) own in
+    let more = texts_of (drop (k + 1) ps) ++ end in
+    let behind = texts-behind ps end k p c.get.ensures in
+    record {
+      text =
+          read-step (texts_of (drop k ps) ++ end) here more c.pieces.skip c.pieces.left count (chars (string_bytes c.pieces.text)) (chars (string_bytes c.push_part.new.text)) rest behind
+          (c.pieces.invariant.within p c.get.ensures) refl count_is added
+          ∙ c.pieces.invariant.text;
+      enough = read-enough (texts_of (drop k ps) ++ end) here more c.pieces.skip c.pieces.left count rest behind refl count_is c.pieces.invariant.enough;
+      within = λ q at. omega arith;
+      place = omega (arith, c.if-place-count.true);
+    }

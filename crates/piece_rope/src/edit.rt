@@ -1,0 +1,110 @@
+//! Edits, prepared before anything changes.
+ghost use Rattle.std.specs.Prelude.{◌≡◌, ◌+◌, ◌-◌, ◌*◌, ◌^◌, ◌≤◌, ◌<◌, ◌++◌, length, take, drop, IfOk};
+ghost use Rattle.state_memo.specs.Decoding.{any_start};
+ghost use Rattle.state_memo.specs.Outcome.{contents_of, ending_of};
+ghost use Rattle.piece_rope.specs.Chain.{bytes_of, state_after};
+ghost use Rattle.piece_rope.specs.Edit.{IsRope, edited, exchanged, Metered};
+ghost use Rattle.piece_rope.specs.Sizes.{AreCounted, longest};
+ghost use Rattle.piece_rope.specs.Window.{Spans};
+
+use crate::bytes::push_bytes;
+use crate::entered::{Entered, Renewal};
+use crate::fresh::{Fresh, fresh_pieces};
+use crate::later::{Later, renewals_from};
+use crate::pieces::Pieces;
+use crate::window::{Window, window_of};
+use state_memo::{AnyDecoder, AnyState, Meter, OutOfMemory, Outcome, finish_of, piece_laws};
+use std::alloc::Global;
+
+/// New pieces for those at `first..last`, what the first of those behind become, and what the end
+/// of the bytes gives behind all of them.
+#[derive(Drop)]
+pub(crate) struct Edit {
+    pub first: usize,
+    pub last: usize,
+    pub fresh: Vec<Entered>,
+    pub renewals: Vec<Renewal>,
+    pub tail: Outcome,
+}
+
+/// The bytes of the window, with others in the place of `at..to`.
+fn middle_bytes(
+    alloc: Global,
+    pieces: &Pieces,
+    window: &Window,
+    at: usize,
+    to: usize,
+    ins: &[u8],
+) -> Result<Vec<u8>, OutOfMemory>
+    requires counted { AreCounted pieces.now.items }
+    requires spans { Spans pieces.now.items at to (2 * longest) window.now }
+    requires order { at ≤ to }
+    requires within { to ≤ length (bytes_of pieces.now.items) }
+    ensures { IfOk result (λ v. v.items ≡ take (at - window.now.start) (drop window.now.start (bytes_of pieces.now.items))
+        ++ (ins.now ++ take (window.now.end - to) (drop to (bytes_of pieces.now.items)))) }
+{
+    let mut middle = Vec::new(alloc);
+    push_bytes(&mut middle, pieces, window.start, at)?;
+    middle.extend_from_slice(ins)?;
+    push_bytes(&mut middle, pieces, to, window.end)?;
+    Ok(middle)
+}
+
+/// The state behind the first pieces, where `end` is the state behind all of them.
+fn entry_of(decoder: &AnyDecoder<'_>, pieces: &Pieces, first: usize, end: AnyState) -> AnyState
+    requires within { first ≤ length pieces.now.items }
+    requires rope { IsRope decoder.now pieces.now.items end }
+    ensures { result ≡ state_after decoder.now (any_start decoder.now) (take first pieces.now.items) }
+{
+    piece_laws(decoder);
+    if first < pieces.len() {
+        return pieces.get(first).entry();
+    }
+    end
+}
+
+/// Prepares an edit: `ins` in the place of the bytes `at..to`. `end` is the state behind the pieces.
+pub(crate) fn prepare(
+    alloc: Global,
+    decoder: &AnyDecoder<'_>,
+    pieces: &Pieces,
+    end: AnyState,
+    at: usize,
+    to: usize,
+    ins: &[u8],
+    meter: &mut Meter,
+) -> Result<Edit, OutOfMemory>
+    requires rope { IsRope decoder.now pieces.now.items end }
+    requires counted { AreCounted pieces.now.items }
+    requires size { length (bytes_of pieces.now.items) < 2 ^ 63 }
+    requires order { at ≤ to }
+    requires within { to ≤ length (bytes_of pieces.now.items) }
+    ensures order { IfOk result (λ e. e.first ≤ e.last) }
+    ensures within { IfOk result (λ e. e.last + length e.renewals.items ≤ length pieces.now.items) }
+    ensures rope { IfOk result (λ e. IsRope decoder.now (edited pieces.now.items e) e.tail.exit) }
+    ensures bytes { IfOk result (λ e. bytes_of (edited pieces.now.items e) ≡ exchanged (bytes_of pieces.now.items) at to ins.now) }
+    ensures tail { IfOk result (λ e. contents_of e.tail ≡ ending_of decoder.now e.tail.exit) }
+    ensures meter { Metered decoder.now (bytes_of pieces.now.items) at to ins.now meter.old meter.new }
+    ensures meter_least { meter.old ≤ meter.new }
+{
+    piece_laws(decoder);
+    let (old_end, last_end) = (end, end);
+    let window = window_of(pieces, at, to, ins.len());
+    let middle = middle_bytes(alloc, pieces, &window, at, to, ins)?;
+    let entry = entry_of(decoder, pieces, window.first, last_end);
+    let fresh = fresh_pieces(alloc, decoder, entry, &middle, meter)?;
+    let Fresh {
+        pieces: made,
+        exit: behind,
+    } = fresh;
+    let later = renewals_from(alloc, decoder, pieces, window.last, behind, old_end, meter)?;
+    let Later { renewals, exit } = later;
+    let tail = finish_of(alloc, decoder, exit)?;
+    Ok(Edit {
+        first: window.first,
+        last: window.last,
+        fresh: made,
+        renewals,
+        tail,
+    })
+}

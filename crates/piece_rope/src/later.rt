@@ -1,0 +1,59 @@
+//! What becomes of the pieces behind an edit.
+ghost use Rattle.std.specs.Prelude.{◌≡◌, ◌+◌, ◌≤◌, length, drop, IfOk};
+ghost use Rattle.piece_rope.specs.Chain.{Chain, renewed, state_after};
+ghost use Rattle.piece_rope.specs.Resync.{Passed, Behind};
+
+use crate::entered::Renewal;
+use crate::pieces::Pieces;
+use state_memo::{AnyDecoder, AnyState, Meter, OutOfMemory, piece_laws};
+use std::alloc::{AllocError, Global};
+
+/// What the first of the pieces behind an edit become, and the state behind all of them then.
+#[derive(Drop)]
+pub(crate) struct Later {
+    pub renewals: Vec<Renewal>,
+    pub exit: AnyState,
+}
+
+/// Continues over the pieces from number `first`, the first of which is now entered in `entry`,
+/// until a piece's new state is the one in which it was entered. `end` is the state behind the old
+/// pieces.
+pub(crate) fn renewals_from(
+    alloc: Global,
+    decoder: &AnyDecoder<'_>,
+    pieces: &Pieces,
+    first: usize,
+    entry: AnyState,
+    end: AnyState,
+    meter: &mut Meter,
+) -> Result<Later, OutOfMemory>
+    requires within { first ≤ length pieces.now.items }
+    requires behind { Behind decoder.now (drop first pieces.now.items) end }
+    ensures within { IfOk result (λ l. length l.renewals.items ≤ length (drop first pieces.now.items)) }
+    ensures chain { IfOk result (λ l. Chain decoder.now entry (renewed (drop first pieces.now.items) l.renewals.items)) }
+    ensures exit { IfOk result (λ l. l.exit ≡ state_after decoder.now entry (drop first pieces.now.items)) }
+    ensures meter { Passed decoder.now entry (drop first pieces.now.items) meter.old meter.new }
+    ensures meter_least { meter.old ≤ meter.new }
+{
+    piece_laws(decoder);
+    let mut renewals = Vec::new(alloc);
+    let mut state = entry;
+    let mut index = first;
+    'pieces: while index < pieces.len() {
+        let piece = pieces.get(index);
+        if piece.entry() == state {
+            return Ok(Later {
+                renewals,
+                exit: end,
+            });
+        }
+        let (renewal, exit) = piece.renewal(decoder, state, meter)?;
+        renewals.push(renewal).map_err(AllocError::from)?;
+        state = exit;
+        index += 1;
+    }
+    Ok(Later {
+        renewals,
+        exit: state,
+    })
+}

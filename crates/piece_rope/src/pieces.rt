@@ -1,0 +1,58 @@
+//! The pieces of a document in a tree of sums.
+ghost use Rattle.std.specs.Prelude.{◌≡◌, ◌+◌, ◌≤◌, ◌<◌, length, IfOk, Some, slice_get};
+ghost use Rattle.std.specs.List.{insert, remove};
+ghost use Rattle.piece_rope.specs.Sizes.{CanJoin, HasSizes};
+ghost use Rattle.piece_rope.specs.Chain.{bytes_of};
+ghost use Rattle.state_memo.specs.Decoding.{mark_of};
+
+use crate::entered::Entered;
+use state_memo::{OutOfMemory, Sum};
+use std::alloc::Global;
+use sum_tree::{SumTree, sums_of_lists};
+
+/// Pieces in order, with the sums of what they decode to.
+pub(crate) type Pieces = SumTree<Entered, Sum>;
+
+/// Puts a piece in front of number `place`, or at the end, without memory.
+pub(crate) fn put_piece(pieces: &mut Pieces, place: usize, piece: Entered)
+    requires place { place ≤ length pieces.old.items }
+    requires room { 0 < pieces.old.spare }
+    requires join { CanJoin (insert pieces.old.items place piece) }
+    ensures items { pieces.new.items ≡ insert pieces.old.items place piece }
+    ensures spare { pieces.new.spare + 1 ≡ pieces.old.spare }
+{
+    sums_of_lists::<Entered, Sum>();
+    pieces.insert(place, piece);
+}
+
+/// Takes piece number `place` out, without memory.
+pub(crate) fn take_piece(pieces: &mut Pieces, place: usize) -> Entered
+    requires place { place < length pieces.old.items }
+    requires join { CanJoin (remove pieces.old.items place) }
+    ensures piece { slice_get pieces.old.items place ≡ Some result }
+    ensures items { pieces.new.items ≡ remove pieces.old.items place }
+    ensures spare { pieces.new.spare ≡ pieces.old.spare + 1 }
+{
+    sums_of_lists::<Entered, Sum>();
+    pieces.remove(place)
+}
+
+/// A tree of these pieces, which it takes. Where memory is refused they stay where they are.
+pub(crate) fn built(alloc: Global, pieces: &mut Vec<Entered>) -> Result<Pieces, OutOfMemory>
+    requires { CanJoin pieces.old.items }
+    ensures { IfOk result (λ tree. tree.items ≡ pieces.old.items) }
+{
+    sums_of_lists::<Entered, Sum>();
+    SumTree::build(alloc, pieces)
+}
+
+/// Bytes that begin as all bytes do, as far as a byte order mark can reach.
+pub(crate) fn first_bytes(pieces: &Pieces) -> &[u8]
+    requires { HasSizes pieces.now.items }
+    ensures { mark_of result.now ≡ mark_of (bytes_of pieces.now.items) }
+{
+    if pieces.len() == 0 {
+        return &[];
+    }
+    pieces.get(0).bytes()
+}

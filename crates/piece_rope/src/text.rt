@@ -1,0 +1,55 @@
+//! Text of a document, read from the pieces that hold it.
+ghost use Rattle.std.specs.Prelude.{◌≡◌, ◌+◌, ◌-◌, ◌≤◌, ◌++◌, min, length, take, drop, IfOk, string_bytes};
+ghost use Rattle.std.specs.Str.{chars};
+ghost use Rattle.piece_rope.specs.Entry.{texts_of};
+
+use crate::pieces::Pieces;
+use crate::scalars::scalars_between;
+use state_memo::{Axis, OutOfMemory, Outcome};
+use std::alloc::Global;
+use sum_tree::visits;
+
+/// Appends the code points of an outcome's text behind the first `skip`, at most `most` of them,
+/// and returns how many these are.
+fn push_part(text: &mut String, outcome: &Outcome, skip: u64, most: u64) -> Result<u64, OutOfMemory>
+    requires { skip ≤ length outcome.now.text }
+    ensures count { IfOk result (λ count. count ≡ min most (length (drop skip outcome.now.text))) }
+    ensures part { IfOk result (λ count. chars (string_bytes text.new) ≡ chars (string_bytes text.old) ++ take count (drop skip outcome.now.text)) }
+{
+    let count = most.min(outcome.sum.scalars - skip);
+    match scalars_between(outcome.text.as_str(), skip, skip + count) {
+        Some(part) => text.push_str(part)?,
+        None => unreachable!(),
+    }
+    Ok(count)
+}
+
+/// The code points `i..j`.
+pub(crate) fn text_between(
+    alloc: Global,
+    pieces: &Pieces,
+    tail: &Outcome,
+    i: u64,
+    j: u64,
+) -> Result<String, OutOfMemory>
+    requires order { i ≤ j }
+    requires within { j ≤ length (texts_of pieces.now.items ++ tail.now.text) }
+    ensures { IfOk result (λ text. chars (string_bytes text) ≡ take (j - i) (drop i (texts_of pieces.now.items ++ tail.now.text))) }
+{
+    let count = pieces.len();
+    let (first, before) = pieces.seek(&Axis::Scalar, i, &mut visits());
+    let mut text = String::new(alloc);
+    let mut place = first;
+    let mut skip = i - before.scalars;
+    let mut left = j - i;
+    'pieces: while left > 0 && place < count {
+        let taken = push_part(&mut text, pieces.get(place).here(), skip, left)?;
+        left -= taken;
+        skip = 0;
+        place += 1;
+    }
+    if left > 0 {
+        push_part(&mut text, tail, skip, left)?;
+    }
+    Ok(text)
+}

@@ -1,0 +1,57 @@
+//! The program: documents in each family of encodings, spliced at places that look random, and
+//! compared after each splice with decoding from scratch.
+#![tactic(auto)]
+
+mod chance;
+mod compare;
+mod random;
+mod small_indexes;
+#[cfg(test)]
+mod tests;
+
+use enc_names::Encoding;
+use index_loader::Indexes;
+use random::splices_that_agree;
+use small_indexes::small_indexes;
+use std::io;
+
+/// One encoding of each family.
+const ENCODINGS: [Encoding; 13] = [
+    Encoding::Utf8,
+    Encoding::Utf16Be,
+    Encoding::Utf16Le,
+    Encoding::ShiftJis,
+    Encoding::EucJp,
+    Encoding::EucKr,
+    Encoding::Big5,
+    Encoding::Gb18030,
+    Encoding::Gbk,
+    Encoding::Iso2022Jp,
+    Encoding::Windows1252,
+    Encoding::XUserDefined,
+    Encoding::Replacement,
+];
+
+/// How many splices each encoding has.
+const SPLICES: usize = 800;
+
+/// Prints how many splices of documents in this encoding agree.
+fn print_count(rt: &HostRuntime, indexes: &Indexes, given: Encoding) -> io::Result<()> {
+    let name = given.name();
+    match splices_that_agree(rt.alloc(), indexes, given, SPLICES) {
+        Some(count) => println!(rt; "{name:<14} {count} of {SPLICES} splices agree")?,
+        None => println!(rt; "{name:<14} a call was refused")?,
+    }
+    Ok(())
+}
+
+fn main(rt: HostRuntime) -> io::Result<()> {
+    let Some(indexes) = small_indexes(rt.alloc()) else {
+        println!(rt; "out of memory")?;
+        return Ok(());
+    };
+    for encoding in &ENCODINGS {
+        print_count(&rt, &indexes, *encoding)?;
+    }
+    Ok(())
+}

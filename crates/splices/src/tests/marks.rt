@@ -1,0 +1,39 @@
+//! Byte order marks that splices complete and break.
+
+use super::*;
+use crate::small_indexes::small_indexes;
+
+/// This encoding is in force behind a byte order mark of so many bytes.
+fn is_in_force(rt: &impl Abort, doc: &Doc<'_>, encoding: Encoding, bom_len: u64) {
+    assert_eq!(rt; doc.encoding(), encoding);
+    assert_eq!(rt; doc.bom_len(), bom_len);
+}
+
+#[test]
+fn splice_takes_a_byte_order_mark_away(rt: HostRuntime) -> Result<(), Fail> {
+    let Some(indexes) = small_indexes(rt.alloc()) else {
+        return Err(DocFault::OutOfMemory)?;
+    };
+    let given = Encoding::Windows1252;
+    let bytes = [0xEF, 0xBB, 0xBF, 0x41];
+    let mut doc = Doc::open(rt.alloc(), &indexes, given, &bytes, &mut meter())?;
+    is_in_force(&rt, &doc, Encoding::Utf8, 3);
+    answers(&rt, &doc, "A", &[])?;
+    doc.splice(0, 1, &[], &mut meter())?;
+    is_in_force(&rt, &doc, given, 0);
+    answers(&rt, &doc, "\u{BB}\u{BF}A", &[])?;
+    Ok(())
+}
+
+#[test]
+fn splice_completes_a_byte_order_mark(rt: HostRuntime) -> Result<(), Fail> {
+    let indexes = Indexes::new();
+    let given = Encoding::Utf16Be;
+    let mut doc = Doc::open(rt.alloc(), &indexes, given, &[0xEF, 0xBB], &mut meter())?;
+    is_in_force(&rt, &doc, given, 0);
+    answers(&rt, &doc, "\u{EFBB}", &[])?;
+    doc.splice(2, 0, &[0xBF], &mut meter())?;
+    is_in_force(&rt, &doc, Encoding::Utf8, 3);
+    answers(&rt, &doc, "", &[])?;
+    Ok(())
+}

@@ -1,0 +1,80 @@
+//! Documents of several pieces: what a splice decodes, and line ends that pieces cut.
+
+use super::*;
+use crate::compare::pieces_are_sized;
+use crate::small_indexes::small_indexes;
+use std::alloc::Global;
+
+/// So many bytes `a` and then these.
+fn behind_letters(alloc: Global, count: usize, bytes: &[u8]) -> Result<Vec<u8>, DocFault> {
+    let mut all = vec![in alloc; b'a'; count]?;
+    all.extend_from_slice(bytes)?;
+    Ok(all)
+}
+
+/// How far the splice raises the meter.
+fn raised(doc: &mut Doc<'_>, at: u64, del: u64, ins: &[u8]) -> Result<u64, DocFault> {
+    let mut meter = meter();
+    doc.splice(at, del, ins, &mut meter)?;
+    Ok(meter.decoded())
+}
+
+#[test]
+fn one_byte_into_a_mebibyte(rt: HostRuntime) -> Result<(), Fail> {
+    let indexes = Indexes::new();
+    let bytes = vec![in rt.alloc(); b'a'; 1_048_576]?;
+    let mut doc = Doc::open(rt.alloc(), &indexes, Encoding::Utf8, &bytes, &mut meter())?;
+    for at in [0, 1, 524_288, 1_048_576] {
+        let raised = raised(&mut doc, at, 0, b"a")?;
+        assert!(&rt; raised <= 8193, "{raised} bytes decoded for one at {at}");
+    }
+    assert_eq!(&rt; doc.lengths().scalars, 1_048_580);
+    assert!(&rt; pieces_are_sized(&doc));
+    Ok(())
+}
+
+#[test]
+fn shift_taken_away_changes_all_behind_it(rt: HostRuntime) -> Result<(), Fail> {
+    let Some(indexes) = small_indexes(rt.alloc()) else {
+        return Err(DocFault::OutOfMemory)?;
+    };
+    let given = Encoding::Iso2022Jp;
+    let bytes = behind_letters(rt.alloc(), 5000, &[0x5C])?;
+    let mut doc = Doc::open(rt.alloc(), &indexes, given, &bytes, &mut meter())?;
+    doc.splice(0, 0, &[0x1B, 0x28, 0x4A], &mut meter())?;
+    assert_eq!(&rt; doc.text(5000, 5001)?.as_str(), "\u{A5}");
+    let raised = raised(&mut doc, 0, 3, &[])?;
+    assert_eq!(&rt; doc.text(5000, 5001)?.as_str(), "\\");
+    assert!(&rt; raised <= 13_193, "{raised} bytes decoded");
+    Ok(())
+}
+
+#[test]
+fn remembered_states(rt: HostRuntime) -> Result<(), Fail> {
+    let indexes = Indexes::new();
+    let mut bytes = Vec::new(rt.alloc());
+    for _ in 0..32_768 {
+        bytes.extend_from_slice(&[0x41, 0x00])?;
+    }
+    let given = Encoding::Utf16Le;
+    let mut doc = Doc::open(rt.alloc(), &indexes, given, &bytes, &mut meter())?;
+    doc.splice(4, 0, &[0x00], &mut meter())?;
+    let raised = raised(&mut doc, 4, 1, &[])?;
+    assert!(&rt; raised <= 8192, "{raised} bytes decoded");
+    assert_eq!(&rt; doc.text(32_766, 32_768)?.as_str(), "AA");
+    Ok(())
+}
+
+#[test]
+fn line_end_wherever_it_is_cut(rt: HostRuntime) -> Result<(), Fail> {
+    let indexes = Indexes::new();
+    let bytes = behind_letters(rt.alloc(), 2047, b"\r\n")?;
+    for at in [0, 1, 512, 1024, 2046, 2047, 2048, 2049] {
+        let front = bytes.get(..at).unwrap_or(&[]);
+        let back = bytes.get(at..).unwrap_or(&[]);
+        let mut doc = Doc::open(rt.alloc(), &indexes, Encoding::Utf8, back, &mut meter())?;
+        doc.splice(0, 0, front, &mut meter())?;
+        assert_eq!(&rt; doc.lengths().lines, 2, "cut at {at}");
+    }
+    Ok(())
+}

@@ -1,0 +1,57 @@
+-- What items come to.
+use Rattle.std.proofs.Common.{◌≡◌, refl, ℕ, ℤ, ◌+◌, ◌*◌, ◌≤◌, Bool, true, false, List, [], ◌∷◌, ◌++◌, length, length-append, map, flat_map, arith}
+use Rattle.std.proofs.lemmas.Bool.Decides.{nat_tests}
+use Rattle.lane_ascii.specs.Marks.{one_if}
+use Rattle.lane_utf.specs.Widths.{utf8_width, total_width}
+use Rattle.decoder_core.specs.declared.item.Item.{Item}
+use Rattle.decoder_core.specs.declared.item.Item.TheVariants.{One, Two, Error}
+use Rattle.decoder_core.specs.Text.{item_code_points}
+use Rattle.iso2022jp.specs.declared.output.OutputState.{OutputState}
+use Rattle.state_memo.specs.declared.ended.Ended.{Ended}
+use Rattle.state_memo.specs.Facts.{IsBounded}
+use Rattle.state_memo.specs.Items.{scalar_count, is_an_error, kept_item, errors_in, all_scalars}
+use Rattle.state_memo.specs.Sums.{sum_of}
+
+utf8_width-le : (c : ℕ) → utf8_width c ≤ 4
+utf8_width-le c = grind (arith, nat_tests)
+
+pub width-append : (f : ℕ → ℕ) (a b : List ℕ) → total_width f (a ++ b) ≡ total_width f a + total_width f b
+width-append f [] b = omega arith
+width-append f (c ∷ a) b = omega (arith, width-append f a b)
+
+item-scalars : (i : Item) → length (item_code_points i) ≡ scalar_count i
+item-scalars (One c) = refl
+item-scalars (Two a b) = refl
+item-scalars Error = refl
+
+item-width : (i : Item) → total_width utf8_width (item_code_points i) ≤ 8
+item-width (One c) = omega (arith, utf8_width-le c)
+item-width (Two a b) = omega (arith, utf8_width-le a, utf8_width-le b)
+item-width Error = omega arith
+
+one_if-le : (b : Bool) → one_if b ≤ 1
+one_if-le true = omega arith
+one_if-le false = omega arith
+
+module _ {X : Type 0} (item : X → Item) (end : X → ℤ) (output : X → OutputState) where
+  abbrev pub text_by : List X → List ℕ
+  text_by xs = flat_map (λ (x : X). item_code_points (item x)) xs
+
+  abbrev pub items_by : List X → List Ended
+  items_by xs = map (λ (x : X). kept_item (item x) (end x) (output x)) xs
+
+  pub counted-items : (xs : List X) → length (text_by xs) ≡ all_scalars (items_by xs)
+  counted-items [] = refl
+  counted-items (x ∷ xs) = omega (arith, length-append (item_code_points (item x)) (text_by xs), item-scalars (item x), counted-items xs)
+
+  width-items : (xs : List X) → total_width utf8_width (text_by xs) ≤ 8 * length xs
+  width-items [] = omega arith
+  width-items (x ∷ xs) = omega (arith, width-append utf8_width (item_code_points (item x)) (text_by xs), item-width (item x), width-items xs)
+
+  errors-items : (xs : List X) → errors_in (items_by xs) ≤ length xs
+  errors-items [] = omega arith
+  errors-items (x ∷ xs) = omega (arith, one_if-le (is_an_error (item x)), errors-items xs)
+
+  pub bounded-items : (bytes : ℕ) (xs : List X) → length xs ≤ bytes + 7 → IsBounded (sum_of bytes (text_by xs) (items_by xs))
+  unfolding sum_of
+  bounded-items bytes xs few = record { utf8 = omega (arith, few, width-items xs); errors = omega (arith, few, errors-items xs) }

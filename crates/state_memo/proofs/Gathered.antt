@@ -1,0 +1,102 @@
+-- What is gathered over a piece is its outcome.
+use Rattle.std.proofs.Common.{◌≡◌, refl, sym, ap, subst, ◌∙◌, ℕ, ◌+◌, ◌≤◌, List, [], ◌∷◌, ◌++◌, append_assoc, append-nil, fold, length}
+use Rattle.std.specs.Prelude.{pos, ◌-ℤ◌}
+use Rattle.decoder_core.specs.declared.item.Ended.{Ended as EndedItem}
+use Rattle.decoder_core.specs.Shown.{Shown, shown_from}
+use Rattle.decoder_core.specs.Queue.{run, feed}
+use Rattle.decoder_core.specs.Text.{item_code_points}
+use Rattle.iso2022jp.specs.declared.output.OutputState.{OutputState}
+use Rattle.codec.specs.declared.state.AnyState.{AnyState}
+use Rattle.codec.specs.declared.own.OwnDecoder.{OwnDecoder}
+use Rattle.codec.specs.Any.{any, output_of}
+use Rattle.state_memo.specs.declared.ended.Ended.{Ended}
+use Rattle.state_memo.specs.declared.sum.Sum.{Sum}
+use Rattle.state_memo.specs.Facts.{IsSumOf, IsBounded, IsDone}
+use Rattle.state_memo.specs.Gathering.{Gathered, no_item, with_shown, with_ended, with_more}
+use Rattle.state_memo.specs.Items.{kept_item, all_scalars}
+use Rattle.state_memo.specs.Outcome.{Contents, outcome_of, ending_of, text_of_shown, items_of_shown, text_of_ended, items_of_ended}
+use Rattle.state_memo.specs.Sums.{sum_of}
+use Rattle.state_memo.proofs.Counted.{counted-items, bounded-items}
+
+pub more-nil : (g : Gathered) → g ≡ with_more g [] []
+more-nil g = sym (ap (λ (t : List ℕ). record { text = t; items = g.items ++ [] }) (append-nil g.text) ∙ ap (λ (t : List Ended). record { text = g.text; items = t }) (append-nil g.items))
+
+fold-shown : (xs : List (Shown AnyState)) (g : Gathered) → fold (with_shown output_of) g xs ≡ with_more g (text_of_shown xs) (items_of_shown xs)
+fold-shown [] g = more-nil g
+fold-shown (x ∷ xs) g =
+    let first = item_code_points x.item in
+    let items = kept_item x.item x.end (output_of x.after) ∷ [] in
+    fold-shown xs (with_shown output_of g x)
+    ∙ ap (λ (t : List ℕ). record { text = t; items = (g.items ++ items) ++ items_of_shown xs }) (append_assoc g.text first (text_of_shown xs))
+    ∙ ap (λ (t : List Ended). record { text = g.text ++ text_of_shown (x ∷ xs); items = t }) (append_assoc g.items items (items_of_shown xs))
+
+fold-ended : (output : OutputState) (es : List EndedItem) (g : Gathered) → fold (with_ended output) g es ≡ with_more g (text_of_ended es) (items_of_ended output es)
+fold-ended output [] g = more-nil g
+fold-ended output (e ∷ es) g =
+    let first = item_code_points e.item in
+    let items = kept_item e.item (pos 0 -ℤ pos e.back) output ∷ [] in
+    fold-ended output es (with_ended output g e)
+    ∙ ap (λ (t : List ℕ). record { text = t; items = (g.items ++ items) ++ items_of_ended output es }) (append_assoc g.text first (text_of_ended es))
+    ∙ ap (λ (t : List Ended). record { text = g.text ++ text_of_ended (e ∷ es); items = t }) (append_assoc g.items items (items_of_ended output es))
+
+-- text and items that are put behind those there are
+pub taken-is : (g : Gathered) (text new add : List ℕ) (items more run : List Ended) → record { text = text; items = items } ≡ g → new ≡ text ++ add → more ≡ items ++ run → record { text = new; items = more } ≡ with_more g add run
+taken-is g text new add items more run view text_is items_is =
+    ap (λ (t : List ℕ). record { text = t; items = more }) text_is
+    ∙ ap (λ (t : List Ended). record { text = text ++ add; items = t }) items_is
+    ∙ ap (λ (h : Gathered). with_more h add run) view
+
+-- what an outcome says that is made of what was gathered
+abbrev pub contents_by : ℕ → Gathered → AnyState → Contents
+contents_by bytes g exit = record { text = g.text; items = g.items; exit = exit; sum = sum_of bytes g.text g.items }
+
+abbrev pub shown_all : List (Shown AnyState) → Gathered
+shown_all xs = record { text = text_of_shown xs; items = items_of_shown xs }
+
+abbrev pub ended_all : OutputState → List EndedItem → Gathered
+ended_all output es = record { text = text_of_ended es; items = items_of_ended output es }
+
+pub gathered-is : (xs : List (Shown AnyState)) (start after : Gathered) → start ≡ no_item → after ≡ fold (with_shown output_of) start xs → after ≡ shown_all xs
+gathered-is xs start after s a = a ∙ ap (λ (g : Gathered). fold (with_shown output_of) g xs) s ∙ fold-shown xs no_item
+
+pub ended-is : (output : OutputState) (es : List EndedItem) (start after : Gathered) → start ≡ no_item → after ≡ fold (with_ended output) start es → after ≡ ended_all output es
+ended-is output es start after s a = a ∙ ap (λ (g : Gathered). fold (with_ended output) g es) s ∙ fold-ended output es no_item
+
+pub done : (bytes : ℕ) (xs : List (Shown AnyState)) (after : Gathered) → length xs ≤ bytes + 7 → after ≡ shown_all xs → IsDone bytes after
+done bytes xs after few e = subst (IsDone bytes) (sym e) (record {
+  counted = counted-items (λ (x : Shown AnyState). x.item) (λ x. x.end) (λ x. output_of x.after) xs;
+  bounded = bounded-items (λ (x : Shown AnyState). x.item) (λ x. x.end) (λ x. output_of x.after) bytes xs few;
+})
+
+pub done-ending : (output : OutputState) (es : List EndedItem) (after : Gathered) → length es ≤ 7 → after ≡ ended_all output es → IsDone 0 after
+done-ending output es after few e = subst (IsDone 0) (sym e) (record {
+  counted = counted-items (λ (x : EndedItem). x.item) (λ x. pos 0 -ℤ pos x.back) (λ x. output) es;
+  bounded = bounded-items (λ (x : EndedItem). x.item) (λ x. pos 0 -ℤ pos x.back) (λ x. output) 0 es few;
+})
+
+pub computed : (d : OwnDecoder) (entry exit : AnyState) (bytes : List ℕ) (after : Gathered) (c : Contents)
+    → after ≡ shown_all (shown_from (any d) 0 entry bytes) → exit ≡ (feed (any d) entry bytes).state
+    → c ≡ contents_by (length bytes) after exit → c ≡ outcome_of d entry bytes
+unfolding outcome_of
+computed d entry exit bytes after c after_is exit_is c_is =
+    c_is ∙ ap (λ (g : Gathered). contents_by (length bytes) g exit) after_is ∙ ap (λ (s : AnyState). contents_by (length bytes) (shown_all (shown_from (any d) 0 entry bytes)) s) exit_is
+
+pub ended : (d : OwnDecoder) (state : AnyState) (after : Gathered) (c : Contents)
+    → after ≡ ended_all (output_of state) (run (any d) state []) → c ≡ contents_by 0 after state → c ≡ ending_of d state
+unfolding ending_of
+ended d state after c after_is c_is = c_is ∙ ap (λ (g : Gathered). contents_by 0 g state) after_is
+
+-- the facts of an outcome that is made of what was gathered
+pub record Finished (cs : List ℕ) (items : List Ended) (s : Sum) : Type 0 where
+  pub summed : IsSumOf cs items s
+  pub bounded : IsBounded s
+
+sum_of-is : (bytes : ℕ) (cs : List ℕ) (items : List Ended) → length cs ≡ all_scalars items → IsSumOf cs items (sum_of bytes cs items)
+unfolding sum_of
+sum_of-is bytes cs items e = record { scalars = refl; utf16 = refl; utf8 = refl; errors = refl; marks = refl; lf_first = refl; cr_last = refl; counted = e }
+
+pub finished : (bytes : ℕ) (g : Gathered) (cs : List ℕ) (items : List Ended) (s : Sum) → IsDone bytes g → cs ≡ g.text → items ≡ g.items → s ≡ sum_of bytes cs items → Finished cs items s
+finished bytes g cs items s done cs_is items_is s_is =
+    let all : record { text = cs; items = items } ≡ g = ap (λ (t : List ℕ). record { text = t; items = items }) cs_is ∙ ap (λ (t : List Ended). record { text = g.text; items = t }) items_is in
+    let d : IsDone bytes (record { text = cs; items = items }) = subst (IsDone bytes) (sym all) done in
+    subst (Finished cs items) (sym s_is) (record { summed = sum_of-is bytes cs items d.counted; bounded = d.bounded })

@@ -1,0 +1,51 @@
+-- The numbers of texts in a row.
+use Rattle.std.proofs.Common.{◌≡◌, refl, sym, ap, ◌∙◌, ℕ, ◌+◌, Bool, true, false, not, cond, ◌==◌, ◌||◌, ◌&&◌, List, [], ◌∷◌, ◌++◌, length, length-append, arith}
+use Rattle.std.proofs.lemmas.Bool.Decides.{nat_tests}
+use Rattle.state_memo.specs.declared.sum.Sum.{Sum}
+use Rattle.lane_ascii.specs.Marks.{cr, lf, one_if, marks, ends_cr}
+use Rattle.lane_utf.specs.Widths.{utf8_width, utf16_width}
+use Rattle.state_memo.specs.declared.ended.Ended.{Ended}
+use Rattle.state_memo.specs.Facts.{IsSumOf}
+use Rattle.state_memo.specs.Lines.{begins_lf}
+use Rattle.state_memo.specs.Sums.{joined}
+use Rattle.state_memo.proofs.Counted.{width-append}
+use Rattle.state_memo.proofs.Marks.{marks-append, ends_cr-append}
+use Rattle.state_memo.proofs.Walks.{errors-append, scalars-append}
+
+flag_count : (f x y : Bool) (k : ℕ) → (x ≡ true → y ≡ false) → one_if (x || (y && not f)) + k + one_if (f && y) ≡ one_if (x || (y && not false)) + k
+flag_count true true true k d = let h = d refl in cc
+flag_count true true false k d = omega arith
+flag_count true false true k d = omega arith
+flag_count true false false k d = omega arith
+flag_count false x y k d = omega arith
+
+not_both : (c : ℕ) → (c == 13) ≡ true → (c == 10) ≡ false
+not_both c e = let h : c ≡ 13 = grind (arith, nat_tests) in ap (λ v. v == 10) h
+
+-- an LF behind a CR is no mark
+marks-flag : (f : Bool) (cs : List ℕ) → marks f cs + one_if (f && begins_lf cs) ≡ marks false cs
+marks-flag true [] = refl
+marks-flag false [] = refl
+marks-flag f (c ∷ cs) = flag_count f (c == cr) (c == lf) (marks (c == cr) cs) (not_both c)
+
+lf_joined : (a b : List ℕ) → cond (length a == 0) (begins_lf b) (begins_lf a) ≡ begins_lf (a ++ b)
+lf_joined [] b = refl
+lf_joined (x ∷ xs) b = let t : (length (x ∷ xs) == 0) ≡ false = grind (arith, nat_tests) in ap (λ z. cond z (begins_lf b) (x == lf)) t
+
+cr_joined : (f : Bool) (b : List ℕ) → cond (length b == 0) f (ends_cr false b) ≡ ends_cr f b
+cr_joined f [] = refl
+cr_joined f (x ∷ xs) = let t : (length (x ∷ xs) == 0) ≡ false = grind (arith, nat_tests) in ap (λ z. cond z f (ends_cr (x == cr) xs)) t
+
+pub IsSumOf-joined : (a b : List ℕ) (is js : List Ended) (s t : Sum) → IsSumOf a is s → IsSumOf b js t → IsSumOf (a ++ b) (is ++ js) (joined s t)
+IsSumOf-joined a b is js s t x y =
+    let meet : (s.cr_last && t.lf_first) ≡ (ends_cr false a && begins_lf b) = cc (x.cr_last, y.lf_first) in
+    record {
+      scalars = omega (arith, x.scalars, y.scalars, length-append a b);
+      utf16 = omega (arith, x.utf16, y.utf16, width-append utf16_width a b);
+      utf8 = omega (arith, x.utf8, y.utf8, width-append utf8_width a b);
+      errors = omega (arith, x.errors, y.errors, errors-append is js);
+      marks = omega (arith, x.marks, y.marks, marks-append false a b, marks-flag (ends_cr false a) b, ap one_if meet);
+      lf_first = ap (λ n. cond (n == 0) t.lf_first s.lf_first) x.scalars ∙ ap (λ v. cond (length a == 0) v s.lf_first) y.lf_first ∙ ap (λ v. cond (length a == 0) (begins_lf b) v) x.lf_first ∙ lf_joined a b;
+      cr_last = ap (λ n. cond (n == 0) s.cr_last t.cr_last) y.scalars ∙ ap (λ v. cond (length b == 0) v t.cr_last) x.cr_last ∙ ap (λ v. cond (length b == 0) (ends_cr false a) v) y.cr_last ∙ cr_joined (ends_cr false a) b ∙ sym (ends_cr-append false a b);
+      counted = omega (arith, x.counted, y.counted, length-append a b, scalars-append is js);
+    }

@@ -1,0 +1,11 @@
+pub mod CodePoints
+pub mod Counted
+pub mod Fitting
+pub mod Gathered
+pub mod Joining
+pub mod Lifted
+pub mod Marks
+pub mod Numbers
+pub mod Places
+pub mod Splitting
+pub mod Walks

@@ -1,0 +1,58 @@
+-- What a decoder gives among all decoders.
+use Rattle.std.proofs.Common.{◌≡◌, refl, sym, ap, ◌∙◌, ℕ, ◌+◌, ◌≤◌, List, [], ◌∷◌, ◌++◌, map, fold, length}
+use Rattle.std.specs.Prelude.{pos, ◌-ℤ◌}
+use Rattle.std.proofs.lemmas.List.{map-append}
+use Rattle.decoder_core.specs.declared.item.Ended.{Ended as EndedItem}
+use Rattle.decoder_core.specs.Lift.{lift_fed}
+use Rattle.decoder_core.specs.Queue.{Table, Fed, feed}
+use Rattle.decoder_core.specs.Shown.{Shown, shown_at, shown_from}
+use Rattle.iso2022jp.specs.declared.output.OutputState.{OutputState}
+use Rattle.codec.specs.declared.state.AnyState.{AnyState}
+use Rattle.codec.specs.declared.own.OwnDecoder.{OwnDecoder}
+use Rattle.codec.specs.Any.{any, output_of}
+use Rattle.state_memo.specs.Facts.{IsDone}
+use Rattle.state_memo.specs.Gathering.{Gathered, no_item, with_shown}
+use Rattle.state_memo.specs.Outcome.{Contents, outcome_of}
+use Rattle.state_memo.proofs.Gathered.{shown_all, contents_by, gathered-is, done, computed}
+
+abbrev lifted_shown : {S T : Type 0} → (S → T) → Shown S → Shown T
+lifted_shown f x = record { item = x.item; end = x.end; after = f x.after }
+
+at-lift : {S T : Type 0} (f : S → T) (i : ℕ) (s : S) (es : List EndedItem) → shown_at i (f s) es ≡ map (lifted_shown f) (shown_at i s es)
+at-lift f i s [] = refl
+at-lift f i s (e ∷ es) = ap (λ (xs : List (Shown _)). record { item = e.item; end = pos i -ℤ pos e.back; after = f s } ∷ xs) (at-lift f i s es)
+
+-- bytes that are fed to the smaller decoder are fed to the larger
+abbrev pub FeedsAlike : {S T : Type 0} → (S → T) → Table S → Table T → Type 0
+FeedsAlike {S} f small big = (s : S) (q : List ℕ) → feed big (f s) q ≡ lift_fed f (feed small s q)
+
+shown-lift : {S T : Type 0} (f : S → T) (small : Table S) (big : Table T) → FeedsAlike f small big → (i : ℕ) (s : S) (q : List ℕ) → shown_from big i (f s) q ≡ map (lifted_shown f) (shown_from small i s q)
+shown-lift f small big feeds i s [] = refl
+shown-lift {T = T} f small big feeds i s (b ∷ q) =
+    let t = feed small s (b ∷ []) in
+    ap (λ (x : Fed T). shown_at (i + 1) x.state x.items ++ shown_from big (i + 1) x.state q) (feeds s (b ∷ []))
+    ∙ ap (λ (xs : List (Shown T)). xs ++ shown_from big (i + 1) (f t.state) q) (at-lift f (i + 1) t.state t.items)
+    ∙ ap (λ (xs : List (Shown T)). map (lifted_shown f) (shown_at (i + 1) t.state t.items) ++ xs) (shown-lift f small big feeds (i + 1) t.state q)
+    ∙ sym (map-append (lifted_shown f) (shown_at (i + 1) t.state t.items) (shown_from small (i + 1) t.state q))
+
+fold-lift : {S : Type 0} (f : S → AnyState) (output : S → OutputState) → ((s : S) → output s ≡ output_of (f s)) → (xs : List (Shown S)) (g : Gathered)
+    → fold (with_shown output) g xs ≡ fold (with_shown output_of) g (map (lifted_shown f) xs)
+fold-lift f output outputs [] g = refl
+fold-lift f output outputs (x ∷ xs) g =
+    ap (λ (o : OutputState). fold (with_shown output) (with_shown (λ _. o) g x) xs) (outputs x.after)
+    ∙ fold-lift f output outputs xs (with_shown output_of g (lifted_shown f x))
+
+module _ (d : OwnDecoder) {S : Type 0} (f : S → AnyState) (output : S → OutputState) (small : Table S) (feeds : FeedsAlike f small (any d)) (outputs : (s : S) → output s ≡ output_of (f s))
+    (s : S) (bytes : List ℕ) (after : Gathered) (after_is : after ≡ fold (with_shown output) no_item (shown_from small 0 s bytes)) where
+  -- what is gathered by an encoding's own decoder is what the one decoder shows
+  gathered-lift : after ≡ shown_all (shown_from (any d) 0 (f s) bytes)
+  gathered-lift =
+      gathered-is (shown_from (any d) 0 (f s) bytes) no_item after refl
+      (after_is ∙ fold-lift f output outputs (shown_from small 0 s bytes) no_item ∙ ap (λ (xs : List (Shown AnyState)). fold (with_shown output_of) no_item xs) (sym (shown-lift f small (any d) feeds 0 s bytes)))
+
+  pub arm-done : length (shown_from (any d) 0 (f s) bytes) ≤ length bytes + 7 → IsDone (length bytes) after
+  arm-done few = done (length bytes) (shown_from (any d) 0 (f s) bytes) after few gathered-lift
+
+  pub arm-outcome : (exit : S) → exit ≡ (feed small s bytes).state → (c : Contents) → c ≡ contents_by (length bytes) after (f exit) → c ≡ outcome_of d (f s) bytes
+  arm-outcome exit exit_is c c_is =
+      computed d (f s) (f exit) bytes after c gathered-lift (ap f exit_is ∙ sym (ap (λ (x : Fed AnyState). x.state) (feeds s bytes))) c_is

@@ -1,0 +1,137 @@
+-- Marks of a text's bytes are those of its code points.
+use Rattle.std.proofs.Common.{◌≡◌, refl, sym, ap, ◌∙◌, ℕ, suc, ◌+◌, ◌<◌, ◌≤◌, inl, inr, Bool, false, ◌==◌, List, [], ◌∷◌, ◌++◌, length, get_or, append-nil, arith, ◌-◌, Some, None, slice_get}
+use Rattle.std.specs.Str.{chars, IsUtf8}
+use Rattle.std.proofs.Math.Utf8.{encode, encodes}
+use Rattle.std.proofs.lemmas.Bool.{cases_lt}
+use Rattle.std.proofs.lemmas.Bool.Decides.{nat_tests}
+use Rattle.std.proofs.lemmas.Str.{chars-nil, encode_ascii, inside_one, encodes-chars, length-encode, len_utf8_bounds}
+use Rattle.lane_ascii.specs.Marks.{cr, lf, is_mark, one_if, marks, ends_cr}
+use Rattle.state_memo.specs.Lines.{begins_lf}
+
+pub marks-append : (f : Bool) (a b : List ℕ) → marks f (a ++ b) ≡ marks f a + marks (ends_cr f a) b
+marks-append f [] b = omega arith
+marks-append f (c ∷ a) b = omega (arith, marks-append (c == cr) a b)
+
+pub ends_cr-append : (f : Bool) (a b : List ℕ) → ends_cr f (a ++ b) ≡ ends_cr (ends_cr f a) b
+ends_cr-append f [] b = refl
+ends_cr-append f (c ∷ a) b = ends_cr-append (c == cr) a b
+
+high_mark : (f : Bool) (x : ℕ) → 128 ≤ x → is_mark f x ≡ false
+high_mark f x h = grind (arith, nat_tests)
+
+high_cr : (x : ℕ) → 128 ≤ x → (x == 13) ≡ false
+high_cr x h = grind (arith, nat_tests)
+
+high_marks : (f : Bool) (bs : List ℕ) → ((k : ℕ) → k < length bs → 128 ≤ get_or bs k 0) → marks f bs ≡ 0
+high_marks f [] h = refl
+high_marks f (x ∷ xs) h =
+    let zero_ : 0 < length (x ∷ xs) = omega arith in
+    omega (arith, ap one_if (high_mark f x (h 0 zero_)), high_marks (x == cr) xs (λ k l. h (suc k) (omega arith)))
+
+high_ends : (f : Bool) (bs : List ℕ) → ((k : ℕ) → k < length bs → 128 ≤ get_or bs k 0) → 0 < length bs → ends_cr f bs ≡ false
+high_ends f [] h l = absurd (omega arith)
+high_ends f (x ∷ []) h l = let zero_ : 0 < length (x ∷ []) = omega arith in high_cr x (h 0 zero_)
+high_ends f (x ∷ y ∷ ys) h l = high_ends (x == cr) (y ∷ ys) (λ k g. h (suc k) (omega arith)) (omega arith)
+
+high_bytes : (c : ℕ) → 128 ≤ c → (k : ℕ) → k < length (encode c) → 128 ≤ get_or (encode c) k 0
+high_bytes c h k l =
+    elim (cases_lt (get_or (encode c) k 0) 128) [
+      | inl g ↦ let e : c ≡ get_or (encode c) k 0 = inside_one c [] (encode c) k (sym (append-nil (encode c))) l g in absurd (omega (arith, e, g, h))
+      | inr g ↦ g
+    ]
+
+marks-encode : (f : Bool) (c : ℕ) → marks f (encode c) ≡ one_if (is_mark f c)
+marks-encode f c =
+    elim (cases_lt c 128) [
+      | inl h ↦ ap (marks f) (encode_ascii c h) ∙ omega arith
+      | inr h ↦ high_marks f (encode c) (high_bytes c h) ∙ sym (ap one_if (high_mark f c h))
+    ]
+
+ends-encode : (f : Bool) (c : ℕ) → ends_cr f (encode c) ≡ (c == cr)
+ends-encode f c =
+    elim (cases_lt c 128) [
+      | inl h ↦ ap (ends_cr f) (encode_ascii c h)
+      | inr h ↦ high_ends f (encode c) (high_bytes c h) (omega (arith, length-encode c, (len_utf8_bounds c).0)) ∙ sym (high_cr c h)
+    ]
+
+marks-encodes : (f : Bool) (cs : List ℕ) → marks f (encodes cs) ≡ marks f cs
+marks-encodes f [] = refl
+marks-encodes f (c ∷ cs) =
+    marks-append f (encode c) (encodes cs) ∙ ap (λ b. marks f (encode c) + marks b (encodes cs)) (ends-encode f c)
+    ∙ omega (arith, marks-encode f c, marks-encodes (c == cr) cs)
+
+ends-encodes : (f : Bool) (cs : List ℕ) → ends_cr f (encodes cs) ≡ ends_cr f cs
+ends-encodes f [] = refl
+ends-encodes f (c ∷ cs) = ends_cr-append f (encode c) (encodes cs) ∙ ap (λ b. ends_cr b (encodes cs)) (ends-encode f c) ∙ ends-encodes (c == cr) cs
+
+pub marks-bytes : (f : Bool) (bs : List ℕ) → IsUtf8 bs → marks f bs ≡ marks f (chars bs)
+marks-bytes f bs u = ap (marks f) (sym (encodes-chars bs u)) ∙ marks-encodes f (chars bs)
+
+pub ends-bytes : (f : Bool) (bs : List ℕ) → IsUtf8 bs → ends_cr f bs ≡ ends_cr f (chars bs)
+ends-bytes f bs u = ap (ends_cr f) (sym (encodes-chars bs u)) ∙ ends-encodes f (chars bs)
+
+high_lf : (x : ℕ) → 128 ≤ x → (x == 10) ≡ false
+high_lf x h = grind (arith, nat_tests)
+
+high_first : (bs rest : List ℕ) → ((k : ℕ) → k < length bs → 128 ≤ get_or bs k 0) → 0 < length bs → begins_lf (bs ++ rest) ≡ false
+high_first [] rest h l = absurd (omega arith)
+high_first (x ∷ xs) rest h l = let zero_ : 0 < length (x ∷ xs) = omega arith in high_lf x (h 0 zero_)
+
+encode_first : (c : ℕ) (rest : List ℕ) → begins_lf (encode c ++ rest) ≡ (c == 10)
+encode_first c rest =
+    elim (cases_lt c 128) [
+      | inl h ↦ ap (λ t. begins_lf (t ++ rest)) (encode_ascii c h)
+      | inr h ↦ high_first (encode c) rest (high_bytes c h) (omega (arith, length-encode c, (len_utf8_bounds c).0)) ∙ sym (high_lf c h)
+    ]
+
+first-lf_of : (bs cs : List ℕ) → encodes cs ≡ bs → begins_lf bs ≡ begins_lf cs
+first-lf_of bs [] e = ap begins_lf (sym e)
+first-lf_of bs (c ∷ cs) e = ap begins_lf (sym e) ∙ encode_first c (encodes cs)
+
+-- an LF stands first among the bytes exactly where it does among the code points
+pub first-lf : (bs : List ℕ) → IsUtf8 bs → begins_lf bs ≡ begins_lf (chars bs)
+first-lf [] u = ap begins_lf (sym chars-nil)
+first-lf (b ∷ rest) u = first-lf_of (b ∷ rest) (chars (b ∷ rest)) (encodes-chars (b ∷ rest) u)
+
+pub first-is : (bs : List ℕ) (b : ℕ) → slice_get bs 0 ≡ Some b → (b == 10) ≡ begins_lf bs
+first-is [] b h = absurd cc
+first-is (x ∷ xs) b h = let e : b ≡ x = cc in ap (λ (v : ℕ). v == 10) e
+
+pub first-none : (bs : List ℕ) → slice_get bs 0 ≡ None → false ≡ begins_lf bs
+first-none [] h = refl
+first-none (x ∷ xs) h = absurd cc
+
+-- the last byte says whether a CR stands last
+pub ends-last : (f : Bool) (bs : List ℕ) (b : ℕ) → slice_get bs (length bs - 1) ≡ Some b → ends_cr f bs ≡ (b == cr)
+ends-last f [] b h = absurd cc
+ends-last f (x ∷ []) b h = let e : x ≡ b = cc in ap (λ (v : ℕ). v == cr) e
+ends-last f (x ∷ y ∷ ys) b h = ends-last (x == cr) (y ∷ ys) b (ap (slice_get (x ∷ y ∷ ys)) (sym (one_less (length ys))) ∙ h)
+  where
+    one_less : (n : ℕ) → suc (suc n) - 1 ≡ suc (suc n - 1)
+    one_less n = omega arith
+
+pub ends-none : (f : Bool) (bs : List ℕ) → slice_get bs (length bs - 1) ≡ None → ends_cr f bs ≡ f
+ends-none f [] h = refl
+ends-none f (x ∷ []) h = absurd cc
+ends-none f (x ∷ y ∷ ys) h = absurd (some (y ∷ ys) x h)
+  where
+    some : (zs : List ℕ) (x : ℕ) → slice_get (x ∷ zs) (length (x ∷ zs) - 1) ≡ None → ⊥
+    some [] x h = cc
+    some (z ∷ zs) x h = some zs z (ap (slice_get (x ∷ z ∷ zs)) (sym (one_less (length zs))) ∙ h)
+      where
+        one_less : (n : ℕ) → suc (suc n) - 1 ≡ suc (suc n - 1)
+        one_less n = omega arith
+
+-- ---- a text's bytes as they are read
+
+pub first-read : (text bytes : List ℕ) (b : ℕ) → IsUtf8 text → bytes ≡ text → Some b ≡ slice_get bytes 0 → (b == lf) ≡ begins_lf (chars text)
+first-read text bytes b spelt same e = first-is bytes b (sym e) ∙ ap begins_lf same ∙ first-lf text spelt
+
+pub none-read : (text bytes : List ℕ) → IsUtf8 text → bytes ≡ text → None ≡ slice_get bytes 0 → false ≡ begins_lf (chars text)
+none-read text bytes spelt same e = first-none bytes (sym e) ∙ ap begins_lf same ∙ first-lf text spelt
+
+pub last-read : (text bytes : List ℕ) (b : ℕ) → IsUtf8 text → bytes ≡ text → Some b ≡ slice_get bytes (length bytes - 1) → (b == cr) ≡ ends_cr false (chars text)
+last-read text bytes b spelt same e = sym (ends-last false bytes b (sym e)) ∙ ap (ends_cr false) same ∙ ends-bytes false text spelt
+
+pub none-last : (text bytes : List ℕ) → IsUtf8 text → bytes ≡ text → None ≡ slice_get bytes (length bytes - 1) → false ≡ ends_cr false (chars text)
+none-last text bytes spelt same e = sym (ends-none false bytes (sym e)) ∙ ap (ends_cr false) same ∙ ends-bytes false text spelt

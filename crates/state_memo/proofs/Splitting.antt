@@ -1,0 +1,108 @@
+-- Runs that are one.
+use Rattle.std.proofs.Common.{◌≡◌, refl, sym, ap, ◌∙◌, ℕ, zero, suc, ◌+◌, ◌*◌, ◌<◌, List, [], ◌∷◌, ◌++◌, append_assoc, append-nil, arith, length, length-append, ◌≤◌, ◌-◌, Some, None, slice_get, ℤ, pos, ◌+ℤ◌, ◌-ℤ◌}
+use Rattle.std.proofs.lemmas.Int.{ints}
+use Rattle.state_memo.specs.declared.ended.Ended.{Ended}
+use Rattle.state_memo.specs.declared.kind.ItemKind.{ItemKind}
+use Rattle.state_memo.specs.declared.run.Run.{Run}
+use Rattle.state_memo.specs.Runs.{item_of_kind, items_until, items_of_run}
+
+-- where one item stands, the step between items doesn't count
+pub until-step : (kind : ItemKind) (last : ℤ) (n s t : ℕ) → (0 < n → s ≡ t) → items_until kind s last (suc n) ≡ items_until kind t last (suc n)
+until-step kind last zero s t e = refl
+until-step kind last (suc n) s t e = ap (λ (k : ℕ). items_until kind k last (suc (suc n))) (e (omega arith))
+
+none-back : (last : ℤ) (s : ℕ) → last -ℤ pos (0 * s) ≡ last
+none-back last s = omega (arith, ints)
+
+times : (n s : ℕ) → suc n * s ≡ s + n * s
+times n s = omega arith
+
+back-back : (last : ℤ) (s k m : ℕ) → m ≡ s + k → (last -ℤ pos s) -ℤ pos k ≡ last -ℤ pos m
+back-back last s k m e = omega (arith, ints, e)
+
+zero_more : (m : ℕ) → 0 + m ≡ m
+zero_more m = omega arith
+
+-- the last n of them, and those before
+pub until-split : (kind : ItemKind) (s : ℕ) (last : ℤ) (m n : ℕ) → items_until kind s last (n + m) ≡ items_until kind s (last -ℤ pos (n * s)) m ++ items_until kind s last n
+until-split kind s last m zero =
+    ap (λ (k : ℕ). items_until kind s last k) (zero_more m)
+    ∙ sym (append-nil (items_until kind s (last -ℤ pos (0 * s)) m) ∙ ap (λ (l : ℤ). items_until kind s l m) (none-back last s))
+until-split kind s last m (suc n) =
+    ap (λ (k : ℕ). items_until kind s last k) (one_more n m)
+    ∙ ap (λ (xs : List Ended). xs ++ item_of_kind kind last ∷ [])
+    (until-split kind s (last -ℤ pos s) m n
+    ∙ ap (λ (l : ℤ). items_until kind s l m ++ items_until kind s (last -ℤ pos s) n) (back-back last s (n * s) (suc n * s) (times n s)))
+    ∙ append_assoc (items_until kind s (last -ℤ pos (suc n * s)) m) (items_until kind s (last -ℤ pos s) n) (item_of_kind kind last ∷ [])
+  where
+    one_more : (n m : ℕ) → suc n + m ≡ suc (n + m)
+    one_more n m = omega arith
+
+all-steps : (n s t : ℕ) → (0 < n → s ≡ t) → n * s ≡ n * t
+all-steps zero s t e = omega arith
+all-steps (suc n) s t e = ap (λ (k : ℕ). suc n * k) (e (omega arith))
+
+meets : (a b : ℤ) (n s t : ℕ) → n * s ≡ n * t → b -ℤ pos (n * t) ≡ a +ℤ pos s → b -ℤ pos (suc n * s) ≡ a
+meets a b n s t same e = let more = times n s in omega (arith, ints, same, e, more)
+
+-- two runs in a row are one where the second begins as far behind the first as its items lie from each other
+pub runs-meet : (kind : ItemKind) (a b : ℤ) (m n s t u more : ℕ) → (0 < m → u ≡ s) → (0 < n → u ≡ t) → b -ℤ pos (n * t) ≡ a +ℤ pos u → more ≡ m + n + 1
+    → items_until kind u b (suc more) ≡ items_until kind s a (suc m) ++ items_until kind t b (suc n)
+runs-meet kind a b m n s t u more first second gap all =
+    ap (λ (k : ℕ). items_until kind u b k) (count m n more all)
+    ∙ until-split kind u b (suc m) (suc n)
+    ∙ ap (λ (l : ℤ). items_until kind u l (suc m) ++ items_until kind u b (suc n)) (meets a b n u t (all-steps n u t second) gap)
+    ∙ ap (λ (xs : List Ended). xs ++ items_until kind u b (suc n)) (until-step kind a m u s first)
+    ∙ ap (λ (xs : List Ended). items_until kind s a (suc m) ++ xs) (until-step kind b n u t second)
+  where
+    count : (m n more : ℕ) → more ≡ m + n + 1 → suc more ≡ suc n + suc m
+    count m n more e = omega (arith, e)
+
+run : ℤ → ℕ → ℕ → ItemKind → Run
+run last more step kind = record { last = last; more = more; step = step; kind = kind }
+
+-- the same of runs as the program has them
+pub longer-is : (r next : Run) (last : ℤ) (more step : ℕ) → last ≡ next.last → next.kind ≡ r.kind → more ≡ r.more + next.more + 1 → next.last -ℤ pos (next.more * next.step) ≡ r.last +ℤ pos step
+    → (0 < r.more → step ≡ r.step) → (0 < next.more → step ≡ next.step)
+    → items_until r.kind step last (suc more) ≡ items_of_run r ++ items_of_run next
+longer-is r next last more step last_is kind more_is gap front back =
+    ap (λ (l : ℤ). items_until r.kind step l (suc more)) last_is
+    ∙ runs-meet r.kind r.last next.last r.more next.more r.step next.step step more front back gap more_is
+    ∙ ap (λ (k : ItemKind). items_of_run r ++ items_until k next.step next.last (suc next.more)) (sym kind)
+
+-- ---- items by their number
+
+-- the first of them
+pub first-until : (kind : ItemKind) (s : ℕ) (last : ℤ) (n : ℕ) → items_until kind s last (suc n) ≡ item_of_kind kind (last -ℤ pos (n * s)) ∷ items_until kind s last n
+first-until kind s last n = ap (λ (k : ℕ). items_until kind s last k) (add_one n) ∙ until-split kind s last 1 n
+  where
+    add_one : (n : ℕ) → suc n ≡ n + 1
+    add_one n = omega arith
+
+behind-front : {A : Type 0} (a b : List A) (n : ℕ) → length a ≡ n → slice_get (a ++ b) n ≡ slice_get b 0
+behind-front [] b n e = ap (slice_get b) (sym e)
+behind-front (x ∷ a) b zero e = absurd (omega (arith, e))
+behind-front (x ∷ a) b (suc n) e = behind-front a b n (omega (arith, e))
+
+pub length-until : (kind : ItemKind) (s : ℕ) (last : ℤ) (n : ℕ) → length (items_until kind s last n) ≡ n
+length-until kind s last zero = refl
+length-until kind s last (suc n) = omega (arith, length-append (items_until kind s (last -ℤ pos s) n) (item_of_kind kind last ∷ []), length-until kind s (last -ℤ pos s) n)
+
+pub item-at : (r : Run) (k behind : ℕ) → k ≤ r.more → behind ≡ r.more - k → slice_get (items_of_run r) k ≡ Some (item_of_kind r.kind (r.last -ℤ pos (behind * r.step)))
+item-at r k behind within behind_is =
+    let front = items_until r.kind r.step (r.last -ℤ pos (suc behind * r.step)) k in
+    ap (λ (n : ℕ). slice_get (items_until r.kind r.step r.last n) k) (all r.more k behind within behind_is)
+    ∙ ap (λ (xs : List Ended). slice_get xs k) (until-split r.kind r.step r.last k (suc behind))
+    ∙ behind-front front (items_until r.kind r.step r.last (suc behind)) k (length-until r.kind r.step (r.last -ℤ pos (suc behind * r.step)) k)
+    ∙ ap (λ (xs : List Ended). slice_get xs 0) (first-until r.kind r.step r.last behind)
+  where
+    all : (more k behind : ℕ) → k ≤ more → behind ≡ more - k → suc more ≡ suc behind + k
+    all more k behind h e = omega (arith, h, e)
+
+none-at : {A : Type 0} (xs : List A) (k : ℕ) → length xs ≤ k → slice_get xs k ≡ None
+none-at [] k h = refl
+none-at (x ∷ xs) zero h = absurd (omega (arith, h))
+none-at (x ∷ xs) (suc k) h = none-at xs k (omega (arith, h))
+
+pub no-item : (r : Run) (k : ℕ) → r.more < k → slice_get (items_of_run r) k ≡ None
+no-item r k h = none-at (items_of_run r) k (omega (arith, h, length-until r.kind r.step r.last (suc r.more)))

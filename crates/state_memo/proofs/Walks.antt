@@ -1,0 +1,440 @@
+-- Walks over runs.
+use Rattle.std.proofs.Common.{◌≡◌, refl, sym, ap, subst, ◌∙◌, ℕ, zero, suc, ◌+◌, ◌-◌, ◌*◌, ◌/◌, ◌<◌, ◌≤◌, List, [], ◌∷◌, ◌++◌, length, length-append, arith, ℤ, pos, ◌+ℤ◌, ◌-ℤ◌, Bool, true, false, cond, Option, Some, None, nat_lt, drop, inl, inr, get_or, slice_get, append-nil}
+use Rattle.std.proofs.lemmas.Bool.{cases_lt}
+use Rattle.std.proofs.lemmas.List.{at_drop_more}
+use Rattle.std.proofs.Math.Nat.{div-mul-le_self, mod-add-div', mod-lt}
+use Rattle.std.specs.Option.{option_map}
+use Rattle.std.proofs.lemmas.Int.{ints}
+use Rattle.std.proofs.lemmas.Bool.Decides.{nat_tests}
+use lib.Signed.{le_z}
+use Rattle.lane_ascii.specs.Marks.{one_if}
+use Rattle.state_memo.specs.declared.ended.Ended.{Ended}
+use Rattle.state_memo.specs.declared.kind.ItemKind.{ItemKind}
+use Rattle.state_memo.specs.declared.kind.ItemKind.TheVariants.{AsciiOne, AsciiTwo, AsciiError, RomanOne, RomanTwo, RomanError, KatakanaOne, KatakanaTwo, KatakanaError, Jis0208One, Jis0208Two, Jis0208Error}
+use Rattle.state_memo.specs.declared.run.Run.{Run}
+use Rattle.state_memo.specs.Items.{errors_in, all_scalars, scalars_before, item_of}
+use Rattle.state_memo.proofs.Splitting.{length-until}
+use Rattle.state_memo.specs.Runs.{scalars_of, error_of, item_of_kind, items_until, items_of_run, items_of_runs}
+
+pub scalars-append : (a b : List Ended) → all_scalars (a ++ b) ≡ all_scalars a + all_scalars b
+scalars-append [] b = omega arith
+scalars-append (e ∷ a) b = omega (arith, scalars-append a b)
+
+pub before-append : (limit : ℤ) (a b : List Ended) → scalars_before limit (a ++ b) ≡ scalars_before limit a + scalars_before limit b
+before-append limit [] b = omega arith
+before-append limit (e ∷ a) b = omega (arith, before-append limit a b)
+
+pub errors-append : (a b : List Ended) → errors_in (a ++ b) ≡ errors_in a + errors_in b
+errors-append [] b = omega arith
+errors-append (e ∷ a) b = omega (arith, errors-append a b)
+
+more : (n s : ℕ) → suc n * s ≡ n * s + s
+more n s = grind (arith)
+
+pub scalars-until : (kind : ItemKind) (step : ℕ) (last : ℤ) (n : ℕ) → all_scalars (items_until kind step last n) ≡ n * (scalars_of kind)
+scalars-until kind step last zero = omega arith
+scalars-until kind step last (suc n) =
+    omega (arith, scalars-append (items_until kind step (last -ℤ pos step) n) (item_of_kind kind last ∷ []), scalars-until kind step (last -ℤ pos step) n, more n (scalars_of kind))
+
+pub errors-until : (kind : ItemKind) (step : ℕ) (last : ℤ) (n : ℕ) → errors_in (items_until kind step last n) ≡ n * one_if (error_of kind)
+errors-until kind step last zero = omega arith
+errors-until kind step last (suc n) =
+    omega (arith, errors-append (items_until kind step (last -ℤ pos step) n) (item_of_kind kind last ∷ []), errors-until kind step (last -ℤ pos step) n, more n (one_if (error_of kind)))
+
+within : (t : Bool) (s : ℕ) → t ≡ true → cond t s 0 ≡ s
+within true s e = refl
+within false s e = absurd cc
+
+beyond : (t : Bool) (s : ℕ) → t ≡ false → cond t s 0 ≡ 0
+beyond true s e = absurd cc
+beyond false s e = refl
+
+-- all end at or before the limit
+pub before-all : (kind : ItemKind) (step : ℕ) (limit last : ℤ) (n : ℕ) → le_z last limit ≡ true → scalars_before limit (items_until kind step last n) ≡ n * (scalars_of kind)
+before-all kind step limit last zero e = omega arith
+before-all kind step limit last (suc n) e =
+    let next : le_z (last -ℤ pos step) limit ≡ true = grind (arith, ints) in
+    omega (arith, before-append limit (items_until kind step (last -ℤ pos step) n) (item_of_kind kind last ∷ []), before-all kind step limit (last -ℤ pos step) n next, within (le_z last limit) (scalars_of kind) e, more n (scalars_of kind))
+
+-- the last p of them end behind the limit
+pub record IsPast (last limit : ℤ) (step p : ℕ) : Type 0 where
+  pub near : le_z last (limit +ℤ pos (p * step)) ≡ true
+  pub far : (q : ℕ) → p ≡ suc q → le_z last (limit +ℤ pos (q * step)) ≡ false
+
+pub before-past : (kind : ItemKind) (step : ℕ) (limit last : ℤ) (n p : ℕ) → IsPast last limit step p → scalars_before limit (items_until kind step last n) ≡ (n - p) * (scalars_of kind)
+before-past kind step limit last n zero h =
+    let e : le_z last limit ≡ true = ap (λ (l : ℤ). le_z last l) (zero_more limit step) ∙ h.near in
+    before-all kind step limit last n e ∙ ap (λ (k : ℕ). k * (scalars_of kind)) (omega arith)
+  where
+    zero_more : (l : ℤ) (s : ℕ) → l ≡ l +ℤ pos (0 * s)
+    zero_more l s = omega (arith, ints)
+before-past kind step limit last zero (suc p) h = sym (ap (λ (k : ℕ). k * (scalars_of kind)) (none p) ∙ no_times (scalars_of kind))
+  where
+    none : (p : ℕ) → 0 - suc p ≡ 0
+    none p = omega arith
+
+    no_times : (s : ℕ) → 0 * s ≡ 0
+    no_times s = omega arith
+before-past kind step limit last (suc n) (suc p) h =
+    let last_far : le_z last limit ≡ false = not_yet last limit (p * step) (h.far p refl) in
+    let m : suc p * step ≡ p * step + step = more p step in
+    let next : IsPast (last -ℤ pos step) limit step p = record {
+      near = nearer last limit step (suc p * step) (p * step) m h.near;
+      far = λ q e. farther last limit step (p * step) (q * step) (ap (λ (k : ℕ). k * step) e ∙ more q step) (h.far p refl);
+    } in
+    omega (arith, before-append limit (items_until kind step (last -ℤ pos step) n) (item_of_kind kind last ∷ []), before-past kind step limit (last -ℤ pos step) n p next, beyond (le_z last limit) (scalars_of kind) last_far, ap (λ (k : ℕ). k * (scalars_of kind)) (same_rest n p))
+  where
+    same_rest : (n p : ℕ) → suc n - suc p ≡ n - p
+    same_rest n p = omega arith
+
+    not_yet : (last limit : ℤ) (k : ℕ) → le_z last (limit +ℤ pos k) ≡ false → le_z last limit ≡ false
+    not_yet last limit k e = grind (arith, ints)
+
+    nearer : (last limit : ℤ) (s a b : ℕ) → a ≡ b + s → le_z last (limit +ℤ pos a) ≡ true → le_z (last -ℤ pos s) (limit +ℤ pos b) ≡ true
+    nearer last limit s a b e h = grind (arith, ints)
+
+    farther : (last limit : ℤ) (s a b : ℕ) → a ≡ b + s → le_z last (limit +ℤ pos a) ≡ false → le_z (last -ℤ pos s) (limit +ℤ pos b) ≡ false
+    farther last limit s a b e h = grind (arith, ints)
+
+far_step : (last : ℤ) (step : ℕ) → step ≡ 0 → last -ℤ pos step ≡ last
+far_step last step e = omega (arith, ints, e)
+
+-- all end behind the limit, where they end at one place
+pub before-none : (kind : ItemKind) (step : ℕ) (limit last : ℤ) (n : ℕ) → step ≡ 0 → le_z last limit ≡ false → scalars_before limit (items_until kind step last n) ≡ 0
+before-none kind step limit last zero z e = refl
+before-none kind step limit last (suc n) z e =
+    omega (arith, before-append limit (items_until kind step (last -ℤ pos step) n) (item_of_kind kind last ∷ []), ap (λ (l : ℤ). scalars_before limit (items_until kind step l n)) (far_step last step z) ∙ before-none kind step limit last n z e, beyond (le_z last limit) (scalars_of kind) e)
+
+pub before-gap : (kind : ItemKind) (step : ℕ) (limit last : ℤ) (n gap p : ℕ) → last ≡ limit +ℤ pos gap → gap ≤ p * step → ((q : ℕ) → p ≡ suc q → q * step < gap) → scalars_before limit (items_until kind step last n) ≡ (n - p) * (scalars_of kind)
+before-gap kind step limit last n gap p e near far =
+    before-past kind step limit last n p (record { near = at_most last limit gap (p * step) e near; far = λ q is. above last limit gap (q * step) e (far q is) })
+  where
+    at_most : (last limit : ℤ) (gap k : ℕ) → last ≡ limit +ℤ pos gap → gap ≤ k → le_z last (limit +ℤ pos k) ≡ true
+    at_most last limit gap k e h = grind (arith, ints)
+
+    above : (last limit : ℤ) (gap k : ℕ) → last ≡ limit +ℤ pos gap → k < gap → le_z last (limit +ℤ pos k) ≡ false
+    above last limit gap k e h = grind (arith, ints)
+
+-- the number of an item in a run: from the front, all of one width
+front-item : (a b : List Ended) (n : ℕ) → n < all_scalars a → item_of (a ++ b) n ≡ item_of a n
+front-item [] b n h = absurd (omega (arith, h))
+front-item (e ∷ a) b n h = by_test (nat_lt n e.scalars) (λ t. ap (λ o. option_map (λ k. k + 1) o) (front-item a b (n - e.scalars) (grind (arith, nat_tests, h, t))))
+  where
+    by_test : {x y : Option ℕ} (t : Bool) → (t ≡ false → x ≡ y) → cond t (Some 0) x ≡ cond t (Some 0) y
+    by_test true f = refl
+    by_test false f = f refl
+
+plus-one : (o : Option ℕ) (n : ℕ) → option_map (λ k. k + 1) (option_map (λ k. k + n) o) ≡ option_map (λ k. k + suc n) o
+plus-one None n = refl
+plus-one (Some k) n = ap Some (omega arith)
+
+plus-none : (o : Option ℕ) → o ≡ option_map (λ k. k + 0) o
+plus-none None = refl
+plus-none (Some k) = ap Some (omega arith)
+
+pub back-item : (a b : List Ended) (n : ℕ) → all_scalars a ≤ n → item_of (a ++ b) n ≡ option_map (λ k. k + length a) (item_of b (n - all_scalars a))
+back-item [] b n h = ap (λ m. item_of b m) (omega arith) ∙ plus-none (item_of b (n - 0))
+back-item (e ∷ a) b n h =
+    let t : nat_lt n e.scalars ≡ false = grind (arith, nat_tests, h) in
+    not_here (nat_lt n e.scalars) t
+    ∙ ap (λ o. option_map (λ k. k + 1) o) (back-item a b (n - e.scalars) (omega (arith, h)) ∙ ap (λ m. option_map (λ k. k + length a) (item_of b m)) (omega (arith, h)))
+    ∙ plus-one (item_of b (n - (e.scalars + all_scalars a))) (length a)
+  where
+    not_here : {x : Option ℕ} (t : Bool) → t ≡ false → cond t (Some 0) x ≡ x
+    not_here true e = absurd cc
+    not_here false e = refl
+
+times : (k count s : ℕ) → k ≤ count → k * s ≤ count * s
+times k zero s h = by_zero k s (omega (arith, h))
+  where
+    by_zero : (k s : ℕ) → k ≡ 0 → k * s ≤ 0 * s
+    by_zero k s e = rw e (omega arith)
+times k (suc count) s h = elim (cases_lt count k) [ inl l ↦ by_same k (suc count) s (omega (arith, h, l)) | inr g ↦ omega (arith, times k count s g, more count s) ]
+  where
+    by_same : (k n s : ℕ) → k ≡ n → k * s ≤ n * s
+    by_same k n s e = rw e (omega arith)
+
+-- which item of a run has code point n
+pub run-item : (kind : ItemKind) (step : ℕ) (last : ℤ) (count n k : ℕ) → k < count → k * (scalars_of kind) ≤ n → n < k * (scalars_of kind) + (scalars_of kind) → item_of (items_until kind step last count) n ≡ Some k
+run-item kind step last zero n k h low high = absurd (omega (arith, h))
+run-item kind step last (suc count) n k h low high =
+    let front = items_until kind step (last -ℤ pos step) count in
+    elim (cases_lt k count) [
+      | inl l ↦ front-item front (item_of_kind kind last ∷ []) n (omega (arith, scalars-until kind step (last -ℤ pos step) count, before_it k count (scalars_of kind) l, high)) ∙ run-item kind step (last -ℤ pos step) count n k l low high
+      | inr g ↦
+          let same : k ≡ count = omega (arith, h, g) in
+          let all : all_scalars front ≡ k * (scalars_of kind) = scalars-until kind step (last -ℤ pos step) count ∙ ap (λ (x : ℕ). x * (scalars_of kind)) (sym same) in
+          back-item front (item_of_kind kind last ∷ []) n (omega (arith, all, low))
+          ∙ ap (λ o. option_map (λ j. j + length front) o) (here (nat_lt (n - all_scalars front) (scalars_of kind)) (grind (arith, nat_tests, all, low, high)))
+          ∙ ap Some (omega (arith, length-until kind step (last -ℤ pos step) count, same))
+    ]
+  where
+    here : (t : Bool) → t ≡ true → cond {A = Option ℕ} t (Some 0) None ≡ Some 0
+    here true e = refl
+    here false e = absurd cc
+
+    before_it : (k count s : ℕ) → k < count → k * s + s ≤ count * s
+    before_it k zero s h = absurd (omega (arith, h))
+    before_it k (suc count) s h = grind (arith, more count s, times k count s (omega (arith, h)))
+
+abbrev pub IsQuotient : ℕ → ℕ → ℕ → Type 0
+IsQuotient n m q = (q * m ≤ n) × (n < q * m + m)
+
+pub quotient : (n m : ℕ) → 0 < m → IsQuotient n m (n / m)
+quotient n m h = (div-mul-le_self n m, omega (arith, mod-add-div' n m, mod-lt n h))
+
+some_width : (n count s : ℕ) → n < count * s → 0 < s
+some_width n count zero h = absurd (omega (arith, h, no_times count))
+  where
+    no_times : (c : ℕ) → c * 0 ≡ 0
+    no_times c = omega arith
+some_width n count (suc s) h = omega arith
+
+pub item-in : (r : Run) (n : ℕ) → n < suc r.more * scalars_of r.kind → item_of (items_of_run r) n ≡ Some (n / scalars_of r.kind)
+item-in r n h =
+    let q = quotient n (scalars_of r.kind) (some_width n (suc r.more) (scalars_of r.kind) h) in
+    run-item r.kind r.step r.last (suc r.more) n (n / scalars_of r.kind) (fewer n (n / scalars_of r.kind) (suc r.more) (scalars_of r.kind) q.0 h) q.0 q.1
+  where
+    fewer : (n k count s : ℕ) → k * s ≤ n → n < count * s → k < count
+    fewer n k count s a b = elim (cases_lt k count) [ inl l ↦ l | inr g ↦ absurd (omega (arith, a, b, times count k s g)) ]
+
+-- how many of them end behind the limit, by a division
+pub before-div : (r : Run) (limit : ℤ) (gap step : ℕ) → step ≡ r.step → 0 < step → 0 < gap → r.last ≡ limit +ℤ pos gap → scalars_before limit (items_of_run r) ≡ (suc r.more - ((gap - 1) / step + 1)) * scalars_of r.kind
+before-div r limit gap step same some gap_some e =
+    let q = quotient (gap - 1) step some in
+    let p = (gap - 1) / step in
+    before-gap r.kind r.step limit r.last (suc r.more) gap (p + 1) e
+    (near p step r.step gap same gap_some q.1)
+    (λ k is. far p k step r.step gap same gap_some (omega (arith, is)) q.0)
+  where
+    near : (p step s gap : ℕ) → step ≡ s → 0 < gap → gap - 1 < p * step + step → gap ≤ (p + 1) * s
+    near p step s gap e g h = rw (sym e) (omega (arith, g, h, next p step))
+      where
+        next : (p s : ℕ) → (p + 1) * s ≡ p * s + s
+        next p s = grind (arith)
+
+    far : (p k step s gap : ℕ) → step ≡ s → 0 < gap → k ≡ p → p * step ≤ gap - 1 → k * s < gap
+    far p k step s gap e g is h = rw (is, sym e) (omega (arith, g, h))
+
+pub rest-none : (count c s : ℕ) → c ≡ count → 0 ≡ (count - c) * s
+rest-none count c s e = rw e (sym (ap (λ (k : ℕ). k * s) (nothing count) ∙ no_times s))
+  where
+    nothing : (n : ℕ) → n - n ≡ 0
+    nothing n = omega arith
+
+    no_times : (s : ℕ) → 0 * s ≡ 0
+    no_times s = omega arith
+
+pub before-next : (limit : ℤ) (rs : List Run) (i : ℕ) (d : Run) → i < length rs
+    → scalars_before limit (items_of_runs (drop i rs)) ≡ scalars_before limit (items_of_run (get_or rs i d)) + scalars_before limit (items_of_runs (drop (i + 1) rs))
+before-next limit rs i d h = at_drop_more (λ (xs : List Run). scalars_before limit (items_of_runs xs)) rs i d h ∙ before-append limit (items_of_run (get_or rs i d)) (items_of_runs (drop (i + 1) rs))
+
+pub before-few : (limit : ℤ) (es : List Ended) → scalars_before limit es ≤ all_scalars es
+before-few limit [] = omega arith
+before-few limit (e ∷ es) = omega (arith, at_most (le_z e.end limit) e.scalars, before-few limit es)
+  where
+    at_most : (t : Bool) (s : ℕ) → cond t s 0 ≤ s
+    at_most true s = omega arith
+    at_most false s = omega arith
+
+-- ---- as the program counts them
+
+one_more : (n : ℕ) → n + 1 ≡ suc n
+one_more n = omega arith
+
+pub run-scalars : (r : Run) (n s : ℕ) → n ≡ r.more → s ≡ scalars_of r.kind → (n + 1) * s ≡ all_scalars (items_of_run r)
+run-scalars r n s e f =
+    ap (λ (k : ℕ). (k + 1) * s) e ∙ ap (λ (k : ℕ). (r.more + 1) * k) f ∙ ap (λ (k : ℕ). k * scalars_of r.kind) (one_more r.more)
+    ∙ sym (scalars-until r.kind r.step r.last (suc r.more))
+
+pub run-errors : (r : Run) (n : ℕ) → error_of r.kind ≡ true → n ≡ r.more → n + 1 ≡ errors_in (items_of_run r)
+run-errors r n e n_is = omega (arith, n_is, each (error_of r.kind) (suc r.more) e, errors-until r.kind r.step r.last (suc r.more))
+  where
+    each : (b : Bool) (n : ℕ) → b ≡ true → n * one_if b ≡ n
+    each true n e = omega arith
+    each false n e = absurd cc
+
+pub run-no-errors : (r : Run) → error_of r.kind ≡ false → 0 ≡ errors_in (items_of_run r)
+run-no-errors r e = omega (arith, none (error_of r.kind) (suc r.more) e, errors-until r.kind r.step r.last (suc r.more))
+  where
+    none : (b : Bool) (n : ℕ) → b ≡ false → n * one_if b ≡ 0
+    none true n e = absurd cc
+    none false n e = omega arith
+
+some-scalars : (kind : ItemKind) → 0 < scalars_of kind
+some-scalars AsciiOne = omega arith
+some-scalars AsciiTwo = omega arith
+some-scalars AsciiError = omega arith
+some-scalars RomanOne = omega arith
+some-scalars RomanTwo = omega arith
+some-scalars RomanError = omega arith
+some-scalars KatakanaOne = omega arith
+some-scalars KatakanaTwo = omega arith
+some-scalars KatakanaError = omega arith
+some-scalars Jis0208One = omega arith
+some-scalars Jis0208Two = omega arith
+some-scalars Jis0208Error = omega arith
+
+pub found-in : (r : Run) (n s : ℕ) → s ≡ scalars_of r.kind → n / s ≤ r.more → item_of (items_of_run r) n ≡ Some (n / s)
+found-in r n s e h =
+    let h2 : n / scalars_of r.kind ≤ r.more = subst (λ (k : ℕ). n / k ≤ r.more) e h in
+    let q = quotient n (scalars_of r.kind) (some-scalars r.kind) in
+    run-item r.kind r.step r.last (suc r.more) n (n / scalars_of r.kind) (omega (arith, h2)) q.0 q.1 ∙ ap (λ (k : ℕ). Some (n / k)) (sym e)
+
+pub not-in : (r : Run) (n s : ℕ) → s ≡ scalars_of r.kind → r.more < n / s → all_scalars (items_of_run r) ≤ n
+not-in r n s e h =
+    let q = quotient n (scalars_of r.kind) (some-scalars r.kind) in
+    let h2 : r.more < n / scalars_of r.kind = subst (λ (k : ℕ). r.more < n / k) e h in
+    omega (arith, scalars-until r.kind r.step r.last (suc r.more), times (suc r.more) (n / scalars_of r.kind) (scalars_of r.kind) (omega (arith, h2)), q.0)
+
+-- ---- over all runs
+
+one-error : (kind : ItemKind) → one_if (error_of kind) ≤ scalars_of kind
+one-error kind = by_some (error_of kind) (scalars_of kind) (some-scalars kind)
+  where
+    by_some : (b : Bool) (s : ℕ) → 0 < s → one_if b ≤ s
+    by_some true s h = omega (arith, h)
+    by_some false s h = omega arith
+
+errors-few-until : (kind : ItemKind) (step : ℕ) (last : ℤ) (n : ℕ) → errors_in (items_until kind step last n) ≤ all_scalars (items_until kind step last n)
+errors-few-until kind step last zero = omega arith
+errors-few-until kind step last (suc n) =
+    let front = items_until kind step (last -ℤ pos step) n in
+    omega (arith, errors-append front (item_of_kind kind last ∷ []), scalars-append front (item_of_kind kind last ∷ []), errors-few-until kind step (last -ℤ pos step) n, one-error kind)
+
+pub errors-few : (rs : List Run) → errors_in (items_of_runs rs) ≤ all_scalars (items_of_runs rs)
+errors-few [] = omega arith
+errors-few (r ∷ rs) =
+    omega (arith, errors-append (items_of_run r) (items_of_runs rs), scalars-append (items_of_run r) (items_of_runs rs), errors-few-until r.kind r.step r.last (suc r.more), errors-few rs)
+
+pub errors-next : (rs : List Run) (i : ℕ) (d : Run) → i < length rs
+    → errors_in (items_of_runs (drop i rs)) ≡ errors_in (items_of_run (get_or rs i d)) + errors_in (items_of_runs (drop (i + 1) rs))
+errors-next rs i d h = at_drop_more (λ (xs : List Run). errors_in (items_of_runs xs)) rs i d h ∙ errors-append (items_of_run (get_or rs i d)) (items_of_runs (drop (i + 1) rs))
+
+items-next : (rs : List Run) (i : ℕ) (d : Run) → i < length rs → items_of_runs (drop i rs) ≡ items_of_run (get_or rs i d) ++ items_of_runs (drop (i + 1) rs)
+items-next rs i d h = at_drop_more (λ (xs : List Run). items_of_runs xs) rs i d h
+
+front-at : (a b : List Ended) (n : ℕ) → n < length a → slice_get (a ++ b) n ≡ slice_get a n
+front-at [] b n h = absurd (omega (arith, h))
+front-at (x ∷ a) b zero h = refl
+front-at (x ∷ a) b (suc n) h = front-at a b n (omega (arith, h))
+
+back-at : (a b : List Ended) (n : ℕ) → length a ≤ n → slice_get (a ++ b) n ≡ slice_get b (n - length a)
+back-at [] b n h = ap (slice_get b) (none n)
+  where
+    none : (n : ℕ) → n ≡ n - 0
+    none n = omega arith
+back-at (x ∷ a) b zero h = absurd (omega (arith, h))
+back-at (x ∷ a) b (suc n) h = back-at a b n (omega (arith, h)) ∙ ap (slice_get b) (less n (length a))
+  where
+    less : (n k : ℕ) → n - k ≡ suc n - suc k
+    less n k = omega arith
+
+count-is : (r : Run) → length (items_of_run r) ≡ r.more + 1
+count-is r = omega (arith, length-until r.kind r.step r.last (suc r.more))
+
+-- an item by its number
+pub get-here : (rs : List Run) (i : ℕ) (d : Run) (left : ℕ) → i < length rs → left < (get_or rs i d).more + 1
+    → slice_get (items_of_run (get_or rs i d)) left ≡ slice_get (items_of_runs (drop i rs)) left
+get-here rs i d left h few =
+    let here = items_of_run (get_or rs i d) in
+    sym (ap (λ (es : List Ended). slice_get es left) (items-next rs i d h) ∙ front-at here (items_of_runs (drop (i + 1) rs)) left (omega (arith, few, count-is (get_or rs i d))))
+
+pub get-next : (rs : List Run) (i : ℕ) (d : Run) (left : ℕ) → i < length rs → (get_or rs i d).more + 1 ≤ left
+    → slice_get (items_of_runs (drop (i + 1) rs)) (left - ((get_or rs i d).more + 1)) ≡ slice_get (items_of_runs (drop i rs)) left
+get-next rs i d left h many =
+    let here = items_of_run (get_or rs i d) in
+    sym
+    (ap (λ (es : List Ended). slice_get es left) (items-next rs i d h)
+    ∙ back-at here (items_of_runs (drop (i + 1) rs)) left (omega (arith, many, count-is (get_or rs i d)))
+    ∙ ap (λ (n : ℕ). slice_get (items_of_runs (drop (i + 1) rs)) (left - n)) (count-is (get_or rs i d)))
+
+-- the last item
+last-behind : (a b : List Ended) (x : Ended) → slice_get b (length b - 1) ≡ Some x → slice_get (a ++ b) (length (a ++ b) - 1) ≡ Some x
+last-behind a [] x h = absurd cc
+last-behind a (y ∷ b) x h =
+    ap (slice_get (a ++ y ∷ b)) (place (length (a ++ y ∷ b)) (length a) (length b) (length-append a (y ∷ b)))
+    ∙ back-at a (y ∷ b) (length a + length b) (omega arith)
+    ∙ ap (slice_get (y ∷ b)) (same (length a) (length b)) ∙ h
+  where
+    place : (all n m : ℕ) → all ≡ n + suc m → all - 1 ≡ n + m
+    place all n m e = omega (arith, e)
+
+    same : (n m : ℕ) → (n + m) - n ≡ suc m - 1
+    same n m = omega arith
+
+pub last-item : (rs : List Run) (r : Run) → slice_get rs (length rs - 1) ≡ Some r → slice_get (items_of_runs rs) (length (items_of_runs rs) - 1) ≡ Some (item_of_kind r.kind r.last)
+last-item [] r h = absurd cc
+last-item (x ∷ []) r h =
+    let e : x ≡ r = cc in
+    ap (λ (es : List Ended). slice_get es (length es - 1)) (append-nil (items_of_run x))
+    ∙ last-behind (items_until x.kind x.step (x.last -ℤ pos x.step) x.more) (item_of_kind x.kind x.last ∷ []) (item_of_kind x.kind x.last) refl
+    ∙ ap (λ (y : Run). Some (item_of_kind y.kind y.last)) e
+last-item (x ∷ y ∷ rs) r h =
+    last-behind (items_of_run x) (items_of_runs (y ∷ rs)) (item_of_kind r.kind r.last) (last-item (y ∷ rs) r (ap (slice_get (x ∷ y ∷ rs)) (sym (one_less (length rs))) ∙ h))
+  where
+    one_less : (n : ℕ) → suc (suc n) - 1 ≡ suc (suc n - 1)
+    one_less n = omega arith
+
+-- ---- the item of a code point
+
+pub item-within : (es : List Ended) (n k : ℕ) → item_of es n ≡ Some k → k < length es
+item-within [] n k h = absurd cc
+item-within (e ∷ es) n k h = by_test (nat_lt n e.scalars) (item_of es (n - e.scalars)) h (λ j. item-within es (n - e.scalars) j)
+  where
+    by_test : (t : Bool) (o : Option ℕ) → cond t (Some 0) (option_map (λ j. j + 1) o) ≡ Some k → ((j : ℕ) → o ≡ Some j → j < length es) → k < suc (length es)
+    by_test true o e f = let z : 0 ≡ k = cc in omega (arith, z)
+    by_test false None e f = absurd cc
+    by_test false (Some j) e f = let z : j + 1 ≡ k = cc in omega (arith, z, f j refl)
+
+found-front : (a b : List Ended) (n k : ℕ) → item_of a n ≡ Some k → item_of (a ++ b) n ≡ Some k
+found-front [] b n k h = absurd cc
+found-front (e ∷ a) b n k h = by_test (nat_lt n e.scalars) (item_of a (n - e.scalars)) (item_of (a ++ b) (n - e.scalars)) h (λ j. found-front a b (n - e.scalars) j)
+  where
+    by_test : (t : Bool) (o p : Option ℕ) → cond t (Some 0) (option_map (λ j. j + 1) o) ≡ Some k → ((j : ℕ) → o ≡ Some j → p ≡ Some j) → cond t (Some 0) (option_map (λ j. j + 1) p) ≡ Some k
+    by_test true o p e f = e
+    by_test false None p e f = absurd cc
+    by_test false (Some j) p e f = ap (option_map (λ i. i + 1)) (f j refl) ∙ e
+
+length-few-until : (kind : ItemKind) (step : ℕ) (last : ℤ) (n : ℕ) → length (items_until kind step last n) ≤ all_scalars (items_until kind step last n)
+length-few-until kind step last zero = omega arith
+length-few-until kind step last (suc n) =
+    let front = items_until kind step (last -ℤ pos step) n in
+    omega (arith, length-append front (item_of_kind kind last ∷ []), scalars-append front (item_of_kind kind last ∷ []), length-few-until kind step (last -ℤ pos step) n, some-scalars kind)
+
+pub length-few : (rs : List Run) → length (items_of_runs rs) ≤ all_scalars (items_of_runs rs)
+length-few [] = omega arith
+length-few (r ∷ rs) =
+    omega (arith, length-append (items_of_run r) (items_of_runs rs), scalars-append (items_of_run r) (items_of_runs rs), length-few-until r.kind r.step r.last (suc r.more), length-few rs)
+
+pub length-next : (rs : List Run) (i : ℕ) (d : Run) → i < length rs → length (items_of_runs (drop i rs)) ≡ ((get_or rs i d).more + 1) + length (items_of_runs (drop (i + 1) rs))
+length-next rs i d h =
+    let here = items_of_run (get_or rs i d) in
+    let all = ap (λ (es : List Ended). length es) (items-next rs i d h) in
+    omega (arith, all, length-append here (items_of_runs (drop (i + 1) rs)), count-is (get_or rs i d))
+
+pub run-within : (rs : List Run) (i : ℕ) (d : Run) (n k : ℕ) → item_of (items_of_run (get_or rs i d)) n ≡ Some k → k < (get_or rs i d).more + 1
+run-within rs i d n k h = omega (arith, item-within (items_of_run (get_or rs i d)) n k h, count-is (get_or rs i d))
+
+pub found-here : (rs : List Run) (i : ℕ) (d : Run) (left k before : ℕ) → i < length rs → item_of (items_of_run (get_or rs i d)) left ≡ Some k
+    → option_map (λ j. j + before) (item_of (items_of_runs (drop i rs)) left) ≡ Some (before + k)
+found-here rs i d left k before h e =
+    ap (λ (es : List Ended). option_map (λ j. j + before) (item_of es left)) (items-next rs i d h)
+    ∙ ap (option_map (λ j. j + before)) (found-front (items_of_run (get_or rs i d)) (items_of_runs (drop (i + 1) rs)) left k e)
+    ∙ ap Some (omega arith)
+
+plus-plus : (o : Option ℕ) (a b : ℕ) → option_map (λ k. k + b) (option_map (λ k. k + a) o) ≡ option_map (λ k. k + (b + a)) o
+plus-plus None a b = refl
+plus-plus (Some k) a b = ap Some (omega arith)
+
+pub found-next : (rs : List Run) (i : ℕ) (d : Run) (left before : ℕ) → i < length rs → all_scalars (items_of_run (get_or rs i d)) ≤ left
+    → option_map (λ j. j + (before + ((get_or rs i d).more + 1))) (item_of (items_of_runs (drop (i + 1) rs)) (left - all_scalars (items_of_run (get_or rs i d))))
+    ≡ option_map (λ j. j + before) (item_of (items_of_runs (drop i rs)) left)
+found-next rs i d left before h past =
+    let here = items_of_run (get_or rs i d) in
+    let rest = items_of_runs (drop (i + 1) rs) in
+    sym
+    (ap (λ (es : List Ended). option_map (λ j. j + before) (item_of es left)) (items-next rs i d h)
+    ∙ ap (option_map (λ j. j + before)) (back-item here rest left past)
+    ∙ plus-plus (item_of rest (left - all_scalars here)) (length here) before
+    ∙ ap (λ (n : ℕ). option_map (λ j. j + (before + n)) (item_of rest (left - all_scalars here))) (count-is (get_or rs i d)))

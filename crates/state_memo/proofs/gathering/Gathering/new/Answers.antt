@@ -1,0 +1,11 @@
+use Rattle.std.proofs.Common.{ap, ◌∙◌, ℕ, List, []}
+use Rattle.std.specs.Str.{chars}
+use Rattle.std.proofs.lemmas.Str.{chars-nil}
+use Rattle.state_memo.specs.declared.ended.Ended.{Ended}
+use Rattle.state_memo.specs.Runs.{items_under_way}
+use Rattle.state_memo.proofs.gathering.Gathering.new.Goals as goal
+
+pub returns : goal.returns
+returns c =
+    ap (λ (t : List ℕ). record { text = t; items = items_under_way c.new-2.result.closed.items c.new-2.result.last }) (ap chars c.new.ensures ∙ chars-nil)
+    ∙ ap (λ (t : List Ended). record { text = []; items = t }) c.new-2.ensures

@@ -1,0 +1,20 @@
+use Rattle.std.proofs.Common.{arith, ap, ◌∙◌, List, pos}
+use Rattle.state_memo.specs.declared.kind.ItemKind.TheVariants.{AsciiOne}
+use Rattle.state_memo.specs.declared.run.Run.{Run}
+use Rattle.state_memo.specs.declared.ended.Ended.{Ended}
+use Rattle.state_memo.specs.Items.{all_scalars}
+use Rattle.state_memo.specs.Runs.{items_of_runs}
+use Rattle.state_memo.proofs.Walks.{errors-next, errors-few}
+use Rattle.state_memo.proofs.items.ItemRuns.count_errors.Goals as goal
+
+abbrev no_run : Run
+no_run = record { last = pos 0; more = 0; step = 0; kind = AsciiOne }
+
+pub overflow_add-count : goal.overflow_add-count
+overflow_add-count c =
+    let here = ap items_of_runs c.as_slice-runs.ensures.value ∙ c.self.view_is in
+    let all = ap (λ (es : List Ended). all_scalars es) here in
+    omega (arith, errors-next c.as_slice-runs.result.now c.runs.run-index no_run c.runs-test.true, c.runs.invariant, c.errors-count.ensures, errors-few c.as_slice-runs.result.now, all, c.requires)
+
+pub runs-preserved : goal.runs-preserved
+runs-preserved c = omega (arith, errors-next c.as_slice-runs.result.now c.runs.run-index no_run c.runs-test.true, c.runs.invariant, c.errors-count.ensures)

@@ -1,0 +1,10 @@
+use Rattle.std.proofs.Common.{◌≡◌, ◌+◌, drop, length}
+use Rattle.std.specs.Prelude.{option_map}
+use Rattle.state_memo.specs.Items.{item_of}
+use Rattle.state_memo.specs.Runs.{items_of_runs}
+use Rattle.state_memo.proofs.items.ItemRuns.item_of.Given as goal
+
+abbrev pub invariant-runs : goal.invariant-runs
+invariant-runs l =
+    (option_map (λ k. k + l.before) (item_of (items_of_runs (drop l.run-index l.runs)) l.left) ≡ item_of (items_of_runs l.runs) l.n)
+    × (l.before + length (items_of_runs (drop l.run-index l.runs)) ≡ length (items_of_runs l.runs))

@@ -1,0 +1,13 @@
+use Rattle.std.proofs.Common.{◌≡◌, ◌-◌, ap, sym, ◌∙◌, List, Some, length, slice_get, rules, to_z, of_z, w64}
+use Rattle.state_memo.specs.declared.ended.Ended.{Ended}
+use Rattle.state_memo.specs.Runs.{item_of_kind, items_of_runs}
+use Rattle.state_memo.proofs.Walks.{last-item}
+use Rattle.state_memo.proofs.items.ItemRuns.last.Goals as goal
+
+pub returns : goal.returns
+returns c =
+    let run = c.in_ok-run.run'.now in
+    let last : to_z w64 (of_z w64 c.from.result) ≡ run.last = search rules in
+    ap Some (c.at.ensures ∙ ap (item_of_kind run.kind) last)
+    ∙ sym (last-item c.deref.result.now run (sym c.in_ok-run.ensures.value))
+    ∙ ap (λ (es : List Ended). slice_get es (length es - 1)) (ap items_of_runs c.deref.ensures.value ∙ c.self.view_is)

@@ -1,0 +1,7 @@
+use Rattle.std.proofs.Common.{◌≡◌, ◌+◌, drop}
+use Rattle.state_memo.specs.Items.{scalars_before}
+use Rattle.state_memo.specs.Runs.{items_of_runs}
+use Rattle.state_memo.proofs.items.ItemRuns.scalars_before.Given as goal
+
+abbrev pub invariant-runs : goal.invariant-runs
+invariant-runs l = l.count + scalars_before l.limit (items_of_runs (drop l.run-index l.runs)) ≡ scalars_before l.limit (items_of_runs l.runs)

@@ -1,0 +1,20 @@
+use Rattle.std.proofs.Common.{◌≡◌, refl, ap, ◌∙◌, ℕ, List, [], arith}
+use Rattle.std.specs.Str.{chars}
+use Rattle.std.proofs.lemmas.Str.{chars-nil}
+use Rattle.state_memo.specs.declared.sum.Sum.{Sum}
+use Rattle.state_memo.specs.declared.ended.Ended.{Ended}
+use Rattle.state_memo.specs.Facts.{IsSumOf, IsBounded}
+use Rattle.state_memo.specs.Sums.{no_sum}
+use Rattle.state_memo.proofs.known.KnownMadeWithGlobal.made_with.Goals as goal
+
+nothing_summed : (cs : List ℕ) (items : List Ended) (s : Sum) → cs ≡ [] → items ≡ [] → s ≡ no_sum → IsSumOf cs items s
+nothing_summed cs items s a b c = rw (a, b, c) (record { scalars = refl; utf16 = refl; utf8 = refl; errors = refl; marks = refl; lf_first = refl; cr_last = refl; counted = refl })
+
+nothing_bounded : (s : Sum) → s ≡ no_sum → IsBounded s
+nothing_bounded s c = rw c (record { utf8 = omega arith; errors = omega arith })
+
+pub invariant_of-result : goal.invariant_of-result
+invariant_of-result c = record {
+  summed = nothing_summed _ _ _ (c.new-2.ensures ∙ ap chars c.new.ensures.bytes ∙ chars-nil) c.new-3.ensures c.unit.ensures;
+  bounded = nothing_bounded _ c.unit.ensures;
+}

@@ -1,0 +1,14 @@
+pub use Rattle.codec.specs.Near
+pub mod Decoding
+pub mod Facts
+pub mod Fitting
+pub mod Gathering
+pub mod Items
+pub mod Lines
+pub mod Memo
+pub mod Outcome
+pub mod Runs
+pub mod SumFacts
+pub mod SumLaws
+pub mod Sums
+pub mod TextFacts

@@ -1,0 +1,8 @@
+-- Line marks where texts meet.
+use Rattle.std.specs.Prelude.{ℕ, Bool, false, ◌==◌, List, [], ◌∷◌}
+use Rattle.lane_ascii.specs.Marks.{lf}
+
+-- whether an LF stands first
+abbrev pub begins_lf : List ℕ → Bool
+begins_lf [] = false
+begins_lf (c ∷ cs) = c == lf

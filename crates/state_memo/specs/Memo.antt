@@ -1,0 +1,44 @@
+-- A piece and the outcomes that it remembers.
+use Rattle.std.specs.Prelude.{◌≡◌, ℕ, ◌<◌, option_map, slice_get, Bool, List, [], ◌∷◌, take, length, Option, Some, None, if◌then◌else◌}
+use Rattle.std.specs.List.{remove}
+use Rattle.codec.specs.declared.state.AnyState.{AnyState}
+use Rattle.codec.specs.contracts.state.AnyStatePartialEq.TheImpl as any
+use Rattle.state_memo.specs.declared.known.Known.{Known}
+use Rattle.state_memo.specs.declared.outcome.Outcome.{Outcome}
+
+-- equal as the code finds states equal, which is the same as identical
+abbrev pub same_state : AnyState → AnyState → Bool
+same_state a b = any.ghosts.eq a b
+
+-- a piece's bytes, and its remembered outcomes, the last entered first
+pub record Memo : Type 0 where
+  pub bytes : List ℕ
+  pub known : List Known
+
+-- the outcome that is remembered for a state
+abbrev pub recalled : List Known → AnyState → Option Outcome
+recalled [] s = None
+recalled (k ∷ ks) s = if same_state k.entry s then Some k.outcome else recalled ks s
+
+-- the others
+abbrev pub without : List Known → AnyState → List Known
+without [] s = []
+without (k ∷ ks) s = if same_state k.entry s then ks else k ∷ without ks s
+
+-- what is installed comes first, and four are kept
+abbrev pub installed : List Known → AnyState → Outcome → List Known
+installed ks s outcome = take 4 (record { entry = s; outcome = outcome } ∷ without ks s)
+
+abbrev pub put_first : Option Outcome → List Known → AnyState → List Known
+put_first (Some outcome) ks s = record { entry = s; outcome = outcome } ∷ without ks s
+put_first None ks s = ks
+
+-- what is found comes first, and else nothing moves
+abbrev pub entered : List Known → AnyState → List Known
+entered ks s = put_first (recalled ks s) ks s
+
+-- the place of the outcome that is remembered for the state
+pub record IsPlace (ks : List Known) (s : AnyState) (i : ℕ) : Type 0 where
+  pub within : i < length ks
+  pub found : recalled ks s ≡ option_map (λ (k : Known). k.outcome) (slice_get ks i)
+  pub others : without ks s ≡ remove ks i

@@ -1,0 +1,90 @@
+//! Sums of parts of a document as sums of a tree.
+ghost use Rattle.state_memo.specs.Sums.{joined, no_sum, Fits, measure};
+ghost use Rattle.state_memo.specs.SumLaws.{sum_laws, no_sum-fits, fits-left, fits-right, measure-more, measure-zero};
+
+use crate::sum::Sum;
+use sum_tree::{Dimension, Summary};
+
+/// What a document is counted along.
+#[derive(Clone, Copy, PartialEq, Eq, Debug)]
+pub enum Axis {
+    /// Bytes of the document.
+    Byte,
+    /// Code points.
+    Scalar,
+    /// Code units in UTF-16.
+    Utf16,
+    /// Bytes in UTF-8.
+    Utf8,
+    /// Line marks.
+    Mark,
+}
+
+impl Summary for Sum {
+    ghost empty = { no_sum };
+
+    ghost op = { joined };
+
+    ghost fits = { Fits };
+
+    fn unit() -> Sum {
+        Sum {
+            bytes: 0,
+            scalars: 0,
+            utf16: 0,
+            utf8: 0,
+            errors: 0,
+            marks: 0,
+            lf_first: false,
+            cr_last: false,
+        }
+    }
+
+    fn join(self, other: Sum) -> Sum {
+        let meet = self.cr_last && other.lf_first;
+        Sum {
+            bytes: self.bytes + other.bytes,
+            scalars: self.scalars + other.scalars,
+            utf16: self.utf16 + other.utf16,
+            utf8: self.utf8 + other.utf8,
+            errors: self.errors + other.errors,
+            marks: self.marks + other.marks - u64::from(meet),
+            lf_first: if self.scalars == 0 {
+                other.lf_first
+            } else {
+                self.lf_first
+            },
+            cr_last: if other.scalars == 0 {
+                self.cr_last
+            } else {
+                other.cr_last
+            },
+        }
+    }
+
+    ghost laws = { sum_laws };
+
+    ghost empty_fits = { no_sum-fits };
+
+    ghost fits_left = { fits-left };
+
+    ghost fits_right = { fits-right };
+}
+
+impl Dimension<Sum> for Axis {
+    ghost measure = { measure };
+
+    fn of(&self, sum: &Sum) -> u64 {
+        match *self {
+            Axis::Byte => sum.bytes,
+            Axis::Scalar => sum.scalars,
+            Axis::Utf16 => sum.utf16,
+            Axis::Utf8 => sum.utf8,
+            Axis::Mark => sum.marks,
+        }
+    }
+
+    ghost zero = { measure-zero };
+
+    ghost monotone = { measure-more };
+}

@@ -1,0 +1,138 @@
+//! Decoding of a piece from a state.
+ghost use Rattle.std.specs.Prelude.{◌≡◌, length, fold, IfOk};
+ghost use Rattle.decoder_core.specs.Counted.{Counted};
+ghost use Rattle.decoder_core.specs.Queue.{feed};
+ghost use Rattle.decoder_core.specs.Shown.{shown_from};
+ghost use Rattle.codec.specs.Any.{any, any_start};
+ghost use Rattle.state_memo.specs.Gathering.{with_shown, no_item};
+ghost use Rattle.state_memo.specs.Outcome.{contents_of, outcome_of, ending_of};
+
+use crate::gathering::Gathering;
+use crate::outcome::Outcome;
+use crate::outputs::Outputs;
+use codec::{AnyDecoder, AnyState, UTF_16BE, UTF_16LE, by_own, few_items};
+use decoder_core::{Decoder, Meter, OutOfMemory, Utf8Decoder, among, run_piece};
+use std::alloc::Global;
+
+/// What a decoder gives over the bytes from a state, and the state behind them.
+fn gather<S: Outputs + Eq, D: Decoder<State = S>>(
+    alloc: Global,
+    decoder: &D,
+    state: S,
+    bytes: &[u8],
+    meter: &mut Meter,
+) -> Result<(Gathering, S), OutOfMemory>
+    ensures exit { IfOk result (λ r. r.1 ≡ (feed (D.table decoder.now) state bytes.now).state) }
+    ensures items { IfOk result (λ r. r.0 ≡ fold (with_shown S.output_at) no_item (shown_from (D.table decoder.now) 0 state bytes.now)) }
+    ensures meter { Counted meter.old meter.new (length bytes.now) result }
+{
+    let mut gathering = Gathering::new(alloc);
+    let exit = run_piece(decoder, state, bytes, &mut gathering, meter)?;
+    Ok((gathering, exit))
+}
+
+/// Decoding by the one decoder, which asks at each byte whose state it is in.
+fn compute_any(
+    alloc: Global,
+    decoder: &AnyDecoder<'_>,
+    entry: AnyState,
+    bytes: &[u8],
+    meter: &mut Meter,
+) -> Result<Outcome, OutOfMemory>
+    ensures outcome { IfOk result (λ o. contents_of o ≡ outcome_of decoder.now entry bytes.now) }
+    ensures meter { Counted meter.old meter.new (length bytes.now) result }
+{
+    // The items are few.
+    few_items(decoder);
+    let (gathering, exit) = gather(alloc, decoder, entry, bytes, meter)?;
+    gathering.finish(bytes.len(), exit)
+}
+
+/// Decoding by a decoder from a state of its own.
+macro_rules! compute_by {
+    ($name:ident, $own:expr, $state:expr, $alloc:expr, $decoder:expr, $bytes:expr, $meter:expr) => {{
+        // The items are few, and they are those of the one decoder.
+        few_items($decoder);
+        among($own, $decoder);
+        let (gathering, exit) = gather($alloc, $own, $state, $bytes, $meter)?;
+        gathering.finish($bytes.len(), AnyState::$name(exit))
+    }};
+}
+
+/// Decoding by a decoder where the entry is a state of its own, and else by the one decoder.
+macro_rules! compute_arm {
+    ($name:ident, $own:expr, $alloc:expr, $decoder:expr, $entry:expr, $bytes:expr, $meter:expr) => {
+        match $entry {
+            AnyState::$name(s) => compute_by!($name, $own, s, $alloc, $decoder, $bytes, $meter),
+            _ => compute_any($alloc, $decoder, $entry, $bytes, $meter),
+        }
+    };
+}
+
+/// Decoding by the encoding's own decoder, where the entry is a state of its own.
+fn compute_own(
+    alloc: Global,
+    decoder: &AnyDecoder<'_>,
+    entry: AnyState,
+    bytes: &[u8],
+    meter: &mut Meter,
+) -> Result<Outcome, OutOfMemory>
+    ensures outcome { IfOk result (λ o. contents_of o ≡ outcome_of decoder.now entry bytes.now) }
+    ensures meter { Counted meter.old meter.new (length bytes.now) result }
+{
+    by_own!(
+        decoder.own(),
+        compute_arm,
+        alloc,
+        decoder,
+        entry,
+        bytes,
+        meter
+    )
+}
+
+/// What the bytes decode to from a state. The meter counts the bytes. Which decoder it is, is asked
+/// once and not for each byte; UTF-8 and UTF-16 are in force behind a byte order mark whatever
+/// encoding is given.
+pub(crate) fn compute_bytes(
+    alloc: Global,
+    decoder: &AnyDecoder<'_>,
+    entry: AnyState,
+    bytes: &[u8],
+    meter: &mut Meter,
+) -> Result<Outcome, OutOfMemory>
+    ensures outcome { IfOk result (λ o. contents_of o ≡ outcome_of decoder.now entry bytes.now) }
+    ensures meter { Counted meter.old meter.new (length bytes.now) result }
+{
+    match entry {
+        AnyState::Utf8(s) => compute_by!(Utf8, &Utf8Decoder, s, alloc, decoder, bytes, meter),
+        AnyState::Utf16Be(s) => compute_by!(Utf16Be, &UTF_16BE, s, alloc, decoder, bytes, meter),
+        AnyState::Utf16Le(s) => compute_by!(Utf16Le, &UTF_16LE, s, alloc, decoder, bytes, meter),
+        _ => compute_own(alloc, decoder, entry, bytes, meter),
+    }
+}
+
+/// The state before the first byte of a document.
+pub fn start_of(decoder: &AnyDecoder<'_>) -> AnyState
+    ensures { result ≡ any_start decoder.now }
+{
+    decoder.start()
+}
+
+/// What the end of a document gives in a state: an outcome without bytes, whose exit is the state.
+pub fn finish_of(
+    alloc: Global,
+    decoder: &AnyDecoder<'_>,
+    state: AnyState,
+) -> Result<Outcome, OutOfMemory>
+    ensures { IfOk result (λ o. contents_of o ≡ ending_of decoder.now state) }
+{
+    few_items(decoder);
+    let mut gathering = Gathering::new(alloc);
+    // A value of several words is used up by the call that takes it: each gets a copy of its own.
+    let (seen, read) = (state, state);
+    let output = seen.output();
+    let last = decoder.finish(read);
+    gathering.take_last(last.items.as_slice(), output)?;
+    gathering.finish(0, state)
+}

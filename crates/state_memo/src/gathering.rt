@@ -1,0 +1,177 @@
+//! The sink in which a piece's outcome is gathered.
+ghost use Rattle.std.specs.Prelude.{◌≡◌, ◌≤◌, ◌+◌, [], ◌∷◌, ◌++◌, ◌≢◌, length, pos, fold, IfOk, IfSome, OnOk, OnErr};
+ghost use Rattle.std.specs.Str.{chars};
+ghost use Rattle.decoder_core.specs.Text.{item_code_points};
+ghost use Rattle.state_memo.specs.Facts.{IsDone};
+ghost use Rattle.state_memo.specs.Gathering.{Gathered, with_shown, with_item, with_ended, with_more, plain_items};
+ghost use Rattle.state_memo.specs.Outcome.{contents_of};
+ghost use Rattle.state_memo.specs.Runs.{items_of_run};
+ghost use Rattle.state_memo.specs.Sums.{sum_of};
+
+use crate::counting::sum_of;
+use crate::items::OpenRuns;
+use crate::kind::ItemKind;
+use crate::outcome::{Outcome, Text};
+use crate::outputs::Outputs;
+use crate::plain::{even_run, first_place, item_width};
+use crate::run::Run;
+use codec::{AnyState, TextBlocks};
+use decoder_core::{Ended, Item, OutOfMemory, Sink, Stride};
+use enc_names::Scalar;
+use iso2022jp::OutputState;
+use std::alloc::{AllocError, Global};
+use std::marker::Model;
+
+/// The text and the items so far.
+#[derive(Drop)]
+pub(crate) struct Gathering {
+    text: TextBlocks,
+    items: OpenRuns,
+}
+
+impl Model for Gathering {
+    ghost use Rattle.std.specs.Str.{chars};
+    ghost use Rattle.state_memo.specs.Gathering.{Gathered};
+    ghost use Rattle.state_memo.specs.Runs.{items_under_way};
+
+    ghost Value = { Gathered };
+
+    ghost view = { λ s. record { text = chars s.text.bytes; items = items_under_way s.items.closed.items s.items.last } };
+}
+
+impl Gathering {
+    /// No item.
+    pub(crate) fn new(alloc: Global) -> Gathering
+        ensures { result ≡ record { text = []; items = [] } }
+    {
+        Gathering {
+            text: TextBlocks::new(alloc),
+            items: OpenRuns::new(alloc),
+        }
+    }
+
+    /// Takes an item. Its end is kept in 32 bits: one that no piece comes to is refused.
+    // In the loop over the bytes.
+    #[inline(always)]
+    fn take(&mut self, item: Item, end: i64, output: OutputState) -> Result<(), OutOfMemory>
+        ensures ok { OnOk result (self.new ≡ with_item self.old item end output) }
+        ensures err { OnErr result (self.new ≡ self.old) }
+    {
+        let Ok(last) = i32::try_from(end) else {
+            return Err(AllocError);
+        };
+        self.text.reserve()?;
+        let (kept, written) = (item, item);
+        let run = self
+            .items
+            .place(Run::one(ItemKind::of(kept, output), last))?;
+        put_item(&mut self.text, written);
+        self.items.set_last(run);
+        Ok(())
+    }
+
+    /// Takes a text whose items are one run.
+    fn take_run(&mut self, text: &str, run: Run) -> Result<(), OutOfMemory>
+        ensures ok { OnOk result (self.new ≡ with_more self.old (chars text.now) (items_of_run run)) }
+        ensures err { OnErr result (self.new ≡ self.old) }
+    {
+        let run = self.items.place(run)?;
+        self.text.put_text(text)?;
+        self.items.set_last(run);
+        Ok(())
+    }
+
+    /// Takes the items of the end.
+    pub(crate) fn take_last(
+        &mut self,
+        items: &[Ended],
+        output: OutputState,
+    ) -> Result<(), OutOfMemory>
+        ensures { OnOk result (self.new ≡ fold (with_ended output) self.old items.now) }
+    {
+        'items: for ended in items {
+            self.take(ended.item, -i64::from(ended.back), output)?;
+        }
+        Ok(())
+    }
+
+    /// The outcome of so many bytes.
+    pub(crate) fn finish(self, bytes: usize, exit: AnyState) -> Result<Outcome, OutOfMemory>
+        requires { IsDone bytes self }
+        ensures { IfOk result (λ o. contents_of o ≡ record { text = self.text; items = self.items; exit = exit; sum = sum_of bytes self.text self.items }) }
+    {
+        let Gathering { text, items } = self;
+        let mut text = text.finish()?;
+        text.shrink_to_fit();
+        let items = items.finish()?;
+        let sum = sum_of(bytes, text.as_str(), &items);
+        Ok(Outcome {
+            text: Text::new(text),
+            items,
+            exit,
+            sum,
+        })
+    }
+}
+
+impl<S: Outputs> Sink<S> for Gathering {
+    ghost Seen = { Gathered };
+
+    ghost seen = { λ s. s };
+
+    ghost taken = { with_shown S.output_at };
+
+    // In the loop over the bytes.
+    #[inline(always)]
+    fn item(&mut self, item: Item, end: i64, after: S) -> Result<(), OutOfMemory> {
+        self.take(item, end, after.output_state())
+    }
+
+    fn plain(&mut self, text: &str, end: i64, stride: Stride, after: S) -> Result<(), OutOfMemory> {
+        let output = after.output_state();
+        if let Some(run) = even_run(text, end, stride, output) {
+            self.take_run(text, run)?;
+            return Ok(());
+        }
+        let Some(mut at) = first_place(text, end, stride) else {
+            return Err(AllocError);
+        };
+        let mut rest = text.chars();
+        'rest: while let Some(c) = rest.next() {
+            let Some(next) = at.checked_add(item_width(stride, c)) else {
+                return Err(AllocError);
+            };
+            self.take(Item::One(Scalar::from(c)), next, output)?;
+            at = next;
+        }
+        Ok(())
+    }
+}
+
+/// Writes the code points of an item, an error as U+FFFD.
+// In the loop over the bytes.
+#[inline(always)]
+fn put_item(text: &mut TextBlocks, item: Item)
+    requires { 8 ≤ text.old.room }
+    ensures { chars text.new.bytes ≡ chars text.old.bytes ++ item_code_points item }
+{
+    match item {
+        Item::One(c) => put_char(text, c.to_char()),
+        Item::Two(first, second) => {
+            put_char(text, first.to_char());
+            put_char(text, second.to_char());
+        }
+        Item::Error => put_char(text, char::REPLACEMENT_CHARACTER),
+    }
+}
+
+/// Writes a code point.
+// In the loop over the bytes.
+#[inline(always)]
+fn put_char(text: &mut TextBlocks, c: char)
+    requires { 4 ≤ text.old.room }
+    ensures text { chars text.new.bytes ≡ chars text.old.bytes ++ c ∷ [] }
+    ensures room { text.old.room ≤ text.new.room + 4 }
+{
+    text.put(c);
+}

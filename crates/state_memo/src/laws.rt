@@ -1,0 +1,51 @@
+//! The laws by which pieces in a row make up a document.
+ghost use Rattle.std.specs.Prelude.{◌≡◌, ℕ, ◌≤◌, ◌+◌, ◌<◌, ◌^◌, ◌++◌, true, List, [], length};
+ghost use Rattle.decoder_core.specs.Queue.{feed, run, further};
+ghost use Rattle.decoder_core.specs.Shown.{shown_from, shown_items, ended_at};
+ghost use Rattle.codec.specs.Any.{any};
+ghost use Rattle.codec.specs.Near.{AreNear};
+ghost use Rattle.codec.specs.declared.state.AnyState.{AnyState};
+ghost use Rattle.state_memo.specs.declared.ended.Ended.{Ended};
+ghost use Rattle.state_memo.specs.declared.outcome.Outcome.{Outcome};
+ghost use Rattle.state_memo.specs.declared.sum.Sum.{Sum};
+ghost use Rattle.state_memo.specs.Facts.{IsSumOf};
+ghost use Rattle.state_memo.specs.Fitting.{total_of};
+ghost use Rattle.state_memo.specs.Memo.{same_state};
+ghost use Rattle.state_memo.specs.Outcome.{outcome_of};
+ghost use Rattle.state_memo.specs.Sums.{Fits, joined};
+
+use codec::{AnyDecoder, few_items};
+use decoder_core::one_run;
+
+/// The laws by which the outcomes of pieces in a row are those of a document; the call does
+/// nothing.
+///
+/// Over no byte the state stays (`none`), and over two parts in a row each part is decoded from
+/// where the one before left off (`parts`, `runs`, `shown`). The number of items of a part is bounded
+/// by that of its bytes (`few`). States that the code finds equal are identical, and each is equal
+/// to itself (`exact`, `same`). An outcome's exit and the bytes of its sum are those of the
+/// definition (`exit`, `bytes`). The numbers of two texts in a row are the join of theirs
+/// (`joined`), and the joins of the sums of outcomes fit where there are few bytes (`fit`).
+pub fn piece_laws(_decoder: &AnyDecoder<'_>)
+    ensures none { (s : AnyState) → (feed (any _decoder.now) s []).state ≡ s }
+    ensures parts { (s : AnyState) (p q : List ℕ) → (feed (any _decoder.now) s (p ++ q)).state ≡ (feed (any _decoder.now) (feed (any _decoder.now) s p).state q).state }
+    ensures runs { (s : AnyState) (p q : List ℕ) → run (any _decoder.now) s (p ++ q) ≡ further (length q) (feed (any _decoder.now) s p).items ++ run (any _decoder.now) (feed (any _decoder.now) s p).state q }
+    ensures shown { (s : AnyState) (q : List ℕ) → shown_items (shown_from (any _decoder.now) 0 s q) ≡ ended_at (length q) (feed (any _decoder.now) s q).items }
+    ensures few { (read : ℕ) (s : AnyState) (q : List ℕ) → length (shown_from (any _decoder.now) read s q) ≤ length q + 7 }
+    ensures near { (s : AnyState) (q : List ℕ) → AreNear (length q + 7) (run (any _decoder.now) s q) }
+    ensures exact { (a b : AnyState) → same_state a b ≡ true → a ≡ b }
+    ensures same { (a : AnyState) → same_state a a ≡ true }
+    ensures exit { (entry : AnyState) (bytes : List ℕ) → (outcome_of _decoder.now entry bytes).exit ≡ (feed (any _decoder.now) entry bytes).state }
+    ensures bytes { (entry : AnyState) (bytes : List ℕ) → (outcome_of _decoder.now entry bytes).sum.bytes ≡ length bytes }
+    ensures joined { (a b : List ℕ) (is js : List Ended) (s t : Sum) → IsSumOf a is s → IsSumOf b js t → IsSumOf (a ++ b) (is ++ js) (joined s t) }
+    ensures fit { (os : List Outcome) → (total_of os).bytes + length os < 2 ^ 57 → Fits (total_of os) }
+{
+    one_run(_decoder);
+    few_items(_decoder);
+}
+
+/// The law by which the numbers of two texts in a row are the join of theirs, for those who have no
+/// decoder; the call does nothing.
+pub fn sum_laws()
+    ensures joined { (a b : List ℕ) (is js : List Ended) (s t : Sum) → IsSumOf a is s → IsSumOf b js t → IsSumOf (a ++ b) (is ++ js) (joined s t) }
+{}

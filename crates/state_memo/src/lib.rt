@@ -1,0 +1,36 @@
+//! Pieces of a document, each of which remembers what it decodes to from the states in which it was
+//! entered, and the sums of what pieces decode to.
+#![tactic(auto)]
+
+mod axis;
+mod compute;
+mod counting;
+mod ended;
+mod gathering;
+mod items;
+mod kind;
+mod known;
+mod laws;
+mod outcome;
+mod outputs;
+mod piece;
+mod plain;
+mod run;
+mod sum;
+#[cfg(test)]
+mod tests;
+
+pub use axis::Axis;
+pub use codec::{AnyDecoder, AnyState, Sniffed, sniff};
+pub use compute::{finish_of, start_of};
+pub use decoder_core::{Meter, OutOfMemory};
+pub use ended::Ended;
+pub use iso2022jp::OutputState;
+pub use items::ItemRuns;
+pub use kind::ItemKind;
+pub use known::Known;
+pub use laws::{piece_laws, sum_laws};
+pub use outcome::{Outcome, Text};
+pub use piece::Piece;
+pub use run::Run;
+pub use sum::Sum;

@@ -1,0 +1,141 @@
+//! Pieces.
+ghost use Rattle.std.specs.Prelude.{◌≡◌, ◌+◌, ◌-◌, ◌^◌, ◌≤◌, ◌<◌, [], ◌∷◌, min, length, take, None, IfOk, OnOk, IfSome, IfNone, option_copied, is_some};
+ghost use Rattle.state_memo.specs.Memo.{recalled, without, installed, entered, IsPlace};
+ghost use Rattle.state_memo.specs.Outcome.{contents_of, outcome_of};
+
+use crate::compute::compute_bytes;
+use crate::known::Known;
+use crate::outcome::Outcome;
+use codec::{AnyDecoder, AnyState};
+use decoder_core::{Meter, OutOfMemory};
+use smallvec::SmallVec;
+use std::alloc::Global;
+use std::marker::Model;
+
+/// Some bytes of a document, and what they decode to from up to four states, the one entered last
+/// first. Contracts see the bytes and the list.
+#[derive(Drop)]
+pub struct Piece {
+    bytes: Vec<u8>,
+    known: SmallVec<Known, 4>,
+}
+
+impl Model for Piece {
+    ghost use Rattle.std.specs.Prelude.{◌≤◌, length};
+    ghost use Rattle.state_memo.specs.Memo.{Memo};
+
+    ghost Value = { Memo };
+
+    ghost view = { λ p. record { bytes = p.bytes.items; known = p.known.items } };
+
+    ghost invariant = { λ p. (length p.known.items ≤ 4) × (4 ≤ p.known.capacity) };
+}
+
+impl Piece {
+    /// A piece of these bytes that remembers nothing.
+    pub fn new(alloc: Global, bytes: &[u8]) -> Result<Piece, OutOfMemory>
+        ensures { IfOk result (λ p. p ≡ record { bytes = bytes.now; known = [] }) }
+    {
+        Ok(Piece {
+            bytes: Vec::from_slice(alloc, bytes)?,
+            known: SmallVec::new(alloc),
+        })
+    }
+
+    /// The bytes.
+    pub fn bytes(&self) -> &[u8]
+        ensures { result.now ≡ self.now.bytes }
+    {
+        self.bytes.as_slice()
+    }
+
+    /// The place of the outcome that is remembered for a state.
+    fn place_of(&self, state: AnyState) -> Option<usize>
+        ensures found { IfSome result (λ i. IsPlace self.now.known state i) }
+        ensures none { IfNone result (recalled self.now.known state ≡ None) }
+    {
+        let known = self.known.as_slice();
+        'known: for i in 0..known.len() {
+            if known[i].entry == state {
+                return Some(i);
+            }
+        }
+        None
+    }
+
+    /// The outcome that is remembered for a state. Nothing moves.
+    pub fn peek(&self, state: AnyState) -> Option<&Outcome>
+        ensures { option_copied result ≡ recalled self.now.known state }
+    {
+        let place = self.place_of(state)?;
+        let known = &self.known.as_slice()[place];
+        Some(&known.outcome)
+    }
+
+    /// Puts the outcome that is remembered for a state first, and returns whether there is one.
+    pub fn move_first(&mut self, state: AnyState) -> bool
+        ensures found { result ≡ is_some (recalled self.old.known state) }
+        ensures moved { self.new ≡ record { bytes = self.old.bytes; known = entered self.old.known state } }
+    {
+        let sought = state;
+        match self.place_of(sought) {
+            Some(place) => {
+                let mut known = self.known.remove(place);
+                known.entry = state;
+                self.put_first(known);
+                true
+            }
+            None => false,
+        }
+    }
+
+    /// What the piece decodes to from a state. The meter counts the piece's bytes.
+    pub fn compute(
+        &self,
+        decoder: &AnyDecoder<'_>,
+        entry: AnyState,
+        meter: &mut Meter,
+    ) -> Result<Outcome, OutOfMemory>
+        ensures outcome { IfOk result (λ o. contents_of o ≡ outcome_of decoder.now entry self.now.bytes) }
+        ensures meter { OnOk result (meter.new ≡ min (meter.old + length self.now.bytes) (2 ^ 64 - 1)) }
+        ensures meter_least { meter.old ≤ meter.new }
+        ensures meter_most { meter.new ≤ min (meter.old + length self.now.bytes) (2 ^ 64 - 1) }
+    {
+        compute_bytes(*self.bytes.allocator(), decoder, entry, &self.bytes, meter)
+    }
+
+    /// Remembers an outcome for a state, first. A fifth drops the last. Takes no memory.
+    pub fn install(&mut self, state: AnyState, outcome: Outcome)
+        ensures { self.new ≡ record { bytes = self.old.bytes; known = installed self.old.known state outcome } }
+    {
+        let sought = state;
+        self.make_room(sought);
+        self.put_first(Known {
+            entry: state,
+            outcome,
+        });
+    }
+
+    /// Forgets what is remembered for a state, and else the fourth outcome.
+    fn make_room(&mut self, state: AnyState)
+        ensures { self.new ≡ record { bytes = self.old.bytes; known = take 3 (without self.old.known state) } }
+    {
+        match self.place_of(state) {
+            Some(place) => {
+                self.known.remove(place);
+            }
+            None => self.known.truncate(3),
+        }
+    }
+
+    /// Puts a remembered outcome first, for which there is room.
+    fn put_first(&mut self, known: Known)
+        requires { length self.old.known < 4 }
+        ensures { self.new ≡ record { bytes = self.old.bytes; known = known ∷ self.old.known } }
+    {
+        match self.known.insert(0, known) {
+            Ok(()) => {}
+            Err(_) => unreachable!(),
+        }
+    }
+}

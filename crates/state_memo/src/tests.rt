@@ -1,0 +1,247 @@
+//! Pieces over small indexes, cut at each byte, against decoding the bytes whole.
+
+use super::*;
+use codec::{CodecFault, Prefix, decode_whole};
+use decoder_core::meter;
+use enc_names::Encoding;
+use index_loader::{Index, IndexFault, IndexKind, Indexes};
+use std::alloc::Global;
+use std::process::Abort;
+use std::test::Fail;
+
+const FILES: [(IndexKind, &str); 8] = [
+    (
+        IndexKind::SingleByte(Encoding::Windows1252),
+        "0\t0x20AC\n59\t0x00BB\n63\t0x00BF\n",
+    ),
+    (IndexKind::Jis0208, "283\t0x3042\n1410\t0x4E9C\n"),
+    (IndexKind::Jis0212, "108\t0x02D8\n"),
+    (IndexKind::Big5, "5495\t0x4E00\n"),
+    (IndexKind::EucKr, "9026\t0xAC00\n"),
+    (IndexKind::Gb18030, "0\t0x4E02\n1\t0x4E04\n9026\t0x554A\n"),
+    (IndexKind::Gb18030Ranges, "0\t0x0080\n189000\t0x10000\n"),
+    (IndexKind::Katakana, "0\t0x3002\n"),
+];
+
+/// The small index files.
+fn small_indexes(alloc: Global) -> Result<Indexes, IndexFault> {
+    let mut indexes = Indexes::new();
+    for (kind, file) in FILES.iter() {
+        indexes.put(Index::parse(alloc, *kind, file.as_bytes())?);
+    }
+    Ok(indexes)
+}
+
+/// Two pieces of the bytes and what the end gives have this text, wherever the cut is, and so has
+/// decoding them whole.
+fn decodes(
+    rt: &impl Abort,
+    alloc: Global,
+    encoding: Encoding,
+    bytes: &[u8],
+    text: &str,
+) -> Result<(), Fail> {
+    let indexes = small_indexes(alloc)?;
+    let whole = decode_whole(alloc, &indexes, encoding, bytes)?;
+    assert_eq!(rt; whole.text.as_str(), text);
+    let decoder = AnyDecoder::new(&indexes, encoding).ok_or(CodecFault::NoIndex)?;
+    for cut in 0..bytes.len() {
+        let (front, back) = bytes.split_at(cut);
+        let mut decoded = meter();
+        let first = Piece::new(alloc, front)?.compute(&decoder, start_of(&decoder), &mut decoded)?;
+        let second = Piece::new(alloc, back)?.compute(&decoder, first.exit, &mut decoded)?;
+        let last = finish_of(alloc, &decoder, second.exit)?;
+        let mut parts = String::from_str(alloc, first.text.as_str())?;
+        parts.push_str(second.text.as_str())?;
+        parts.push_str(last.text.as_str())?;
+        assert_eq!(rt; parts.as_str(), text, "cut at {cut}");
+        assert_eq!(rt; decoded.decoded(), bytes.len() as u64);
+    }
+    Ok(())
+}
+
+#[test]
+fn each_family_of_encodings(rt: HostRuntime) -> Result<(), Fail> {
+    let cases: [(Encoding, &[u8], &str); 16] = [
+        (
+            Encoding::Utf8,
+            b"a\xE2\x82\xACb\xF0\x9F\x98",
+            "a\u{20AC}b\u{FFFD}",
+        ),
+        (Encoding::Windows1252, b"\x80A\xFF", "\u{20AC}A\u{FFFD}"),
+        (Encoding::ShiftJis, b"A\x82\xA0\x81", "A\u{3042}\u{FFFD}"),
+        (
+            Encoding::EucJp,
+            b"A\x8F\xA2\xAF\xA4\xA2",
+            "A\u{2D8}\u{3042}",
+        ),
+        (Encoding::Iso2022Jp, b"A\x1B$B$\"\x1B(BA", "A\u{3042}A"),
+        (Encoding::EucKr, b"A\xB0\xA1\xB0A", "A\u{AC00}\u{FFFD}A"),
+        (
+            Encoding::Big5,
+            b"A\xA4\x40\x88\x62",
+            "A\u{4E00}\u{CA}\u{304}",
+        ),
+        (
+            Encoding::Gb18030,
+            b"A\xB0\xA1\x810\x81A",
+            "A\u{554A}\u{FFFD}0\u{4E04}",
+        ),
+        (Encoding::Gbk, b"A\x81\x40\x80", "A\u{4E02}\u{20AC}"),
+        (Encoding::Utf16Be, b"\0A\x30\x42\xD8", "A\u{3042}\u{FFFD}"),
+        (Encoding::Utf16Le, b"A\0\x3D\xD8\0\xDEB\0", "A\u{1F600}B"),
+        (Encoding::XUserDefined, b"A\x80", "A\u{F780}"),
+        (Encoding::Replacement, b"AB", "\u{FFFD}"),
+        (Encoding::Windows1252, b"\xEF\xBB\xBF\xC2\xA3", "\u{A3}"),
+        (Encoding::ShiftJis, b"\xFF\xFEA\0B\0", "AB"),
+        (Encoding::Utf8, b"\xFE\xFF\0A", "A"),
+    ];
+    for (encoding, bytes, text) in cases.iter() {
+        decodes(&rt, rt.alloc(), *encoding, bytes, text)?;
+    }
+    Ok(())
+}
+
+/// A piece that is entered behind the first two bytes of itself has one run, whose last item this is.
+fn has_one_run(
+    rt: &impl Abort,
+    alloc: Global,
+    encoding: Encoding,
+    bytes: &[u8],
+    last: Ended,
+) -> Result<(), Fail> {
+    let indexes = small_indexes(alloc)?;
+    let decoder = AnyDecoder::new(&indexes, encoding).ok_or(CodecFault::NoIndex)?;
+    let (front, _) = bytes.split_at(bytes.len().min(2));
+    let before = Piece::new(alloc, front)?.compute(&decoder, start_of(&decoder), &mut meter())?;
+    let piece = Piece::new(alloc, bytes)?.compute(&decoder, before.exit, &mut meter())?;
+    assert_eq!(rt; piece.items.runs().len(), 1);
+    assert_eq!(rt; piece.items.last(), Some(last));
+    assert_eq!(rt; piece.items.get(piece.sum.scalars), None);
+    Ok(())
+}
+
+#[test]
+fn letters_are_one_run(rt: HostRuntime) -> Result<(), Fail> {
+    let last = Ended {
+        scalars: 1,
+        end: 2048,
+        error: false,
+        output: OutputState::Ascii,
+    };
+    let encodings = [
+        Encoding::Utf8,
+        Encoding::Windows1252,
+        Encoding::ShiftJis,
+        Encoding::EucJp,
+        Encoding::Iso2022Jp,
+        Encoding::EucKr,
+        Encoding::Big5,
+        Encoding::Gb18030,
+        Encoding::XUserDefined,
+    ];
+    for encoding in encodings.iter() {
+        has_one_run(&rt, rt.alloc(), *encoding, &[0x61; 2048], last)?;
+    }
+    // The units 6161 of UTF-16.
+    has_one_run(&rt, rt.alloc(), Encoding::Utf16Le, &[0x61; 2048], last)
+}
+
+#[test]
+fn items_of_two_code_points(rt: HostRuntime) -> Result<(), Fail> {
+    let alloc = rt.alloc();
+    let indexes = small_indexes(alloc)?;
+    let decoder = AnyDecoder::new(&indexes, Encoding::Big5).ok_or(CodecFault::NoIndex)?;
+    let piece = Piece::new(alloc, b"\x88\x62A")?;
+    let here = piece.compute(&decoder, start_of(&decoder), &mut meter())?;
+    let before: [(i64, u64); 4] = [(1, 0), (2, 2), (3, 3), (-1, 0)];
+    for (limit, scalars) in before.iter() {
+        assert_eq!(&rt; here.scalars_before(*limit), *scalars);
+    }
+    let items: [(u64, Option<u64>); 4] = [(0, Some(0)), (1, Some(0)), (2, Some(1)), (3, None)];
+    for (scalar, item) in items.iter() {
+        assert_eq!(&rt; here.item_of(*scalar), *item);
+    }
+    Ok(())
+}
+
+#[test]
+fn output_state_behind_an_escape(rt: HostRuntime) -> Result<(), Fail> {
+    let alloc = rt.alloc();
+    let indexes = small_indexes(alloc)?;
+    let decoder = AnyDecoder::new(&indexes, Encoding::Iso2022Jp).ok_or(CodecFault::NoIndex)?;
+    let piece = Piece::new(alloc, b"\x1B(J\\")?;
+    let here = piece.compute(&decoder, start_of(&decoder), &mut meter())?;
+    let yen = Ended {
+        scalars: 1,
+        end: 4,
+        error: false,
+        output: OutputState::Roman,
+    };
+    assert_eq!(&rt; here.text.as_str(), "\u{A5}");
+    assert_eq!(&rt; here.items.last(), Some(yen));
+    assert_eq!(&rt; here.exit.output(), OutputState::Roman);
+    Ok(())
+}
+
+#[test]
+fn utf8_sequence_cut_short_by_the_end(rt: HostRuntime) -> Result<(), Fail> {
+    let alloc = rt.alloc();
+    let indexes = Indexes::new();
+    let decoder = AnyDecoder::new(&indexes, Encoding::Utf8).ok_or(CodecFault::NoIndex)?;
+    let piece = Piece::new(alloc, b"\xF0\x9F\x98")?;
+    let here = piece.compute(&decoder, start_of(&decoder), &mut meter())?;
+    assert_eq!(&rt; here.text.as_str(), "");
+    let last = finish_of(alloc, &decoder, here.exit)?;
+    let error = Ended {
+        scalars: 1,
+        end: 0,
+        error: true,
+        output: OutputState::Ascii,
+    };
+    assert_eq!(&rt; last.text.as_str(), "\u{FFFD}");
+    assert_eq!(&rt; last.items.last(), Some(error));
+    assert_eq!(&rt; last.sum.errors, 1);
+    assert_eq!(&rt; last.sum.bytes, 0);
+    Ok(())
+}
+
+/// Computes the outcome from the state behind the beginning of a mark, and remembers it.
+fn remember(
+    piece: &mut Piece,
+    decoder: &AnyDecoder<'_>,
+    prefix: Prefix,
+) -> Result<(), OutOfMemory> {
+    let outcome = piece.compute(decoder, AnyState::Sniffing(prefix), &mut meter())?;
+    piece.install(AnyState::Sniffing(prefix), outcome);
+    Ok(())
+}
+
+/// The text that is remembered for the state behind the beginning of a mark.
+fn remembered(piece: &Piece, prefix: Prefix) -> Option<&str> {
+    match piece.peek(AnyState::Sniffing(prefix)) {
+        Some(outcome) => Some(outcome.text.as_str()),
+        None => None,
+    }
+}
+
+#[test]
+fn a_fifth_outcome_forgets_the_one_entered_longest_ago(rt: HostRuntime) -> Result<(), Fail> {
+    let alloc = rt.alloc();
+    let indexes = Indexes::new();
+    let decoder = AnyDecoder::new(&indexes, Encoding::Utf8).ok_or(CodecFault::NoIndex)?;
+    let mut piece = Piece::new(alloc, b"a")?;
+    let four = [Prefix::Nothing, Prefix::Ef, Prefix::EfBb, Prefix::Fe];
+    for prefix in four.iter() {
+        remember(&mut piece, &decoder, *prefix)?;
+    }
+    assert!(&rt; piece.move_first(AnyState::Sniffing(Prefix::Nothing)));
+    remember(&mut piece, &decoder, Prefix::Ff)?;
+    assert_eq!(&rt; remembered(&piece, Prefix::Nothing), Some("a"));
+    assert_eq!(&rt; remembered(&piece, Prefix::Ef), None);
+    assert_eq!(&rt; remembered(&piece, Prefix::EfBb), Some("\u{FFFD}a"));
+    assert_eq!(&rt; remembered(&piece, Prefix::Fe), Some("\u{FFFD}a"));
+    assert_eq!(&rt; remembered(&piece, Prefix::Ff), Some("\u{FFFD}a"));
+    assert!(&rt; !piece.move_first(AnyState::Sniffing(Prefix::Ef)));
+    Ok(())
+}
