@@ -1,0 +1,141 @@
+-- Places along a text by units.
+use Rattle.std.proofs.Common.{◌≡◌, refl, sym, ap, ◌∙◌, ℕ, zero, suc, ◌+◌, ◌-◌, ◌<◌, ◌≤◌, ◌⊎◌, inl, inr, Bool, true, false, cond, ◌==◌, nat_lt, List, [], ◌∷◌, ◌++◌, length, length-drop, take, drop, take-append-drop, append_assoc, arith, add-one, Option, Some, None}
+use Rattle.std.specs.Option.{option_map}
+use Rattle.std.proofs.lemmas.Bool.Decides.{nat_tests}
+use Rattle.std.proofs.lemmas.List.{length-take-le, take-take, drop-take}
+use Rattle.position_map.specs.declared.unit.Unit.{Unit as TextUnit}
+use Rattle.position_map.specs.Widths.{width, width_of}
+use Rattle.position_map.specs.Positions.{along, between}
+use Rattle.position_map.proofs.Widths.{width-some, width-append}
+
+not_zero : {A : Type 0} (n : ℕ) (x y : A) → 0 < n → cond (n == 0) x y ≡ y
+not_zero n x y h = let t : (n == 0) ≡ false = grind (arith, nat_tests) in ap (λ b. cond b x y) t
+
+not_below : {A : Type 0} (n m : ℕ) (x y : A) → m ≤ n → cond (nat_lt n m) x y ≡ y
+not_below n m x y h = let t : nat_lt n m ≡ false = grind (arith, nat_tests) in ap (λ b. cond b x y) t
+
+below : {A : Type 0} (n m : ℕ) (x y : A) → n < m → cond (nat_lt n m) x y ≡ x
+below n m x y h = let t : nat_lt n m ≡ true = grind (arith, nat_tests) in ap (λ b. cond b x y) t
+
+-- behind a whole code point
+pub along_step : (u : TextUnit) (c : ℕ) (cs : List ℕ) (n : ℕ) → width_of u c ≤ n → along u (c ∷ cs) n ≡ option_map (λ k. k + 1) (along u cs (n - width_of u c))
+along_step u c cs n h =
+    let w = width-some u c in
+    not_zero n _ _ (omega arith) ∙ not_below n (width_of u c) _ _ h
+
+map_map : (f g h : ℕ → ℕ) → ((k : ℕ) → f (g k) ≡ h k) → (o : Option ℕ) → option_map f (option_map g o) ≡ option_map h o
+map_map f g h e None = refl
+map_map f g h e (Some k) = ap Some (e k)
+
+map_id : (f : ℕ → ℕ) → ((k : ℕ) → f k ≡ k) → (o : Option ℕ) → option_map f o ≡ o
+map_id f e None = refl
+map_id f e (Some k) = ap Some (e k)
+
+-- the search may begin behind whole code points
+pub along-append : (u : TextUnit) (a b : List ℕ) (n : ℕ) → along u (a ++ b) (width u a + n) ≡ option_map (λ k. length a + k) (along u b n)
+along-append u [] b n = let e : 0 + n ≡ n = omega arith in ap (along u b) e ∙ sym (map_id (λ k. 0 + k) (λ k. omega arith) (along u b n))
+along-append u (c ∷ cs) b n =
+    let more : width_of u c ≤ width u (c ∷ cs) + n = omega arith in
+    let less : width u (c ∷ cs) + n - width_of u c ≡ width u cs + n = omega arith in
+    along_step u c (cs ++ b) (width u (c ∷ cs) + n) more
+    ∙ ap (λ m. option_map (λ k. k + 1) (along u (cs ++ b) m)) less
+    ∙ ap (option_map (λ k. k + 1)) (along-append u cs b n)
+    ∙ map_map (λ k. k + 1) (λ k. length cs + k) (λ k. length (c ∷ cs) + k) (λ k. omega arith) (along u b n)
+
+pub by_test : {A : Type 0} (b : Bool) → (b ≡ true → A) → (b ≡ false → A) → A
+by_test true p q = p refl
+by_test false p q = q refl
+
+by_le : {A : Type 0} (m n : ℕ) → (m ≤ n → A) → (n < m → A) → A
+by_le m n p q = by_test (nat_lt n m) (λ t. q (grind (arith, nat_tests))) (λ t. p (grind (arith, nat_tests)))
+
+-- what lies behind doesn't count
+pub along_within : (u : TextUnit) (a b : List ℕ) (n : ℕ) → n < width u a → along u (a ++ b) n ≡ along u a n
+along_within u [] b n h = absurd (omega arith)
+along_within u (c ∷ cs) b n h =
+    by_le (width_of u c) n
+    (λ more. along_step u c (cs ++ b) n more ∙ ap (option_map (λ k. k + 1)) (along_within u cs b (n - width_of u c) (omega arith)) ∙ sym (along_step u c cs n more))
+    (λ less. ap (λ o. cond (n == 0) (Some 0) o) (below n (width_of u c) None (option_map (λ k. k + 1) (along u (cs ++ b) (n - width_of u c))) less ∙ sym (below n (width_of u c) None (option_map (λ k. k + 1) (along u cs (n - width_of u c))) less)))
+
+-- past the text is its end
+pub along_past : (u : TextUnit) (a : List ℕ) (n : ℕ) → width u a ≤ n → along u a n ≡ Some (length a)
+along_past u [] n h = refl
+along_past u (c ∷ cs) n h =
+    let more : width_of u c ≤ n = omega arith in
+    along_step u c cs n more ∙ ap (option_map (λ k. k + 1)) (along_past u cs (n - width_of u c) (omega arith)) ∙ ap Some (omega arith)
+
+-- a front is found by its width
+pub along_front : (u : TextUnit) (a b : List ℕ) → along u (a ++ b) (width u a) ≡ Some (length a)
+along_front u a b =
+    let e : width u a ≡ width u a + 0 = omega arith in
+    ap (along u (a ++ b)) e ∙ along-append u a b 0 ∙ ap (option_map (λ k. length a + k)) (along_none u b) ∙ ap Some (omega arith)
+  where
+    along_none : (u : TextUnit) (b : List ℕ) → along u b 0 ≡ Some 0
+    along_none u [] = refl
+    along_none u (c ∷ cs) = refl
+
+-- code points in the middle of a text
+pub segment : (text : List ℕ) (s e : ℕ) → s ≤ e → take e text ≡ take s text ++ between text s e
+segment text s e h =
+    let to : e ≡ s + (e - s) = omega arith in
+    sym (take-append-drop s (take e text)) ∙ ap (λ t. t ++ drop s (take e text)) (take-take s e text h)
+    ∙ ap (λ k. take s text ++ drop s (take k text)) to ∙ ap (λ t. take s text ++ t) (drop-take s (e - s) text)
+
+cut_line : (text : List ℕ) (s e : ℕ) → s ≤ e → text ≡ take s text ++ (between text s e ++ drop e text)
+cut_line text s e h = sym (take-append-drop e text) ∙ ap (λ t. t ++ drop e text) (segment text s e h) ∙ append_assoc (take s text) (between text s e) (drop e text)
+
+pub line_width : (u : TextUnit) (text : List ℕ) (s e : ℕ) → s ≤ e → width u (take e text) ≡ width u (take s text) + width u (between text s e)
+line_width u text s e h = ap (width u) (segment text s e h) ∙ width-append u (take s text) (between text s e)
+
+pub along_line : (u : TextUnit) (text : List ℕ) (s e n : ℕ) → s ≤ e → e ≤ length text → width u (take s text) + n < width u (take e text)
+    → along u text (width u (take s text) + n) ≡ option_map (λ k. s + k) (along u (between text s e) n)
+along_line u text s e n h g l =
+    let short = length-take-le s text (omega arith) in
+    let within : n < width u (between text s e) = omega (arith, line_width u text s e h) in
+    ap (λ t. along u t (width u (take s text) + n)) (cut_line text s e h)
+    ∙ along-append u (take s text) (between text s e ++ drop e text) n
+    ∙ ap (λ m. option_map (λ k. m + k) (along u (between text s e ++ drop e text) n)) short
+    ∙ ap (option_map (λ k. s + k)) (along_within u (between text s e) (drop e text) n within)
+
+pub past_line : (u : TextUnit) (text : List ℕ) (s e n : ℕ) → s ≤ e → e ≤ length text → width u (take e text) ≤ width u (take s text) + n
+    → option_map (λ k. s + k) (along u (between text s e) n) ≡ Some e
+past_line u text s e n h g l =
+    let len : length (between text s e) ≡ e - s = length-take-le (e - s) (drop s text) (omega (arith, length-drop s text)) in
+    ap (option_map (λ k. s + k)) (along_past u (between text s e) n (omega (arith, line_width u text s e h))) ∙ ap Some (omega (arith, len))
+
+some_same : {x y : ℕ} → Some x ≡ Some y → x ≡ y
+some_same h = cc
+
+none_some : {x : ℕ} → None ≡ Some x → ⊥
+none_some h = cc
+
+map_some : (o : Option ℕ) (k : ℕ) → option_map (λ j. j + 1) o ≡ Some k → (j : ℕ) × (o ≡ Some j) × (j + 1 ≡ k)
+map_some None k e = cc
+map_some (Some j) k e = (j, refl, some_same e)
+
+-- a place along a text: the code points in front take just so many units, or all take fewer
+pub record IsPlaceAlong (u : TextUnit) (cs : List ℕ) (n k : ℕ) : Type 0 where
+  pub within : k ≤ length cs
+  pub exact : (n ≡ width u (take k cs)) ⊎ (width u cs < n)
+
+pub along_place : (u : TextUnit) (cs : List ℕ) (n k : ℕ) → along u cs n ≡ Some k → IsPlaceAlong u cs n k
+along_place u [] zero k e = let z : 0 ≡ k = some_same e in record { within = omega (arith, z); exact = inl (ap (λ j. width u (take j [])) z) }
+along_place u [] (suc n) k e = let z : 0 ≡ k = some_same e in record { within = omega (arith, z); exact = inr (omega arith) }
+along_place u (c ∷ cs) n k e =
+    by_test (n == 0)
+    (λ z. let t : Some 0 ≡ Some k = sym (ap (λ b. cond b (Some 0) (cond (nat_lt n (width_of u c)) None (option_map (λ j. j + 1) (along u cs (n - width_of u c))))) z) ∙ e in
+    let none : n ≡ 0 = grind (arith, nat_tests) in
+    record { within = omega (arith, some_same t); exact = inl (none ∙ ap (λ j. width u (take j (c ∷ cs))) (some_same t)) })
+    (λ z. let t : cond (nat_lt n (width_of u c)) None (option_map (λ j. j + 1) (along u cs (n - width_of u c))) ≡ Some k =
+    sym (ap (λ b. cond b (Some 0) (cond (nat_lt n (width_of u c)) None (option_map (λ j. j + 1) (along u cs (n - width_of u c))))) z) ∙ e in
+    by_test (nat_lt n (width_of u c))
+    (λ y. let no : None ≡ Some k = sym (ap (λ b. cond b None (option_map (λ j. j + 1) (along u cs (n - width_of u c)))) y) ∙ t in absurd (none_some no))
+    (λ y. let yes : option_map (λ j. j + 1) (along u cs (n - width_of u c)) ≡ Some k = sym (ap (λ b. cond b None (option_map (λ j. j + 1) (along u cs (n - width_of u c)))) y) ∙ t in
+    let w = map_some (along u cs (n - width_of u c)) k yes in
+    let rest = along_place u cs (n - width_of u c) w.0 w.1 in
+    let wide : width_of u c ≤ n = grind (arith, nat_tests) in
+    let same : width_of u c + width u (take w.0 cs) ≡ width u (take k (c ∷ cs)) = ap (λ j. width u (take j (c ∷ cs))) (sym (add-one w.0) ∙ w.2) in
+    record {
+      within = omega (arith, w.2, rest.within);
+      exact = elim rest.exact [ inl h ↦ inl (omega (arith, h, same, wide)) | inr h ↦ inr (omega (arith, h)) ];
+    }))

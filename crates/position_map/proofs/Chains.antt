@@ -1,0 +1,315 @@
+-- Places of items in a row.
+use Rattle.std.proofs.Common.{◌≡◌, refl, sym, ap, subst, ◌∙◌, ℕ, zero, suc, ◌+◌, ◌-◌, ◌<◌, ◌≤◌, Bool, true, false, cond, nat_lt, pos, List, [], ◌∷◌, ◌++◌, length, length-append, append_assoc, append-nil, arith, Option, Some, None, Bor, option_copied, get_or, drop, inl, inr}
+use Rattle.std.specs.Option.{option_map, unwrap_or}
+use Rattle.std.proofs.lemmas.Bool.Decides.{nat_tests}
+use Rattle.enc_names.specs.declared.place.Place.{Place}
+use Rattle.decoder_core.specs.declared.item.Ended.{Ended as Turned}
+use Rattle.decoder_core.specs.declared.item.Item.{Item}
+use Rattle.decoder_core.specs.declared.item.Item.TheVariants.{One, Two, Error}
+use Rattle.decoder_core.specs.declared.placed.Placed.{Placed}
+use Rattle.decoder_core.specs.Placed.{places}
+use Rattle.decoder_core.specs.Text.{item_code_points, code_points}
+use Rattle.iso2022jp.specs.declared.output.OutputState.TheVariants.{Ascii}
+use Rattle.codec.specs.Decode.{decode, run_in}
+use Rattle.codec.specs.Mark.{in_force, mark_length}
+use Rattle.state_memo.specs.declared.axis.Axis.TheVariants.{Scalar}
+use Rattle.state_memo.specs.declared.ended.Ended.{Ended}
+use Rattle.state_memo.specs.declared.outcome.Outcome.{Outcome}
+use Rattle.state_memo.specs.declared.sum.Sum.{Sum}
+use Rattle.state_memo.specs.Fitting.{total_of}
+use Rattle.state_memo.specs.Items.{all_scalars, item_of}
+use Rattle.piece_rope.specs.Document.{Document, decoded}
+use Rattle.position_map.specs.Found.{IsFoundOutcome}
+use Rattle.piece_rope.specs.Made.{IsEnded, AreEnded, AreMade, ends_at}
+use Rattle.position_map.specs.Places.{place_of}
+use Rattle.position_map.specs.Placing.{bom_of, IsChained, last_to, HasItem, IsPlaced}
+use Rattle.position_map.specs.Whole.{Pieced}
+use Rattle.position_map.proofs.Items.{IsPieced, items_of, counted, made_split, made_count, scalars-append}
+
+no_item : Ended
+no_item = record { scalars = 0; end = pos 0; error = false; output = Ascii }
+
+places-chained : (total from : ℕ) (es : List Turned) → IsChained from (places total from es)
+places-chained total from [] = tt
+places-chained total from (e ∷ es) = (refl, places-chained total (total - e.back) es)
+
+-- each item begins where the one before ends, the first behind the byte order mark
+pub chained : (d : Document) → IsChained (decoded d).bom (decoded d).items
+unfolding decode
+chained d = places-chained (length d.bytes) (mark_length d.bytes) (run_in d.indexes (in_force d.given d.bytes) (drop (mark_length d.bytes) d.bytes))
+
+same_some : {x y : ℕ} → Some x ≡ Some y → x ≡ y
+same_some h = cc
+
+none_some : {x : ℕ} → None ≡ Some x → ⊥
+none_some h = cc
+
+some_none : {x : ℕ} → Some x ≡ None → ⊥
+some_none h = cc
+
+map_none : (o : Option ℕ) → option_map (λ j. j + 1) o ≡ None → o ≡ None
+map_none None e = refl
+map_none (Some j) e = cc
+
+-- an item has a code point
+item_some : (i : Item) → 1 ≤ length (item_code_points i)
+item_some (One c) = omega arith
+item_some (Two a b) = omega arith
+item_some Error = omega arith
+
+no_items : (ps : List Placed) → length (code_points ps) ≡ 0 → ps ≡ []
+no_items [] e = refl
+no_items (p ∷ ps) e = absurd (omega (arith, e, item_some p.item, length-append (item_code_points p.item) (code_points ps)))
+
+pub last-append : (from : ℕ) (xs ys : List Placed) → last_to from (xs ++ ys) ≡ last_to (last_to from xs) ys
+last-append from [] ys = refl
+last-append from (p ∷ xs) ys = last-append p.to xs ys
+
+pub from_is : (from : ℕ) (us : List Placed) (p : Placed) (ws : List Placed) → IsChained from (us ++ p ∷ ws) → p.from ≡ last_to from us
+from_is from [] p ws h = h.0
+from_is from (u ∷ us) p ws h = from_is u.to us p ws h.1
+
+place_test : (b : Bool) (n m : ℕ) (x y : Option Place) → nat_lt n m ≡ b → b ≡ false → cond (nat_lt n m) x y ≡ y
+place_test b n m x y e f = ap (λ t. cond t x y) (e ∙ f)
+
+not_here : (n m : ℕ) (x y : Option Place) → m ≤ n → cond (nat_lt n m) x y ≡ y
+not_here n m x y h = let t : nat_lt n m ≡ false = grind (arith, nat_tests) in ap (λ b. cond b x y) t
+
+pub place-append : (xs ys : List Placed) (n : ℕ) → length (code_points xs) ≤ n → place_of (xs ++ ys) n ≡ place_of ys (n - length (code_points xs))
+place-append [] ys n h = ap (place_of ys) (omega arith)
+place-append (p ∷ xs) ys n h =
+    let l = length-append (item_code_points p.item) (code_points xs) in
+    not_here n (length (item_code_points p.item)) (Some (record { from = p.from; to = p.to })) (place_of (xs ++ ys) (n - length (item_code_points p.item))) (omega (arith, l, h))
+    ∙ place-append xs ys (n - length (item_code_points p.item)) (omega (arith, l, h)) ∙ ap (place_of ys) (omega (arith, l, h))
+
+map_one : (o : Option ℕ) (k : ℕ) → option_map (λ j. j + 1) o ≡ Some k → (j : ℕ) × (o ≡ Some j) × (k ≡ suc j)
+map_one None k e = cc
+map_one (Some j) k e = let h : j + 1 ≡ k = same_some e in (j, refl, omega (arith, h))
+
+by_test : {A : Type 0} (b : Bool) → (b ≡ true → A) → (b ≡ false → A) → A
+by_test true p q = p refl
+by_test false p q = q refl
+
+has_first : (base : ℕ) (p : Placed) (ps : List Placed) (e : Ended) (es : List Ended) (n k : ℕ) → AreEnded base (p ∷ ps) (e ∷ es) → n < e.scalars → Some 0 ≡ Some k → HasItem base (p ∷ ps) (e ∷ es) n k
+has_first base p ps e es n k w h g =
+    let zero_ : 0 ≡ k = same_some g in
+    let here : HasItem base (p ∷ ps) (e ∷ es) n 0 = record {
+      front = [];
+      item = p;
+      back = ps;
+      split = refl;
+      len = refl;
+      within = omega arith;
+      ended = λ d. w.0;
+      last = λ d from l. absurd (omega arith);
+      place = λ more. let t : nat_lt n (length (item_code_points p.item)) ≡ true = grind (arith, nat_tests, w.0.scalars) in ap (λ b. cond b (Some (record { from = p.from; to = p.to })) (place_of (ps ++ more) (n - length (item_code_points p.item)))) t;
+    } in subst (HasItem base (p ∷ ps) (e ∷ es) n) zero_ here
+
+last_more : (base : ℕ) (p : Placed) (front : List Placed) (e : Ended) (es : List Ended) (j : ℕ) (d : Ended) (from : ℕ) → IsEnded base p e → length front ≡ j → ((d : Ended) (from : ℕ) → 0 < j → last_to from front ≡ ends_at base (get_or es (j - 1) d).end)
+    → last_to from (p ∷ front) ≡ ends_at base (get_or (e ∷ es) (suc j - 1) d).end
+last_more base p [] e es zero d from w l h = w.end
+last_more base p (q ∷ front) e es zero d from w l h = absurd (omega (arith, l))
+last_more base p front e es (suc j) d from w l h =
+    let a : suc (suc j) - 1 ≡ suc j = omega arith in
+    let b : suc j - 1 ≡ j = omega arith in
+    h d p.to (omega arith) ∙ ap (λ i. ends_at base (get_or es i d).end) b ∙ sym (ap (λ i. ends_at base (get_or (e ∷ es) i d).end) a)
+
+has_next : (base : ℕ) (p : Placed) (ps : List Placed) (e : Ended) (es : List Ended) (n j : ℕ) → IsEnded base p e → e.scalars ≤ n → HasItem base ps es (n - e.scalars) j → HasItem base (p ∷ ps) (e ∷ es) n (suc j)
+has_next base p ps e es n j w h g = record {
+  front = p ∷ g.front;
+  item = g.item;
+  back = g.back;
+  split = ap (λ t. p ∷ t) g.split;
+  len = ap suc g.len;
+  within = omega (arith, g.within);
+  ended = g.ended;
+  last = λ d from l. last_more base p g.front e es j d from w g.len g.last;
+  place = λ more.
+      not_here n (length (item_code_points p.item)) (Some (record { from = p.from; to = p.to })) (place_of (ps ++ more) (n - length (item_code_points p.item))) (omega (arith, h, w.scalars))
+      ∙ ap (λ m. place_of (ps ++ more) (n - m)) (sym w.scalars) ∙ g.place more;
+}
+
+pub has_item : (base : ℕ) (ps : List Placed) (es : List Ended) (n k : ℕ) → AreEnded base ps es → item_of es n ≡ Some k → HasItem base ps es n k
+has_item base [] [] n k w e = absurd (none_some e)
+has_item base [] (e ∷ es) n k w h = absurd w
+has_item base (p ∷ ps) [] n k w h = absurd w
+has_item base (p ∷ ps) (e ∷ es) n k w h =
+    by_test (nat_lt n e.scalars)
+    (λ t. has_first base p ps e es n k w (grind (arith, nat_tests)) (sym (ap (λ b. cond b (Some 0) (option_map (λ j. j + 1) (item_of es (n - e.scalars)))) t) ∙ h))
+    (λ t. let more = map_one (item_of es (n - e.scalars)) k (sym (ap (λ b. cond b (Some 0) (option_map (λ j. j + 1) (item_of es (n - e.scalars)))) t) ∙ h) in
+    subst (HasItem base (p ∷ ps) (e ∷ es) n) (sym more.2) (has_next base p ps e es n more.0 w.0 (grind (arith, nat_tests)) (has_item base ps es (n - e.scalars) more.0 w.1 more.1)))
+
+-- no item has it
+pub lacks_item : (es : List Ended) (n : ℕ) → item_of es n ≡ None → all_scalars es ≤ n
+lacks_item [] n h = omega arith
+lacks_item (e ∷ es) n h =
+    by_test (nat_lt n e.scalars)
+    (λ t. absurd (some_none (sym (ap (λ b. cond b (Some 0) (option_map (λ j. j + 1) (item_of es (n - e.scalars)))) t) ∙ h)))
+    (λ t. let rest = map_none (item_of es (n - e.scalars)) (sym (ap (λ b. cond b (Some 0) (option_map (λ j. j + 1) (item_of es (n - e.scalars)))) t) ∙ h) in
+    let le : e.scalars ≤ n = grind (arith, nat_tests) in
+    omega (arith, lacks_item es (n - e.scalars) rest, le))
+
+-- where the last item of a piece ends
+pub last_of : (base : ℕ) (ps : List Placed) (es : List Ended) (d : Ended) (from : ℕ) → AreEnded base ps es → 0 < length es → last_to from ps ≡ ends_at base (get_or es (length es - 1) d).end
+last_of base ps [] d from w l = absurd (omega arith)
+last_of base [] (e ∷ es) d from w l = absurd w
+last_of base (p ∷ []) (e ∷ []) d from w l = w.0.end
+last_of base (p ∷ q ∷ ps) (e ∷ []) d from w l = absurd w.1
+last_of base (p ∷ []) (e ∷ g ∷ es) d from w l = absurd w.1
+last_of base (p ∷ q ∷ ps) (e ∷ g ∷ es) d from w l =
+    let a : length (e ∷ g ∷ es) - 1 ≡ suc (length es) = omega arith in
+    let b : length (g ∷ es) - 1 ≡ length es = omega arith in
+    last_of base (q ∷ ps) (g ∷ es) d p.to w.1 (omega arith) ∙ ap (λ i. ends_at base (get_or (g ∷ es) i d).end) b ∙ sym (ap (λ i. ends_at base (get_or (e ∷ g ∷ es) i d).end) a)
+
+same_tail : {a b : Outcome} {xs ys : List Outcome} → a ∷ xs ≡ b ∷ ys → (a ≡ b) × (xs ≡ ys)
+same_tail e = (cc, cc)
+
+-- the piece that has the last code point of those before
+pub prev_some : (front back f2 b2 : List Outcome) (o : Outcome) (n : ℕ) → front ++ back ≡ f2 ++ o ∷ b2 → (total_of front).scalars ≡ n → 0 < n → (total_of f2).scalars ≤ n - 1 → n - 1 < (total_of f2).scalars + o.sum.scalars
+    → (mid : List Outcome) × (front ≡ f2 ++ o ∷ mid) × ((total_of mid).scalars ≡ 0)
+prev_some [] back f2 b2 o n e h z l g = absurd (omega (arith, h))
+prev_some (a ∷ as2) back [] b2 o n e h z l g =
+    let w = same_tail e in
+    let same : a.sum.scalars ≡ o.sum.scalars = ap (λ (v : Outcome). v.sum.scalars) w.0 in
+    (as2, ap (λ (v : Outcome). v ∷ as2) w.0, omega (arith, h, g, same))
+prev_some (a ∷ as2) back (b ∷ bs) b2 o n e h z l g =
+    let w = same_tail e in
+    let same : a.sum.scalars ≡ b.sum.scalars = ap (λ (v : Outcome). v.sum.scalars) w.0 in
+    let r = prev_some as2 back bs b2 o (n - a.sum.scalars) w.1 (omega (arith, h)) (omega (arith, h, l, z, same)) (omega (arith, h, l, same)) (omega (arith, h, l, g, same)) in
+    (r.0, ap (λ (v : Outcome). v ∷ as2) w.0 ∙ ap (λ t. b ∷ t) r.1, r.2)
+
+some_items : (es : List Ended) → 0 < all_scalars es → 0 < length es
+some_items [] h = absurd (omega arith)
+some_items (e ∷ es) h = omega arith
+
+-- where the items before a piece end
+pub last_before : (front f2 mid : List Outcome) (o : Outcome) (ps : List Placed) (d : Ended) (from : ℕ) → front ≡ f2 ++ o ∷ mid → (total_of mid).scalars ≡ 0 → 0 < o.sum.scalars → AreMade 0 ps front
+    → last_to from ps ≡ ends_at (total_of f2).bytes (get_or o.items (length o.items - 1) d).end
+last_before front f2 mid o ps d from e z some m =
+    let h = made_split f2 (o ∷ mid) 0 ps (subst (AreMade 0 ps) e m) in
+    let r = h.behind in
+    let none : r.1 ≡ [] = no_items r.1 (made_count mid (0 + (total_of f2).bytes + o.sum.bytes) r.1 r.4 ∙ z) in
+    let all : ps ≡ h.left ++ r.0 = h.split ∙ ap (λ t. h.left ++ t) (r.2 ∙ ap (λ t. r.0 ++ t) none ∙ append-nil r.0) in
+    let base : 0 + (total_of f2).bytes ≡ (total_of f2).bytes = omega arith in
+    let many : 0 < length o.items = some_items o.items (omega (arith, some, counted o)) in
+    ap (λ t. last_to from t) all ∙ last-append from h.left r.0 ∙ last_of (0 + (total_of f2).bytes) r.0 o.items d (last_to from h.left) r.3.items many
+    ∙ ap (λ b. ends_at b (get_or o.items (length o.items - 1) d).end) base
+
+pub no_scalars : (front : List Outcome) (ps : List Placed) (from : ℕ) → AreMade 0 ps front → (total_of front).scalars ≡ 0 → last_to from ps ≡ from
+no_scalars front ps from m z = ap (last_to from) (no_items ps (made_count front 0 ps m ∙ z))
+
+-- behind all items
+place_past : (ps : List Placed) (n : ℕ) → length (code_points ps) ≤ n → place_of ps n ≡ None
+place_past [] n h = refl
+place_past (p ∷ ps) n h =
+    let l = length-append (item_code_points p.item) (code_points ps) in
+    not_here n (length (item_code_points p.item)) (Some (record { from = p.from; to = p.to })) (place_of ps (n - length (item_code_points p.item))) (omega (arith, l, h))
+    ∙ place_past ps (n - length (item_code_points p.item)) (omega (arith, l, h))
+
+pub item_within : (es : List Ended) (n k : ℕ) → item_of es n ≡ Some k → k < length es
+item_within [] n k h = absurd (none_some h)
+item_within (e ∷ es) n k h =
+    by_test (nat_lt n e.scalars)
+    (λ t. let z : 0 ≡ k = same_some (sym (ap (λ b. cond b (Some 0) (option_map (λ j. j + 1) (item_of es (n - e.scalars)))) t) ∙ h) in omega (arith, z))
+    (λ t. let more = map_one (item_of es (n - e.scalars)) k (sym (ap (λ b. cond b (Some 0) (option_map (λ j. j + 1) (item_of es (n - e.scalars)))) t) ∙ h) in
+    omega (arith, more.2, item_within es (n - e.scalars) more.0 more.1))
+
+pub place_some : (d : Pieced) (n k from to : ℕ) (s : Sum) (o : Outcome) (p : IsPlaced d n s o) → IsPieced d → item_of o.items (n - s.scalars) ≡ Some k
+    → ((e : Ended) → to ≡ ends_at s.bytes (get_or o.items k e).end)
+    → ((front back : List Outcome) (left ps : List Placed) (m : ℕ) → d.pieces ≡ front ++ back → s ≡ total_of front → AreMade 0 left front → (h : HasItem s.bytes ps o.items m k) → from ≡ last_to (bom_of d) (left ++ h.front))
+    → Some (record { from = from; to = to }) ≡ place_of (items_of d) n
+place_some d n k from to s o p w i x y =
+    let made : AreMade 0 (items_of d) (p.front ++ o ∷ p.back) = subst (AreMade 0 (items_of d)) p.split w.made in
+    let h = made_split p.front (o ∷ p.back) 0 (items_of d) made in
+    let base : 0 + (total_of p.front).bytes ≡ s.bytes = omega (arith, ap (λ (v : Sum). v.bytes) p.sum) in
+    let m : AreMade s.bytes h.right (o ∷ p.back) = subst (λ b. AreMade b h.right (o ∷ p.back)) base h.behind in
+    let g = has_item s.bytes m.0 o.items (n - s.scalars) k m.3.items i in
+    let count : length (code_points h.left) ≡ s.scalars = made_count p.front 0 h.left h.before ∙ sym (ap (λ (v : Sum). v.scalars) p.sum) in
+    let all : (items_of d) ≡ (h.left ++ g.front) ++ g.item ∷ (g.back ++ m.1) =
+    h.split ∙ ap (λ t. h.left ++ t) (m.2 ∙ ap (λ t. t ++ m.1) g.split ∙ append_assoc g.front (g.item ∷ g.back) m.1) ∙ sym (append_assoc h.left g.front (g.item ∷ (g.back ++ m.1))) in
+    let e0 = no_item in
+    let to_is : to ≡ g.item.to = x e0 ∙ sym (g.ended e0).end in
+    let from_is2 : from ≡ g.item.from = y p.front p.pieces h.left m.0 (n - s.scalars) p.cut p.sum h.before g ∙ sym (from_is (bom_of d) (h.left ++ g.front) g.item (g.back ++ m.1) (subst (IsChained (bom_of d)) all (chained d.doc))) in
+    let le : length (code_points h.left) ≤ n = omega (arith, count, p.low) in
+    ap (λ v. Some (record { from = v; to = to })) from_is2 ∙ ap (λ v. Some (record { from = g.item.from; to = v })) to_is
+    ∙ sym (ap (λ t. place_of t n) h.split ∙ place-append h.left h.right n le ∙ ap (λ v. place_of h.right (n - v)) count ∙ ap (λ t. place_of t (n - s.scalars)) m.2 ∙ g.place m.1)
+
+pub place_none : (d : Pieced) (n : ℕ) (s : Sum) (o : Outcome) (p : IsPlaced d n s o) → IsPieced d → item_of o.items (n - s.scalars) ≡ None → None ≡ place_of (items_of d) n
+place_none d n s o p w i =
+    let few = lacks_item o.items (n - s.scalars) i in
+    let made : AreMade 0 (items_of d) (p.front ++ o ∷ p.back) = subst (AreMade 0 (items_of d)) p.split w.made in
+    let count = made_count (p.front ++ o ∷ p.back) 0 (items_of d) made ∙ scalars-append p.front (o ∷ p.back) in
+    let ss = ap (λ (v : Sum). v.scalars) p.sum in
+    elim p.high [
+      | inl e ↦ let none : (total_of p.back).scalars ≡ 0 = ap (λ t. (total_of t).scalars) e in sym (place_past (items_of d) n (omega (arith, count, none, ss, few, counted o, p.low)))
+      | inr g ↦ absurd (omega (arith, g, few, counted o, p.low))
+    ]
+
+-- what a search by code points finds, or the tail
+pub placed_by : (d : Pieced) (n : ℕ) (s : Sum) (r : Option (Bor Outcome)) (b h : Bor Outcome) → IsFoundOutcome Scalar n d.pieces s (option_copied r) → b.now ≡ d.tail → h ≡ unwrap_or r b → IsPlaced d n s h.now
+placed_by d n s None b h g tail same =
+    let all : d.pieces ≡ g.front = g.split ∙ ap (λ t. g.front ++ t) (g.ends refl) ∙ append-nil g.front in
+    let p : IsPlaced d n s d.tail = record {
+      front = g.front;
+      pieces = [];
+      back = [];
+      cut = all ∙ sym (append-nil g.front);
+      split = ap (λ t. t ++ d.tail ∷ []) all;
+      sum = g.sum;
+      low = g.low;
+      high = inl refl;
+    } in
+    subst (IsPlaced d n s) (sym (ap (λ (v : Bor Outcome). v.now) same ∙ tail)) p
+placed_by d n s (Some o) b h g tail same =
+    let p : IsPlaced d n s o.now = record {
+      front = g.front;
+      pieces = o.now ∷ g.back;
+      back = g.back ++ d.tail ∷ [];
+      cut = g.split;
+      split = ap (λ t. t ++ d.tail ∷ []) g.split ∙ append_assoc g.front (o.now ∷ g.back) (d.tail ∷ []);
+      sum = g.sum;
+      low = g.low;
+      high = inr g.high;
+    } in
+    subst (λ (v : Bor Outcome). IsPlaced d n s v.now) (sym same) p
+
+-- where the items before a piece end, as a search finds it
+pub last_found : (d : Pieced) (count : ℕ) (s : Sum) (r : Option (Bor Outcome)) (b : Bor Outcome) (v : ℕ) → r ≡ Some b → 0 < count → IsFoundOutcome Scalar (count - 1) d.pieces s (option_copied r)
+    → ((e : Ended) → 0 < length b.now.items → v ≡ ends_at s.bytes (get_or b.now.items (length b.now.items - 1) e).end)
+    → (front back : List Outcome) (ps : List Placed) → d.pieces ≡ front ++ back → (total_of front).scalars ≡ count → AreMade 0 ps front → v ≡ last_to (bom_of d) ps
+last_found d count s r b v is some f x front back ps e h m =
+    let g : IsFoundOutcome Scalar (count - 1) d.pieces s (Some b.now) = subst (λ (o : Option (Bor Outcome)). IsFoundOutcome Scalar (count - 1) d.pieces s (option_copied o)) is f in
+    let both : front ++ back ≡ g.front ++ b.now ∷ g.back = sym e ∙ g.split in
+    let ss : s.scalars ≡ (total_of g.front).scalars = ap (λ (w : Sum). w.scalars) g.sum in
+    let w = prev_some front back g.front g.back b.now count both h some (omega (arith, ss, g.low)) (omega (arith, ss, g.high)) in
+    let here : 0 < b.now.sum.scalars = omega (arith, ss, g.low, g.high) in
+    let e0 = no_item in
+    let base : (total_of g.front).bytes ≡ s.bytes = sym (ap (λ (w2 : Sum). w2.bytes) g.sum) in
+    let at = last_before front g.front w.0 b.now ps e0 (bom_of d) w.1 w.2 here m ∙ ap (λ k. ends_at k (get_or b.now.items (length b.now.items - 1) e0).end) base in
+    x e0 (some_items b.now.items (omega (arith, here, counted b.now))) ∙ sym at
+
+-- a search for a code point that is there finds a piece
+pub last_not_found : (d : Pieced) (count : ℕ) (s : Sum) (r : Option (Bor Outcome)) → r ≡ None → 0 < count → IsFoundOutcome Scalar (count - 1) d.pieces s (option_copied r)
+    → (front back : List Outcome) → d.pieces ≡ front ++ back → (total_of front).scalars ≡ count → ⊥
+last_not_found d count s r is some f front back e h =
+    let g : IsFoundOutcome Scalar (count - 1) d.pieces s None = subst (λ (o : Option (Bor Outcome)). IsFoundOutcome Scalar (count - 1) d.pieces s (option_copied o)) is f in
+    let all : g.front ≡ front ++ back = sym (g.split ∙ ap (λ t. g.front ++ t) (g.ends refl) ∙ append-nil g.front) ∙ e in
+    omega (arith, ap (λ (w : Sum). w.scalars) g.sum, ap (λ t. (total_of t).scalars) all, scalars-append front back, g.low, h, some)
+
+nil_of : (xs : List Placed) → length xs ≡ 0 → xs ≡ []
+nil_of [] h = refl
+nil_of (x ∷ xs) h = absurd (omega (arith, h))
+
+pub first_item : (d : Pieced) (s : Sum) (o : Outcome) (v : ℕ) → ((front back : List Outcome) (ps : List Placed) → d.pieces ≡ front ++ back → (total_of front).scalars ≡ s.scalars → AreMade 0 ps front → v ≡ last_to (bom_of d) ps)
+    → (front back : List Outcome) (left ps : List Placed) (n k : ℕ) → k ≡ 0 → d.pieces ≡ front ++ back → s ≡ total_of front → AreMade 0 left front → (h : HasItem s.bytes ps o.items n k) → v ≡ last_to (bom_of d) (left ++ h.front)
+first_item d s o v x front back left ps n k z e t m h =
+    let none : h.front ≡ [] = nil_of h.front (h.len ∙ z) in
+    let all : left ++ h.front ≡ left = ap (λ u. left ++ u) none ∙ append-nil left in
+    x front back left e (sym (ap (λ (w : Sum). w.scalars) t)) m ∙ ap (last_to (bom_of d)) (sym all)
+
+pub later_item : (d : Pieced) (s : Sum) (o : Outcome) (v k : ℕ) → 0 < k → ((e : Ended) → v ≡ ends_at s.bytes (get_or o.items (k - 1) e).end)
+    → (left ps : List Placed) (n : ℕ) (h : HasItem s.bytes ps o.items n k) → v ≡ last_to (bom_of d) (left ++ h.front)
+later_item d s o v k l x left ps n h =
+    let e0 = no_item in
+    let at = last-append (bom_of d) left h.front in
+    x e0 ∙ sym (at ∙ h.last e0 (last_to (bom_of d) left) l)

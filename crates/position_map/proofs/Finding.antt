@@ -1,0 +1,126 @@
+-- The pieces of a document and its tail, as outcomes in a row.
+use Rattle.std.proofs.Common.{◌≡◌, refl, sym, ap, subst, ◌∙◌, ℕ, ◌+◌, ◌*◌, ◌<◌, ◌≤◌, List, [], ◌∷◌, ◌++◌, length, length-append, map, take-append-drop, append_assoc, append-nil, arith, Option, Some, None, Bor, option_copied}
+use Rattle.std.specs.Option.{option_to_list, option_map, IfSome}
+use Rattle.sum_tree.specs.Reached.{IsFound}
+use Rattle.sum_tree.specs.Sums.{total}
+use Rattle.decoder_core.specs.declared.placed.Placed.{Placed}
+use Rattle.state_memo.specs.declared.axis.Axis.{Axis}
+use Rattle.state_memo.specs.declared.outcome.Outcome.{Outcome}
+use Rattle.state_memo.specs.declared.sum.Sum.{Sum}
+use Rattle.state_memo.specs.Fitting.{total_of}
+use Rattle.state_memo.specs.Sums.{no_sum, joined, measure}
+use Rattle.piece_rope.specs.Document.{Document, decoded}
+use Rattle.piece_rope.specs.Entry.{Entry, here_of, entry_sum}
+use Rattle.position_map.specs.Found.{sum_in_outcome, IsFoundOutcome}
+use Rattle.piece_rope.specs.Made.{IsMade, AreMade, body_of, tail_of, count_body}
+use Rattle.piece_rope.specs.Chain.{bytes_of}
+use Rattle.piece_rope.specs.Sizes.{AreSized, AreCounted, shortest}
+use Rattle.position_map.specs.Whole.{IsWhole, AreAtLeast, AreAtMost, pieces_most}
+
+made-last : (os : List Outcome) (tail : Outcome) (base end : ℕ) (ps qs : List Placed) → AreMade base ps os → end ≡ base + (total_of os).bytes → IsMade end qs tail → AreMade base (ps ++ qs) (os ++ tail ∷ [])
+made-last [] tail base end ps qs m e t =
+    let at : end ≡ base = e ∙ omega arith in
+    (qs, [], ap (λ v. v ++ qs) m ∙ sym (append-nil qs), subst (λ b. IsMade b qs tail) at t, refl)
+made-last (o ∷ os) tail base end ps qs m e t = (
+  m.0,
+  m.1 ++ qs,
+  ap (λ v. v ++ qs) m.2 ∙ append_assoc m.0 m.1 qs,
+  m.3,
+  made-last os tail (base + o.sum.bytes) end m.1 qs m.4 (e ∙ omega arith) t,
+)
+
+pub length-heres : (es : List Entry) → length (map here_of es) ≡ length es
+length-heres [] = refl
+length-heres (x ∷ xs) = omega (arith, length-heres xs)
+
+total-heres : (es : List Entry) → AreCounted es → (total_of (map here_of es)).bytes ≡ length (bytes_of es)
+total-heres [] c = refl
+total-heres (x ∷ xs) c = omega (arith, c.0, total-heres xs c.1, length-append x.piece.bytes (bytes_of xs))
+
+sized-least : (least : ℕ) (es : List Entry) → AreSized least es → AreCounted es → AreAtLeast least (map here_of es)
+sized-least least [] s c = tt
+sized-least least (x ∷ xs) s c = (omega (arith, s.0, c.0), sized-least least xs s.2 c.1)
+
+sized-most : (least : ℕ) (es : List Entry) → AreSized least es → AreCounted es → AreAtMost 2048 (map here_of es)
+sized-most least [] s c = tt
+sized-most least (x ∷ xs) s c = (omega (arith, s.1, c.0), sized-most least xs s.2 c.1)
+
+sized-count : (es : List Entry) → AreSized shortest es → 512 * length es ≤ length (bytes_of es)
+sized-count [] s = omega arith
+sized-count (x ∷ xs) s = omega (arith, s.0, sized-count xs s.2, length-append x.piece.bytes (bytes_of xs))
+
+few-pieces : (d : Document) (es : List Entry) → bytes_of es ≡ d.bytes → (2 ≤ length es → AreSized shortest es) → length (map here_of es) ≤ pieces_most d
+few-pieces d [] b w = omega arith
+few-pieces d (x ∷ []) b w = omega arith
+few-pieces d (x ∷ y ∷ es) b w =
+    let two : 2 ≤ length (x ∷ y ∷ es) = omega arith in
+    omega (arith, length-heres (x ∷ y ∷ es), sized-count (x ∷ y ∷ es) (w two), ap length b)
+
+pub whole-of : (d : Document) (es : List Entry) (tail : Outcome) → AreMade 0 (body_of d) (map here_of es) → bytes_of es ≡ d.bytes → AreSized 1 es → (2 ≤ length es → AreSized shortest es) → AreCounted es
+    → IsMade (length d.bytes) (tail_of d) tail → tail.sum.bytes ≡ 0 → IsWhole d (map here_of es) tail
+whole-of d es tail made b small wide counted ended none =
+    let all : (total_of (map here_of es)).bytes ≡ length d.bytes = total-heres es counted ∙ ap length b in
+    let items : body_of d ++ tail_of d ≡ (decoded d).items = take-append-drop (count_body d) (decoded d).items in
+    record {
+      made = subst (λ ps. AreMade 0 ps (map here_of es ++ tail ∷ [])) items (made-last (map here_of es) tail 0 (length d.bytes) (body_of d) (tail_of d) made (sym all ∙ omega arith) ended);
+      bytes = all;
+      no_bytes = none;
+      some = sized-least 1 es small counted;
+      long = λ h. sized-least 512 es (wide (omega (arith, h, length-heres es))) counted;
+      short = sized-most 1 es small counted;
+      few = few-pieces d es b wide;
+    }
+
+at_most-found : (most : ℕ) (front : List Outcome) (o : Outcome) (back : List Outcome) → AreAtMost most (front ++ o ∷ back) → o.sum.bytes ≤ most
+at_most-found most [] o back h = h.0
+at_most-found most (x ∷ xs) o back h = at_most-found most xs o back h.1
+
+-- a piece that is found is short
+pub found-short : (axis : Axis) (target : ℕ) (d : Document) (os : List Outcome) (tail : Outcome) (s : Sum) (o : Outcome) → IsWhole d os tail → IsFoundOutcome axis target os s (Some o) → o.sum.bytes ≤ 2048
+found-short axis target d os tail s o w f = at_most-found 2048 f.front o f.back (subst (AreAtMost 2048) f.split w.short)
+
+map-append : (xs ys : List Entry) → map here_of (xs ++ ys) ≡ map here_of xs ++ map here_of ys
+map-append [] ys = refl
+map-append (x ∷ xs) ys = ap (λ t. here_of x ∷ t) (map-append xs ys)
+
+map-option : (o : Option Entry) → map here_of (option_to_list o) ≡ option_to_list (option_map here_of o)
+map-option None = refl
+map-option (Some x) = refl
+
+total-map : (xs : List Entry) → total no_sum joined entry_sum xs ≡ total_of (map here_of xs)
+total-map [] = refl
+total-map (x ∷ xs) = ap (joined (entry_sum x)) (total-map xs)
+
+none-map : (o : Option Entry) → option_map here_of o ≡ None → o ≡ None
+none-map None e = refl
+none-map (Some x) e = cc
+
+high-map : (P : Sum → Type 0) (s : Sum) (o : Option Entry) → IfSome o (λ e. P (joined s (entry_sum e))) → IfSome (option_map here_of o) (λ x. P (joined s (sum_in_outcome x)))
+high-map P s None h = h
+high-map P s (Some x) h = h
+
+-- a search over pieces is one over what they decode to
+pub found-map : (axis : Axis) (target : ℕ) (es : List Entry) (s : Sum) (x : Option Entry) → IsFound (measure axis) target no_sum joined entry_sum es s x
+    → IsFoundOutcome axis target (map here_of es) s (option_map here_of x)
+found-map axis target es s x f = record {
+  front = map here_of f.front;
+  back = map here_of f.back;
+  split = ap (map here_of) f.split ∙ map-append f.front (option_to_list x ++ f.back) ∙ ap (λ t. map here_of f.front ++ t) (map-append (option_to_list x) f.back ∙ ap (λ t. t ++ map here_of f.back) (map-option x));
+  ends = λ e. ap (map here_of) (f.ends (none-map x e));
+  sum = f.sum ∙ total-map f.front;
+  low = f.low;
+  high = high-map (λ v. target < measure axis v) s x f.high;
+}
+
+-- what a search gives, by the piece's outcome
+pub found-some : (axis : Axis) (target : ℕ) (es : List Entry) (s : Sum) (r : Option (Bor Entry)) (b : Bor Entry) (o : Bor Outcome) → r ≡ Some b → o.now ≡ here_of b.now
+    → IsFound (measure axis) target no_sum joined entry_sum es s (option_copied r) → IsFoundOutcome axis target (map here_of es) s (Some o.now)
+found-some axis target es s r b o is here f =
+    let g : IsFound (measure axis) target no_sum joined entry_sum es s (Some b.now) = subst (λ (v : Option (Bor Entry)). IsFound (measure axis) target no_sum joined entry_sum es s (option_copied v)) is f in
+    subst (λ v. IsFoundOutcome axis target (map here_of es) s (Some v)) (sym here) (found-map axis target es s (Some b.now) g)
+
+pub found-none : (axis : Axis) (target : ℕ) (es : List Entry) (s : Sum) (r : Option (Bor Entry)) → r ≡ None
+    → IsFound (measure axis) target no_sum joined entry_sum es s (option_copied r) → IsFoundOutcome axis target (map here_of es) s None
+found-none axis target es s r is f =
+    let g : IsFound (measure axis) target no_sum joined entry_sum es s None = subst (λ (v : Option (Bor Entry)). IsFound (measure axis) target no_sum joined entry_sum es s (option_copied v)) is f in
+    found-map axis target es s None g

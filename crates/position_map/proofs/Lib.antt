@@ -1,0 +1,14 @@
+pub mod Alongs
+pub mod Bytes
+pub mod Chains
+pub mod Cutting
+pub mod Fronting
+pub mod Items
+pub mod LineMarks
+pub mod Locating
+pub mod NextLines
+pub mod OnLines
+pub mod Pointing
+pub mod Finding
+pub mod Selecting
+pub mod Widths

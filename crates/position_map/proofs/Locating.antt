@@ -1,0 +1,103 @@
+-- Where a piece that was found stands in the text.
+use Rattle.std.proofs.Common.{◌≡◌, refl, sym, ap, subst, ◌∙◌, ℕ, ◌+◌, ◌<◌, inl, inr, List, [], ◌∷◌, ◌++◌, append_assoc, append-nil, arith, Option, Some, None, Bor, option_copied}
+use Rattle.std.specs.List.{flat_map}
+use Rattle.std.specs.Option.{unwrap_or}
+use Rattle.decoder_core.specs.declared.placed.Placed.{Placed}
+use Rattle.decoder_core.specs.Text.{item_code_points, code_points}
+use Rattle.state_memo.specs.declared.axis.Axis.{Axis}
+use Rattle.state_memo.specs.declared.axis.Axis.TheVariants.{Byte, Scalar, Utf16 as by_utf16, Utf8 as by_utf8, Mark}
+use Rattle.state_memo.specs.declared.ended.Ended.{Ended}
+use Rattle.state_memo.specs.declared.outcome.Outcome.{Outcome}
+use Rattle.state_memo.specs.declared.sum.Sum.{Sum}
+use Rattle.state_memo.specs.Facts.{IsSumOf}
+use Rattle.state_memo.specs.Fitting.{total_of}
+use Rattle.state_memo.specs.Sums.{joined, measure}
+use Rattle.piece_rope.specs.Document.{Document, decoded, text_of}
+use Rattle.position_map.specs.Found.{IsFoundOutcome}
+use Rattle.position_map.specs.Located.{IsLocated, IsOfText, reach}
+use Rattle.piece_rope.specs.Made.{AreMade}
+use Rattle.position_map.specs.Whole.{IsWhole}
+
+abbrev pub text_in : Outcome → List ℕ
+text_in o = o.text
+
+abbrev pub items_in : Outcome → List Ended
+items_in o = o.items
+
+abbrev pub texts : List Outcome → List ℕ
+texts os = flat_map text_in os
+
+abbrev pub items : List Outcome → List Ended
+items os = flat_map items_in os
+
+-- the numbers of two texts in a row are the join of theirs
+abbrev pub Joins : Type 0
+Joins = (a b : List ℕ) (is js : List Ended) (s t : Sum) → IsSumOf a is s → IsSumOf b js t → IsSumOf (a ++ b) (is ++ js) (joined s t)
+
+texts-append : (xs ys : List Outcome) → texts (xs ++ ys) ≡ texts xs ++ texts ys
+texts-append [] ys = refl
+texts-append (x ∷ xs) ys = ap (λ t. text_in x ++ t) (texts-append xs ys) ∙ sym (append_assoc (text_in x) (texts xs) (texts ys))
+
+code_points-append : (xs ys : List Placed) → code_points (xs ++ ys) ≡ code_points xs ++ code_points ys
+code_points-append [] ys = refl
+code_points-append (p ∷ xs) ys = ap (λ t. item_code_points p.item ++ t) (code_points-append xs ys) ∙ sym (append_assoc (item_code_points p.item) (code_points xs) (code_points ys))
+
+made-text : (os : List Outcome) (base : ℕ) (ps : List Placed) → AreMade base ps os → code_points ps ≡ texts os
+made-text [] base ps m = ap code_points m
+made-text (o ∷ os) base ps m =
+    ap code_points m.2 ∙ code_points-append m.0 m.1 ∙ ap (λ t. t ++ code_points m.1) (sym m.3.text) ∙ ap (λ t. text_in o ++ t) (made-text os (base + o.sum.bytes) m.1 m.4)
+
+-- the text is that of the pieces and the tail
+pub whole-text : (d : Document) (os : List Outcome) (tail : Outcome) → IsWhole d os tail → text_of d ≡ texts (os ++ tail ∷ [])
+unfolding text_of
+whole-text d os tail w = made-text (os ++ tail ∷ []) 0 (decoded d).items w.made
+
+pub sum-total : Joins → (os : List Outcome) → IsSumOf (texts os) (items os) (total_of os)
+sum-total joins [] = record { scalars = refl; utf16 = refl; utf8 = refl; errors = refl; marks = refl; lf_first = refl; cr_last = refl; counted = refl }
+sum-total joins (o ∷ os) = joins (text_in o) (texts os) (items_in o) (items os) o.sum (total_of os) o.summed (sum-total joins os)
+
+-- how far a text reaches, by its sum
+measured : (axis : Axis) (cs : List ℕ) (is : List Ended) (s : Sum) (n : ℕ) → IsSumOf cs is s → n < measure axis s → IsOfText axis → n < reach axis cs
+measured Byte cs is s n x l h = absurd h
+measured Scalar cs is s n x l h = omega (arith, x.scalars)
+measured by_utf16 cs is s n x l h = omega (arith, x.utf16)
+measured by_utf8 cs is s n x l h = omega (arith, x.utf8)
+measured Mark cs is s n x l h = omega (arith, x.marks)
+
+located-piece : Joins → (axis : Axis) (target : ℕ) (d : Document) (os : List Outcome) (tail : Outcome) (s : Sum) (o : Outcome) → IsOfText axis → IsWhole d os tail
+    → IsFoundOutcome axis target os s (Some o) → IsLocated axis target (text_of d) s o.text
+located-piece joins axis target d os tail s o of_text w f =
+    let before : IsSumOf (texts f.front) (items f.front) s = subst (λ v. IsSumOf (texts f.front) (items f.front) v) (sym f.sum) (sum-total joins f.front) in
+    record {
+      front = texts f.front;
+      items = items f.front;
+      back = texts (f.back ++ tail ∷ []);
+      split = whole-text d os tail w ∙ ap (λ xs. texts (xs ++ tail ∷ [])) f.split ∙ ap texts (append_assoc f.front (o ∷ f.back) (tail ∷ [])) ∙ texts-append f.front (o ∷ (f.back ++ tail ∷ []));
+      sum = before;
+      low = f.low;
+      high = inr (measured axis (texts f.front ++ o.text) (items f.front ++ o.items) (joined s o.sum) target (joins (texts f.front) o.text (items f.front) o.items s o.sum before o.summed) f.high of_text);
+    }
+
+located-tail : Joins → (axis : Axis) (target : ℕ) (d : Document) (os : List Outcome) (tail : Outcome) (s : Sum) → IsWhole d os tail
+    → IsFoundOutcome axis target os s None → IsLocated axis target (text_of d) s tail.text
+located-tail joins axis target d os tail s w f =
+    let all : os ≡ f.front = f.split ∙ ap (λ xs. f.front ++ xs) (f.ends refl) ∙ append-nil f.front in
+    record {
+      front = texts f.front;
+      items = items f.front;
+      back = [];
+      split = whole-text d os tail w ∙ ap (λ xs. texts (xs ++ tail ∷ [])) all ∙ texts-append f.front (tail ∷ []);
+      sum = subst (λ v. IsSumOf (texts f.front) (items f.front) v) (sym f.sum) (sum-total joins f.front);
+      low = f.low;
+      high = inl refl;
+    }
+
+-- by what a search answers
+pub located-by : Joins → (axis : Axis) (target : ℕ) (d : Document) (os : List Outcome) (tail : Outcome) (s : Sum) (r : Option (Bor Outcome)) (b h : Bor Outcome) (t : List ℕ)
+    → IsOfText axis → IsWhole d os tail → IsFoundOutcome axis target os s (option_copied r) → b.now ≡ tail → h ≡ unwrap_or r b → t ≡ h.now.text → IsLocated axis target (text_of d) s t
+located-by joins axis target d os tail s None b h t of_text w f last same text =
+    let here : t ≡ tail.text = text ∙ ap (λ (v : Bor Outcome). v.now.text) same ∙ ap text_in last in
+    subst (λ v. IsLocated axis target (text_of d) s v) (sym here) (located-tail joins axis target d os tail s w f)
+located-by joins axis target d os tail s (Some o) b h t of_text w f last same text =
+    let here : t ≡ o.now.text = text ∙ ap (λ (v : Bor Outcome). v.now.text) same in
+    subst (λ v. IsLocated axis target (text_of d) s v) (sym here) (located-piece joins axis target d os tail s o.now of_text w f)

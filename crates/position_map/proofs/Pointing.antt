@@ -1,0 +1,289 @@
+-- Points, marks and lines of a text.
+use Rattle.std.proofs.Common.{◌≡◌, refl, sym, ap, subst, ◌∙◌, ℕ, ◌+◌, ◌-◌, ◌<◌, ◌≤◌, ◌⊎◌, inl, inr, Bool, true, false, cond, ◌==◌, ◌&&◌, List, [], ◌∷◌, ◌++◌, length, length-append, take, drop, append_assoc, append-nil, arith, Option, Some, None}
+use Rattle.std.specs.Option.{option_map}
+use mir.Val.{bool_byte}
+use Rattle.std.specs.List.{slice_get}
+use Rattle.std.specs.Str.{chars}
+use Rattle.std.proofs.lemmas.List.{take_at, drop_at, drop-drop, drop_all, take_all}
+use Rattle.std.proofs.lemmas.Option.{slice_get_past, slice_get_within}
+use Rattle.std.proofs.lemmas.Bool.Decides.{nat_tests}
+use Rattle.lane_ascii.specs.Marks.{cr, lf, is_mark, one_if, marks, ends_cr}
+use Rattle.state_memo.specs.declared.axis.Axis.TheVariants.{Scalar, Mark as by_mark}
+use Rattle.state_memo.specs.declared.ended.Ended.{Ended}
+use Rattle.state_memo.specs.declared.sum.Sum.{Sum}
+use Rattle.state_memo.specs.Facts.{IsSumOf}
+use Rattle.state_memo.specs.Lines.{begins_lf}
+use Rattle.position_map.specs.declared.ending.Ending.TheVariants.{Two, One, Open}
+use Rattle.position_map.specs.declared.mark.Mark.{Mark}
+use Rattle.position_map.specs.declared.point.Point.{Point}
+use Rattle.position_map.specs.declared.unit.Unit.{Unit as TextUnit}
+use Rattle.position_map.specs.declared.unit.Unit.TheVariants.{Utf8, Utf16, Utf32}
+use Rattle.position_map.specs.Cuts.{IsScalarCut}
+use Rattle.position_map.specs.LineEnds.{ending_of}
+use Rattle.position_map.specs.Lines.{Line, lines_of}
+use Rattle.position_map.specs.Located.{IsLocated, sum_in}
+use Rattle.position_map.specs.Marked.{IsMarkAt, IsMarkCut, IsLineStart, IsLineEnd, start_of, end_of, begins_mark}
+use Rattle.position_map.specs.Points.{IsPoint, IsEnd, IsBehind}
+use Rattle.position_map.specs.Widths.{width}
+use Rattle.position_map.proofs.LineMarks.{marks-append, ends_cr-append, IsMark-end, IsMark-next, last_end, first_start, line_count, line_is}
+use Rattle.position_map.proofs.Widths.{width-append, width-take_le, width-scalars, width-ascii}
+
+pub end-scalars : (u : TextUnit) (text : List ℕ) (n : ℕ) → u ≡ Utf32 → n ≡ length text → IsEnd u text (record { scalars = n; units = n })
+end-scalars u text n e h = record { scalars = h; units = h ∙ sym (width-scalars text) ∙ ap (λ v. width v text) (sym e) }
+
+pub sum_width : (u : TextUnit) (cs : List ℕ) (is : List Ended) (s : Sum) → IsSumOf cs is s → sum_in u s ≡ width u cs
+sum_width Utf8 cs is s h = h.utf8
+sum_width Utf16 cs is s h = h.utf16
+sum_width Utf32 cs is s h = h.scalars ∙ sym (width-scalars cs)
+
+pub point-from : (u : TextUnit) (text a b : List ℕ) (p : Point) → text ≡ a ++ b → p.scalars ≡ length a → p.units ≡ width u a → IsPoint u text p
+point-from u text a b p split n x =
+    let front : take p.scalars text ≡ a = ap (take p.scalars) split ∙ take_at a b p.scalars (sym n) in
+    record {
+      within = omega (arith, n, ap length split, length-append a b);
+      units = x ∙ ap (width u) (sym front);
+    }
+
+pub point-behind : (u : TextUnit) (text a b front : List ℕ) (is : List Ended) (s : Sum) (p : Point) → text ≡ (a ++ front) ++ b → IsSumOf a is s → IsBehind u s.scalars (sum_in u s) front p → IsPoint u text p
+point-behind u text a b front is s p split x y =
+    point-from u text (a ++ front) b p split (omega (arith, x.scalars, y.scalars_are, length-append a front))
+    (omega (arith, sum_width u a is s x, y.units_are, width-append u a front))
+
+pub regroup : (text a b c d : List ℕ) → text ≡ a ++ ((b ++ c) ++ d) → text ≡ (a ++ b) ++ (c ++ d)
+regroup text a b c d e = e ∙ ap (λ t. a ++ t) (append_assoc b c d) ∙ sym (append_assoc a b (c ++ d))
+
+-- a front of a part of the text fits where the text does
+pub part_fits : (u : TextUnit) (text a here back front rest : List ℕ) (is : List Ended) (s : Sum) (e : Point) → text ≡ a ++ (here ++ back) → here ≡ front ++ rest → IsSumOf a is s → IsEnd u text e
+    → (s.scalars + length front ≤ e.scalars) × (sum_in u s + width u front ≤ e.units)
+part_fits u text a here back front rest is s e split cut x end = (
+  omega (arith, ap length split, length-append a (here ++ back), length-append here back, ap length cut, length-append front rest, x.scalars, end.scalars),
+  omega (arith, ap (width u) split, width-append u a (here ++ back), width-append u here back, ap (width u) cut, width-append u front rest, sum_width u a is s x, end.units),
+)
+
+pub first_is : (f : Bool) (back : List ℕ) → begins_mark f back ≡ true → (c : ℕ) × (near : List ℕ) × (back ≡ c ∷ near) × (is_mark f c ≡ true)
+first_is f [] e = cc
+first_is f (c ∷ near) e = (c, near, refl, e)
+
+pub mark_found : (u : TextUnit) (text : List ℕ) (n : ℕ) (s : Sum) (here fs rs : List ℕ) (units : ℕ) (m : Mark) → IsLocated by_mark n text s here → IsMarkCut s.cr_last here (n - s.marks) fs rs
+    → units ≡ sum_in u s → IsBehind u s.scalars units fs m.at → chars m.rest.now ≡ rs → IsMarkAt u text n m
+mark_found u text n s here fs rs units m l k same p r =
+    let first = first_is (ends_cr s.cr_last fs) rs k.is in
+    let c = first.0 in
+    let near = first.1 in
+    let split : text ≡ (l.front ++ fs) ++ (rs ++ l.back) = regroup text l.front fs rs l.back (l.split ∙ ap (λ t. l.front ++ (t ++ l.back)) k.split) in
+    let split2 : text ≡ (l.front ++ fs) ++ c ∷ (near ++ l.back) = split ∙ ap (λ t. (l.front ++ fs) ++ (t ++ l.back)) first.2 in
+    let flag : ends_cr false (l.front ++ fs) ≡ ends_cr s.cr_last fs = ends_cr-append false l.front fs ∙ ap (λ b. ends_cr b fs) (sym l.sum.cr_last) in
+    record {
+      front = l.front ++ fs;
+      c = c;
+      near = near;
+      far = l.back;
+      mark = record {
+        split = split2;
+        count = marks-append false l.front fs ∙ ap (λ b. marks false l.front + marks b fs) (sym l.sum.cr_last) ∙ omega (arith, l.sum.marks, l.low, k.count);
+        is = ap (λ b. is_mark b c) flag ∙ first.3;
+      };
+      at = omega (arith, p.scalars_are, l.sum.scalars, length-append l.front fs);
+      point = point-behind u text l.front (rs ++ l.back) fs l.items s m.at split l.sum (subst (λ v. IsBehind u s.scalars v fs m.at) same p);
+      rest = r ∙ first.2;
+    }
+
+pub no_mark_left : (text : List ℕ) (n : ℕ) (s : Sum) (here : List ℕ) → IsLocated by_mark n text s here → marks s.cr_last here ≤ n - s.marks → marks false text ≤ n
+no_mark_left text n s here l h =
+    let both : marks false (l.front ++ here) ≡ marks false l.front + marks s.cr_last here = marks-append false l.front here ∙ ap (λ b. marks false l.front + marks b here) (sym l.sum.cr_last) in
+    elim l.high [
+      | inl e ↦ let all : text ≡ l.front ++ here = l.split ∙ ap (λ t. l.front ++ (here ++ t)) e ∙ ap (λ t. l.front ++ t) (append-nil here) in omega (arith, ap (marks false) all, both, l.sum.marks, l.low, h)
+      | inr g ↦ absurd (omega (arith, g, both, l.sum.marks, l.low, h))
+    ]
+
+cond_by : (x y : Bool) (a : ℕ) → x ≡ y → cond x (a + 2) (a + 1) ≡ a + (1 + one_if y)
+cond_by true true a e = omega arith
+cond_by true false a e = cc
+cond_by false true a e = cc
+cond_by false false a e = omega arith
+
+and_false : (b : Bool) → (b && false) ≡ false
+and_false true = refl
+and_false false = refl
+
+open_cr : (b : Bool) → cond b Open One ≡ Open → b ≡ true
+open_cr true e = refl
+open_cr false e = cc
+
+not_open : (b d : Bool) → cond b (cond d Two One) One ≡ Open → ⊥
+not_open true true e = cc
+not_open true false e = cc
+not_open false d e = cc
+
+begins-append : (xs ys : List ℕ) → (ys ≡ []) ⊎ (0 < length xs) → begins_lf (xs ++ ys) ≡ begins_lf xs
+begins-append [] ys h = elim h [ inl e ↦ ap begins_lf e | inr g ↦ absurd (omega arith) ]
+begins-append (x ∷ xs) ys h = refl
+
+pub drop_past : (a b : List ℕ) (k : ℕ) → drop (length a + k) (a ++ b) ≡ drop k b
+drop_past a b k = sym (drop-drop k (length a) (a ++ b)) ∙ ap (drop k) (drop_at a b (length a) refl)
+
+-- what stands behind a cut of the piece begins as what stands there in the text
+pub line_feed : (text : List ℕ) (n : ℕ) (s : Sum) (here front rest : List ℕ) → IsLocated Scalar n text s here → IsScalarCut here (n - s.scalars) front rest → begins_lf rest ≡ begins_lf (drop n text)
+line_feed text n s here front rest l k =
+    let at : n ≡ length (l.front ++ front) = omega (arith, l.sum.scalars, l.low, k.count, length-append l.front front) in
+    let split : text ≡ (l.front ++ front) ++ (rest ++ l.back) = regroup text l.front front rest l.back (l.split ∙ ap (λ t. l.front ++ (t ++ l.back)) k.split) in
+    let whole : drop n text ≡ rest ++ l.back = ap (drop n) split ∙ drop_at (l.front ++ front) (rest ++ l.back) n (sym at) in
+    let some : (l.back ≡ []) ⊎ (0 < length rest) =
+    elim l.high [ inl b ↦ inl b | inr g ↦ inr (omega (arith, g, at, length-append l.front here, length-append l.front front, ap length k.split, length-append front rest)) ] in
+    sym (begins-append rest l.back some) ∙ ap begins_lf (sym whole)
+
+pub no_line_feed : (text : List ℕ) (n : ℕ) (s : Sum) (here : List ℕ) → IsLocated Scalar n text s here → length here < n - s.scalars → false ≡ begins_lf (drop n text)
+no_line_feed text n s here l h =
+    elim l.high [
+      | inl e ↦ let len : length text ≤ n = omega (arith, ap length l.split, length-append l.front (here ++ l.back), length-append here l.back, ap length e, l.sum.scalars, h) in ap begins_lf (sym (drop_all n text len))
+      | inr g ↦ absurd (omega (arith, g, length-append l.front here, l.sum.scalars, h))
+    ]
+
+mark_is_ascii : (f : Bool) (c : ℕ) → is_mark f c ≡ true → c < 128
+mark_is_ascii f c h = grind (arith, nat_tests)
+
+-- a line end: its code points, and what follows
+record IsEnding (u : TextUnit) (cs : List ℕ) (n : ℕ) : Type 0 where
+  ending : List ℕ
+  back : List ℕ
+  split : cs ≡ ending ++ back
+  len : length ending ≡ n
+  wide : width u ending ≡ n
+
+is_ending : (u : TextUnit) (f : Bool) (c : ℕ) (rest : List ℕ) (b : Bool) → is_mark f c ≡ true → b ≡ ((c == cr) && begins_lf rest) → IsEnding u (c ∷ rest) (1 + one_if b)
+is_ending u f c rest false h e = record { ending = c ∷ []; back = rest; split = refl; len = refl; wide = omega (arith, width-ascii u c (mark_is_ascii f c h)) }
+is_ending u f c [] true h e = let w : ((c == cr) && false) ≡ false = and_false (c == cr) in cc
+is_ending u f c (d ∷ rest) true h e =
+    let small : d < 128 = grind (arith, nat_tests) in
+    record { ending = c ∷ d ∷ []; back = rest; split = refl; len = refl; wide = omega (arith, width-ascii u c (mark_is_ascii f c h), width-ascii u d small) }
+
+-- where the line behind a mark starts
+pub line_start_behind : (u : TextUnit) (text : List ℕ) (n : ℕ) (m : Mark) (h : IsMarkAt u text n m) (b : Bool) (p : Point) → b ≡ ((h.c == cr) && begins_lf (h.near ++ h.far))
+    → p.scalars ≡ m.at.scalars + (1 + one_if b) → p.units ≡ m.at.units + (1 + one_if b) → IsLineStart u text (n + 1) p
+line_start_behind u text n m h b p e x y =
+    let w = is_ending u (ends_cr false h.front) h.c (h.near ++ h.far) b h.mark.is e in
+    let front : take m.at.scalars text ≡ h.front = ap (take m.at.scalars) h.mark.split ∙ take_at h.front (h.c ∷ (h.near ++ h.far)) m.at.scalars (sym h.at) in
+    let wide : m.at.units ≡ width u h.front = h.point.units ∙ ap (width u) front in
+    record {
+      point = point-from u text (h.front ++ w.ending) w.back p (h.mark.split ∙ ap (λ t. h.front ++ t) w.split ∙ sym (append_assoc h.front w.ending w.back))
+          (omega (arith, x, h.at, w.len, length-append h.front w.ending))
+          (omega (arith, y, wide, w.wide, width-append u h.front w.ending));
+      is = IsMark-next text n h.front h.c (h.near ++ h.far) h.mark ∙ ap (λ v. Some v) (cond_by ((h.c == cr) && begins_lf (h.near ++ h.far)) b (length h.front) (sym e)) ∙ ap Some (omega (arith, x, h.at));
+    }
+
+-- a point is within the text's end
+pub point-within : (u : TextUnit) (text : List ℕ) (p e : Point) → IsPoint u text p → IsEnd u text e → (p.scalars ≤ e.scalars) × (p.units ≤ e.units)
+point-within u text p e x y = (omega (arith, x.within, y.scalars), omega (arith, x.units, y.units, width-take_le u text p.scalars))
+
+-- the LF that may follow a line end that its piece leaves open
+open_is_cr : (c : ℕ) (near : List ℕ) → ending_of (c ∷ near) ≡ Open → ((c == cr) ≡ true) × (near ≡ [])
+open_is_cr c [] e = (open_cr (c == cr) e, refl)
+open_is_cr c (d ∷ near) e = absurd (not_open (c == cr) (d == lf) e)
+
+pub open_line_feed : (u : TextUnit) (text : List ℕ) (n : ℕ) (m : Mark) (h : IsMarkAt u text n m) (b : Bool) → ending_of (chars m.rest.now) ≡ Open → b ≡ begins_lf (drop (m.at.scalars + 1) text)
+    → b ≡ ((h.c == cr) && begins_lf (h.near ++ h.far))
+open_line_feed u text n m h b o e =
+    let w = open_is_cr h.c h.near (sym (ap ending_of h.rest) ∙ o) in
+    let at : drop (m.at.scalars + 1) text ≡ h.near ++ h.far =
+    ap (λ k. drop (k + 1) text) h.at ∙ ap (drop (length h.front + 1)) h.mark.split ∙ drop_past h.front (h.c ∷ (h.near ++ h.far)) 1 in
+    e ∙ ap begins_lf at ∙ ap (λ t. t && begins_lf (h.near ++ h.far)) (sym w.0)
+
+-- a line end that its piece shows whole
+ending_two : (c : ℕ) (near far : List ℕ) → ending_of (c ∷ near) ≡ Two → true ≡ ((c == cr) && begins_lf (near ++ far))
+ending_two c [] far e = by_cr (c == cr) e
+  where
+    by_cr : (b : Bool) → cond b Open One ≡ Two → true ≡ (b && begins_lf far)
+    by_cr true e = cc
+    by_cr false e = cc
+ending_two c (d ∷ near) far e = by_both (c == cr) (d == lf) e
+  where
+    by_both : (b g : Bool) → cond b (cond g Two One) One ≡ Two → true ≡ (b && g)
+    by_both true true e = refl
+    by_both true false e = cc
+    by_both false g e = cc
+
+ending_one : (c : ℕ) (near far : List ℕ) → ending_of (c ∷ near) ≡ One → false ≡ ((c == cr) && begins_lf (near ++ far))
+ending_one c [] far e = by_cr (c == cr) e
+  where
+    by_cr : (b : Bool) → cond b Open One ≡ One → false ≡ (b && begins_lf far)
+    by_cr true e = cc
+    by_cr false e = refl
+ending_one c (d ∷ near) far e = by_both (c == cr) (d == lf) e
+  where
+    by_both : (b g : Bool) → cond b (cond g Two One) One ≡ One → false ≡ (b && g)
+    by_both true true e = cc
+    by_both true false e = refl
+    by_both false g e = refl
+
+pub whole_ending_two : (u : TextUnit) (text : List ℕ) (n : ℕ) (m : Mark) (h : IsMarkAt u text n m) → ending_of (chars m.rest.now) ≡ Two → true ≡ ((h.c == cr) && begins_lf (h.near ++ h.far))
+whole_ending_two u text n m h e = ending_two h.c h.near h.far (sym (ap ending_of h.rest) ∙ e)
+
+pub whole_ending_one : (u : TextUnit) (text : List ℕ) (n : ℕ) (m : Mark) (h : IsMarkAt u text n m) → ending_of (chars m.rest.now) ≡ One → false ≡ ((h.c == cr) && begins_lf (h.near ++ h.far))
+whole_ending_one u text n m h e = ending_one h.c h.near h.far (sym (ap ending_of h.rest) ∙ e)
+
+-- in front of a line end there is room for it
+pub line_end_room : (u : TextUnit) (text : List ℕ) (n : ℕ) (m : Mark) → IsMarkAt u text n m → m.at.scalars + 1 ≤ length text
+line_end_room u text n m h = omega (arith, h.at, ap length h.mark.split, length-append h.front (h.c ∷ (h.near ++ h.far)))
+
+pub bool_one : (b : Bool) → bool_byte b ≡ one_if b
+bool_one true = refl
+bool_one false = refl
+
+-- the point behind a line end is within the text
+pub behind_room : (u : TextUnit) (text : List ℕ) (n k : ℕ) (m : Mark) (h : IsMarkAt u text n m) (b : Bool) (e : Point) → b ≡ ((h.c == cr) && begins_lf (h.near ++ h.far)) → k ≡ bool_byte b → IsEnd u text e
+    → (m.at.scalars + (1 + k) ≤ e.scalars) × (m.at.units + (1 + k) ≤ e.units)
+behind_room u text n k m h b e is one end =
+    let same = one ∙ bool_one b in
+    let p : Point = record { scalars = m.at.scalars + (1 + k); units = m.at.units + (1 + k) } in
+    let start : IsLineStart u text (n + 1) p = line_start_behind u text n m h b p is (ap (λ j. m.at.scalars + (1 + j)) same) (ap (λ j. m.at.units + (1 + j)) same) in
+    point-within u text p e start.point end
+
+-- the first line starts with the text
+pub first_line_start : (u : TextUnit) (text : List ℕ) (n : ℕ) → n ≡ 0 → IsLineStart u text n (record { scalars = 0; units = 0 })
+first_line_start u text n e = record {
+  point = record { within = omega arith; units = refl };
+  is = ap (λ k. option_map start_of (slice_get (lines_of text) k)) e ∙ first_start text;
+}
+
+pub IsLineStart-at : (u : TextUnit) (text : List ℕ) (n k : ℕ) (p : Point) → IsLineStart u text n p → n ≡ k → IsLineStart u text k p
+IsLineStart-at u text n k p l e = subst (λ j. IsLineStart u text j p) e l
+
+-- a mark ends its line
+pub line_end_at : (u : TextUnit) (text : List ℕ) (n : ℕ) (m : Mark) → IsMarkAt u text n m → IsLineEnd u text n m.at
+line_end_at u text n m h = record {
+  point = h.point;
+  is = IsMark-end text n h.front h.c (h.near ++ h.far) h.mark ∙ ap Some (sym h.at);
+}
+
+-- the text's end, as a point
+pub end-point : (u : TextUnit) (text : List ℕ) (p : Point) → IsEnd u text p → IsPoint u text p
+end-point u text p e =
+    let all : take p.scalars text ≡ text = take_all p.scalars text (omega (arith, e.scalars)) in
+    record { within = omega (arith, e.scalars); units = e.units ∙ ap (width u) (sym all) }
+
+-- the last line ends with the text
+pub last_line_end : (u : TextUnit) (text : List ℕ) (n : ℕ) (p : Point) → IsEnd u text p → marks false text ≤ n → n < length (lines_of text) → IsLineEnd u text n p
+last_line_end u text n p e h l =
+    let same : n ≡ marks false text = omega (arith, line_count text) in
+    record {
+      point = end-point u text p e;
+      is = ap (λ k. option_map end_of (slice_get (lines_of text) k)) same ∙ last_end text ∙ ap Some (sym e.scalars);
+    }
+
+pub line_both : (u : TextUnit) (text : List ℕ) (n : ℕ) (p q : Point) → IsLineStart u text n p → IsLineEnd u text n q → slice_get (lines_of text) n ≡ Some (record { start = p.scalars; end = q.scalars })
+line_both u text n p q s e = line_is (slice_get (lines_of text) n) p.scalars q.scalars s.is e.is
+
+some_line : (o : Option Line) (k : ℕ) → option_map start_of o ≡ Some k → (l : Line) × (o ≡ Some l)
+some_line None k e = cc
+some_line (Some l) k e = (l, refl)
+
+pub has_line : (u : TextUnit) (text : List ℕ) (n : ℕ) (p : Point) → IsLineStart u text n p → n < length (lines_of text)
+has_line u text n p s =
+    let w = some_line (slice_get (lines_of text) n) p.scalars s.is in
+    slice_get_within (lines_of text) n w.0 w.1
+
+pub no_line : (text : List ℕ) (n : ℕ) → length (lines_of text) ≤ n → slice_get (lines_of text) n ≡ None
+no_line text n h = slice_get_past (lines_of text) n h
+
+pub no_line_from : (text : List ℕ) (n : ℕ) → 0 < n → marks false text ≤ n - 1 → length (lines_of text) ≤ n
+no_line_from text n h l = omega (arith, line_count text)

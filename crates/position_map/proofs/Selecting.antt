@@ -1,0 +1,135 @@
+-- What the searches for code points and units find is a place along the text.
+use Rattle.std.proofs.Common.{◌≡◌, refl, sym, ap, subst, ◌∙◌, ℕ, ◌+◌, ◌-◌, ◌<◌, ◌≤◌, inl, inr, Bool, true, false, cond, ◌==◌, nat_lt, List, [], ◌∷◌, ◌++◌, length, take, drop, take-append-drop, arith, add-one, Option, Some, None}
+use Rattle.std.specs.Option.{option_map}
+use Rattle.std.specs.Prelude.{IsTrue, ◌↔◌}
+use Rattle.std.specs.Str.{chars, IsUtf8, IsCharBoundary}
+use Rattle.std.proofs.lemmas.Bool.Decides.{nat_tests}
+use Rattle.std.proofs.lemmas.List.{length-take-le}
+use Rattle.std.proofs.lemmas.Str.{chars-append, IsUtf8-take}
+use Rattle.lane_utf.specs.declared.select.Select.{Select}
+use Rattle.lane_utf.specs.declared.select.Select.TheVariants.{At, Inside, Past}
+use Rattle.lane_utf.specs.Selected.{selected, moved}
+use Rattle.lane_utf.specs.Widths.{utf16_width, utf8_width}
+use Rattle.position_map.specs.declared.unit.Unit.{Unit as TextUnit}
+use Rattle.position_map.specs.declared.unit.Unit.TheVariants.{Utf8, Utf16, Utf32}
+use Rattle.position_map.specs.Widths.{width}
+use Rattle.position_map.specs.Positions.{along}
+use Rattle.position_map.specs.Along.{IsAlongFront}
+use Rattle.position_map.specs.Cuts.{IsScalarCut}
+use Rattle.position_map.proofs.Alongs.{along_step, along_front, along_place, by_test}
+use Rattle.position_map.proofs.Cutting.{IsCut, IsCut-at}
+use Rattle.position_map.proofs.Widths.{width-scalars, width-bytes}
+
+-- the kernel's answer and the place along the text
+abbrev Says : List ℕ → ℕ → Select → Type 0
+Says cs n (At i) = (k : ℕ) × (along Utf16 cs n ≡ Some k) × (k ≤ length cs) × (i ≡ width Utf8 (take k cs))
+Says cs n Inside = along Utf16 cs n ≡ None
+Says cs n Past = width Utf16 cs < n
+
+moved_says : (c : ℕ) (cs : List ℕ) (n : ℕ) (r : Select) → utf16_width c ≤ n → Says cs (n - utf16_width c) r → Says (c ∷ cs) n (moved (utf8_width c) r)
+moved_says c cs n (At i) h s = (
+  s.0 + 1,
+  along_step Utf16 c cs n h ∙ ap (option_map (λ k. k + 1)) s.1,
+  omega (arith, s.2),
+  ap (λ m. utf8_width c + m) s.3 ∙ ap (λ k. width Utf8 (take k (c ∷ cs))) (sym (add-one s.0)),
+)
+moved_says c cs n Inside h s = along_step Utf16 c cs n h ∙ ap (option_map (λ k. k + 1)) s
+moved_says c cs n Past h s = omega (arith, s, h)
+
+selected_says : (cs : List ℕ) (n : ℕ) → Says cs n (selected utf16_width cs n)
+selected_says [] n =
+    by_test (n == 0)
+    (λ t. subst (Says [] n) (sym (ap (λ b. cond b (At 0) Past) t)) (0, refl, omega arith, refl))
+    (λ t. let some : 0 < n = grind (arith, nat_tests) in subst (Says [] n) (sym (ap (λ b. cond b (At 0) Past) t)) some)
+selected_says (c ∷ cs) n =
+    let rest = moved (utf8_width c) (selected utf16_width cs (n - utf16_width c)) in
+    let more = option_map (λ k. k + 1) (along Utf16 cs (n - utf16_width c)) in
+    by_test (n == 0)
+    (λ t. subst (Says (c ∷ cs) n) (sym (ap (λ b. cond b (At 0) (cond (nat_lt n (utf16_width c)) Inside rest)) t))
+    (0, ap (λ b. cond b (Some 0) (cond (nat_lt n (utf16_width c)) None more)) t, omega arith, refl))
+    (λ t. by_test (nat_lt n (utf16_width c))
+    (λ l. subst (Says (c ∷ cs) n) (sym (ap (λ b. cond b (At 0) (cond (nat_lt n (utf16_width c)) Inside rest)) t ∙ ap (λ b. cond b Inside rest) l))
+    (ap (λ b. cond b (Some 0) (cond (nat_lt n (utf16_width c)) None more)) t ∙ ap (λ b. cond b None more) l))
+    (λ l. let h : utf16_width c ≤ n = grind (arith, nat_tests) in
+    subst (Says (c ∷ cs) n) (sym (ap (λ b. cond b (At 0) (cond (nat_lt n (utf16_width c)) Inside rest)) t ∙ ap (λ b. cond b Inside rest) l))
+    (moved_says c cs n (selected utf16_width cs (n - utf16_width c)) h (selected_says cs (n - utf16_width c)))))
+
+-- the bytes in front of the one that the search gives
+pub selected_cut : (text : List ℕ) (n at : ℕ) → IsUtf8 text → At at ≡ selected utf16_width (chars text) n → (k : ℕ) × (along Utf16 (chars text) n ≡ Some k) × IsCut text k at
+selected_cut text n at u e =
+    let s : Says (chars text) n (At at) = subst (Says (chars text) n) (sym e) (selected_says (chars text) n) in
+    (s.0, s.1, IsCut-at text s.0 at u s.2 s.3)
+
+pub selected_inside : (text : List ℕ) (n : ℕ) → Inside ≡ selected utf16_width (chars text) n → along Utf16 (chars text) n ≡ None
+selected_inside text n e = subst (Says (chars text) n) (sym e) (selected_says (chars text) n)
+
+pub selected_past : (text : List ℕ) (n : ℕ) → Past ≡ selected utf16_width (chars text) n → width Utf16 (chars text) < n
+selected_past text n e = subst (Says (chars text) n) (sym e) (selected_says (chars text) n)
+
+-- a cut at the place along the text
+pub front_at : (u : TextUnit) (text front : List ℕ) (n k at : ℕ) → along u (chars text) n ≡ Some k → IsCut text k at → front ≡ take at text → IsAlongFront u (chars text) n (chars front)
+front_at u text front n k at a c e =
+    let first : chars front ≡ take k (chars text) = ap chars e ∙ c.front in
+    let len : length (chars front) ≡ k = ap length first ∙ length-take-le k (chars text) c.within in
+    record {
+      back = drop k (chars text);
+      split = sym (take-append-drop k (chars text)) ∙ ap (λ t. t ++ drop k (chars text)) (sym first);
+      along = a ∙ ap (λ v. Some v) (sym len);
+    }
+
+along_scalars : (cs : List ℕ) (n : ℕ) → n ≤ length cs → along Utf32 cs n ≡ Some n
+along_scalars cs n h =
+    let len = length-take-le n cs h in
+    let wide : width Utf32 (take n cs) ≡ n = width-scalars (take n cs) ∙ len in
+    ap (λ t. along Utf32 t n) (sym (take-append-drop n cs)) ∙ ap (along Utf32 (take n cs ++ drop n cs)) (sym wide)
+    ∙ along_front Utf32 (take n cs) (drop n cs) ∙ ap (λ v. Some v) len
+
+-- a cut in front of code point n
+pub scalars_at : (text front : List ℕ) (n at : ℕ) → IsCut text n at → front ≡ take at text → IsAlongFront Utf32 (chars text) n (chars front)
+scalars_at text front n at c e = front_at Utf32 text front n n at (along_scalars (chars text) n c.within) c e
+
+-- a cut between the bytes of code points
+pub bytes_at : (text front : List ℕ) (n : ℕ) → IsUtf8 text → IsCharBoundary text n → front ≡ take n text → IsAlongFront Utf8 (chars text) n (chars front)
+bytes_at text front n u cut e =
+    let uf : IsUtf8 front = subst IsUtf8 (sym e) (IsUtf8-take text n u cut) in
+    let both : chars text ≡ chars front ++ chars (drop n text) = ap chars (sym (take-append-drop n text) ∙ ap (λ t. t ++ drop n text) (sym e)) ∙ chars-append front (drop n text) uf in
+    let wide : width Utf8 (chars front) ≡ n = width-bytes front uf ∙ ap length e ∙ length-take-le n text cut.0 in
+    record {
+      back = chars (drop n text);
+      split = both;
+      along = ap (λ t. along Utf8 t n) both ∙ ap (along Utf8 (chars front ++ chars (drop n text))) (sym wide) ∙ along_front Utf8 (chars front) (chars (drop n text));
+    }
+
+by_option : (o : Option ℕ) → ((k : ℕ) → o ≡ Some k → ⊥) → o ≡ None
+by_option None h = refl
+by_option (Some k) h = absurd (h k refl)
+
+-- the bytes of a code point aren't cut
+pub inside_bytes : (text : List ℕ) (n : ℕ) → IsUtf8 text → (IsCharBoundary text n → ⊥) → n ≤ length text → along Utf8 (chars text) n ≡ None
+inside_bytes text n u uncut h =
+    by_option (along Utf8 (chars text) n) (λ k e.
+    let p = along_place Utf8 (chars text) n k e in
+    elim p.exact [
+      | inl w ↦ uncut (IsCut-at text k n u p.within w).boundary
+      | inr w ↦ omega (arith, w, width-bytes text u, h)
+    ])
+
+pub past_bytes : (text : List ℕ) (n : ℕ) → IsUtf8 text → length text < n → width Utf8 (chars text) < n
+past_bytes text n u h = omega (arith, width-bytes text u, h)
+
+pub scalars_split : (text front back : List ℕ) (n at : ℕ) → IsCut text n at → front ≡ take at text → back ≡ drop at text → IsScalarCut (chars text) n (chars front) (chars back)
+scalars_split text front back n at c ef eb =
+    let first : chars front ≡ take n (chars text) = ap chars ef ∙ c.front in
+    let rest : chars back ≡ drop n (chars text) = ap chars eb ∙ c.back in
+    record {
+      split = sym (take-append-drop n (chars text)) ∙ ap (λ t. t ++ drop n (chars text)) (sym first) ∙ ap (λ t. chars front ++ t) (sym rest);
+      count = ap length first ∙ length-take-le n (chars text) c.within;
+    }
+
+not_true : (b : Bool) → IsTrue b → b ≡ false → ⊥
+not_true true h e = absurd cc
+not_true false h e = cc
+
+-- where the test says that the bytes are cut, and the text takes so many
+pub inside_by : (text : List ℕ) (n : ℕ) (b : Bool) → IsUtf8 text → (IsTrue b ↔ IsCharBoundary text n) → b ≡ false → n ≤ length text → along Utf8 (chars text) n ≡ None
+inside_by text n b u t e h = inside_bytes text n u (λ cut. not_true b (t.1 cut) e) h

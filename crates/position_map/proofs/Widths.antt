@@ -1,0 +1,42 @@
+-- Widths of texts.
+use Rattle.std.proofs.Common.{◌≡◌, refl, sym, ap, ◌∙◌, ℕ, zero, suc, ◌+◌, ◌<◌, ◌≤◌, List, [], ◌∷◌, ◌++◌, length, length-append, take, arith}
+use Rattle.std.specs.Str.{chars, IsUtf8}
+use Rattle.std.proofs.Math.Utf8.{encode, encodes}
+use Rattle.std.proofs.lemmas.Bool.Decides.{nat_tests}
+use Rattle.std.proofs.lemmas.Str.{encodes-chars, length-encode}
+use Rattle.position_map.specs.declared.unit.Unit.{Unit as TextUnit}
+use Rattle.position_map.specs.declared.unit.Unit.TheVariants.{Utf8, Utf16, Utf32}
+use Rattle.position_map.specs.Widths.{width, width_of}
+
+pub width-some : (u : TextUnit) (c : ℕ) → 0 < width_of u c
+width-some Utf8 c = grind (arith, nat_tests)
+width-some Utf16 c = grind (arith, nat_tests)
+width-some Utf32 c = omega arith
+
+pub width-append : (u : TextUnit) (xs ys : List ℕ) → width u (xs ++ ys) ≡ width u xs + width u ys
+width-append u [] ys = omega arith
+width-append u (x ∷ xs) ys = omega (arith, width-append u xs ys)
+
+pub width-take_le : (u : TextUnit) (cs : List ℕ) (k : ℕ) → width u (take k cs) ≤ width u cs
+width-take_le u [] zero = omega arith
+width-take_le u [] (suc k) = omega arith
+width-take_le u (c ∷ cs) zero = omega arith
+width-take_le u (c ∷ cs) (suc k) = omega (arith, width-take_le u cs k)
+
+pub width-scalars : (cs : List ℕ) → width Utf32 cs ≡ length cs
+width-scalars [] = refl
+width-scalars (c ∷ cs) = omega (arith, width-scalars cs)
+
+-- the bytes of a text are its width in UTF-8
+pub width-encodes : (cs : List ℕ) → length (encodes cs) ≡ width Utf8 cs
+width-encodes [] = refl
+width-encodes (c ∷ cs) = length-append (encode c) (encodes cs) ∙ ap (λ n. n + length (encodes cs)) (length-encode c) ∙ ap (λ n. width_of Utf8 c + n) (width-encodes cs)
+
+pub width-bytes : (bs : List ℕ) → IsUtf8 bs → width Utf8 (chars bs) ≡ length bs
+width-bytes bs u = sym (width-encodes (chars bs)) ∙ ap length (encodes-chars bs u)
+
+-- an ASCII character takes one of each unit
+pub width-ascii : (u : TextUnit) (c : ℕ) → c < 128 → width_of u c ≡ 1
+width-ascii Utf8 c h = grind (arith, nat_tests)
+width-ascii Utf16 c h = grind (arith, nat_tests)
+width-ascii Utf32 c h = refl

@@ -1,0 +1,6 @@
+use Rattle.std.proofs.Common.{◌∙◌}
+use Rattle.position_map.proofs.Pointing.{line_feed}
+use Rattle.position_map.proofs.marks.line_feed_at.Goals as goal
+
+pub returns-in-Some-clause-is : goal.returns-in-Some-clause-is
+returns-in-Some-clause-is c = c.begins_line_feed.ensures ∙ line_feed _ _ _ _ _ _ c.locate.ensures.place c.in-Some.ensures

@@ -1,0 +1,9 @@
+use Rattle.std.proofs.Common.{◌∙◌, sym, ap, length}
+use Rattle.piece_rope.specs.Document.{text_of}
+use Rattle.position_map.specs.Lines.{lines_of}
+use Rattle.position_map.specs.Whole.{Pieced}
+use Rattle.position_map.proofs.LineMarks.{line_count}
+use Rattle.position_map.proofs.parts.Parts.line_count.Goals as goal
+
+pub returns : goal.returns
+returns c = c.self.invariant.1.lines ∙ sym (line_count _) ∙ ap (λ (p : Pieced). length (lines_of (text_of p.doc))) c.self.view_is

@@ -1,0 +1,27 @@
+use Rattle.std.proofs.Common.{◌≡◌, ◌<◌, ◌≤◌, subst, arith, length, Ok, Err}
+use Rattle.piece_rope.specs.Document.{decoded}
+use Rattle.state_memo.specs.declared.axis.Axis.TheVariants.{Byte}
+use Rattle.position_map.specs.Places.{scalar_of_byte}
+use Rattle.position_map.specs.declared.fault.PosFault.TheVariants.{OutOfRange}
+use Rattle.position_map.proofs.Items.{within_bytes, scalar_at_end, scalar_past, found_here, small_here}
+use Rattle.position_map.proofs.places.byte_to_scalar.Goals as goal
+
+pub returns-then-at-length-clause-scalar : goal.returns-then-at-length-clause-scalar
+returns-then-at-length-clause-scalar c =
+    let past : length c.of-parts.result.doc.bytes < c.args.at = omega (arith, c.bytes-length.ensures.bytes, c.if-at-length.true) in
+    subst (λ d. Err OutOfRange ≡ scalar_of_byte (length d.bytes) (decoded d).items c.args.at) c.of-parts.ensures.doc (scalar_past c.of-parts.result _ past)
+
+pub returns-in-None-clause-scalar : goal.returns-in-None-clause-scalar
+returns-in-None-clause-scalar c =
+    let within : c.args.at ≤ length c.of-parts.result.doc.bytes = omega (arith, c.bytes-length.ensures.bytes, c.if-at-length.false) in
+    subst (λ d. Ok c.end-end.result.scalars ≡ scalar_of_byte (length d.bytes) (decoded d).items c.args.at) c.of-parts.ensures.doc
+    (scalar_at_end _ c.of-parts.result _ _ _ _ c.bytes-length.ensures.whole c.in-None.is c.find.ensures.place within c.end-end.ensures)
+
+pub scalars_until-requires : goal.scalars_until-requires
+scalars_until-requires c = record { found = found_here Byte _ _ _ _ c.in-Some.here c.in-Some.is c.find.ensures.place; small = small_here _ c.in-Some.here c.in-Some.is c.find.ensures.small }
+
+pub returns-in-Some-clause-scalar : goal.returns-in-Some-clause-scalar
+returns-in-Some-clause-scalar c =
+    let within : c.args.at ≤ length c.of-parts.result.doc.bytes = omega (arith, c.bytes-length.ensures.bytes, c.if-at-length.false) in
+    subst (λ d. Ok c.scalars_until.result ≡ scalar_of_byte (length d.bytes) (decoded d).items c.args.at) c.of-parts.ensures.doc
+    (within_bytes c.of-parts.result _ _ within c.scalars_until.ensures.scalars)

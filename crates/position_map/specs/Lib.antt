@@ -1,0 +1,15 @@
+pub mod Along
+pub mod Cuts
+pub mod Found
+pub mod Fronts
+pub mod LineEnds
+pub mod Lines
+pub mod Located
+pub mod Marked
+pub mod NextLines
+pub mod Places
+pub mod Placing
+pub mod Points
+pub mod Positions
+pub mod Whole
+pub mod Widths

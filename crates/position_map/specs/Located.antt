@@ -1,0 +1,49 @@
+-- Where a part of a document's text stands.
+use Rattle.std.specs.Prelude.{◌≡◌, ℕ, ◌<◌, ◌≤◌, ◌⊎◌, false, List, [], ◌++◌, length}
+use Rattle.lane_ascii.specs.Marks.{marks}
+use Rattle.state_memo.specs.declared.axis.Axis.{Axis}
+use Rattle.state_memo.specs.declared.axis.Axis.TheVariants.{Byte, Scalar, Utf16 as by_utf16, Utf8 as by_utf8, Mark}
+use Rattle.state_memo.specs.declared.ended.Ended.{Ended}
+use Rattle.state_memo.specs.declared.sum.Sum.{Sum}
+use Rattle.state_memo.specs.Facts.{IsSumOf}
+use Rattle.state_memo.specs.Sums.{measure}
+use Rattle.position_map.specs.declared.unit.Unit.{Unit as TextUnit}
+use Rattle.position_map.specs.declared.unit.Unit.TheVariants.{Utf8, Utf16, Utf32}
+use Rattle.position_map.specs.Widths.{width}
+
+-- what is sought along is a number of the text
+abbrev pub IsOfText : Axis → Type 0
+IsOfText Byte = ⊥
+IsOfText Scalar = Unit {0}
+IsOfText by_utf16 = Unit {0}
+IsOfText by_utf8 = Unit {0}
+IsOfText Mark = Unit {0}
+
+-- how far a text reaches along an axis
+abbrev pub reach : Axis → List ℕ → ℕ
+reach Byte cs = 0
+reach Scalar cs = length cs
+reach by_utf16 cs = width Utf16 cs
+reach by_utf8 cs = width Utf8 cs
+reach Mark cs = marks false cs
+
+-- the axis of a unit, and the number of a sum along it
+abbrev pub axis_of : TextUnit → Axis
+axis_of Utf8 = by_utf8
+axis_of Utf16 = by_utf16
+axis_of Utf32 = Scalar
+
+abbrev pub sum_in : TextUnit → Sum → ℕ
+sum_in Utf8 s = s.utf8
+sum_in Utf16 s = s.utf16
+sum_in Utf32 s = s.scalars
+
+-- a part of the text that the target stands in, or the last one, and the numbers of what stands in front
+pub record IsLocated (axis : Axis) (target : ℕ) (text : List ℕ) (before : Sum) (here : List ℕ) : Type 0 where
+  pub front : List ℕ
+  pub items : List Ended
+  pub back : List ℕ
+  pub split : text ≡ front ++ (here ++ back)
+  pub sum : IsSumOf front items before
+  pub low : measure axis before ≤ target
+  pub high : (back ≡ []) ⊎ (target < reach axis (front ++ here))

@@ -1,0 +1,53 @@
+-- Line marks of a text, and the lines between them.
+use Rattle.std.specs.Prelude.{◌≡◌, ℕ, Bool, true, false, List, [], ◌∷◌, ◌++◌, length, Some, slice_get}
+use Rattle.std.specs.Option.{option_map}
+use Rattle.std.specs.Str.{chars}
+use Rattle.lane_ascii.specs.Marks.{is_mark, marks, ends_cr}
+use Rattle.position_map.specs.declared.mark.Mark.{Mark}
+use Rattle.position_map.specs.declared.point.Point.{Point}
+use Rattle.position_map.specs.declared.unit.Unit.{Unit as TextUnit}
+use Rattle.position_map.specs.Lines.{Line, lines_of}
+use Rattle.position_map.specs.Points.{IsPoint}
+
+-- whether a mark stands first, where the flag says that a CR stands in front
+abbrev pub begins_mark : Bool → List ℕ → Bool
+begins_mark after_cr [] = false
+begins_mark after_cr (c ∷ cs) = is_mark after_cr c
+
+-- a text in two parts, the second of which begins with mark `n`
+pub record IsMarkCut (after_cr : Bool) (cs : List ℕ) (n : ℕ) (front back : List ℕ) : Type 0 where
+  pub split : cs ≡ front ++ back
+  pub count : marks after_cr front ≡ n
+  pub is : begins_mark (ends_cr after_cr front) back ≡ true
+
+-- a text cut in front of mark `n`
+pub record IsMark (text : List ℕ) (n : ℕ) (front : List ℕ) (c : ℕ) (back : List ℕ) : Type 0 where
+  pub split : text ≡ front ++ c ∷ back
+  pub count : marks false front ≡ n
+  pub is : is_mark (ends_cr false front) c ≡ true
+
+-- where mark `n` stands; `near` is what is behind it in its piece
+pub record IsMarkAt (unit : TextUnit) (text : List ℕ) (n : ℕ) (m : Mark) : Type 0 where
+  pub front : List ℕ
+  pub c : ℕ
+  pub near : List ℕ
+  pub far : List ℕ
+  pub mark : IsMark text n front c (near ++ far)
+  pub at : m.at.scalars ≡ length front
+  pub point : IsPoint unit text m.at
+  pub rest : chars m.rest.now ≡ c ∷ near
+
+abbrev pub start_of : Line → ℕ
+start_of l = l.start
+
+abbrev pub end_of : Line → ℕ
+end_of l = l.end
+
+-- where line `n` starts, and where it ends
+pub record IsLineStart (unit : TextUnit) (text : List ℕ) (n : ℕ) (p : Point) : Type 0 where
+  pub point : IsPoint unit text p
+  pub is : option_map start_of (slice_get (lines_of text) n) ≡ Some p.scalars
+
+pub record IsLineEnd (unit : TextUnit) (text : List ℕ) (n : ℕ) (p : Point) : Type 0 where
+  pub point : IsPoint unit text p
+  pub is : option_map end_of (slice_get (lines_of text) n) ≡ Some p.scalars

@@ -1,0 +1,47 @@
+-- Where items are among those of a document.
+use Rattle.std.specs.Prelude.{◌≡◌, ℕ, ◌+◌, ◌-◌, ◌<◌, ◌≤◌, ◌⊎◌, List, [], ◌∷◌, ◌++◌, length, get_or, Some}
+use Rattle.decoder_core.specs.declared.placed.Placed.{Placed}
+use Rattle.state_memo.specs.declared.ended.Ended.{Ended}
+use Rattle.state_memo.specs.declared.outcome.Outcome.{Outcome}
+use Rattle.state_memo.specs.declared.sum.Sum.{Sum}
+use Rattle.state_memo.specs.Fitting.{total_of}
+use Rattle.piece_rope.specs.Document.{decoded}
+use Rattle.piece_rope.specs.Made.{IsEnded, ends_at}
+use Rattle.position_map.specs.Places.{place_of}
+use Rattle.position_map.specs.Whole.{Pieced}
+
+abbrev pub bom_of : Pieced → ℕ
+bom_of d = (decoded d.doc).bom
+
+-- each item begins where the one before ends
+abbrev pub IsChained : ℕ → List Placed → Type 0
+IsChained from [] = Unit {0}
+IsChained from (p ∷ ps) = (p.from ≡ from) × IsChained p.to ps
+
+-- where the last item ends, or else the start
+abbrev pub last_to : ℕ → List Placed → ℕ
+last_to from [] = from
+last_to from (p ∷ ps) = last_to p.to ps
+
+-- item `k` of a piece that begins at byte `base` has code point `n`
+pub record HasItem (base : ℕ) (ps : List Placed) (es : List Ended) (n k : ℕ) : Type 0 where
+  pub front : List Placed
+  pub item : Placed
+  pub back : List Placed
+  pub split : ps ≡ front ++ item ∷ back
+  pub len : length front ≡ k
+  pub within : k < length es
+  pub ended : (d : Ended) → IsEnded base item (get_or es k d)
+  pub last : (d : Ended) (from : ℕ) → 0 < k → last_to from front ≡ ends_at base (get_or es (k - 1) d).end
+  pub place : (more : List Placed) → place_of (ps ++ more) n ≡ Some (record { from = item.from; to = item.to })
+
+-- a piece that code point `n` is sought in, or the tail
+pub record IsPlaced (d : Pieced) (n : ℕ) (s : Sum) (here : Outcome) : Type 0 where
+  pub front : List Outcome
+  pub pieces : List Outcome
+  pub back : List Outcome
+  pub cut : d.pieces ≡ front ++ pieces
+  pub split : d.pieces ++ d.tail ∷ [] ≡ front ++ here ∷ back
+  pub sum : s ≡ total_of front
+  pub low : s.scalars ≤ n
+  pub high : (back ≡ []) ⊎ (n < s.scalars + here.sum.scalars)

@@ -1,0 +1,19 @@
+-- Points of a text, counted in code points and in a unit.
+use Rattle.std.specs.Prelude.{◌≡◌, ℕ, ◌+◌, ◌≤◌, List, length, take}
+use Rattle.position_map.specs.declared.point.Point.{Point}
+use Rattle.position_map.specs.declared.unit.Unit.{Unit as TextUnit}
+use Rattle.position_map.specs.Widths.{width}
+
+pub record IsPoint (unit : TextUnit) (text : List ℕ) (p : Point) : Type 0 where
+  pub within : p.scalars ≤ length text
+  pub units : p.units ≡ width unit (take p.scalars text)
+
+-- the text's end
+pub record IsEnd (unit : TextUnit) (text : List ℕ) (p : Point) : Type 0 where
+  pub scalars : p.scalars ≡ length text
+  pub units : p.units ≡ width unit text
+
+-- the point behind a text that stands behind so many code points and units
+pub record IsBehind (unit : TextUnit) (scalars units : ℕ) (front : List ℕ) (p : Point) : Type 0 where
+  pub scalars_are : p.scalars ≡ scalars + length front
+  pub units_are : p.units ≡ units + width unit front

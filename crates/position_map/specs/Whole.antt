@@ -1,0 +1,45 @@
+-- A document as its pieces and its tail.
+use Rattle.std.specs.Prelude.{◌≡◌, ℕ, ◌+◌, ◌/◌, ◌<◌, ◌≤◌, false, List, [], ◌∷◌, ◌++◌, length}
+use Rattle.lane_ascii.specs.Marks.{marks}
+use Rattle.lane_utf.specs.Widths.{utf8_width, utf16_width, total_width}
+use Rattle.state_memo.specs.declared.outcome.Outcome.{Outcome}
+use Rattle.state_memo.specs.Fitting.{total_of}
+use Rattle.piece_rope.specs.declared.lengths.Lengths.{Lengths}
+use Rattle.piece_rope.specs.Document.{Document, decoded, text_of}
+use Rattle.piece_rope.specs.Made.{AreMade}
+
+-- a document and what its pieces and the end of its bytes decode to
+pub record Pieced : Type 0 where
+  pub doc : Document
+  pub pieces : List Outcome
+  pub tail : Outcome
+
+-- the most pieces that a document has
+abbrev pub pieces_most : Document → ℕ
+pieces_most d = 1 + length d.bytes / 512
+
+-- each piece has so many bytes, or at most so many
+abbrev pub AreAtLeast : ℕ → List Outcome → Type 0
+AreAtLeast least [] = Unit {0}
+AreAtLeast least (o ∷ os) = (least ≤ o.sum.bytes) × AreAtLeast least os
+
+abbrev pub AreAtMost : ℕ → List Outcome → Type 0
+AreAtMost most [] = Unit {0}
+AreAtMost most (o ∷ os) = (o.sum.bytes ≤ most) × AreAtMost most os
+
+pub record IsWhole (d : Document) (os : List Outcome) (tail : Outcome) : Type 0 where
+  pub made : AreMade 0 (decoded d).items (os ++ tail ∷ [])
+  pub bytes : (total_of os).bytes ≡ length d.bytes
+  pub no_bytes : tail.sum.bytes ≡ 0
+  pub some : AreAtLeast 1 os
+  pub long : 1 < length os → AreAtLeast 512 os
+  pub short : AreAtMost 2048 os
+  pub few : length os ≤ pieces_most d
+
+-- a document's lengths
+pub record AreLengths (d : Document) (n : Lengths) : Type 0 where
+  pub bytes : n.bytes ≡ length d.bytes
+  pub scalars : n.scalars ≡ length (text_of d)
+  pub utf16 : n.utf16 ≡ total_width utf16_width (text_of d)
+  pub utf8 : n.utf8 ≡ total_width utf8_width (text_of d)
+  pub lines : n.lines ≡ marks false (text_of d) + 1

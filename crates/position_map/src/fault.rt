@@ -1,0 +1,10 @@
+//! Why a position, an offset or a place is refused.
+
+/// Why a position, an offset or a place is refused.
+#[derive(Clone, Copy, PartialEq, Eq, Debug)]
+pub enum PosFault {
+    /// Past the end.
+    OutOfRange,
+    /// Inside a code point.
+    SplitsCharacter,
+}

@@ -1,0 +1,87 @@
+//! Line marks of a document.
+ghost use Rattle.std.specs.Prelude.{◌≡◌, ℕ, ◌+◌, ◌^◌, ◌<◌, ◌≤◌, ◌==◌, ◌&&◌, ◌++◌, false, drop, MatchOption};
+ghost use Rattle.lane_ascii.specs.Marks.{cr, marks};
+ghost use Rattle.state_memo.specs.Lines.{begins_lf};
+ghost use Rattle.piece_rope.specs.Document.{text_of};
+ghost use Rattle.position_map.specs.declared.unit.Unit.{Unit as TextUnit};
+ghost use Rattle.position_map.specs.Marked.{IsMarkAt, IsLineStart};
+ghost use Rattle.position_map.specs.Whole.{pieces_most};
+
+use crate::cuts::{begins_line_feed, ending_of, split_at_mark, split_at_scalar};
+use crate::ending::Ending;
+use crate::locate::{locate, sum_in};
+use crate::mark::Mark;
+use crate::parts::Parts;
+use crate::point::{Point, point_behind};
+use crate::unit::Unit;
+use piece_rope::{Axis, Visits};
+
+// Line mark `n`, where there are more than `n`.
+pub(crate) fn mark<'d>(
+    parts: &Parts<'d, '_>,
+    unit: Unit,
+    n: u64,
+    visits: &mut Visits,
+) -> Option<Mark<'d>>
+    ensures place { MatchOption result (marks false (text_of parts.now.doc) ≤ n) (IsMarkAt unit (text_of parts.now.doc) n) }
+    ensures most { (d : ℕ) → pieces_most parts.now.doc < 2 ^ d → visits.new ≤ visits.old + (d + 2) }
+    ensures kept { visits.old ≤ visits.new }
+{
+    let _end = parts.end(unit);
+    let (before, here) = locate(parts, Axis::Mark, n, visits);
+    match split_at_mark(here, before.cr_last, (n - before.marks) as usize) {
+        None => None,
+        Some((front, rest)) => {
+            let at = point_behind(before.scalars, sum_in(before, unit), front, unit);
+            Some(Mark { at, rest })
+        }
+    }
+}
+
+// Whether code point `n` is an LF.
+pub(crate) fn line_feed_at(parts: &Parts<'_, '_>, n: u64, visits: &mut Visits) -> bool
+    ensures is { result ≡ begins_lf (drop n (text_of parts.now.doc)) }
+    ensures most { (d : ℕ) → pieces_most parts.now.doc < 2 ^ d → visits.new ≤ visits.old + (d + 2) }
+    ensures kept { visits.old ≤ visits.new }
+{
+    let (before, here) = locate(parts, Axis::Scalar, n, visits);
+    match split_at_scalar(here, (n - before.scalars) as usize) {
+        Some((_, rest)) => begins_line_feed(rest),
+        None => false,
+    }
+}
+
+// Whether the line end at a mark is CR LF.
+fn is_cr_lf(parts: &Parts<'_, '_>, m: &Mark<'_>, visits: &mut Visits) -> bool
+    requires room { m.now.at.scalars + 1 < 2 ^ 64 }
+    ensures is { (unit : TextUnit) (n : ℕ) (h : IsMarkAt unit (text_of parts.now.doc) n m.now) → result ≡ ((h.c == cr) && begins_lf (h.near ++ h.far)) }
+    ensures most { (d : ℕ) → pieces_most parts.now.doc < 2 ^ d → visits.new ≤ visits.old + (d + 2) }
+    ensures kept { visits.old ≤ visits.new }
+{
+    match ending_of(m.rest) {
+        Ending::Two => true,
+        Ending::One => false,
+        Ending::Open => line_feed_at(parts, m.at.scalars + 1, visits),
+    }
+}
+
+// Where the line behind mark `n` starts.
+pub(crate) fn line_behind(
+    parts: &Parts<'_, '_>,
+    unit: Unit,
+    n: u64,
+    m: &Mark<'_>,
+    visits: &mut Visits,
+) -> Point
+    requires mark { IsMarkAt unit (text_of parts.now.doc) n m.now }
+    ensures start { IsLineStart unit (text_of parts.now.doc) (n + 1) result }
+    ensures most { (d : ℕ) → pieces_most parts.now.doc < 2 ^ d → visits.new ≤ visits.old + (d + 2) }
+    ensures kept { visits.old ≤ visits.new }
+{
+    let _end = parts.end(unit);
+    let length = 1 + u64::from(is_cr_lf(parts, m, visits));
+    Point {
+        scalars: m.at.scalars + length,
+        units: m.at.units + length,
+    }
+}

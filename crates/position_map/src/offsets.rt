@@ -1,0 +1,113 @@
+//! Offsets of positions, and offsets in other units.
+ghost use Rattle.std.specs.Prelude.{◌≡◌, ℕ, ◌+◌, ◌*◌, ◌^◌, ◌<◌, ◌≤◌, None, MatchResult};
+ghost use Rattle.std.specs.Option.{ok_or};
+ghost use Rattle.std.specs.Str.{chars};
+ghost use Rattle.piece_rope.specs.Document.{text_of};
+ghost use Rattle.position_map.specs.declared.fault.PosFault.TheVariants.{SplitsCharacter};
+ghost use Rattle.position_map.specs.Fronts.{IsFrontOf};
+ghost use Rattle.position_map.specs.Positions.{along, offset_of, converted};
+ghost use Rattle.position_map.specs.Whole.{pieces_most};
+ghost use Rattle.position_map.specs.Widths.{width};
+
+use crate::along::{Along, along_text};
+use crate::fault::PosFault;
+use crate::lines::{line_end, line_start};
+use crate::locate::{axis_of, locate, sum_in};
+use crate::parts::Parts;
+use crate::point::units_in;
+use crate::position::Position;
+use crate::unit::Unit;
+use lane_utf::count_scalars;
+use piece_rope::{Doc, Sum, Visits};
+
+/// The offset of a position, in code points from the text's start (LSP 3.17, "Position"). A line
+/// past the last is the text's end, a character past the line's length the line's end. Refused with
+/// `SplitsCharacter` where the character is inside a code point.
+pub fn to_offset(
+    doc: &Doc<'_>,
+    position: Position,
+    unit: Unit,
+    visits: &mut Visits,
+) -> Result<u64, PosFault>
+    ensures offset { result ≡ offset_of (text_of doc.now) unit position }
+    ensures most { (d : ℕ) → pieces_most doc.now < 2 ^ d → visits.new ≤ visits.old + (4 * d + 8) }
+    ensures kept { visits.old ≤ visits.new }
+{
+    let parts = Parts::of(doc);
+    match line_start(&parts, unit, position.line, visits) {
+        None => Ok(parts.end(unit).scalars),
+        Some(start) => {
+            let end = line_end(&parts, unit, position.line, visits);
+            if position.character < end.units - start.units {
+                scalar_at(&parts, unit, start.units + position.character, visits)
+            } else {
+                Ok(end.scalars)
+            }
+        }
+    }
+}
+
+/// The number of units of `to` that the code points take that take `value` units of `from`; an
+/// offset in code points is one in UTF-32. Refused with `OutOfRange` where the text takes fewer,
+/// with `SplitsCharacter` where the last unit is inside a code point.
+pub fn convert(
+    doc: &Doc<'_>,
+    value: u64,
+    from: Unit,
+    to: Unit,
+    visits: &mut Visits,
+) -> Result<u64, PosFault>
+    ensures value { result ≡ converted (text_of doc.now) from to value }
+    ensures most { (d : ℕ) → pieces_most doc.now < 2 ^ d → visits.new ≤ visits.old + (4 * d + 8) }
+    ensures kept { visits.old ≤ visits.new }
+{
+    let parts = Parts::of(doc);
+    let _end = parts.end(to);
+    if value > parts.end(from).units {
+        return Err(PosFault::OutOfRange);
+    }
+    match front_at(&parts, from, value, visits) {
+        Ok((before, front)) => Ok(sum_in(before, to) + units_in(front, to)),
+        Err(fault) => Err(fault),
+    }
+}
+
+// How many code points take `n` units.
+fn scalar_at(
+    parts: &Parts<'_, '_>,
+    unit: Unit,
+    n: u64,
+    visits: &mut Visits,
+) -> Result<u64, PosFault>
+    requires { n ≤ width unit (text_of parts.now.doc) }
+    ensures scalar { result ≡ ok_or (along unit (text_of parts.now.doc) n) SplitsCharacter }
+    ensures most { (d : ℕ) → pieces_most parts.now.doc < 2 ^ d → visits.new ≤ visits.old + (d + 2) }
+    ensures kept { visits.old ≤ visits.new }
+{
+    let _end = parts.end(unit);
+    match front_at(parts, unit, n, visits) {
+        Ok((before, front)) => Ok(before.scalars + count_scalars(front) as u64),
+        Err(fault) => Err(fault),
+    }
+}
+
+// The code points that take `n` units: those of the last piece among them, and the numbers of what
+// stands before it.
+fn front_at<'d>(
+    parts: &Parts<'d, '_>,
+    unit: Unit,
+    n: u64,
+    visits: &mut Visits,
+) -> Result<(Sum, &'d str), PosFault>
+    requires { n ≤ width unit (text_of parts.now.doc) }
+    ensures front { MatchResult result (λ r. IsFrontOf unit (text_of parts.now.doc) n r.0 (chars r.1.now)) (λ e. (along unit (text_of parts.now.doc) n ≡ None) × (e ≡ SplitsCharacter)) }
+    ensures most { (d : ℕ) → pieces_most parts.now.doc < 2 ^ d → visits.new ≤ visits.old + (d + 2) }
+    ensures kept { visits.old ≤ visits.new }
+{
+    let (before, here) = locate(parts, axis_of(unit), n, visits);
+    match along_text(here, unit, (n - sum_in(before, unit)) as usize) {
+        Along::At(front) => Ok((before, front)),
+        Along::Inside => Err(PosFault::SplitsCharacter),
+        Along::Past => unreachable!(),
+    }
+}

@@ -1,0 +1,115 @@
+//! Documents as their pieces and their tail.
+ghost use Rattle.std.specs.Prelude.{◌≡◌, ℕ, ◌+◌, ◌^◌, ◌<◌, ◌≤◌, length, map, option_copied, IfSome};
+ghost use Rattle.piece_rope.specs.Document.{decoded, text_of};
+ghost use Rattle.piece_rope.specs.Entry.{here_of};
+ghost use Rattle.position_map.specs.Found.{IsFoundOutcome};
+ghost use Rattle.position_map.specs.Lines.{lines_of};
+ghost use Rattle.position_map.specs.Points.{IsEnd};
+ghost use Rattle.position_map.specs.Whole.{AreLengths, pieces_most};
+ghost use Rattle.position_map.specs.Whole.{IsWhole};
+
+use crate::point::Point;
+use crate::unit::Unit;
+use piece_rope::{Axis, Doc, Entered, Finder, Lengths, Outcome, Sum, Visits};
+use std::marker::Model;
+
+/// A document as its pieces, which are reached by searches alone, and its tail. Contracts see what
+/// these decode to.
+#[derive(Drop)]
+pub(crate) struct Parts<'d, 'i> {
+    doc: &'d Doc<'i>,
+    finder: Finder<'d, Entered, Sum>,
+    tail: &'d Outcome,
+    lengths: Lengths,
+}
+
+impl<'d, 'i> Model for Parts<'d, 'i> {
+    ghost use Rattle.std.specs.Prelude.{map};
+    ghost use Rattle.piece_rope.specs.Entry.{here_of};
+    ghost use Rattle.position_map.specs.Whole.{AreLengths};
+    ghost use Rattle.position_map.specs.Whole.{Pieced, IsWhole};
+
+    ghost Value = { Pieced };
+
+    ghost view = { λ p. record { doc = p.doc.now; pieces = map here_of p.finder; tail = p.tail.now } };
+
+    ghost invariant = { λ p. IsWhole p.doc.now (map here_of p.finder) p.tail.now × AreLengths p.doc.now p.lengths };
+}
+
+impl<'d, 'i> Parts<'d, 'i> {
+    // The parts of a document.
+    pub(crate) fn of(doc: &'d Doc<'i>) -> Parts<'d, 'i>
+        ensures doc { result.doc ≡ doc.now }
+        ensures whole { IsWhole doc.now result.pieces result.tail }
+    {
+        Parts {
+            doc,
+            finder: doc.finder(),
+            tail: doc.tail(),
+            lengths: doc.lengths(),
+        }
+    }
+
+    // What the end of the bytes gives.
+    pub(crate) fn tail(&self) -> &'d Outcome
+        ensures tail { result.now ≡ self.now.tail }
+        ensures whole { IsWhole self.now.doc self.now.pieces self.now.tail }
+    {
+        self.tail
+    }
+
+    // The number of bytes.
+    pub(crate) fn bytes(&self) -> u64
+        ensures bytes { result ≡ length self.now.doc.bytes }
+        ensures whole { IsWhole self.now.doc self.now.pieces self.now.tail }
+    {
+        self.lengths.bytes
+    }
+
+    // The number of lines.
+    pub(crate) fn line_count(&self) -> u64
+        ensures { result ≡ length (lines_of (text_of self.now.doc)) }
+    {
+        self.lengths.lines
+    }
+
+    // The number of bytes of the byte order mark.
+    pub(crate) fn bom(&self) -> u64
+        ensures { result ≡ (decoded self.now.doc).bom }
+    {
+        self.doc.bom_len()
+    }
+
+    // The text's end.
+    pub(crate) fn end(&self, unit: Unit) -> Point
+        ensures { IsEnd unit (text_of self.now.doc) result }
+    {
+        let scalars = self.lengths.scalars;
+        let units = match unit {
+            Unit::Utf8 => self.lengths.utf8,
+            Unit::Utf16 => self.lengths.utf16,
+            Unit::Utf32 => scalars,
+        };
+        Point { scalars, units }
+    }
+
+    // The piece behind which the axis is above the target, if there is one, and the sum of those in
+    // front of it, or of all.
+    pub(crate) fn find(
+        &self,
+        axis: Axis,
+        target: u64,
+        visits: &mut Visits,
+    ) -> (Sum, Option<&'d Outcome>)
+        ensures place { IsFoundOutcome axis target self.now.pieces result.0 (option_copied result.1) }
+        ensures small { IfSome result.1 (λ o. o.now.sum.bytes ≤ 2048) }
+        ensures most { (d : ℕ) → pieces_most self.now.doc < 2 ^ d → visits.new ≤ visits.old + (d + 2) }
+        ensures kept { visits.old ≤ visits.new }
+    {
+        let (before, found) = self.finder.find(&axis, target, visits);
+        match found {
+            Some(entered) => (before, Some(entered.here())),
+            None => (before, None),
+        }
+    }
+}

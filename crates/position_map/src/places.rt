@@ -1,0 +1,150 @@
+//! Places of code points in a document's bytes.
+ghost use Rattle.std.specs.Prelude.{◌≡◌, ℕ, ◌+◌, ◌*◌, ◌^◌, ◌<◌, ◌≤◌, ◌-◌, List, ◌∷◌, ◌++◌, [], length, get_or, Some};
+ghost use Rattle.decoder_core.specs.declared.placed.Placed.{Placed};
+ghost use Rattle.state_memo.specs.declared.ended.Ended.{Ended};
+ghost use Rattle.state_memo.specs.declared.outcome.Outcome.{Outcome};
+ghost use Rattle.state_memo.specs.Fitting.{total_of};
+ghost use Rattle.piece_rope.specs.Document.{decoded};
+ghost use Rattle.state_memo.specs.declared.axis.Axis.TheVariants.{Byte};
+ghost use Rattle.position_map.specs.Found.{IsFoundOutcome};
+ghost use Rattle.piece_rope.specs.Made.{AreMade, ends_at};
+ghost use Rattle.position_map.specs.Places.{place_of, scalar_of_byte, scalars_until};
+ghost use Rattle.position_map.specs.Placing.{bom_of, last_to, HasItem};
+ghost use Rattle.position_map.specs.Whole.{pieces_most};
+
+use crate::fault::PosFault;
+use crate::parts::Parts;
+use crate::unit::Unit;
+use enc_names::Place;
+use piece_rope::{Axis, Doc, Outcome, Sum, Visits};
+
+/// The number of code points that a byte offset names: those of the items that end at or before it
+/// (docs/ENCODINGS.md, "Places"). Refused with `OutOfRange` past the bytes.
+pub fn byte_to_scalar(doc: &Doc<'_>, at: u64, visits: &mut Visits) -> Result<u64, PosFault>
+    ensures scalar { result ≡ scalar_of_byte (length doc.now.bytes) (decoded doc.now).items at }
+    ensures most { (d : ℕ) → pieces_most doc.now < 2 ^ d → visits.new ≤ visits.old + (4 * d + 8) }
+    ensures kept { visits.old ≤ visits.new }
+{
+    let parts = Parts::of(doc);
+    let length = parts.bytes();
+    let end = parts.end(Unit::Utf32);
+    if at > length {
+        return Err(PosFault::OutOfRange);
+    }
+    let (before, found) = parts.find(Axis::Byte, at, visits);
+    match found {
+        None => Ok(end.scalars),
+        Some(here) => Ok(scalars_until(&parts, at, before, here, visits)),
+    }
+}
+
+// The code points of the items that end at or before a byte of a piece: those of the pieces in
+// front, and those of some items of the piece and of the next one, which may end before it begins.
+fn scalars_until(
+    parts: &Parts<'_, '_>,
+    at: u64,
+    before: Sum,
+    here: &Outcome,
+    visits: &mut Visits,
+) -> u64
+    requires found { IsFoundOutcome Byte at parts.now.pieces before (Some here.now) }
+    requires small { here.now.sum.bytes ≤ 2048 }
+    ensures scalars { result ≡ scalars_until at (decoded parts.now.doc).items }
+    ensures most { (d : ℕ) → pieces_most parts.now.doc < 2 ^ d → visits.new ≤ visits.old + (d + 2) }
+    ensures kept { visits.old ≤ visits.new }
+{
+    let _length = parts.bytes();
+    let _end = parts.end(Unit::Utf32);
+    let start = before.bytes + here.sum.bytes;
+    let next = piece_from(parts, start, visits);
+    let inside = here.scalars_before((at - before.bytes) as i64);
+    let ahead = next.scalars_before(-((start - at) as i64));
+    before.scalars + inside + ahead
+}
+
+// The piece that begins at a byte, or the tail.
+fn piece_from<'d>(parts: &Parts<'d, '_>, start: u64, visits: &mut Visits) -> &'d Outcome
+    ensures piece { (front back : List Outcome) → parts.now.pieces ≡ front ++ back → (total_of front).bytes ≡ start
+        → (rest : List Outcome) × (back ++ parts.now.tail ∷ [] ≡ result.now ∷ rest) }
+    ensures most { (d : ℕ) → pieces_most parts.now.doc < 2 ^ d → visits.new ≤ visits.old + (d + 2) }
+    ensures kept { visits.old ≤ visits.new }
+{
+    let tail = parts.tail();
+    let (_, found) = parts.find(Axis::Byte, start, visits);
+    found.unwrap_or(tail)
+}
+
+/// The place of code point `n`, which is that of its item: an error has one, and so have two code
+/// points of one item (docs/ENCODINGS.md, "Places"). None past the text.
+pub fn scalar_to_place(doc: &Doc<'_>, n: u64, visits: &mut Visits) -> Option<Place>
+    ensures place { result ≡ place_of (decoded doc.now).items n }
+    ensures most { (d : ℕ) → pieces_most doc.now < 2 ^ d → visits.new ≤ visits.old + (4 * d + 8) }
+    ensures kept { visits.old ≤ visits.new }
+{
+    let parts = Parts::of(doc);
+    let tail = parts.tail();
+    let (before, found) = parts.find(Axis::Scalar, n, visits);
+    let here = found.unwrap_or(tail);
+    match here.item_of(n - before.scalars) {
+        None => None,
+        Some(k) => {
+            let to = end_at(before.bytes, here, k);
+            let from = start_of(&parts, before, here, k, visits);
+            Some(Place { from, to })
+        }
+    }
+}
+
+// The byte at which item `k` of a piece begins: where the one before ends, which may be in a piece
+// in front.
+fn start_of(parts: &Parts<'_, '_>, before: Sum, here: &Outcome, k: u64, visits: &mut Visits) -> u64
+    requires within { k < length here.now.items }
+    ensures start { (front back : List Outcome) (left ps : List Placed) (n : ℕ) → parts.now.pieces ≡ front ++ back → before ≡ total_of front → AreMade 0 left front
+        → (h : HasItem before.bytes ps here.now.items n k) → result ≡ last_to (bom_of parts.now) (left ++ h.front) }
+    ensures most { (d : ℕ) → pieces_most parts.now.doc < 2 ^ d → visits.new ≤ visits.old + (d + 2) }
+    ensures kept { visits.old ≤ visits.new }
+{
+    if k == 0 {
+        return last_end(parts, before.scalars, visits);
+    }
+    end_at(before.bytes, here, k - 1)
+}
+
+// The byte at which the last item of so many code points in front ends, or the text begins.
+fn last_end(parts: &Parts<'_, '_>, count: u64, visits: &mut Visits) -> u64
+    ensures end { (front back : List Outcome) (ps : List Placed) → parts.now.pieces ≡ front ++ back → (total_of front).scalars ≡ count → AreMade 0 ps front
+        → result ≡ last_to (bom_of parts.now) ps }
+    ensures most { (d : ℕ) → pieces_most parts.now.doc < 2 ^ d → visits.new ≤ visits.old + (d + 2) }
+    ensures kept { visits.old ≤ visits.new }
+{
+    let bom = parts.bom();
+    if count == 0 {
+        return bom;
+    }
+    let (before, found) = parts.find(Axis::Scalar, count - 1, visits);
+    match found {
+        None => bom,
+        Some(piece) => last_in(before.bytes, piece),
+    }
+}
+
+// The byte at which the last item of a piece ends.
+fn last_in(base: u64, piece: &Outcome) -> u64
+    ensures { (d : Ended) → 0 < length piece.now.items → result ≡ ends_at base (get_or piece.now.items (length piece.now.items - 1) d).end }
+{
+    match piece.items.last() {
+        Some(item) => base.saturating_add_signed(item.end),
+        None => base,
+    }
+}
+
+// The byte at which item `k` of a piece ends.
+fn end_at(base: u64, piece: &Outcome, k: u64) -> u64
+    requires within { k < length piece.now.items }
+    ensures { (d : Ended) → result ≡ ends_at base (get_or piece.now.items k d).end }
+{
+    match piece.items.get(k) {
+        Some(item) => base.saturating_add_signed(item.end),
+        None => base,
+    }
+}
