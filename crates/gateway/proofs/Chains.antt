@@ -4,7 +4,7 @@ use Rattle.std.specs.Io.KnownBytes.{Keeps}
 use Rattle.std.proofs.KnownBytes.{Appends-trans, Appends-nil, Consumes-trans, Consumes-nil, Consumes-kept, Keeps-refl}
 use Rattle.gateway.specs.declared.serve.RunFault.{RunFault}
 use Rattle.gateway.specs.declared.serve.RunFault.TheVariants.{NotFree, Read, Write, TooManyReads}
-use Rattle.gateway.specs.Desk.{Office}
+use Rattle.desk.specs.Desk.{Office}
 use Rattle.gateway.specs.Traffic.{Traffic}
 use Rattle.gateway.specs.Serving.{Serves, Breaks, SameOthers, most_reads, IsReadUp}
 use Rattle.gateway.specs.Delivery.{IsOpen, Delivered, DeliveredUntil, Pumped, PumpedUntil, Pumps}

@@ -1,10 +1,6 @@
 mod Chains
+mod Clients
 mod Cuts
-mod DeskLaws
-mod DeskNames
-mod DeskSession
-mod DeskSteps
-mod EncodeSteps
 mod Devices
 mod LineEnds
 mod DroppedLines

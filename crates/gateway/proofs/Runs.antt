@@ -3,7 +3,7 @@ use Rattle.std.proofs.Common.{◌≡◌, ℕ, ◌<◌, List, [], length, Option,
 use Rattle.std.proofs.lemmas.List.{get_or-set_same, get_or-set_other}
 use Rattle.gateway.specs.declared.serve.RunFault.{RunFault}
 use Rattle.gateway.specs.declared.serve.RunFault.TheVariants.{NotFree, Read, Write, TooManyReads}
-use Rattle.gateway.specs.Desk.{Office}
+use Rattle.desk.specs.Desk.{Office}
 use Rattle.gateway.specs.Lines.{complete}
 use Rattle.gateway.specs.Traffic.{Received, Traffic}
 use Rattle.gateway.specs.Events.{line_at, with_line}

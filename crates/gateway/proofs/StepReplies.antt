@@ -5,19 +5,18 @@ use Rattle.json.specs.Print.{escape_byte}
 use Rattle.serde_json.specs.Data.{Data}
 use Rattle.enc_names.specs.Labels.{LabelTable}
 use Rattle.index_loader.specs.Files.{Files}
-use Rattle.gateway.specs.declared.desk.fault.Fault.TheVariants.{BadBase64, NoDocument, NameTaken, UnknownLabel, NoIndex, TooManyDocuments, Stale, RevisionsSpent, OutOfRange, NoEncoder, Unencodable, TooLarge, Malformed, OutOfMemory}
-use Rattle.gateway.specs.declared.desk.reply.Reply.{Reply}
-use Rattle.gateway.specs.declared.desk.reply.Reply.TheVariants.{Edited, Text, Bytes, Errors, Refused}
+use Rattle.desk.specs.declared.fault.Fault.TheVariants.{BadBase64, NoDocument, NameTaken, UnknownLabel, NoIndex, TooManyDocuments, Stale, RevisionsSpent, OutOfRange, NoEncoder, Unencodable, TooLarge, Malformed, OutOfMemory}
+use Rattle.desk.specs.declared.reply.Reply.{Reply}
+use Rattle.desk.specs.declared.reply.Reply.TheVariants.{Edited, Closed, Text, Bytes, Errors, Refused}
 use Rattle.gateway.specs.declared.request.refusal.Refusal.{Refusal}
 use Rattle.gateway.specs.declared.request.refusal.Refusal.TheVariants as refusal
-use Rattle.gateway.specs.Commands.{Asked}
+use Rattle.desk.specs.Commands.{Asked}
 use Rattle.gateway.specs.Request.{◌>>=◌, json_of_line, request_of, IsJsonOfLine}
 use Rattle.gateway.specs.Replies.{reply_text, refusal_text, memory_text, is_short}
 use Rattle.std.proofs.lemmas.Bool.{false_from_ne_true}
-use Rattle.gateway.specs.Documents.{Names}
-use Rattle.gateway.specs.Desk.{Office, Outcome, Answers, IsOutcome, answer_of}
-use Rattle.gateway.specs.DeskRuns.{is_edited}
-use Rattle.gateway.proofs.DeskLaws.{only_edits_change}
+use Rattle.desk.specs.Documents.{Names}
+use Rattle.desk.specs.Desk.{Office, Outcome, Answers, IsOutcome, answer_of}
+use Rattle.desk.specs.Changes.{changes}
 use Rattle.gateway.proofs.DroppedLines.{memory_answers}
 use Rattle.gateway.specs.Step.{Step, IsStep, Replies, answered, step_by, step_of, line_limit}
 
@@ -35,6 +34,7 @@ IsApart id reply = bytes_eq (reply_text id reply) memory_text ≡ false
 pub texts_apart : (id : ℕ) (reply : Reply) → IsApart id reply
 unfolding escape_byte
 texts_apart id (Edited bom encoding rev) = refl
+texts_apart id (Closed rev) = refl
 texts_apart id (Text rev text) = refl
 texts_apart id (Bytes rev bytes) = refl
 texts_apart id (Errors rev total places) = refl
@@ -83,21 +83,19 @@ desk_step old new id command reply text e a =
 
 -- ---- replies that need memory
 
-unwritten_same : (old new : Office) (command : Asked) (reply : Reply) → is_short reply ≡ false → IsOutcome (answer_of old command) reply old.documents new.documents → new.documents ≡ old.documents
-unwritten_same old new command (Edited bom encoding rev) long is = cc
-unwritten_same old new command (Refused fault) long is = cc
-unwritten_same old new command (Text rev text) long is =
-    sym (ap (λ o. o.documents) is) ∙ only_edits_change old command (ap (λ o. is_edited o.reply) is)
-unwritten_same old new command (Bytes rev bytes) long is =
-    sym (ap (λ o. o.documents) is) ∙ only_edits_change old command (ap (λ o. is_edited o.reply) is)
-unwritten_same old new command (Errors rev total places) long is =
-    sym (ap (λ o. o.documents) is) ∙ only_edits_change old command (ap (λ o. is_edited o.reply) is)
+-- a reply with a text or a list reports no change
+long_keeps : (reply : Reply) → is_short reply ≡ false → changes reply ≡ false
+long_keeps (Edited bom encoding rev) long = cc
+long_keeps (Closed rev) long = cc
+long_keeps (Refused fault) long = refl
+long_keeps (Text rev text) long = refl
+long_keeps (Bytes rev bytes) long = refl
+long_keeps (Errors rev total places) long = refl
 
 -- the desk answered, and memory didn't suffice to write its reply
-pub unwritten_reply_step : (old new : Office) (step : Step) (command : Asked) (reply : Reply) (text : List ℕ) → text ≡ memory_text → (is_short reply ≡ true → ⊥) → Answers old command reply new
+pub unwritten_reply_step : (old new : Office) (step : Step) (reply : Reply) (text : List ℕ) → text ≡ memory_text → (is_short reply ≡ true → ⊥) → (changes reply ≡ false → new ≡ old)
     → IsStep old step text new
-unwritten_reply_step old new step command reply text e long a =
-    memory_step old new step text e (same_office old new a.indexes a.labels (unwritten_same old new command reply (false_from_ne_true _ long) a.step))
+unwritten_reply_step old new step reply text e long kept = memory_step old new step text e (kept (long_keeps reply (false_from_ne_true _ long)))
 
 -- ---- refusals
 

@@ -17,7 +17,7 @@ use Rattle.gateway.proofs.Cuts.{complete_without, unfinished_without, before_wit
 
 -- ---- connections
 
-good_number : (c : ℕ) (fault : Option GateFault) → unless_bad_number c fault ≡ None → c < connections
+pub good_number : (c : ℕ) (fault : Option GateFault) → unless_bad_number c fault ≡ None → c < connections
 good_number c fault h =
     ltb-true c connections (elim (nat_lt c connections) as (λ t. (if t then fault else Some BadNumber) ≡ None → t ≡ true) [ true ↦ λ _. refl | false ↦ λ no. cc ] h)
 

@@ -8,7 +8,7 @@ use Rattle.gateway.specs.Traffic.{Partial, Received, Traffic, Takes}
 
 -- the number of connections, whose numbers count from 0
 abbrev pub connections : ℕ
-connections = 1
+connections = 16
 
 -- what happens on a connection
 pub data Happening : Type 0 where

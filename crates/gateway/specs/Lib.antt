@@ -1,13 +1,9 @@
+pub mod Clients
 pub mod Codes
-pub mod Commands
 pub mod Delivery
-pub mod Desk
-pub mod DeskRuns
 pub mod Devices
-pub mod Documents
 pub mod Events
 pub mod Lines
-pub mod OpenDocuments
 pub mod Replies
 pub mod Request
 pub mod Serving

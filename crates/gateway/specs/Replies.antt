@@ -7,10 +7,10 @@ use Rattle.base64.specs.GeneralPurpose.{encode_of}
 use Rattle.enc_names.specs.Names.{name_of}
 use Rattle.enc_names.specs.declared.encoding.Encoding.{Encoding}
 use Rattle.enc_names.specs.declared.place.Place.{Place}
-use Rattle.gateway.specs.declared.desk.fault.Fault.{Fault}
-use Rattle.gateway.specs.declared.desk.fault.Fault.TheVariants.{BadBase64, NoDocument, NameTaken, UnknownLabel, NoIndex, TooManyDocuments, Stale, RevisionsSpent, OutOfRange, NoEncoder, Unencodable, TooLarge, Malformed, OutOfMemory}
-use Rattle.gateway.specs.declared.desk.reply.Reply.{Reply}
-use Rattle.gateway.specs.declared.desk.reply.Reply.TheVariants.{Edited, Text, Bytes, Errors, Refused}
+use Rattle.desk.specs.declared.fault.Fault.{Fault}
+use Rattle.desk.specs.declared.fault.Fault.TheVariants.{BadBase64, NoDocument, NameTaken, UnknownLabel, NoIndex, TooManyDocuments, Stale, RevisionsSpent, OutOfRange, NoEncoder, Unencodable, TooLarge, Malformed, OutOfMemory}
+use Rattle.desk.specs.declared.reply.Reply.{Reply}
+use Rattle.desk.specs.declared.reply.Reply.TheVariants.{Edited, Closed, Text, Bytes, Errors, Refused}
 use Rattle.gateway.specs.declared.request.field.Field.{Field}
 use Rattle.gateway.specs.declared.request.field.Field.TheVariants as field
 use Rattle.gateway.specs.declared.request.refusal.Refusal.{Refusal}
@@ -67,6 +67,9 @@ edited_data id bom encoding rev =
     object (member (codes "bom") (whole bom) (member (codes "encoding") (string (name_of encoding))
     (member (codes "id") (whole id) (member (codes "rev") (whole rev) no_members))))
 
+abbrev pub closed_data : ℕ → ℕ → Data
+closed_data id rev = object (member (codes "id") (whole id) (member (codes "rev") (whole rev) no_members))
+
 abbrev pub text_data : ℕ → ℕ → List ℕ → Data
 text_data id rev text = object (member (codes "id") (whole id) (member (codes "rev") (whole rev) (member (codes "text") (string text) no_members)))
 
@@ -112,6 +115,7 @@ fault_data id f = fault_with_id_data (fault_name f) id
 -- the object that answers the request with this number
 abbrev pub reply_data : ℕ → Reply → Data
 reply_data id (Edited bom encoding rev) = edited_data id bom encoding rev
+reply_data id (Closed rev) = closed_data id rev
 reply_data id (Text rev text) = text_data id rev text
 reply_data id (Bytes rev bytes) = bytes_data id rev bytes
 reply_data id (Errors rev total places) = errors_data id rev total places
@@ -159,6 +163,7 @@ memory_text = line_of (bare_data (codes "OutOfMemory"))
 -- The reply is stored inline: it holds no text and no list.
 abbrev pub is_short : Reply → Bool
 is_short (Edited bom encoding rev) = true
+is_short (Closed rev) = true
 is_short (Text rev text) = false
 is_short (Bytes rev bytes) = false
 is_short (Errors rev total places) = false

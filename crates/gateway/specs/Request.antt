@@ -1,18 +1,18 @@
 -- The request in a line, over the data that its JSON text stands for. Of two equal keys
 -- the last counts, and a number that has a fraction, an exponent or a minus sign is no whole number.
 use Rattle.std.specs.Prelude.{◌≡◌, ◌<◌, ◌-◌, ◌^◌, ℕ, ◌||◌, ◌==◌, nat_lt, nat_le, List, length, codes, if◌then◌else◌, is_some, Option, Some, None, option_and_then, Result, Ok, Err}
-use Rattle.std.specs.Str.{bytes_eq, is_utf8}
+use Rattle.std.specs.Str.{bytes_eq}
 use Rattle.serde_json.specs.Data.{Data}
-use Rattle.serde_json.specs.Read.{read}
 use Rattle.serde_json.specs.Find.{get, as_number, as_u64, as_str, as_object}
 use Rattle.serde_json.specs.View.{view}
 use Rattle.serde_json.specs.declared.value.Value.{Value}
-use Rattle.gateway.specs.Commands.{Asked, Opens, Splices, Reads, ReadsBytes, Encodes, ListsErrors, asked}
-use Rattle.gateway.specs.declared.desk.command.Command.{Command}
+use Rattle.enc_names.specs.Json.{json_of}
+use Rattle.desk.specs.Commands.{Asked, asked_of, Opens, Closes, Splices, Reads, ReadsBytes, Encodes, ListsErrors, asked}
+use Rattle.desk.specs.declared.command.Command.{Command}
 use Rattle.encoders.specs.declared.mode.EncodeMode.{EncodeMode}
 use Rattle.encoders.specs.declared.mode.EncodeMode.TheVariants as encode_mode
-use Rattle.gateway.specs.declared.desk.text_mode.TextMode.{TextMode}
-use Rattle.gateway.specs.declared.desk.text_mode.TextMode.TheVariants.{Replacement, Fatal}
+use Rattle.desk.specs.declared.text_mode.TextMode.{TextMode}
+use Rattle.desk.specs.declared.text_mode.TextMode.TheVariants.{Replacement, Fatal}
 use Rattle.gateway.specs.declared.request.field.Field.{Field}
 use Rattle.gateway.specs.declared.request.field.Field.TheVariants as field
 use Rattle.gateway.specs.declared.request.refusal.Refusal.{Refusal}
@@ -29,9 +29,8 @@ need e (Some x) = Ok x
 
 -- ---- the value of a line
 
--- The line is UTF-8 and a JSON text (RFC 8259) that nests at most 127 levels.
 abbrev pub json_of_line : List ℕ → Result Data Refusal
-json_of_line line = if is_utf8 line then need BadJson (read line) else Err BadJson
+json_of_line line = need BadJson (json_of line)
 
 -- ---- a field
 
@@ -94,7 +93,12 @@ open_command d = do
   doc ← need field.Doc (name_at d)
   label ← need field.Label (text_at d (codes "label"))
   bytes ← need field.Bytes (text_at d (codes "bytes"))
-  Ok (Opens doc label bytes)
+  Ok (asked_of doc (Opens label bytes))
+
+abbrev pub close_command : Data → Result Asked Field
+close_command d = do
+  doc ← need field.Doc (name_at d)
+  Ok (asked_of doc Closes)
 
 abbrev pub splice_command : Data → Result Asked Field
 splice_command d = do
@@ -103,7 +107,7 @@ splice_command d = do
   at ← need field.At (number_at d (codes "at") max_number)
   del ← need field.Del (number_at d (codes "del") max_number)
   bytes ← need field.Bytes (text_at d (codes "bytes"))
-  Ok (Splices doc rev at del bytes)
+  Ok (asked_of doc (Splices rev at del bytes))
 
 abbrev pub text_command : Data → Result Asked Field
 text_command d = do
@@ -111,14 +115,14 @@ text_command d = do
   from ← need field.From (number_at d (codes "from") max_number)
   to ← need field.To (number_at d (codes "to") max_number)
   mode ← need field.Mode (text_mode_at d)
-  Ok (Reads doc from to mode)
+  Ok (asked_of doc (Reads from to mode))
 
 abbrev pub source_command : Data → Result Asked Field
 source_command d = do
   doc ← need field.Doc (name_at d)
   at ← need field.At (number_at d (codes "at") max_number)
   len ← need field.Len (number_at d (codes "len") max_number)
-  Ok (ReadsBytes doc at len)
+  Ok (asked_of doc (ReadsBytes at len))
 
 abbrev pub encode_command : Data → Result Asked Field
 encode_command d = do
@@ -127,14 +131,14 @@ encode_command d = do
   to ← need field.To (number_at d (codes "to") max_number)
   label ← need field.Label (text_at d (codes "label"))
   mode ← need field.Mode (encode_mode_at d)
-  Ok (Encodes doc from to label mode)
+  Ok (asked_of doc (Encodes from to label mode))
 
 abbrev pub errors_command : Data → Result Asked Field
 errors_command d = do
   doc ← need field.Doc (name_at d)
   from ← need field.From (number_at d (codes "from") max_number)
   max ← need field.Max (number_at d (codes "max") max_entries)
-  Ok (ListsErrors doc from max)
+  Ok (asked_of doc (ListsErrors from max))
 
 abbrev pub with_id : ℕ → Result Asked Field → Result (ℕ × Asked) Refusal
 with_id id (Ok command) = Ok (id, command)
@@ -143,12 +147,13 @@ with_id id (Err f) = Err (BadRequest (Some id) f)
 abbrev pub command_of : Data → ℕ → List ℕ → Result (ℕ × Asked) Refusal
 command_of d id op =
     if bytes_eq op (codes "open") then with_id id (open_command d)
+    else (if bytes_eq op (codes "close") then with_id id (close_command d)
     else (if bytes_eq op (codes "splice") then with_id id (splice_command d)
     else (if bytes_eq op (codes "text") then with_id id (text_command d)
     else (if bytes_eq op (codes "source") then with_id id (source_command d)
     else (if bytes_eq op (codes "encode") then with_id id (encode_command d)
     else (if bytes_eq op (codes "errors") then with_id id (errors_command d)
-    else Err (UnknownOp id))))))
+    else Err (UnknownOp id)))))))
 
 -- the request in an object: its number and its command
 abbrev pub request_of : Data → Result (ℕ × Asked) Refusal

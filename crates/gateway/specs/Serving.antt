@@ -3,7 +3,7 @@ use Rattle.std.specs.Prelude.{◌≡◌, ℕ, ◌+◌, ◌<◌, ◌≤◌, ◌�
 use Rattle.std.specs.Io.KnownBytes.{Consumes, Appends}
 use Rattle.gateway.specs.declared.serve.RunFault.{RunFault}
 use Rattle.gateway.specs.declared.serve.RunFault.TheVariants.{NotFree, Read, Write, TooManyReads}
-use Rattle.gateway.specs.Desk.{Office}
+use Rattle.desk.specs.Desk.{Office}
 use Rattle.gateway.specs.Step.{Replies}
 use Rattle.gateway.specs.Lines.{complete}
 use Rattle.gateway.specs.Traffic.{Traffic}

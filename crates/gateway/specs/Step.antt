@@ -1,10 +1,10 @@
 -- What one complete line does: its reply, and the desk after it.
 use Rattle.std.specs.Prelude.{◌≡◌, ℕ, nat_lt, List, length, Result, Ok, Err, MatchBool}
 use Rattle.std.specs.Str.{bytes_eq}
-use Rattle.gateway.specs.Commands.{Asked}
+use Rattle.desk.specs.Commands.{Asked}
 use Rattle.gateway.specs.Request.{request_of_line}
 use Rattle.gateway.specs.Replies.{reply_text, refusal_text, memory_text}
-use Rattle.gateway.specs.Desk.{Office, Outcome, answer_of}
+use Rattle.desk.specs.Desk.{Office, Outcome, answer_of}
 use Rattle.gateway.specs.declared.request.refusal.Refusal.{Refusal}
 use Rattle.gateway.specs.declared.request.refusal.Refusal.TheVariants.{LineTooLong}
 

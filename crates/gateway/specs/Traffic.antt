@@ -1,6 +1,6 @@
 -- The connections, and what bytes of one connection do.
 use Rattle.std.specs.Prelude.{◌≡◌, ℕ, ◌+◌, List, [], ◌++◌, length, min, Option, Some, None, MatchBool, if◌then◌else◌}
-use Rattle.gateway.specs.Desk.{Office}
+use Rattle.desk.specs.Desk.{Office}
 use Rattle.gateway.specs.Step.{line_limit, Replies}
 use Rattle.gateway.specs.Lines.{has_end, before_end}
 

@@ -11,7 +11,7 @@ mod begun_line;
 pub use begun_line::BegunLine;
 
 /// How many connections there are. Their numbers count from 0.
-pub const CONNECTIONS: usize = 1;
+pub const CONNECTIONS: usize = 16;
 
 /// The lines that are begun, one for each connection that is open. Contracts see their list.
 #[derive(Drop)]
@@ -41,7 +41,10 @@ impl Connections {
         ensures { result ≡ replicate connections None }
     {
         Connections {
-            lines: [const { None }; CONNECTIONS],
+            lines: [
+                None, None, None, None, None, None, None, None, //
+                None, None, None, None, None, None, None, None,
+            ],
         }
     }
 

@@ -3,8 +3,8 @@ ghost use Rattle.std.specs.Prelude.{◌≡◌, ◌<◌, List, [], None, Some, le
 ghost use Rattle.gateway.specs.Traffic.{Received};
 
 use crate::connection::{BegunLine, Connections};
-use crate::desk::Desk;
 use crate::reply_line::ReplyLine;
+use desk::Desk;
 use std::alloc::Global;
 use std::marker::Model;
 

@@ -3,9 +3,9 @@
 #![tactic(auto)]
 
 mod connection;
-pub mod desk;
 mod device;
 mod gateway;
+mod laws;
 mod reply_line;
 mod request;
 mod respond;
@@ -14,5 +14,6 @@ mod serve;
 pub use connection::CONNECTIONS;
 pub use device::{Failed, Feed, FromRead, MemFeed, MemOutlet, Outlet, ToWrite, write_all};
 pub use gateway::{Event, GateFault, Gateway, Out};
+pub use laws::replies_in_order;
 pub use reply_line::ReplyLine;
 pub use serve::{RunFault, run};

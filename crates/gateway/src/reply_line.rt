@@ -7,9 +7,9 @@ mod short_text;
 #[cfg(test)]
 mod tests;
 
-use crate::desk::Reply;
 use crate::reply_line::short_text::ShortText;
 use crate::request::Refusal;
+use desk::Reply;
 use std::alloc::{AllocError, Global};
 use std::marker::Model;
 
@@ -66,6 +66,7 @@ impl ReplyLine {
             Reply::Edited { bom, encoding, rev } => {
                 Ok(ReplyLine::inline(short::edited(id, *bom, *encoding, *rev)))
             }
+            Reply::Closed { rev } => Ok(ReplyLine::inline(short::closed(id, *rev))),
             Reply::Text { rev, text } => {
                 let bytes = long::text(alloc, id, *rev, text.as_str())?;
                 Ok(ReplyLine {

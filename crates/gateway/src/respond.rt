@@ -3,9 +3,9 @@ ghost use Rattle.serde_json.specs.View.{view};
 ghost use Rattle.gateway.specs.Request.{request_of};
 ghost use Rattle.gateway.specs.Step.{Replies, IsStep, step_by};
 
-use crate::desk::Desk;
 use crate::reply_line::ReplyLine;
 use crate::request::{Refusal, read, request};
+use desk::Desk;
 use serde_json::Value;
 use std::alloc::Global;
 

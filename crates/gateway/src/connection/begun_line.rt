@@ -3,12 +3,12 @@ ghost use Rattle.std.specs.Prelude.{◌≡◌, ℕ, ◌+◌, ◌<◌, List, [], 
 ghost use Rattle.gateway.specs.Step.{line_limit, Replies};
 ghost use Rattle.gateway.specs.Lines.{has_end, before_end};
 ghost use Rattle.gateway.specs.Traffic.{Received, Dropped, Stands, Takes};
-ghost use Rattle.gateway.specs.Desk.{Office};
+ghost use Rattle.desk.specs.Desk.{Office};
 
-use crate::desk::Desk;
 use crate::reply_line::ReplyLine;
 use crate::request::Refusal;
 use crate::respond::{LINE_LIMIT, respond};
+use desk::Desk;
 use memchr::memchr;
 use std::alloc::Global;
 use std::marker::Model;
@@ -89,11 +89,12 @@ impl BegunLine {
         self.dropped.is_none() && self.received.is_empty()
     }
 
-    /// Begins the next line.
+    /// Begins the next line. The memory of this one is freed, so that a connection holds none between
+    /// its lines.
     fn clear(&mut self)
         ensures { self.new ≡ Received [] }
     {
-        self.received.clear();
+        self.received = Vec::new(*self.received.allocator());
         self.dropped = None;
     }
 

@@ -2,12 +2,12 @@
 ghost use Rattle.std.specs.Prelude.{◌≡◌, ◌≤◌, length, codes, IsTrue};
 ghost use Rattle.enc_names.specs.Names.{name_of};
 ghost use Rattle.gateway.specs.Writing.{all_plain, name_room};
-ghost use Rattle.gateway.specs.Replies.{IsShortLine, edited_data, fault_data, refusal_data, bare_data, fault_with_id_data, unencodable_data, malformed_data, bad_request_data, fault_name, field_name};
+ghost use Rattle.gateway.specs.Replies.{IsShortLine, edited_data, closed_data, fault_data, refusal_data, bare_data, fault_with_id_data, unencodable_data, malformed_data, bad_request_data, fault_name, field_name};
 
-use crate::desk::Fault;
 use crate::reply_line::members::{Content, line};
 use crate::reply_line::short_text::ShortText;
 use crate::request::{Field, Refusal};
+use desk::Fault;
 use enc_names::{Encoding, Place};
 
 /// An open or an edit was accepted.
@@ -20,6 +20,13 @@ pub(super) fn edited(id: u64, bom: u64, encoding: Encoding, rev: u64) -> ShortTe
         ("id", Content::Number(id)),
         ("rev", Content::Number(rev)),
     ])
+}
+
+/// A document was closed.
+pub(super) fn closed(id: u64, rev: u64) -> ShortText
+    ensures { IsShortLine (closed_data id rev) result }
+{
+    line(&[("id", Content::Number(id)), ("rev", Content::Number(rev))])
 }
 
 /// The desk refused the request.

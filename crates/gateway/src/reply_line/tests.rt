@@ -2,14 +2,14 @@
 ghost use Rattle.std.specs.Prelude.{◌≡◌, ◌++◌, ◌∷◌, [], codes, Some, None};
 ghost use Rattle.enc_names.specs.declared.encoding.Encoding.TheVariants.{Utf8};
 ghost use Rattle.gateway.specs.Replies.{reply_text, refusal_text};
-ghost use Rattle.gateway.specs.declared.desk.fault.Fault.TheVariants as fault;
-ghost use Rattle.gateway.specs.declared.desk.reply.Reply.TheVariants.{Edited, Text, Errors, Refused};
+ghost use Rattle.desk.specs.declared.fault.Fault.TheVariants as fault;
+ghost use Rattle.desk.specs.declared.reply.Reply.TheVariants.{Edited, Closed, Text, Errors, Refused};
 ghost use Rattle.gateway.specs.declared.request.field.Field.TheVariants as field;
 ghost use Rattle.gateway.specs.declared.request.refusal.Refusal.TheVariants as refusal;
 
-use crate::desk::{Fault, Reply, ReplyText};
 use crate::reply_line::ReplyLine;
 use crate::request::{Field, Refusal};
+use desk::{Fault, Reply, ReplyText};
 use enc_names::Place;
 use std::test::Fail;
 
@@ -29,6 +29,7 @@ fn stored_session()
 {}
 
 fn other_replies()
+    ensures closed { reply_text 7 (Closed 1) ≡ codes "{\"id\":7,\"rev\":1}\n" }
     ensures stale { reply_text 1 (Refused (fault.Stale 1))
         ≡ codes "{\"fault\":\"Stale\",\"id\":1,\"rev\":1}\n" }
     ensures malformed { reply_text 1 (Refused (fault.Malformed (record { from = 0; to = 2 })))

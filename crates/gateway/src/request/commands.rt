@@ -1,13 +1,13 @@
 //! From a JSON value to a command.
 ghost use Rattle.std.specs.Prelude.{◌≡◌};
 ghost use Rattle.serde_json.specs.View.{view};
-ghost use Rattle.gateway.specs.Request.{open_command, splice_command, text_command, source_command, encode_command, errors_command, request_of, command_asked, request_asked};
+ghost use Rattle.gateway.specs.Request.{open_command, close_command, splice_command, text_command, source_command, encode_command, errors_command, request_of, command_asked, request_asked};
 ghost use Rattle.gateway.specs.declared.request.refusal.Refusal.TheVariants.{BadRequest};
 
-use crate::desk::Command;
 use crate::request::field::Field;
 use crate::request::fields::{self, MAX_NUMBER};
 use crate::request::refusal::Refusal;
+use desk::Command;
 use serde_json::Value;
 
 /// The most places of errors that one request may ask for.
@@ -28,6 +28,7 @@ pub(crate) fn request(value: &Value) -> Result<(u64, Command<'_>), Refusal>
     let op = fields::text(value, "op").ok_or(bad(Some(id), Field::Op))?;
     let command = match op {
         "open" => open(value),
+        "close" => close(value),
         "splice" => splice(value),
         "text" => text(value),
         "source" => source(value),
@@ -56,6 +57,14 @@ fn open(value: &Value) -> Result<Command<'_>, Field>
     let label = fields::text(value, "label").ok_or(Field::Label)?;
     let bytes = fields::text(value, "bytes").ok_or(Field::Bytes)?;
     Ok(Command::Open { doc, label, bytes })
+}
+
+/// The command `close`, or the first faulty field.
+fn close(value: &Value) -> Result<Command<'_>, Field>
+    ensures { command_asked result ≡ close_command (view value.now) }
+{
+    let doc = fields::name(value).ok_or(Field::Doc)?;
+    Ok(Command::Close { doc })
 }
 
 /// The command `splice`, or the first faulty field.

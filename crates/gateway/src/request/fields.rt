@@ -3,7 +3,7 @@ ghost use Rattle.std.specs.Prelude.{◌≡◌, ◌↔◌, IsTrue, IsSome, option
 ghost use Rattle.serde_json.specs.View.{view};
 ghost use Rattle.gateway.specs.Request.{number_at, text_at, name_at, text_mode_at, encode_mode_at};
 
-use crate::desk::TextMode;
+use desk::TextMode;
 use encoders::EncodeMode;
 use serde_json::Value;
 

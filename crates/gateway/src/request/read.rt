@@ -2,7 +2,8 @@
 ghost use Rattle.gateway.specs.Request.{IsJsonOfLine};
 
 use crate::request::refusal::Refusal;
-use serde_json::{Category, Value};
+use enc_names::parse_json;
+use serde_json::Value;
 use std::alloc::Global;
 
 /// The JSON value of a line, which comes without its line feed.
@@ -13,11 +14,9 @@ use std::alloc::Global;
 pub(crate) fn read(alloc: Global, line: &[u8]) -> Result<Value, Refusal>
     ensures { IsJsonOfLine line.now result }
 {
-    match Value::from_slice(alloc, line) {
-        Ok(value) => Ok(value),
-        Err(error) => match error.classify() {
-            Category::Memory => Err(Refusal::OutOfMemory),
-            _ => Err(Refusal::BadJson),
-        },
+    match parse_json(alloc, line) {
+        Ok(Some(value)) => Ok(value),
+        Ok(None) => Err(Refusal::BadJson),
+        Err(_) => Err(Refusal::OutOfMemory),
     }
 }

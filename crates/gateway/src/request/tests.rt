@@ -1,14 +1,14 @@
 //! Worked lines: their requests, computed on the definition, and what is parsed from them.
 ghost use Rattle.std.specs.Prelude.{◌≡◌, ◌∷◌, [], codes, Ok, Err, Some, None};
-ghost use Rattle.gateway.specs.Commands.{Opens, Splices, Reads, ReadsBytes, Encodes, ListsErrors};
+ghost use Rattle.desk.specs.Commands.{asked_of, Opens, Closes, Splices, Reads, ReadsBytes, Encodes, ListsErrors};
 ghost use Rattle.gateway.specs.Request.{request_of_line};
 ghost use Rattle.encoders.specs.declared.mode.EncodeMode.TheVariants as encode_mode;
-ghost use Rattle.gateway.specs.declared.desk.text_mode.TextMode.TheVariants.{Replacement, Fatal};
+ghost use Rattle.desk.specs.declared.text_mode.TextMode.TheVariants.{Replacement, Fatal};
 ghost use Rattle.gateway.specs.declared.request.field.Field.TheVariants as field;
 ghost use Rattle.gateway.specs.declared.request.refusal.Refusal.TheVariants.{BadJson, BadRequest, UnknownOp};
 
-use crate::desk::{Command, TextMode};
 use crate::request::{Field, Refusal, read, request};
+use desk::{Command, TextMode};
 use std::alloc::Global;
 use std::process::Abort;
 use std::test::Fail;
@@ -40,29 +40,31 @@ fn numbers()
 fn commands()
     ensures open { request_of_line (codes
         "{\"id\":1,\"op\":\"open\",\"doc\":\"a\",\"label\":\"utf-8\",\"bytes\":\"4oJB\"}")
-        ≡ Ok (1, Opens (codes "a") (codes "utf-8") (codes "4oJB")) }
+        ≡ Ok (1, asked_of (codes "a") (Opens (codes "utf-8") (codes "4oJB"))) }
+    ensures close { request_of_line (codes "{\"id\":7,\"op\":\"close\",\"doc\":\"a\"}")
+        ≡ Ok (7, asked_of (codes "a") Closes) }
     ensures splice { request_of_line (codes
         "{\"id\":4,\"op\":\"splice\",\"doc\":\"a\",\"rev\":0,\"at\":2,\"del\":1,\"bytes\":\"rA==\"}")
-        ≡ Ok (4, Splices (codes "a") 0 2 1 (codes "rA==")) }
+        ≡ Ok (4, asked_of (codes "a") (Splices 0 2 1 (codes "rA=="))) }
     ensures text { request_of_line (codes "{\"id\":2,\"op\":\"text\",\"doc\":\"a\",\"from\":0,\"to\":2}")
-        ≡ Ok (2, Reads (codes "a") 0 2 Replacement) }
+        ≡ Ok (2, asked_of (codes "a") (Reads 0 2 Replacement)) }
     ensures mode { request_of_line (codes
         "{\"id\":2,\"op\":\"text\",\"doc\":\"a\",\"from\":0,\"to\":2,\"mode\":\"replacement\"}")
-        ≡ Ok (2, Reads (codes "a") 0 2 Replacement) }
+        ≡ Ok (2, asked_of (codes "a") (Reads 0 2 Replacement)) }
     ensures fatal { request_of_line (codes
         "{\"id\":2,\"op\":\"text\",\"doc\":\"a\",\"from\":0,\"to\":2,\"mode\":\"fatal\"}")
-        ≡ Ok (2, Reads (codes "a") 0 2 Fatal) }
+        ≡ Ok (2, asked_of (codes "a") (Reads 0 2 Fatal)) }
     ensures source { request_of_line (codes "{\"id\":5,\"op\":\"source\",\"doc\":\"a\",\"at\":1,\"len\":2}")
-        ≡ Ok (5, ReadsBytes (codes "a") 1 2) }
+        ≡ Ok (5, asked_of (codes "a") (ReadsBytes 1 2)) }
     ensures encode { request_of_line (codes
         "{\"id\":6,\"op\":\"encode\",\"doc\":\"a\",\"from\":1,\"to\":2,\"label\":\"big5\"}")
-        ≡ Ok (6, Encodes (codes "a") 1 2 (codes "big5") encode_mode.Fatal) }
+        ≡ Ok (6, asked_of (codes "a") (Encodes 1 2 (codes "big5") encode_mode.Fatal)) }
     ensures html { request_of_line (codes
         "{\"id\":6,\"op\":\"encode\",\"doc\":\"a\",\"from\":1,\"to\":2,\"label\":\"big5\",\"mode\":\"html\"}")
-        ≡ Ok (6, Encodes (codes "a") 1 2 (codes "big5") encode_mode.Html) }
+        ≡ Ok (6, asked_of (codes "a") (Encodes 1 2 (codes "big5") encode_mode.Html)) }
     ensures errors { request_of_line (codes
         "{\"id\":3,\"op\":\"errors\",\"doc\":\"a\",\"from\":0,\"max\":10000}")
-        ≡ Ok (3, ListsErrors (codes "a") 0 10000) }
+        ≡ Ok (3, asked_of (codes "a") (ListsErrors 0 10000)) }
 {}
 
 fn faulty_fields()

@@ -121,7 +121,7 @@ impl Write for Answered<'_> {
 /// The reply to one line on connection 0, which is closed before and after.
 fn expect_reply(rt: &impl Abort, gateway: &mut Gateway<'_>, line: &str, expected: &str) {
     assert!(rt; gateway.event(Event::Open(0)).is_ok());
-    expect_event(rt, gateway, line, line.len(), Some(expected));
+    expect_event(rt, gateway, 0, line, line.len(), Some(expected));
     assert!(rt; gateway.event(Event::Close(0)).is_ok());
 }
 
@@ -231,8 +231,10 @@ fn number_that_is_not_free(rt: HostRuntime) -> Result<(), Fail> {
     let mut gateway = new_gateway(rt.alloc(), &indexes)?;
     let mut reader = MemFeed::new(SESSION.as_bytes());
     let mut writer = MemOutlet::new(rt.alloc());
-    assert!(rt; gateway.event(Event::Open(0)).is_ok());
-    for number in [0, 1, 255] {
+    for number in [0, 15] {
+        assert!(rt; gateway.event(Event::Open(number)).is_ok());
+    }
+    for number in [0, 15, 16, 255] {
         let result = run(&mut gateway, number, &mut reader, &mut writer);
         assert_eq!(rt; result, Err(RunFault::NotFree), "connection {number}");
     }

@@ -10,4 +10,4 @@ returns-in-Ok-of c =
 
 pub returns-in-Ok : goal.returns-in-Ok
 returns-in-Ok c =
-    unwritten_reply_step _ _ _ _ c.answer-reply.result _ c.out_of_memory.ensures.text (λ short. let no = c.in-Err-of.ensures.short short in cc) c.answer-reply.ensures.step
+    unwritten_reply_step _ _ _ c.answer-reply.result _ c.out_of_memory.ensures.text (λ short. let no = c.in-Err-of.ensures.short short in cc) c.answer-reply.ensures.kept

@@ -3,6 +3,10 @@ use Rattle.std.specs.Fmt.{digits}
 use Rattle.json.specs.Print.{escape_byte}
 use Rattle.gateway.proofs.reply_line.tests.other_replies.Goals as goal
 
+pub returns-clause-closed : goal.returns-clause-closed
+unfolding digits escape_byte
+returns-clause-closed c = refl
+
 pub returns-clause-stale : goal.returns-clause-stale
 unfolding digits escape_byte
 returns-clause-stale c = refl

@@ -7,6 +7,10 @@ pub returns-clause-open : goal.returns-clause-open
 unfolding is_utf8 chars serde_json_on_literals
 returns-clause-open c = refl
 
+pub returns-clause-close : goal.returns-clause-close
+unfolding is_utf8 chars serde_json_on_literals
+returns-clause-close c = refl
+
 pub returns-clause-splice : goal.returns-clause-splice
 unfolding is_utf8 chars serde_json_on_literals
 returns-clause-splice c = refl

@@ -1,0 +1,15 @@
+mod Apart
+mod Begins
+mod Close
+mod Encode
+mod Errors
+mod Lives
+mod Moves
+mod Names
+mod Open
+mod Row
+mod Rows
+mod Source
+mod Splice
+mod Text
+mod WorkedSession

@@ -1,0 +1,136 @@
+-- Lives of a document: each accepted edit once, in its order.
+use Rattle.std.proofs.Common.{◌≡◌, ◌≢◌, ℕ, ◌+◌, ◌&&◌, ◌==◌, nat_lt, Bool, true, false, cond, List, [], ◌∷◌, ◌++◌, length, if◌then◌else◌, refl, sym, ap, ◌∙◌, subst, ◌⊎◌, inl, inr, arith, length-append}
+use Rattle.std.proofs.lemmas.Bool.{eqb-true}
+use Rattle.std.specs.declared.option.Option.{Option}
+use Rattle.std.specs.declared.option.Option.TheVariants.{None, Some}
+use Rattle.std.specs.declared.result.Result.{Result}
+use Rattle.std.specs.declared.result.Result.TheVariants.{Ok, Err}
+use Rattle.std.specs.Option.{is_some}
+use Rattle.std.specs.FinMap as finite
+use Rattle.std.specs.FinMap.{get}
+use Rattle.std.specs.Cmp.Lexicographic.{slice_cmp, nat_list_cmp_total}
+use Rattle.std.specs.Str.{bytes_eq}
+use Rattle.enc_names.specs.declared.encoding.Encoding.{Encoding}
+use Rattle.enc_names.specs.Labels.{LabelTable, lookup_in}
+use Rattle.index_loader.specs.Files.{Files}
+use Rattle.piece_rope.specs.declared.fault.DocFault.{DocFault}
+use Rattle.piece_rope.specs.Edits.{spliced, splice_fault}
+use Rattle.desk.specs.Commands.{Ask, Asked}
+use Rattle.desk.specs.Desk.{Office, effect, effect_of, has_place, Answers, Adopts}
+use Rattle.desk.specs.Documents.{Entry}
+use Rattle.desk.specs.Effects.{Move, Stays, Puts, Goes, Effect}
+use Rattle.desk.specs.Changes.{is_accepted}
+use Rattle.desk.specs.Lives.{Act, Commanded, Adopted, Acts, ActsAll, is_edit, is_close, edit_in, edits_of, ends_life, Lasts, edited_by, edited_by_all, NameFrom, IsLife, Lives}
+use Rattle.desk.specs.Open.{adopted}
+use Rattle.desk.specs.declared.fault.Fault.{Fault}
+use Rattle.desk.specs.declared.fault.Fault.TheVariants.{OutOfMemory, NameTaken}
+use Rattle.desk.specs.declared.reply.Reply.{Reply}
+use Rattle.desk.specs.declared.reply.Reply.TheVariants.{Refused}
+use Rattle.desk.proofs.Moves.{held_after, at_name, test, reply_is, held_is}
+use Rattle.desk.proofs.Apart.{same_bytes}
+use Rattle.desk.proofs.Row.{Continues, ContinuesBy, and_no}
+use Rattle.desk.proofs.Rows as rows
+
+-- ---- lives, one behind the other
+
+pub life-nil : (indexes : Files) (h : Entry) → IsLife indexes h [] h
+life-nil indexes h = record { given = refl; revision = omega arith; named = tt; bytes = refl }
+
+names-append : (r : ℕ) (es fs : List Ask) → NameFrom r es → NameFrom (r + length es) fs → NameFrom r (es ++ fs)
+names-append r [] fs p q = subst (λ n. NameFrom n fs) (omega arith) q
+names-append r (e ∷ es) fs p q = (p.0, names-append (r + 1) es fs p.1 (subst (λ n. NameFrom n fs) (omega arith) q))
+
+edited-append : (indexes : Files) (given : Encoding) (bytes : List ℕ) (es fs : List Ask)
+    → edited_by_all indexes given bytes (es ++ fs) ≡ edited_by_all indexes given (edited_by_all indexes given bytes es) fs
+edited-append indexes given bytes [] fs = refl
+edited-append indexes given bytes (e ∷ es) fs = edited-append indexes given (edited_by indexes given bytes e) es fs
+
+life-trans : (indexes : Files) (h k m : Entry) (es fs : List Ask) → IsLife indexes h es k → IsLife indexes k fs m → IsLife indexes h (es ++ fs) m
+life-trans indexes h k m es fs p q = record {
+  given = q.given ∙ p.given;
+  revision = let n = length-append es fs in omega (arith, q.revision, p.revision, n);
+  named = names-append h.revision es fs p.named (subst (λ r. NameFrom r fs) p.revision q.named);
+  bytes = q.bytes ∙ ap (λ b. edited_by_all indexes k.given b fs) p.bytes ∙ ap (λ g. edited_by_all indexes g (edited_by_all indexes h.given h.bytes es) fs) p.given
+      ∙ sym (edited-append indexes h.given h.bytes es fs);
+}
+
+-- ---- one act
+
+by_move : (indexes : Files) (h : Entry) (ask : Ask) (reply : Reply) (move : Move) → Continues indexes h ask reply move → (is_close ask && is_accepted reply) ≡ false
+    → (k : Entry) × (held_after (Some h) move ≡ Some k) × IsLife indexes h (if is_edit ask && is_accepted reply then ask ∷ [] else []) k
+by_move indexes h ask reply Stays is lasts = (h, refl, rw is (life-nil indexes h))
+by_move indexes h ask reply (Puts k) is lasts = (k, refl, rw is.0 is.1)
+by_move indexes h ask reply Goes is lasts = let no : true ≡ false = sym is ∙ lasts in cc
+
+wants : (reply : Reply) → (reply ≡ Refused OutOfMemory) ⊎ (reply ≢ Refused OutOfMemory)
+wants (Refused OutOfMemory) = inl refl
+wants reply = inr (λ e. cc)
+
+module _ (d : List ℕ) (o p : Office) (h : Entry) (found : get o.documents d ≡ Some h) where
+  abbrev Goal : List Ask → Type 0
+  Goal edits = (k : Entry) × (get p.documents d ≡ Some k) × IsLife o.indexes h edits k
+
+  stays : get p.documents d ≡ get o.documents d → Goal []
+  stays same = (h, same ∙ found, life-nil o.indexes h)
+
+  module _ (c : Asked) (reply : Reply) (answers : Answers o c reply p) where
+    abbrev Edits : Bool → List Ask
+    Edits same = if same && (is_edit c.ask && is_accepted reply) then c.ask ∷ [] else []
+
+    wanting : reply ≡ Refused OutOfMemory → Goal (Edits (bytes_eq c.doc d))
+    wanting e =
+        let step : p.documents ≡ o.documents = rw e at answers.step in
+        let none : Edits (bytes_eq c.doc d) ≡ [] =
+        rw e (elim (is_edit c.ask) as (λ t. (if bytes_eq c.doc d && (t && false) then c.ask ∷ [] else []) ≡ [])
+        [ true ↦ rw (and_no (bytes_eq c.doc d)) refl | false ↦ rw (and_no (bytes_eq c.doc d)) refl ]) in
+        rw none (stays (ap (λ m. get m d) step))
+
+    effect_here : bytes_eq c.doc d ≡ true → effect_of o c ≡ effect o.indexes o.labels (has_place o.documents) (Some h) c.ask
+    effect_here e =
+        ap (λ doc. effect o.indexes o.labels (has_place o.documents) (get o.documents doc) c.ask) (same_bytes c.doc d e)
+        ∙ ap (λ f. effect o.indexes o.labels (has_place o.documents) f c.ask) found
+
+    goes_on : reply ≢ Refused OutOfMemory → bytes_eq c.doc d ≡ true → Continues o.indexes h c.ask reply (effect_of o c).move
+    goes_on ne e =
+        subst (λ r. Continues o.indexes h c.ask r (effect_of o c).move) (reply_is o p c reply answers ne)
+        (subst (ContinuesBy o.indexes h c.ask) (sym (effect_here e)) ((rows.row o.indexes o.labels c.ask).continues (has_place o.documents) h))
+
+    decided : reply ≢ Refused OutOfMemory → (t : Bool) → bytes_eq c.doc d ≡ t → (t && (is_close c.ask && is_accepted reply)) ≡ false → Goal (Edits t)
+    decided ne true e lasts =
+        let one = by_move o.indexes h c.ask reply (effect_of o c).move (goes_on ne e) lasts in
+        (one.0, held_is o p c reply answers ne d ∙ ap (λ b. at_name b (get o.documents d) (effect_of o c).move) e ∙ ap (λ f. held_after f (effect_of o c).move) found ∙ one.1, one.2)
+    decided ne false e lasts = stays (held_is o p c reply answers ne d ∙ ap (λ b. at_name b (get o.documents d) (effect_of o c).move) e)
+
+    by_want : (reply ≡ Refused OutOfMemory) ⊎ (reply ≢ Refused OutOfMemory) → ends_life d (Commanded c reply) ≡ false → Goal (edit_in d (Commanded c reply))
+    by_want (inl e) lasts = wanting e
+    by_want (inr ne) lasts = decided ne (bytes_eq c.doc d) refl lasts
+
+  module _ (name : List ℕ) (given : Encoding) (bytes : List ℕ) (rev : ℕ) where
+    taken : bytes_eq name d ≡ true → adopted o.indexes (has_place o.documents) (get o.documents name) given bytes rev ≡ Err NameTaken
+    taken e = let at_it : is_some (get o.documents name) ≡ true = ap (λ n. is_some (get o.documents n)) (same_bytes name d e) ∙ ap is_some found in rw at_it refl
+
+    beside : (k : Entry) → adopted o.indexes (has_place o.documents) (get o.documents name) given bytes rev ≡ Ok k → (t : Bool) → bytes_eq name d ≡ t → get (finite.insert o.documents name k) d ≡ get o.documents d
+    beside k ok true e = let no = sym (taken e) ∙ ok in cc
+    beside k ok false e = finite.get-insert nat_list_cmp_total o.documents name k d ∙ ap (λ b. cond b (Some k) (get o.documents d)) (test name d ∙ e)
+
+    adopting : (answer : Result (Unit {0}) Fault) → Adopts o name given bytes rev answer p → get p.documents d ≡ get o.documents d
+    adopting (Ok x) a = ap (λ m. get m d) a.step.2 ∙ beside a.step.0 a.step.1 (bytes_eq name d) refl
+    adopting (Err OutOfMemory) a = ap (λ m. get m d) a.step
+    adopting (Err f) a = ap (λ m. get m d) a.step.1
+
+  one_act : (a : Act) → Acts o a p → ends_life d a ≡ false → Goal (edit_in d a)
+  one_act (Commanded c reply) answers lasts = by_want c reply answers (wants reply) lasts
+  one_act (Adopted name given bytes rev answer) adopts lasts = stays (adopting name given bytes rev answer adopts)
+
+same_indexes : (o p : Office) (a : Act) → Acts o a p → p.indexes ≡ o.indexes
+same_indexes o p (Commanded c reply) a = a.indexes
+same_indexes o p (Adopted name given bytes rev answer) a = a.indexes
+
+pub lives : Lives
+lives d o p [] begin found acts lasts = (begin, ap (λ (x : Office). get x.documents d) acts ∙ found, life-nil o.indexes begin)
+lives d o p (a ∷ more) begin found acts lasts =
+    let mid = acts.0 in
+    let one = one_act d o mid begin found a acts.1 lasts.0 in
+    let rest = lives d mid p more one.0 one.1 acts.2 lasts.1 in
+    let later = subst (λ i. IsLife i one.0 (edits_of d more) rest.0) (same_indexes o mid a acts.1) rest.2 in
+    (rest.0, rest.1, life-trans o.indexes begin one.0 rest.0 (edit_in d a) (edits_of d more) one.2 later)

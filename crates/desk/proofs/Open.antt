@@ -1,0 +1,99 @@
+-- The row of the op `open`, its steps, and those of an adoption.
+use Rattle.std.proofs.Common.{◌≡◌, ◌≢◌, ℕ, Bool, true, false, nat_le, List, length, if◌then◌else◌, refl, sym, ap, ◌∙◌, subst}
+use Rattle.std.specs.declared.option.Option.{Option}
+use Rattle.std.specs.declared.option.Option.TheVariants.{None, Some}
+use Rattle.std.specs.declared.result.Result.{Result}
+use Rattle.std.specs.declared.result.Result.TheVariants.{Ok, Err}
+use Rattle.std.specs.FinMap as finite
+use Rattle.std.specs.Option.{is_some}
+use Rattle.enc_names.specs.declared.encoding.Encoding.{Encoding}
+use Rattle.enc_names.specs.Labels.{LabelTable, lookup_in}
+use Rattle.index_loader.specs.Files.{Files}
+use Rattle.piece_rope.specs.Decode.{is_decoded}
+use Rattle.piece_rope.specs.Edits.{document_limit, open_fault}
+use Rattle.desk.specs.Changes.{is_accepted}
+use Rattle.desk.specs.Commands.{Ask, asked_of, Opens}
+use Rattle.desk.specs.Desk.{Office, Outcome, Answers, Adopts, IsAdopted, IsOutcome, outcome, has_place}
+use Rattle.desk.specs.Documents.{Entry, Names, Shelf, edit_reply}
+use Rattle.desk.specs.Effects.{base64_bytes, with_bytes, put}
+use Rattle.desk.specs.Lives.{done}
+use Rattle.desk.specs.Open.{admitted, opened}
+use Rattle.desk.specs.declared.fault.Fault.{Fault}
+use Rattle.desk.specs.declared.fault.Fault.TheVariants.{OutOfMemory}
+use Rattle.desk.specs.declared.reply.Reply.{Reply}
+use Rattle.desk.specs.declared.reply.Reply.TheVariants.{Refused}
+use Rattle.desk.proofs.Row.{IsRow, Keeps, Answered, ContinuesBy, Decided, IsOther, Caused, caused-if, decided-if, decided-unless, keeps-with_bytes, keeps-put, answered-with_bytes, answered-put}
+
+-- an open whose bytes are read, whose name is free and whose label names an encoding
+pub opened_answers : (o : Office) (after : Shelf) (doc label text bytes lent : List ℕ) (given : Encoding) (reply : Reply)
+    → base64_bytes text ≡ Some bytes → lent ≡ bytes → is_some (finite.get o.documents doc) ≡ false → lookup_in o.labels label ≡ Some given
+    → IsOutcome (outcome o.documents doc (put (edit_reply o.indexes) (admitted o.indexes (has_place o.documents) given lent 0))) reply o.documents after.named
+    → after.indexes ≡ o.indexes
+    → Answers o (asked_of doc (Opens label text)) reply (record { indexes = after.indexes; labels = o.labels; documents = after.named })
+opened_answers o after doc label text bytes lent given reply read same free named step indexes = record {
+  step = rw (read, free, named)
+      (subst (λ b. IsOutcome (outcome o.documents doc (put (edit_reply o.indexes) (admitted o.indexes (has_place o.documents) given b 0))) reply o.documents after.named) same step);
+  indexes = indexes;
+  labels = refl;
+}
+
+-- ---- adoptions
+
+abbrev Admits : Files → Names → Names → List ℕ → Result Entry Fault → Reply → Type 0
+Admits indexes old new name change reply = IsOutcome (outcome old name (put (edit_reply indexes) change)) reply old new
+
+admitted-ok : (indexes : Files) (old new : Names) (name : List ℕ) (change : Result Entry Fault) (reply : Reply) → Admits indexes old new name change reply → is_accepted reply ≡ true
+    → (h : Entry) × (change ≡ Ok h) × (new ≡ finite.insert old name h)
+admitted-ok indexes old new name (Ok h) (Refused f) step is = cc
+admitted-ok indexes old new name (Ok h) reply step is = (h, refl, sym (ap (λ (x : Outcome). x.documents) step))
+admitted-ok indexes old new name (Err f) (Refused g) step is = cc
+admitted-ok indexes old new name (Err f) reply step is =
+    let never : false ≡ true = ap (λ (x : Outcome). is_accepted x.reply) step ∙ is in cc
+
+pub adopted_answers : (o : Office) (after : Shelf) (name : List ℕ) (given : Encoding) (bytes : List ℕ) (rev : ℕ) (reply : Reply)
+    → is_some (finite.get o.documents name) ≡ false → Admits o.indexes o.documents after.named name (admitted o.indexes (has_place o.documents) given bytes rev) reply
+    → is_accepted reply ≡ true → after.indexes ≡ o.indexes
+    → Adopts o name given bytes rev done (record { indexes = after.indexes; labels = o.labels; documents = after.named })
+adopted_answers o after name given bytes rev reply free step is indexes =
+    let ok = admitted-ok o.indexes o.documents after.named name (admitted o.indexes (has_place o.documents) given bytes rev) reply step is in record {
+      step = (ok.0, rw free ok.1, ok.2);
+      indexes = indexes;
+      labels = refl;
+    }
+
+-- ---- the row
+
+caused-open : (indexes : Files) (given : Encoding) (bytes : List ℕ) → Caused (open_fault indexes given bytes)
+unfolding open_fault
+caused-open indexes given bytes =
+    caused-if (is_decoded indexes given) _ _ (caused-if (nat_le (length bytes) document_limit) _ _ (λ e. cc) (λ e. cc)) (λ e. cc)
+
+decided-admitted : (indexes : Files) (place : Bool) (given : Encoding) (bytes : List ℕ) → Decided (λ k. IsOther (edit_reply indexes k)) (admitted indexes place given bytes 0)
+decided-admitted indexes place given bytes =
+    let P : Entry → Type 0 = λ k. IsOther (edit_reply indexes k) in
+    decided-if P (is_decoded indexes given) _ _
+    (decided-if P place _ _ (decided-unless P (open_fault indexes given bytes) _ (caused-open indexes given bytes) (λ e. cc)) tt)
+    tt
+
+keeps-opened : (indexes : Files) (place : Bool) (found : Option Entry) (bytes : List ℕ) (given : Option Encoding) → Keeps (opened indexes place found bytes given)
+keeps-opened indexes place (Some h) bytes given = λ e. refl
+keeps-opened indexes place None bytes None = λ e. refl
+keeps-opened indexes place None bytes (Some given) = keeps-put (edit_reply indexes) (admitted indexes place given bytes 0) (λ k. refl)
+
+answered-opened : (indexes : Files) (place : Bool) (found : Option Entry) (bytes : List ℕ) (given : Option Encoding) → Answered (opened indexes place found bytes given)
+answered-opened indexes place (Some h) bytes given = λ e. cc
+answered-opened indexes place None bytes None = λ e. cc
+answered-opened indexes place None bytes (Some given) = answered-put (edit_reply indexes) (admitted indexes place given bytes 0) (decided-admitted indexes place given bytes)
+
+continues-opened : (indexes : Files) (place : Bool) (h : Entry) (label text : List ℕ) (bytes : Option (List ℕ)) (given : Option Encoding)
+    → ContinuesBy indexes h (Opens label text) (with_bytes bytes (λ b. opened indexes place (Some h) b given))
+continues-opened indexes place h label text None given = refl
+continues-opened indexes place h label text (Some b) given = refl
+
+pub row : (indexes : Files) (labels : LabelTable) (label text : List ℕ) → IsRow indexes labels (Opens label text)
+row indexes labels label text = record {
+  keeps = λ place found. keeps-with_bytes (base64_bytes text) _ (λ b. keeps-opened indexes place found b (lookup_in labels label));
+  answered = λ place found. answered-with_bytes (base64_bytes text) _ (λ b. answered-opened indexes place found b (lookup_in labels label));
+  continues = λ place h. continues-opened indexes place h label text (base64_bytes text) (lookup_in labels label);
+  placed = λ o found. refl;
+}

@@ -1,0 +1,144 @@
+-- What the laws of the desk need of each row of its table, and the forms that rows have.
+use Rattle.std.proofs.Common.{◌≡◌, ◌≢◌, ℕ, ◌&&◌, Bool, true, false, List, [], ◌∷◌, if◌then◌else◌, refl, sym, ap, ◌∙◌, subst}
+use Rattle.std.specs.declared.option.Option.{Option}
+use Rattle.std.specs.declared.option.Option.TheVariants.{None, Some}
+use Rattle.std.specs.declared.result.Result.{Result}
+use Rattle.std.specs.declared.result.Result.TheVariants.{Ok, Err}
+use Rattle.enc_names.specs.Labels.{LabelTable}
+use Rattle.index_loader.specs.Files.{Files}
+use Rattle.piece_rope.specs.declared.fault.DocFault.{DocFault}
+use Rattle.piece_rope.specs.declared.fault.DocFault.TheVariants as cause
+use Rattle.desk.specs.Apart.{place_at}
+use Rattle.desk.specs.Changes.{is_accepted, changes}
+use Rattle.desk.specs.Commands.{Ask}
+use Rattle.desk.specs.Desk.{Office, effect, has_place}
+use Rattle.desk.specs.Documents.{Entry, reply_of, unless_fault}
+use Rattle.desk.specs.Effects.{Move, Stays, Puts, Goes, Effect, replied, put, of_document, with_bytes}
+use Rattle.desk.specs.Lives.{is_edit, is_close, IsLife}
+use Rattle.desk.specs.declared.fault.Fault.{Fault}
+use Rattle.desk.specs.declared.fault.Fault.TheVariants.{OutOfMemory}
+use Rattle.desk.specs.declared.reply.Reply.{Reply}
+use Rattle.desk.specs.declared.reply.Reply.TheVariants.{Refused}
+
+-- what reports no change leaves the entry
+abbrev pub Keeps : Effect → Type 0
+Keeps e = changes e.reply ≡ false → e.move ≡ Stays
+
+-- memory is no cause of the definition's
+abbrev pub Answered : Effect → Type 0
+Answered e = e.reply ≢ Refused OutOfMemory
+
+-- what becomes of the life of the document that is found
+abbrev pub Continues : Files → Entry → Ask → Reply → Move → Type 0
+Continues indexes h ask reply Stays = (is_edit ask && is_accepted reply) ≡ false
+Continues indexes h ask reply (Puts k) = ((is_edit ask && is_accepted reply) ≡ true) × IsLife indexes h (ask ∷ []) k
+Continues indexes h ask reply Goes = (is_close ask && is_accepted reply) ≡ true
+
+abbrev pub ContinuesBy : Files → Entry → Ask → Effect → Type 0
+ContinuesBy indexes h ask e = Continues indexes h ask e.reply e.move
+
+-- a place that matters to no command but an open
+abbrev pub known : Option Bool → Bool
+known None = true
+known (Some b) = b
+
+-- one row of the table
+pub record IsRow (indexes : Files) (labels : LabelTable) (ask : Ask) : Type 0 where
+  pub keeps : (place : Bool) (found : Option Entry) → Keeps (effect indexes labels place found ask)
+  pub answered : (place : Bool) (found : Option Entry) → Answered (effect indexes labels place found ask)
+  pub continues : (place : Bool) (h : Entry) → ContinuesBy indexes h ask (effect indexes labels place (Some h) ask)
+  pub placed : (o : Office) (found : Option Entry) → effect indexes labels (has_place o.documents) found ask ≡ effect indexes labels (known (place_at o ask)) found ask
+
+-- ---- answers that memory doesn't refuse
+
+abbrev pub Decided : {A : Type 0} → (A → Type 0) → Result A Fault → Type 0
+Decided P (Ok x) = P x
+Decided P (Err OutOfMemory) = ⊥
+Decided P (Err fault) = Unit {0}
+
+-- of a document's faults
+abbrev pub Caused : Option DocFault → Type 0
+Caused fault = fault ≡ Some cause.OutOfMemory → ⊥
+
+pub caused-if : (b : Bool) (x y : Option DocFault) → Caused x → Caused y → Caused (if b then x else y)
+caused-if true x y p q = p
+caused-if false x y p q = q
+
+pub decided-if : {A : Type 0} (P : A → Type 0) (b : Bool) (x y : Result A Fault) → Decided P x → Decided P y → Decided P (if b then x else y)
+decided-if P true x y p q = p
+decided-if P false x y p q = q
+
+pub decided-unless : {A : Type 0} (P : A → Type 0) (fault : Option DocFault) (answer : Result A Fault) → Caused fault → Decided P answer → Decided P (unless_fault fault answer)
+decided-unless P None answer p q = q
+decided-unless P (Some cause.NoIndex) answer p q = tt
+decided-unless P (Some cause.OutOfRange) answer p q = tt
+decided-unless P (Some cause.TooLarge) answer p q = tt
+decided-unless P (Some cause.OutOfMemory) answer p q = p refl
+
+-- a reply that is not OutOfMemory
+abbrev pub IsOther : Reply → Type 0
+IsOther reply = reply ≢ Refused OutOfMemory
+
+pub answered-replied : (answer : Result Reply Fault) → Decided IsOther answer → Answered (replied answer)
+answered-replied (Ok reply) p = p
+answered-replied (Err OutOfMemory) p = absurd p
+answered-replied (Err fault) p = λ e. cc
+
+-- ---- forms of effects
+
+pub keeps-of_document : (found : Option Entry) (ask : Entry → Effect) → ((h : Entry) → Keeps (ask h)) → Keeps (of_document found ask)
+keeps-of_document None ask p = λ e. refl
+keeps-of_document (Some h) ask p = p h
+
+pub keeps-with_bytes : (bytes : Option (List ℕ)) (ask : List ℕ → Effect) → ((b : List ℕ) → Keeps (ask b)) → Keeps (with_bytes bytes ask)
+keeps-with_bytes None ask p = λ e. refl
+keeps-with_bytes (Some b) ask p = p b
+
+pub answered-of_document : (found : Option Entry) (ask : Entry → Effect) → ((h : Entry) → Answered (ask h)) → Answered (of_document found ask)
+answered-of_document None ask p = λ e. cc
+answered-of_document (Some h) ask p = p h
+
+pub answered-with_bytes : (bytes : Option (List ℕ)) (ask : List ℕ → Effect) → ((b : List ℕ) → Answered (ask b)) → Answered (with_bytes bytes ask)
+answered-with_bytes None ask p = λ e. cc
+answered-with_bytes (Some b) ask p = p b
+
+pub and_no : (b : Bool) → (b && false) ≡ false
+and_no true = refl
+and_no false = refl
+
+-- a refusal leaves the document
+pub continues-refused : (indexes : Files) (h : Entry) (ask : Ask) (fault : Fault) → Continues indexes h ask (Refused fault) Stays
+continues-refused indexes h ask fault = and_no (is_edit ask)
+
+-- ---- an entry put
+
+pub keeps-put : (reply : Entry → Reply) (change : Result Entry Fault) → ((k : Entry) → changes (reply k) ≡ true) → Keeps (put reply change)
+keeps-put reply (Ok h) p = λ e. let never : true ≡ false = sym (p h) ∙ e in cc
+keeps-put reply (Err f) p = λ e. refl
+
+pub answered-put : (reply : Entry → Reply) (change : Result Entry Fault) → Decided (λ k. IsOther (reply k)) change → Answered (put reply change)
+answered-put reply (Ok h) p = p
+answered-put reply (Err OutOfMemory) p = absurd p
+answered-put reply (Err f) p = λ e. cc
+
+-- an edit, whose accepted reply is no refusal
+pub continues-put : (indexes : Files) (h : Entry) (ask : Ask) (reply : Entry → Reply) (change : Result Entry Fault) → is_edit ask ≡ true → ((k : Entry) → is_accepted (reply k) ≡ true)
+    → ((k : Entry) → change ≡ Ok k → IsLife indexes h (ask ∷ []) k) → ContinuesBy indexes h ask (put reply change)
+continues-put indexes h ask reply (Ok k) e accepted life = (ap (λ b. b && is_accepted (reply k)) e ∙ accepted k, life k refl)
+continues-put indexes h ask reply (Err f) e accepted life = continues-refused indexes h ask f
+
+-- ---- a question
+
+continues-question : (indexes : Files) (h : Entry) (ask : Ask) (answer : Result Reply Fault) → is_edit ask ≡ false → ContinuesBy indexes h ask (replied answer)
+continues-question indexes h ask answer e = ap (λ b. b && is_accepted (reply_of answer)) e
+
+-- a row that asks a question of an open document
+pub question : (indexes : Files) (labels : LabelTable) (ask : Ask) (answer : Entry → Result Reply Fault)
+    → ((place : Bool) (found : Option Entry) → effect indexes labels place found ask ≡ of_document found (λ h. replied (answer h)))
+    → is_edit ask ≡ false → ((h : Entry) → Decided IsOther (answer h)) → IsRow indexes labels ask
+question indexes labels ask answer is asks decided = record {
+  keeps = λ place found. subst Keeps (sym (is place found)) (keeps-of_document found (λ h. replied (answer h)) (λ h e. refl));
+  answered = λ place found. subst Answered (sym (is place found)) (answered-of_document found (λ h. replied (answer h)) (λ h. answered-replied (answer h) (decided h)));
+  continues = λ place h. subst (ContinuesBy indexes h ask) (sym (is place (Some h))) (continues-question indexes h ask (answer h) asks);
+  placed = λ o found. is (has_place o.documents) found ∙ sym (is (known (place_at o ask)) found);
+}

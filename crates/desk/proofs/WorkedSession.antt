@@ -1,0 +1,183 @@
+-- A session, worked by the definition.
+use Rattle.std.proofs.Common.{◌≡◌, ℕ, List, [], ◌∷◌, codes, drop, if◌then◌else◌, nat_lt, refl, ap, ◌∙◌}
+use Rattle.std.specs.declared.option.Option.TheVariants.{None, Some}
+use Rattle.std.specs.Cmp.Lexicographic.{slice_cmp, nat_list_cmp_total}
+use Rattle.std.specs.Ordering.{nat_cmp}
+use Rattle.std.specs.FinMap as finite
+use lib.Utf8.{encode}
+use Rattle.std.specs.Option.{is_some}
+use Rattle.std.specs.declared.result.Result.TheVariants.{Ok, Err}
+use Rattle.base64.proofs.OnLiterals.{base64_on_literals}
+use Rattle.enc_names.specs.declared.encoding.Encoding.TheVariants.{Utf8}
+use Rattle.enc_names.specs.Labels.{name_labels}
+use Rattle.index_loader.specs.Files.{no_files}
+use Rattle.decoder_core.specs.Queue.{run, turns}
+use Rattle.piece_rope.specs.Decode.{is_decoded, decode}
+use Rattle.piece_rope.specs.Document.{text_of, errors_of}
+use Rattle.piece_rope.specs.Edits.{open_fault, splice_fault, text_fault, errors_fault}
+use Rattle.desk.specs.Close.{closed}
+use Rattle.desk.specs.Commands.{Asked, Opens, Closes, Splices, Reads, ListsErrors}
+use Rattle.desk.specs.Desk.{Office, Outcome, max_documents, outcome, answer_of, has_place}
+use Rattle.desk.specs.Documents.{Entry, Names, entry, unless, edit_reply}
+use Rattle.desk.specs.Effects.{base64_bytes, with_bytes, replied, refused, put, of_document}
+use Rattle.desk.specs.Errors.{errors_reply}
+use Rattle.desk.specs.Open.{admitted, opened, opened_as}
+use Rattle.desk.specs.Session.{a, replies_to, office_without_files, session, session_replies}
+use Rattle.desk.specs.Splice.{edited, splice_effect}
+use Rattle.desk.specs.Text.{text_reply}
+use Rattle.desk.specs.declared.fault.Fault.TheVariants.{NameTaken, NoIndex, TooManyDocuments, OutOfRange}
+use Rattle.desk.specs.declared.reply.Reply.{Reply}
+use Rattle.desk.specs.declared.reply.Reply.TheVariants.{Edited, Closed, Text, Errors, Refused}
+use Rattle.desk.specs.declared.text_mode.TextMode.TheVariants.{Replacement}
+
+opened_bytes : base64_bytes (codes "4oJB") ≡ Some (0xE2 ∷ 0x82 ∷ 0x41 ∷ [])
+unfolding base64_on_literals
+opened_bytes = refl
+
+spliced_bytes : base64_bytes (codes "rA==") ≡ Some (0xAC ∷ [])
+unfolding base64_on_literals
+spliced_bytes = refl
+
+no_bytes : base64_bytes (codes "") ≡ Some []
+unfolding base64_on_literals
+no_bytes = refl
+
+-- ---- what is held, and what it decodes to
+
+abbrev truncated : Entry
+truncated = record { given = Utf8; bytes = 0xE2 ∷ 0x82 ∷ 0x41 ∷ []; revision = 0 }
+
+abbrev completed : Entry
+completed = record { given = Utf8; bytes = 0xE2 ∷ 0x82 ∷ 0xAC ∷ 0x41 ∷ []; revision = 1 }
+
+truncated_edit : edit_reply no_files truncated ≡ Edited 0 Utf8 0
+unfolding decode
+truncated_edit = refl
+
+completed_edit : edit_reply no_files completed ≡ Edited 0 Utf8 1
+unfolding decode
+completed_edit = refl
+
+truncated_text : text_reply no_files truncated 0 2 Replacement ≡ Ok (Text 0 (0xEF ∷ 0xBF ∷ 0xBD ∷ 0x41 ∷ []))
+unfolding text_fault text_of decode run turns encode
+truncated_text = refl
+
+truncated_errors : errors_reply no_files truncated 0 10 ≡ Ok (Errors 0 1 (record { from = 0; to = 2 } ∷ []))
+unfolding errors_fault errors_of decode run turns
+truncated_errors = refl
+
+completed_text : text_reply no_files completed 0 2 Replacement ≡ Ok (Text 1 (0xE2 ∷ 0x82 ∷ 0xAC ∷ 0x41 ∷ []))
+unfolding text_fault text_of decode run turns encode
+completed_text = refl
+
+completing : edited truncated 0 2 0 (0xAC ∷ []) ≡ Ok completed
+unfolding splice_fault
+completing = refl
+
+past_end : edited completed 1 5 0 [] ≡ Err OutOfRange
+unfolding splice_fault
+past_end = refl
+
+admitting : (n : ℕ) → n ≡ 0
+    → admitted no_files (nat_lt n max_documents) Utf8 truncated.bytes 0 ≡ Ok truncated
+unfolding is_decoded open_fault
+admitting n e = rw e refl
+
+-- ---- the documents
+
+abbrev name : List ℕ
+name = codes "a"
+
+abbrev one : Names
+one = finite.insert finite.empty name truncated
+
+abbrev two : Names
+two = finite.insert one name completed
+
+abbrev nothing : Names
+nothing = finite.empty
+
+no_entry : finite.get nothing name ≡ None
+no_entry = finite.get-empty (slice_cmp nat_cmp) name
+
+one_entry : finite.get one name ≡ Some truncated
+one_entry = finite.get-insert nat_list_cmp_total finite.empty name truncated name
+
+two_entries : finite.get two name ≡ Some completed
+two_entries = finite.get-insert nat_list_cmp_total one name completed name
+
+-- ---- the steps
+
+abbrev office : Names → Office
+office documents = record { indexes = no_files; labels = name_labels; documents = documents }
+
+opens : answer_of (office nothing) (a (Opens (codes "utf-8") (codes "4oJB"))) ≡ record { reply = Edited 0 Utf8 0; documents = one }
+opens =
+    ap (λ b. outcome nothing name (with_bytes b (λ x. opened no_files (has_place nothing) (finite.get nothing name) x (Some Utf8)))) opened_bytes
+    ∙ ap (λ found. outcome nothing name (opened no_files (has_place nothing) found truncated.bytes (Some Utf8))) no_entry
+    ∙ ap (λ r. outcome nothing name (put (edit_reply no_files) r)) (admitting _ (finite.len-empty (slice_cmp nat_cmp) Entry))
+    ∙ ap (λ r. record { reply = r; documents = one }) truncated_edit
+
+reads_truncated : answer_of (office one) (a (Reads 0 2 Replacement)) ≡ record { reply = Text 0 (0xEF ∷ 0xBF ∷ 0xBD ∷ 0x41 ∷ []); documents = one }
+reads_truncated =
+    ap (λ found. outcome one name (of_document found (λ h. replied (text_reply no_files h 0 2 Replacement)))) one_entry
+    ∙ ap (λ r. outcome one name (replied r)) truncated_text
+
+lists_errors : answer_of (office one) (a (ListsErrors 0 10)) ≡ record { reply = Errors 0 1 (record { from = 0; to = 2 } ∷ []); documents = one }
+lists_errors =
+    ap (λ found. outcome one name (of_document found (λ h. replied (errors_reply no_files h 0 10)))) one_entry
+    ∙ ap (λ r. outcome one name (replied r)) truncated_errors
+
+splices : answer_of (office one) (a (Splices 0 2 0 (codes "rA=="))) ≡ record { reply = Edited 0 Utf8 1; documents = two }
+splices =
+    ap (λ b. outcome one name (with_bytes b (λ ins. splice_effect no_files 0 2 0 ins (finite.get one name)))) spliced_bytes
+    ∙ ap (λ found. outcome one name (splice_effect no_files 0 2 0 (0xAC ∷ []) found)) one_entry
+    ∙ ap (λ r. outcome one name (put (edit_reply no_files) r)) completing
+    ∙ ap (λ r. record { reply = r; documents = two }) completed_edit
+
+reads_completed : answer_of (office two) (a (Reads 0 2 Replacement)) ≡ record { reply = Text 1 (0xE2 ∷ 0x82 ∷ 0xAC ∷ 0x41 ∷ []); documents = two }
+reads_completed =
+    ap (λ found. outcome two name (of_document found (λ h. replied (text_reply no_files h 0 2 Replacement)))) two_entries
+    ∙ ap (λ r. outcome two name (replied r)) completed_text
+
+splices_past_end : answer_of (office two) (a (Splices 1 5 0 (codes ""))) ≡ record { reply = Refused OutOfRange; documents = two }
+splices_past_end =
+    ap (λ b. outcome two name (with_bytes b (λ ins. splice_effect no_files 1 5 0 ins (finite.get two name)))) no_bytes
+    ∙ ap (λ found. outcome two name (splice_effect no_files 1 5 0 [] found)) two_entries
+    ∙ ap (λ r. outcome two name (put (edit_reply no_files) r)) past_end
+
+abbrev none : Names
+none = finite.remove two name
+
+closes : answer_of (office two) (a Closes) ≡ record { reply = Closed 1; documents = none }
+closes = ap (λ found. outcome two name (of_document found closed)) two_entries
+
+-- one step in front of the later ones
+step : (o : Office) (c : Asked) (cs : List Asked) (reply : Reply) (documents : Names) (replies : List Reply)
+    → answer_of o c ≡ record { reply = reply; documents = documents } → replies_to (record o { documents = documents }) cs ≡ replies
+    → replies_to o (c ∷ cs) ≡ reply ∷ replies
+step o c cs reply documents replies answers later =
+    ap (λ (x : Outcome). x.reply ∷ replies_to (record o { documents = x.documents }) cs) answers ∙ ap (λ rs. reply ∷ rs) later
+
+-- ---- the session from its last command backwards
+
+from_closes : replies_to (office two) (drop 6 session) ≡ drop 6 session_replies
+from_closes = step (office two) (a Closes) [] (Closed 1) none [] closes refl
+
+from_past_end : replies_to (office two) (drop 5 session) ≡ drop 5 session_replies
+from_past_end = step (office two) (a (Splices 1 5 0 (codes ""))) (drop 6 session) (Refused OutOfRange) two (drop 6 session_replies) splices_past_end from_closes
+
+from_reads_completed : replies_to (office two) (drop 4 session) ≡ drop 4 session_replies
+from_reads_completed = step (office two) (a (Reads 0 2 Replacement)) (drop 5 session) _ two (drop 5 session_replies) reads_completed from_past_end
+
+from_splices : replies_to (office one) (drop 3 session) ≡ drop 3 session_replies
+from_splices = step (office one) (a (Splices 0 2 0 (codes "rA=="))) (drop 4 session) _ two (drop 4 session_replies) splices from_reads_completed
+
+from_lists_errors : replies_to (office one) (drop 2 session) ≡ drop 2 session_replies
+from_lists_errors = step (office one) (a (ListsErrors 0 10)) (drop 3 session) _ one (drop 3 session_replies) lists_errors from_splices
+
+from_reads_truncated : replies_to (office one) (drop 1 session) ≡ drop 1 session_replies
+from_reads_truncated = step (office one) (a (Reads 0 2 Replacement)) (drop 2 session) _ one (drop 2 session_replies) reads_truncated from_lists_errors
+
+pub session_worked : replies_to office_without_files session ≡ session_replies
+session_worked = step (office nothing) (a (Opens (codes "utf-8") (codes "4oJB"))) (drop 1 session) _ one (drop 1 session_replies) opens from_reads_truncated

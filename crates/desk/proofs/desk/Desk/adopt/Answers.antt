@@ -1,0 +1,12 @@
+use Rattle.std.proofs.Common.{sym, ap, ◌∙◌, rules, arith, false, ◌≡◌}
+use Rattle.std.specs.FinMap.{get}
+use Rattle.std.specs.Option.{is_some}
+use Rattle.desk.proofs.Open.{adopted_answers}
+use Rattle.desk.proofs.desk.Desk.adopt.Goals as goal
+
+pub returns : goal.returns
+returns c =
+    let free : is_some (get c.self.inside.documents.named c.args.name.now) ≡ false = search rules in
+    rw (← c.self.view_is)
+    (adopted_answers _ c.open.new.self c.args.name.now c.args.given c.args.bytes.now c.args.revision _
+    free c.in_ok-open.ensures.step c.in_ok-open.ensures.accepted c.in_ok-open.ensures.indexes)

@@ -1,0 +1,14 @@
+use Rattle.std.proofs.Common.{sym, ap, ◌∙◌, string_bytes}
+use Rattle.desk.specs.Documents.{Names, Shelf}
+use Rattle.desk.proofs.Names.{names_updated, opened_insert}
+use Rattle.desk.proofs.documents.Documents.insert.Goals as goal
+
+pub invariant_of-self-2 : goal.invariant_of-self-2
+invariant_of-self-2 c =
+    let same = c.requires ∙ sym (ap (λ (s : Shelf). s.indexes) c.self.view_is) in
+    rw c.in_ok-insert.ensures.entries (opened_insert c.self.inside.indexes.now c.args.name c.args.opened c.self.inside.named.entries c.self.invariant same)
+
+pub returns-clause-ok : goal.returns-clause-ok
+returns-clause-ok c =
+    let f : Names → Shelf = λ n. record { indexes = c.self.inside.indexes.now; named = n } in
+    rw (← c.self.view_is) (ap f (names_updated (string_bytes c.args.name) c.self.inside.named c.insert.new.self c.args.opened c.in_ok-insert.ensures.updates))

@@ -1,0 +1,12 @@
+use Rattle.std.proofs.Common.{◌≡◌, true, ap, ◌∙◌, sym, rules}
+use Rattle.std.specs.Str.{chars}
+use Rattle.index_loader.specs.Files.{has_files}
+use Rattle.desk.specs.OpenDocuments.{entry_of}
+use Rattle.desk.proofs.Encode.{encoded_range}
+use Rattle.desk.proofs.open_document.OpenDocument.encode.Goals as goal
+
+pub returns : goal.returns
+returns c =
+    let can : has_files c.args.self.now.document.indexes c.args.target ≡ true = search rules in
+    let gives = rw (c.indexes-indexes.ensures, c.as_str.ensures.value, c.in_ok-part.ensures.chars) at (c.encoded_reply.ensures _ c.encode-answer.ensures) in
+    encoded_range c.args.self.now.document.indexes (entry_of c.args.self.now) c.args.from c.args.to c.args.target c.args.mode c.encoded_reply.result can c.in_ok-part.ensures.faults gives

@@ -1,0 +1,8 @@
+-- Closing a document.
+use Rattle.desk.specs.Documents.{Entry}
+use Rattle.desk.specs.Effects.{Effect, Goes}
+use Rattle.desk.specs.declared.reply.Reply.TheVariants.{Closed}
+
+-- the reply has the revision that the document had
+abbrev pub closed : Entry → Effect
+closed h = record { reply = Closed h.revision; move = Goes }

@@ -1,0 +1,34 @@
+-- The codes of what a desk stands for. Nothing here has to be believed.
+use Rattle.std.specs.Prelude.{ℕ, List, Option, refl}
+use Rattle.std.specs.Coded.{Coded, code_by, coded×, coded_ℕ, coded_list, coded_option}
+use Rattle.std.specs.FinMap as map
+use Rattle.enc_names.specs.contracts.encoding.Encoding.{the_row}
+use Rattle.enc_names.specs.declared.encoding.Encoding.{Encoding}
+use Rattle.enc_names.specs.Labels.{LabelTable}
+use Rattle.index_loader.specs.Files.{Files}
+use Rattle.index_loader.specs.Pairs.{Pairs}
+use Rattle.desk.specs.Documents.{Entry, Names, Shelf}
+use Rattle.desk.specs.Desk.{Office}
+
+abbrev pub entry_code : Coded Entry
+entry_code =
+    code_by (Encoding × (List ℕ × ℕ)) (coded× the_row.coded (coded× (coded_list coded_ℕ) coded_ℕ))
+    (λ h. (h.given, (h.bytes, h.revision))) (λ p. record { given = p.0; bytes = p.1.0; revision = p.1.1 }) (λ _. refl)
+
+abbrev pub names_code : Coded Names
+names_code = map.code (coded_list coded_ℕ) entry_code
+
+abbrev pub files_code : Coded Files
+files_code =
+    code_by (List (Option Pairs)) (coded_list (coded_option (coded_list (coded× coded_ℕ coded_ℕ)))) (λ f. f.slots) (λ s. record { slots = s }) (λ _. refl)
+
+abbrev pub shelf_code : Coded Shelf
+shelf_code = code_by (Files × Names) (coded× files_code names_code) (λ s. (s.indexes, s.named)) (λ p. record { indexes = p.0; named = p.1 }) (λ _. refl)
+
+abbrev pub labels_code : Coded LabelTable
+labels_code = coded_list (coded× (coded_list coded_ℕ) the_row.coded)
+
+abbrev pub office_code : Coded Office
+office_code =
+    code_by (Files × (LabelTable × Names)) (coded× files_code (coded× labels_code names_code))
+    (λ o. (o.indexes, (o.labels, o.documents))) (λ p. record { indexes = p.0; labels = p.1.0; documents = p.1.1 }) (λ _. refl)

@@ -1,0 +1,79 @@
+-- The documents of the desk, and what its ops have in common.
+use Rattle.std.specs.Prelude.{◌≡◌, ℕ, List, Option, Some, None, Result, Ok, Err}
+use Rattle.std.specs.Ordering.{nat_cmp}
+use Rattle.std.specs.Cmp.Lexicographic.{slice_cmp}
+use Rattle.std.specs.FinMap.{FinMap}
+use Rattle.enc_names.specs.declared.encoding.Encoding.{Encoding}
+use Rattle.index_loader.specs.Files.{Files}
+use Rattle.piece_rope.specs.declared.fault.DocFault.{DocFault}
+use Rattle.piece_rope.specs.declared.fault.DocFault.TheVariants as cause
+use Rattle.piece_rope.specs.Document.{Document, decoded}
+use Rattle.desk.specs.declared.fault.Fault.{Fault}
+use Rattle.desk.specs.declared.fault.Fault.TheVariants.{NoIndex, OutOfRange, TooLarge, OutOfMemory}
+use Rattle.desk.specs.declared.reply.Reply.{Reply}
+use Rattle.desk.specs.declared.reply.Reply.TheVariants.{Edited, Refused}
+
+-- what is held at a name: nothing derived
+pub record Entry : Type 0 where
+  pub given : Encoding
+  pub bytes : List ℕ
+  pub revision : ℕ
+
+abbrev pub entry : Encoding → List ℕ → ℕ → Entry
+entry given bytes revision = record { given = given; bytes = bytes; revision = revision }
+
+-- names, as UTF-8 bytes, with what is held at them
+abbrev pub Names : Type 0
+Names = FinMap (slice_cmp nat_cmp) Entry
+
+-- the documents, beside the loaded index files
+pub record Shelf : Type 0 where
+  pub indexes : Files
+  pub named : Names
+
+-- the greatest revision, 2^53 - 1
+abbrev pub max_revision : ℕ
+max_revision = 9007199254740991
+
+-- what is held, decoded by the loaded index files
+abbrev pub document_of : Files → Entry → Document
+document_of indexes h = record { indexes = indexes; given = h.given; bytes = h.bytes }
+
+-- the refusal for a document's fault
+abbrev pub fault_of : DocFault → Fault
+fault_of cause.NoIndex = NoIndex
+fault_of cause.OutOfRange = OutOfRange
+fault_of cause.TooLarge = TooLarge
+fault_of cause.OutOfMemory = OutOfMemory
+
+-- an answer, unless there is a fault
+abbrev pub unless_fault : {A : Type 0} → Option DocFault → Result A Fault → Result A Fault
+unless_fault None answer = answer
+unless_fault (Some fault) answer = Err (fault_of fault)
+
+-- the value, unless there is a fault
+abbrev pub unless : {A : Type 0} → Option DocFault → A → Result A Fault
+unless fault x = unless_fault fault (Ok x)
+
+-- the reply to an open or an edit that left this entry
+abbrev pub edit_reply : Files → Entry → Reply
+edit_reply indexes h =
+    let d = decoded (document_of indexes h) in
+    Edited d.bom d.encoding h.revision
+
+-- ---- what the code answers
+
+-- The answer is the one defined; or memory ran out.
+abbrev pub Gives : {A : Type 0} → Result A Fault → Result A Fault → Type 0
+Gives defined (Err OutOfMemory) = Unit {0}
+Gives defined answer = defined ≡ answer
+
+-- an accepted change, with its value
+abbrev pub with_value : {A B : Type 0} → A → Result B Fault → Result A Fault
+with_value x (Ok y) = Ok x
+with_value x (Err fault) = Err fault
+
+-- a refusal as a reply
+abbrev pub reply_of : Result Reply Fault → Reply
+reply_of (Ok reply) = reply
+reply_of (Err fault) = Refused fault

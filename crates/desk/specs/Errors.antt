@@ -1,0 +1,15 @@
+-- The places of a document's errors.
+use Rattle.std.specs.Prelude.{ℕ, length, take, drop, Result}
+use Rattle.index_loader.specs.Files.{Files}
+use Rattle.piece_rope.specs.Document.{errors_of}
+use Rattle.piece_rope.specs.Edits.{errors_fault}
+use Rattle.desk.specs.Documents.{Entry, document_of, unless}
+use Rattle.desk.specs.declared.fault.Fault.{Fault}
+use Rattle.desk.specs.declared.reply.Reply.{Reply}
+use Rattle.desk.specs.declared.reply.Reply.TheVariants.{Errors}
+
+-- at most max places of errors, the first being number `from`
+abbrev pub errors_reply : Files → Entry → ℕ → ℕ → Result Reply Fault
+errors_reply indexes h from max =
+    let d = document_of indexes h in
+    unless (errors_fault d from) (Errors h.revision (length (errors_of d)) (take max (drop from (errors_of d))))

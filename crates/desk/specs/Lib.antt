@@ -1,0 +1,17 @@
+pub mod Apart
+pub mod Changes
+pub mod Close
+pub mod Codes
+pub mod Commands
+pub mod Desk
+pub mod Documents
+pub mod Effects
+pub mod Encode
+pub mod Errors
+pub mod Lives
+pub mod Open
+pub mod OpenDocuments
+pub mod Session
+pub mod Source
+pub mod Splice
+pub mod Text

@@ -1,0 +1,125 @@
+-- Lives of a document: from its open or adoption to its close, with each accepted edit.
+use Rattle.std.specs.Prelude.{◌≡◌, ℕ, ◌+◌, ◌&&◌, Bool, true, false, List, [], ◌∷◌, ◌++◌, length, if◌then◌else◌, Option, Some, None, Result, Ok}
+use Rattle.std.specs.Str.{bytes_eq}
+use Rattle.std.specs.FinMap.{get}
+use Rattle.enc_names.specs.declared.encoding.Encoding.{Encoding}
+use Rattle.enc_names.specs.Labels.{lookup_in}
+use Rattle.index_loader.specs.Files.{Files}
+use Rattle.piece_rope.specs.Edits.{spliced}
+use Rattle.desk.specs.Changes.{is_accepted}
+use Rattle.desk.specs.Commands.{Ask, Asked, asked_of, Opens, Closes, Splices}
+use Rattle.desk.specs.Desk.{Office, Answers, Adopts}
+use Rattle.desk.specs.Documents.{Entry, entry}
+use Rattle.desk.specs.Effects.{base64_bytes}
+use Rattle.desk.specs.declared.fault.Fault.{Fault}
+use Rattle.desk.specs.declared.reply.Reply.{Reply}
+
+-- ---- what happens to a desk
+
+-- a command with its reply, or an adoption with its answer
+pub data Act : Type 0 where
+  Commanded : Asked → Reply → Act
+  -- name given bytes rev
+  Adopted : List ℕ → Encoding → List ℕ → ℕ → Result (Unit {0}) Fault → Act
+
+abbrev pub Acts : Office → Act → Office → Type 0
+Acts o (Commanded c reply) p = Answers o c reply p
+Acts o (Adopted name given bytes rev answer) p = Adopts o name given bytes rev answer p
+
+-- one after another
+abbrev pub ActsAll : Office → List Act → Office → Type 0
+ActsAll o [] p = p ≡ o
+ActsAll o (a ∷ acts) p = (mid : Office) × Acts o a mid × ActsAll mid acts p
+
+-- ---- the edits of a document, and its close
+
+-- it asks for an edit
+abbrev pub is_edit : Ask → Bool
+is_edit (Splices rev at del bytes) = true
+is_edit ask = false
+
+abbrev pub is_close : Ask → Bool
+is_close Closes = true
+is_close ask = false
+
+-- the accepted edits of the document d, in their order
+abbrev pub edit_in : List ℕ → Act → List Ask
+edit_in d (Commanded c reply) = if bytes_eq c.doc d && (is_edit c.ask && is_accepted reply) then c.ask ∷ [] else []
+edit_in d (Adopted name given bytes rev answer) = []
+
+abbrev pub edits_of : List ℕ → List Act → List Ask
+edits_of d [] = []
+edits_of d (a ∷ acts) = edit_in d a ++ edits_of d acts
+
+-- a close of the document d is accepted
+abbrev pub ends_life : List ℕ → Act → Bool
+ends_life d (Commanded c reply) = bytes_eq c.doc d && (is_close c.ask && is_accepted reply)
+ends_life d (Adopted name given bytes rev answer) = false
+
+-- none is
+abbrev pub Lasts : List ℕ → List Act → Type 0
+Lasts d [] = Unit {0}
+Lasts d (a ∷ acts) = (ends_life d a ≡ false) × Lasts d acts
+
+-- ---- what edits do
+
+-- the revision that an edit names
+abbrev pub named_by : Ask → Option ℕ
+named_by (Splices rev at del bytes) = Some rev
+named_by ask = None
+
+abbrev pub with_spliced : List ℕ → ℕ → ℕ → Option (List ℕ) → List ℕ
+with_spliced bytes at del None = bytes
+with_spliced bytes at del (Some ins) = spliced bytes at del ins
+
+-- the bytes that an edit leaves of these
+abbrev pub edited_by : Files → Encoding → List ℕ → Ask → List ℕ
+edited_by indexes given bytes (Splices rev at del text) = with_spliced bytes at del (base64_bytes text)
+edited_by indexes given bytes ask = bytes
+
+abbrev pub edited_by_all : Files → Encoding → List ℕ → List Ask → List ℕ
+edited_by_all indexes given bytes [] = bytes
+edited_by_all indexes given bytes (e ∷ es) = edited_by_all indexes given (edited_by indexes given bytes e) es
+
+-- The first edit names this revision, and each further one the next.
+abbrev pub NameFrom : ℕ → List Ask → Type 0
+NameFrom r [] = Unit {0}
+NameFrom r (e ∷ es) = (named_by e ≡ Some r) × NameFrom (r + 1) es
+
+-- The entry is the one of the beginning with the edits applied in their order, each once, and each named the revision that it found.
+pub record IsLife (indexes : Files) (begin : Entry) (edits : List Ask) (now : Entry) : Type 0 where
+  pub given : now.given ≡ begin.given
+  pub revision : now.revision ≡ begin.revision + length edits
+  pub named : NameFrom begin.revision edits
+  pub bytes : now.bytes ≡ edited_by_all indexes begin.given begin.bytes edits
+
+abbrev pub Lives : Type 0
+Lives = (d : List ℕ) (o p : Office) (acts : List Act) (begin : Entry) → get o.documents d ≡ Some begin → ActsAll o acts p → Lasts d acts
+    → (now : Entry) × (get p.documents d ≡ Some now) × IsLife o.indexes begin (edits_of d acts) now
+
+-- ---- where lives begin and end
+
+-- An accepted open begins a life at revision 0, with the encoding that the label names and the bytes of the base64 text.
+pub record Begins (o : Office) (doc label text : List ℕ) (p : Office) : Type 0 where
+  pub given : Encoding
+  pub bytes : List ℕ
+  pub free : get o.documents doc ≡ None
+  pub labelled : lookup_in o.labels label ≡ Some given
+  pub read : base64_bytes text ≡ Some bytes
+  pub begin : get p.documents doc ≡ Some (entry given bytes 0)
+
+abbrev pub OpensBegin : Type 0
+OpensBegin = (o p : Office) (doc label text : List ℕ) (reply : Reply) → Answers o (asked_of doc (Opens label text)) reply p → is_accepted reply ≡ true
+    → Begins o doc label text p
+
+abbrev pub done : Result (Unit {0}) Fault
+done = Ok tt
+
+-- An accepted adoption begins one at the stated revision.
+abbrev pub AdoptionsBegin : Type 0
+AdoptionsBegin = (o p : Office) (name : List ℕ) (given : Encoding) (bytes : List ℕ) (rev : ℕ) → Adopts o name given bytes rev done p
+    → (get o.documents name ≡ None) × (get p.documents name ≡ Some (entry given bytes rev))
+
+-- An accepted close ends one.
+abbrev pub ClosesEnd : Type 0
+ClosesEnd = (o p : Office) (doc : List ℕ) (reply : Reply) → Answers o (asked_of doc Closes) reply p → is_accepted reply ≡ true → get p.documents doc ≡ None

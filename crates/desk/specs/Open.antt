@@ -1,0 +1,32 @@
+-- Opening a document, and adopting one.
+use Rattle.std.specs.Prelude.{ℕ, List, if◌then◌else◌, Bool, Option, Some, None, is_some, Result, Ok, Err}
+use Rattle.enc_names.specs.declared.encoding.Encoding.{Encoding}
+use Rattle.index_loader.specs.Files.{Files}
+use Rattle.piece_rope.specs.Decode.{is_decoded}
+use Rattle.piece_rope.specs.Edits.{open_fault}
+use Rattle.desk.specs.Documents.{Entry, entry, edit_reply, unless}
+use Rattle.desk.specs.Effects.{Effect, refused, put}
+use Rattle.desk.specs.declared.fault.Fault.{Fault}
+use Rattle.desk.specs.declared.fault.Fault.TheVariants.{NameTaken, UnknownLabel, NoIndex, TooManyDocuments}
+
+-- a document at a revision, unless its encoding can't be decoded, no place is free, or it is too large
+abbrev pub admitted : Files → Bool → Encoding → List ℕ → ℕ → Result Entry Fault
+admitted indexes place given bytes rev =
+    if is_decoded indexes given
+    then (if place
+    then unless (open_fault indexes given bytes) (entry given bytes rev)
+    else Err TooManyDocuments)
+    else Err NoIndex
+
+-- the label may name an encoding
+abbrev pub opened_as : Files → Bool → List ℕ → Option Encoding → Effect
+opened_as indexes place bytes None = refused UnknownLabel
+opened_as indexes place bytes (Some given) = put (edit_reply indexes) (admitted indexes place given bytes 0)
+
+-- the name has to be free
+abbrev pub opened : Files → Bool → Option Entry → List ℕ → Option Encoding → Effect
+opened indexes place found bytes given = if is_some found then refused NameTaken else opened_as indexes place bytes given
+
+-- a document taken over with its revision, or why it is refused
+abbrev pub adopted : Files → Bool → Option Entry → Encoding → List ℕ → ℕ → Result Entry Fault
+adopted indexes place found given bytes rev = if is_some found then Err NameTaken else admitted indexes place given bytes rev

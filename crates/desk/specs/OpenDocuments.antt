@@ -1,0 +1,21 @@
+-- What the open documents stand for. Nothing here has to be believed.
+use Rattle.std.specs.Prelude.{◌≡◌, List, String, map, string_bytes}
+use Rattle.std.specs.List.{All}
+use Rattle.std.specs.Map.{values_of}
+use Rattle.std.specs.declared.alloc.Global.{Global}
+use Rattle.std.specs.FinMap.{from_entries}
+use Rattle.index_loader.specs.Files.{Files}
+use Rattle.desk.specs.declared.open_document.OpenDocument.{OpenDocument}
+use Rattle.desk.specs.Documents.{Entry, Names}
+
+-- an open document, without its index files
+abbrev pub entry_of : OpenDocument → Entry
+entry_of k = record { given = k.document.given; bytes = k.document.bytes; revision = k.revision }
+
+-- the names with what is held at them
+abbrev pub names : List (String Global × OpenDocument) → Names
+names es = from_entries (map (λ e. (string_bytes e.0, entry_of e.1)) es)
+
+-- each document was opened with these index files
+abbrev pub AllOpened : Files → List (String Global × OpenDocument) → Type 0
+AllOpened indexes es = All (λ k. k.document.indexes ≡ indexes) (values_of es)

@@ -1,0 +1,52 @@
+-- A worked session, without index files and with the names alone as labels.
+use Rattle.std.specs.Prelude.{List, [], ◌∷◌, codes}
+use Rattle.std.specs.FinMap.{empty}
+use Rattle.enc_names.specs.declared.encoding.Encoding.TheVariants.{Utf8}
+use Rattle.enc_names.specs.Labels.{name_labels}
+use Rattle.index_loader.specs.Files.{no_files}
+use Rattle.desk.specs.Commands.{Ask, Asked, asked_of, Opens, Closes, Splices, Reads, ListsErrors}
+use Rattle.desk.specs.Desk.{Office, answer_of}
+use Rattle.desk.specs.declared.fault.Fault.TheVariants.{OutOfRange}
+use Rattle.desk.specs.declared.reply.Reply.{Reply}
+use Rattle.desk.specs.declared.reply.Reply.TheVariants.{Edited, Closed, Text, Errors, Refused}
+use Rattle.desk.specs.declared.text_mode.TextMode.TheVariants.{Replacement}
+
+-- the desk behind a command
+abbrev pub after : Office → Asked → Office
+after o c = record o { documents = (answer_of o c).documents }
+
+-- the replies to commands, one after another
+abbrev pub replies_to : Office → List Asked → List Reply
+replies_to o [] = []
+replies_to o (c ∷ cs) = (answer_of o c).reply ∷ replies_to (after o c) cs
+
+abbrev pub office_without_files : Office
+office_without_files = record { indexes = no_files; labels = name_labels; documents = empty }
+
+-- asked of the document `a`
+abbrev pub a : Ask → Asked
+a = asked_of (codes "a")
+
+-- a truncated sequence is completed by a splice: E2 82 41, then E2 82 AC 41
+abbrev pub session : List Asked
+session =
+    a (Opens (codes "utf-8") (codes "4oJB"))
+    ∷ a (Reads 0 2 Replacement)
+    ∷ a (ListsErrors 0 10)
+    ∷ a (Splices 0 2 0 (codes "rA=="))
+    ∷ a (Reads 0 2 Replacement)
+    ∷ a (Splices 1 5 0 (codes ""))
+    ∷ a Closes
+    ∷ []
+
+-- the texts are U+FFFD A and U+20AC A
+abbrev pub session_replies : List Reply
+session_replies =
+    Edited 0 Utf8 0
+    ∷ Text 0 (0xEF ∷ 0xBF ∷ 0xBD ∷ 0x41 ∷ [])
+    ∷ Errors 0 1 (record { from = 0; to = 2 } ∷ [])
+    ∷ Edited 0 Utf8 1
+    ∷ Text 1 (0xE2 ∷ 0x82 ∷ 0xAC ∷ 0x41 ∷ [])
+    ∷ Refused OutOfRange
+    ∷ Closed 1
+    ∷ []

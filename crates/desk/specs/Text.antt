@@ -1,0 +1,25 @@
+-- The text of a document.
+use Rattle.std.specs.Prelude.{ℕ, ◌-◌, take, drop, Option, Some, Result, Ok, Err}
+use Rattle.std.specs.Str.{encode_utf8_all}
+use Rattle.enc_names.specs.declared.place.Place.{Place}
+use Rattle.index_loader.specs.Files.{Files}
+use Rattle.piece_rope.specs.Document.{text_of, first_error}
+use Rattle.piece_rope.specs.Edits.{text_fault}
+use Rattle.desk.specs.Documents.{Entry, document_of, unless}
+use Rattle.desk.specs.declared.fault.Fault.{Fault}
+use Rattle.desk.specs.declared.fault.Fault.TheVariants.{Malformed}
+use Rattle.desk.specs.declared.reply.Reply.{Reply}
+use Rattle.desk.specs.declared.reply.Reply.TheVariants.{Text}
+use Rattle.desk.specs.declared.text_mode.TextMode.{TextMode}
+use Rattle.desk.specs.declared.text_mode.TextMode.TheVariants.{Fatal}
+
+-- In mode fatal the first error, wherever it stands, takes the place of an answer (Encoding Standard, "decode", error mode "fatal").
+abbrev pub in_mode : {A : Type 0} → TextMode → Option Place → Result A Fault → Result A Fault
+in_mode Fatal (Some place) (Ok x) = Err (Malformed place)
+in_mode mode first answer = answer
+
+-- the code points from..to, in UTF-8
+abbrev pub text_reply : Files → Entry → ℕ → ℕ → TextMode → Result Reply Fault
+text_reply indexes h from to mode =
+    let d = document_of indexes h in
+    in_mode mode (first_error d) (unless (text_fault d from to) (Text h.revision (encode_utf8_all (take (to - from) (drop from (text_of d))))))

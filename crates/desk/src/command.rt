@@ -1,0 +1,78 @@
+//! The commands of a client.
+
+use crate::text_mode::TextMode;
+use encoders::EncodeMode;
+
+/// One command. Its texts are borrowed from the line that it was parsed from.
+#[derive(Clone, Copy)]
+pub enum Command<'a> {
+    /// Opens a document at revision 0.
+    Open {
+        /// The name, which has to be free.
+        doc: &'a str,
+        /// What names the encoding.
+        label: &'a str,
+        /// The document's bytes in base64 (RFC 4648, section 4).
+        bytes: &'a str,
+    },
+    /// Closes a document.
+    Close {
+        /// The document's name.
+        doc: &'a str,
+    },
+    /// Replaces bytes of a document.
+    Splice {
+        /// The document's name.
+        doc: &'a str,
+        /// The document's revision now.
+        rev: u64,
+        /// How many bytes stand before the first to take out.
+        at: u64,
+        /// How many bytes to take out.
+        del: u64,
+        /// The bytes to put in their place, in base64 (RFC 4648, section 4).
+        bytes: &'a str,
+    },
+    /// Returns the code points `from..to` of a document's text.
+    Text {
+        /// The document's name.
+        doc: &'a str,
+        /// How many code points stand before the first wanted.
+        from: u64,
+        /// How many code points stand before the end of those wanted.
+        to: u64,
+        /// What becomes of the document's errors.
+        mode: TextMode,
+    },
+    /// Returns bytes of a document as they are.
+    Source {
+        /// The document's name.
+        doc: &'a str,
+        /// How many bytes stand before the first wanted.
+        at: u64,
+        /// How many bytes are wanted.
+        len: u64,
+    },
+    /// Returns the code points `from..to` of a document's text, encoded.
+    Encode {
+        /// The document's name.
+        doc: &'a str,
+        /// How many code points stand before the first wanted.
+        from: u64,
+        /// How many code points stand before the end of those wanted.
+        to: u64,
+        /// What names the encoding of the reply's bytes.
+        label: &'a str,
+        /// What becomes of code points that the encoding doesn't have.
+        mode: EncodeMode,
+    },
+    /// Returns a page of the places of a document's errors.
+    Errors {
+        /// The document's name.
+        doc: &'a str,
+        /// The number of the first entry wanted, counted from 0.
+        from: u64,
+        /// The most entries wanted.
+        max: u64,
+    },
+}

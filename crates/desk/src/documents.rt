@@ -1,0 +1,169 @@
+//! The open documents by their names.
+ghost use Rattle.std.specs.Prelude.{◌≡◌, true, IfOk, IfSome, OnOk, OnErr, string_bytes};
+ghost use Rattle.std.specs.Option.{option_map};
+ghost use Rattle.std.specs.FinMap as map;
+ghost use Rattle.desk.specs.Changes.{is_accepted};
+ghost use Rattle.desk.specs.Close.{closed};
+ghost use Rattle.desk.specs.Desk.{IsOutcome, has_place, outcome};
+ghost use Rattle.desk.specs.Documents.{edit_reply, reply_of};
+ghost use Rattle.desk.specs.Effects.{of_document, put};
+ghost use Rattle.desk.specs.Open.{admitted};
+ghost use Rattle.desk.specs.Splice.{splice_effect};
+ghost use Rattle.desk.specs.OpenDocuments.{AllOpened, entry_of, names};
+ghost use Rattle.index_loader.specs.Files.{Files};
+
+use crate::fault::Fault;
+use crate::open_document::OpenDocument;
+use crate::reply::Reply;
+use decoder_core::meter;
+use enc_names::Encoding;
+use index_loader::Indexes;
+use piece_rope::Doc;
+use std::alloc::{AllocError, Global};
+use std::collections::BTreeMap;
+use std::marker::Model;
+
+/// How many documents may be open.
+const MAX_DOCUMENTS: usize = 64;
+
+/// The open documents, all of them with the same index files. Contracts see the index files and
+/// the finite map from names.
+#[derive(Drop)]
+pub struct Documents<'i> {
+    indexes: &'i Indexes,
+    named: BTreeMap<String, OpenDocument<'i>>,
+}
+
+impl<'i> Model for Documents<'i> {
+    ghost use Rattle.desk.specs.Documents.{Shelf};
+    ghost use Rattle.desk.specs.Codes.{shelf_code};
+
+    ghost Value = { Shelf };
+
+    ghost coded = { shelf_code };
+
+    ghost use Rattle.desk.specs.OpenDocuments.{AllOpened, names};
+
+    ghost view = { λ d. record { indexes = d.indexes.now; named = names d.named.entries } };
+
+    ghost invariant = { λ d. AllOpened d.indexes.now d.named.entries };
+}
+
+impl<'i> Documents<'i> {
+    /// No document, and the index files for those to come.
+    pub fn new(alloc: Global, indexes: &'i Indexes) -> Documents<'i>
+        ensures { result ≡ record { indexes = indexes.now; named = map.empty } }
+    {
+        Documents {
+            indexes,
+            named: BTreeMap::new(alloc),
+        }
+    }
+
+    /// The document of this name.
+    pub fn get(&self, name: &str) -> Option<&OpenDocument<'i>>
+        ensures entry { option_map (λ k. entry_of k.now) result ≡ map.get self.now.named name.now }
+        ensures indexes { IfSome result (λ k. k.now.document.indexes ≡ self.now.indexes) }
+    {
+        self.named.get(name)
+    }
+
+    /// Puts a document at a revision under a name that is free.
+    #[tactic(auto, unfolding(piece_rope::specs::Edits::open_fault, piece_rope::specs::Decode::is_decoded))]
+    pub fn open(
+        &mut self,
+        alloc: Global,
+        name: &str,
+        given: Encoding,
+        bytes: &[u8],
+        revision: u64,
+    ) -> Result<Reply, Fault>
+        requires { map.get self.old.named name.now ≡ None }
+        ensures step { IsOutcome
+            (outcome self.old.named name.now (put (edit_reply self.old.indexes) (admitted self.old.indexes (has_place self.old.named) given bytes.now revision)))
+            (reply_of result) self.old.named self.new.named }
+        ensures accepted { IfOk result (λ reply. is_accepted reply ≡ true) }
+        ensures indexes { self.new.indexes ≡ self.old.indexes }
+    {
+        if !self.indexes.has(given) {
+            return Err(Fault::NoIndex);
+        }
+        if self.len() >= MAX_DOCUMENTS {
+            return Err(Fault::TooManyDocuments);
+        }
+        let document = Doc::open(alloc, self.indexes, given, bytes, &mut meter())?;
+        let opened = OpenDocument { document, revision };
+        let reply = opened.edit_reply();
+        let name = String::from_str(alloc, name)?;
+        self.insert(name, opened)?;
+        Ok(reply)
+    }
+
+    /// Splices the document of this name, as `OpenDocument::splice` does.
+    pub fn splice(
+        &mut self,
+        name: &str,
+        rev: u64,
+        at: u64,
+        del: u64,
+        ins: &[u8],
+    ) -> Result<Reply, Fault>
+        ensures step { IsOutcome
+            (outcome self.old.named name.now (splice_effect self.old.indexes rev at del ins.now (map.get self.old.named name.now)))
+            (reply_of result) self.old.named self.new.named }
+        ensures indexes { self.new.indexes ≡ self.old.indexes }
+    {
+        splice_in(&mut self.named, name, rev, at, del, ins)
+    }
+
+    /// Removes the document of this name.
+    pub fn close(&mut self, name: &str) -> Result<Reply, Fault>
+        ensures step { IsOutcome
+            (outcome self.old.named name.now (of_document (map.get self.old.named name.now) closed))
+            (reply_of result) self.old.named self.new.named }
+        ensures indexes { self.new.indexes ≡ self.old.indexes }
+    {
+        let Some(open) = self.named.remove(name) else {
+            return Err(Fault::NoDocument);
+        };
+        Ok(open.close_reply())
+    }
+
+    /// How many documents are open.
+    fn len(&self) -> usize
+        ensures { result ≡ map.len self.now.named }
+    {
+        self.named.len()
+    }
+
+    /// Puts a document, opened with the same index files, at its name.
+    fn insert(&mut self, name: String, opened: OpenDocument<'i>) -> Result<(), AllocError>
+        requires { opened.document.indexes ≡ self.old.indexes }
+        ensures ok { OnOk result (self.new ≡ record { indexes = self.old.indexes; named = map.insert self.old.named (string_bytes name) (entry_of opened.entry) }) }
+        ensures err { OnErr result (self.new ≡ self.old) }
+    {
+        self.named.insert(name, opened)?;
+        Ok(())
+    }
+}
+
+/// Splices the document of this name among those that are open.
+fn splice_in(
+    named: &mut BTreeMap<String, OpenDocument<'_>>,
+    name: &str,
+    rev: u64,
+    at: u64,
+    del: u64,
+    ins: &[u8],
+) -> Result<Reply, Fault>
+    ensures step { (indexes : Files) → AllOpened indexes named.old.entries → IsOutcome
+        (outcome (names named.old.entries) name.now (splice_effect indexes rev at del ins.now (map.get (names named.old.entries) name.now)))
+        (reply_of result) (names named.old.entries) (names named.new.entries) }
+    ensures opened { (indexes : Files) → AllOpened indexes named.old.entries → AllOpened indexes named.new.entries }
+{
+    let Some(found) = named.get_mut(name) else {
+        return Err(Fault::NoDocument);
+    };
+    found.splice(rev, at, del, ins)?;
+    Ok(found.edit_reply())
+}

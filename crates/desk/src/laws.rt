@@ -1,0 +1,26 @@
+//! Laws of the desk's definition, which every desk meets.
+ghost use Rattle.desk.specs.Apart.{DocumentsAreApart};
+ghost use Rattle.desk.specs.Changes.{OnlyChangesChange, RefusalsChangeNothing, MemoryIsNeverWanted};
+ghost use Rattle.desk.specs.Lives.{OpensBegin, AdoptionsBegin, ClosesEnd, Lives};
+
+/// A refused command changes nothing; and the definition itself never refuses for lack of memory.
+pub fn refusals_change_nothing()
+    ensures changes { OnlyChangesChange }
+    ensures documents { RefusalsChangeNothing }
+    ensures memory { MemoryIsNeverWanted }
+{}
+
+/// From its open or adoption to its close a document has each accepted edit once and in order,
+/// and each was made to the revision that it named.
+pub fn lives_have_each_edit_once()
+    ensures opens { OpensBegin }
+    ensures adoptions { AdoptionsBegin }
+    ensures closes { ClosesEnd }
+    ensures lives { Lives }
+{}
+
+/// What a desk answers for one document depends on no other, but for whether there is a place for
+/// one more.
+pub fn documents_are_apart()
+    ensures { DocumentsAreApart }
+{}

@@ -1,0 +1,22 @@
+//! The desk: names of documents, their revisions, and one reply to each command.
+#![tactic(auto)]
+
+mod base64_text;
+mod causes;
+mod command;
+mod desk;
+mod documents;
+mod fault;
+mod laws;
+mod open_document;
+mod reply;
+#[cfg(test)]
+mod tests;
+mod text_mode;
+
+pub use command::Command;
+pub use desk::Desk;
+pub use fault::Fault;
+pub use laws::{documents_are_apart, lives_have_each_edit_once, refusals_change_nothing};
+pub use reply::{Reply, ReplyBytes, ReplyPlaces, ReplyText};
+pub use text_mode::TextMode;

@@ -1,5 +1,0 @@
-use Rattle.gateway.proofs.DeskNames.{entry_lent}
-use Rattle.gateway.proofs.desk.documents.Documents.get.Goals as goal
-
-pub returns-clause-entry : goal.returns-clause-entry
-returns-clause-entry c = rw (← c.self.view_is) (entry_lent c.args.name.now c.self.inside.named.entries c.get.result c.get.ensures.value)
