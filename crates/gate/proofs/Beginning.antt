@@ -3,7 +3,7 @@ use Rattle.std.proofs.Common.{◌≡◌, ℕ, List, Option, None, Result, Ok, re
 use Rattle.std.specs.FinMap.{empty}
 use Rattle.enc_names.specs.Labels.{LabelTable}
 use Rattle.index_loader.specs.Files.{Files}
-use Rattle.gateway.specs.Desk.{Office}
+use Rattle.desk.specs.Desk.{Office}
 use Rattle.gateway.specs.Events.{connections}
 use Rattle.gateway.specs.Serving.{Runs}
 use Rattle.gateway.specs.Traffic.{Partial, Traffic}

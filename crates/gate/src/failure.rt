@@ -27,6 +27,10 @@ pub enum Failure<'a> {
     Write,
     /// The input was read 2^32 times without an end.
     TooManyReads,
+    /// The program can't listen on this port.
+    CannotListen(u16),
+    /// A connection can't be accepted.
+    Accept,
     /// Memory ran out outside of a command.
     OutOfMemory,
 }
@@ -43,7 +47,12 @@ impl Failure<'_> {
             | Failure::Index(_)
             | Failure::Labels(_)
             | Failure::CannotRead(_) => 2,
-            Failure::Read | Failure::Write | Failure::TooManyReads | Failure::OutOfMemory => 1,
+            Failure::Read
+            | Failure::Write
+            | Failure::TooManyReads
+            | Failure::CannotListen(_)
+            | Failure::Accept
+            | Failure::OutOfMemory => 1,
         }
     }
 
@@ -74,6 +83,15 @@ impl From<FolderFault> for Failure<'_> {
     }
 }
 
+impl From<LabelFault> for Failure<'_> {
+    fn from(fault: LabelFault) -> Self {
+        match fault {
+            LabelFault::OutOfMemory => Failure::OutOfMemory,
+            LabelFault::NotJson | LabelFault::BadShape => Failure::Labels(fault),
+        }
+    }
+}
+
 impl fmt::Display for Failure<'_> {
     fn fmt<W: fmt::Write>(&self, f: &mut fmt::Formatter<W>) -> fmt::Result {
         match self {
@@ -88,6 +106,8 @@ impl fmt::Display for Failure<'_> {
             Failure::Read => f.write_str("gate: read fault\n"),
             Failure::Write => f.write_str("gate: write fault\n"),
             Failure::TooManyReads => f.write_str("gate: too many reads\n"),
+            Failure::CannotListen(port) => writeln!(f, "gate: cannot listen on port {port}"),
+            Failure::Accept => f.write_str("gate: accept fault\n"),
             Failure::OutOfMemory => f.write_str("gate: out of memory\n"),
         }
     }

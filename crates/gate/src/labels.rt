@@ -1,7 +1,7 @@
 //! The labels that clients name encodings by.
 
 use crate::failure::Failure;
-use enc_names::{LabelFault, Labels};
+use enc_names::Labels;
 use index_files::{Unread, bytes_of};
 use std::alloc::Global;
 use std::path::Path;
@@ -18,18 +18,10 @@ pub fn labels_in<'a, T: Files>(
         Ok(None) | Err(Unread::Failed) => return Err(Failure::CannotRead(name)),
         Err(Unread::OutOfMemory) => return Err(Failure::OutOfMemory),
     };
-    labels_or(Labels::from_json(alloc, &bytes))
+    Ok(Labels::from_json(alloc, &bytes)?)
 }
 
 /// The names of the encodings as labels.
 pub fn names<'a>(alloc: Global) -> Result<Labels, Failure<'a>> {
-    labels_or(Labels::names(alloc))
-}
-
-fn labels_or<'a>(labels: Result<Labels, LabelFault>) -> Result<Labels, Failure<'a>> {
-    match labels {
-        Ok(labels) => Ok(labels),
-        Err(LabelFault::OutOfMemory) => Err(Failure::OutOfMemory),
-        Err(fault) => Err(Failure::Labels(fault)),
-    }
+    Ok(Labels::names(alloc)?)
 }

@@ -6,6 +6,7 @@ mod failure;
 mod labels;
 mod perform;
 mod serve;
+mod stdio;
 #[cfg(test)]
 mod tests;
 mod text;

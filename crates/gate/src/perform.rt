@@ -1,27 +1,29 @@
 //! All that the program does with its words.
 
-use crate::command_line::{Job, Sources, job_of};
+use crate::command_line::{Job, Listening, Sources, job_of};
 use crate::failure::Failure;
 use crate::labels::{labels_in, names};
-use crate::serve::serve;
+use crate::serve::{ServeFault, serve};
+use crate::stdio::serve_stdio;
 use crate::text::Text;
-use gateway::{Feed, Outlet};
+use desk::Desk;
+use enc_names::Labels;
+use gateway::{Feed, Gateway, Outlet};
 use index_files::indexes_in;
 use index_loader::Indexes;
 use std::alloc::Global;
+use std::net::{Net, TcpListener, TcpStream};
 use std::rt::Files;
 
 /// Runs the program's words, with `input` as standard input, `output` as standard output and
 /// `error` as standard error, and returns the exit status. The program's name isn't one of the
 /// words. A text that can't be written to `error` changes no status.
-pub fn perform<T: Files, R: Feed, W: Outlet, E: Outlet>(
-    rt: &T,
-    alloc: Global,
-    words: &[String],
-    input: &mut R,
-    output: &mut W,
-    error: &mut E,
-) -> u8 {
+pub fn perform<
+    T: Files + Net<Listener = TcpListener, Stream = TcpStream>,
+    R: Feed,
+    W: Outlet,
+    E: Outlet,
+>(rt: &T, alloc: Global, words: &[String], input: &mut R, output: &mut W, error: &mut E) -> u8 {
     match attempt(rt, alloc, words, input, output) {
         Ok(()) => 0,
         Err(failure) => {
@@ -32,7 +34,7 @@ pub fn perform<T: Files, R: Feed, W: Outlet, E: Outlet>(
 }
 
 /// Reads the command line first, then the files, and then serves.
-fn attempt<'a, T: Files, R: Feed, W: Outlet>(
+fn attempt<'a, T: Files + Net<Listener = TcpListener, Stream = TcpStream>, R: Feed, W: Outlet>(
     rt: &T,
     alloc: Global,
     words: &'a [String],
@@ -40,23 +42,51 @@ fn attempt<'a, T: Files, R: Feed, W: Outlet>(
     output: &mut W,
 ) -> Result<(), Failure<'a>> {
     match job_of(alloc, words) {
-        Ok(Job::Plain) => serve(alloc, &Indexes::new(), names(alloc)?, input, output),
-        Ok(
-            Job::Stdio(
-                Sources {
-                    indexes: folder,
-                    labels: file,
-                },
-            ),
-        ) => {
-            let indexes = indexes_in(rt, alloc, folder)?;
-            let labels = match file {
-                Some(name) => labels_in(rt, alloc, name)?,
-                None => names(alloc)?,
-            };
-            serve(alloc, &indexes, labels, input, output)
+        Ok(Job::Plain) => serve_stdio(alloc, &Indexes::new(), names(alloc)?, input, output),
+        Ok(Job::Stdio(sources)) => {
+            let indexes = indexes_in(rt, alloc, sources.indexes)?;
+            let labels = labels_of(rt, alloc, sources)?;
+            serve_stdio(alloc, &indexes, labels, input, output)
+        }
+        Ok(Job::Tcp(sources, listening)) => {
+            let indexes = indexes_in(rt, alloc, sources.indexes)?;
+            let labels = labels_of(rt, alloc, sources)?;
+            listen(rt, alloc, &indexes, labels, listening)
         }
         Err(error) => refused(error, output),
+    }
+}
+
+/// The labels of the label file, or the names where there is none.
+fn labels_of<'a, T: Files>(
+    rt: &T,
+    alloc: Global,
+    sources: Sources<'a>,
+) -> Result<Labels, Failure<'a>> {
+    let Some(name) = sources.labels else {
+        return names(alloc);
+    };
+    labels_in(rt, alloc, name)
+}
+
+/// Listens on a port of 127.0.0.1, and serves connections, from no document on.
+fn listen<'a, T: Net<Listener = TcpListener, Stream = TcpStream>>(
+    rt: &T,
+    alloc: Global,
+    indexes: &Indexes,
+    labels: Labels,
+    listening: Listening,
+) -> Result<(), Failure<'a>> {
+    let Ok(desk) = Desk::new(alloc, indexes, labels) else {
+        return Err(Failure::OutOfMemory);
+    };
+    let mut gateway = Gateway::new(alloc, desk);
+    let Ok(listener) = TcpListener::bind(rt, ("127.0.0.1", listening.port)) else {
+        return Err(Failure::CannotListen(listening.port));
+    };
+    match serve(&listener, &mut gateway, listening.connections) {
+        Ok(()) => Ok(()),
+        Err(ServeFault::Accept) => Err(Failure::Accept),
     }
 }
 

@@ -1,49 +1,53 @@
-//! Serving: one connection, from an input to an output.
-ghost use Rattle.std.specs.Prelude.{◌≡◌, ◌+◌, ◌≢◌, Err, OnOk};
-ghost use Rattle.std.specs.Io.KnownBytes.{IsAtEnd};
-ghost use Rattle.gateway.specs.Serving.{ends_of, read_failures_of, write_failures_of, IsReadUp};
-ghost use Rattle.gateway.specs.declared.serve.RunFault.TheVariants.{NotFree};
-ghost use Rattle.gate.specs.Serving.{beginning, run_answer, Served};
+//! Serving over TCP: connections one after another.
+ghost use Rattle.std.specs.Prelude.{◌≡◌, None, OnOk, OnErr};
+ghost use Rattle.gateway.specs.Events.{line_at};
+ghost use Rattle.gate.specs.Sessions.{AllServed, Session, SomeServed};
 
-use crate::failure::Failure;
-use enc_names::Labels;
-use gateway::desk::Desk;
-use gateway::{Feed, Gateway, Outlet, RunFault, run};
-use index_loader::Indexes;
-use std::alloc::Global;
+use gateway::{FromRead, Gateway, ToWrite, run};
+use std::net::{TcpListener, TcpStream};
 
-/// Serves one connection: reads the input to its end, and writes the reply to each complete line
-/// to the output, each before the next line is decided. The gateway begins with these index files
-/// and labels and with no document.
+#[cfg(test)]
+mod tests;
+
+/// Why serving ended before all connections were served.
+#[derive(Clone, Copy, PartialEq, Eq, Debug)]
+pub enum ServeFault {
+    /// A connection can't be accepted.
+    Accept,
+}
+
+/// Serves this many connections, one after another, each as connection 0. The documents stay in
+/// the gateway between them, and a fault of one connection ends that connection alone.
 ///
 /// # Errors
 ///
-/// A read failed, a write failed, or the input was read 2^32 times.
-pub fn serve<'a, R: Feed, W: Outlet>(
-    alloc: Global,
-    indexes: &Indexes,
-    labels: Labels,
-    input: &mut R,
-    output: &mut W,
-) -> Result<(), Failure<'a>>
-    ensures is_free { run_answer result ≢ Err NotFree }
-    ensures runs { Served (run_answer result) (beginning indexes.now labels)
-        (R.left input.old) (R.left input.new) (W.written output.old) (W.written output.new) }
-    ensures end { OnOk result (IsAtEnd (R.left input.new)) }
-    ensures ends { R.ends input.new ≡ R.ends input.old + ends_of (run_answer result) }
-    ensures reads { IsReadUp (run_answer result) (R.reads input.old) (R.reads input.new) }
-    ensures read_failures { R.failures input.new ≡ R.failures input.old + read_failures_of (run_answer result) }
-    ensures write_failures { W.failures output.new ≡ W.failures output.old + write_failures_of (run_answer result) }
+/// A connection can't be accepted; those before it were served.
+pub fn serve(
+    listener: &TcpListener,
+    gateway: &mut Gateway<'_>,
+    count: u32,
+) -> Result<(), ServeFault>
+    requires { line_at gateway.old 0 ≡ None }
+    ensures all { OnOk result (AllServed count gateway.old gateway.new) }
+    ensures some { OnErr result (SomeServed count gateway.old gateway.new) }
+    ensures free { line_at gateway.new 0 ≡ None }
 {
-    let Ok(desk) = Desk::new(alloc, indexes, labels) else {
-        return Err(Failure::OutOfMemory);
-    };
-    let mut gateway = Gateway::new(alloc, desk);
-    match run(&mut gateway, 0, input, output) {
-        Ok(()) => Ok(()),
-        Err(RunFault::Read) => Err(Failure::Read),
-        Err(RunFault::Write) => Err(Failure::Write),
-        Err(RunFault::TooManyReads) => Err(Failure::TooManyReads),
-        Err(RunFault::NotFree) => unreachable!(),
+    for _ in 0..count {
+        match listener.accept() {
+            Ok((stream, _)) => serve_one(gateway, &stream),
+            Err(_) => return Err(ServeFault::Accept),
+        }
     }
+    Ok(())
+}
+
+/// Serves one connection to its end or to its first fault.
+fn serve_one(gateway: &mut Gateway<'_>, stream: &TcpStream)
+    requires { line_at gateway.old 0 ≡ None }
+    ensures session { Session gateway.old gateway.new }
+    ensures free { line_at gateway.new 0 ≡ None }
+{
+    let mut input = FromRead::new(stream);
+    let mut output = ToWrite::new(stream);
+    let _ = run(gateway, 0, &mut input, &mut output);
 }

@@ -4,6 +4,7 @@
 use crate::perform::perform;
 use gateway::{Feed, FromRead, MemFeed, MemOutlet, Outlet, ToWrite};
 use std::io::{self, ErrorKind, Read, Write};
+use std::net::TcpListener;
 use std::path::PathBuf;
 use std::test::Fail;
 use std::{env, fs, process};
@@ -362,6 +363,7 @@ fn help_goes_to_the_output(rt: HostRuntime) -> Result<(), Fail> {
         &["-h"],
         &["help"],
         &["stdio", "--help"],
+        &["tcp", "--help"],
     ] {
         let done = performed(&rt, words, OPEN)?;
         assert!(rt; done.output.contains("Usage: gate"));
@@ -387,12 +389,33 @@ fn bad_words_are_refused_before_any_file_is_read(rt: HostRuntime) -> Result<(), 
     let at = folder.as_str();
     assert!(rt; are_refused(&rt, &["stdio"])?);
     assert!(rt; are_refused(&rt, &["trace", "--indexes", at])?);
-    assert!(rt; are_refused(&rt, &["tcp", "--indexes", at])?);
+    assert!(rt; are_refused(&rt, &["tcp"])?);
+    for port in ["0", "65536", "-1", "http", ""] {
+        assert!(rt; are_refused(&rt, &["tcp", "--indexes", at, "--port", port])?);
+    }
+    for count in ["0", "1000001"] {
+        assert!(rt; are_refused(&rt, &["tcp", "--indexes", at, "--serve", count])?);
+    }
     assert!(rt; are_refused(&rt, &["stdio", "--indexes"])?);
     assert!(rt; are_refused(&rt, &["stdio", "--indexes", at, "--labels"])?);
     assert!(rt; are_refused(&rt, &["stdio", "--indexes", at, "more"])?);
     assert!(rt; are_refused(&rt, &["stdio", "--indexes", at, "--port", "1"])?);
     assert!(rt; are_refused(&rt, &["--indexes", at])?);
+    folder.remove(&rt)
+}
+
+#[test]
+fn port_in_use(rt: HostRuntime) -> Result<(), Fail> {
+    let folder = Folder::new(&rt, "port")?;
+    let listener = TcpListener::bind(&rt, "127.0.0.1:0")?;
+    let port = listener.local_addr()?.port();
+    let word = format!(in rt.alloc(); "{port}")?;
+    let error = format!(in rt.alloc(); "gate: cannot listen on port {port}\n")?;
+    let words = ["tcp", "--indexes", folder.as_str(), "--port", word.as_str()];
+    assert!(rt; ends(&rt, &words, 1, error.as_str())?);
+    folder.write(&rt, "index-ibm866.txt", b"x\t0x41\n")?;
+    let error = "gate: index file index-ibm866.txt, line 1: BadPointer\n";
+    assert!(rt; ends(&rt, &words, 2, error)?);
     folder.remove(&rt)
 }
 
