@@ -1,0 +1,414 @@
+//! Commands and replies: names, documents, the order of refusals.
+
+use crate::change::{is_kept, plan};
+use crate::document::Document;
+use crate::encode::encode;
+use crate::positions::{Counts, Missed, Unit};
+use crate::reply::{line, Answer, Fault};
+use encoding_rs::Encoding;
+use serde_json::{json, Map, Value};
+use std::collections::HashMap;
+
+const GREATEST: u64 = (1 << 53) - 1;
+const LINE: usize = 4_194_304;
+const DOCUMENT: usize = 2_097_152;
+const DOCUMENTS: usize = 64;
+
+#[derive(Default)]
+pub struct Desk {
+    documents: HashMap<String, Document>,
+}
+
+type Object = Map<String, Value>;
+
+fn wrong(field: &'static str) -> Fault {
+    Fault::with("BadRequest", vec![("field", field.into())])
+}
+
+fn number(object: &Object, field: &'static str) -> Result<u64, Fault> {
+    let value = object.get(field).and_then(Value::as_u64);
+    value.filter(|&n| n <= GREATEST).ok_or_else(|| wrong(field))
+}
+
+fn page(object: &Object) -> Result<usize, Fault> {
+    match number(object, "max") {
+        Ok(max) if max <= 10_000 => Ok(max as usize),
+        _ => Err(wrong("max")),
+    }
+}
+
+fn text<'a>(object: &'a Object, field: &'static str) -> Result<&'a str, Fault> {
+    object
+        .get(field)
+        .and_then(Value::as_str)
+        .ok_or_else(|| wrong(field))
+}
+
+fn name(object: &Object) -> Result<&str, Fault> {
+    let name = text(object, "doc")?;
+    if (1..=64).contains(&name.len()) {
+        Ok(name)
+    } else {
+        Err(wrong("doc"))
+    }
+}
+
+fn choice(object: &Object, field: &'static str, words: [&str; 2]) -> Result<bool, Fault> {
+    match object.get(field) {
+        None => Ok(false),
+        Some(value) => match words.iter().position(|word| value.as_str() == Some(word)) {
+            Some(place) => Ok(place == 1),
+            None => Err(wrong(field)),
+        },
+    }
+}
+
+fn unit(object: &Object) -> Result<Unit, Fault> {
+    match object.get("unit") {
+        None => Ok(Unit::Utf16),
+        Some(value) => value
+            .as_str()
+            .and_then(Unit::named)
+            .ok_or_else(|| wrong("unit")),
+    }
+}
+
+fn bytes(text: &str) -> Result<Vec<u8>, Fault> {
+    base64::decode_config(text, base64::STANDARD).map_err(|_| "BadBase64".into())
+}
+
+fn labelled(label: &str) -> Result<&'static Encoding, Fault> {
+    Encoding::for_label(label.as_bytes()).ok_or_else(|| "UnknownLabel".into())
+}
+
+fn missed(missed: Missed) -> Fault {
+    match missed {
+        Missed::OutOfRange => "OutOfRange".into(),
+        Missed::SplitsCharacter => "SplitsCharacter".into(),
+    }
+}
+
+type Position = (usize, usize);
+
+fn position(value: &Value) -> Option<Position> {
+    let part = |field| {
+        value
+            .get(field)
+            .and_then(Value::as_u64)
+            .filter(|&n| n <= GREATEST)
+    };
+    Some((part("line")? as usize, part("character")? as usize))
+}
+
+fn range(object: &Object) -> Result<Option<(Position, Position)>, Fault> {
+    match object.get("range") {
+        None | Some(Value::Null) => Ok(None),
+        Some(value) => {
+            let ends = value
+                .get("start")
+                .and_then(position)
+                .zip(value.get("end").and_then(position));
+            ends.map(Some).ok_or_else(|| wrong("range"))
+        }
+    }
+}
+
+impl Desk {
+    pub fn answer(&mut self, bytes: &[u8]) -> String {
+        if bytes.len() > LINE {
+            return line(None, Err("LineTooLong".into()));
+        }
+        let object = match serde_json::from_slice(bytes) {
+            Ok(Value::Object(object)) => object,
+            Ok(_) => return line(None, Err(wrong(""))),
+            Err(_) => return line(None, Err("BadJson".into())),
+        };
+        match number(&object, "id") {
+            Ok(id) => line(Some(id), self.command(&object)),
+            Err(fault) => line(None, Err(fault)),
+        }
+    }
+
+    fn command(&mut self, object: &Object) -> Answer {
+        match text(object, "op")? {
+            "open" => self.open(object),
+            "close" => self.close(object),
+            "splice" => self.splice(object),
+            "change" => self.change(object),
+            "text" => self.text(object),
+            "source" => self.source(object),
+            "encode" => self.encode(object),
+            "errors" => self.errors(object),
+            "lines" => self.lines(object),
+            "position" => self.position(object),
+            "offset" => self.offset(object),
+            "place" => Err("UnknownOp".into()),
+            "stat" => self.stat(object),
+            _ => Err("UnknownOp".into()),
+        }
+    }
+
+    fn get(&mut self, name: &str) -> Result<&mut Document, Fault> {
+        self.documents
+            .get_mut(name)
+            .ok_or_else(|| "NoDocument".into())
+    }
+
+    fn open(&mut self, object: &Object) -> Answer {
+        let (name, label) = (name(object)?, text(object, "label")?);
+        let bytes = bytes(text(object, "bytes")?)?;
+        if self.documents.contains_key(name) {
+            return Err("NameTaken".into());
+        }
+        let encoding = labelled(label)?;
+        if self.documents.len() == DOCUMENTS {
+            return Err("TooManyDocuments".into());
+        }
+        if bytes.len() > DOCUMENT {
+            return Err("TooLarge".into());
+        }
+        let document = Document::new(encoding, bytes);
+        let answer = headed(&document, vec![]);
+        self.documents.insert(name.to_owned(), document);
+        Ok(answer)
+    }
+
+    fn close(&mut self, object: &Object) -> Answer {
+        match self.documents.remove(name(object)?) {
+            Some(document) => Ok(vec![("rev", document.revision.into())]),
+            None => Err("NoDocument".into()),
+        }
+    }
+
+    fn splice(&mut self, object: &Object) -> Answer {
+        let (name, rev) = (name(object)?, number(object, "rev")?);
+        let (at, del) = (
+            number(object, "at")? as usize,
+            number(object, "del")? as usize,
+        );
+        let bytes = bytes(text(object, "bytes")?)?;
+        let document = self.get(name)?;
+        edited(document, rev)?;
+        let length = document.bytes().len();
+        if at + del > length {
+            return Err("OutOfRange".into());
+        }
+        if length - del + bytes.len() > DOCUMENT {
+            return Err("TooLarge".into());
+        }
+        document.splice(at, del, &bytes);
+        Ok(headed(document, vec![]))
+    }
+
+    fn change(&mut self, object: &Object) -> Answer {
+        let (name, rev) = (name(object)?, number(object, "rev")?);
+        let (unit, range) = (unit(object)?, range(object)?);
+        let put = text(object, "text")?;
+        let document = self.get(name)?;
+        edited(document, rev)?;
+        let decoded = document.decoded();
+        let (from, to) = match range {
+            None => (Counts::default(), decoded.tables.whole()),
+            Some((start, end)) => {
+                if start > end {
+                    return Err("OutOfRange".into());
+                }
+                let place = |(line, character)| {
+                    decoded
+                        .tables
+                        .of_position(&decoded.text, line, character, unit)
+                        .map_err(missed)
+                };
+                (place(start)?, place(end)?)
+            }
+        };
+        let plan = plan(document, from.utf32, to.utf32, put)?;
+        if document.bytes().len() - plan.del + plan.bytes.len() > DOCUMENT {
+            return Err("TooLarge".into());
+        }
+        if !is_kept(document, &plan, from.utf8, to.utf8, put) {
+            return Err("NotKept".into());
+        }
+        document.splice(plan.at, plan.del, &plan.bytes);
+        let more = vec![
+            ("at", plan.at.into()),
+            ("del", plan.del.into()),
+            ("ins", plan.bytes.len().into()),
+        ];
+        Ok(headed(document, more))
+    }
+
+    fn text(&mut self, object: &Object) -> Answer {
+        let (name, from, to) = (
+            name(object)?,
+            number(object, "from")?,
+            number(object, "to")?,
+        );
+        let fatal = choice(object, "mode", ["replacement", "fatal"])?;
+        let document = self.get(name)?;
+        let rev = document.revision;
+        let part = part(document, from, to)?;
+        if let (true, Some(&(from, to))) = (fatal, document.decoded().errors.first()) {
+            return Err(Fault::with("Malformed", vec![("place", json!([from, to]))]));
+        }
+        Ok(vec![("rev", rev.into()), ("text", part.into())])
+    }
+
+    fn source(&mut self, object: &Object) -> Answer {
+        let (name, at, length) = (name(object)?, number(object, "at")?, number(object, "len")?);
+        let document = self.get(name)?;
+        let end = at + length;
+        let bytes = document
+            .bytes()
+            .get(at as usize..end as usize)
+            .ok_or("OutOfRange")?;
+        Ok(vec![
+            ("bytes", base64::encode(bytes).into()),
+            ("rev", document.revision.into()),
+        ])
+    }
+
+    fn encode(&mut self, object: &Object) -> Answer {
+        let (name, from, to) = (
+            name(object)?,
+            number(object, "from")?,
+            number(object, "to")?,
+        );
+        let label = text(object, "label")?;
+        let html = choice(object, "mode", ["fatal", "html"])?;
+        let document = self.get(name)?;
+        let encoding = labelled(label)?;
+        let rev = document.revision;
+        let bytes = encode(encoding, &part(document, from, to)?, html)?;
+        Ok(vec![
+            ("bytes", base64::encode(bytes).into()),
+            ("rev", rev.into()),
+        ])
+    }
+
+    fn errors(&mut self, object: &Object) -> Answer {
+        let (name, from) = (name(object)?, number(object, "from")? as usize);
+        let max = page(object)?;
+        let document = self.get(name)?;
+        let rev = document.revision;
+        let errors = &document.decoded().errors;
+        let rest = errors.get(from..).ok_or("OutOfRange")?;
+        let page: Vec<Value> = rest
+            .iter()
+            .take(max)
+            .map(|&(from, to)| json!([from, to]))
+            .collect();
+        Ok(vec![
+            ("errors", page.into()),
+            ("rev", rev.into()),
+            ("total", errors.len().into()),
+        ])
+    }
+
+    fn lines(&mut self, object: &Object) -> Answer {
+        let (name, from) = (name(object)?, number(object, "from")? as usize);
+        let max = page(object)?;
+        let document = self.get(name)?;
+        let rev = document.revision;
+        let lines = document.decoded().tables.lines();
+        let rest = lines.get(from..).ok_or("OutOfRange")?;
+        let page: Vec<Value> = rest
+            .iter()
+            .take(max)
+            .map(|(start, end)| json!([start.utf32, end.utf32]))
+            .collect();
+        Ok(vec![
+            ("count", lines.len().into()),
+            ("lines", page.into()),
+            ("rev", rev.into()),
+        ])
+    }
+
+    fn position(&mut self, object: &Object) -> Answer {
+        let (name, offset) = (name(object)?, number(object, "offset")? as usize);
+        let unit = unit(object)?;
+        let document = self.get(name)?;
+        let rev = document.revision;
+        let decoded = document.decoded();
+        let place = decoded
+            .tables
+            .at(&decoded.text, offset, Unit::Utf32)
+            .map_err(missed)?;
+        let (line, character) = decoded.tables.position(place, unit);
+        Ok(vec![
+            ("character", character.into()),
+            ("line", line.into()),
+            ("rev", rev.into()),
+        ])
+    }
+
+    fn offset(&mut self, object: &Object) -> Answer {
+        let (name, line) = (name(object)?, number(object, "line")? as usize);
+        let (character, unit) = (number(object, "character")? as usize, unit(object)?);
+        let document = self.get(name)?;
+        let rev = document.revision;
+        let decoded = document.decoded();
+        let place = decoded
+            .tables
+            .of_position(&decoded.text, line, character, unit)
+            .map_err(missed)?;
+        Ok(vec![("offset", place.utf32.into()), ("rev", rev.into())])
+    }
+
+    fn stat(&mut self, object: &Object) -> Answer {
+        let document = self.get(name(object)?)?;
+        let (given, length) = (document.given().name(), document.bytes().len());
+        let mut answer = headed(
+            document,
+            vec![("bytes", length.into()), ("given", given.into())],
+        );
+        let decoded = document.decoded();
+        let whole = decoded.tables.whole();
+        answer.extend([
+            ("errors", decoded.errors.len().into()),
+            ("lines", decoded.tables.lines().len().into()),
+            ("utf16", whole.utf16.into()),
+            ("utf32", whole.utf32.into()),
+            ("utf8", whole.utf8.into()),
+        ]);
+        Ok(answer)
+    }
+}
+
+/// Whether an edit names the revision now and another may follow.
+fn edited(document: &Document, rev: u64) -> Result<(), Fault> {
+    if rev != document.revision {
+        return Err(Fault::with(
+            "Stale",
+            vec![("rev", document.revision.into())],
+        ));
+    }
+    Ok(())
+}
+
+/// The fields of a document's head, and more.
+fn headed(document: &Document, mut more: Vec<(&'static str, Value)>) -> Vec<(&'static str, Value)> {
+    let (encoding, mark) = document.mark();
+    more.extend([
+        ("bom", mark.into()),
+        ("encoding", encoding.name().into()),
+        ("rev", document.revision.into()),
+    ]);
+    more
+}
+
+/// A range of the text, in code points.
+fn part(document: &mut Document, from: u64, to: u64) -> Result<String, Fault> {
+    let decoded = document.decoded();
+    if from > to {
+        return Err("OutOfRange".into());
+    }
+    let place = |value| {
+        decoded
+            .tables
+            .at(&decoded.text, value as usize, Unit::Utf32)
+            .map_err(missed)
+    };
+    let (end, start) = (place(to)?, place(from)?);
+    Ok(decoded.text[start.utf8..end.utf8].to_owned())
+}

@@ -1,0 +1,130 @@
+"""Sessions of JSON lines over documents made from fixed seeds."""
+
+import base64
+import json
+import random
+
+# Ordinary text of each encoding: words of its usual letters, with spaces, digits, tags and line ends.
+SAMPLES = {
+    "utf-8": ("Die Straße führt über die Brücke zum Café, où l'on boit du thé. 東京へ行く。 ", "utf-8"),
+    "shift_jis": ("吾輩は猫である。名前はまだ無い。どこで生れたか、とんと見当がつかぬ。<p>ABC 123</p> ", "cp932"),
+    "gb18030": ("学而时习之，不亦说乎？有朋自远方来，不亦乐乎？<p>ABC 123</p> ", "gb18030"),
+    "big5": ("學而時習之，不亦說乎？有朋自遠方來，不亦樂乎？<p>ABC 123</p> ", "big5"),
+    "euc-kr": ("나랏말싸미 듕귁에 달아 문자와로 서르 사맛디 아니할쎄. <p>ABC 123</p> ", "cp949"),
+    "iso-2022-jp": ("吾輩は猫である。名前はまだ無い。<p>ABC 123</p> ", "iso2022_jp"),
+    "utf-16le": ("Die Straße führt über die Brücke. 東京へ行く。 ", "utf-16-le"),
+    "windows-1251": ("Все счастливые семьи похожи друг на друга. <p>ABC 123</p> ", "cp1251"),
+}
+
+
+def document(label, size, seed=1):
+    """Bytes of about this size that decode without errors, cut into lines."""
+    text, codec = SAMPLES[label]
+    words = text.split(" ")
+    rng = random.Random(f"{label} {size} {seed}")
+    parts, length = [], 0
+    while length < size:
+        line = " ".join(rng.choice(words) for _ in range(rng.randrange(3, 15))) + "\r\n"
+        part = line.encode(codec, "ignore")
+        parts.append(part)
+        length += len(part)
+    # The last line that would pass the size is left out.
+    parts.pop()
+    return b"".join(parts)
+
+
+def b64(data):
+    return base64.b64encode(data).decode()
+
+
+class Session:
+    """Commands with numbers in a row, and the revision that the next edit names."""
+
+    def __init__(self):
+        self.lines = []
+        self.revision = 0
+
+    def add(self, op, **fields):
+        self.lines.append(json.dumps({"id": len(self.lines), "op": op, **fields}, ensure_ascii=False))
+
+    def edit(self, op, **fields):
+        self.add(op, rev=self.revision, **fields)
+        self.revision += 1
+
+    def bytes(self):
+        return "".join(line + "\n" for line in self.lines).encode()
+
+
+def edits(label, size, count):
+    """Splices of ASCII letters at places of the front, middle and back, each with a short text behind it."""
+    data = document(label, size)
+    session = Session()
+    session.add("open", doc="d", label=label, bytes=b64(data))
+    rng = random.Random(f"edits {label} {size}")
+    places = line_starts(label, data)
+    for _ in range(count):
+        at = rng.choice(places)
+        letter = b"a\0" if label == "utf-16le" else b"a"
+        session.edit("splice", doc="d", at=at, **{"del": 0}, bytes=b64(letter))
+        session.add("text", doc="d", **{"from": 100, "to": 200})
+        session.edit("splice", doc="d", at=at, **{"del": len(letter)}, bytes="")
+    return session.bytes()
+
+
+def line_starts(label, data):
+    """Places behind a line end, where a letter can be put in: every encoding is in its first state there."""
+    end = "\r\n".encode("utf-16-le") if label == "utf-16le" else b"\r\n"
+    places, at = [], data.find(end)
+    while at >= 0:
+        if label != "utf-16le" or at % 2 == 0:
+            places.append(at + len(end))
+        at = data.find(end, at + len(end))
+    return places
+
+
+def changes(label, size, count):
+    """Changes by line and character, each taken back by the next."""
+    data = document(label, size)
+    session = Session()
+    session.add("open", doc="d", label=label, bytes=b64(data))
+    lines = len(line_starts(label, data))
+    rng = random.Random(f"changes {label} {size}")
+    for _ in range(count):
+        line = rng.randrange(lines)
+        start = {"line": line, "character": 0}
+        session.edit("change", doc="d", range={"start": start, "end": start}, text="ab")
+        end = {"line": line, "character": 2}
+        session.edit("change", doc="d", range={"start": start, "end": end}, text="")
+    return session.bytes()
+
+
+def positions(label, size, count):
+    """Positions and offsets in a document that stays as it is."""
+    data = document(label, size)
+    session = Session()
+    session.add("open", doc="d", label=label, bytes=b64(data))
+    lines = len(line_starts(label, data))
+    rng = random.Random(f"positions {label} {size}")
+    units = ("utf-8", "utf-16", "utf-32")
+    for n in range(count):
+        session.add("offset", doc="d", line=rng.randrange(lines), character=0, unit=units[n % 3])
+        session.add("position", doc="d", offset=rng.randrange(len(data) // 4), unit=units[n % 3])
+    session.add("lines", doc="d", **{"from": lines // 2, "max": 1000})
+    session.add("stat", doc="d")
+    return session.bytes()
+
+
+def bulk(label, size, count):
+    """Documents opened one after another, a long text of each and one range in UTF-8."""
+    data = document(label, size)
+    session = Session()
+    for n in range(min(count, 64)):
+        name = f"d{n}"
+        session.add("open", doc=name, label=label, bytes=b64(data))
+        session.add("text", doc=name, **{"from": 0, "to": size // 8})
+        session.add("encode", doc=name, **{"from": 0, "to": size // 8}, label="utf-8")
+        session.add("errors", doc=name, **{"from": 0, "max": 100})
+    return session.bytes()
+
+
+KINDS = {"edits": edits, "changes": changes, "positions": positions, "bulk": bulk}
