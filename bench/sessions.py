@@ -3,6 +3,7 @@
 import base64
 import json
 import random
+from collections import namedtuple
 
 # Ordinary text of each encoding: words of its usual letters, with spaces, digits, tags and line ends.
 SAMPLES = {
@@ -56,19 +57,78 @@ class Session:
 
 
 def edits(label, size, count):
-    """Splices of ASCII letters at places of the front, middle and back, each with a short text behind it."""
-    data = document(label, size)
-    session = Session()
-    session.add("open", doc="d", label=label, bytes=b64(data))
+    """Splices of ASCII letters behind line ends, each with a short text behind it, taken back by the next."""
+    data, session = opened(label, size)
     rng = random.Random(f"edits {label} {size}")
     places = line_starts(label, data)
+    letter = b"a\0" if label == "utf-16le" else b"a"
     for _ in range(count):
         at = rng.choice(places)
-        letter = b"a\0" if label == "utf-16le" else b"a"
         session.edit("splice", doc="d", at=at, **{"del": 0}, bytes=b64(letter))
         session.add("text", doc="d", **{"from": 100, "to": 200})
         session.edit("splice", doc="d", at=at, **{"del": len(letter)}, bytes="")
     return session.bytes()
+
+
+def changes(label, size, count):
+    """Changes by line and character, each taken back by the next."""
+    data, session = opened(label, size)
+    lines = len(line_starts(label, data))
+    rng = random.Random(f"changes {label} {size}")
+    for _ in range(count):
+        line = rng.randrange(lines)
+        start, end = {"line": line, "character": 0}, {"line": line, "character": 2}
+        session.edit("change", doc="d", range={"start": start, "end": start}, text="ab")
+        session.edit("change", doc="d", range={"start": start, "end": end}, text="")
+    return session.bytes()
+
+
+def positions(label, size, count):
+    """Positions and offsets in each unit in a document that stays as it is."""
+    data, session = opened(label, size)
+    session.add("stat", doc="d")
+    lines = len(line_starts(label, data))
+    rng = random.Random(f"positions {label} {size}")
+    units = ("utf-8", "utf-16", "utf-32")
+    for n in range(count):
+        session.add("offset", doc="d", line=rng.randrange(lines), character=0, unit=units[n % 3])
+        session.add("position", doc="d", offset=rng.randrange(len(data) // 4), unit=units[n % 3])
+    return session.bytes()
+
+
+def pages(label, size, count):
+    """Pages of a thousand lines, and ranges of a thousand code points in UTF-8."""
+    data, session = opened(label, size)
+    session.add("stat", doc="d")
+    lines = len(line_starts(label, data))
+    rng = random.Random(f"pages {label} {size}")
+    for _ in range(count):
+        session.add("lines", doc="d", **{"from": rng.randrange(lines), "max": 1000})
+        start = rng.randrange(len(data) // 8)
+        session.add("encode", doc="d", **{"from": start, "to": start + 1000}, label="utf-8")
+    return session.bytes()
+
+
+def bulk(label, size, count):
+    """Documents opened one after another: a long text of each, the same range in UTF-8, and its errors."""
+    data = document(label, size)
+    session = Session()
+    for n in range(count):
+        name = f"d{n}"
+        session.add("open", doc=name, label=label, bytes=b64(data))
+        session.add("text", doc=name, **{"from": 0, "to": size // 8})
+        session.add("encode", doc=name, **{"from": 0, "to": size // 8}, label="utf-8")
+        session.add("errors", doc=name, **{"from": 0, "max": 100})
+    return session.bytes()
+
+
+def opened(label, size):
+    """The bytes of a document, and a session that opens it and has its text made."""
+    data = document(label, size)
+    session = Session()
+    session.add("open", doc="d", label=label, bytes=b64(data))
+    session.add("text", doc="d", **{"from": 0, "to": 1})
+    return data, session
 
 
 def line_starts(label, data):
@@ -82,49 +142,12 @@ def line_starts(label, data):
     return places
 
 
-def changes(label, size, count):
-    """Changes by line and character, each taken back by the next."""
-    data = document(label, size)
-    session = Session()
-    session.add("open", doc="d", label=label, bytes=b64(data))
-    lines = len(line_starts(label, data))
-    rng = random.Random(f"changes {label} {size}")
-    for _ in range(count):
-        line = rng.randrange(lines)
-        start = {"line": line, "character": 0}
-        session.edit("change", doc="d", range={"start": start, "end": start}, text="ab")
-        end = {"line": line, "character": 2}
-        session.edit("change", doc="d", range={"start": start, "end": end}, text="")
-    return session.bytes()
-
-
-def positions(label, size, count):
-    """Positions and offsets in a document that stays as it is."""
-    data = document(label, size)
-    session = Session()
-    session.add("open", doc="d", label=label, bytes=b64(data))
-    lines = len(line_starts(label, data))
-    rng = random.Random(f"positions {label} {size}")
-    units = ("utf-8", "utf-16", "utf-32")
-    for n in range(count):
-        session.add("offset", doc="d", line=rng.randrange(lines), character=0, unit=units[n % 3])
-        session.add("position", doc="d", offset=rng.randrange(len(data) // 4), unit=units[n % 3])
-    session.add("lines", doc="d", **{"from": lines // 2, "max": 1000})
-    session.add("stat", doc="d")
-    return session.bytes()
-
-
-def bulk(label, size, count):
-    """Documents opened one after another, a long text of each and one range in UTF-8."""
-    data = document(label, size)
-    session = Session()
-    for n in range(min(count, 64)):
-        name = f"d{n}"
-        session.add("open", doc=name, label=label, bytes=b64(data))
-        session.add("text", doc=name, **{"from": 0, "to": size // 8})
-        session.add("encode", doc=name, **{"from": 0, "to": size // 8}, label="utf-8")
-        session.add("errors", doc=name, **{"from": 0, "max": 100})
-    return session.bytes()
-
-
-KINDS = {"edits": edits, "changes": changes, "positions": positions, "bulk": bulk}
+# How many rounds each program takes: the peer's are the first of gate's.
+Rounds = namedtuple("Rounds", "gate peer")
+KINDS = {
+    "edits": (edits, Rounds(2000, 50)),
+    "changes": (changes, Rounds(2000, 30)),
+    "positions": (positions, Rounds(5000, 5000)),
+    "pages": (pages, Rounds(200, 200)),
+    "bulk": (bulk, Rounds(10, 10)),
+}

@@ -43,6 +43,26 @@ fn place_behind(document: &Document, n: usize) -> Option<usize> {
     Some(mark + rest.len())
 }
 
+/// The place of code point `n`, which is there: its item's, also where the item has two.
+pub fn place_of(document: &Document, n: usize) -> (usize, usize) {
+    let from = place_behind(document, n).or_else(|| place_behind(document, n - 1));
+    let to = place_behind(document, n + 1).or_else(|| place_behind(document, n + 2));
+    (from.unwrap_or(0), to.unwrap_or(document.bytes().len()))
+}
+
+/// How many code points end at or before a byte of a document without errors.
+pub fn code_points_before(document: &Document, at: usize) -> usize {
+    let (encoding, mark) = document.mark();
+    let rest = &document.bytes()[mark..];
+    let taken = at.saturating_sub(mark);
+    let mut ends = Ends::new(encoding);
+    let whole = taken / BLOCK;
+    for block in 0..whole {
+        ends.block(rest, block);
+    }
+    ends.part(&rest[whole * BLOCK..taken], taken == rest.len())
+}
+
 /// A decoder that counts code points.
 struct Ends {
     decoder: encoding_rs::Decoder,

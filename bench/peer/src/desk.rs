@@ -1,6 +1,6 @@
 //! Commands and replies: names, documents, the order of refusals.
 
-use crate::change::{is_kept, plan};
+use crate::change::{code_points_before, is_kept, place_of, plan};
 use crate::document::Document;
 use crate::encode::encode;
 use crate::positions::{Counts, Missed, Unit};
@@ -142,7 +142,7 @@ impl Desk {
             "lines" => self.lines(object),
             "position" => self.position(object),
             "offset" => self.offset(object),
-            "place" => Err("UnknownOp".into()),
+            "place" => self.place(object),
             "stat" => self.stat(object),
             _ => Err("UnknownOp".into()),
         }
@@ -353,6 +353,35 @@ impl Desk {
             .of_position(&decoded.text, line, character, unit)
             .map_err(missed)?;
         Ok(vec![("offset", place.utf32.into()), ("rev", rev.into())])
+    }
+
+    fn place(&mut self, object: &Object) -> Answer {
+        let name = name(object)?;
+        let unit = match text(object, "unit")? {
+            "byte" => None,
+            word => Some(Unit::named(word).ok_or_else(|| wrong("unit"))?),
+        };
+        let value = number(object, "value")? as usize;
+        let document = self.get(name)?;
+        let rev = document.revision;
+        if unit.is_none() && value > document.bytes().len() {
+            return Err("OutOfRange".into());
+        }
+        let (value, unit) = match unit {
+            None => (code_points_before(document, value), Unit::Utf32),
+            Some(unit) => (value, unit),
+        };
+        let decoded = document.decoded();
+        let counts = decoded.tables.at(&decoded.text, value, unit).map_err(missed)?;
+        let is_end = counts.utf32 == decoded.tables.whole().utf32;
+        let place = (!is_end).then(|| place_of(document, counts.utf32));
+        Ok(vec![
+            ("place", place.map_or(Value::Null, |(from, to)| json!([from, to]))),
+            ("rev", rev.into()),
+            ("utf16", counts.utf16.into()),
+            ("utf32", counts.utf32.into()),
+            ("utf8", counts.utf8.into()),
+        ])
     }
 
     fn stat(&mut self, object: &Object) -> Answer {
