@@ -17,19 +17,34 @@ pub fn bytes_of<T: Files>(
     alloc: Global,
     path: Path<'_>,
 ) -> Result<Option<Vec<u8>>, Unread> {
+    let mut bytes = Vec::new(alloc);
+    if put_bytes(rt, path, &mut bytes)? {
+        Ok(Some(bytes))
+    } else {
+        Ok(None)
+    }
+}
+
+/// Puts the bytes of a file in the place of those that are there, and returns whether there is such
+/// a file. Files that are read one after another into one buffer take its memory once.
+pub(crate) fn put_bytes<T: Files>(
+    rt: &T,
+    path: Path<'_>,
+    bytes: &mut Vec<u8>,
+) -> Result<bool, Unread> {
+    bytes.clear();
     let file = match fs::open(rt, path) {
         Ok(file) => file,
         Err(error) => {
             return match error.kind() {
-                ErrorKind::NotFound | ErrorKind::NotADirectory => Ok(None),
+                ErrorKind::NotFound | ErrorKind::NotADirectory => Ok(false),
                 _ => Err(Unread::from(error)),
             };
         }
     };
-    let mut bytes = Vec::new(alloc);
-    file.take(FILE_LIMIT + 1).read_to_end(&mut bytes)?;
+    file.take(FILE_LIMIT + 1).read_to_end(bytes)?;
     if bytes.len() as u64 > FILE_LIMIT {
         return Err(Unread::Failed);
     }
-    Ok(Some(bytes))
+    Ok(true)
 }

@@ -4,7 +4,7 @@ ghost use Rattle.std.specs.List.{list_all};
 ghost use Rattle.index_loader.specs.Kinds.{has_files_of};
 
 use crate::fault::{FolderFault, IndexFileFault};
-use crate::file::bytes_of;
+use crate::file::put_bytes;
 use index_loader::{INDEX_FILES, Index, IndexCause, IndexKind, Indexes};
 use std::alloc::Global;
 use std::path::Path;
@@ -28,19 +28,21 @@ fn put_all<T: Files>(
 ) -> Result<(), FolderFault>
     requires { IsTrue (list_all (λ file. has_files_of file.0) files.now) }
 {
+    let mut bytes = Vec::new(alloc);
     for (kind, name) in files {
-        put_index(rt, alloc, folder, *kind, name, indexes)?;
+        put_index(rt, alloc, folder, *kind, name, &mut bytes, indexes)?;
     }
     Ok(())
 }
 
-/// Adds one index file, if it exists.
+/// Adds one index file, if it exists. It is read into `bytes`.
 fn put_index<T: Files>(
     rt: &T,
     alloc: Global,
     folder: &str,
     kind: IndexKind,
     name: &'static str,
+    bytes: &mut Vec<u8>,
     indexes: &mut Indexes,
 ) -> Result<(), FolderFault>
     requires { IsTrue (has_files_of kind) }
@@ -48,12 +50,12 @@ fn put_index<T: Files>(
     let Ok(path) = Path::new(folder).join(alloc, name) else {
         return Err(FolderFault::OutOfMemory);
     };
-    let bytes = match bytes_of(rt, alloc, path.as_path()) {
-        Ok(Some(bytes)) => bytes,
-        Ok(None) => return Ok(()),
+    match put_bytes(rt, path.as_path(), bytes) {
+        Ok(true) => {}
+        Ok(false) => return Ok(()),
         Err(unread) => return Err(unread.of_index_file(name)),
-    };
-    match Index::parse(alloc, kind, &bytes) {
+    }
+    match Index::parse(alloc, kind, bytes) {
         Ok(index) => {
             indexes.put(index);
             Ok(())

@@ -1,11 +1,12 @@
 -- Digits read one after another, and numbers that count as a limit from there on.
-use Rattle.std.proofs.Common.{◌≡◌, ℕ, ◌+◌, ◌*◌, ◌≤◌, ◌<◌, min, List, length, get_or, take, true, arith, refl, ◌∙◌, ⊎_elim}
+use Rattle.std.proofs.Common.{◌≡◌, ℕ, ◌+◌, ◌*◌, ◌≤◌, ◌<◌, min, List, length, map, get_or, slice_index_or, take, true, arith, refl, ◌∙◌, ⊎_elim}
 use Rattle.std.proofs.Math.Nat.{mul-le-mul}
 use Rattle.std.proofs.lemmas.Bool.{cases_lt, lt-ltb}
 use Rattle.std.proofs.lemmas.Int.Digits.{digits_value_more}
 use Rattle.std.proofs.lemmas.List.Folds.{list_all_more}
+use Rattle.std.proofs.lemmas.List.FromFn.{get_or-map-range_with_len}
 use Rattle.std.specs.Char.{digit_value, is_digit}
-use Rattle.std.specs.List.{list_all}
+use Rattle.std.specs.List.{list_all, range_with_len}
 use Rattle.std.specs.Str.Parse.{digits_value}
 
 -- a product with a factor of at least 1 is above the limit where the other factor is
@@ -32,3 +33,7 @@ all-digits_more base text i byte lt all is small =
 pub capped-digits_more : (base : ℕ) (text : List ℕ) (i byte n product limit : ℕ) → 1 ≤ base → i < length text → byte ≡ get_or text i 0 → n ≡ min (digits_value base (take i text)) limit → product ≡ min (n * base) limit → min (product + digit_value byte) limit ≡ min (digits_value base (take (i + 1) text)) limit
 capped-digits_more base text i byte n product limit one lt is value by =
     rw (by, value, capped-digit (digits_value base (take i text)) base (digit_value byte) limit one, digits_value_more base text i lt, is) refl
+
+-- what a table of the values of a function holds
+pub in-table : (f : ℕ → ℕ) (n : ℕ) (table : List ℕ) (i k d : ℕ) → table ≡ map f (range_with_len 0 n) → k ≡ i → i < n → slice_index_or table k d ≡ f i
+in-table f n table i k d is place lt = rw (is, place) (get_or-map-range_with_len f 0 n i i d lt (omega arith))

@@ -1,12 +1,14 @@
 pub mod ByCodePointLemmas
 pub mod Digits
 pub mod Exclusion
+pub mod Found
 pub mod FileLawLemmas
 pub mod IndexLemmas
 pub mod KindPlaces
 pub mod LineLemmas
 pub mod Members
 pub mod Places
+pub mod PlainLemmas
 pub mod RowLemmas
 pub mod SlotLemmas
 pub mod Split

@@ -9,6 +9,7 @@ pub mod Inside
 pub mod Kinds
 pub mod Lines
 pub mod Pairs
+pub mod Plain
 pub mod Ranges
 pub mod Rank
 pub mod Rows

@@ -1,11 +1,12 @@
 //! Fields of a line: decimal pointers and hexadecimal code points.
 ghost use Rattle.std.specs.Prelude.{◌≡◌, ◌≤◌, min, option_map};
+ghost use Rattle.std.specs.Char.{digit_value};
 ghost use Rattle.index_loader.specs.Lines.{behind_spaces, scalar_in, number_in, stripped};
 
 use enc_names::Scalar;
 
 /// The text without the spaces at its front.
-fn behind_spaces(mut text: &[u8]) -> &[u8]
+pub(crate) fn behind_spaces(mut text: &[u8]) -> &[u8]
     ensures { result.now ≡ behind_spaces text.entry.now }
 {
     while let [b' ', rest @ ..] = text {
@@ -25,6 +26,29 @@ pub(crate) fn stripped(text: &[u8]) -> &[u8]
     text
 }
 
+/// The value of each byte as a digit, from 0 for `0` to 35 for `Z` and `z`, and 36 where it is none.
+const DIGIT_VALUES: [u8; 256] = [
+    36, 36, 36, 36, 36, 36, 36, 36, 36, 36, 36, 36, 36, 36, 36, 36, 36, 36, 36, 36, 36, 36, 36, 36,
+    36, 36, 36, 36, 36, 36, 36, 36, 36, 36, 36, 36, 36, 36, 36, 36, 36, 36, 36, 36, 36, 36, 36, 36,
+    0, 1, 2, 3, 4, 5, 6, 7, 8, 9, 36, 36, 36, 36, 36, 36, 36, 10, 11, 12, 13, 14, 15, 16, 17, 18,
+    19, 20, 21, 22, 23, 24, 25, 26, 27, 28, 29, 30, 31, 32, 33, 34, 35, 36, 36, 36, 36, 36, 36, 10,
+    11, 12, 13, 14, 15, 16, 17, 18, 19, 20, 21, 22, 23, 24, 25, 26, 27, 28, 29, 30, 31, 32, 33, 34,
+    35, 36, 36, 36, 36, 36, 36, 36, 36, 36, 36, 36, 36, 36, 36, 36, 36, 36, 36, 36, 36, 36, 36, 36,
+    36, 36, 36, 36, 36, 36, 36, 36, 36, 36, 36, 36, 36, 36, 36, 36, 36, 36, 36, 36, 36, 36, 36, 36,
+    36, 36, 36, 36, 36, 36, 36, 36, 36, 36, 36, 36, 36, 36, 36, 36, 36, 36, 36, 36, 36, 36, 36, 36,
+    36, 36, 36, 36, 36, 36, 36, 36, 36, 36, 36, 36, 36, 36, 36, 36, 36, 36, 36, 36, 36, 36, 36, 36,
+    36, 36, 36, 36, 36, 36, 36, 36, 36, 36, 36, 36, 36, 36, 36, 36, 36, 36, 36, 36, 36, 36, 36, 36,
+    36, 36, 36, 36, 36, 36, 36, 36, 36, 36, 36, 36, 36, 36,
+];
+
+/// The value of a byte as a digit or a letter, and 36 where it is neither. It is read from a table,
+/// since branches on digits are hard to foresee.
+pub(crate) fn digit_value(byte: u8) -> u32
+    ensures { result ≡ digit_value byte }
+{
+    u32::from(DIGIT_VALUES[usize::from(byte)])
+}
+
 /// The number of a text of digits, in base 10 or 16, or `None` where it is empty or has
 /// another character. Numbers above `u32::MAX` count as this one: no pointer and no code point
 /// is so large.
@@ -38,7 +62,10 @@ pub(crate) fn number_in(base: u32, text: &[u8]) -> Option<u32>
     }
     let mut number: u32 = 0;
     for byte in text {
-        let digit = char::from(*byte).to_digit(base)?;
+        let digit = digit_value(*byte);
+        if digit >= base {
+            return None;
+        }
         number = number.saturating_mul(base).saturating_add(digit);
     }
     Some(number)

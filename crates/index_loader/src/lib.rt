@@ -11,6 +11,7 @@ mod indexes;
 mod kind;
 mod laws;
 mod line;
+mod plain;
 mod reading;
 mod rows;
 mod table;

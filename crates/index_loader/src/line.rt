@@ -3,19 +3,21 @@ ghost use Rattle.std.specs.Prelude.{◌≡◌, ℕ, ◌<◌, ◌==◌, min, ◌�
 ghost use Rattle.std.specs.List.{slice_split};
 ghost use Rattle.std.specs.Str.Lines.{strip_carriage_return};
 ghost use Rattle.index_loader.specs.File.{IsLineCause};
-ghost use Rattle.index_loader.specs.Lines.{allows, code_point_in, is_skipped, pair_on, pair_with};
+ghost use Rattle.index_loader.specs.Lines.{allows, code_point_in, fields_of, is_skipped, pair_in, pair_on, pair_with};
 ghost use Rattle.index_loader.specs.Split.{parts_behind};
 
 use crate::fault::IndexCause;
 use crate::field::{number_in, scalar_in, stripped};
 use crate::kind::IndexKind;
+use crate::plain::plain_pair;
 use enc_names::Scalar;
+use memchr::memchr;
 
 /// The place of the first of these bytes.
 fn place_of(text: &[u8], byte: u8) -> Option<usize>
     ensures { result ≡ position (λ b. b == byte) text.now }
 {
-    text.iter().position(|b| *b == byte)
+    memchr(byte, text)
 }
 
 /// What stands before the first of these bytes, and what behind it, if it is there.
@@ -98,6 +100,18 @@ pub(crate) fn pair_on(kind: IndexKind, line: &[u8]) -> Result<Option<(u32, Scala
     if is_skipped(text) {
         return Ok(None);
     }
+    match plain_pair(text) {
+        Some((pointer, code_point)) => pair_with(kind, pointer, Some(code_point)),
+        None => pair_in_fields(kind, text),
+    }
+}
+
+/// The pair in the fields of a line, or the first cause why there is none.
+fn pair_in_fields(kind: IndexKind, text: &[u8]) -> Result<Option<(u32, Scalar)>, IndexCause>
+    ensures value { result ≡ pair_in kind (fields_of text.now) }
+    ensures allowed { IfOk result (λ o. IfSome o (λ pair. IsTrue (allows kind pair.0 pair.1))) }
+    ensures cause { IfErr result IsLineCause }
+{
     let (first, behind) = split_at_byte(text, b'\t');
     let pointer = number_in(10, stripped(first)).ok_or(IndexCause::BadPointer)?;
     pair_with(kind, pointer, code_point_behind(behind))
