@@ -32,6 +32,7 @@ use Rattle.codec.specs.declared.state.AnyState.TheVariants.{Sniffing as in_sniff
 use Rattle.codec.specs.Any.{any, output_of, standing, of_both, decoder_in}
 use Rattle.codec.specs.Behind.{state_in, state_behind}
 use Rattle.codec.specs.Coding.{looked_up}
+use Rattle.codec.specs.Decode.{is_decoded}
 use Rattle.codec.specs.Mark.{Mark, mark_of, in_force, mark_length}
 use Rattle.codec.specs.Sniffing.{spelt, prefix_of}
 
@@ -162,6 +163,17 @@ mark-fits bytes (le_mark r is) = subst (λ (x : List ℕ). mark_length x ≤ len
 
 pub mark_fits : (bytes : List ℕ) → mark_length bytes ≤ length bytes
 mark_fits bytes = mark-fits bytes (shape bytes)
+
+-- a mark's encoding needs no file
+force : (files : Files) (given : Encoding) (bytes : List ℕ) → Shape bytes → is_decoded files given ≡ true → is_decoded files (in_force given bytes) ≡ true
+unfolding is_decoded
+force files given bytes (bare none) h = ap (λ (m : Option Mark). is_decoded files (unwrap_or (option_map (λ (m : Mark). m.encoding) m) given)) none ∙ h
+force files given bytes (utf8_mark r is) h = ap (λ (x : List ℕ). is_decoded files (in_force given x)) is
+force files given bytes (be_mark r is) h = ap (λ (x : List ℕ). is_decoded files (in_force given x)) is
+force files given bytes (le_mark r is) h = ap (λ (x : List ℕ). is_decoded files (in_force given x)) is
+
+pub decoded_in_force : (files : Files) (given : Encoding) (bytes : List ℕ) → is_decoded files given ≡ true → is_decoded files (in_force given bytes) ≡ true
+decoded_in_force files given bytes = force files given bytes (shape bytes)
 
 -- the prefix is all of the bytes
 prefix-is : (p q : Prefix) (o : Option Prefix) (bytes : List ℕ) → (o ≡ Some p → bytes ≡ spelt p) → (if bytes_eq (spelt q) bytes then Some q else o) ≡ Some p → bytes ≡ spelt p

@@ -12,7 +12,7 @@ use Rattle.codec.specs.Behind.{state_in, state_behind}
 use Rattle.codec.specs.Decode.{run_in}
 use Rattle.codec.proofs.AnyRun.{Does}
 use Rattle.codec.proofs.Choosing.{chosen, behind}
-use Rattle.codec.proofs.OutputStates.{IsoLaws, output_at_mark, mark_fits, output_at_byte, output_at_last}
+use Rattle.codec.proofs.OutputStates.{IsoLaws, output_at_mark, mark_fits, decoded_in_force, output_at_byte, output_at_last}
 use Rattle.codec.proofs.output_laws.output_at_the_end.Goals as goal
 
 does_there : (files : Files) (encoding : Encoding) (d : OwnDecoder) → decoder_in files encoding ≡ Some d → Does (run_in files encoding) (state_in files encoding) (any d) (given_start d)
@@ -33,6 +33,8 @@ returns c =
     record {
       mark = output_at_mark;
       mark_fits = mark_fits;
+      there = λ files given. (chosen files given).variant;
+      in_force = decoded_in_force;
       behind = λ files given d bytes is. behind files given d (does_there files given d is) bytes;
       parts = λ d s p q. ap (λ (f : Fed AnyState). f.state) (c.all_runs.ensures.feed_parts d s p q);
       byte = output_at_byte laws;
