@@ -3,6 +3,7 @@
 //! UTF-16, the single-byte encodings, x-user-defined and replacement.
 #![tactic(auto)]
 
+mod all_laws;
 mod ascii_runs;
 mod bulk;
 mod collector;
@@ -36,6 +37,7 @@ mod utf8_bulk;
 mod widths;
 mod x_user_defined;
 
+pub use all_laws::{all_among, all_runs};
 pub use ascii_runs::AsciiRuns;
 pub use bulk::{Bulk, NO_BULK, Stride};
 pub use counts::Meter;

@@ -18,6 +18,7 @@ mod from_state;
 mod iso_encoder;
 mod items;
 mod jis_pointer;
+mod laws;
 mod output;
 mod state;
 #[cfg(test)]
@@ -30,5 +31,6 @@ pub use fault::{FromFault, Unencodable};
 pub use from_state::{encode_from, no_second_restore};
 pub use iso_encoder::escape_of;
 pub use jis_pointer::row_pointer;
+pub use laws::output_at_the_end;
 pub use output::OutputState;
 pub use state::Iso2022JpState;

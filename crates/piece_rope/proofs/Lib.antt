@@ -14,3 +14,4 @@ pub mod Preparing
 pub mod Reading
 pub mod Remembering
 pub mod Texts
+pub mod Outputs

@@ -9,6 +9,7 @@ pub mod Errors
 pub mod Examples
 pub mod Kept
 pub mod Made
+pub mod Outputs
 pub mod Resync
 pub mod Sizes
 pub mod Window

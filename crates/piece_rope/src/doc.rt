@@ -1,10 +1,12 @@
 //! Documents.
-ghost use Rattle.std.specs.Prelude.{◌≡◌, ◌≢◌, ℕ, ◌+◌, ◌-◌, ◌*◌, ◌^◌, ◌≤◌, false, min, length, map, take, drop, Some, None, IfOk, OnOk, OnErr, string_bytes};
+ghost use Rattle.std.specs.Prelude.{◌≡◌, ◌≢◌, ℕ, ◌+◌, ◌-◌, ◌*◌, ◌^◌, ◌≤◌, false, true, min, length, map, take, drop, Some, None, IfOk, OnOk, OnErr, string_bytes};
 ghost use Rattle.std.specs.Str.{chars, encode_utf8_all};
-ghost use Rattle.state_memo.specs.Decoding.{OwnDecoder, any_start, decoder_in, marks, total_width, utf16_width, utf8_width};
+ghost use Rattle.index_loader.specs.Files.{has_files};
+ghost use Rattle.state_memo.specs.Decoding.{Ascii, OwnDecoder, any_start, decoder_in, marks, total_width, utf16_width, utf8_width};
 ghost use Rattle.piece_rope.specs.Chain.{Chain, bytes_of};
 ghost use Rattle.piece_rope.specs.Entry.{here_of};
 ghost use Rattle.piece_rope.specs.Made.{AreMade, IsMade, body_of, tail_of};
+ghost use Rattle.piece_rope.specs.Outputs.{HasOutputs, HaveOutputs, output_at};
 ghost use Rattle.piece_rope.specs.Sizes.{AreSized, AreCounted, shortest};
 
 use crate::bytes::push_bytes;
@@ -20,7 +22,9 @@ use crate::pieces::{Pieces, built, first_bytes};
 use crate::text::text_between;
 use enc_names::{Encoding, Place};
 use index_loader::Indexes;
-use state_memo::{AnyDecoder, Meter, Outcome, Sum, finish_of, piece_laws, sniff, start_of};
+use state_memo::{
+    AnyDecoder, Meter, Outcome, Sum, finish_of, output_at_the_end, piece_laws, sniff, start_of,
+};
 use std::alloc::Global;
 use std::marker::Model;
 use sum_tree::Finder;
@@ -232,7 +236,9 @@ impl<'i> Doc<'i> {
         ensures small { AreSized 1 result }
         ensures wide { 2 ≤ length result → AreSized shortest result }
         ensures counted { AreCounted result }
+        ensures outputs { HaveOutputs self.now 0 (map here_of result) }
     {
+        output_at_the_end();
         self.pieces.finder()
     }
 
@@ -240,7 +246,22 @@ impl<'i> Doc<'i> {
     pub fn tail(&self) -> &Outcome
         ensures made { IsMade (length self.now.bytes) (tail_of self.now) result.now }
         ensures bytes { result.now.sum.bytes ≡ 0 }
+        ensures outputs { HasOutputs self.now (length self.now.bytes) result.now.items }
     {
+        output_at_the_end();
         &self.tail
+    }
+
+    /// The laws of the encoding in force; the call does nothing.
+    ///
+    /// Its index files are there (`files`). Its byte order mark is in the bytes (`within`), and the
+    /// output state behind the mark is ASCII (`output`).
+    pub fn in_force(&self)
+        ensures files { has_files self.now.indexes (decoded self.now).encoding ≡ true }
+        ensures within { (decoded self.now).bom ≤ length self.now.bytes }
+        ensures output { output_at self.now (decoded self.now).bom ≡ Ascii }
+    {
+        let _pieces = &self.pieces;
+        output_at_the_end();
     }
 }

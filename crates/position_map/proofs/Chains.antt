@@ -3,15 +3,7 @@ use Rattle.std.proofs.Common.{◌≡◌, refl, sym, ap, subst, ◌∙◌, ℕ, z
 use Rattle.std.specs.Option.{option_map, unwrap_or}
 use Rattle.std.proofs.lemmas.Bool.Decides.{nat_tests}
 use Rattle.enc_names.specs.declared.place.Place.{Place}
-use Rattle.decoder_core.specs.declared.item.Ended.{Ended as Turned}
-use Rattle.decoder_core.specs.declared.item.Item.{Item}
-use Rattle.decoder_core.specs.declared.item.Item.TheVariants.{One, Two, Error}
-use Rattle.decoder_core.specs.declared.placed.Placed.{Placed}
-use Rattle.decoder_core.specs.Placed.{places}
-use Rattle.decoder_core.specs.Text.{item_code_points, code_points}
-use Rattle.iso2022jp.specs.declared.output.OutputState.TheVariants.{Ascii}
-use Rattle.codec.specs.Decode.{decode, run_in}
-use Rattle.codec.specs.Mark.{in_force, mark_length}
+use Rattle.state_memo.specs.Decoding.{Ended as Turned, Item, One, Two, Error, Placed, places, item_code_points, code_points, Ascii, decode, run_in, in_force, mark_length}
 use Rattle.state_memo.specs.declared.axis.Axis.TheVariants.{Scalar}
 use Rattle.state_memo.specs.declared.ended.Ended.{Ended}
 use Rattle.state_memo.specs.declared.outcome.Outcome.{Outcome}

@@ -3,7 +3,7 @@ use Rattle.std.proofs.Common.{◌≡◌, refl, sym, ap, subst, ◌∙◌, ℕ, �
 use Rattle.std.specs.Option.{option_to_list, option_map, IfSome}
 use Rattle.sum_tree.specs.Reached.{IsFound}
 use Rattle.sum_tree.specs.Sums.{total}
-use Rattle.decoder_core.specs.declared.placed.Placed.{Placed}
+use Rattle.state_memo.specs.Decoding.{Placed}
 use Rattle.state_memo.specs.declared.axis.Axis.{Axis}
 use Rattle.state_memo.specs.declared.outcome.Outcome.{Outcome}
 use Rattle.state_memo.specs.declared.sum.Sum.{Sum}
@@ -13,6 +13,7 @@ use Rattle.piece_rope.specs.Document.{Document, decoded}
 use Rattle.piece_rope.specs.Entry.{Entry, here_of, entry_sum}
 use Rattle.position_map.specs.Found.{sum_in_outcome, IsFoundOutcome}
 use Rattle.piece_rope.specs.Made.{IsMade, AreMade, body_of, tail_of, count_body}
+use Rattle.piece_rope.specs.Outputs.{HasOutputs, HaveOutputs}
 use Rattle.piece_rope.specs.Chain.{bytes_of}
 use Rattle.piece_rope.specs.Sizes.{AreSized, AreCounted, shortest}
 use Rattle.position_map.specs.Whole.{IsWhole, AreAtLeast, AreAtMost, pieces_most}
@@ -28,6 +29,10 @@ made-last (o ∷ os) tail base end ps qs m e t = (
   m.3,
   made-last os tail (base + o.sum.bytes) end m.1 qs m.4 (e ∙ omega arith) t,
 )
+
+outputs-last : (d : Document) (os : List Outcome) (tail : Outcome) (base end : ℕ) → HaveOutputs d base os → end ≡ base + (total_of os).bytes → HasOutputs d end tail.items → HaveOutputs d base (os ++ tail ∷ [])
+outputs-last d [] tail base end h e t = let at : end ≡ base = e ∙ omega arith in (subst (λ b. HasOutputs d b tail.items) at t, tt)
+outputs-last d (o ∷ os) tail base end h e t = (h.0, outputs-last d os tail (base + o.sum.bytes) end h.1 (e ∙ omega arith) t)
 
 pub length-heres : (es : List Entry) → length (map here_of es) ≡ length es
 length-heres [] = refl
@@ -57,8 +62,8 @@ few-pieces d (x ∷ y ∷ es) b w =
     omega (arith, length-heres (x ∷ y ∷ es), sized-count (x ∷ y ∷ es) (w two), ap length b)
 
 pub whole-of : (d : Document) (es : List Entry) (tail : Outcome) → AreMade 0 (body_of d) (map here_of es) → bytes_of es ≡ d.bytes → AreSized 1 es → (2 ≤ length es → AreSized shortest es) → AreCounted es
-    → IsMade (length d.bytes) (tail_of d) tail → tail.sum.bytes ≡ 0 → IsWhole d (map here_of es) tail
-whole-of d es tail made b small wide counted ended none =
+    → IsMade (length d.bytes) (tail_of d) tail → tail.sum.bytes ≡ 0 → HaveOutputs d 0 (map here_of es) → HasOutputs d (length d.bytes) tail.items → IsWhole d (map here_of es) tail
+whole-of d es tail made b small wide counted ended none outputs last =
     let all : (total_of (map here_of es)).bytes ≡ length d.bytes = total-heres es counted ∙ ap length b in
     let items : body_of d ++ tail_of d ≡ (decoded d).items = take-append-drop (count_body d) (decoded d).items in
     record {
@@ -69,6 +74,7 @@ whole-of d es tail made b small wide counted ended none =
       long = λ h. sized-least 512 es (wide (omega (arith, h, length-heres es))) counted;
       short = sized-most 1 es small counted;
       few = few-pieces d es b wide;
+      outputs = outputs-last d (map here_of es) tail 0 (length d.bytes) outputs (sym all ∙ omega arith) last;
     }
 
 at_most-found : (most : ℕ) (front : List Outcome) (o : Outcome) (back : List Outcome) → AreAtMost most (front ++ o ∷ back) → o.sum.bytes ≤ most

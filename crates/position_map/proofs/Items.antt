@@ -5,8 +5,7 @@ use Rattle.std.specs.Option.{unwrap_or, IfSome}
 use Rattle.std.proofs.lemmas.Bool.Decides.{nat_tests}
 use Rattle.std.proofs.lemmas.Int.{ints}
 use lib.Signed.{le_z}
-use Rattle.decoder_core.specs.declared.placed.Placed.{Placed}
-use Rattle.decoder_core.specs.Text.{item_code_points, code_points}
+use Rattle.state_memo.specs.Decoding.{Placed, item_code_points, code_points}
 use Rattle.state_memo.specs.declared.axis.Axis.{Axis}
 use Rattle.state_memo.specs.declared.axis.Axis.TheVariants.{Byte}
 use Rattle.state_memo.specs.declared.ended.Ended.{Ended}

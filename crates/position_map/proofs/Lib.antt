@@ -12,3 +12,7 @@ pub mod Pointing
 pub mod Finding
 pub mod Selecting
 pub mod Widths
+pub mod ItemCutting
+pub mod Ordering
+pub mod Planning
+pub mod Escaping

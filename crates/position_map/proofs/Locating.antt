@@ -2,8 +2,7 @@
 use Rattle.std.proofs.Common.{◌≡◌, refl, sym, ap, subst, ◌∙◌, ℕ, ◌+◌, ◌<◌, inl, inr, List, [], ◌∷◌, ◌++◌, append_assoc, append-nil, arith, Option, Some, None, Bor, option_copied}
 use Rattle.std.specs.List.{flat_map}
 use Rattle.std.specs.Option.{unwrap_or}
-use Rattle.decoder_core.specs.declared.placed.Placed.{Placed}
-use Rattle.decoder_core.specs.Text.{item_code_points, code_points}
+use Rattle.state_memo.specs.Decoding.{Placed, item_code_points, code_points}
 use Rattle.state_memo.specs.declared.axis.Axis.{Axis}
 use Rattle.state_memo.specs.declared.axis.Axis.TheVariants.{Byte, Scalar, Utf16 as by_utf16, Utf8 as by_utf8, Mark}
 use Rattle.state_memo.specs.declared.ended.Ended.{Ended}

@@ -2,6 +2,7 @@ pub mod Along
 pub mod Cuts
 pub mod Found
 pub mod Fronts
+pub mod ItemCuts
 pub mod LineEnds
 pub mod Lines
 pub mod Located
@@ -9,6 +10,8 @@ pub mod Marked
 pub mod NextLines
 pub mod Places
 pub mod Placing
+pub mod Plan
+pub mod PlanExamples
 pub mod Points
 pub mod Positions
 pub mod Whole

@@ -1,6 +1,6 @@
 -- Where items are among those of a document.
 use Rattle.std.specs.Prelude.{◌≡◌, ℕ, ◌+◌, ◌-◌, ◌<◌, ◌≤◌, ◌⊎◌, List, [], ◌∷◌, ◌++◌, length, get_or, Some}
-use Rattle.decoder_core.specs.declared.placed.Placed.{Placed}
+use Rattle.state_memo.specs.Decoding.{Placed}
 use Rattle.state_memo.specs.declared.ended.Ended.{Ended}
 use Rattle.state_memo.specs.declared.outcome.Outcome.{Outcome}
 use Rattle.state_memo.specs.declared.sum.Sum.{Sum}

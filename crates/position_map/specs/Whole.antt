@@ -7,6 +7,7 @@ use Rattle.state_memo.specs.Fitting.{total_of}
 use Rattle.piece_rope.specs.declared.lengths.Lengths.{Lengths}
 use Rattle.piece_rope.specs.Document.{Document, decoded, text_of}
 use Rattle.piece_rope.specs.Made.{AreMade}
+use Rattle.piece_rope.specs.Outputs.{HaveOutputs}
 
 -- a document and what its pieces and the end of its bytes decode to
 pub record Pieced : Type 0 where
@@ -35,6 +36,7 @@ pub record IsWhole (d : Document) (os : List Outcome) (tail : Outcome) : Type 0 
   pub long : 1 < length os → AreAtLeast 512 os
   pub short : AreAtMost 2048 os
   pub few : length os ≤ pieces_most d
+  pub outputs : HaveOutputs d 0 (os ++ tail ∷ [])
 
 -- a document's lengths
 pub record AreLengths (d : Document) (n : Lengths) : Type 0 where

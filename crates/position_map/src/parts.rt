@@ -1,15 +1,18 @@
 //! Documents as their pieces and their tail.
-ghost use Rattle.std.specs.Prelude.{◌≡◌, ℕ, ◌+◌, ◌^◌, ◌<◌, ◌≤◌, length, map, option_copied, IfSome};
+ghost use Rattle.std.specs.Prelude.{◌≡◌, ℕ, ◌+◌, ◌^◌, ◌<◌, ◌≤◌, length, map, option_copied, IfSome, Some};
 ghost use Rattle.piece_rope.specs.Document.{decoded, text_of};
 ghost use Rattle.piece_rope.specs.Entry.{here_of};
 ghost use Rattle.position_map.specs.Found.{IsFoundOutcome};
+ghost use Rattle.position_map.specs.ItemCuts.{cut_of};
 ghost use Rattle.position_map.specs.Lines.{lines_of};
 ghost use Rattle.position_map.specs.Points.{IsEnd};
 ghost use Rattle.position_map.specs.Whole.{AreLengths, pieces_most};
 ghost use Rattle.position_map.specs.Whole.{IsWhole};
 
+use crate::item_cuts::Cut;
 use crate::point::Point;
 use crate::unit::Unit;
+use iso2022jp::OutputState;
 use piece_rope::{Axis, Doc, Entered, Finder, Lengths, Outcome, Sum, Visits};
 use std::marker::Model;
 
@@ -78,6 +81,17 @@ impl<'d, 'i> Parts<'d, 'i> {
         ensures { result ≡ (decoded self.now.doc).bom }
     {
         self.doc.bom_len()
+    }
+
+    // The cut before the first code point: behind the byte order mark.
+    pub(crate) fn first_cut(&self) -> Cut
+        ensures { Some result ≡ cut_of self.now.doc 0 }
+    {
+        self.doc.in_force();
+        Cut {
+            at: self.doc.bom_len(),
+            output: OutputState::Ascii,
+        }
     }
 
     // The text's end.

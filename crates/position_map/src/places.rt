@@ -1,6 +1,6 @@
 //! Places of code points in a document's bytes.
 ghost use Rattle.std.specs.Prelude.{◌≡◌, ℕ, ◌+◌, ◌*◌, ◌^◌, ◌<◌, ◌≤◌, ◌-◌, List, ◌∷◌, ◌++◌, [], length, get_or, Some};
-ghost use Rattle.decoder_core.specs.declared.placed.Placed.{Placed};
+ghost use Rattle.state_memo.specs.Decoding.{Placed};
 ghost use Rattle.state_memo.specs.declared.ended.Ended.{Ended};
 ghost use Rattle.state_memo.specs.declared.outcome.Outcome.{Outcome};
 ghost use Rattle.state_memo.specs.Fitting.{total_of};

@@ -1,6 +1,7 @@
 pub use Rattle.codec.specs.Near
 pub mod Decoding
 pub mod Facts
+pub mod Feeding
 pub mod Fitting
 pub mod Gathering
 pub mod Items

@@ -21,7 +21,7 @@ mod sum;
 mod tests;
 
 pub use axis::Axis;
-pub use codec::{AnyDecoder, AnyState, Sniffed, sniff};
+pub use codec::{AnyDecoder, AnyState, Sniffed, output_at_the_end, sniff};
 pub use compute::{finish_of, start_of};
 pub use decoder_core::{Meter, OutOfMemory};
 pub use ended::Ended;

@@ -1,0 +1,359 @@
+-- The output state behind the byte that gives an item is that behind the item's end.
+use Rattle.std.proofs.Common.{◌≡◌, refl, sym, ap, subst, ◌∙◌, ℕ, zero, suc, ◌+◌, ◌-◌, ◌≤◌, eqb, Bool, true, false, List, [], ◌∷◌, ◌++◌, length, take, drop, Option, Some, None, All, ◌⊎◌, ⊎_elim, ◌<◌, inl, inr, arith, lit≤, if◌then◌else◌}
+use Rattle.std.specs.Option.{option_map, unwrap_or}
+use Rattle.std.specs.Str.{bytes_eq}
+use Rattle.std.specs.List.{starts_with}
+use Rattle.std.proofs.Math.Seq.{take-nil, take-length, take-append_seam}
+use Rattle.std.proofs.lemmas.List.{take_all, take-append-drop, take-append-le, length-append}
+use Rattle.std.proofs.lemmas.Bool.{cases_lt}
+use Rattle.std.proofs.lemmas.Bool.Decides.{Decides-eqb}
+use Rattle.std.proofs.lemmas.Slice.Eq.{bytes_eq-Decides, starts_is}
+use Rattle.enc_names.specs.declared.encoding.Encoding.{Encoding}
+use Rattle.enc_names.specs.declared.encoding.Encoding.TheVariants.{Utf8, Utf16Be, Utf16Le}
+use Rattle.index_loader.specs.Families.{Family, OfUtf8, OfSingleByte, OfGb18030, OfBig5, OfEucJp, OfIso2022Jp, OfShiftJis, OfEucKr, OfReplacement, OfUtf16Be, OfUtf16Le, OfXUserDefined, family_of}
+use Rattle.index_loader.specs.declared.kind.IndexKind.{IndexKind}
+use Rattle.index_loader.specs.declared.kind.IndexKind.TheVariants.{Jis0208, Katakana}
+use Rattle.index_loader.specs.Index.{Loaded, code_point_of}
+use Rattle.index_loader.specs.Files.{Files, index_of}
+use Rattle.decoder_core.specs.declared.item.Ended.{Ended}
+use Rattle.decoder_core.specs.ByCases.{by_test}
+use Rattle.decoder_core.specs.Lift.{IsLifted, lift_fed}
+use Rattle.decoder_core.specs.Queue.{Fed, run, feed, feed_for}
+use Rattle.iso2022jp.specs.declared.output.OutputState.{OutputState}
+use Rattle.iso2022jp.specs.declared.output.OutputState.TheVariants.{Ascii}
+use Rattle.iso2022jp.specs.Iso2022Jp.{Iso2022Jp as Values, iso_2022_jp, iso_2022_jp_start}
+use Rattle.iso2022jp.specs.Iso2022JpLaws.{iso_2022_jp_bytes}
+use Rattle.codec.specs.declared.own.OwnDecoder.{OwnDecoder}
+use Rattle.codec.specs.declared.own.OwnDecoder.TheVariants as by
+use Rattle.codec.specs.declared.prefix.Prefix.{Prefix}
+use Rattle.codec.specs.declared.prefix.Prefix.TheVariants.{Nothing, Ef, EfBb, Fe, Ff}
+use Rattle.codec.specs.declared.state.AnyState.{AnyState}
+use Rattle.codec.specs.declared.state.AnyState.TheVariants.{Sniffing as in_sniffing, Iso2022Jp as in_iso_2022_jp}
+use Rattle.codec.specs.Any.{any, output_of, standing, of_both, decoder_in}
+use Rattle.codec.specs.Behind.{state_in, state_behind}
+use Rattle.codec.specs.Coding.{looked_up}
+use Rattle.codec.specs.Decode.{is_decoded}
+use Rattle.codec.specs.Mark.{Mark, mark_of, in_force, mark_length}
+use Rattle.codec.specs.Sniffing.{spelt, prefix_of}
+
+-- ---- encodings without escapes
+
+abbrev IsPlain : Family → Type 0
+IsPlain family = (index : IndexKind → Option Loaded) (bytes : List ℕ) → output_of ((standing index family).state bytes) ≡ Ascii
+
+by_family : (family : Family) → (family ≡ OfIso2022Jp) ⊎ IsPlain family
+by_family OfIso2022Jp = inl refl
+by_family OfUtf8 = inr (λ index bytes. refl)
+by_family (OfSingleByte kind) = inr (λ index bytes. refl)
+by_family OfGb18030 = inr (λ index bytes. refl)
+by_family OfBig5 = inr (λ index bytes. refl)
+by_family OfEucJp = inr (λ index bytes. refl)
+by_family OfShiftJis = inr (λ index bytes. refl)
+by_family OfEucKr = inr (λ index bytes. refl)
+by_family OfReplacement = inr (λ index bytes. refl)
+by_family OfUtf16Be = inr (λ index bytes. refl)
+by_family OfUtf16Le = inr (λ index bytes. refl)
+by_family OfXUserDefined = inr (λ index bytes. refl)
+
+-- ---- byte order marks
+
+-- no mark, or one of these
+data Shape (bytes : List ℕ) : Type 0 where
+  bare : mark_of bytes ≡ None → Shape bytes
+  utf8_mark : (rest : List ℕ) → bytes ≡ 0xEF ∷ 0xBB ∷ 0xBF ∷ rest → Shape bytes
+  be_mark : (rest : List ℕ) → bytes ≡ 0xFE ∷ 0xFF ∷ rest → Shape bytes
+  le_mark : (rest : List ℕ) → bytes ≡ 0xFF ∷ 0xFE ∷ rest → Shape bytes
+
+begins : (bytes mark : List ℕ) → starts_with eqb bytes mark ≡ true → bytes ≡ mark ++ drop (length mark) bytes
+begins bytes mark h = (starts_is Decides-eqb bytes mark (starts_with eqb bytes mark) refl).0 h
+
+shape-le : (bytes : List ℕ) (t : Bool) → starts_with eqb bytes (0xFF ∷ 0xFE ∷ []) ≡ t → (mark_of bytes ≡ (if t then Some (record { encoding = Utf16Le; len = 2 }) else None)) → Shape bytes
+shape-le bytes true e is = le_mark (drop 2 bytes) (begins bytes (0xFF ∷ 0xFE ∷ []) e)
+shape-le bytes false e is = bare is
+
+shape-be : (bytes : List ℕ) (t : Bool) → starts_with eqb bytes (0xFE ∷ 0xFF ∷ []) ≡ t
+    → (mark_of bytes ≡ (if t then Some (record { encoding = Utf16Be; len = 2 }) else if starts_with eqb bytes (0xFF ∷ 0xFE ∷ []) then Some (record { encoding = Utf16Le; len = 2 }) else None)) → Shape bytes
+shape-be bytes true e is = be_mark (drop 2 bytes) (begins bytes (0xFE ∷ 0xFF ∷ []) e)
+shape-be bytes false e is = shape-le bytes (starts_with eqb bytes (0xFF ∷ 0xFE ∷ [])) refl is
+
+shape-utf8 : (bytes : List ℕ) (t : Bool) → starts_with eqb bytes (0xEF ∷ 0xBB ∷ 0xBF ∷ []) ≡ t
+    → (mark_of bytes ≡ (if t then Some (record { encoding = Utf8; len = 3 }) else if starts_with eqb bytes (0xFE ∷ 0xFF ∷ []) then Some (record { encoding = Utf16Be; len = 2 }) else if starts_with eqb bytes (0xFF ∷ 0xFE ∷ []) then Some (record { encoding = Utf16Le; len = 2 }) else None)) → Shape bytes
+shape-utf8 bytes true e is = utf8_mark (drop 3 bytes) (begins bytes (0xEF ∷ 0xBB ∷ 0xBF ∷ []) e)
+shape-utf8 bytes false e is = shape-be bytes (starts_with eqb bytes (0xFE ∷ 0xFF ∷ [])) refl is
+
+shape : (bytes : List ℕ) → Shape bytes
+shape bytes = shape-utf8 bytes (starts_with eqb bytes (0xEF ∷ 0xBB ∷ 0xBF ∷ [])) refl refl
+
+-- the first bytes of bytes without a mark have none
+bare-first : (first rest : List ℕ) → mark_of (first ++ rest) ≡ None → Shape first → mark_of first ≡ None
+bare-first first rest none (bare is) = is
+bare-first first rest none (utf8_mark r is) = absurd (let h : mark_of (0xEF ∷ 0xBB ∷ 0xBF ∷ (r ++ rest)) ≡ None = subst (λ (x : List ℕ). mark_of (x ++ rest) ≡ None) is none in cc)
+bare-first first rest none (be_mark r is) = absurd (let h : mark_of (0xFE ∷ 0xFF ∷ (r ++ rest)) ≡ None = subst (λ (x : List ℕ). mark_of (x ++ rest) ≡ None) is none in cc)
+bare-first first rest none (le_mark r is) = absurd (let h : mark_of (0xFF ∷ 0xFE ∷ (r ++ rest)) ≡ None = subst (λ (x : List ℕ). mark_of (x ++ rest) ≡ None) is none in cc)
+
+bare-taken : (bytes : List ℕ) (n : ℕ) → mark_of bytes ≡ None → mark_of (take n bytes) ≡ None
+bare-taken bytes n none = bare-first (take n bytes) (drop n bytes) (rw (take-append-drop n bytes) none) (shape (take n bytes))
+
+module _ (files : Files) where
+  abbrev out : Encoding → List ℕ → OutputState
+  out given bytes = output_of (state_behind files given bytes)
+
+  behind_prefix : (o : Option Prefix) (s : AnyState) → output_of s ≡ Ascii → output_of (unwrap_or (option_map in_sniffing o) s) ≡ Ascii
+  behind_prefix (Some p) s e = refl
+  behind_prefix None s e = e
+
+  -- from a mark on, and within it, the output state is ASCII
+  utf8_marked : (given : Encoding) (rest : List ℕ) (n : ℕ) → out given (take n (0xEF ∷ 0xBB ∷ 0xBF ∷ rest)) ≡ Ascii
+  unfolding state_behind
+  utf8_marked given rest zero = refl
+  utf8_marked given rest (suc zero) = refl
+  utf8_marked given rest (suc (suc zero)) = refl
+  utf8_marked given rest (suc (suc (suc n))) = refl
+
+  be_marked : (given : Encoding) (rest : List ℕ) (n : ℕ) → out given (take n (0xFE ∷ 0xFF ∷ rest)) ≡ Ascii
+  unfolding state_behind
+  be_marked given rest zero = refl
+  be_marked given rest (suc zero) = refl
+  be_marked given rest (suc (suc n)) = refl
+
+  le_marked : (given : Encoding) (rest : List ℕ) (n : ℕ) → out given (take n (0xFF ∷ 0xFE ∷ rest)) ≡ Ascii
+  unfolding state_behind
+  le_marked given rest zero = refl
+  le_marked given rest (suc zero) = refl
+  le_marked given rest (suc (suc n)) = refl
+
+  -- without a mark the state is that of the encoding given, behind the look
+  bare_state : (given : Encoding) (bytes : List ℕ) → mark_of bytes ≡ None
+      → state_behind files given bytes ≡ unwrap_or (option_map in_sniffing (prefix_of bytes)) (state_in files given bytes)
+  unfolding state_behind
+  bare_state given bytes none =
+      ap (λ (m : Option Mark). unwrap_or (option_map in_sniffing (prefix_of bytes)) (state_in files (unwrap_or (option_map (λ (m : Mark). m.encoding) m) given) (drop (unwrap_or (option_map (λ (m : Mark). m.len) m) 0) bytes))) none
+
+  whole_of : (given : Encoding) (bytes : List ℕ) {marked : List ℕ} → bytes ≡ marked → ((n : ℕ) → out given (take n marked) ≡ Ascii) → out given bytes ≡ Ascii
+  whole_of given bytes {marked = marked} is h = ap (out given) (is ∙ sym (take-length marked)) ∙ h (length marked)
+
+  first_of : (given : Encoding) (bytes : List ℕ) {marked : List ℕ} (n : ℕ) → bytes ≡ marked → ((n : ℕ) → out given (take n marked) ≡ Ascii) → out given (take n bytes) ≡ Ascii
+  first_of given bytes n is h = ap (λ (x : List ℕ). out given (take n x)) is ∙ h n
+
+  plain_out : (given : Encoding) → IsPlain (family_of given) → (bytes : List ℕ) → Shape bytes → out given bytes ≡ Ascii
+  plain_out given plain bytes (bare none) =
+      ap output_of (bare_state given bytes none) ∙ behind_prefix (prefix_of bytes) (state_in files given bytes) (plain (index_of files) bytes)
+  plain_out given plain bytes (utf8_mark r is) = whole_of given bytes is (utf8_marked given r)
+  plain_out given plain bytes (be_mark r is) = whole_of given bytes is (be_marked given r)
+  plain_out given plain bytes (le_mark r is) = whole_of given bytes is (le_marked given r)
+
+  start_out : (given : Encoding) → out given [] ≡ Ascii
+  unfolding state_behind
+  start_out given = refl
+
+  at_mark : (given : Encoding) (bytes : List ℕ) → Shape bytes → out given (take (mark_length bytes) bytes) ≡ Ascii
+  at_mark given bytes (bare none) = ap (λ (m : Option Mark). out given (take (unwrap_or (option_map (λ (m : Mark). m.len) m) 0) bytes)) none ∙ start_out given
+  at_mark given bytes (utf8_mark r is) = ap (λ (x : List ℕ). out given (take (mark_length x) x)) is ∙ utf8_marked given r 3
+  at_mark given bytes (be_mark r is) = ap (λ (x : List ℕ). out given (take (mark_length x) x)) is ∙ be_marked given r 2
+  at_mark given bytes (le_mark r is) = ap (λ (x : List ℕ). out given (take (mark_length x) x)) is ∙ le_marked given r 2
+
+pub output_at_mark : (files : Files) (given : Encoding) (bytes : List ℕ) → output_of (state_behind files given (take (mark_length bytes) bytes)) ≡ Ascii
+output_at_mark files given bytes = at_mark files given bytes (shape bytes)
+
+mark-fits : (bytes : List ℕ) → Shape bytes → mark_length bytes ≤ length bytes
+mark-fits bytes (bare none) = subst (λ (m : Option Mark). unwrap_or (option_map (λ (m : Mark). m.len) m) 0 ≤ length bytes) (sym none) (omega arith)
+mark-fits bytes (utf8_mark r is) = subst (λ (x : List ℕ). mark_length x ≤ length x) (sym is) (omega arith)
+mark-fits bytes (be_mark r is) = subst (λ (x : List ℕ). mark_length x ≤ length x) (sym is) (omega arith)
+mark-fits bytes (le_mark r is) = subst (λ (x : List ℕ). mark_length x ≤ length x) (sym is) (omega arith)
+
+pub mark_fits : (bytes : List ℕ) → mark_length bytes ≤ length bytes
+mark_fits bytes = mark-fits bytes (shape bytes)
+
+-- a mark's encoding needs no file
+force : (files : Files) (given : Encoding) (bytes : List ℕ) → Shape bytes → is_decoded files given ≡ true → is_decoded files (in_force given bytes) ≡ true
+unfolding is_decoded
+force files given bytes (bare none) h = ap (λ (m : Option Mark). is_decoded files (unwrap_or (option_map (λ (m : Mark). m.encoding) m) given)) none ∙ h
+force files given bytes (utf8_mark r is) h = ap (λ (x : List ℕ). is_decoded files (in_force given x)) is
+force files given bytes (be_mark r is) h = ap (λ (x : List ℕ). is_decoded files (in_force given x)) is
+force files given bytes (le_mark r is) h = ap (λ (x : List ℕ). is_decoded files (in_force given x)) is
+
+pub decoded_in_force : (files : Files) (given : Encoding) (bytes : List ℕ) → is_decoded files given ≡ true → is_decoded files (in_force given bytes) ≡ true
+decoded_in_force files given bytes = force files given bytes (shape bytes)
+
+-- the prefix is all of the bytes
+prefix-is : (p q : Prefix) (o : Option Prefix) (bytes : List ℕ) → (o ≡ Some p → bytes ≡ spelt p) → (if bytes_eq (spelt q) bytes then Some q else o) ≡ Some p → bytes ≡ spelt p
+prefix-is p q o bytes later = by_test (λ (x : Option Prefix). x ≡ Some p → bytes ≡ spelt p) (bytes_eq (spelt q) bytes)
+    (λ e h. let same : spelt q ≡ bytes = (bytes_eq-Decides (spelt q) bytes).0 e in let found : q ≡ p = cc in sym same ∙ ap spelt found)
+    (λ e h. later h)
+
+is_prefix : (bytes : List ℕ) (p : Prefix) → prefix_of bytes ≡ Some p → bytes ≡ spelt p
+is_prefix bytes p =
+    prefix-is p Nothing _ bytes (prefix-is p Ef _ bytes (prefix-is p EfBb _ bytes (prefix-is p Fe _ bytes (prefix-is p Ff _ bytes (λ h. absurd (let x : None ≡ Some p = h in cc))))))
+
+module _ (jis0208 : ℕ → Option ℕ)
+    (stays : (p : List ℕ) (b : ℕ) → iso_2022_jp_bytes (feed (iso_2022_jp jis0208) iso_2022_jp_start p).state ≤ 1
+    → (feed (iso_2022_jp jis0208) iso_2022_jp_start (p ++ b ∷ [])).state.output ≡ (feed (iso_2022_jp jis0208) iso_2022_jp_start p).state.output) where
+  abbrev iso_out : List ℕ → OutputState
+  iso_out p = (feed (iso_2022_jp jis0208) iso_2022_jp_start p).state.output
+
+  in_prefix : (p : Prefix) (n : ℕ) → iso_out (take n (spelt p)) ≡ Ascii
+  unfolding feed feed_for
+  in_prefix Nothing n = rw (take-nil {A = ℕ} n) refl
+  in_prefix Ef zero = refl
+  in_prefix Ef (suc n) = rw (take-nil {A = ℕ} n) refl
+  in_prefix EfBb zero = refl
+  in_prefix EfBb (suc zero) = refl
+  in_prefix EfBb (suc (suc n)) = rw (take-nil {A = ℕ} n) refl
+  in_prefix Fe zero = refl
+  in_prefix Fe (suc n) = rw (take-nil {A = ℕ} n) refl
+  in_prefix Ff zero = refl
+  in_prefix Ff (suc n) = rw (take-nil {A = ℕ} n) refl
+
+  few_held : (p : Prefix) → iso_2022_jp_bytes (feed (iso_2022_jp jis0208) iso_2022_jp_start (spelt p)).state ≤ 1
+  unfolding feed feed_for
+  few_held Nothing = lit≤ tt
+  few_held Ef = lit≤ tt
+  few_held EfBb = lit≤ tt
+  few_held Fe = lit≤ tt
+  few_held Ff = lit≤ tt
+
+  prefix_out : (p : Prefix) → iso_out (spelt p) ≡ Ascii
+  prefix_out p = ap iso_out (sym (take-length (spelt p))) ∙ in_prefix p (length (spelt p))
+
+  behind_prefix_out : (p : Prefix) (b : ℕ) → iso_out (spelt p ++ b ∷ []) ≡ Ascii
+  behind_prefix_out p b = stays (spelt p) b (few_held p) ∙ prefix_out p
+
+  -- the first bytes of a prefix and a byte are those of the prefix, or all
+  at_prefix : (p : Prefix) (b n : ℕ) → iso_out (take n (spelt p ++ b ∷ [])) ≡ Ascii
+  at_prefix p b n =
+      ⊎_elim
+      (λ (short : n < length (spelt p) + 1). ap iso_out (take-append-le n (spelt p) (b ∷ []) (omega arith)) ∙ in_prefix p n)
+      (λ (long : length (spelt p) + 1 ≤ n).
+      ap iso_out (take_all n (spelt p ++ b ∷ []) (omega (arith, length-append (spelt p) (b ∷ [])))) ∙ behind_prefix_out p b)
+      (cases_lt n (length (spelt p) + 1))
+
+-- the one decoder, where it is that of ISO-2022-JP
+pub record IsIso (files : Files) (given : Encoding) (d : OwnDecoder) : Type 0 where
+  pub jis0208 : Loaded
+  pub own : (bytes : List ℕ) → state_in files given bytes ≡ in_iso_2022_jp (feed (iso_2022_jp (code_point_of jis0208)) iso_2022_jp_start bytes).state
+  pub lift : IsLifted in_iso_2022_jp (iso_2022_jp (code_point_of jis0208)) (any d)
+
+iso_with : (files : Files) (given : Encoding) (d : OwnDecoder) (o p : Option Loaded) → family_of given ≡ OfIso2022Jp → index_of files Jis0208 ≡ o
+    → of_both (λ jis0208 katakana. by.Iso2022Jp jis0208) o p ≡ Some d → IsIso files given d
+iso_with files given d (Some i) (Some j) family file e =
+    let same : by.Iso2022Jp i ≡ d = cc in
+    record {
+      jis0208 = i;
+      own = λ bytes.
+          ap (λ (f : Family). (standing (index_of files) f).state bytes) family
+          ∙ ap (λ (o : Option Loaded). in_iso_2022_jp (feed (iso_2022_jp (looked_up o)) iso_2022_jp_start bytes).state) file;
+      lift = subst (λ (d : OwnDecoder). IsLifted in_iso_2022_jp (iso_2022_jp (code_point_of i)) (any d)) same (λ s o. refl);
+    }
+iso_with files given d (Some i) None family file e = absurd (let x : None ≡ Some d = e in cc)
+iso_with files given d None p family file e = absurd (let x : None ≡ Some d = e in cc)
+
+is_iso : (files : Files) (given : Encoding) (d : OwnDecoder) → family_of given ≡ OfIso2022Jp → decoder_in files given ≡ Some d → IsIso files given d
+is_iso files given d family chosen =
+    iso_with files given d (index_of files Jis0208) (index_of files Katakana) family refl (ap (λ (f : Family). (standing (index_of files) f).decoder) (sym family) ∙ chosen)
+
+-- ---- ISO-2022-JP
+
+-- what its own decoder does
+pub record IsoLaws (jis0208 : Loaded) : Type 0 where
+  pub stays : (p : List ℕ) (b : ℕ) → iso_2022_jp_bytes (feed (iso_2022_jp (code_point_of jis0208)) iso_2022_jp_start p).state ≤ 1
+      → (feed (iso_2022_jp (code_point_of jis0208)) iso_2022_jp_start (p ++ b ∷ [])).state.output ≡ (feed (iso_2022_jp (code_point_of jis0208)) iso_2022_jp_start p).state.output
+  pub byte : (p : List ℕ) (b : ℕ) → let table = iso_2022_jp (code_point_of jis0208) in
+      All (λ (e : Ended). (feed table iso_2022_jp_start (take (length p + 1 - e.back) (p ++ b ∷ []))).state.output ≡ (feed table iso_2022_jp_start (p ++ b ∷ [])).state.output)
+      (feed table (feed table iso_2022_jp_start p).state (b ∷ [])).items
+  pub end : (p : List ℕ) → let table = iso_2022_jp (code_point_of jis0208) in
+      All (λ (e : Ended). (feed table iso_2022_jp_start (take (length p - e.back) p)).state.output ≡ (feed table iso_2022_jp_start p).state.output)
+      (run table (feed table iso_2022_jp_start p).state [])
+  pub runs : (d : OwnDecoder) → IsLifted in_iso_2022_jp (iso_2022_jp (code_point_of jis0208)) (any d) → (s : Values) (q : List ℕ)
+      → run (any d) (in_iso_2022_jp s) q ≡ run (iso_2022_jp (code_point_of jis0208)) s q
+  pub feeds : (d : OwnDecoder) → IsLifted in_iso_2022_jp (iso_2022_jp (code_point_of jis0208)) (any d) → (s : Values) (q : List ℕ)
+      → feed (any d) (in_iso_2022_jp s) q ≡ lift_fed in_iso_2022_jp (feed (iso_2022_jp (code_point_of jis0208)) s q)
+
+module _ (files : Files) (given : Encoding) (d : OwnDecoder) (iso : IsIso files given d) (laws : IsoLaws iso.jis0208) where
+  abbrev lead : ℕ → Option ℕ
+  lead = code_point_of iso.jis0208
+
+  abbrev out_here : List ℕ → OutputState
+  out_here bytes = out files given bytes
+
+  abbrev iso_at : List ℕ → OutputState
+  iso_at p = iso_out lead laws.stays p
+
+  at_option : (bytes : List ℕ) (o : Option Prefix) → prefix_of bytes ≡ o → output_of (unwrap_or (option_map in_sniffing o) (state_in files given bytes)) ≡ iso_at bytes
+  at_option bytes (Some p) e = sym (ap iso_at (is_prefix bytes p e) ∙ prefix_out lead laws.stays p)
+  at_option bytes None e = ap output_of (iso.own bytes)
+
+  bare_iso : (bytes : List ℕ) → mark_of bytes ≡ None → out_here bytes ≡ iso_at bytes
+  bare_iso bytes none = ap output_of (bare_state files given bytes none) ∙ at_option bytes (prefix_of bytes) refl
+
+  own_state : (bytes : List ℕ) → mark_of bytes ≡ None → prefix_of bytes ≡ None → state_behind files given bytes ≡ in_iso_2022_jp (feed (iso_2022_jp lead) iso_2022_jp_start bytes).state
+  own_state bytes none long =
+      bare_state files given bytes none ∙ ap (λ (o : Option Prefix). unwrap_or (option_map in_sniffing o) (state_in files given bytes)) long ∙ iso.own bytes
+
+  same_iso : (bytes : List ℕ) (n : ℕ) → mark_of bytes ≡ None → iso_at (take n bytes) ≡ iso_at bytes → out_here (take n bytes) ≡ out_here bytes
+  same_iso bytes n none h = bare_iso (take n bytes) (bare-taken bytes n none) ∙ h ∙ sym (bare_iso bytes none)
+
+  marked_iso : (bytes : List ℕ) (n : ℕ) {marked : List ℕ} → bytes ≡ marked → ((n : ℕ) → out_here (take n marked) ≡ Ascii) → out_here (take n bytes) ≡ out_here bytes
+  marked_iso bytes n is h = first_of files given bytes n is h ∙ sym (whole_of files given bytes is h)
+
+  looks_byte : (p : List ℕ) (b : ℕ) (x : Prefix) → p ≡ spelt x → mark_of (p ++ b ∷ []) ≡ None → (n : ℕ) → out_here (take n (p ++ b ∷ [])) ≡ out_here (p ++ b ∷ [])
+  looks_byte p b x is none n =
+      same_iso (p ++ b ∷ []) n none
+      (ap (λ (q : List ℕ). iso_at (take n (q ++ b ∷ []))) is ∙ at_prefix lead laws.stays x b n
+      ∙ sym (ap (λ (q : List ℕ). iso_at (q ++ b ∷ [])) is ∙ behind_prefix_out lead laws.stays x b))
+
+  looks_end : (p : List ℕ) (x : Prefix) → p ≡ spelt x → mark_of p ≡ None → (n : ℕ) → out_here (take n p) ≡ out_here p
+  looks_end p x is none n =
+      same_iso p n none
+      (ap (λ (q : List ℕ). iso_at (take n q)) is ∙ in_prefix lead laws.stays x n ∙ sym (ap (λ (q : List ℕ). iso_at q) is ∙ prefix_out lead laws.stays x))
+
+  byte_own : (p : List ℕ) (b : ℕ) → mark_of (p ++ b ∷ []) ≡ None → mark_of p ≡ None → (o : Option Prefix) → prefix_of p ≡ o
+      → All (λ (e : Ended). out_here (take (length p + 1 - e.back) (p ++ b ∷ [])) ≡ out_here (p ++ b ∷ [])) (feed (any d) (state_behind files given p) (b ∷ [])).items
+  byte_own p b none first (Some x) e = λ k c lt.
+      looks_byte p b x (is_prefix p x e) none _
+  byte_own p b none first None e =
+      let s = (feed (iso_2022_jp lead) iso_2022_jp_start p).state in
+      let items : (feed (any d) (state_behind files given p) (b ∷ [])).items ≡ (feed (iso_2022_jp lead) s (b ∷ [])).items =
+      ap (λ (t : AnyState). (feed (any d) t (b ∷ [])).items) (own_state p first e)
+      ∙ ap (λ (f : Fed AnyState). f.items) (laws.feeds d iso.lift s (b ∷ [])) in
+      subst (λ (es : List Ended). All (λ (e : Ended). out_here (take (length p + 1 - e.back) (p ++ b ∷ [])) ≡ out_here (p ++ b ∷ [])) es) (sym items)
+      (λ k c lt. same_iso (p ++ b ∷ []) _ none (laws.byte p b k c lt))
+
+  byte_iso : (p : List ℕ) (b : ℕ) → Shape (p ++ b ∷ [])
+      → All (λ (e : Ended). out_here (take (length p + 1 - e.back) (p ++ b ∷ [])) ≡ out_here (p ++ b ∷ [])) (feed (any d) (state_behind files given p) (b ∷ [])).items
+  byte_iso p b (bare none) =
+      byte_own p b none (rw (take-append_seam p (b ∷ [])) at (bare-taken (p ++ b ∷ []) (length p) none)) (prefix_of p) refl
+  byte_iso p b (utf8_mark r is) = λ k c lt. marked_iso (p ++ b ∷ []) _ is (utf8_marked files given r)
+  byte_iso p b (be_mark r is) = λ k c lt. marked_iso (p ++ b ∷ []) _ is (be_marked files given r)
+  byte_iso p b (le_mark r is) = λ k c lt. marked_iso (p ++ b ∷ []) _ is (le_marked files given r)
+
+  end_own : (p : List ℕ) → mark_of p ≡ None → (o : Option Prefix) → prefix_of p ≡ o
+      → All (λ (e : Ended). out_here (take (length p - e.back) p) ≡ out_here p) (run (any d) (state_behind files given p) [])
+  end_own p none (Some x) e = λ k c lt.
+      looks_end p x (is_prefix p x e) none _
+  end_own p none None e =
+      let s = (feed (iso_2022_jp lead) iso_2022_jp_start p).state in
+      let items : run (any d) (state_behind files given p) [] ≡ run (iso_2022_jp lead) s [] =
+      ap (λ (t : AnyState). run (any d) t []) (own_state p none e) ∙ laws.runs d iso.lift s [] in
+      subst (λ (es : List Ended). All (λ (e : Ended). out_here (take (length p - e.back) p) ≡ out_here p) es) (sym items)
+      (λ k c lt. same_iso p _ none (laws.end p k c lt))
+
+  end_iso : (p : List ℕ) → Shape p
+      → All (λ (e : Ended). out_here (take (length p - e.back) p) ≡ out_here p) (run (any d) (state_behind files given p) [])
+  end_iso p (bare none) = end_own p none (prefix_of p) refl
+  end_iso p (utf8_mark r is) = λ k c lt. marked_iso p _ is (utf8_marked files given r)
+  end_iso p (be_mark r is) = λ k c lt. marked_iso p _ is (be_marked files given r)
+  end_iso p (le_mark r is) = λ k c lt. marked_iso p _ is (le_marked files given r)
+
+pub output_at_byte : (laws : (jis0208 : Loaded) → IsoLaws jis0208) (files : Files) (given : Encoding) (d : OwnDecoder) (p : List ℕ) (b : ℕ) → decoder_in files given ≡ Some d
+    → All (λ (e : Ended). out files given (take (length p + 1 - e.back) (p ++ b ∷ [])) ≡ out files given (p ++ b ∷ [])) (feed (any d) (state_behind files given p) (b ∷ [])).items
+output_at_byte laws files given d p b chosen = elim (by_family (family_of given)) [
+  | inr plain ↦ λ k c lt. plain_out files given plain _ (shape _) ∙ sym (plain_out files given plain (p ++ b ∷ []) (shape (p ++ b ∷ [])))
+  | inl family ↦ let iso = is_iso files given d family chosen in byte_iso files given d iso (laws iso.jis0208) p b (shape (p ++ b ∷ []))
+]
+
+pub output_at_last : (laws : (jis0208 : Loaded) → IsoLaws jis0208) (files : Files) (given : Encoding) (d : OwnDecoder) (p : List ℕ) → decoder_in files given ≡ Some d
+    → All (λ (e : Ended). out files given (take (length p - e.back) p) ≡ out files given p) (run (any d) (state_behind files given p) [])
+output_at_last laws files given d p chosen = elim (by_family (family_of given)) [
+  | inr plain ↦ λ k c lt. plain_out files given plain _ (shape _) ∙ sym (plain_out files given plain p (shape p))
+  | inl family ↦ let iso = is_iso files given d family chosen in end_iso files given d iso (laws iso.jis0208) p (shape p)
+]

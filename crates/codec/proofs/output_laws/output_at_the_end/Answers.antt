@@ -1,0 +1,42 @@
+use Rattle.std.proofs.Common.{◌≡◌, ap, subst, sym, ◌∙◌, Some, ℕ, List, Option}
+use Rattle.std.specs.Option.{IfSome}
+use Rattle.enc_names.specs.declared.encoding.Encoding.{Encoding}
+use Rattle.index_loader.specs.Files.{Files, index_of}
+use Rattle.index_loader.specs.Index.{Loaded}
+use Rattle.decoder_core.specs.Queue.{Fed, feed}
+use Rattle.codec.specs.declared.own.OwnDecoder.{OwnDecoder}
+use Rattle.codec.specs.declared.state.AnyState.{AnyState}
+use Rattle.codec.specs.declared.state.AnyState.TheVariants.{Iso2022Jp as in_iso_2022_jp}
+use Rattle.codec.specs.Any.{any, any_start, given_start, decoder_in}
+use Rattle.codec.specs.Behind.{state_in, state_behind}
+use Rattle.codec.specs.Decode.{run_in}
+use Rattle.codec.proofs.AnyRun.{Does}
+use Rattle.codec.proofs.Choosing.{chosen, behind}
+use Rattle.codec.proofs.OutputStates.{IsoLaws, output_at_mark, mark_fits, decoded_in_force, output_at_byte, output_at_last}
+use Rattle.codec.proofs.output_laws.output_at_the_end.Goals as goal
+
+does_there : (files : Files) (encoding : Encoding) (d : OwnDecoder) → decoder_in files encoding ≡ Some d → Does (run_in files encoding) (state_in files encoding) (any d) (given_start d)
+does_there files encoding d is = subst (λ (o : Option OwnDecoder). IfSome o (λ d. Does (run_in files encoding) (state_in files encoding) (any d) (given_start d))) is (chosen files encoding).does
+
+pub returns : goal.returns
+returns c =
+    let iso = c.output_at_the_end.ensures in
+    let among = c.all_among.ensures in
+    let laws : (jis0208 : Loaded) → IsoLaws jis0208 =
+    λ jis0208. record {
+      stays = iso.stays jis0208;
+      byte = iso.byte jis0208;
+      end = iso.end jis0208;
+      runs = λ d lift. among.runs jis0208 d in_iso_2022_jp lift;
+      feeds = λ d lift. among.feeds jis0208 d in_iso_2022_jp lift;
+    } in
+    record {
+      mark = output_at_mark;
+      mark_fits = mark_fits;
+      there = λ files given. (chosen files given).variant;
+      in_force = decoded_in_force;
+      behind = λ files given d bytes is. behind files given d (does_there files given d is) bytes;
+      parts = λ d s p q. ap (λ (f : Fed AnyState). f.state) (c.all_runs.ensures.feed_parts d s p q);
+      byte = output_at_byte laws;
+      end = output_at_last laws;
+    }

@@ -1,0 +1,133 @@
+-- What items remember of the output state is the decoder's behind their ends, taken literally.
+use Rattle.std.proofs.Common.{◌≡◌, refl, sym, ap, ◌∙◌, subst, ℕ, ◌+◌, ◌-◌, ◌^◌, ◌<◌, ◌≤◌, true, List, [], ◌∷◌, ◌++◌, take, length, map, Option, Some, None, All, arith, append_assoc, append-nil, length-append}
+use Rattle.std.specs.Option.{is_some}
+use Rattle.std.specs.Prelude.{ℤ, pos, ◌-ℤ◌}
+use Rattle.std.proofs.Math.Seq.{take-length}
+use Rattle.std.proofs.lemmas.Int.{ints}
+use Rattle.std.proofs.lemmas.List.{take-append-le}
+use Rattle.std.proofs.lemmas.List.Elements.{All-map, All-append, All-nil}
+use Rattle.enc_names.specs.declared.encoding.Encoding.{Encoding}
+use Rattle.index_loader.specs.Files.{Files}
+use Rattle.state_memo.specs.Decoding.{Ended as EndedItem, OwnDecoder, AnyState, any, any_start, feed, run, decoder_in, is_decoded, output_of, state_behind, Shown, shown_from}
+use Rattle.state_memo.specs.declared.ended.Ended.{Ended}
+use Rattle.state_memo.specs.declared.outcome.Outcome.{Outcome}
+use Rattle.state_memo.specs.Items.{kept_item}
+use Rattle.state_memo.specs.Outcome.{Contents, contents_of, outcome_of, ending_of, items_of_shown, items_of_ended}
+use Rattle.state_memo.specs.Sums.{sum_of}
+use Rattle.piece_rope.specs.Chain.{Chain, bytes_of}
+use Rattle.piece_rope.specs.Document.{Document}
+use Rattle.piece_rope.specs.Edit.{IsRope}
+use Rattle.piece_rope.specs.Entry.{Entry, here, here_of}
+use Rattle.piece_rope.specs.Made.{ends_at}
+use Rattle.piece_rope.specs.Outputs.{output_at, HasOutputs, HaveOutputs}
+use Rattle.piece_rope.proofs.Counting.{here-contents}
+
+-- what is said of one decoder's states
+pub record StateLaws (files : Files) (given : Encoding) (d : OwnDecoder) : Type 0 where
+  pub behind : (bytes : List ℕ) → (feed (any d) (any_start d) bytes).state ≡ state_behind files given bytes
+  pub parts : (s : AnyState) (p q : List ℕ) → (feed (any d) s (p ++ q)).state ≡ (feed (any d) (feed (any d) s p).state q).state
+  pub byte : (p : List ℕ) (b : ℕ) → All (λ (e : EndedItem). output_of (state_behind files given (take (length p + 1 - e.back) (p ++ b ∷ []))) ≡ output_of (state_behind files given (p ++ b ∷ []))) (feed (any d) (state_behind files given p) (b ∷ [])).items
+  pub end : (p : List ℕ) → All (λ (e : EndedItem). output_of (state_behind files given (take (length p - e.back) p)) ≡ output_of (state_behind files given p)) (run (any d) (state_behind files given p) [])
+
+-- a decoder that is there
+pub record IsThere (files : Files) (given : Encoding) : Type 0 where
+  pub decoder : OwnDecoder
+  pub chosen : decoder_in files given ≡ Some decoder
+
+there-by : (files : Files) (given : Encoding) (o : Option OwnDecoder) → decoder_in files given ≡ o → is_some o ≡ true → IsThere files given
+there-by files given (Some d) is some = record { decoder = d; chosen = is }
+there-by files given None is some = absurd cc
+
+pub is_there : (files : Files) (given : Encoding) → is_some (decoder_in files given) ≡ is_decoded files given → is_decoded files given ≡ true → IsThere files given
+is_there files given same can = there-by files given (decoder_in files given) refl (same ∙ can)
+
+ends : (base read back : ℕ) → base + read < 2 ^ 64 → ends_at base (pos read -ℤ pos back) ≡ base + read - back
+ends base read back bound = grind (arith, ints)
+
+module _ (doc : Document) (d : OwnDecoder) (laws : StateLaws doc.indexes doc.given d) (bound : length doc.bytes < 2 ^ 64) where
+  abbrev state : List ℕ → AnyState
+  state p = state_behind doc.indexes doc.given p
+
+  next : (p q : List ℕ) → (feed (any d) (state p) q).state ≡ state (p ++ q)
+  next p q = ap (λ (s : AnyState). (feed (any d) s q).state) (sym (laws.behind p)) ∙ sym (laws.parts (any_start d) p q) ∙ laws.behind (p ++ q)
+
+  -- the items of one byte
+  byte-outputs : (base read : ℕ) (p : List ℕ) (b : ℕ) (rest : List ℕ) → length p + 1 ≡ base + read → doc.bytes ≡ (p ++ b ∷ []) ++ rest → base + read < 2 ^ 64 → (after : AnyState) → after ≡ state (p ++ b ∷ [])
+      → HasOutputs doc base (map (λ (e : EndedItem). kept_item e.item (pos read -ℤ pos e.back) (output_of after)) (feed (any d) (state p) (b ∷ [])).items)
+  byte-outputs base read p b rest size whole fits after is =
+      All-map (λ (e : Ended). e.output ≡ output_at doc (ends_at base e.end)) (λ (e : EndedItem). kept_item e.item (pos read -ℤ pos e.back) (output_of after)) (feed (any d) (state p) (b ∷ [])).items
+      (λ k c lt. at_item _ (laws.byte p b k c lt))
+    where
+      at_item : (back : ℕ) → output_of (state (take (length p + 1 - back) (p ++ b ∷ []))) ≡ output_of (state (p ++ b ∷ [])) → output_of after ≡ output_at doc (ends_at base (pos read -ℤ pos back))
+      at_item back same =
+          let place : ends_at base (pos read -ℤ pos back) ≡ length p + 1 - back = ends base read back fits ∙ omega (arith, size) in
+          let front : take (length p + 1 - back) doc.bytes ≡ take (length p + 1 - back) (p ++ b ∷ []) =
+          ap (take (length p + 1 - back)) whole ∙ take-append-le (length p + 1 - back) (p ++ b ∷ []) rest (omega (arith, length-append p (b ∷ []))) in
+          ap output_of is ∙ sym same ∙ ap (λ (q : List ℕ). output_of (state q)) (sym front) ∙ ap (output_at doc) (sym place)
+
+  -- of more bytes
+  items-append : (xs ys : List (Shown AnyState)) → items_of_shown (xs ++ ys) ≡ items_of_shown xs ++ items_of_shown ys
+  items-append [] ys = refl
+  items-append (x ∷ xs) ys = ap (λ (es : List Ended). kept_item x.item x.end (output_of x.after) ∷ es) (items-append xs ys)
+
+  shown-kept : (read : ℕ) (after : AnyState) (es : List EndedItem)
+      → items_of_shown (map (λ (e : EndedItem). record { item = e.item; end = pos read -ℤ pos e.back; after = after }) es) ≡ map (λ (e : EndedItem). kept_item e.item (pos read -ℤ pos e.back) (output_of after)) es
+  shown-kept read after [] = refl
+  shown-kept read after (e ∷ es) = ap (λ (rest : List Ended). kept_item e.item (pos read -ℤ pos e.back) (output_of after) ∷ rest) (shown-kept read after es)
+
+  shown-outputs : (base read : ℕ) (p bs rest : List ℕ) → length p ≡ base + read → doc.bytes ≡ p ++ (bs ++ rest)
+      → HasOutputs doc base (items_of_shown (shown_from (any d) read (state p) bs))
+  shown-outputs base read p [] rest size whole = All-nil (λ (e : Ended). e.output ≡ output_at doc (ends_at base e.end))
+  shown-outputs base read p (b ∷ bs) rest size whole =
+      let f = feed (any d) (state p) (b ∷ []) in
+      let all : doc.bytes ≡ (p ++ b ∷ []) ++ (bs ++ rest) = whole ∙ sym (append_assoc p (b ∷ []) (bs ++ rest)) in
+      let longer : length (p ++ b ∷ []) ≡ base + (read + 1) = omega (arith, length-append p (b ∷ []), size) in
+      let fits : base + (read + 1) < 2 ^ 64 = omega (arith, bound, ap length all, length-append (p ++ b ∷ []) (bs ++ rest), longer) in
+      let first = byte-outputs base (read + 1) p b (bs ++ rest) (omega (arith, size)) all fits f.state (next p (b ∷ [])) in
+      let later = shown-outputs base (read + 1) (p ++ b ∷ []) bs rest longer all in
+      let mapped = map (λ (e : EndedItem). record { item = e.item; end = pos (read + 1) -ℤ pos e.back; after = f.state }) f.items in
+      subst (HasOutputs doc base) (sym (items-append mapped (shown_from (any d) (read + 1) f.state bs)))
+      (All-append (λ (e : Ended). e.output ≡ output_at doc (ends_at base e.end)) (items_of_shown mapped) (items_of_shown (shown_from (any d) (read + 1) f.state bs))
+      (subst (HasOutputs doc base) (sym (shown-kept (read + 1) f.state f.items)) first)
+      (subst (λ (s : AnyState). HasOutputs doc base (items_of_shown (shown_from (any d) (read + 1) s bs))) (sym (next p (b ∷ []))) later))
+
+  -- of pieces in a row
+  chain-outputs : (base : ℕ) (p : List ℕ) (s : AnyState) (ps : List Entry) → s ≡ state p → Chain d s ps → length p ≡ base → doc.bytes ≡ p ++ bytes_of ps → HaveOutputs doc base (map here_of ps)
+  unfolding outcome_of sum_of
+  chain-outputs base p s [] is chain size whole = tt
+  chain-outputs base p s (x ∷ ps) is chain size whole =
+      let q = x.piece.bytes in
+      let own : contents_of (here_of x) ≡ outcome_of d (state p) q =
+      here-contents x.entry (here x) (outcome_of d x.entry q) chain.1.here_is ∙ ap (λ (t : AnyState). outcome_of d t q) (chain.0 ∙ is) in
+      let bytes : (here_of x).sum.bytes ≡ length q = ap (λ (c : Contents). c.sum.bytes) own in
+      let after : (feed (any d) s q).state ≡ state (p ++ q) = ap (λ (t : AnyState). (feed (any d) t q).state) is ∙ next p q in
+      let size_here : length (p ++ q) ≡ base + (here_of x).sum.bytes = omega (arith, length-append p q, size, bytes) in (
+        subst (HasOutputs doc base) (sym (ap (λ (c : Contents). c.items) own)) (shown-outputs base 0 p q (bytes_of ps) (omega (arith, size)) whole),
+        chain-outputs (base + (here_of x).sum.bytes) (p ++ q) (feed (any d) s q).state ps after chain.2 size_here (whole ∙ sym (append_assoc p q (bytes_of ps))),
+      )
+
+  start : any_start d ≡ state []
+  unfolding state_behind
+  start = refl
+
+  pub body-outputs : (ps : List Entry) (end : AnyState) → IsRope d ps end → doc.bytes ≡ bytes_of ps → HaveOutputs doc 0 (map here_of ps)
+  body-outputs ps end rope whole = chain-outputs 0 [] (any_start d) ps start rope.chain refl whole
+
+  -- of the end
+  pub end-outputs : (ps : List Entry) (tail : Outcome) → IsRope d ps tail.exit → doc.bytes ≡ bytes_of ps → contents_of tail ≡ ending_of d tail.exit → HasOutputs doc (length doc.bytes) tail.items
+  unfolding ending_of
+  end-outputs ps tail rope whole own =
+      let s = tail.exit in
+      let size = length doc.bytes in
+      let exit : s ≡ state doc.bytes = rope.end_is ∙ laws.behind (bytes_of ps) ∙ ap state (sym whole) in
+      let given : All (λ (e : EndedItem). output_of (state (take (size - e.back) doc.bytes)) ≡ output_of (state doc.bytes)) (run (any d) s []) =
+      subst (λ (t : AnyState). All (λ (e : EndedItem). output_of (state (take (size - e.back) doc.bytes)) ≡ output_of (state doc.bytes)) (run (any d) t [])) (sym exit) (laws.end doc.bytes) in
+      subst (HasOutputs doc size) (sym (ap (λ (c : Contents). c.items) own))
+      (All-map (λ (e : Ended). e.output ≡ output_at doc (ends_at size e.end)) (λ (e : EndedItem). kept_item e.item (pos 0 -ℤ pos e.back) (output_of s)) (run (any d) s [])
+      (λ k c lt. at_item _ (given k c lt)))
+    where
+      at_item : (back : ℕ) → output_of (state (take (length doc.bytes - back) doc.bytes)) ≡ output_of (state doc.bytes) → output_of tail.exit ≡ output_at doc (ends_at (length doc.bytes) (pos 0 -ℤ pos back))
+      at_item back same =
+          let exit : tail.exit ≡ state doc.bytes = rope.end_is ∙ laws.behind (bytes_of ps) ∙ ap state (sym whole) in
+          let place : ends_at (length doc.bytes) (pos 0 -ℤ pos back) ≡ length doc.bytes - back = ends (length doc.bytes) 0 back (omega (arith, bound)) ∙ omega arith in
+          ap output_of exit ∙ sym same ∙ ap (output_at doc) (sym place)

@@ -1,0 +1,22 @@
+use Rattle.std.proofs.Common.{◌≡◌, ◌≤◌, ap, ◌∙◌, subst, true, length}
+use Rattle.index_loader.specs.Files.{has_files}
+use Rattle.state_memo.specs.Decoding.{Ascii, decode, is_decoded, in_force}
+use Rattle.piece_rope.specs.Chain.{bytes_of}
+use Rattle.piece_rope.specs.Document.{Document, decoded}
+use Rattle.piece_rope.specs.Outputs.{output_at}
+use Rattle.piece_rope.proofs.doc.Doc.in_force.Goals as goal
+
+pub returns-clause-files : goal.returns-clause-files
+unfolding decode is_decoded
+returns-clause-files c =
+    let files = c.self.inside.indexes.now in
+    let bytes = bytes_of c.self.inside.pieces.items in
+    subst (λ (doc : Document). has_files doc.indexes (decoded doc).encoding ≡ true) c.self.view_is (c.output_at_the_end.ensures.in_force files c.self.inside.given bytes c.self.invariant.can)
+
+pub returns-clause-within : goal.returns-clause-within
+unfolding decode
+returns-clause-within c = c.output_at_the_end.ensures.mark_fits c.args.self.now.bytes
+
+pub returns-clause-output : goal.returns-clause-output
+unfolding decode
+returns-clause-output c = c.output_at_the_end.ensures.mark c.args.self.now.indexes c.args.self.now.given c.args.self.now.bytes

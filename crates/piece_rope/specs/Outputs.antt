@@ -1,0 +1,20 @@
+-- The output states that items remember.
+use Rattle.std.specs.Prelude.{◌≡◌, ℕ, ◌+◌, List, [], ◌∷◌, take, All}
+use Rattle.state_memo.specs.declared.ended.Ended.{Ended}
+use Rattle.state_memo.specs.declared.outcome.Outcome.{Outcome}
+use Rattle.state_memo.specs.Decoding.{OutputState, output_of, state_behind}
+use Rattle.piece_rope.specs.Document.{Document}
+use Rattle.piece_rope.specs.Made.{ends_at}
+
+-- the output state of the decoder behind the first bytes of a document, taken literally
+abbrev pub output_at : Document → ℕ → OutputState
+output_at d at = output_of (state_behind d.indexes d.given (take at d.bytes))
+
+-- in a piece that begins at byte `base` each item remembers the output state behind its end
+abbrev pub HasOutputs : Document → ℕ → List Ended → Type 0
+HasOutputs d base es = All (λ (e : Ended). e.output ≡ output_at d (ends_at base e.end)) es
+
+-- so it is in pieces in a row, the first of which begins at byte `base`
+abbrev pub HaveOutputs : Document → ℕ → List Outcome → Type 0
+HaveOutputs d base [] = Unit {0}
+HaveOutputs d base (o ∷ os) = HasOutputs d base o.items × HaveOutputs d (base + o.sum.bytes) os

@@ -1,0 +1,294 @@
+-- Cuts between code points, found by what pieces remember.
+use Rattle.std.proofs.Common.{◌≡◌, ◌≢◌, refl, sym, ap, subst, ◌∙◌, ℕ, zero, suc, ◌+◌, ◌-◌, ◌<◌, ◌≤◌, ◌==◌, eqb, Bool, true, false, cond, nat_lt, nat_le, List, [], ◌∷◌, ◌++◌, length, length-append, append_assoc, drop, arith, Option, Some, None, Bor, slice_get, inl, inr, if◌then◌else◌}
+use Rattle.std.specs.Option.{option_eq, option_map}
+use Rattle.std.proofs.lemmas.Bool.Decides.{nat_tests}
+use Rattle.std.proofs.lemmas.List.Elements.{All-head, All-tail}
+use Rattle.state_memo.specs.Decoding.{Ended as Turned, Ascii, Placed, places, item_code_points, code_points, decode, run_in, in_force, mark_length}
+use Rattle.state_memo.specs.declared.ended.Ended.{Ended}
+use Rattle.state_memo.specs.declared.outcome.Outcome.{Outcome}
+use Rattle.state_memo.specs.declared.sum.Sum.{Sum}
+use Rattle.state_memo.specs.Fitting.{total_of}
+use Rattle.state_memo.specs.Items.{item_of}
+use Rattle.piece_rope.specs.Document.{Document, decoded, text_of}
+use Rattle.piece_rope.specs.Made.{AreEnded, AreMade, ends_at}
+use Rattle.piece_rope.specs.Outputs.{output_at, HasOutputs, HaveOutputs}
+use Rattle.position_map.specs.declared.item_cuts.Cut.{Cut}
+use Rattle.position_map.specs.ItemCuts.{cut_behind, cut_of}
+use Rattle.position_map.specs.Placing.{last_to, IsPlaced}
+use Rattle.position_map.specs.Plan.{item_width, cut_at, cut}
+use Rattle.position_map.specs.Whole.{Pieced}
+use Rattle.position_map.proofs.Items.{IsPieced, items_of, made_split, made_count, piece_count, scalars-append}
+
+by_test : {A : Type 0} (b : Bool) → (b ≡ true → A) → (b ≡ false → A) → A
+by_test true p q = p refl
+by_test false p q = q refl
+
+by_le : {A : Type 0} (m n : ℕ) → (m ≤ n → A) → (n < m → A) → A
+by_le m n p q = by_test (nat_lt n m) (λ t. q (grind (arith, nat_tests))) (λ t. p (grind (arith, nat_tests)))
+
+same_some : {A : Type 0} {x y : A} → Some x ≡ Some y → x ≡ y
+same_some h = cc
+
+none_some : {A : Type 0} {x : A} → None ≡ Some x → ⊥
+none_some h = cc
+
+-- ---- items of a piece
+
+item-here : (e : Ended) (es : List Ended) (n : ℕ) → n < e.scalars → item_of (e ∷ es) n ≡ Some 0
+item-here e es n h = let t : nat_lt n e.scalars ≡ true = grind (arith, nat_tests) in ap (λ b. cond b (Some 0) (option_map (λ k. k + 1) (item_of es (n - e.scalars)))) t
+
+item-later : (e : Ended) (es : List Ended) (n : ℕ) → e.scalars ≤ n → item_of (e ∷ es) n ≡ option_map (λ k. k + 1) (item_of es (n - e.scalars))
+item-later e es n h = let t : nat_lt n e.scalars ≡ false = grind (arith, nat_tests) in ap (λ b. cond b (Some 0) (option_map (λ k. k + 1) (item_of es (n - e.scalars)))) t
+
+abbrev end_if : ℕ → Ended → Bool → Option Cut
+end_if base e b = if b then Some (record { at = ends_at base e.end; output = e.output }) else None
+
+cut-later : (base : ℕ) (e : Ended) (es : List Ended) (n : ℕ) → e.scalars < n → cut_behind base (e ∷ es) n ≡ cut_behind base es (n - e.scalars)
+cut-later base e es n h = let t : nat_lt e.scalars n ≡ true = grind (arith, nat_tests) in ap (λ b. cond b (cut_behind base es (n - e.scalars)) (end_if base e (e.scalars == n))) t
+
+cut-end : (base : ℕ) (e : Ended) (es : List Ended) (n : ℕ) → e.scalars ≡ n → cut_behind base (e ∷ es) n ≡ Some (record { at = ends_at base e.end; output = e.output })
+cut-end base e es n h =
+    let t : nat_lt e.scalars n ≡ false = grind (arith, nat_tests) in
+    let s : (e.scalars == n) ≡ true = grind (arith, nat_tests) in
+    ap (λ b. cond b (cut_behind base es (n - e.scalars)) (end_if base e (e.scalars == n))) t ∙ ap (end_if base e) s
+
+cut-within : (base : ℕ) (e : Ended) (es : List Ended) (n : ℕ) → n < e.scalars → cut_behind base (e ∷ es) n ≡ None
+cut-within base e es n h =
+    let t : nat_lt e.scalars n ≡ false = grind (arith, nat_tests) in
+    let s : (e.scalars == n) ≡ false = grind (arith, nat_tests) in
+    ap (λ b. cond b (cut_behind base es (n - e.scalars)) (end_if base e (e.scalars == n))) t ∙ ap (end_if base e) s
+
+-- how many items are in front
+map_some : (o : Option ℕ) (k : ℕ) → option_map (λ j. j + 1) o ≡ Some k → (j : ℕ) × (o ≡ Some j) × (k ≡ j + 1)
+map_some None k h = absurd (none_some h)
+map_some (Some j) k h = (j, refl, sym (same_some h))
+
+map_none : (o : Option ℕ) → option_map (λ j. j + 1) o ≡ None → o ≡ None
+map_none None h = refl
+map_none (Some j) h = absurd (none_some (sym h))
+
+-- the last code point of those in front is in no item
+pub cut-none : (base : ℕ) (es : List Ended) (n : ℕ) → 0 < n → item_of es (n - 1) ≡ None → cut_behind base es n ≡ None
+cut-none base [] n some h = refl
+cut-none base (e ∷ es) n some h =
+    by_le e.scalars (n - 1)
+    (λ le.
+    let less : n - 1 - e.scalars ≡ n - e.scalars - 1 = omega arith in
+    let rest : item_of es (n - e.scalars - 1) ≡ None = ap (item_of es) (sym less) ∙ map_none (item_of es (n - 1 - e.scalars)) (sym (item-later e es (n - 1) le) ∙ h) in
+    cut-later base e es n (omega (arith, le, some)) ∙ cut-none base es (n - e.scalars) (omega (arith, le, some)) rest)
+    (λ lt. absurd (none_some (sym h ∙ item-here e es (n - 1) lt)))
+
+-- it and the next one are in the same item
+pub cut-inside : (base : ℕ) (es : List Ended) (n k : ℕ) → 0 < n → item_of es (n - 1) ≡ Some k → item_of es n ≡ Some k → cut_behind base es n ≡ None
+cut-inside base [] n k some h g = refl
+cut-inside base (e ∷ es) n k some h g =
+    by_le e.scalars (n - 1)
+    (λ le.
+    let less : n - 1 - e.scalars ≡ n - e.scalars - 1 = omega arith in
+    let one = map_some (item_of es (n - 1 - e.scalars)) k (sym (item-later e es (n - 1) le) ∙ h) in
+    let two = map_some (item_of es (n - e.scalars)) k (sym (item-later e es n (omega (arith, le))) ∙ g) in
+    let same : two.0 ≡ one.0 = omega (arith, one.2, two.2) in
+    cut-later base e es n (omega (arith, le, some))
+    ∙ cut-inside base es (n - e.scalars) one.0 (omega (arith, le, some)) (ap (item_of es) (sym less) ∙ one.1) (two.1 ∙ ap Some same))
+    (λ lt.
+    let first : k ≡ 0 = same_some (sym h ∙ item-here e es (n - 1) lt) in
+    by_le e.scalars n
+    (λ le. let two = map_some (item_of es (n - e.scalars)) k (sym (item-later e es n le) ∙ g) in absurd (omega (arith, first, two.2)))
+    (λ below. cut-within base e es n below))
+
+-- it is the last one of its item
+pub cut-behind : (base : ℕ) (es : List Ended) (n k : ℕ) (e : Ended) → 0 < n → item_of es (n - 1) ≡ Some k → (item_of es n ≡ Some k → ⊥) → slice_get es k ≡ Some e
+    → cut_behind base es n ≡ Some (record { at = ends_at base e.end; output = e.output })
+cut-behind base [] n k x some h g at = absurd (none_some h)
+cut-behind base (e ∷ es) n k x some h g at =
+    by_le e.scalars (n - 1)
+    (λ le.
+    let less : n - 1 - e.scalars ≡ n - e.scalars - 1 = omega arith in
+    let one = map_some (item_of es (n - 1 - e.scalars)) k (sym (item-later e es (n - 1) le) ∙ h) in
+    let next : item_of es (n - e.scalars) ≡ Some one.0 → ⊥ = λ same. g (item-later e es n (omega (arith, le)) ∙ ap (option_map (λ j. j + 1)) same ∙ ap Some (sym one.2)) in
+    let place : suc one.0 ≡ k = omega (arith, one.2) in
+    let there : slice_get es one.0 ≡ Some x = ap (slice_get (e ∷ es)) place ∙ at in
+    cut-later base e es n (omega (arith, le, some))
+    ∙ cut-behind base es (n - e.scalars) one.0 x (omega (arith, le, some)) (ap (item_of es) (sym less) ∙ one.1) next there)
+    (λ lt.
+    let first : k ≡ 0 = same_some (sym h ∙ item-here e es (n - 1) lt) in
+    let is : e ≡ x = same_some (ap (slice_get (e ∷ es)) (sym first) ∙ at) in
+    by_le e.scalars n
+    (λ le. cut-end base e es n (omega (arith, le, lt, some)) ∙ ap (λ (i : Ended). Some (record { at = ends_at base i.end; output = i.output })) is)
+    (λ below. absurd (g (item-here e es n below ∙ ap Some (sym first)))))
+
+-- what the code asks of two numbers of items
+same_item : (o : Option ℕ) (k : ℕ) → option_eq eqb o (Some k) ≡ true → o ≡ Some k
+same_item None k h = absurd cc
+same_item (Some j) k h = ap Some (grind (arith, nat_tests, h))
+
+other_item : (o : Option ℕ) (k : ℕ) → option_eq eqb o (Some k) ≡ false → o ≡ Some k → ⊥
+other_item None k h e = none_some e
+other_item (Some j) k h e = let same : j ≡ k = same_some e in grind (arith, nat_tests, h, same)
+
+pub is_inside : (base : ℕ) (es : List Ended) (n k : ℕ) (o : Option ℕ) (b : Bool) → 0 < n → Some k ≡ item_of es (n - 1) → o ≡ item_of es n → b ≡ option_eq eqb o (Some k) → b ≡ true → None ≡ cut_behind base es n
+is_inside base es n k o b some h next asked hit = sym (cut-inside base es n k some (sym h) (sym next ∙ same_item o k (sym asked ∙ hit)))
+
+pub is_cut : (base : ℕ) (es : List Ended) (n k : ℕ) (o : Option ℕ) (b : Bool) (e : Ended) → 0 < n → Some k ≡ item_of es (n - 1) → o ≡ item_of es n → b ≡ option_eq eqb o (Some k) → b ≡ false → Some e ≡ slice_get es k
+    → Some (record { at = ends_at base e.end; output = e.output }) ≡ cut_behind base es n
+is_cut base es n k o b e some h next asked miss there =
+    sym (cut-behind base es n k e some (sym h) (λ same. other_item o k (sym asked ∙ miss) (next ∙ same)) (sym there))
+
+has_item : (es : List Ended) (n k : ℕ) → item_of es n ≡ Some k → slice_get es k ≡ None → ⊥
+has_item [] n k h g = none_some h
+has_item (e ∷ es) n k h g =
+    by_le e.scalars n
+    (λ le.
+    let one = map_some (item_of es (n - e.scalars)) k (sym (item-later e es n le) ∙ h) in
+    let place : k ≡ suc one.0 = omega (arith, one.2) in
+    has_item es (n - e.scalars) one.0 one.1 (ap (slice_get (e ∷ es)) (sym place) ∙ g))
+    (λ lt.
+    let first : 0 ≡ k = same_some (sym (item-here e es n lt) ∙ h) in
+    none_some (sym (ap (slice_get (e ∷ es)) first ∙ g)))
+
+-- an item that has a code point is there
+pub item_there : {A : Type 0} (es : List Ended) (n k : ℕ) → Some k ≡ item_of es n → None ≡ slice_get es k → A
+item_there es n k h g = absurd (has_item es n k (sym h) (sym g))
+
+-- ---- items of a document
+
+cut_at-zero : (at : ℕ) (ps : List Placed) → cut_at at ps 0 ≡ Some at
+cut_at-zero at [] = refl
+cut_at-zero at (p ∷ ps) = refl
+
+abbrev rest_if : Placed → List Placed → ℕ → Bool → Option ℕ
+rest_if p ps n b = if b then cut_at p.to ps (n - item_width p.item) else None
+
+cut_at-some : (at : ℕ) (p : Placed) (ps : List Placed) (n : ℕ) → 0 < n → cut_at at (p ∷ ps) n ≡ rest_if p ps n (nat_le (item_width p.item) n)
+cut_at-some at p ps n some = let t : (n == 0) ≡ false = grind (arith, nat_tests) in ap (λ b. cond b (Some at) (rest_if p ps n (nat_le (item_width p.item) n))) t
+
+cut_at-later : (at : ℕ) (p : Placed) (ps : List Placed) (n : ℕ) → 0 < n → item_width p.item ≤ n → cut_at at (p ∷ ps) n ≡ cut_at p.to ps (n - item_width p.item)
+cut_at-later at p ps n some h = let t : nat_le (item_width p.item) n ≡ true = grind (arith, nat_tests) in cut_at-some at p ps n some ∙ ap (rest_if p ps n) t
+
+cut_at-inside : (at : ℕ) (p : Placed) (ps : List Placed) (n : ℕ) → 0 < n → n < item_width p.item → cut_at at (p ∷ ps) n ≡ None
+cut_at-inside at p ps n some h = let t : nat_le (item_width p.item) n ≡ false = grind (arith, nat_tests) in cut_at-some at p ps n some ∙ ap (rest_if p ps n) t
+
+-- items all of whose code points are in front
+cut_at-skip : (at : ℕ) (xs ys : List Placed) (n : ℕ) → length (code_points xs) < n → cut_at at (xs ++ ys) n ≡ cut_at (last_to at xs) ys (n - length (code_points xs))
+cut_at-skip at [] ys n h = let e : n ≡ n - 0 = omega arith in ap (cut_at at ys) e
+cut_at-skip at (p ∷ xs) ys n h =
+    let size = length-append (item_code_points p.item) (code_points xs) in
+    let less : n - item_width p.item - length (code_points xs) ≡ n - length (code_points (p ∷ xs)) = omega (arith, size) in
+    cut_at-later at p (xs ++ ys) n (omega (arith, h)) (omega (arith, size, h))
+    ∙ cut_at-skip p.to xs ys (n - item_width p.item) (omega (arith, size, h))
+    ∙ ap (cut_at (last_to p.to xs) ys) less
+
+abbrev with_output : Document → Option ℕ → Option Cut
+with_output d o = option_map (λ at. record { at = at; output = output_at d at }) o
+
+-- in a piece
+cut_at-here : (d : Document) (base at : ℕ) (ps more : List Placed) (es : List Ended) (n : ℕ) → AreEnded base ps es → HasOutputs d base es → 0 < n → n ≤ length (code_points ps)
+    → with_output d (cut_at at (ps ++ more) n) ≡ cut_behind base es n
+cut_at-here d base at [] more es n ended outputs some h = absurd (omega (arith, some, h))
+cut_at-here d base at (p ∷ ps) more [] n ended outputs some h = absurd ended
+cut_at-here d base at (p ∷ ps) more (e ∷ es) n ended outputs some h =
+    let width : e.scalars ≡ item_width p.item = ended.0.scalars in
+    let size = length-append (item_code_points p.item) (code_points ps) in
+    let output : e.output ≡ output_at d (ends_at base e.end) = All-head (λ (x : Ended). x.output ≡ output_at d (ends_at base x.end)) e es outputs in
+    let later : HasOutputs d base es = All-tail (λ (x : Ended). x.output ≡ output_at d (ends_at base x.end)) e es outputs in
+    by_le (item_width p.item) n
+    (λ le.
+    by_le n (item_width p.item)
+    (λ all.
+    let none : n - item_width p.item ≡ 0 = omega (arith, all) in
+    ap (with_output d) (cut_at-later at p (ps ++ more) n some le ∙ ap (cut_at p.to (ps ++ more)) none ∙ cut_at-zero p.to (ps ++ more))
+    ∙ ap (λ x. Some (record { at = x; output = output_at d x })) ended.0.end
+    ∙ ap (λ o. Some (record { at = ends_at base e.end; output = o })) (sym output)
+    ∙ sym (cut-end base e es n (omega (arith, width, all, le))))
+    (λ more_left.
+    ap (with_output d) (cut_at-later at p (ps ++ more) n some le)
+    ∙ cut_at-here d base p.to ps more es (n - item_width p.item) ended.1 later (omega (arith, more_left)) (omega (arith, size, h))
+    ∙ ap (λ w. cut_behind base es (n - w)) (sym width)
+    ∙ sym (cut-later base e es n (omega (arith, width, more_left)))))
+    (λ inside. ap (with_output d) (cut_at-inside at p (ps ++ more) n some inside) ∙ sym (cut-within base e es n (omega (arith, width, inside))))
+
+-- ---- what a search finds
+
+outputs_split : (d : Document) (front : List Outcome) (o : Outcome) (back : List Outcome) (base : ℕ) → HaveOutputs d base (front ++ o ∷ back) → HasOutputs d (base + (total_of front).bytes) o.items
+outputs_split d [] o back base h = let e : base ≡ base + 0 = omega arith in subst (λ b. HasOutputs d b o.items) e h.0
+outputs_split d (x ∷ front) o back base h =
+    let e : base + x.sum.bytes + (total_of front).bytes ≡ base + (x.sum.bytes + (total_of front).bytes) = omega arith in
+    subst (λ b. HasOutputs d b o.items) e (outputs_split d front o back (base + x.sum.bytes) h.1)
+
+all_scalars-text : (d : Pieced) → IsPieced d → length (text_of d.doc) ≡ (total_of (d.pieces ++ d.tail ∷ [])).scalars
+unfolding text_of
+all_scalars-text d w = made_count (d.pieces ++ d.tail ∷ []) 0 (items_of d) w.made
+
+pub cut_found : (d : Pieced) (n m : ℕ) (s : Sum) (o : Outcome) → IsPlaced d m s o → IsPieced d → m ≡ n - 1 → 0 < n → n ≤ length (text_of d.doc) → cut_behind s.bytes o.items (n - s.scalars) ≡ cut_of d.doc n
+cut_found d n m s o p w before some within =
+    let made : AreMade 0 (items_of d) (p.front ++ o ∷ p.back) = subst (AreMade 0 (items_of d)) p.split w.made in
+    let h = made_split p.front (o ∷ p.back) 0 (items_of d) made in
+    let base : 0 + (total_of p.front).bytes ≡ s.bytes = omega (arith, ap (λ (v : Sum). v.bytes) p.sum) in
+    let m_here : AreMade s.bytes h.right (o ∷ p.back) = subst (λ b. AreMade b h.right (o ∷ p.back)) base h.behind in
+    let outputs : HasOutputs d.doc s.bytes o.items = subst (λ b. HasOutputs d.doc b o.items) base (outputs_split d.doc p.front o p.back 0 (subst (HaveOutputs d.doc 0) p.split w.outputs)) in
+    let count : length (code_points h.left) ≡ s.scalars = made_count p.front 0 h.left h.before ∙ sym (ap (λ (v : Sum). v.scalars) p.sum) in
+    let here : length (code_points m_here.0) ≡ o.sum.scalars = piece_count s.bytes m_here.0 o m_here.3 in
+    let ss = ap (λ (v : Sum). v.scalars) p.sum in
+    let total = ap (λ t. (total_of t).scalars) p.split ∙ scalars-append p.front (o ∷ p.back) in
+    let enough : n ≤ s.scalars + o.sum.scalars = elim p.high [
+      | inl e ↦ let none : (total_of p.back).scalars ≡ 0 = ap (λ t. (total_of t).scalars) e in omega (arith, none, ss, total, all_scalars-text d w, within)
+      | inr g ↦ omega (arith, g, before, some)
+    ] in
+    let low : s.scalars < n = omega (arith, p.low, before, some) in
+    let items : items_of d ≡ h.left ++ (m_here.0 ++ m_here.1) = h.split ∙ ap (λ t. h.left ++ t) m_here.2 in
+    let bom = (decoded d.doc).bom in
+    sym (
+    ap (λ t. with_output d.doc (cut_at bom t n)) items
+    ∙ ap (with_output d.doc) (cut_at-skip bom h.left (m_here.0 ++ m_here.1) n (omega (arith, count, low)))
+    ∙ ap (λ k. with_output d.doc (cut_at (last_to bom h.left) (m_here.0 ++ m_here.1) (n - k))) count
+    ∙ cut_at-here d.doc s.bytes (last_to bom h.left) m_here.0 m_here.1 o.items (n - s.scalars) m_here.3.items outputs (omega (arith, low)) (omega (arith, here, enough, low))
+    )
+
+-- ---- a cut lies within the bytes
+
+cut-fits : (total : ℕ) (es : List Turned) (from at n x : ℕ) → at ≤ total → cut_at at (places total from es) n ≡ Some x → x ≤ total
+cut-fits total [] from at n x low h =
+    by_test (n == 0)
+    (λ t. let same : at ≡ x = same_some (sym (ap (λ b. cond b (Some at) None) t) ∙ h) in omega (arith, same, low))
+    (λ t. absurd (none_some (sym (ap (λ b. cond b (Some at) None) t) ∙ h)))
+cut-fits total (e ∷ es) from at n x low h =
+    let p : Placed = record { item = e.item; from = from; to = total - e.back } in
+    let rest = places total (total - e.back) es in
+    by_le 1 n
+    (λ some.
+    by_le (item_width e.item) n
+    (λ le. cut-fits total es (total - e.back) (total - e.back) (n - item_width e.item) x (omega arith) (sym (cut_at-later at p rest n some le) ∙ h))
+    (λ lt. absurd (none_some (sym (cut_at-inside at p rest n some lt) ∙ h))))
+    (λ none.
+    let first : 0 ≡ n = omega (arith, none) in
+    let same : at ≡ x = same_some (sym (cut_at-zero at (p ∷ rest)) ∙ ap (cut_at at (p ∷ rest)) first ∙ h) in
+    omega (arith, same, low))
+
+place-fits : (d : Document) (n x : ℕ) → (decoded d).bom ≤ length d.bytes → cut d n ≡ Some x → x ≤ length d.bytes
+unfolding decode
+place-fits d n x low = cut-fits (length d.bytes) (run_in d.indexes (in_force d.given d.bytes) (drop (mark_length d.bytes) d.bytes)) (mark_length d.bytes) (mark_length d.bytes) n x low
+
+some-of : (d : Document) (o : Option ℕ) (c : Cut) → with_output d o ≡ Some c → (o ≡ Some c.at) × (output_at d c.at ≡ c.output)
+some-of d (Some at) c e =
+    let same : record { at = at; output = output_at d at } ≡ c = cc in
+    let there : at ≡ c.at = ap (λ (c : Cut). c.at) same in
+    (ap Some there, ap (output_at d) (sym there) ∙ ap (λ (c : Cut). c.output) same)
+some-of d None c e = absurd (none_some e)
+
+pub cut_some : (d : Document) (n : ℕ) (c : Cut) → Some c ≡ cut_of d n → (cut d n ≡ Some c.at) × (output_at d c.at ≡ c.output)
+cut_some d n c e = some-of d (cut d n) c (sym e)
+
+none-of : (d : Document) (o : Option ℕ) → with_output d o ≡ None → o ≡ None
+none-of d None e = refl
+none-of d (Some a) e = absurd (none_some (sym e))
+
+pub cut_none : (d : Document) (n : ℕ) → None ≡ cut_of d n → cut d n ≡ None
+cut_none d n e = none-of d (cut d n) (sym e)
+
+pub cut_fits : (d : Document) (n : ℕ) (c : Cut) → (decoded d).bom ≤ length d.bytes → Some c ≡ cut_of d n → c.at ≤ length d.bytes
+cut_fits d n c low e = place-fits d n c.at low (cut_some d n c e).0
+
+-- before the first code point
+pub first_is : (d : Document) → output_at d (decoded d).bom ≡ Ascii → Some (record { at = (decoded d).bom; output = Ascii }) ≡ cut_of d 0
+first_is d e =
+    ap (λ o. Some (record { at = (decoded d).bom; output = o })) (sym e) ∙ sym (ap (with_output d) (cut_at-zero (decoded d).bom (decoded d).items))

@@ -1,0 +1,164 @@
+-- Plans by their parts.
+use Rattle.std.proofs.Common.{◌≡◌, ◌≢◌, refl, sym, ap, subst, ◌∙◌, ℕ, ◌-◌, Bool, true, false, List, [], ◌++◌, length, ◌||◌, Option, Some, None, Result, Ok, Err, if◌then◌else◌}
+use Rattle.std.specs.Prelude.{Vec}
+use Rattle.std.specs.declared.alloc.Global.{Global}
+use Rattle.enc_names.specs.declared.encoding.Encoding.{Encoding}
+use Rattle.enc_names.specs.declared.encoding.Encoding.TheVariants.{Utf8, Ibm866, Iso8859_2, Iso8859_3, Iso8859_4, Iso8859_5, Iso8859_6, Iso8859_7, Iso8859_8, Iso8859_8I, Iso8859_10, Iso8859_13, Iso8859_14, Iso8859_15, Iso8859_16, Koi8R, Koi8U, Macintosh, Windows874, Windows1250, Windows1251, Windows1252, Windows1253, Windows1254, Windows1255, Windows1256, Windows1257, Windows1258, XMacCyrillic, Gbk, Gb18030, Big5, EucJp, Iso2022Jp, ShiftJis, EucKr, Replacement, Utf16Be, Utf16Le, XUserDefined}
+use Rattle.index_loader.specs.Files.{Files, has_files}
+use Rattle.iso2022jp.specs.declared.fault.Unencodable.{Unencodable as NoBytes}
+use Rattle.iso2022jp.specs.declared.fault.FromFault.{FromFault}
+use Rattle.iso2022jp.specs.declared.fault.FromFault.TheVariants.{Unencodable as unencodable_from, OutOfMemory as no_memory_from}
+use Rattle.encoders.specs.declared.fault.EncodeFault.{EncodeFault}
+use Rattle.encoders.specs.declared.fault.EncodeFault.TheVariants.{NoIndex, NoEncoder, Unencodable as unencodable, OutOfMemory as no_memory}
+use Rattle.encoders.specs.declared.mode.EncodeMode.TheVariants.{Fatal}
+use Rattle.encoders.specs.Encode.{encoded, encoded_in, bytes_only, from_fault, IsEncoded}
+use Rattle.encoders.specs.Steps.{Put, escape_of, IsFrom}
+use Rattle.state_memo.specs.Decoding.{OutputState}
+use Rattle.piece_rope.specs.Document.{Document, decoded, text_of}
+use Rattle.piece_rope.specs.Outputs.{output_at}
+use Rattle.position_map.specs.declared.change_fault.ChangeFault.{ChangeFault}
+use Rattle.position_map.specs.declared.change_fault.ChangeFault.TheVariants.{OutOfRange, SplitsItem}
+use Rattle.position_map.specs.declared.fault.PosFault.{PosFault}
+use Rattle.position_map.specs.declared.fault.PosFault.TheVariants.{OutOfRange as past_the_end, SplitsCharacter as inside_a_character}
+use Rattle.position_map.specs.declared.plan.Plan.{Plan}
+use Rattle.position_map.specs.declared.position.Range.{Range}
+use Rattle.position_map.specs.declared.unit.Unit.{Unit as TextUnit}
+use Rattle.position_map.specs.declared.item_cuts.Cut.{Cut}
+use Rattle.position_map.specs.ItemCuts.{cut_of}
+use Rattle.position_map.specs.Positions.{offset_of}
+use Rattle.position_map.specs.Plan.{cut, put_in, planned, over_range, with_ends, is_behind, position_cause, replacing, between_cuts, splice_with, encoder_cause, IsPlanned, with_return, same_output, begins_with_escape}
+use Rattle.position_map.proofs.ItemCutting.{cut_some, cut_none}
+
+-- the other encodings keep no state
+in_other : (d : Document) (encoding : Encoding) (s r : OutputState) (right : ℕ) (text : List ℕ) → encoding ≢ Iso2022Jp → put_in d encoding s r right text ≡ encoded_in d.indexes encoding false text
+in_other d Utf8 s r right text other = refl
+in_other d Ibm866 s r right text other = refl
+in_other d Iso8859_2 s r right text other = refl
+in_other d Iso8859_3 s r right text other = refl
+in_other d Iso8859_4 s r right text other = refl
+in_other d Iso8859_5 s r right text other = refl
+in_other d Iso8859_6 s r right text other = refl
+in_other d Iso8859_7 s r right text other = refl
+in_other d Iso8859_8 s r right text other = refl
+in_other d Iso8859_8I s r right text other = refl
+in_other d Iso8859_10 s r right text other = refl
+in_other d Iso8859_13 s r right text other = refl
+in_other d Iso8859_14 s r right text other = refl
+in_other d Iso8859_15 s r right text other = refl
+in_other d Iso8859_16 s r right text other = refl
+in_other d Koi8R s r right text other = refl
+in_other d Koi8U s r right text other = refl
+in_other d Macintosh s r right text other = refl
+in_other d Windows874 s r right text other = refl
+in_other d Windows1250 s r right text other = refl
+in_other d Windows1251 s r right text other = refl
+in_other d Windows1252 s r right text other = refl
+in_other d Windows1253 s r right text other = refl
+in_other d Windows1254 s r right text other = refl
+in_other d Windows1255 s r right text other = refl
+in_other d Windows1256 s r right text other = refl
+in_other d Windows1257 s r right text other = refl
+in_other d Windows1258 s r right text other = refl
+in_other d XMacCyrillic s r right text other = refl
+in_other d Gbk s r right text other = refl
+in_other d Gb18030 s r right text other = refl
+in_other d Big5 s r right text other = refl
+in_other d EucJp s r right text other = refl
+in_other d Iso2022Jp s r right text other = absurd (other refl)
+in_other d ShiftJis s r right text other = refl
+in_other d EucKr s r right text other = refl
+in_other d Replacement s r right text other = refl
+in_other d Utf16Be s r right text other = refl
+in_other d Utf16Le s r right text other = refl
+in_other d XUserDefined s r right text other = refl
+
+module _ (d : Document) (i j : ℕ) (text : List ℕ) where
+  pub left_none : None ≡ cut_of d i → replacing d text i j ≡ Err SplitsItem
+  unfolding replacing
+  left_none e = ap (λ (o : Option ℕ). between_cuts d text i j o (cut d j)) (cut_none d i e)
+
+  pub right_none : (l : Cut) → Some l ≡ cut_of d i → None ≡ cut_of d j → replacing d text i j ≡ Err SplitsItem
+  unfolding replacing
+  right_none l e f =
+      ap (λ (o : Option ℕ). between_cuts d text i j o (cut d j)) (cut_some d i l e).0
+      ∙ ap (λ (o : Option ℕ). between_cuts d text i j (Some l.at) o) (cut_none d j f)
+
+  pub both : (l r : Cut) → Some l ≡ cut_of d i → Some r ≡ cut_of d j
+      → replacing d text i j ≡ splice_with l.at r.at i j (put_in d (decoded d).encoding l.output r.output r.at text)
+  unfolding replacing
+  both l r e f =
+      let left = cut_some d i l e in
+      let right = cut_some d j r f in
+      ap (λ (o : Option ℕ). between_cuts d text i j o (cut d j)) left.0
+      ∙ ap (λ (o : Option ℕ). between_cuts d text i j (Some l.at) o) right.0
+      ∙ ap (λ (s : OutputState). splice_with l.at r.at i j (put_in d (decoded d).encoding s (output_at d r.at) r.at text)) left.1
+      ∙ ap (λ (s : OutputState). splice_with l.at r.at i j (put_in d (decoded d).encoding l.output s r.at text)) right.1
+
+-- the encoder's cause is the plan's
+pub refused : (l r i j : ℕ) (wanted : Result (List ℕ) EncodeFault) (fault : EncodeFault) → IsEncoded wanted (Err fault) → IsPlanned (splice_with l r i j wanted) (Err (encoder_cause fault))
+refused l r i j wanted NoIndex h = ap (splice_with l r i j) h
+refused l r i j wanted NoEncoder h = ap (splice_with l r i j) h
+refused l r i j wanted (unencodable e) h = ap (splice_with l r i j) h
+refused l r i j wanted no_memory h = tt
+
+-- with the escape behind the text
+pub refused_iso : (r : OutputState) (rest : List ℕ) (wanted : Result (Put OutputState) NoBytes) (fault : FromFault) → IsFrom wanted (Err fault)
+    → IsEncoded (bytes_only (with_return r rest wanted)) (Err (from_fault fault))
+refused_iso r rest wanted (unencodable_from e) h = ap (λ (w : Result (Put OutputState) NoBytes). bytes_only (with_return r rest w)) h
+refused_iso r rest wanted no_memory_from h = tt
+
+pub put_iso : (s r : OutputState) (bytes rest : List ℕ) (wanted : Result (Put OutputState) NoBytes) (same escape : Bool)
+    → wanted ≡ Ok (record { bytes = bytes; state = s }) → same ≡ same_output s r → escape ≡ begins_with_escape rest
+    → bytes_only (with_return r rest wanted) ≡ Ok (bytes ++ (if same || escape then [] else escape_of r))
+put_iso s r bytes rest wanted same escape h e f =
+    ap (λ (w : Result (Put OutputState) NoBytes). bytes_only (with_return r rest w)) h
+    ∙ ap (λ (t : Bool). Ok (bytes ++ (if t || begins_with_escape rest then [] else escape_of r))) (sym e)
+    ∙ ap (λ (t : Bool). Ok (bytes ++ (if same || t then [] else escape_of r))) (sym f)
+
+-- where the files are there
+as_encoded : (files : Files) (encoding : Encoding) (cs : List ℕ) → has_files files encoding ≡ true → encoded files encoding Fatal cs ≡ encoded_in files encoding false cs
+unfolding encoded
+as_encoded files encoding cs there = rw there refl
+
+pub other_put : (d : Document) (files : Files) (encoding : Encoding) (s r : OutputState) (right : ℕ) (text : List ℕ) (result : Result (Vec ℕ Global) EncodeFault)
+    → files ≡ d.indexes → encoding ≡ (decoded d).encoding → has_files d.indexes (decoded d).encoding ≡ true → encoding ≢ Iso2022Jp
+    → IsEncoded (encoded files encoding Fatal text) result → IsEncoded (put_in d (decoded d).encoding s r right text) result
+other_put d files encoding s r right text result same in_force there other h =
+    subst (λ (e : Encoding). IsEncoded (put_in d e s r right text) result) in_force
+    (subst (λ (w : Result (List ℕ) EncodeFault). IsEncoded w result)
+    (ap (λ (f : Files). encoded f encoding Fatal text) same ∙ as_encoded d.indexes encoding text (ap (has_files d.indexes) in_force ∙ there) ∙ sym (in_other d encoding s r right text other))
+    h)
+
+-- ---- the ends of a range
+
+pub refused_end : (wanted : Result Plan ChangeFault) (fault : PosFault) → wanted ≡ Err (position_cause fault) → IsPlanned wanted (Err (position_cause fault))
+refused_end wanted past_the_end h = h
+refused_end wanted inside_a_character h = h
+
+module _ (d : Document) (range : Option Range) (u : TextUnit) (text : List ℕ) where
+  pub whole_text : range ≡ None → planned d range u text ≡ replacing d text 0 (length (text_of d))
+  unfolding planned
+  whole_text e = ap (over_range d u text) e
+
+  module _ (r : Range) (is : range ≡ Some r) where
+    abbrev ends : Result ℕ PosFault → Result ℕ PosFault → Result Plan ChangeFault
+    ends i j = with_ends (replacing d text) i j
+
+    pub behind : is_behind r.start r.end ≡ true → planned d range u text ≡ Err OutOfRange
+    unfolding planned
+    behind e = ap (over_range d u text) is ∙ ap (λ (b : Bool). if b then Err OutOfRange else ends (offset_of (text_of d) u r.start) (offset_of (text_of d) u r.end)) e
+
+    by_ends : is_behind r.start r.end ≡ false → planned d range u text ≡ ends (offset_of (text_of d) u r.start) (offset_of (text_of d) u r.end)
+    unfolding planned
+    by_ends e = ap (over_range d u text) is ∙ ap (λ (b : Bool). if b then Err OutOfRange else ends (offset_of (text_of d) u r.start) (offset_of (text_of d) u r.end)) e
+
+    pub start_refused : (fault : PosFault) → is_behind r.start r.end ≡ false → Err fault ≡ offset_of (text_of d) u r.start → planned d range u text ≡ Err (position_cause fault)
+    start_refused fault e f = by_ends e ∙ ap (λ (i : Result ℕ PosFault). ends i (offset_of (text_of d) u r.end)) (sym f)
+
+    pub end_refused : (i : ℕ) (fault : PosFault) → is_behind r.start r.end ≡ false → Ok i ≡ offset_of (text_of d) u r.start → Err fault ≡ offset_of (text_of d) u r.end → planned d range u text ≡ Err (position_cause fault)
+    end_refused i fault e f g =
+        by_ends e ∙ ap (λ (i : Result ℕ PosFault). ends i (offset_of (text_of d) u r.end)) (sym f) ∙ ap (ends (Ok i)) (sym g)
+
+    pub over_ends : (i j : ℕ) → is_behind r.start r.end ≡ false → Ok i ≡ offset_of (text_of d) u r.start → Ok j ≡ offset_of (text_of d) u r.end → planned d range u text ≡ replacing d text i j
+    over_ends i j e f g =
+        by_ends e ∙ ap (λ (i : Result ℕ PosFault). ends i (offset_of (text_of d) u r.end)) (sym f) ∙ ap (ends (Ok i)) (sym g)

@@ -1,0 +1,121 @@
+-- Changes of a range of the text, planned as splices of the bytes (docs/PROTOCOL.md).
+use Rattle.std.specs.Prelude.{◌≡◌, ⊤, ℕ, ◌+◌, ◌-◌, ◌≤◌, ◌==◌, eqb, nat_le, nat_lt, Bool, true, false, ◌||◌, ◌&&◌, List, [], ◌∷◌, ◌++◌, length, drop, Option, Some, None, Result, Ok, Err, if◌then◌else◌}
+use Rattle.std.specs.List.{starts_with}
+use Rattle.enc_names.specs.declared.encoding.Encoding.{Encoding}
+use Rattle.enc_names.specs.declared.encoding.Encoding.TheVariants.{Iso2022Jp}
+use Rattle.iso2022jp.specs.declared.fault.Unencodable.{Unencodable as NoBytes}
+use Rattle.encoders.specs.declared.fault.EncodeFault.{EncodeFault}
+use Rattle.encoders.specs.declared.fault.EncodeFault.TheVariants.{Unencodable as unencodable, OutOfMemory as no_memory}
+use Rattle.encoders.specs.Encode.{encoded_in, bytes_only}
+use Rattle.encoders.specs.Steps.{Put, encoded_iso, escape_of}
+use Rattle.state_memo.specs.Decoding.{OutputState, Ascii, Roman, Katakana, Jis0208, Item, Placed, item_code_points}
+use Rattle.piece_rope.specs.Document.{Document, decoded, text_of}
+use Rattle.piece_rope.specs.Outputs.{output_at}
+use Rattle.position_map.specs.declared.change_fault.ChangeFault.{ChangeFault}
+use Rattle.position_map.specs.declared.change_fault.ChangeFault.TheVariants.{OutOfRange, SplitsCharacter, SplitsItem, NoEncoder, Unencodable, OutOfMemory}
+use Rattle.position_map.specs.declared.fault.PosFault.{PosFault}
+use Rattle.position_map.specs.declared.fault.PosFault.TheVariants.{OutOfRange as past_the_end, SplitsCharacter as inside_a_character}
+use Rattle.position_map.specs.declared.plan.Plan.{Plan}
+use Rattle.position_map.specs.declared.position.Position.{Position}
+use Rattle.position_map.specs.declared.position.Range.{Range}
+use Rattle.position_map.specs.declared.unit.Unit.{Unit as TextUnit}
+use Rattle.position_map.specs.Positions.{offset_of}
+
+-- how many code points an item has
+abbrev pub item_width : Item → ℕ
+item_width item = length (item_code_points item)
+
+-- The byte at which the bytes are cut before code point number `n` of the items: the end of the item of the code point before it, and before the
+-- first one the byte given; none where that is inside an item of two code points.
+abbrev pub cut_at : ℕ → List Placed → ℕ → Option ℕ
+cut_at at [] n = if n == 0 then Some at else None
+cut_at at (p ∷ ps) n =
+    if n == 0 then Some at
+    else (if nat_le (item_width p.item) n then cut_at p.to ps (n - item_width p.item) else None)
+
+-- before the first code point of a document it is the end of the byte order mark
+abbrev pub cut : Document → ℕ → Option ℕ
+cut d n = cut_at (decoded d).bom (decoded d).items n
+
+-- whether the bytes begin with an escape that ISO-2022-JP has
+abbrev pub begins_with_escape : List ℕ → Bool
+begins_with_escape bytes =
+    starts_with eqb bytes (escape_of Ascii) || (starts_with eqb bytes (escape_of Roman) || (starts_with eqb bytes (escape_of Katakana)
+    || (starts_with eqb bytes (escape_of Jis0208) || starts_with eqb bytes (0x1B ∷ 0x24 ∷ 0x40 ∷ []))))
+
+abbrev pub same_output : OutputState → OutputState → Bool
+same_output Ascii Ascii = true
+same_output Roman Roman = true
+same_output Katakana Katakana = true
+same_output Jis0208 Jis0208 = true
+same_output s r = false
+
+-- the escape that leads from state `s` back to `r`, where one is wanted: none where the bytes behind begin with an escape of their own
+abbrev pub return_to : OutputState → OutputState → List ℕ → List ℕ
+return_to s r behind = if same_output s r || begins_with_escape behind then [] else escape_of r
+
+abbrev pub with_return : OutputState → List ℕ → Result (Put OutputState) NoBytes → Result (Put OutputState) NoBytes
+with_return r behind (Ok put) = Ok (record { bytes = put.bytes ++ return_to put.state r behind; state = put.state })
+with_return r behind (Err e) = Err e
+
+-- The bytes of a text to be put in, in the encoding in force, in error mode "fatal". In ISO-2022-JP the encoder starts in the output state `s` of the
+-- left end, its step for the end of the queue is left out, and the state leads back to that of the right end, `r`.
+abbrev pub put_in : Document → Encoding → OutputState → OutputState → ℕ → List ℕ → Result (List ℕ) EncodeFault
+put_in d Iso2022Jp s r right text = bytes_only (with_return r (drop right d.bytes) (encoded_iso d.indexes s text false false))
+put_in d encoding s r right text = encoded_in d.indexes encoding false text
+
+-- the encoder's causes; that an index file isn't there is none of them, since a document's are
+abbrev pub encoder_cause : EncodeFault → ChangeFault
+encoder_cause (unencodable e) = Unencodable e
+encoder_cause no_memory = OutOfMemory
+encoder_cause fault = NoEncoder
+
+abbrev pub splice_with : ℕ → ℕ → ℕ → ℕ → Result (List ℕ) EncodeFault → Result Plan ChangeFault
+splice_with left right i j (Ok ins) = Ok (record { at = left; del = right - left; ins = ins; i = i; j = j })
+splice_with left right i j (Err fault) = Err (encoder_cause fault)
+
+abbrev pub between_cuts : Document → List ℕ → ℕ → ℕ → Option ℕ → Option ℕ → Result Plan ChangeFault
+between_cuts d text i j (Some left) (Some right) =
+    splice_with left right i j (put_in d (decoded d).encoding (output_at d left) (output_at d right) right text)
+between_cuts d text i j left right = Err SplitsItem
+
+-- the code points from `i` to `j` replaced by a text
+unfoldable pub replacing : Document → List ℕ → ℕ → ℕ → Result Plan ChangeFault
+replacing d text i j = between_cuts d text i j (cut d i) (cut d j)
+
+-- whether a position is behind another, by line and then by character, as they are given
+abbrev pub is_behind : Position → Position → Bool
+is_behind p q = nat_lt q.line p.line || ((p.line == q.line) && nat_lt q.character p.character)
+
+abbrev pub position_cause : PosFault → ChangeFault
+position_cause past_the_end = OutOfRange
+position_cause inside_a_character = SplitsCharacter
+
+-- with the offsets of both ends, or the first cause that refuses one
+abbrev pub with_ends : (ℕ → ℕ → Result Plan ChangeFault) → Result ℕ PosFault → Result ℕ PosFault → Result Plan ChangeFault
+with_ends plan (Ok i) (Ok j) = plan i j
+with_ends plan (Ok i) (Err fault) = Err (position_cause fault)
+with_ends plan (Err fault) j = Err (position_cause fault)
+
+-- without a range the whole text is replaced
+abbrev pub over_range : Document → TextUnit → List ℕ → Option Range → Result Plan ChangeFault
+over_range d unit text None = replacing d text 0 (length (text_of d))
+over_range d unit text (Some range) =
+    if is_behind range.start range.end then Err OutOfRange
+    else with_ends (replacing d text) (offset_of (text_of d) unit range.start) (offset_of (text_of d) unit range.end)
+
+-- the splice that replaces a range of the text by another text, or the first cause that refuses it
+unfoldable pub planned : Document → Option Range → TextUnit → List ℕ → Result Plan ChangeFault
+planned d range unit text = over_range d unit text range
+
+-- an answer: the plan, the first cause, or want of memory in place of any
+abbrev pub IsPlanned : Result Plan ChangeFault → Result Plan ChangeFault → Type 0
+IsPlanned wanted (Ok plan) = wanted ≡ Ok plan
+IsPlanned wanted (Err OutOfMemory) = ⊤
+IsPlanned wanted (Err fault) = wanted ≡ Err fault
+
+-- what the splice takes out is there, and so is the range
+pub record Fits (d : Document) (p : Plan) : Type 0 where
+  pub bytes : p.at + p.del ≤ length d.bytes
+  pub order : p.i ≤ p.j
+  pub within : p.j ≤ length (text_of d)
