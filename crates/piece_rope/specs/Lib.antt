@@ -1,4 +1,5 @@
 pub mod Chain
+pub mod Compare
 pub mod Decode
 pub mod Document
 pub mod Edit
@@ -9,6 +10,7 @@ pub mod Errors
 pub mod Examples
 pub mod Kept
 pub mod Made
+pub mod Parts
 pub mod Resync
 pub mod Sizes
 pub mod Window
