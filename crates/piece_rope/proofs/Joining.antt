@@ -128,3 +128,9 @@ whole-marks ps o c none =
     let all = joined (sums ps) o.sum in
     let few = sums-few ps c.short in
     omega (arith, all.few_marks, all.few_scalars, few.utf8, c.few, none, o.bounded.utf8)
+
+pub whole-few : (ps : List Entry) (o : Outcome) → CanJoin ps → o.sum.bytes ≡ 0 → (joined (sums ps) o.sum).scalars < 2 ^ 63
+whole-few ps o c none =
+    let all = joined (sums ps) o.sum in
+    let few = sums-few ps c.short in
+    omega (arith, all.few_scalars, few.utf8, c.few, none, o.bounded.utf8)

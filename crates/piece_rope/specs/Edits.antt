@@ -1,9 +1,10 @@
 -- Edits of a document, and what refuses them.
-use Rattle.std.specs.Prelude.{◌≡◌, ℕ, ◌+◌, ◌&&◌, nat_le, List, ◌++◌, length, take, drop, Option, Some, None, Result, Ok, Err, if◌then◌else◌}
+use Rattle.std.specs.Prelude.{◌≡◌, ℕ, ◌+◌, ◌&&◌, nat_le, Bool, true, false, List, ◌++◌, length, take, drop, Option, Some, None, Result, Ok, Err, if◌then◌else◌}
+use Rattle.std.specs.Str.{bytes_eq}
 use Rattle.enc_names.specs.declared.encoding.Encoding.{Encoding}
 use Rattle.index_loader.specs.Files.{Files}
 use Rattle.piece_rope.specs.declared.fault.DocFault.{DocFault}
-use Rattle.piece_rope.specs.declared.fault.DocFault.TheVariants.{NoIndex, OutOfRange, TooLarge, OutOfMemory}
+use Rattle.piece_rope.specs.declared.fault.DocFault.TheVariants.{NoIndex, OutOfRange, TooLarge, NotKept, OutOfMemory}
 use Rattle.state_memo.specs.Decoding.{is_decoded}
 use Rattle.piece_rope.specs.Document.{Document, text_of, errors_of}
 
@@ -44,9 +45,34 @@ abbrev pub named : DocFault → Option DocFault
 named NoIndex = Some NoIndex
 named OutOfRange = Some OutOfRange
 named TooLarge = Some TooLarge
+named NotKept = Some NotKept
 named OutOfMemory = None
 
 -- a call's answer names the cause that refuses it, and where there is none it is no refusal, or want of memory
 abbrev pub Faults : {A : Type 0} → Option DocFault → Result A DocFault → Type 0
 Faults fault (Ok x) = fault ≡ None
 Faults fault (Err e) = fault ≡ named e
+
+-- a text with its code points from i to j replaced
+abbrev pub replaced : List ℕ → ℕ → ℕ → List ℕ → List ℕ
+replaced text i j put = take i text ++ put ++ drop j text
+
+-- decoded from scratch, the bytes of the splice give the old text with its code points from i to j replaced
+abbrev pub is_kept : Document → ℕ → ℕ → List ℕ → ℕ → ℕ → List ℕ → Bool
+is_kept d at del ins i j put = bytes_eq (text_of (spliced_document d at del ins)) (replaced (text_of d) i j put)
+
+abbrev pub first_of : Option DocFault → Option DocFault → Option DocFault
+first_of (Some fault) other = Some fault
+first_of None other = other
+
+-- the cause that refuses a kept splice before its text is looked at
+abbrev pub kept_fault : Document → ℕ → ℕ → List ℕ → ℕ → ℕ → Option DocFault
+kept_fault d at del ins i j = first_of (text_fault d i j) (splice_fault d.bytes at del ins)
+
+-- A kept splice's answer names the cause that refuses it. Where there is none it is no refusal where the text is kept, and `NotKept` where it
+-- isn't; want of memory may stand in place of these two.
+abbrev pub KeptAnswers : {A : Type 0} → Option DocFault → Bool → Result A DocFault → Type 0
+KeptAnswers fault kept (Ok x) = (fault ≡ None) × (kept ≡ true)
+KeptAnswers fault kept (Err NotKept) = (fault ≡ None) × (kept ≡ false)
+KeptAnswers fault kept (Err OutOfMemory) = fault ≡ None
+KeptAnswers fault kept (Err cause) = fault ≡ Some cause

@@ -1,4 +1,5 @@
 pub mod Chain
+pub mod Compare
 pub mod Decode
 pub mod Document
 pub mod Edit
@@ -10,6 +11,7 @@ pub mod Examples
 pub mod Kept
 pub mod Made
 pub mod Outputs
+pub mod Parts
 pub mod Resync
 pub mod Sizes
 pub mod Window

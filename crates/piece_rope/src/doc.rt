@@ -9,6 +9,8 @@ ghost use Rattle.piece_rope.specs.Made.{AreMade, IsMade, body_of, tail_of};
 ghost use Rattle.piece_rope.specs.Outputs.{HasOutputs, HaveOutputs, output_at};
 ghost use Rattle.piece_rope.specs.Sizes.{AreSized, AreCounted, shortest};
 
+mod kept;
+
 use crate::bytes::push_bytes;
 use crate::edit::{Edit, prepare};
 use crate::entered::Entered;

@@ -1,6 +1,7 @@
 //! Pieces with the states in which they are entered.
-ghost use Rattle.std.specs.Prelude.{◌≡◌, ◌+◌, ◌-◌, ◌^◌, ◌≤◌, min, length, IfOk, OnOk, Some};
-ghost use Rattle.state_memo.specs.Decoding.{feed, any};
+ghost use Rattle.std.specs.Prelude.{◌≡◌, ◌+◌, ◌-◌, ◌^◌, ◌≤◌, true, min, length, IfOk, OnOk, Some};
+ghost use Rattle.state_memo.specs.Decoding.{feed, any, AnyState};
+ghost use Rattle.state_memo.specs.Memo.{same_state};
 ghost use Rattle.piece_rope.specs.Chain.{IsOwn, renew};
 ghost use Rattle.piece_rope.specs.Entry.{here_of};
 
@@ -124,6 +125,20 @@ impl Entered {
         match self.piece.peek(self.entry) {
             Some(outcome) => outcome,
             None => unreachable!(),
+        }
+    }
+
+    /// What the piece decodes to once it is renewed.
+    pub(crate) fn here_renewed<'a>(&'a self, renewal: &'a Renewal) -> &'a Outcome
+        requires { (s : AnyState) → same_state s s ≡ true }
+        ensures { result.now ≡ here_of (renew self.now renewal.now) }
+    {
+        if let Some(outcome) = &renewal.outcome {
+            return outcome;
+        }
+        match self.piece.peek(renewal.entry) {
+            Some(outcome) => outcome,
+            None => self.here(),
         }
     }
 

@@ -11,6 +11,8 @@ pub enum DocFault {
     OutOfRange,
     /// The document would have more than 2,097,152 bytes.
     TooLarge,
+    /// The new text wouldn't be the old text with the range replaced.
+    NotKept,
     /// A growth of memory was refused.
     OutOfMemory,
 }

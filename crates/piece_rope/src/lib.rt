@@ -4,8 +4,10 @@
 #![tactic(auto)]
 
 mod bytes;
+mod compare;
 mod doc;
 mod edit;
+mod edited;
 mod entered;
 mod errors;
 #[cfg(test)]
@@ -17,7 +19,9 @@ mod later;
 mod lengths;
 mod limits;
 mod pieces;
+mod rest;
 mod scalars;
+mod span;
 #[cfg(test)]
 mod tests;
 mod text;

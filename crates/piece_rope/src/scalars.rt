@@ -1,6 +1,16 @@
 //! Places in a text, counted in code points.
-ghost use Rattle.std.specs.Prelude.{◌≡◌, ◌+◌, ◌-◌, ◌≤◌, ◌&&◌, nat_le, length, take, drop, Some, None, IfSome, is_some, if◌then◌else◌};
+ghost use Rattle.std.specs.Prelude.{◌≡◌, ◌+◌, ◌-◌, ◌^◌, ◌<◌, ◌≤◌, ◌&&◌, nat_le, length, take, drop, Some, None, IfSome, is_some, if◌then◌else◌};
 ghost use Rattle.std.specs.Str.{chars, continuation_len, encode_utf8_all};
+
+/// The number of code points of the text.
+pub(crate) fn scalar_count(text: &str) -> u64
+    ensures count { result ≡ length (chars text.now) }
+    ensures few { result < 2 ^ 63 }
+{
+    // As a slice the text has fewer than 2^63 bytes.
+    let _bytes = text.as_bytes();
+    text.chars().count() as u64
+}
 
 /// The number of bytes of the character that begins with this byte.
 fn width(lead: u8) -> usize

@@ -1,0 +1,84 @@
+-- Bytes found in a text that lies in pieces.
+use Rattle.std.specs.Option.{IfNone}
+use Rattle.std.proofs.lemmas.Bool.Decides.{nat_tests, Decides-eqb}
+use Rattle.std.proofs.Common.{◌==◌, true, false, subst}
+use Rattle.std.proofs.Math.Seq.{take-length}
+use Rattle.std.proofs.lemmas.List.{length-drop}
+use Rattle.std.proofs.Common.{◌≡◌, Option, Some, None, ◌-◌, ℕ, ◌+◌, ◌≤◌, ◌<◌, min, List, [], ◌∷◌, ◌++◌, length, take, drop, refl, sym, ap, ◌∙◌, arith, append_assoc, append-nil, length-append}
+use Rattle.std.proofs.lemmas.List.{append_cancel_left, take-append-drop, take-append-le, nil_from_length}
+use Rattle.piece_rope.specs.Compare.{IsMatch}
+
+-- what was found so far stands before what is left of the part, and before what is left of the text
+pub record Found (part left : List ℕ) (text rest : List ℕ) : Type 0 where
+  pub eaten : List ℕ
+  pub part_is : part ≡ eaten ++ left
+  pub text_is : text ≡ eaten ++ rest
+
+pub unmatched : (part left text head behind : List ℕ) → Found part left text (head ++ behind) → ((x y : List ℕ) → head ++ x ≡ left ++ y → ⊥)
+    → (rest : List ℕ) → text ≡ part ++ rest → ⊥
+unmatched part left text head behind f none rest e =
+    none behind rest (append_cancel_left f.eaten (head ++ behind) (left ++ rest)
+    (sym f.text_is ∙ e ∙ ap (λ (xs : List ℕ). xs ++ rest) f.part_is ∙ append_assoc f.eaten left rest))
+
+-- the matched bytes are found too
+pub found-more : (part left text head behind : List ℕ) (n : ℕ) → Found part left text (head ++ behind) → IsMatch head left n
+    → Found part (drop n left) text (drop n head ++ behind)
+found-more part left text head behind n f m = record {
+  eaten = f.eaten ++ take n left;
+  part_is = f.part_is ∙ ap (λ (xs : List ℕ). f.eaten ++ xs) (sym (take-append-drop n left)) ∙ sym (append_assoc f.eaten (take n left) (drop n left));
+  text_is = f.text_is
+      ∙ ap (λ (xs : List ℕ). f.eaten ++ (xs ++ behind)) (sym (take-append-drop n head))
+      ∙ ap (λ (xs : List ℕ). f.eaten ++ ((xs ++ drop n head) ++ behind)) m.same
+      ∙ ap (λ (xs : List ℕ). f.eaten ++ xs) (append_assoc (take n left) (drop n head) behind)
+      ∙ sym (append_assoc f.eaten (take n left) (drop n head ++ behind));
+}
+
+-- nothing of the part is left
+pub found-all : (part left text rest : List ℕ) → Found part left text rest → left ≡ [] → text ≡ part ++ rest
+found-all part left text rest f none =
+    f.text_is ∙ ap (λ (xs : List ℕ). xs ++ rest) (sym (f.part_is ∙ ap (λ (xs : List ℕ). f.eaten ++ xs) none ∙ append-nil f.eaten))
+
+-- nothing of the text is left, but some of the part is
+pub found-short : (part left text : List ℕ) → Found part left text [] → 0 < length left → (rest : List ℕ) → text ≡ part ++ rest → ⊥
+found-short part left text f some rest e =
+    let t : length text ≡ length f.eaten = ap length f.text_is ∙ ap length (append-nil f.eaten) in
+    let p : length part ≡ length f.eaten + length left = ap length f.part_is ∙ length-append f.eaten left in
+    let w : length text ≡ length part + length rest = ap length e ∙ length-append part rest in
+    omega arith
+
+both-take : (head left x y : List ℕ) (n : ℕ) → n ≤ length head → n ≤ length left → head ++ x ≡ left ++ y → take n head ≡ take n left
+both-take head left x y n h l e = sym (take-append-le n head x h) ∙ ap (take n) e ∙ take-append-le n left y l
+
+pub no-match : (head left : List ℕ) (n : ℕ) → n ≡ min (length head) (length left) → (take n head ≡ take n left → ⊥)
+    → (x y : List ℕ) → head ++ x ≡ left ++ y → ⊥
+no-match head left n c differ x y e = differ (both-take head left x y n (omega (arith, c)) (omega (arith, c)) e)
+
+-- a slice from n on, as code takes it
+slice-is : (n : ℕ) (xs : List ℕ) → take (length xs - n) (drop n xs) ≡ drop n xs
+slice-is n xs = rw (← length-drop n xs) (take-length (drop n xs))
+
+pub more-sliced : (part left text head behind : List ℕ) (n : ℕ) → Found part left text (head ++ behind) → IsMatch head left n
+    → Found part (take (length left - n) (drop n left)) text (take (length head - n) (drop n head) ++ behind)
+more-sliced part left text head behind n f m = rw (slice-is n left, slice-is n head) (found-more part left text head behind n f m)
+
+-- the head is used up where some of the part is left
+pub head-gone : (head left : List ℕ) (n : ℕ) → IsMatch head left n → 0 < length (take (length left - n) (drop n left)) → take (length head - n) (drop n head) ≡ []
+head-gone head left n m some =
+    let l : 0 < length left - n = rw (slice-is n left, length-drop n left) at some in
+    let c = m.count in
+    let gone : length (drop n head) ≡ 0 = length-drop n head ∙ (omega (arith, c, l)) in
+    slice-is n head ∙ nil_from_length (drop n head) gone
+
+pub if_none : {A : Type 0} (P : Type 0) (r : Option A) → P → IfNone r P
+if_none P None p = p
+if_none P (Some x) p = tt
+
+pub positive : (n : ℕ) → (n == 0) ≡ false → 0 < n
+positive n e = grind (arith, nat_tests)
+
+pub none-left : (xs : List ℕ) → (length xs == 0) ≡ true → xs ≡ []
+none-left xs e = nil_from_length xs ((Decides-eqb (length xs) 0).0 e)
+
+pub next-found : (part left text head behind more : List ℕ) → Found part left text (head ++ behind) → head ≡ [] → behind ≡ more → Found part left text more
+next-found part left text head behind more f gone same =
+    subst (λ (x : List ℕ). Found part left text x) (ap (λ (h : List ℕ). h ++ behind) gone ∙ same) f

@@ -1,0 +1,217 @@
+-- The parts of a document, one by one.
+use Rattle.std.proofs.Common.{◌≡◌, refl, sym, ap, ◌∙◌, ℕ, zero, suc, ◌+◌, ◌<◌, ◌≤◌, List, [], ◌∷◌, ◌++◌, map, take, drop, length, slice_get, Option, Some, None, arith, append_assoc, length-append, length-drop, take-append-drop, append-nil, add-one}
+use Rattle.std.proofs.lemmas.Grind.{flat_map-append}
+use Rattle.std.proofs.lemmas.List.{length-take-le, drop-drop}
+use Rattle.std.proofs.lemmas.Option.{slice_get_past}
+use Rattle.std.specs.Str.{encode_utf8_all, chars, IsUtf8}
+use Rattle.std.proofs.lemmas.Str.{encodes-append, encodes-chars}
+use Rattle.state_memo.specs.declared.outcome.Outcome.{Outcome}
+use Rattle.piece_rope.specs.declared.edit.Edit.{Edit}
+use Rattle.piece_rope.specs.declared.entered.Renewal.{Renewal}
+use Rattle.piece_rope.specs.Chain.{renew, renewed}
+use Rattle.piece_rope.specs.Compare.{rest_of}
+use Rattle.piece_rope.specs.Edit.{edited}
+use Rattle.piece_rope.specs.Entry.{Entry, here_of, texts_of}
+use Rattle.piece_rope.specs.Parts.{parts_of, text_in, edited_parts, later_parts, made_pieces, IsPrepared}
+use Rattle.piece_rope.proofs.Chaining.{renewed-whole, take-next}
+use Rattle.piece_rope.proofs.Joining.{renewed-length}
+use Rattle.piece_rope.proofs.Texts.{texts-append}
+use Rattle.piece_rope.proofs.Reading.{drop-next}
+
+take-all : {X : Type 0} (xs : List X) (n : ℕ) → length xs ≤ n → take n xs ≡ xs
+take-all [] zero l = refl
+take-all [] (suc n) l = refl
+take-all (x ∷ xs) zero l = absurd (omega (arith, l))
+take-all (x ∷ xs) (suc n) l = ap (λ (ys : List _). x ∷ ys) (take-all xs n (omega (arith, l)))
+
+pub got : {X : Type 0} (xs : List X) (n : ℕ) → n < length xs → (x : X) × (slice_get xs n ≡ Some x)
+got [] n l = absurd (omega (arith, l))
+got (x ∷ xs) zero l = (x, refl)
+got (x ∷ xs) (suc n) l = got xs n (omega (arith, l))
+
+pub parts-length : (ps : List Entry) (tail : Outcome) → length (parts_of ps tail) ≡ suc (length ps)
+parts-length [] tail = refl
+parts-length (p ∷ ps) tail = ap suc (parts-length ps tail)
+
+pub parts-get : (ps : List Entry) (tail : Outcome) (n : ℕ) (p : Entry) → slice_get ps n ≡ Some p → slice_get (parts_of ps tail) n ≡ Some (here_of p)
+parts-get [] tail zero p at = absurd cc
+parts-get [] tail (suc n) p at = absurd cc
+parts-get (q ∷ ps) tail zero p at = let e : q ≡ p = cc in ap (λ (x : Entry). Some (here_of x)) e
+parts-get (q ∷ ps) tail (suc n) p at = parts-get ps tail n p at
+
+pub parts-behind : (xs ys : List Entry) (tail : Outcome) (n : ℕ) → slice_get (parts_of (xs ++ ys) tail) (length xs + n) ≡ slice_get (parts_of ys tail) n
+parts-behind [] ys tail n = let e : 0 + n ≡ n = omega arith in ap (λ (k : ℕ). slice_get (parts_of ys tail) k) e
+parts-behind (x ∷ xs) ys tail n =
+    let e : suc (length xs) + n ≡ suc (length xs + n) = omega arith in
+    ap (λ (k : ℕ). slice_get (parts_of ((x ∷ xs) ++ ys) tail) k) e ∙ parts-behind xs ys tail n
+
+pub parts-front : (xs ys : List Entry) (tail : Outcome) (n : ℕ) (p : Entry) → slice_get xs n ≡ Some p → slice_get (parts_of (xs ++ ys) tail) n ≡ Some (here_of p)
+parts-front [] ys tail zero p at = absurd cc
+parts-front [] ys tail (suc n) p at = absurd cc
+parts-front (x ∷ xs) ys tail zero p at = let e : x ≡ p = cc in ap (λ (y : Entry). Some (here_of y)) e
+parts-front (x ∷ xs) ys tail (suc n) p at = parts-front xs ys tail n p at
+
+-- the parts behind the first k pieces
+pub parts-from : (ps : List Entry) (tail : Outcome) (k n : ℕ) → k ≤ length ps → slice_get (parts_of (drop k ps) tail) n ≡ slice_get (parts_of ps tail) (k + n)
+parts-from ps tail k n l =
+    sym (parts-behind (take k ps) (drop k ps) tail n)
+    ∙ ap (λ (i : ℕ). slice_get (parts_of (take k ps ++ drop k ps) tail) (i + n)) (length-take-le k ps l)
+    ∙ ap (λ (xs : List Entry). slice_get (parts_of xs tail) (k + n)) (take-append-drop k ps)
+
+pub renewed-get : (xs : List Entry) (rs : List Renewal) (n : ℕ) (p : Entry) (r : Renewal) → slice_get xs n ≡ Some p → slice_get rs n ≡ Some r
+    → slice_get (renewed xs rs) n ≡ Some (renew p r)
+renewed-get [] rs zero p r at too = absurd cc
+renewed-get [] rs (suc n) p r at too = absurd cc
+renewed-get (x ∷ xs) [] zero p r at too = absurd cc
+renewed-get (x ∷ xs) [] (suc n) p r at too = absurd cc
+renewed-get (x ∷ xs) (q ∷ rs) zero p r at too =
+    let e : x ≡ p = cc in
+    let f : q ≡ r = cc in
+    ap (λ (y : Entry). Some (renew y q)) e ∙ ap (λ (s : Renewal). Some (renew p s)) f
+renewed-get (x ∷ xs) (q ∷ rs) (suc n) p r at too = renewed-get xs rs n p r at too
+
+-- behind the pieces that are renewed nothing changes
+pub renewed-past : (xs : List Entry) (rs : List Renewal) (tail : Outcome) (n : ℕ) → length rs ≤ n → length rs ≤ length xs
+    → slice_get (parts_of (renewed xs rs) tail) n ≡ slice_get (parts_of xs tail) n
+renewed-past [] [] tail n l w = refl
+renewed-past (x ∷ xs) [] tail n l w = refl
+renewed-past [] (r ∷ rs) tail n l w = absurd (omega (arith, w))
+renewed-past (x ∷ xs) (r ∷ rs) tail zero l w = absurd (omega (arith, l))
+renewed-past (x ∷ xs) (r ∷ rs) tail (suc n) l w = renewed-past xs rs tail n (omega (arith, l)) (omega (arith, w))
+
+module _ (ps : List Entry) (e : Edit) (fits : IsPrepared ps e) where
+  first-length : length (take e.first ps) ≡ e.first
+  first-length = length-take-le e.first ps (omega (arith, fits.order, fits.within))
+
+  -- a piece that is made anew
+  pub made-part : (n m : ℕ) (p : Entry) → n ≡ e.first + m → slice_get e.fresh.items m ≡ Some p → slice_get (edited_parts ps e) n ≡ Some (here_of p)
+  made-part n m p n_is at =
+      let same : n ≡ length (take e.first ps) + m = omega (arith, n_is, first-length) in
+      ap (λ (k : ℕ). slice_get (edited_parts ps e) k) same
+      ∙ parts-behind (take e.first ps) (e.fresh.items ++ renewed (drop e.last ps) e.renewals.items) e.tail m
+      ∙ parts-front e.fresh.items (renewed (drop e.last ps) e.renewals.items) e.tail m p at
+
+  -- a part behind these
+  pub part-later : (n m : ℕ) → n ≡ e.first + (length e.fresh.items + m) → slice_get (edited_parts ps e) n ≡ slice_get (later_parts ps e) m
+  part-later n m n_is =
+      let same : n ≡ length (take e.first ps) + (length e.fresh.items + m) = omega (arith, n_is, first-length) in
+      ap (λ (k : ℕ). slice_get (edited_parts ps e) k) same
+      ∙ parts-behind (take e.first ps) (e.fresh.items ++ renewed (drop e.last ps) e.renewals.items) e.tail (length e.fresh.items + m)
+      ∙ parts-behind e.fresh.items (renewed (drop e.last ps) e.renewals.items) e.tail m
+
+  later-length : length (later_parts ps e) ≡ suc (length (drop e.last ps))
+  later-length =
+      parts-length (renewed (drop e.last ps) e.renewals.items) e.tail
+      ∙ ap suc (renewed-length (drop e.last ps) e.renewals.items (omega (arith, fits.within, length-drop e.last ps)))
+
+  pub none-later : (n : ℕ) → length (drop e.last ps) < n → slice_get (later_parts ps e) n ≡ None
+  none-later n past = slice_get_past (later_parts ps e) n (omega (arith, past, later-length))
+
+  pub renewed-part : (n : ℕ) (p : Entry) (r : Renewal) → slice_get (drop e.last ps) n ≡ Some p → slice_get e.renewals.items n ≡ Some r
+      → slice_get (later_parts ps e) n ≡ Some (here_of (renew p r))
+  renewed-part n p r at too =
+      parts-get (renewed (drop e.last ps) e.renewals.items) e.tail n (renew p r) (renewed-get (drop e.last ps) e.renewals.items n p r at too)
+
+  pub same-part : (n : ℕ) → length e.renewals.items ≤ n → slice_get (later_parts ps e) n ≡ slice_get (parts_of ps e.tail) (e.last + n)
+  same-part n past =
+      renewed-past (drop e.last ps) e.renewals.items e.tail n past (omega (arith, fits.within, length-drop e.last ps))
+      ∙ parts-from ps e.tail e.last n (omega (arith, fits.within))
+
+  -- what an edit leaves are the pieces before those that it touches, those made anew, and those behind
+  pub edited-is : edited ps e ≡ take e.first ps ++ (made_pieces ps e ++ drop (e.last + length e.renewals.items) ps)
+  edited-is =
+      let later = drop e.last ps in
+      let count = length e.renewals.items in
+      ap (λ (xs : List Entry). take e.first ps ++ (e.fresh.items ++ xs)) (renewed-whole later e.renewals.items count refl (omega (arith, fits.within, length-drop e.last ps)))
+      ∙ ap (λ (xs : List Entry). take e.first ps ++ xs) (sym (append_assoc e.fresh.items (renewed (take count later) e.renewals.items) (drop count later)))
+      ∙ ap (λ (xs : List Entry). take e.first ps ++ (made_pieces ps e ++ xs)) (drop-drop count e.last ps)
+
+  pub made-length : length (made_pieces ps e) ≡ length e.fresh.items + length e.renewals.items
+  made-length =
+      let count = length e.renewals.items in
+      let own : length (take count (drop e.last ps)) ≡ count = length-take-le count (drop e.last ps) (omega (arith, fits.within, length-drop e.last ps)) in
+      omega (arith, length-append e.fresh.items (renewed (take count (drop e.last ps)) e.renewals.items), renewed-length (take count (drop e.last ps)) e.renewals.items (omega (arith, own)), own)
+
+  edited-length : length (edited ps e) ≡ e.first + (length (made_pieces ps e) + length (drop (e.last + length e.renewals.items) ps))
+  edited-length =
+      let behind = drop (e.last + length e.renewals.items) ps in
+      omega (arith, ap length edited-is, length-append (take e.first ps) (made_pieces ps e ++ behind), length-append (made_pieces ps e) behind, first-length)
+
+  pub few-made : e.first + (length e.fresh.items + length e.renewals.items) ≤ 4294967296
+  few-made = omega (arith, edited-length, made-length, fits.few)
+
+  -- a piece of those made anew is a part of what the edit leaves
+  pub made-at : (m : ℕ) (p : Entry) → slice_get (made_pieces ps e) m ≡ Some p → slice_get (edited_parts ps e) (e.first + m) ≡ Some (here_of p)
+  made-at m p at =
+      let behind = drop (e.last + length e.renewals.items) ps in
+      let same : e.first + m ≡ length (take e.first ps) + m = omega (arith, first-length) in
+      ap (λ (k : ℕ). slice_get (edited_parts ps e) k) same
+      ∙ ap (λ (xs : List Entry). slice_get (parts_of xs e.tail) (length (take e.first ps) + m)) edited-is
+      ∙ parts-behind (take e.first ps) (made_pieces ps e ++ behind) e.tail m
+      ∙ parts-front (made_pieces ps e) behind e.tail m p at
+
+  pub made-there : (m : ℕ) → m < length e.fresh.items + length e.renewals.items → (p : Entry) × (slice_get (made_pieces ps e) m ≡ Some p)
+  made-there m l = got (made_pieces ps e) m (omega (arith, l, made-length))
+
+-- the text of parts
+pub text-append : (xs ys : List Outcome) → text_in (xs ++ ys) ≡ text_in xs ++ text_in ys
+text-append xs ys = flat_map-append (λ (o : Outcome). o.text) xs ys
+
+pub parts-text : (ps : List Entry) (tail : Outcome) → text_in (parts_of ps tail) ≡ texts_of ps ++ tail.text
+parts-text [] tail = append-nil tail.text
+parts-text (p ∷ ps) tail = ap (λ (cs : List ℕ). (here_of p).text ++ cs) (parts-text ps tail) ∙ sym (append_assoc (here_of p).text (texts_of ps) tail.text)
+
+-- the text from part number n on, where there is one
+pub text-next : (os : List Outcome) (n : ℕ) (o : Outcome) → slice_get os n ≡ Some o → text_in (drop n os) ≡ o.text ++ text_in (drop (suc n) os)
+text-next os n o at = ap text_in (drop-next os n o at)
+
+drop-past : {X : Type 0} (os : List X) (n : ℕ) → slice_get os n ≡ None → drop n os ≡ []
+drop-past [] zero at = refl
+drop-past [] (suc n) at = refl
+drop-past (o ∷ os) zero at = absurd cc
+drop-past (o ∷ os) (suc n) at = drop-past os n at
+
+-- and where there is none
+pub text-past : (os : List Outcome) (n : ℕ) → slice_get os n ≡ None → text_in (drop n os) ≡ []
+text-past os n at = ap text_in (drop-past os n at)
+
+-- one more piece, counted in code points
+pub texts-next : (ps : List Entry) (n : ℕ) (p : Entry) (o : Outcome) → slice_get ps n ≡ Some p → o ≡ here_of p → length (texts_of (take (n + 1) ps)) ≡ length (texts_of (take n ps)) + o.sum.scalars
+texts-next ps n p o at o_is =
+    let next : texts_of (take (suc n) ps) ≡ texts_of (take n ps) ++ ((here_of p).text ++ []) = ap texts_of (take-next ps n p at) ∙ texts-append (take n ps) (p ∷ []) in
+    omega (
+      arith,
+      ap (λ (k : ℕ). length (texts_of (take k ps))) (add-one n),
+      ap length next,
+      length-append (texts_of (take n ps)) ((here_of p).text ++ []),
+      length-append (here_of p).text [],
+      (here_of p).summed.scalars,
+      ap (λ (x : Outcome). x.sum.scalars) o_is,
+    )
+
+pub texts-most : (ps : List Entry) (n : ℕ) → length (texts_of (take n ps)) ≤ length (texts_of ps)
+texts-most ps n = omega (arith, ap (λ (xs : List Entry). length (texts_of xs)) (take-append-drop n ps), ap length (texts-append (take n ps) (drop n ps)), length-append (texts_of (take n ps)) (texts_of (drop n ps)))
+
+pub texts-all : (ps : List Entry) (n : ℕ) → length ps ≤ n → length (texts_of (take n ps)) ≡ length (texts_of ps)
+texts-all ps n l = ap (λ (xs : List Entry). length (texts_of xs)) (take-all ps n l)
+
+-- where the next of the pieces made anew isn't counted any more
+pub counted-off : (ps : List Entry) (n left most : ℕ) (p : Entry) (o : Outcome) → slice_get ps n ≡ Some p → o ≡ here_of p → left + length (texts_of (take n ps)) ≡ most
+    → (o.sum.scalars ≤ left → ⊥) → most < length (texts_of ps)
+counted-off ps n left most p o at o_is so_far over = omega (arith, texts-next ps n p o at o_is, texts-most ps (n + 1), so_far, over)
+
+-- the bytes of the text from part number n on
+pub bytes-next-part : (os : List Outcome) (n : ℕ) (o : Outcome) (bytes : List ℕ) → slice_get os n ≡ Some o → IsUtf8 bytes → chars bytes ≡ o.text
+    → encode_utf8_all (text_in (drop n os)) ≡ bytes ++ encode_utf8_all (text_in (drop (n + 1) os))
+bytes-next-part os n o bytes at utf8 own =
+    ap encode_utf8_all (text-next os n o at)
+    ∙ encodes-append o.text (text_in (drop (suc n) os))
+    ∙ ap (λ (cs : List ℕ). encode_utf8_all cs ++ encode_utf8_all (text_in (drop (suc n) os))) (sym own)
+    ∙ ap (λ (bs : List ℕ). bs ++ encode_utf8_all (text_in (drop (suc n) os))) (encodes-chars bytes utf8)
+    ∙ ap (λ (k : ℕ). bytes ++ encode_utf8_all (text_in (drop k os))) (sym (add-one n))
+
+pub bytes-past : (os : List Outcome) (n : ℕ) → slice_get os n ≡ None → encode_utf8_all (text_in (drop n os)) ≡ []
+bytes-past os n at = ap encode_utf8_all (text-past os n at)
+
+pub few-parts : (ps : List Entry) (e : Edit) → IsPrepared ps e → length (edited_parts ps e) ≤ 4294967297
+few-parts ps e fits = omega (arith, parts-length (edited ps e) e.tail, fits.few)

@@ -1,0 +1,69 @@
+use Rattle.std.proofs.Common.{rules, ◌≡◌, ◌+◌, ◌-◌, ◌≤◌, ◌<◌, ℕ, List, length, take, drop, ap, sym, ◌∙◌, arith, Decides, length-append}
+use Rattle.std.proofs.lemmas.Bool.Decides.{Decides-eqb}
+use Rattle.state_memo.specs.declared.sum.Sum.{Sum}
+use Rattle.piece_rope.specs.Entry.{texts_of}
+use Rattle.piece_rope.specs.Parts.{made_pieces}
+use Rattle.piece_rope.proofs.Spanning.{edited-count}
+use Rattle.piece_rope.proofs.Parting.{texts-most}
+use Rattle.piece_rope.proofs.Texts.{sums-scalars, texts-split}
+use Rattle.piece_rope.proofs.compare.has_scalars.Goals as goal
+
+pub overflow_add-changed : goal.overflow_add-changed
+overflow_add-changed c =
+    let renewals : c.len.result ≡ length c.args.edited.edit.now.renewals.items = search rules in
+    let fits = c.args.edited.prepared in
+    omega (arith, renewals, fits.within, fits.few_old)
+
+pub overflow_sub-behind : goal.overflow_sub-behind
+overflow_sub-behind c =
+    let ps = c.args.edited.pieces.now.items in
+    let n = c.args.edited.edit.now.last + c.len.result in
+    omega (arith, ap (λ (s : Sum). s.scalars) c.total.ensures, sums-scalars ps, c.scalars_in.ensures, texts-most ps n)
+
+pub returns-in_default : goal.returns-in_default
+returns-in_default c =
+    let count = edited-count c.args.edited.pieces.now.items c.args.edited.edit.now c.args.edited.prepared in
+    ((λ no. absurd cc), (λ same. absurd (c.in_default.ensures (omega (arith, same, count, c.scalars_in-before.ensures)))))
+
+pub returns-in_default-checked_sub : goal.returns-in_default-checked_sub
+returns-in_default-checked_sub c =
+    let ps = c.args.edited.pieces.now.items in
+    let e = c.args.edited.edit.now in
+    let renewals : c.len.result ≡ length e.renewals.items = search rules in
+    let count = edited-count ps e c.args.edited.prepared in
+    let n = e.last + length e.renewals.items in
+    let all : c.total.result.scalars ≡ length (texts_of ps) = ap (λ (s : Sum). s.scalars) c.total.ensures ∙ sums-scalars ps in
+    let own : c.scalars_in.result ≡ length (texts_of (take n ps)) = c.scalars_in.ensures ∙ ap (λ (k : ℕ). length (texts_of (take (e.last + k) ps))) renewals in
+    ((λ no. absurd cc),
+    (λ same. absurd (c.in_default-checked_sub.ensures
+    (omega (arith, same, count, c.scalars_in-before.ensures, c.in-Some.ensures.1, all, own, ap length (texts-split ps n), length-append (texts_of (take n ps)) (texts_of (drop n ps)))))))
+
+pub returns-in-Some-made_counted : goal.returns-in-Some-made_counted
+returns-in-Some-made_counted c =
+    let ps = c.args.edited.pieces.now.items in
+    let e = c.args.edited.edit.now in
+    let renewals : c.len.result ≡ length e.renewals.items = search rules in
+    let count = edited-count ps e c.args.edited.prepared in
+    let n = e.last + length e.renewals.items in
+    let all : c.total.result.scalars ≡ length (texts_of ps) = ap (λ (s : Sum). s.scalars) c.total.ensures ∙ sums-scalars ps in
+    let own : c.scalars_in.result ≡ length (texts_of (take n ps)) = c.scalars_in.ensures ∙ ap (λ (k : ℕ). length (texts_of (take (e.last + k) ps))) renewals in
+    let split : length (texts_of ps) ≡ length (texts_of (take n ps)) + length (texts_of (drop n ps)) = ap length (texts-split ps n) ∙ length-append (texts_of (take n ps)) (texts_of (drop n ps)) in
+    let end = e.tail.summed.scalars in
+    let known = c.in-Some-made_counted.ensures.some in
+    let eq = Decides-eqb c.in-Some-made_counted.left e.tail.sum.scalars in
+    ((λ yes. omega (arith, eq.0 yes, count, c.scalars_in-before.ensures, c.in-Some.ensures.0, c.in-Some.ensures.1, c.in-Some-checked_sub.ensures.0, c.in-Some-checked_sub.ensures.1, all, own, split, end, known)),
+    (λ same. eq.1 (omega (arith, same, count, c.scalars_in-before.ensures, c.in-Some.ensures.0, c.in-Some.ensures.1, c.in-Some-checked_sub.ensures.0, c.in-Some-checked_sub.ensures.1, all, own, split, end, known))))
+
+pub returns-in-None : goal.returns-in-None
+returns-in-None c =
+    let ps = c.args.edited.pieces.now.items in
+    let e = c.args.edited.edit.now in
+    let renewals : c.len.result ≡ length e.renewals.items = search rules in
+    let count = edited-count ps e c.args.edited.prepared in
+    let n = e.last + length e.renewals.items in
+    let all : c.total.result.scalars ≡ length (texts_of ps) = ap (λ (s : Sum). s.scalars) c.total.ensures ∙ sums-scalars ps in
+    let own : c.scalars_in.result ≡ length (texts_of (take n ps)) = c.scalars_in.ensures ∙ ap (λ (k : ℕ). length (texts_of (take (e.last + k) ps))) renewals in
+    let split : length (texts_of ps) ≡ length (texts_of (take n ps)) + length (texts_of (drop n ps)) = ap length (texts-split ps n) ∙ length-append (texts_of (take n ps)) (texts_of (drop n ps)) in
+    let known = c.in-None.ensures.none in
+    ((λ no. absurd cc),
+    (λ same. absurd (omega (arith, same, count, c.scalars_in-before.ensures, c.in-Some.ensures.0, c.in-Some.ensures.1, c.in-Some-checked_sub.ensures.0, c.in-Some-checked_sub.ensures.1, all, own, split, known))))

@@ -1,0 +1,10 @@
+use Rattle.std.proofs.Common.{◌-◌, ◌+◌, ◌≤◌, ◌≡◌, length, take}
+use Rattle.piece_rope.specs.Entry.{texts_of}
+use Rattle.piece_rope.specs.Parts.{made_pieces}
+use Rattle.piece_rope.proofs.compare.made_counted.Given as goal
+
+abbrev pub invariant-pieces : goal.invariant-pieces
+invariant-pieces l = l.left + length (texts_of (take l.place (made_pieces l.fn.edited.pieces.now.items l.fn.edited.edit.now))) ≡ l.fn.most
+
+abbrev pub decreases-pieces : goal.decreases-pieces
+decreases-pieces l = l.end - l.place

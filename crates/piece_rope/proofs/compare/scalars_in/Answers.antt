@@ -1,0 +1,7 @@
+use Rattle.std.proofs.Common.{rules, ◌≡◌, ap, ◌∙◌, take, ℕ}
+use Rattle.state_memo.specs.declared.sum.Sum.{Sum}
+use Rattle.piece_rope.proofs.Texts.{sums-scalars}
+use Rattle.piece_rope.proofs.compare.scalars_in.Goals as goal
+
+pub returns : goal.returns
+returns c = ap (λ (s : Sum). s.scalars) c.prefix.ensures.sum ∙ sums-scalars (take c.args.place c.args.edited.pieces.now.items)

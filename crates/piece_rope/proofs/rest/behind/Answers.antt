@@ -1,0 +1,56 @@
+use Rattle.std.proofs.Common.{rules, ◌≡◌, ◌≢◌, ◌+◌, ◌-◌, ◌≤◌, ◌<◌, ◌++◌, ℕ, List, [], length, take, drop, slice_get, Some, None, ap, sym, ◌∙◌, arith, append-nil}
+use Rattle.std.specs.Str.{encode_utf8_all, chars}
+use Rattle.std.proofs.lemmas.Option.{slice_get_within}
+use Rattle.state_memo.specs.declared.outcome.Outcome.{Outcome}
+use Rattle.piece_rope.specs.Compare.{rest_of}
+use Rattle.piece_rope.specs.Parts.{edited_parts, text_in}
+use Rattle.piece_rope.proofs.Matching.{unmatched, more-sliced, found-all, found-short, head-gone, if_none, none-left, positive, next-found}
+use Rattle.piece_rope.proofs.Parting.{bytes-next-part, bytes-past, few-parts}
+use Rattle.piece_rope.proofs.rest.behind.Goals as goal
+
+pub returns-in_err-here-clause-none : goal.returns-in_err-here-clause-none
+returns-in_err-here-clause-none c =
+    let parts = edited_parts c.args.edited.pieces.now.items c.args.edited.edit.now in
+    if_none _ c.from_residual.result
+    (unmatched c.args.part.now c.parts.left.now _ c.parts.head.now (encode_utf8_all (text_in (drop c.parts.next parts))) c.parts.invariant c.in_err-here.ensures.none)
+
+pub returns-then-is_empty-clause-some : goal.returns-then-is_empty-clause-some
+returns-then-is_empty-clause-some c =
+    let parts = edited_parts c.args.edited.pieces.now.items c.args.edited.edit.now in
+    found-all c.args.part.now _ _ _
+    (more-sliced c.args.part.now c.parts.left.now _ c.parts.head.now (encode_utf8_all (text_in (drop c.parts.next parts))) c.in_ok-here.here c.parts.invariant c.in_ok-here.ensures.some)
+    (none-left (take (length c.parts.left.now - c.in_ok-here.here) (drop c.in_ok-here.here c.parts.left.now)) (sym c.is_empty.ensures ∙ c.if-is_empty.true))
+
+pub returns-in_err-part-clause-none : goal.returns-in_err-part-clause-none
+returns-in_err-part-clause-none c =
+    let parts = edited_parts c.args.edited.pieces.now.items c.args.edited.edit.now in
+    let some = positive (length (take (length c.parts.left.now - c.in_ok-here.here) (drop c.in_ok-here.here c.parts.left.now))) (sym c.is_empty.ensures ∙ c.if-is_empty.false) in
+    let gone = head-gone c.parts.head.now c.parts.left.now c.in_ok-here.here c.in_ok-here.ensures.some some in
+    let none : slice_get parts c.parts.next ≡ None = sym c.in_err-part.ensures in
+    if_none _ c.from_residual-in_err-part.result
+    (found-short c.args.part.now _ _ (next-found c.args.part.now _ _ _ (encode_utf8_all (text_in (drop c.parts.next parts))) []
+    (more-sliced c.args.part.now c.parts.left.now _ c.parts.head.now (encode_utf8_all (text_in (drop c.parts.next parts))) c.in_ok-here.here c.parts.invariant c.in_ok-here.ensures.some) gone (bytes-past parts c.parts.next none)) some)
+
+pub overflow_add-next : goal.overflow_add-next
+overflow_add-next c =
+    let parts = edited_parts c.args.edited.pieces.now.items c.args.edited.edit.now in
+    let there = slice_get_within parts c.parts.next c.in_ok-part.field-0.now (sym c.in_ok-part.ensures) in
+    omega (arith, there, few-parts c.args.edited.pieces.now.items c.args.edited.edit.now c.args.edited.prepared)
+
+pub parts-smaller : goal.parts-smaller
+parts-smaller c =
+    let parts = edited_parts c.args.edited.pieces.now.items c.args.edited.edit.now in
+    let there = slice_get_within parts c.parts.next c.in_ok-part.field-0.now (sym c.in_ok-part.ensures) in
+    omega (arith, there)
+
+pub parts-preserved : goal.parts-preserved
+parts-preserved c =
+    let parts = edited_parts c.args.edited.pieces.now.items c.args.edited.edit.now in
+    let behind = encode_utf8_all (text_in (drop c.parts.next parts)) in
+    let some = positive (length (take (length c.parts.left.now - c.in_ok-here.here) (drop c.in_ok-here.here c.parts.left.now))) (sym c.is_empty.ensures ∙ c.if-is_empty.false) in
+    let gone = head-gone c.parts.head.now c.parts.left.now c.in_ok-here.here c.in_ok-here.ensures.some some in
+    let next : behind ≡ c.as_bytes-head.result.now ++ encode_utf8_all (text_in (drop (c.parts.next + 1) parts)) =
+    bytes-next-part parts c.parts.next c.in_ok-part.field-0.now c.as_str.result.now (sym c.in_ok-part.ensures) c.as_str.utf8 c.as_str.ensures
+    ∙ ap (λ (bs : List ℕ). bs ++ encode_utf8_all (text_in (drop (c.parts.next + 1) parts))) (sym c.as_bytes-head.ensures.value) in
+    next-found c.args.part.now _ _ _ behind _
+    (more-sliced c.args.part.now c.parts.left.now _ c.parts.head.now behind c.in_ok-here.here c.parts.invariant c.in_ok-here.ensures.some) gone next
