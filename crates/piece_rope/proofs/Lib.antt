@@ -13,6 +13,7 @@ pub mod Matching
 pub mod Measuring
 pub mod Metering
 pub mod Offsets
+pub mod Outputs
 pub mod Parting
 pub mod Preparing
 pub mod Reading
@@ -20,4 +21,3 @@ pub mod Remembering
 pub mod Spanning
 pub mod Taking
 pub mod Texts
-pub mod Outputs
