@@ -8,11 +8,13 @@ use Rattle.enc_names.specs.Labels.{LabelTable}
 use Rattle.index_loader.specs.Files.{Files}
 use Rattle.piece_rope.specs.declared.fault.DocFault.{DocFault}
 use Rattle.piece_rope.specs.declared.fault.DocFault.TheVariants as cause
+use Rattle.position_map.specs.declared.fault.PosFault.{PosFault}
+use Rattle.position_map.specs.declared.fault.PosFault.TheVariants as position
 use Rattle.desk.specs.Apart.{place_at}
 use Rattle.desk.specs.Changes.{is_accepted, changes}
 use Rattle.desk.specs.Commands.{Ask}
 use Rattle.desk.specs.Desk.{Office, effect, has_place}
-use Rattle.desk.specs.Documents.{Entry, reply_of, unless_fault}
+use Rattle.desk.specs.Documents.{Entry, reply_of, unless_fault, unless_position_fault}
 use Rattle.desk.specs.Effects.{Move, Stays, Puts, Goes, Effect, replied, put, of_document, with_bytes}
 use Rattle.desk.specs.Lives.{is_edit, is_close, IsLife}
 use Rattle.desk.specs.declared.fault.Fault.{Fault}
@@ -83,6 +85,12 @@ pub answered-replied : (answer : Result Reply Fault) → Decided IsOther answer 
 answered-replied (Ok reply) p = p
 answered-replied (Err OutOfMemory) p = absurd p
 answered-replied (Err fault) p = λ e. cc
+
+-- of a position's faults
+pub decided-position : {A : Type 0} (reply : A → Reply) (answer : Result A PosFault) → ((x : A) → IsOther (reply x)) → Decided IsOther (unless_position_fault reply answer)
+decided-position reply (Ok x) p = p x
+decided-position reply (Err position.OutOfRange) p = tt
+decided-position reply (Err position.SplitsCharacter) p = tt
 
 -- ---- forms of effects
 

@@ -4,7 +4,7 @@ use Rattle.std.specs.FinMap.{get}
 use Rattle.enc_names.specs.Labels.{LabelTable}
 use Rattle.index_loader.specs.Files.{Files}
 use Rattle.desk.specs.Changes.{changes, OnlyChangesChange, RefusalsChangeNothing, MemoryIsNeverWanted}
-use Rattle.desk.specs.Commands.{Ask, Asked, Opens, Closes, Splices, Reads, ReadsBytes, Encodes, ListsErrors}
+use Rattle.desk.specs.Commands.{Ask, Asked, Opens, Closes, Splices, Reads, ReadsBytes, Encodes, ListsErrors, ListsLines, FindsPosition, FindsOffset, FindsPlace, Measures}
 use Rattle.desk.specs.Desk.{Office, Outcome, Answers, IsOutcome, moved, answer_of, has_place}
 use Rattle.desk.specs.Documents.{Names}
 use Rattle.desk.specs.declared.fault.Fault.TheVariants.{OutOfMemory}
@@ -14,9 +14,14 @@ use Rattle.desk.proofs.Row.{IsRow}
 use Rattle.desk.proofs.Close as close
 use Rattle.desk.proofs.Encode as encode
 use Rattle.desk.proofs.Errors as errors
+use Rattle.desk.proofs.Lines as lines
+use Rattle.desk.proofs.Offsets as offsets
 use Rattle.desk.proofs.Open as open_
+use Rattle.desk.proofs.Places as places
+use Rattle.desk.proofs.Positions as positions
 use Rattle.desk.proofs.Source as source
 use Rattle.desk.proofs.Splice as splice
+use Rattle.desk.proofs.Lengths as lengths
 use Rattle.desk.proofs.Text as text
 
 pub row : (indexes : Files) (labels : LabelTable) (ask : Ask) → IsRow indexes labels ask
@@ -27,6 +32,11 @@ row indexes labels (Reads from to mode) = text.row indexes labels from to mode
 row indexes labels (ReadsBytes at len) = source.row indexes labels at len
 row indexes labels (Encodes from to label mode) = encode.row indexes labels from to label mode
 row indexes labels (ListsErrors from max) = errors.row indexes labels from max
+row indexes labels (ListsLines from max) = lines.row indexes labels from max
+row indexes labels (FindsPosition offset unit) = positions.row indexes labels offset unit
+row indexes labels (FindsOffset line character unit) = offsets.row indexes labels line character unit
+row indexes labels (FindsPlace unit value) = places.row indexes labels unit value
+row indexes labels Measures = lengths.row indexes labels
 
 -- ---- what changes nothing
 

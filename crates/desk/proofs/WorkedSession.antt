@@ -22,7 +22,7 @@ use Rattle.desk.specs.Documents.{Entry, Names, entry, unless, edit_reply}
 use Rattle.desk.specs.Effects.{base64_bytes, with_bytes, replied, refused, put, of_document}
 use Rattle.desk.specs.Errors.{errors_reply}
 use Rattle.desk.specs.Open.{admitted, opened, opened_as}
-use Rattle.desk.specs.Session.{a, replies_to, office_without_files, session, session_replies}
+use Rattle.desk.specs.Session.{a, replies_to, office_without_files, truncated, session, session_replies}
 use Rattle.desk.specs.Splice.{edited, splice_effect}
 use Rattle.desk.specs.Text.{text_reply}
 use Rattle.desk.specs.declared.fault.Fault.TheVariants.{NameTaken, NoIndex, TooManyDocuments, OutOfRange}
@@ -43,9 +43,6 @@ unfolding base64_on_literals
 no_bytes = refl
 
 -- ---- what is held, and what it decodes to
-
-abbrev truncated : Entry
-truncated = record { given = Utf8; bytes = 0xE2 ∷ 0x82 ∷ 0x41 ∷ []; revision = 0 }
 
 abbrev completed : Entry
 completed = record { given = Utf8; bytes = 0xE2 ∷ 0x82 ∷ 0xAC ∷ 0x41 ∷ []; revision = 1 }

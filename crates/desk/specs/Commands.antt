@@ -1,8 +1,10 @@
 -- The commands: what a client asks of the desk. Texts are lists of UTF-8 bytes.
 use Rattle.std.specs.Prelude.{ℕ, List}
+use Rattle.position_map.specs.declared.unit.Unit.{Unit as TextUnit}
 use Rattle.encoders.specs.declared.mode.EncodeMode.{EncodeMode}
 use Rattle.desk.specs.declared.command.Command.{Command}
-use Rattle.desk.specs.declared.command.Command.TheVariants.{Open, Close, Splice, Text, Source, Encode, Errors}
+use Rattle.desk.specs.declared.command.Command.TheVariants.{Open, Close, Splice, Text, Source, Encode, Errors, Lines, Position, Offset, Place, Stat}
+use Rattle.desk.specs.declared.place_unit.PlaceUnit.{PlaceUnit}
 use Rattle.desk.specs.declared.text_mode.TextMode.{TextMode}
 
 -- what is asked at the name of a document
@@ -20,6 +22,15 @@ pub data Ask : Type 0 where
   Encodes : ℕ → ℕ → List ℕ → EncodeMode → Ask
   -- from max
   ListsErrors : ℕ → ℕ → Ask
+  -- from max
+  ListsLines : ℕ → ℕ → Ask
+  -- offset unit
+  FindsPosition : ℕ → TextUnit → Ask
+  -- line character unit
+  FindsOffset : ℕ → ℕ → TextUnit → Ask
+  -- unit value
+  FindsPlace : PlaceUnit → ℕ → Ask
+  Measures : Ask
 
 -- the name of a document, and what is asked there
 pub record Asked : Type 0 where
@@ -37,3 +48,8 @@ asked (Text doc from to mode) = asked_of doc.now (Reads from to mode)
 asked (Source doc at len) = asked_of doc.now (ReadsBytes at len)
 asked (Encode doc from to label mode) = asked_of doc.now (Encodes from to label.now mode)
 asked (Errors doc from max) = asked_of doc.now (ListsErrors from max)
+asked (Lines doc from max) = asked_of doc.now (ListsLines from max)
+asked (Position doc offset unit) = asked_of doc.now (FindsPosition offset unit)
+asked (Offset doc line character unit) = asked_of doc.now (FindsOffset line character unit)
+asked (Place doc unit value) = asked_of doc.now (FindsPlace unit value)
+asked (Stat doc) = asked_of doc.now Measures

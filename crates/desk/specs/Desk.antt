@@ -4,7 +4,7 @@ use Rattle.std.specs.FinMap.{get, insert, remove, len}
 use Rattle.enc_names.specs.declared.encoding.Encoding.{Encoding}
 use Rattle.enc_names.specs.Labels.{LabelTable, lookup_in}
 use Rattle.index_loader.specs.Files.{Files}
-use Rattle.desk.specs.Commands.{Ask, Asked, Opens, Closes, Splices, Reads, ReadsBytes, Encodes, ListsErrors}
+use Rattle.desk.specs.Commands.{Ask, Asked, Opens, Closes, Splices, Reads, ReadsBytes, Encodes, ListsErrors, ListsLines, FindsPosition, FindsOffset, FindsPlace, Measures}
 use Rattle.desk.specs.Documents.{Entry, Names}
 use Rattle.desk.specs.Effects.{Move, Stays, Puts, Goes, Effect, replied, of_document, base64_bytes, with_bytes}
 use Rattle.desk.specs.Open.{opened, adopted}
@@ -14,6 +14,11 @@ use Rattle.desk.specs.Text.{text_reply}
 use Rattle.desk.specs.Source.{source_reply}
 use Rattle.desk.specs.Encode.{encode_reply_as}
 use Rattle.desk.specs.Errors.{errors_reply}
+use Rattle.desk.specs.Lines.{lines_reply}
+use Rattle.desk.specs.Positions.{position_reply}
+use Rattle.desk.specs.Offsets.{offset_reply}
+use Rattle.desk.specs.Places.{place_reply}
+use Rattle.desk.specs.Lengths.{stat_reply}
 use Rattle.desk.specs.declared.fault.Fault.{Fault}
 use Rattle.desk.specs.declared.fault.Fault.TheVariants.{OutOfMemory}
 use Rattle.desk.specs.declared.reply.Reply.{Reply}
@@ -42,6 +47,11 @@ effect indexes labels place found (Reads from to mode) = of_document found (λ h
 effect indexes labels place found (ReadsBytes at len) = of_document found (λ h. replied (source_reply h at len))
 effect indexes labels place found (Encodes from to label mode) = of_document found (λ h. replied (encode_reply_as indexes h from to (lookup_in labels label) mode))
 effect indexes labels place found (ListsErrors from max) = of_document found (λ h. replied (errors_reply indexes h from max))
+effect indexes labels place found (ListsLines from max) = of_document found (λ h. replied (lines_reply indexes h from max))
+effect indexes labels place found (FindsPosition offset unit) = of_document found (λ h. replied (position_reply indexes h offset unit))
+effect indexes labels place found (FindsOffset line character unit) = of_document found (λ h. replied (offset_reply indexes h line character unit))
+effect indexes labels place found (FindsPlace unit value) = of_document found (λ h. replied (place_reply indexes h unit value))
+effect indexes labels place found Measures = of_document found (λ h. replied (Ok (stat_reply indexes h)))
 
 -- ---- what a command answers and leaves
 

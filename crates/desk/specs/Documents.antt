@@ -8,8 +8,10 @@ use Rattle.index_loader.specs.Files.{Files}
 use Rattle.piece_rope.specs.declared.fault.DocFault.{DocFault}
 use Rattle.piece_rope.specs.declared.fault.DocFault.TheVariants as cause
 use Rattle.piece_rope.specs.Document.{Document, decoded}
+use Rattle.position_map.specs.declared.fault.PosFault.{PosFault}
+use Rattle.position_map.specs.declared.fault.PosFault.TheVariants as position
 use Rattle.desk.specs.declared.fault.Fault.{Fault}
-use Rattle.desk.specs.declared.fault.Fault.TheVariants.{NoIndex, OutOfRange, TooLarge, OutOfMemory}
+use Rattle.desk.specs.declared.fault.Fault.TheVariants.{NoIndex, OutOfRange, SplitsCharacter, TooLarge, OutOfMemory}
 use Rattle.desk.specs.declared.reply.Reply.{Reply}
 use Rattle.desk.specs.declared.reply.Reply.TheVariants.{Edited, Refused}
 
@@ -54,6 +56,16 @@ unless_fault (Some fault) answer = Err (fault_of fault)
 -- the value, unless there is a fault
 abbrev pub unless : {A : Type 0} → Option DocFault → A → Result A Fault
 unless fault x = unless_fault fault (Ok x)
+
+-- the refusal for the fault of a position, an offset or a place
+abbrev pub position_fault : PosFault → Fault
+position_fault position.OutOfRange = OutOfRange
+position_fault position.SplitsCharacter = SplitsCharacter
+
+-- the reply with what was sought, unless it has a fault
+abbrev pub unless_position_fault : {A : Type 0} → (A → Reply) → Result A PosFault → Result Reply Fault
+unless_position_fault reply (Ok x) = Ok (reply x)
+unless_position_fault reply (Err fault) = Err (position_fault fault)
 
 -- the reply to an open or an edit that left this entry
 abbrev pub edit_reply : Files → Entry → Reply

@@ -8,9 +8,14 @@ pub mod Documents
 pub mod Effects
 pub mod Encode
 pub mod Errors
+pub mod Lengths
+pub mod Lines
 pub mod Lives
+pub mod Offsets
 pub mod Open
 pub mod OpenDocuments
+pub mod Places
+pub mod Positions
 pub mod Session
 pub mod Source
 pub mod Splice

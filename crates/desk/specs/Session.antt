@@ -6,10 +6,19 @@ use Rattle.enc_names.specs.Labels.{name_labels}
 use Rattle.index_loader.specs.Files.{no_files}
 use Rattle.desk.specs.Commands.{Ask, Asked, asked_of, Opens, Closes, Splices, Reads, ListsErrors}
 use Rattle.desk.specs.Desk.{Office, answer_of}
+use Rattle.desk.specs.Documents.{Entry, entry}
 use Rattle.desk.specs.declared.fault.Fault.TheVariants.{OutOfRange}
 use Rattle.desk.specs.declared.reply.Reply.{Reply}
 use Rattle.desk.specs.declared.reply.Reply.TheVariants.{Edited, Closed, Text, Errors, Refused}
 use Rattle.desk.specs.declared.text_mode.TextMode.TheVariants.{Replacement}
+
+-- UTF-8 E2 82 41: an error of two bytes, and A
+abbrev pub truncated : Entry
+truncated = entry Utf8 (0xE2 ∷ 0x82 ∷ 0x41 ∷ []) 0
+
+-- UTF-8 a, U+1F600, CR, LF, b
+abbrev pub pair_and_cr_lf : Entry
+pair_and_cr_lf = entry Utf8 (0x61 ∷ 0xF0 ∷ 0x9F ∷ 0x98 ∷ 0x80 ∷ 0x0D ∷ 0x0A ∷ 0x62 ∷ []) 0
 
 -- the desk behind a command
 abbrev pub after : Office → Asked → Office

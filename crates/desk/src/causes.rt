@@ -1,10 +1,11 @@
 //! Refusals whose cause a layer below reports.
 ghost use Rattle.std.specs.Prelude.{◌≡◌};
-ghost use Rattle.desk.specs.Documents.{fault_of};
+ghost use Rattle.desk.specs.Documents.{fault_of, position_fault};
 ghost use Rattle.desk.specs.declared.fault.Fault.TheVariants.{OutOfMemory};
 
 use crate::fault::Fault;
 use piece_rope::DocFault;
+use position_map::PosFault;
 use std::alloc::AllocError;
 
 impl From<DocFault> for Fault {
@@ -16,6 +17,17 @@ impl From<DocFault> for Fault {
             DocFault::OutOfRange => Fault::OutOfRange,
             DocFault::TooLarge => Fault::TooLarge,
             DocFault::OutOfMemory => Fault::OutOfMemory,
+        }
+    }
+}
+
+impl From<PosFault> for Fault {
+    ghost from_gives = { λ cause fault. fault ≡ position_fault cause };
+
+    fn from(cause: PosFault) -> Fault {
+        match cause {
+            PosFault::OutOfRange => Fault::OutOfRange,
+            PosFault::SplitsCharacter => Fault::SplitsCharacter,
         }
     }
 }

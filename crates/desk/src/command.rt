@@ -1,7 +1,9 @@
 //! The commands of a client.
 
+use crate::place_unit::PlaceUnit;
 use crate::text_mode::TextMode;
 use encoders::EncodeMode;
+use position_map::Unit;
 
 /// One command. Its texts are borrowed from the line that it was parsed from.
 #[derive(Clone, Copy)]
@@ -74,5 +76,48 @@ pub enum Command<'a> {
         from: u64,
         /// The most entries wanted.
         max: u64,
+    },
+    /// Returns a page of a document's lines.
+    Lines {
+        /// The document's name.
+        doc: &'a str,
+        /// The number of the first line wanted, counted from 0.
+        from: u64,
+        /// The most lines wanted.
+        max: u64,
+    },
+    /// Returns the position of an offset (LSP 3.17, "Position").
+    Position {
+        /// The document's name.
+        doc: &'a str,
+        /// How many code points stand before the offset.
+        offset: u64,
+        /// What the position's character is counted in.
+        unit: Unit,
+    },
+    /// Returns the offset of a position (LSP 3.17, "Position").
+    Offset {
+        /// The document's name.
+        doc: &'a str,
+        /// The line's number, counted from 0.
+        line: u64,
+        /// The units between the line's start and the position.
+        character: u64,
+        /// What the character is counted in.
+        unit: Unit,
+    },
+    /// Returns an offset in all units, and the place of the code point there.
+    Place {
+        /// The document's name.
+        doc: &'a str,
+        /// What the value counts.
+        unit: PlaceUnit,
+        /// How much of it stands before the offset.
+        value: u64,
+    },
+    /// Returns how long a document and its text are.
+    Stat {
+        /// The document's name.
+        doc: &'a str,
     },
 }

@@ -13,15 +13,21 @@ use crate::reply::Reply;
 use decoder_core::OutOfMemory;
 use enc_names::{Encoding, Labels};
 use index_loader::Indexes;
+use position_map::Position;
 use std::alloc::Global;
 use std::marker::Model;
 
 mod close;
 mod encode;
 mod errors;
+mod lines;
+mod offset;
 mod open;
+mod place;
+mod position;
 mod source;
 mod splice;
+mod stat;
 mod text;
 
 /// Named documents, beside the labels and the index files by which they are opened. Contracts
@@ -123,6 +129,16 @@ impl<'i> Desk<'i> {
                 mode,
             } => self.encode(doc, from, to, label, mode),
             Command::Errors { doc, from, max } => self.errors(doc, from, max),
+            Command::Lines { doc, from, max } => self.lines(doc, from, max),
+            Command::Position { doc, offset, unit } => self.position(doc, offset, unit),
+            Command::Offset {
+                doc,
+                line,
+                character,
+                unit,
+            } => self.offset(doc, Position { line, character }, unit),
+            Command::Place { doc, unit, value } => self.place(doc, unit, value),
+            Command::Stat { doc } => self.stat(doc),
         }
     }
 }

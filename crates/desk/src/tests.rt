@@ -11,6 +11,10 @@ use std::alloc::Global;
 use std::process::Abort;
 use std::test::Fail;
 
+mod examples;
+mod positions;
+mod visited;
+
 /// A document opens with a truncated sequence in it, which a splice then completes.
 fn truncated_sequence_is_completed()
     ensures { replies_to office_without_files session ≡ session_replies }

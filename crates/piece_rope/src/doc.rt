@@ -188,6 +188,13 @@ impl<'i> Doc<'i> {
         nth_error(&self.pieces, &self.tail, self.bom_len(), 0)
     }
 
+    /// The encoding given at the open.
+    pub fn given(&self) -> Encoding
+        ensures { result ≡ self.now.given }
+    {
+        self.given
+    }
+
     /// The encoding in force: that of the byte order mark, or else the one given.
     #[tactic(auto, unfolding(crate::specs::Decode::decode))]
     pub fn encoding(&self) -> Encoding

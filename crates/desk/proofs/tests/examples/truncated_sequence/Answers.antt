@@ -1,0 +1,11 @@
+use Rattle.desk.proofs.WorkedPositions.{inside_worked, end_worked, past_worked}
+use Rattle.desk.proofs.tests.examples.truncated_sequence.Goals as goal
+
+pub returns-clause-inside : goal.returns-clause-inside
+returns-clause-inside c = inside_worked
+
+pub returns-clause-end : goal.returns-clause-end
+returns-clause-end c = end_worked
+
+pub returns-clause-past : goal.returns-clause-past
+returns-clause-past c = past_worked

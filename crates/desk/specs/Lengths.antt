@@ -1,0 +1,18 @@
+-- How long a document and its text are.
+use Rattle.std.specs.Prelude.{length}
+use Rattle.index_loader.specs.Files.{Files}
+use Rattle.piece_rope.specs.Document.{decoded, text_of, errors_of}
+use Rattle.position_map.specs.Lines.{lines_of}
+use Rattle.position_map.specs.Widths.{width}
+use Rattle.position_map.specs.declared.unit.Unit.TheVariants.{Utf8, Utf16, Utf32}
+use Rattle.desk.specs.Documents.{Entry, document_of}
+use Rattle.desk.specs.declared.reply.Reply.{Reply}
+use Rattle.desk.specs.declared.reply.Reply.TheVariants.{Stat}
+
+-- the encoding given and the one in force; then the numbers of the mark's bytes, all bytes, errors, lines, and units in UTF-8, UTF-16
+-- and UTF-32
+abbrev pub stat_reply : Files → Entry → Reply
+stat_reply indexes h =
+    let d = document_of indexes h in
+    let text = text_of d in
+    Stat h.revision h.given (decoded d).encoding (decoded d).bom (length h.bytes) (length (errors_of d)) (length (lines_of text)) (width Utf8 text) (width Utf16 text) (width Utf32 text)

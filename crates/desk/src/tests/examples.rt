@@ -1,0 +1,30 @@
+//! The definitions of replies, computed at worked examples.
+ghost use Rattle.std.specs.Prelude.{◌≡◌, Ok, Err, Some, None, [], ◌∷◌};
+ghost use Rattle.enc_names.specs.declared.encoding.Encoding.TheVariants.{Utf8};
+ghost use Rattle.index_loader.specs.Files.{no_files};
+ghost use Rattle.position_map.specs.declared.unit.Unit.TheVariants.{Utf16};
+ghost use Rattle.desk.specs.Lengths.{stat_reply};
+ghost use Rattle.desk.specs.Lines.{lines_reply};
+ghost use Rattle.desk.specs.Offsets.{offset_reply};
+ghost use Rattle.desk.specs.Places.{place_reply};
+ghost use Rattle.desk.specs.Positions.{position_reply};
+ghost use Rattle.desk.specs.Session.{truncated, pair_and_cr_lf};
+ghost use Rattle.desk.specs.declared.fault.Fault.TheVariants.{OutOfRange, SplitsCharacter};
+ghost use Rattle.desk.specs.declared.place_unit.PlaceUnit.TheVariants.{Byte, Text};
+ghost use Rattle.desk.specs.declared.reply.Reply.TheVariants.{Stat, Lines, Position, Offset, Place};
+
+/// `a`, U+1F600, CR, LF, `b` in UTF-8.
+fn pair_and_cr_lf()
+    ensures stat { stat_reply no_files pair_and_cr_lf ≡ Stat 0 Utf8 Utf8 0 8 0 2 8 6 5 }
+    ensures lines { lines_reply no_files pair_and_cr_lf 0 10 ≡ Ok (Lines 0 2 (record { start = 0; end = 2 } ∷ record { start = 4; end = 5 } ∷ [])) }
+    ensures position { position_reply no_files pair_and_cr_lf 3 Utf16 ≡ Ok (Position 0 0 3) }
+    ensures offset { offset_reply no_files pair_and_cr_lf 0 99 Utf16 ≡ Ok (Offset 0 2) }
+    ensures place { place_reply no_files pair_and_cr_lf (Text Utf16) 2 ≡ Err SplitsCharacter }
+{}
+
+/// UTF-8 `E2 82 41`: an error of two bytes, and `A`.
+fn truncated_sequence()
+    ensures inside { place_reply no_files truncated Byte 1 ≡ Ok (Place 0 (Some (record { from = 0; to = 2 })) 0 0 0) }
+    ensures end { place_reply no_files truncated Byte 3 ≡ Ok (Place 0 None 4 2 2) }
+    ensures past { place_reply no_files truncated Byte 4 ≡ Err OutOfRange }
+{}
