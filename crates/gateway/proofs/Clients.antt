@@ -1,16 +1,14 @@
 -- The replies of many connections are those of one desk.
-use Rattle.std.proofs.Common.{◌≡◌, ◌≢◌, ℕ, ◌+◌, ◌<◌, ◌==◌, Bool, true, false, nat_lt, List, [], ◌∷◌, ◌++◌, length, Option, None, Some, if◌then◌else◌, slice_set, replicate, zero, suc, ◌⊎◌, inl, inr, refl, sym, ap, ◌∙◌, subst, append_assoc, append-nil, arith}
+use Rattle.std.proofs.Common.{◌≡◌, ℕ, ◌<◌, ◌==◌, Bool, true, false, List, [], ◌∷◌, ◌++◌, length, Option, None, Some, if◌then◌else◌, slice_set, replicate, zero, suc, inl, inr, refl, sym, ap, ◌∙◌, subst, append_assoc, arith}
 use Rattle.std.proofs.lemmas.List.{get_or-set_same, get_or-set_other, length-set}
 use Rattle.std.proofs.lemmas.Bool.{eqb-true, eqb-false}
 use Rattle.std.proofs.lemmas.Bool.Decides.{eqb_tells}
 use Rattle.desk.specs.Desk.{Office}
 use Rattle.gateway.specs.declared.gateway.GateFault.{GateFault}
-use Rattle.gateway.specs.declared.gateway.GateFault.TheVariants.{BadNumber}
-use Rattle.gateway.specs.Step.{Replies}
 use Rattle.gateway.specs.Lines.{has_end, before_end}
-use Rattle.gateway.specs.Traffic.{Partial, Received, Stands, Traffic, Takes, Completes, Continues}
-use Rattle.gateway.specs.Events.{Happening, Opening, Bringing, Closing, connections, at_number, unless_open, unless_closed, unless_bad_number, line_at, with_line, gate_fault, Took, Happens}
-use Rattle.gateway.specs.Clients.{Numbered, number_of, sent_to, OccursBy, Occurs, OccurAll, BegunLines, or_empty, begun_on, accepted, completed, unless_refused, begun_after, lines_in, lines_of, begun_after_all, ServesAll, StandsAt, StandFor, NoneIsBegun, RepliesInOrder, own, events_of, LinesAreOwn, AnswerEach, RepliesAreOwn}
+use Rattle.gateway.specs.Traffic.{Partial, Received, Stands, Traffic, Completes, Continues}
+use Rattle.gateway.specs.Events.{Happening, Opening, Bringing, Closing, connections, at_number, unless_open, unless_closed, unless_bad_number, line_at, gate_fault, Took, Happens}
+use Rattle.gateway.specs.Clients.{Numbered, number_of, sent_to, OccursBy, Occurs, BegunLines, or_empty, begun_on, accepted, completed, unless_refused, begun_after, lines_in, lines_of, ServesAll, StandsAt, StandFor, NoneIsBegun, RepliesInOrder, own, events_of, LinesAreOwn, AnswerEach, RepliesAreOwn}
 use Rattle.gateway.proofs.Took.{good_number}
 
 -- ---- what is known, and what is begun

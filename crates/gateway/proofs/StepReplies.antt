@@ -15,7 +15,7 @@ use Rattle.gateway.specs.Request.{◌>>=◌, json_of_line, request_of, IsJsonOfL
 use Rattle.gateway.specs.Replies.{reply_text, refusal_text, memory_text, is_short}
 use Rattle.std.proofs.lemmas.Bool.{false_from_ne_true}
 use Rattle.desk.specs.Documents.{Names}
-use Rattle.desk.specs.Desk.{Office, Outcome, Answers, IsOutcome, answer_of}
+use Rattle.desk.specs.Desk.{Office, Outcome, Answers, answer_of}
 use Rattle.desk.specs.Changes.{changes}
 use Rattle.gateway.proofs.DroppedLines.{memory_answers}
 use Rattle.gateway.specs.Step.{Step, IsStep, Replies, answered, step_by, step_of, line_limit}

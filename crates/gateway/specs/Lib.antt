@@ -8,5 +8,8 @@ pub mod Replies
 pub mod Request
 pub mod Serving
 pub mod Step
+pub mod Trace
+pub mod TraceLines
+pub mod Tracing
 pub mod Traffic
 pub mod Writing

@@ -9,6 +9,7 @@ use std::marker::Model;
 mod begun_line;
 
 pub use begun_line::BegunLine;
+pub(crate) use begun_line::line_end;
 
 /// How many connections there are. Their numbers count from 0.
 pub const CONNECTIONS: usize = 16;

@@ -6,6 +6,8 @@ ghost use Rattle.std.specs.Prelude.{◌≡◌, ℕ, ◌+◌, ◌<◌, ◌≤◌,
 ghost use Rattle.std.specs.Io.KnownBytes.{ReadConsumes, WriteAppends, Appends};
 ghost use Rattle.gateway.specs.Devices.{failures_after, ends_after, AppendsPart};
 
+#[cfg(test)]
+pub(crate) mod breaking;
 mod count;
 mod memory;
 mod stream;

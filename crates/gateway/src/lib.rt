@@ -10,6 +10,7 @@ mod reply_line;
 mod request;
 mod respond;
 mod serve;
+mod traces;
 
 pub use connection::CONNECTIONS;
 pub use device::{Failed, Feed, FromRead, MemFeed, MemOutlet, Outlet, ToWrite, write_all};
@@ -17,3 +18,4 @@ pub use gateway::{Event, GateFault, Gateway, Out};
 pub use laws::replies_in_order;
 pub use reply_line::ReplyLine;
 pub use serve::{RunFault, run};
+pub use traces::{TraceFault, trace};

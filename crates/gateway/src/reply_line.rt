@@ -3,7 +3,7 @@
 mod long;
 mod members;
 mod short;
-mod short_text;
+pub(crate) mod short_text;
 #[cfg(test)]
 mod tests;
 

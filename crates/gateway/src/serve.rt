@@ -190,7 +190,7 @@ fn deliver_line<W: Outlet>(
 
 /// Takes the bytes up to and with the first line feed, and none behind it: the next line is decided
 /// when the reply to this one has been written.
-fn bring(gateway: &mut Gateway<'_>, c: u8, bytes: &[u8]) -> Out
+pub(crate) fn bring(gateway: &mut Gateway<'_>, c: u8, bytes: &[u8]) -> Out
     requires { IsOpen gateway.old c }
     ensures step { Happens gateway.old (Bringing c bytes.now) result.taken result.reply gateway.new }
     ensures count { length gateway.old.lines ≡ connections }

@@ -148,7 +148,7 @@ fn capped_sum(count: usize, more: usize) -> usize
 }
 
 /// The index of the first line feed.
-fn line_end(bytes: &[u8]) -> Option<usize>
+pub(crate) fn line_end(bytes: &[u8]) -> Option<usize>
     ensures { MatchOption result (has_end bytes.now ≡ false)
         (λ k. (has_end bytes.now ≡ true) × (k < length bytes.now) × (before_end bytes.now ≡ take k bytes.now)) }
 {

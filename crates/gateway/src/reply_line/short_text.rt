@@ -3,11 +3,11 @@
 use std::marker::Model;
 
 /// The most bytes of a short text.
-pub(super) const CAPACITY: usize = 256;
+pub(crate) const CAPACITY: usize = 256;
 
 /// A text of at most `CAPACITY` bytes, stored inline. Contracts see its bytes.
 #[derive(Drop)]
-pub(super) struct ShortText {
+pub(crate) struct ShortText {
     bytes: [u8; CAPACITY],
     len: usize,
 }
@@ -29,7 +29,7 @@ impl ShortText {
     ghost use Rattle.gateway.specs.Writing.{all_plain};
 
     /// The empty text.
-    pub(super) fn new() -> ShortText
+    pub(crate) fn new() -> ShortText
         ensures { result ≡ [] }
     {
         ShortText {
@@ -39,14 +39,14 @@ impl ShortText {
     }
 
     /// The bytes.
-    pub(super) fn as_slice(&self) -> &[u8]
+    pub(crate) fn as_slice(&self) -> &[u8]
         ensures { result.now ≡ self.now }
     {
         &self.bytes[..self.len]
     }
 
     /// Appends a byte.
-    pub(super) fn push(&mut self, byte: u8)
+    pub(crate) fn push(&mut self, byte: u8)
         requires { length self.old + 1 ≤ CAPACITY }
         ensures { self.new ≡ self.old ++ byte ∷ [] }
     {
@@ -55,7 +55,7 @@ impl ShortText {
     }
 
     /// Appends bytes.
-    pub(super) fn extend(&mut self, more: &[u8])
+    pub(crate) fn extend(&mut self, more: &[u8])
         requires { length self.old + length more.now ≤ CAPACITY }
         ensures { self.new ≡ self.old ++ more.now }
     {
@@ -65,7 +65,7 @@ impl ShortText {
     }
 
     /// Appends a text in quotes, which holds nothing that JSON escapes.
-    pub(super) fn quote(&mut self, text: &str)
+    pub(crate) fn quote(&mut self, text: &str)
         requires plain { IsTrue (all_plain text.now) }
         requires room { length self.old + length text.now + 2 ≤ CAPACITY }
         ensures text { self.new ≡ self.old ++ quoted text.now }

@@ -1,5 +1,6 @@
 //! Runs over memory and over devices that break off.
 
+use crate::device::breaking::{Failing, Narrow};
 use crate::device::{Feed, FromRead, MemFeed, MemOutlet, ToWrite};
 use crate::gateway::tests::{expect_event, new_gateway};
 use crate::gateway::{Event, GateFault, Gateway};
@@ -30,47 +31,6 @@ const REPLIES: &str = "\
 {\"id\":5,\"rev\":1,\"text\":\"\u{20ac}A\"}
 {\"fault\":\"OutOfRange\",\"id\":6}
 ";
-
-/// Gives its bytes, and then fails.
-#[derive(Drop)]
-struct Failing<'a> {
-    rest: &'a [u8],
-}
-
-impl Read for Failing<'_> {
-    fn read(&mut self, buf: &mut [u8]) -> io::Result<usize> {
-        if self.rest.is_empty() {
-            return Err(io::Error::from(ErrorKind::BrokenPipe));
-        }
-        let n = self.rest.len().min(buf.len());
-        buf[..n].copy_from_slice(&self.rest[..n]);
-        self.rest = &self.rest[n..];
-        Ok(n)
-    }
-}
-
-/// Takes at most so many bytes a write, and fails where there is no room left.
-#[derive(Drop)]
-struct Narrow<'a> {
-    out: &'a mut Vec<u8>,
-    at_once: usize,
-    room: usize,
-}
-
-impl Write for Narrow<'_> {
-    fn write(&mut self, buf: &[u8]) -> io::Result<usize> {
-        let n = self.room.min(self.at_once).min(buf.len());
-        if n == 0 || self.out.extend_from_slice(&buf[..n]).is_err() {
-            return Err(io::Error::from(ErrorKind::BrokenPipe));
-        }
-        self.room -= n;
-        Ok(n)
-    }
-
-    fn flush(&mut self) -> io::Result<()> {
-        Ok(())
-    }
-}
 
 /// Gives one line a read, and fails where the reply to the line before is still owed.
 #[derive(Drop)]

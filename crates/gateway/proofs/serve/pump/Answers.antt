@@ -1,13 +1,8 @@
-use Rattle.std.proofs.Common.{◌≡◌, ℕ, Err, ap, ◌+◌, arith, refl, add-zero, sym}
+use Rattle.std.proofs.Common.{Err, ap, arith, refl, add-zero, sym}
+use Rattle.gateway.proofs.Counts.{still, once_more}
 use Rattle.gateway.proofs.Chains.{Pumped-start, Pumped-trans, Pumped-Err, reads_before}
 use Rattle.gateway.specs.declared.serve.Progress.{Progress}
 use Rattle.gateway.proofs.serve.pump.Goals as goal
-
-still : (a b c : ℕ) → c ≡ b + 0 → b ≡ a → c ≡ a
-still a b c p q = omega arith
-
-once_more : (a b c n : ℕ) → c ≡ b + 1 → b ≡ a + n → c ≡ a + (n + 1)
-once_more a b c n p q = omega arith
 
 pub loop-init : goal.loop-init
 loop-init g c = record {

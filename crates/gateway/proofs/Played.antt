@@ -1,0 +1,185 @@
+-- Bytes of a trace line, part by part.
+use Rattle.std.proofs.Common.{◌≡◌, ℕ, ◌+◌, ◌<◌, ◌==◌, ◌&&◌, nat_lt, Bool, true, false, List, [], ◌∷◌, ◌++◌, length, take, drop, map, Option, None, Some, Result, Ok, Err, if◌then◌else◌, refl, sym, ap, ◌∙◌, subst, append_assoc, append-nil, arith}
+use Rattle.std.proofs.lemmas.Bool.{lt-ltb}
+use Rattle.std.specs.Io.KnownBytes.{Appends}
+use Rattle.std.proofs.KnownBytes.{Appends-trans, Appends-nil}
+use Rattle.std.proofs.lemmas.List.{drop_all, take_all, length-drop}
+use Rattle.std.proofs.Common.{◌-◌}
+use Rattle.std.proofs.Math.Seq.{drop-append-add}
+use Rattle.gateway.specs.declared.gateway.GateFault.{GateFault}
+use Rattle.gateway.specs.Lines.{has_end, before_end}
+use Rattle.gateway.specs.Traffic.{Traffic}
+use Rattle.gateway.specs.Events.{Happening, Bringing, connections, gate_fault, Took, Happens}
+use Rattle.gateway.specs.Delivery.{IsOpen}
+use Rattle.gateway.specs.Clients.{Numbered, number_of, sent_to, Occurs, OccurAll}
+use Rattle.gateway.specs.Trace.{printed, printed_all, after_ends, parts, refusal_line}
+use Rattle.gateway.specs.Tracing.{bringings, Plays, PlaysRest, Played, WritesAll, PrintsReply}
+use Rattle.gateway.proofs.Cuts.{cut_at_end, before_without}
+use Rattle.gateway.proofs.Took.{open_after}
+
+-- ---- what comes after a line feed
+
+after-none : (xs : List ℕ) → has_end xs ≡ false → after_ends xs ≡ []
+after-none [] h = refl
+after-none (x ∷ xs) h =
+    elim (x == 10)
+    as (λ t. (if t then true else has_end xs) ≡ false → (if t && nat_lt 0 (length xs) then xs ∷ after_ends xs else after_ends xs) ≡ [])
+    [ true ↦ λ never. cc | false ↦ λ e. after-none xs e ] h
+
+-- the events of what comes after a line feed
+after-end : (c : ℕ) (more : List ℕ) → map (Bringing c) (after_ends (10 ∷ more)) ≡ bringings c more
+after-end c [] = refl
+after-end c (m ∷ ms) = let some : nat_lt 0 (length (m ∷ ms)) ≡ true = lt-ltb 0 (length (m ∷ ms)) (omega arith) in rw some refl
+
+after-before : (before more : List ℕ) → has_end before ≡ false → after_ends (before ++ 10 ∷ more) ≡ after_ends (10 ∷ more)
+after-before [] more h = refl
+after-before (x ∷ before) more h =
+    elim (x == 10)
+    as (λ t. (if t then true else has_end before) ≡ false
+    → (if t && nat_lt 0 (length (before ++ 10 ∷ more)) then (before ++ 10 ∷ more) ∷ after_ends (before ++ 10 ∷ more) else after_ends (before ++ 10 ∷ more)) ≡ after_ends (10 ∷ more))
+    [ true ↦ λ never. cc | false ↦ λ e. after-before before more e ] h
+
+rest-after : (c : ℕ) (bytes : List ℕ) (taken : ℕ) (t : Bool) → has_end bytes ≡ t → taken ≡ (if t then length (before_end bytes) + 1 else length bytes)
+    → map (Bringing c) (after_ends bytes) ≡ bringings c (drop taken bytes)
+rest-after c bytes taken true e is =
+    let cut = cut_at_end bytes e in
+    let gone : drop taken bytes ≡ cut.0 = ap (λ n. drop n bytes) is ∙ ap (drop (length (before_end bytes) + 1)) cut.1 ∙ drop-append-add (before_end bytes) (10 ∷ cut.0) 1 in
+    ap (λ b. map (Bringing c) (after_ends b)) cut.1 ∙ ap (map (Bringing c)) (after-before (before_end bytes) cut.0 (before_without bytes)) ∙ after-end c cut.0 ∙ ap (bringings c) (sym gone)
+rest-after c bytes taken false e is =
+    ap (map (Bringing c)) (after-none bytes e) ∙ ap (bringings c) (sym (ap (λ n. drop n bytes) is ∙ drop_all (length bytes) bytes (omega arith)))
+
+-- what an event of bytes leaves to play
+left_over : (t u : Traffic) (c taken : ℕ) (bytes : List ℕ) (reply : Option (List ℕ)) → Took t c bytes taken reply u → map (Bringing c) (after_ends bytes) ≡ bringings c (drop taken bytes)
+left_over t u c taken bytes reply took = rest-after c bytes taken (has_end bytes) refl took.takes.count
+
+-- ---- one event after others
+
+occur-snoc : (t u v : Traffic) (es : List Happening) (e : Happening) (rs here : List Numbered) → OccurAll t es rs u → Occurs u e here v → OccurAll t (es ++ e ∷ []) (rs ++ here) v
+occur-snoc t u v [] e rs here p q = rw p.0 (v, here, [], subst (λ x. Occurs x e here v) p.1 q, (refl, refl), sym (append-nil here))
+occur-snoc t u v (x ∷ es) e rs here p q =
+    (p.0, p.1, p.2 ++ here, p.3, occur-snoc p.0 u v es e p.2 here p.4 q, ap (λ l. l ++ here) p.5 ∙ append_assoc p.1 p.2 here)
+
+printed-append : (a b : List Numbered) → printed_all (a ++ b) ≡ printed_all a ++ printed_all b
+printed-append [] b = refl
+printed-append (r ∷ rs) b = ap (λ l. printed r ++ l) (printed-append rs b) ∙ sym (append_assoc (printed r) (printed_all rs) (printed_all b))
+
+-- an event of bytes on an open connection
+occurs_open : (t u : Traffic) (c taken : ℕ) (bytes : List ℕ) (reply : Option (List ℕ)) → IsOpen t c → Took t c bytes taken reply u → Occurs t (Bringing c bytes) (sent_to c reply) u
+occurs_open t u c taken bytes reply is_open took = rw is_open (taken, reply, took, refl)
+
+cut-on : (c b : ℕ) (bs : List ℕ) (whole done : List Happening) (taken : ℕ) → whole ≡ done ++ bringings c (b ∷ bs) → map (Bringing c) (after_ends (b ∷ bs)) ≡ bringings c (drop taken (b ∷ bs))
+    → whole ≡ (done ++ Bringing c (b ∷ bs) ∷ []) ++ bringings c (drop taken (b ∷ bs))
+cut-on c b bs whole done taken cut left = cut ∙ ap (λ l. done ++ Bringing c (b ∷ bs) ∷ l) left ∙ sym (append_assoc done (Bringing c (b ∷ bs) ∷ []) (bringings c (drop taken (b ∷ bs))))
+
+pub played-nil : (c : ℕ) (bytes : List ℕ) (t : Traffic) (x : Option (List ℕ)) → IsOpen t c → Played c bytes bytes t t x x
+played-nil c bytes t x is_open = record { done = []; replies = []; cut = refl; occurs = (refl, refl); appends = Appends-nil x; is_open = is_open }
+
+pub played-on : (c : ℕ) (bytes rest : List ℕ) (t u v : Traffic) (x y z : Option (List ℕ)) (taken : ℕ) (reply : Option (List ℕ)) → Played c bytes rest t u x y → 0 < length rest
+    → Took u c rest taken reply v → length u.lines ≡ connections → Appends y z (printed_all (sent_to c reply)) → Played c bytes (drop taken rest) t v x z
+played-on c bytes [] t u v x y z taken reply p some took count gone = absurd (omega (arith, some))
+played-on c bytes (b ∷ bs) t u v x y z taken reply p some took count gone = record {
+  done = p.done ++ Bringing c (b ∷ bs) ∷ [];
+  replies = p.replies ++ sent_to c reply;
+  cut = cut-on c b bs (bringings c bytes) p.done taken p.cut (left_over u v c taken (b ∷ bs) reply took);
+  occurs = occur-snoc t u v p.done (Bringing c (b ∷ bs)) p.replies (sent_to c reply) p.occurs (occurs_open u v c taken (b ∷ bs) reply p.is_open took);
+  appends = subst (λ o. Appends x z o) (sym (printed-append p.replies (sent_to c reply))) (Appends-trans x y z (printed_all p.replies) (printed_all (sent_to c reply)) p.appends gone);
+  is_open = open_after u v c taken (b ∷ bs) reply took p.is_open count;
+}
+
+pub played-all : (A E : Type 0) (a : A) (c : ℕ) (bytes rest : List ℕ) (t u : Traffic) (x y : Option (List ℕ)) → Played c bytes rest t u x y → rest ≡ [] → PlaysRest {A = A} {E = E} (Ok a) c bytes t u x y
+played-all A E a c bytes rest t u x y p none =
+    (p.replies, subst (λ es. OccurAll t es p.replies u) (sym (p.cut ∙ ap (λ r. p.done ++ bringings c r) none ∙ append-nil p.done)) p.occurs, p.appends)
+
+pub played-until : (A E : Type 0) (f : E) (c : ℕ) (bytes rest : List ℕ) (t u v : Traffic) (x y z : Option (List ℕ)) (taken : ℕ) (reply : Option (List ℕ)) → Played c bytes rest t u x y → 0 < length rest
+    → Took u c rest taken reply v → PrintsReply {A = A} {E = E} (Err f) (sent_to c reply) y z → PlaysRest {A = A} {E = E} (Err f) c bytes t v x z
+played-until A E f c bytes [] t u v x y z taken reply p some took gone = absurd (omega (arith, some))
+played-until A E f c bytes (b ∷ bs) t u v x y z taken reply p some took gone =
+    let part = gone.2 in (
+      p.done ++ Bringing c (b ∷ bs) ∷ [],
+      bringings c (drop taken (b ∷ bs)),
+      p.replies,
+      gone.0,
+      part.0,
+      part.1,
+      cut-on c b bs (bringings c bytes) p.done taken p.cut (left_over u v c taken (b ∷ bs) reply took),
+      subst (λ l. OccurAll t (p.done ++ Bringing c (b ∷ bs) ∷ []) (p.replies ++ l) v) gone.1
+          (occur-snoc t u v p.done (Bringing c (b ∷ bs)) p.replies (sent_to c reply) p.occurs (occurs_open u v c taken (b ∷ bs) reply p.is_open took)),
+      part.2,
+      part.3,
+      Appends-trans x y z (printed_all p.replies) part.0 p.appends part.4,
+    )
+
+pub some_rest : (xs : List ℕ) → (length xs ≡ 0 → ⊥) → 0 < length xs
+some_rest xs h = omega (arith, h)
+
+-- the rest of a slice, as it is lent
+pub rest_part : (xs : List ℕ) (n : ℕ) → take (length xs - n) (drop n xs) ≡ drop n xs
+rest_part xs n = take_all (length xs - n) (drop n xs) (let l = length-drop n xs in omega (arith, l))
+
+-- ---- an event of bytes that is accepted
+
+module _ (t u : Traffic) (c taken : ℕ) (bytes : List ℕ) (reply : Option (List ℕ)) (fine : gate_fault t.lines (Bringing c bytes) ≡ None) (took : Took t c bytes taken reply u) where
+  first_occurs : Occurs t (Bringing c bytes) (sent_to c reply) u
+  first_occurs = occurs_open t u c taken bytes reply fine took
+
+  over : map (Bringing c) (after_ends bytes) ≡ bringings c (drop taken bytes)
+  over = left_over t u c taken bytes reply took
+
+  pub bytes-play : (A E : Type 0) (r : Result A E) (v : Traffic) (x y z : Option (List ℕ)) → Appends x y (printed_all (sent_to c reply))
+      → PlaysRest r c (drop taken bytes) u v y z → Plays r (Bringing c bytes) t v x z
+  bytes-play A E (Ok a) v x y z gone q = (
+    printed_all (sent_to c reply ++ q.0),
+    subst (λ o. Appends x z o) (sym (printed-append (sent_to c reply) q.0)) (Appends-trans x y z (printed_all (sent_to c reply)) (printed_all q.0) gone q.2),
+    rw fine (sent_to c reply ++ q.0, (u, sent_to c reply, q.0, first_occurs, subst (λ es. OccurAll u es q.0 v) (sym over) q.1, refl), refl),
+  )
+  bytes-play A E (Err f) v x y z gone q =
+      let sent = sent_to c reply in (
+        printed_all sent ++ (printed_all q.2 ++ q.4),
+        Appends-trans x y z (printed_all sent) (printed_all q.2 ++ q.4) gone q.10,
+        rw fine (
+          Bringing c bytes ∷ q.0,
+          q.1,
+          sent ++ q.2,
+          q.3,
+          q.4,
+          q.5,
+          ap (λ l. Bringing c bytes ∷ l) (over ∙ q.6),
+          (u, sent, q.2 ++ q.3 ∷ [], first_occurs, q.7, append_assoc sent q.2 (q.3 ∷ [])),
+          q.8,
+          q.9,
+          sym (append_assoc (printed_all sent) (printed_all q.2) q.4) ∙ ap (λ l. l ++ q.4) (sym (printed-append sent q.2)),
+        ),
+      )
+
+  pub bytes-broken : (A E : Type 0) (f : E) (x y : Option (List ℕ)) → PrintsReply {A = A} {E = E} (Err f) (sent_to c reply) x y → Plays {A = A} {E = E} (Err f) (Bringing c bytes) t u x y
+  bytes-broken A E f x y gone =
+      let part = gone.2 in (
+        part.0,
+        part.4,
+        rw fine (
+          Bringing c bytes ∷ [],
+          map (Bringing c) (after_ends bytes),
+          [],
+          gone.0,
+          part.0,
+          part.1,
+          refl,
+          (u, sent_to c reply, [], first_occurs, (refl, refl), sym gone.1 ∙ sym (append-nil (sent_to c reply))),
+          part.2,
+          part.3,
+          refl,
+        ),
+      )
+
+-- ---- an event that is refused
+
+pub refused-play : (A E : Type 0) (r : Result A E) (t : Traffic) (e : Happening) (fault : GateFault) (x y : Option (List ℕ)) → gate_fault t.lines e ≡ Some fault
+    → WritesAll r (refusal_line (number_of e) fault) x y → Plays r e t t x y
+refused-play A E (Ok a) t e fault x y is gone = (refusal_line (number_of e) fault, gone, rw is (refl, refl))
+refused-play A E (Err f) t e fault x y is part = (part.0, part.4, rw is (part.1, sym part.2, part.3, refl))
+
+-- an open or a close that is accepted
+pub alone-play : (A E : Type 0) (a : A) (t u : Traffic) (e : Happening) (taken : ℕ) (reply : Option (List ℕ)) (x : Option (List ℕ)) → gate_fault t.lines e ≡ None → Happens t e taken reply u
+    → parts e ≡ e ∷ [] → reply ≡ None → Plays {E = E} (Ok a) e t u x x
+alone-play A E a t u e taken reply x fine happens one none =
+    ([], Appends-nil x, rw fine ([], rw one (u, [], [], rw fine (taken, reply, happens, rw none refl), (refl, refl), refl), refl))

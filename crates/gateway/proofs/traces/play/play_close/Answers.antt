@@ -1,0 +1,9 @@
+use Rattle.std.proofs.Common.{refl}
+use Rattle.gateway.specs.Events.{Closing}
+use Rattle.gateway.specs.declared.device.Failed.{Failed}
+use Rattle.gateway.proofs.Played.{alone-play}
+use Rattle.gateway.proofs.traces.play.play_close.Goals as goal
+
+pub returns-clause-plays : goal.returns-clause-plays
+returns-clause-plays g c =
+    alone-play (Unit {0}) Failed tt _ _ (Closing c.args.c) c.in-Ok.field-0.taken c.in-Ok.field-0.reply _ c.in-Ok.ensures.fault c.in-Ok.ensures.step refl c.in-Ok.ensures.step.1

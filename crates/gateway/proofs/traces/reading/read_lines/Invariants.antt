@@ -1,0 +1,14 @@
+use Rattle.std.proofs.Common.{◌≡◌, ◌+◌, ◌*◌, ◌≤◌}
+use Rattle.gateway.specs.Tracing.{ReadsOn}
+use Rattle.gateway.proofs.traces.reading.read_lines.Given as goal
+
+abbrev pub invariant-loop : goal.invariant-loop
+invariant-loop g l = record {
+  on : ReadsOn l.initial.gateway l.gateway (g.R.Feed.left l.initial.reader) (g.R.Feed.left l.reader)
+      (g.W.Outlet.written l.initial.writer) (g.W.Outlet.written l.writer) l.initial.place l.place;
+  number : l.place.number ≤ 1 + 4096 * l.counter;
+  ends : g.R.Feed.ends l.reader ≡ g.R.Feed.ends l.initial.reader;
+  reads : g.R.Feed.reads l.reader ≡ g.R.Feed.reads l.initial.reader + l.counter;
+  read_failures : g.R.Feed.failures l.reader ≡ g.R.Feed.failures l.initial.reader;
+  write_failures : g.W.Outlet.failures l.writer ≡ g.W.Outlet.failures l.initial.writer;
+}

@@ -1,0 +1,155 @@
+-- What the code of a trace has done so far. Nothing here has to be believed.
+use Rattle.std.specs.Prelude.{◌≡◌, ℕ, ◌+◌, ◌<◌, List, [], ◌∷◌, ◌++◌, length, map, take, Option, Some, None, Vec, Result, Ok, Err}
+use Rattle.std.specs.declared.alloc.Global.{Global}
+use Rattle.std.specs.Io.KnownBytes.{Consumes, Appends, IsAtEnd}
+use Rattle.gateway.specs.declared.traces.fault.TraceFault.{TraceFault}
+use Rattle.gateway.specs.declared.traces.fault.TraceFault.TheVariants as fault
+use Rattle.gateway.specs.declared.traces.begun_line.LineFault.{LineFault}
+use Rattle.gateway.specs.declared.traces.begun_line.LineFault.TheVariants.{Bad, Write, OutOfMemory}
+use Rattle.gateway.specs.declared.traces.event.TraceEvent.{TraceEvent}
+use Rattle.gateway.specs.declared.traces.event.TraceEvent.TheVariants.{Open, Bytes, Close}
+use Rattle.gateway.specs.declared.traces.reading.Progress.{Progress}
+use Rattle.gateway.specs.declared.traces.reading.Progress.TheVariants.{More, End}
+use Rattle.gateway.specs.declared.traces.feeding.TracePlace.{TracePlace}
+use Rattle.gateway.specs.Devices.{AppendsPart}
+use Rattle.gateway.specs.Delivery.{IsOpen}
+use Rattle.gateway.specs.Lines.{complete, unfinished}
+use Rattle.gateway.specs.Traffic.{Traffic}
+use Rattle.gateway.specs.Events.{Happening, Opening, Bringing, Closing}
+use Rattle.gateway.specs.Clients.{Numbered, OccurAll}
+use Rattle.gateway.specs.TraceLines.{MayBe}
+use Rattle.gateway.specs.Trace.{some_bytes, after_ends, printed, printed_all, Prints, PrintStops, PrintsAll, StopsAtBad, StopsInPrint, StopsBetween}
+
+-- ---- the event on a line
+
+abbrev pub happening_of : TraceEvent → Happening
+happening_of (Open c) = Opening c
+happening_of (Bytes c bytes) = Bringing c bytes.items
+happening_of (Close c) = Closing c
+
+-- the bytes are the ones defined, or memory ran out
+abbrev pub Decodes : {E : Type 0} → List ℕ → Result (Option (Vec ℕ Global)) E → Type 0
+Decodes text (Ok (Some v)) = some_bytes text ≡ Some v.items
+Decodes text (Ok None) = some_bytes text ≡ None
+Decodes text (Err e) = Unit {0}
+
+-- the event is the one defined, or memory ran out
+abbrev pub Reads : {E : Type 0} → Option Happening → Result (Option TraceEvent) E → Type 0
+Reads event (Ok (Some e)) = event ≡ Some (happening_of e)
+Reads event (Ok None) = event ≡ None
+Reads event (Err e) = Unit {0}
+
+-- ---- the printing of an event
+
+-- all of the text was written, or a prefix of it but not all
+abbrev pub WritesAll : {A E : Type 0} → Result A E → List ℕ → Option (List ℕ) → Option (List ℕ) → Type 0
+WritesAll (Ok x) text before after = Appends before after text
+WritesAll (Err f) text before after = AppendsPart before after text
+
+-- the reply was printed, if there is one, or printing it stopped short
+abbrev pub PrintsReply : {A E : Type 0} → Result A E → List Numbered → Option (List ℕ) → Option (List ℕ) → Type 0
+PrintsReply (Ok x) replies before after = Appends before after (printed_all replies)
+PrintsReply (Err f) replies before after = (last : Numbered) × (replies ≡ last ∷ []) × AppendsPart before after (printed last)
+
+-- an event was played, by the answer
+abbrev pub Plays : {A E : Type 0} → Result A E → Happening → Traffic → Traffic → Option (List ℕ) → Option (List ℕ) → Type 0
+Plays (Ok x) e old new before after = (out : List ℕ) × Appends before after out × Prints old e out new
+Plays (Err f) e old new before after = (out : List ℕ) × Appends before after out × PrintStops old e out new
+
+-- the events of bytes, which may be none
+abbrev pub bringings : ℕ → List ℕ → List Happening
+bringings c [] = []
+bringings c (b ∷ bs) = Bringing c (b ∷ bs) ∷ map (Bringing c) (after_ends (b ∷ bs))
+
+-- the events of bytes on an open connection, by the answer
+abbrev pub PlaysRest : {A E : Type 0} → Result A E → ℕ → List ℕ → Traffic → Traffic → Option (List ℕ) → Option (List ℕ) → Type 0
+PlaysRest (Ok x) c bytes old new before after =
+    (replies : List Numbered) × OccurAll old (bringings c bytes) replies new × Appends before after (printed_all replies)
+PlaysRest (Err f) c bytes old new before after =
+    (done left : List Happening) × (replies : List Numbered) × (last : Numbered) × (part unsent : List ℕ) × (bringings c bytes ≡ done ++ left)
+    × OccurAll old done (replies ++ last ∷ []) new × (printed last ≡ part ++ unsent) × (0 < length unsent) × Appends before after (printed_all replies ++ part)
+
+-- the bytes before `rest` were played on an open connection
+pub record Played (c : ℕ) (bytes rest : List ℕ) (old now : Traffic) (before after : Option (List ℕ)) : Type 0 where
+  pub done : List Happening
+  pub replies : List Numbered
+  pub cut : bringings c bytes ≡ done ++ bringings c rest
+  pub occurs : OccurAll old done replies now
+  pub appends : Appends before after (printed_all replies)
+  pub is_open : IsOpen now c
+
+-- the fault of a line with this number
+abbrev pub numbered_fault : LineFault → ℕ → TraceFault
+numbered_fault Bad n = fault.BadLine n
+numbered_fault Write n = fault.Write
+numbered_fault OutOfMemory n = fault.OutOfMemory
+
+-- ---- bytes of a trace
+
+-- Where this line was begun: the complete lines were played, and the next line is begun.
+pub record FeedsOn (line bytes : List ℕ) (old new : Traffic) (before after : Option (List ℕ)) (was is : TracePlace) : Type 0 where
+  pub out : List ℕ
+  pub appends : Appends before after out
+  pub prints : PrintsAll old (complete line bytes) out new
+  pub next : MayBe is.begun (unfinished line bytes)
+  pub number : is.number ≡ was.number + length (complete line bytes)
+
+abbrev pub Feeds : List ℕ → Traffic → Traffic → Option (List ℕ) → Option (List ℕ) → TracePlace → TracePlace → Type 0
+Feeds bytes old new before after was is = (line : List ℕ) → MayBe was.begun line → FeedsOn line bytes old new before after was is
+
+abbrev pub Anything : List ℕ → Type 0
+Anything later = Unit {0}
+
+-- why bytes weren't fed to their end
+abbrev pub FeedStops : TraceFault → List ℕ → Traffic → Traffic → Option (List ℕ) → Option (List ℕ) → TracePlace → Type 0
+FeedStops (fault.BadLine n) bytes old new before after was =
+    (line : List ℕ) → MayBe was.begun line → StopsAtBad n was.number line bytes Anything old new before after
+FeedStops fault.Read bytes old new before after was = ⊥
+FeedStops fault.Write bytes old new before after was = (line : List ℕ) → MayBe was.begun line → StopsInPrint line bytes Anything old new before after
+FeedStops fault.TooManyReads bytes old new before after was = ⊥
+FeedStops fault.OutOfMemory bytes old new before after was = (line : List ℕ) → MayBe was.begun line → StopsBetween line bytes old new before after
+
+-- by the answer, which is the number of bytes taken
+abbrev pub FeedsFront : Result ℕ TraceFault → List ℕ → Traffic → Traffic → Option (List ℕ) → Option (List ℕ) → TracePlace → TracePlace → Type 0
+FeedsFront (Ok n) bytes old new before after was is = Feeds (take n bytes) old new before after was is
+FeedsFront (Err f) bytes old new before after was is = FeedStops f bytes old new before after was
+
+abbrev pub FeedsAll : {A : Type 0} → Result A TraceFault → List ℕ → Traffic → Traffic → Option (List ℕ) → Option (List ℕ) → TracePlace → TracePlace → Type 0
+FeedsAll (Ok x) bytes old new before after was is = Feeds bytes old new before after was is
+FeedsAll (Err f) bytes old new before after was is = FeedStops f bytes old new before after was
+
+-- ---- reads of a trace
+
+-- bytes were read and fed
+pub record ReadsOn (old new : Traffic) (left rest before after : Option (List ℕ)) (was is : TracePlace) : Type 0 where
+  pub read : List ℕ
+  pub consumes : Consumes left rest read
+  pub feeds : Feeds read old new before after was is
+
+-- bytes were read, and feeding them stopped
+pub record ReadStops (f : TraceFault) (old new : Traffic) (left rest before after : Option (List ℕ)) (was : TracePlace) : Type 0 where
+  pub read : List ℕ
+  pub consumes : Consumes left rest read
+  pub stops : FeedStops f read old new before after was
+
+-- by the answer
+abbrev pub ReadsBy : {A : Type 0} → Result A TraceFault → Traffic → Traffic → Option (List ℕ) → Option (List ℕ) → Option (List ℕ) → Option (List ℕ) → TracePlace → TracePlace → Type 0
+ReadsBy (Ok x) old new left rest before after was is = ReadsOn old new left rest before after was is
+ReadsBy (Err fault.Read) old new left rest before after was is = ReadsOn old new left rest before after was is
+ReadsBy (Err fault.TooManyReads) old new left rest before after was is = ReadsOn old new left rest before after was is
+ReadsBy (Err f) old new left rest before after was is = ReadStops f old new left rest before after was
+
+-- where a read reported the end, nothing is left
+abbrev pub EndsAt : Progress → Option (List ℕ) → Type 0
+EndsAt More left = Unit {0}
+EndsAt End left = IsAtEnd left
+
+-- how many of the reads reported the end: of one read, and of all
+abbrev pub read_ends : Result Progress TraceFault → ℕ
+read_ends (Ok More) = 0
+read_ends (Ok End) = 1
+read_ends (Err e) = 0
+
+abbrev pub all_read_ends : {A : Type 0} → Result A TraceFault → ℕ
+all_read_ends (Ok x) = 1
+all_read_ends (Err e) = 0

@@ -1,0 +1,91 @@
+//! One event of a trace, played on a gateway, with what it prints.
+ghost use Rattle.std.specs.Prelude.{◌≡◌};
+ghost use Rattle.gateway.specs.Devices.{failures_after};
+ghost use Rattle.gateway.specs.Events.{happening, Opening, Bringing, Closing};
+ghost use Rattle.gateway.specs.Delivery.{IsOpen};
+ghost use Rattle.gateway.specs.Tracing.{Plays, PlaysRest};
+
+use crate::device::{Failed, Outlet};
+use crate::gateway::{Event, Gateway, Out};
+use crate::serve::bring;
+use crate::traces::print::{print_refusal, print_reply};
+
+/// Plays one event, and prints its replies or its refusal.
+pub(super) fn play<W: Outlet>(
+    gateway: &mut Gateway<'_>,
+    event: Event<'_>,
+    writer: &mut W,
+) -> Result<(), Failed>
+    ensures plays { Plays result (happening event.entry) gateway.old gateway.new (W.written writer.old) (W.written writer.new) }
+    ensures failures { W.failures writer.new ≡ failures_after result (W.failures writer.old) }
+{
+    match event {
+        Event::Open(c) => play_open(gateway, c, writer),
+        Event::Bytes(c, bytes) => play_bytes(gateway, c, bytes, writer),
+        Event::Close(c) => play_close(gateway, c, writer),
+    }
+}
+
+fn play_open<W: Outlet>(gateway: &mut Gateway<'_>, c: u8, writer: &mut W) -> Result<(), Failed>
+    ensures plays { Plays result (Opening c) gateway.old gateway.new (W.written writer.old) (W.written writer.new) }
+    ensures failures { W.failures writer.new ≡ failures_after result (W.failures writer.old) }
+{
+    match gateway.event(Event::Open(c)) {
+        Ok(_) => {}
+        Err(fault) => return print_refusal(writer, c, fault),
+    }
+    Ok(())
+}
+
+fn play_close<W: Outlet>(gateway: &mut Gateway<'_>, c: u8, writer: &mut W) -> Result<(), Failed>
+    ensures plays { Plays result (Closing c) gateway.old gateway.new (W.written writer.old) (W.written writer.new) }
+    ensures failures { W.failures writer.new ≡ failures_after result (W.failures writer.old) }
+{
+    match gateway.event(Event::Close(c)) {
+        Ok(_) => {}
+        Err(fault) => return print_refusal(writer, c, fault),
+    }
+    Ok(())
+}
+
+/// A refusal is printed once, however many line feeds the bytes have.
+fn play_bytes<W: Outlet>(
+    gateway: &mut Gateway<'_>,
+    c: u8,
+    bytes: &[u8],
+    writer: &mut W,
+) -> Result<(), Failed>
+    ensures plays { Plays result (Bringing c bytes.now) gateway.old gateway.new (W.written writer.old) (W.written writer.new) }
+    ensures failures { W.failures writer.new ≡ failures_after result (W.failures writer.old) }
+{
+    let Out { taken, reply } = match gateway.event(Event::Bytes(c, bytes)) {
+        Ok(out) => out,
+        Err(fault) => return print_refusal(writer, c, fault),
+    };
+    match print_reply(writer, c, reply) {
+        Ok(()) => play_rest(gateway, c, &bytes[taken..], writer),
+        Err(Failed) => Err(Failed),
+    }
+}
+
+/// Goes on with the bytes after the first line feed.
+fn play_rest<W: Outlet>(
+    gateway: &mut Gateway<'_>,
+    c: u8,
+    bytes: &[u8],
+    writer: &mut W,
+) -> Result<(), Failed>
+    requires { IsOpen gateway.old c }
+    ensures plays { PlaysRest result c bytes.now gateway.old gateway.new (W.written writer.old) (W.written writer.new) }
+    ensures failures { W.failures writer.new ≡ failures_after result (W.failures writer.old) }
+{
+    let mut rest = bytes;
+    while !rest.is_empty() {
+        let Out { taken, reply } = bring(gateway, c, rest);
+        match print_reply(writer, c, reply) {
+            Ok(()) => rest = &rest[taken..],
+            Err(Failed) => return Err(Failed),
+        }
+    }
+    Ok(())
+}
