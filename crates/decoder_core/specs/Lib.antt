@@ -9,6 +9,7 @@ pub mod Forms
 pub mod Holding
 pub mod Lift
 pub mod OneByteLaws
+pub mod PairRuns
 pub mod Pending
 pub mod Placed
 pub mod Queue

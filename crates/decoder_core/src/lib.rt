@@ -19,6 +19,7 @@ mod laws;
 mod makers;
 mod memory;
 mod one_byte;
+mod pair_bulk;
 mod parts;
 mod piece;
 mod placed;

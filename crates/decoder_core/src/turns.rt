@@ -9,6 +9,7 @@ use crate::decoder::{Decoder, Simple, Step};
 use crate::few::Few;
 use crate::handler::{Answer, Handled, Handler};
 use crate::items::Items;
+use crate::pair_bulk::pair_bulk;
 use crate::run_bulk::run_bulk;
 
 impl<H: Handler> Decoder for H {
@@ -35,6 +36,7 @@ impl<H: Handler> Decoder for H {
     fn bulk(&self, state: H::State, bytes: &[u8], text: &mut [u8; 1024]) -> Bulk {
         match self.ascii_runs(state) {
             AsciiRuns::None => self.take_bulk(state, bytes, text),
+            AsciiRuns::All if self.has_pairs() => pair_bulk(self, state, bytes, text),
             runs => run_bulk(self, state, runs, bytes, text),
         }
     }

@@ -13,6 +13,8 @@ pub(crate) fn width_of(stride: Stride, c: char) -> usize
         Stride::Utf8 => c.len_utf8(),
         Stride::Utf16 if (c as u32) < 0x1_0000 => 2,
         Stride::Utf16 => 4,
+        Stride::Pairs if c.is_ascii() => 1,
+        Stride::Pairs => 2,
     }
 }
 

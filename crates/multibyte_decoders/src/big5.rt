@@ -8,10 +8,11 @@ ghost use Rattle.multibyte_decoders.specs.Big5.{big5, big5_pair, big5_pointer, b
 ghost use Rattle.multibyte_decoders.specs.Pairs.{ascii_item};
 ghost use Rattle.multibyte_decoders.specs.Holdings.{big5_holding};
 
-use crate::pairs::{PairRules, PairState, pair_turn};
+use crate::pairs::{PairRules, PairState, known_pair, pair_turn};
 use crate::turns::{ascii_item, one_of};
 use decoder_core::forms::scalar;
 use decoder_core::{AsciiRuns, Handled, Handler, Item};
+use enc_names::Scalar;
 use index_loader::Index;
 use std::marker::Model;
 
@@ -110,6 +111,17 @@ impl<'i> Handler for Big5Decoder<'i> {
             PairState::Idle => AsciiRuns::All,
             PairState::Lead(_) => AsciiRuns::None,
         }
+    }
+
+    #[inline(always)]
+    fn has_pairs(&self) -> bool {
+        true
+    }
+
+    // In the loop over the bytes.
+    #[inline(always)]
+    fn known_pair(&self, state: PairState, lead: u8, trail: u8) -> Option<Scalar> {
+        known_pair(self, state, lead, trail)
     }
 
     // In the loop over the bytes.

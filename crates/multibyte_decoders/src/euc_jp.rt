@@ -103,6 +103,20 @@ impl<'i> Handler for EucJpDecoder<'i> {
         }
     }
 
+    #[inline(always)]
+    fn has_pairs(&self) -> bool {
+        true
+    }
+
+    // In the loop over the bytes.
+    #[inline(always)]
+    fn known_pair(&self, state: EucJpState, lead: u8, trail: u8) -> Option<Scalar> {
+        match (state, lead) {
+            (EucJpState::Idle, 0xA1..=0xFE) => pair(self.jis0208, lead, trail),
+            _ => None,
+        }
+    }
+
     // In the loop over the bytes.
     #[inline(always)]
     fn turn(&self, state: EucJpState, byte: Option<u8>) -> Handled<EucJpState> {

@@ -124,6 +124,20 @@ impl<'i> Handler for Gb18030Decoder<'i> {
         }
     }
 
+    #[inline(always)]
+    fn has_pairs(&self) -> bool {
+        true
+    }
+
+    // In the loop over the bytes.
+    #[inline(always)]
+    fn known_pair(&self, state: Gb18030State, lead: u8, trail: u8) -> Option<Scalar> {
+        match (state, lead) {
+            (Gb18030State::Idle, 0x81..=0xFE) => self.pair(lead, trail),
+            _ => None,
+        }
+    }
+
     // In the loop over the bytes.
     #[inline(always)]
     fn turn(&self, state: Gb18030State, byte: Option<u8>) -> Handled<Gb18030State> {

@@ -7,7 +7,7 @@ ghost use Rattle.multibyte_decoders.specs.declared.pairs.PairState.TheVariants.{
 ghost use Rattle.multibyte_decoders.specs.ShiftJis.{shift_jis, shift_jis_single, shift_jis_pair, shift_jis_pointer, shift_jis_code_point, is_shift_jis_lead};
 ghost use Rattle.multibyte_decoders.specs.Holdings.{shift_jis_holding};
 
-use crate::pairs::{PairRules, PairState, pair_turn};
+use crate::pairs::{PairRules, PairState, known_pair, pair_turn};
 use crate::turns::one_of;
 use decoder_core::forms::scalar;
 use decoder_core::{AsciiRuns, Handled, Handler, Item};
@@ -113,6 +113,17 @@ impl<'i> Handler for ShiftJisDecoder<'i> {
             PairState::Idle => AsciiRuns::All,
             PairState::Lead(_) => AsciiRuns::None,
         }
+    }
+
+    #[inline(always)]
+    fn has_pairs(&self) -> bool {
+        true
+    }
+
+    // In the loop over the bytes.
+    #[inline(always)]
+    fn known_pair(&self, state: PairState, lead: u8, trail: u8) -> Option<Scalar> {
+        known_pair(self, state, lead, trail)
     }
 
     // In the loop over the bytes.

@@ -1,7 +1,7 @@
 -- Text and items under way.
 use Rattle.std.specs.Prelude.{ℕ, ℤ, pos, ◌-ℤ◌, ◌+ℤ◌, List, [], ◌∷◌, ◌++◌}
 use Rattle.decoder_core.specs.declared.bulk.Stride.{Stride}
-use Rattle.decoder_core.specs.declared.bulk.Stride.TheVariants.{Utf8, Utf16}
+use Rattle.decoder_core.specs.declared.bulk.Stride.TheVariants.{Utf8, Utf16, Pairs}
 use Rattle.decoder_core.specs.declared.item.Item.{Item}
 use Rattle.decoder_core.specs.declared.item.Item.TheVariants.{One}
 use Rattle.decoder_core.specs.declared.item.Ended.{Ended as EndedItem}
@@ -43,6 +43,7 @@ with_more g text items = record { text = g.text ++ text; items = g.items ++ item
 abbrev pub least_width : Stride → ℕ
 least_width Utf8 = 1
 least_width Utf16 = 2
+least_width Pairs = 1
 
 -- the items that are these code points, without gaps from the place `from` on
 abbrev pub plain_items_from : Stride → ℤ → OutputState → List ℕ → List Ended

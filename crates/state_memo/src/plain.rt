@@ -35,7 +35,7 @@ fn even_width(text: &str, stride: Stride) -> Option<u8>
 {
     let count = count_scalars(text);
     match stride {
-        Stride::Utf8 if text.len() == count => Some(1),
+        Stride::Utf8 | Stride::Pairs if text.len() == count => Some(1),
         Stride::Utf16 if count_utf16(text) == count => Some(2),
         _ => None,
     }
@@ -59,6 +59,7 @@ fn text_width(text: &str, stride: Stride) -> Option<usize>
             let width = count_utf16(text).checked_mul(2)?;
             Some(width)
         }
+        Stride::Pairs => pairs_width(text),
     }
 }
 
@@ -69,5 +70,7 @@ pub(crate) fn item_width(stride: Stride, c: char) -> i64
     match stride {
         Stride::Utf8 => c.len_utf8() as i64,
         Stride::Utf16 => 2 * c.len_utf16() as i64,
+        Stride::Pairs if c.is_ascii() => 1,
+        Stride::Pairs => 2,
     }
 }
