@@ -19,7 +19,7 @@ pub(crate) fn width_of(stride: Stride, c: char) -> usize
 }
 
 /// The length in bytes of the items that are the code points of a text.
-pub(crate) fn text_width(stride: Stride, text: &str) -> usize
+pub fn text_width(stride: Stride, text: &str) -> usize
     ensures { result ≡ run_width stride (chars text.now) }
 {
     let mut width = 0;

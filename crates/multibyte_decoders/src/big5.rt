@@ -1,7 +1,8 @@
 //! The Big5 decoder.
-ghost use Rattle.std.specs.Prelude.{◌≡◌};
+ghost use Rattle.std.specs.Prelude.{◌≡◌, Some, IfSome};
 ghost use Rattle.std.proofs.Common.{rules};
 ghost use Rattle.index_loader.specs.Index.{code_point_of};
+ghost use Rattle.decoder_core.specs.declared.item.Item.TheVariants.{One};
 ghost use Rattle.decoder_core.specs.Holding.{falls_of, counts_of};
 ghost use Rattle.multibyte_decoders.specs.declared.pairs.PairState.TheVariants.{Idle};
 ghost use Rattle.multibyte_decoders.specs.Big5.{big5, big5_pair, big5_pointer, big5_item, is_big5_lead};
@@ -53,6 +54,18 @@ impl<'i> Big5Decoder<'i> {
             _ => one_of(self.index.code_point(pointer)),
         }
     }
+
+    /// The code point of a pointer that gives one alone.
+    // In the loop over the bytes.
+    #[inline(always)]
+    fn entry(&self, pointer: u32) -> Option<Scalar>
+        ensures { IfSome result (λ code_point. big5_item (code_point_of self.now) pointer ≡ Some (One code_point)) }
+    {
+        match pointer {
+            1133 | 1135 | 1164 | 1166 => None,
+            _ => self.index.code_point(pointer),
+        }
+    }
 }
 
 /// The pointer of a lead and a trail.
@@ -89,6 +102,15 @@ impl<'i> PairRules for Big5Decoder<'i> {
     fn pair(&self, lead: u8, byte: u8) -> Option<Item> {
         match byte {
             0x40..=0x7E | 0xA1..=0xFE => self.item(pointer(lead, byte)),
+            _ => None,
+        }
+    }
+
+    // In the loop over the bytes.
+    #[inline(always)]
+    fn code_point(&self, lead: u8, byte: u8) -> Option<Scalar> {
+        match byte {
+            0x40..=0x7E | 0xA1..=0xFE => self.entry(pointer(lead, byte)),
             _ => None,
         }
     }

@@ -4,7 +4,7 @@ ghost use Rattle.std.proofs.Common.{rules};
 ghost use Rattle.index_loader.specs.Index.{code_point_of};
 ghost use Rattle.decoder_core.specs.Holding.{falls_of, counts_of};
 ghost use Rattle.multibyte_decoders.specs.declared.pairs.PairState.TheVariants.{Idle};
-ghost use Rattle.multibyte_decoders.specs.EucKr.{euc_kr, euc_kr_pair, is_euc_kr_lead};
+ghost use Rattle.multibyte_decoders.specs.EucKr.{euc_kr, euc_kr_pair, euc_kr_pointer, is_euc_kr_lead};
 ghost use Rattle.multibyte_decoders.specs.Pairs.{ascii_item};
 ghost use Rattle.multibyte_decoders.specs.Holdings.{euc_kr_holding};
 
@@ -39,6 +39,15 @@ impl<'i> EucKrDecoder<'i> {
     }
 }
 
+/// The pointer of a lead and a trail.
+// In the loop over the bytes.
+#[inline(always)]
+fn pointer(lead: u8, trail: u8) -> u32
+    ensures { result ≡ euc_kr_pointer lead trail }
+{
+    u32::from(lead.saturating_sub(0x81)) * 190 + u32::from(trail.saturating_sub(0x41))
+}
+
 impl<'i> PairRules for EucKrDecoder<'i> {
     ghost leads = { λ d. is_euc_kr_lead };
 
@@ -62,10 +71,16 @@ impl<'i> PairRules for EucKrDecoder<'i> {
     #[inline(always)]
     fn pair(&self, lead: u8, byte: u8) -> Option<Item> {
         match byte {
-            0x41..=0xFE => {
-                let row = u32::from(lead.saturating_sub(0x81));
-                one_of(self.index.code_point(row * 190 + u32::from(byte - 0x41)))
-            }
+            0x41..=0xFE => one_of(self.index.code_point(pointer(lead, byte))),
+            _ => None,
+        }
+    }
+
+    // In the loop over the bytes.
+    #[inline(always)]
+    fn code_point(&self, lead: u8, byte: u8) -> Option<Scalar> {
+        match byte {
+            0x41..=0xFE => self.index.code_point(pointer(lead, byte)),
             _ => None,
         }
     }

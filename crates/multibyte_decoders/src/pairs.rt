@@ -1,6 +1,7 @@
 //! What the decoders of single bytes and pairs have in common.
-ghost use Rattle.std.specs.Prelude.{◌≡◌, ℕ, Bool, Option, IfSome};
+ghost use Rattle.std.specs.Prelude.{◌≡◌, ℕ, Bool, Option, Some, IfSome};
 ghost use Rattle.decoder_core.specs.declared.item.Item.{Item};
+ghost use Rattle.decoder_core.specs.declared.item.Item.TheVariants.{One};
 ghost use Rattle.decoder_core.specs.PairRuns.{TakesPair};
 ghost use Rattle.decoder_core.specs.Steps.{bytes_of};
 ghost use Rattle.multibyte_decoders.specs.Pairs.{pair_table};
@@ -38,6 +39,11 @@ pub(crate) trait PairRules {
     /// The item of a lead and the byte after it, if they have one.
     fn pair(&self, lead: u8, byte: u8) -> Option<Item>
         ensures { result ≡ pairs self.now lead byte };
+
+    /// The code point of a lead and the byte after it, where they have one alone and it is known at
+    /// once.
+    fn code_point(&self, lead: u8, byte: u8) -> Option<Scalar>
+        ensures { IfSome result (λ code_point. pairs self.now lead byte ≡ Some (One code_point)) };
 }
 
 /// The code point of a pair, where nothing is pending and the pair has one alone.
@@ -52,10 +58,7 @@ pub(crate) fn known_pair<R: PairRules>(
     ensures { IfSome result (λ c. TakesPair (pair_table (R.leads rules.now) (R.singles rules.now) (R.pairs rules.now)) state lead trail c) }
 {
     match state {
-        PairState::Idle if rules.is_lead(lead) => match rules.pair(lead, trail) {
-            Some(Item::One(code_point)) => Some(code_point),
-            _ => None,
-        },
+        PairState::Idle if rules.is_lead(lead) => rules.code_point(lead, trail),
         _ => None,
     }
 }

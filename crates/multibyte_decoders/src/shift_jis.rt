@@ -41,7 +41,7 @@ impl<'i> ShiftJisDecoder<'i> {
     /// The code point of a pointer.
     // In the loop over the bytes.
     #[inline(always)]
-    fn code_point(&self, pointer: u32) -> Option<Scalar>
+    fn entry(&self, pointer: u32) -> Option<Scalar>
         ensures { result ≡ shift_jis_code_point (code_point_of self.now) pointer }
     {
         match pointer {
@@ -90,7 +90,16 @@ impl<'i> PairRules for ShiftJisDecoder<'i> {
     #[inline(always)]
     fn pair(&self, lead: u8, byte: u8) -> Option<Item> {
         match byte {
-            0x40..=0x7E | 0x80..=0xFC => one_of(self.code_point(pointer(lead, byte))),
+            0x40..=0x7E | 0x80..=0xFC => one_of(self.entry(pointer(lead, byte))),
+            _ => None,
+        }
+    }
+
+    // In the loop over the bytes.
+    #[inline(always)]
+    fn code_point(&self, lead: u8, byte: u8) -> Option<Scalar> {
+        match byte {
+            0x40..=0x7E | 0x80..=0xFC => self.entry(pointer(lead, byte)),
             _ => None,
         }
     }

@@ -8,7 +8,7 @@ use Rattle.std.specs.Char.{len_utf8}
 use Rattle.std.specs.Str.{chars, IsUtf8}
 use Rattle.lane_utf.specs.Widths.{utf8_width, utf16_width, total_width}
 use Rattle.decoder_core.specs.declared.bulk.Stride.{Stride}
-use Rattle.decoder_core.specs.declared.bulk.Stride.TheVariants.{Utf8, Utf16}
+use Rattle.decoder_core.specs.declared.bulk.Stride.TheVariants.{Utf8, Utf16, Pairs}
 use Rattle.decoder_core.specs.declared.item.Item.TheVariants.{One}
 use Rattle.decoder_core.specs.Bulk.{width_of, run_width, plain_from, plain_to}
 use Rattle.decoder_core.specs.Shown.{Shown}
@@ -44,6 +44,43 @@ utf8-even stride text cs n e width same count =
 pub utf16-even : (stride : Stride) (cs : List ℕ) (n units : ℕ) → stride ≡ Utf16 → units ≡ total_width utf16_width cs → units ≡ n → n ≡ length cs → run_width stride cs ≡ least_width stride * length cs
 utf16-even stride cs n units e units_is same count =
     subst (λ (t : Stride). run_width t cs ≡ least_width t * length cs) (sym e) (omega (arith, utf16-run cs, units_is, same, count))
+
+narrow-by : (k : Bool) (c : ℕ) → nat_lt c 0x80 ≡ k → width_of Pairs c ≤ len_utf8 c
+narrow-by true c e =
+    let some = len_utf8_bounds c in
+    let one : width_of Pairs c ≡ 1 = rw e refl in
+    omega (arith, some.0, one)
+narrow-by false c e =
+    let two : width_of Pairs c ≡ 2 = rw e refl in
+    let more = high-width c e in
+    omega (arith, two, more)
+  where
+    high-by : (k l : Bool) → 2 ≤ cond k 2 (cond {A = ℕ} l 3 4)
+    high-by true l = omega arith
+    high-by false true = omega arith
+    high-by false false = omega arith
+
+    high-width : (c : ℕ) → nat_lt c 0x80 ≡ false → 2 ≤ len_utf8 c
+    high-width c e = rw e (high-by (nat_lt c 0x800) (nat_lt c 0x10000))
+
+pairs-narrow : (cs : List ℕ) → run_width Pairs cs ≤ run_width Utf8 cs
+pairs-narrow [] = omega arith
+pairs-narrow (c ∷ cs) = omega (arith, narrow-by (nat_lt c 0x80) c refl, pairs-narrow cs)
+
+pair-some : (c : ℕ) → 1 ≤ width_of Pairs c
+pair-some c = at_least_one (nat_lt c 0x80)
+  where
+    at_least_one : (t : Bool) → 1 ≤ cond t 1 2
+    at_least_one true = omega arith
+    at_least_one false = omega arith
+
+at-least-one : (cs : List ℕ) → length cs ≤ run_width Pairs cs
+at-least-one [] = omega arith
+at-least-one (c ∷ cs) = omega (arith, at-least-one cs, pair-some c)
+
+pub pairs-even : (stride : Stride) (text cs : List ℕ) (n : ℕ) → stride ≡ Pairs → length text ≡ total_width utf8_width cs → length text ≡ n → n ≡ length cs → run_width stride cs ≡ least_width stride * length cs
+pairs-even stride text cs n e width same count =
+    subst (λ (t : Stride). run_width t cs ≡ least_width t * length cs) (sym e) (omega (arith, utf8-run cs, pairs-narrow cs, at-least-one cs, width, same, count))
 
 -- ---- as they are shown one by one
 
@@ -127,6 +164,13 @@ units-wide c cs e =
     let rest = at-least-two cs in
     record { first = omega (arith, e, some, rest); rest = omega (arith, e, some, rest) }
 
+-- as many bytes as code points
+pub pairs-wide : (c : ℕ) (cs : List ℕ) → run_width Pairs (c ∷ cs) ≡ 1 * length (c ∷ cs) → AllWide Pairs 1 c cs
+pairs-wide c cs e =
+    let some = pair-some c in
+    let rest = at-least-one cs in
+    record { first = omega (arith, e, some, rest); rest = omega (arith, e, some, rest) }
+
 pub even-is : (stride : Stride) (kind : ItemKind) (output : OutputState) → ((end : ℤ) → item_of_kind kind end ≡ record { scalars = 1; end = end; error = false; output = output })
     → (end last : ℤ) (step more : ℕ) (cs : List ℕ) → step ≡ least_width stride → last ≡ end → suc more ≡ length cs → run_width stride cs ≡ least_width stride * length cs
     → items_until kind step last (suc more) ≡ plain_items stride end output cs
@@ -139,6 +183,7 @@ even-is stride kind output one end last step more cs step_is last_is count all =
     by_stride : (t : Stride) → run_width t cs ≡ least_width t * length cs → items_until kind (least_width t) end (length cs) ≡ plain_items t end output cs
     by_stride Utf8 e = even Utf8 1 kind output (λ c l. one l) ascii-wide end cs e
     by_stride Utf16 e = even Utf16 2 kind output (λ c l. one l) units-wide end cs e
+    by_stride Pairs e = even Pairs 1 kind output (λ c l. one l) pairs-wide end cs e
 
 -- ---- one code point after the other
 

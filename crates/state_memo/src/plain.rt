@@ -35,8 +35,9 @@ fn even_width(text: &str, stride: Stride) -> Option<u8>
 {
     let count = count_scalars(text);
     match stride {
-        Stride::Utf8 | Stride::Pairs if text.len() == count => Some(1),
+        Stride::Utf8 if text.len() == count => Some(1),
         Stride::Utf16 if count_utf16(text) == count => Some(2),
+        Stride::Pairs if text.len() == count => Some(1),
         _ => None,
     }
 }
@@ -59,7 +60,7 @@ fn text_width(text: &str, stride: Stride) -> Option<usize>
             let width = count_utf16(text).checked_mul(2)?;
             Some(width)
         }
-        Stride::Pairs => pairs_width(text),
+        Stride::Pairs => Some(decoder_core::text_width(stride, text)),
     }
 }
 
