@@ -6,10 +6,10 @@ pub mod Counted
 pub mod Counts
 pub mod Examples
 pub mod Forms
+pub mod Fronts
 pub mod Holding
 pub mod Lift
 pub mod OneByteLaws
-pub mod PairRuns
 pub mod Pending
 pub mod Placed
 pub mod Queue

@@ -9,6 +9,8 @@ pub enum Stride {
     Utf16,
     /// One byte where its code point is ASCII, and two where it isn't.
     Pairs,
+    /// One byte.
+    Bytes,
 }
 
 /// Bytes that a decoder took in bulk: each of their items is one code point, they have no gaps

@@ -5,6 +5,8 @@
 
 mod ascii_runs;
 mod bulk;
+mod byte_bulk;
+mod characters;
 mod collector;
 mod counts;
 mod decoder;
@@ -39,6 +41,7 @@ mod x_user_defined;
 
 pub use ascii_runs::AsciiRuns;
 pub use bulk::{Bulk, NO_BULK, Stride};
+pub use characters::Characters;
 pub use counts::Meter;
 pub use decoder::{Decoder, Simple, Step};
 pub use few::Few;

@@ -1,13 +1,13 @@
 //! Runs of pairs of bytes, and of ASCII between them, in bulk.
 ghost use Rattle.std.specs.Prelude.{◌≡◌, ◌+◌, ◌<◌, ◌≤◌, IfSome, length};
 ghost use Rattle.decoder_core.specs.declared.ascii_runs.AsciiRuns.TheVariants.{All};
+ghost use Rattle.decoder_core.specs.declared.bulk.Stride.TheVariants.{Pairs};
 ghost use Rattle.decoder_core.specs.AsciiRuns.{TakesAscii};
 ghost use Rattle.decoder_core.specs.Bulk.{IsBulk};
-ghost use Rattle.decoder_core.specs.PairRuns.{IsFront};
+ghost use Rattle.decoder_core.specs.Fronts.{IsFront};
 
 use crate::ascii_runs::AsciiRuns;
 use crate::bulk::{Bulk, Stride};
-use crate::forms::scalar;
 use crate::handler::Handler;
 use crate::run_bulk::{begins_ascii, run_bulk};
 use enc_names::Scalar;
@@ -38,13 +38,9 @@ pub(crate) fn pair_bulk<H: Handler>(
 }
 
 /// Takes the ASCII bytes and the pairs at the front, as far as the block takes them.
-#[inline(always)]
-fn take_pairs<H: Handler>(
-    handler: &H,
-    state: H::State,
-    bytes: &[u8],
-    text: &mut [u8; 1024],
-) -> Bulk
+// Once in some hundred bytes: its loop has the registers to itself.
+#[inline(never)]
+fn take_pairs<H: Handler>(handler: &H, state: H::State, bytes: &[u8], text: &mut [u8; 1024]) -> Bulk
     requires { TakesAscii (H.table handler.now) state All }
     ensures { IsBulk (H.table handler.now) state bytes.now result text.new }
 {
@@ -52,11 +48,17 @@ fn take_pairs<H: Handler>(
     let mut taken = 0;
     let mut written = 0;
     'pairs: while taken + 1 < end {
-        let Some((code_point, width)) = front(handler, state, bytes, taken) else {
+        let lead = bytes[taken];
+        if lead < 0x80 {
+            written = put_scalar(text, written, u32::from(lead));
+            taken += 1;
+            continue;
+        }
+        let Some(code_point) = pair_at(handler, state, bytes, taken) else {
             break;
         };
         written = put_scalar(text, written, code_point.get());
-        taken += width;
+        taken += 2;
     }
     Bulk {
         taken,
@@ -65,26 +67,16 @@ fn take_pairs<H: Handler>(
     }
 }
 
-/// The code point of the byte or the pair at an index, and its length.
+/// The code point of the pair at an index.
 #[inline(always)]
-fn front<H: Handler>(
-    handler: &H,
-    state: H::State,
-    bytes: &[u8],
-    at: usize,
-) -> Option<(Scalar, usize)>
-    requires ascii { TakesAscii (H.table handler.now) state All }
-    requires within { at + 1 < length bytes.now }
-    ensures { IfSome result (λ found. IsFront (H.table handler.now) state bytes.now at found.0 found.1) }
+fn pair_at<H: Handler>(handler: &H, state: H::State, bytes: &[u8], at: usize) -> Option<Scalar>
+    requires { at + 1 < length bytes.now }
+    ensures { IfSome result (λ code_point. IsFront (H.table handler.now) state Pairs bytes.now at code_point 2) }
 {
-    let lead = bytes[at];
-    if lead < 0x80 {
-        return Some((scalar(u32::from(lead)), 1));
-    }
-    let code_point = handler.known_pair(state, lead, bytes[at + 1])?;
+    let code_point = handler.known_pair(state, bytes[at], bytes[at + 1])?;
     if code_point.get() < 0x80 {
         None
     } else {
-        Some((code_point, 2))
+        Some(code_point)
     }
 }

@@ -15,6 +15,7 @@ pub(crate) fn width_of(stride: Stride, c: char) -> usize
         Stride::Utf16 => 4,
         Stride::Pairs if c.is_ascii() => 1,
         Stride::Pairs => 2,
+        Stride::Bytes => 1,
     }
 }
 

@@ -12,7 +12,7 @@ ghost use Rattle.multibyte_decoders.specs.Holdings.{big5_holding};
 use crate::pairs::{PairRules, PairState, known_pair, pair_turn};
 use crate::turns::{ascii_item, one_of};
 use decoder_core::forms::scalar;
-use decoder_core::{AsciiRuns, Handled, Handler, Item};
+use decoder_core::{AsciiRuns, Characters, Handled, Handler, Item};
 use enc_names::Scalar;
 use index_loader::Index;
 use std::marker::Model;
@@ -136,8 +136,8 @@ impl<'i> Handler for Big5Decoder<'i> {
     }
 
     #[inline(always)]
-    fn has_pairs(&self) -> bool {
-        true
+    fn characters(&self) -> Characters {
+        Characters::Pairs
     }
 
     // In the loop over the bytes.

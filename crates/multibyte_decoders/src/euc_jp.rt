@@ -10,7 +10,7 @@ ghost use Rattle.multibyte_decoders.specs.Holdings.{euc_jp_holding};
 
 use crate::turns::{ascii_item, begin, complete, one_of};
 use decoder_core::forms::{finish, give, give_one, hold};
-use decoder_core::{AsciiRuns, Handled, Handler, Item};
+use decoder_core::{AsciiRuns, Characters, Handled, Handler, Item};
 use enc_names::Scalar;
 use index_loader::Index;
 use std::marker::Model;
@@ -104,8 +104,8 @@ impl<'i> Handler for EucJpDecoder<'i> {
     }
 
     #[inline(always)]
-    fn has_pairs(&self) -> bool {
-        true
+    fn characters(&self) -> Characters {
+        Characters::Pairs
     }
 
     // In the loop over the bytes.

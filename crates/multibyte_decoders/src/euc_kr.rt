@@ -10,7 +10,7 @@ ghost use Rattle.multibyte_decoders.specs.Holdings.{euc_kr_holding};
 
 use crate::pairs::{PairRules, PairState, known_pair, pair_turn};
 use crate::turns::{ascii_item, one_of};
-use decoder_core::{AsciiRuns, Handled, Handler, Item};
+use decoder_core::{AsciiRuns, Characters, Handled, Handler, Item};
 use enc_names::Scalar;
 use index_loader::Index;
 use std::marker::Model;
@@ -106,8 +106,8 @@ impl<'i> Handler for EucKrDecoder<'i> {
     }
 
     #[inline(always)]
-    fn has_pairs(&self) -> bool {
-        true
+    fn characters(&self) -> Characters {
+        Characters::Pairs
     }
 
     // In the loop over the bytes.

@@ -10,7 +10,7 @@ ghost use Rattle.multibyte_decoders.specs.Holdings.{gb18030_holding};
 
 use crate::turns::{ascii_item, begin, complete, one_of};
 use decoder_core::forms::{finish, found, give, hold, restore, scalar};
-use decoder_core::{AsciiRuns, Few, Handled, Handler, Item};
+use decoder_core::{AsciiRuns, Characters, Few, Handled, Handler, Item};
 use enc_names::Scalar;
 use index_loader::Index;
 use std::marker::Model;
@@ -125,8 +125,8 @@ impl<'i> Handler for Gb18030Decoder<'i> {
     }
 
     #[inline(always)]
-    fn has_pairs(&self) -> bool {
-        true
+    fn characters(&self) -> Characters {
+        Characters::Pairs
     }
 
     // In the loop over the bytes.

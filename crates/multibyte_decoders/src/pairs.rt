@@ -2,7 +2,7 @@
 ghost use Rattle.std.specs.Prelude.{◌≡◌, ℕ, Bool, Option, Some, IfSome};
 ghost use Rattle.decoder_core.specs.declared.item.Item.{Item};
 ghost use Rattle.decoder_core.specs.declared.item.Item.TheVariants.{One};
-ghost use Rattle.decoder_core.specs.PairRuns.{TakesPair};
+ghost use Rattle.decoder_core.specs.Fronts.{TakesPair};
 ghost use Rattle.decoder_core.specs.Steps.{bytes_of};
 ghost use Rattle.multibyte_decoders.specs.Pairs.{pair_table};
 

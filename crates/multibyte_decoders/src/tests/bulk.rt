@@ -50,7 +50,10 @@ fn expect_pairs<D: Decoder>(
     for count in 0..=257 {
         let mut block = [0; 1024];
         let bulk = decoder.bulk(decoder.start(), &bytes[..count], &mut block);
-        assert!(rt; bulk.taken <= count && count <= bulk.taken + 1, "{count} bytes");
+        assert!(rt;
+            bulk.taken <= count && count <= bulk.taken + 1,
+            "{count} bytes"
+        );
         assert!(rt; bulk.taken % 3 != 1, "{count} bytes");
         assert_eq!(rt; bulk.stride, Stride::Pairs);
         let mut items = 0;
@@ -134,6 +137,9 @@ fn gb18030_takes_ascii_and_pairs_where_no_lead_is_pending(rt: HostRuntime) -> Re
 #[test]
 fn pair_that_is_ascii_is_not_taken(rt: HostRuntime) -> Result<(), Fail> {
     let index = Index::parse(rt.alloc(), IndexKind::EucKr, b"0\t0x0041\n")?;
-    assert_eq!(rt; taken(&EucKrDecoder::new(&index), &[0x81, 0x41, 0x81, 0x41]), 0);
+    assert_eq!(rt;
+        taken(&EucKrDecoder::new(&index), &[0x81, 0x41, 0x81, 0x41]),
+        0
+    );
     Ok(())
 }
