@@ -7,7 +7,7 @@ use Rattle.std.specs.Char.{len_utf8}
 use Rattle.std.specs.Str.{chars, encode_utf8_all, IsUtf8}
 use Rattle.std.proofs.lemmas.Str.{encodes-chars, length-encode, chars_past_char, len_utf8_bounds}
 use Rattle.decoder_core.specs.declared.bulk.Stride.{Stride}
-use Rattle.decoder_core.specs.declared.bulk.Stride.TheVariants.{Utf8, Utf16}
+use Rattle.decoder_core.specs.declared.bulk.Stride.TheVariants.{Utf8, Utf16, Pairs, Bytes}
 use Rattle.decoder_core.specs.declared.item.Item.TheVariants.{One}
 use Rattle.decoder_core.specs.Bulk.{width_of, run_width, plain_from, plain_to}
 use Rattle.std.proofs.lemmas.Grind.{fold-append}
@@ -34,9 +34,21 @@ order-by false a b e = inr (ltb-false a b e)
 pub order : (a b : ℕ) → (a < b) ⊎ (b ≤ a)
 order a b = order-by (nat_lt a b) a b refl
 
+pair-few : (k : Bool) (c : ℕ) → nat_lt c 0x80 ≡ k → width_of Pairs c ≤ 2 * len_utf8 c
+pair-few true c e =
+    let some = len_utf8_bounds c in
+    let one : width_of Pairs c ≡ 1 = rw e refl in
+    Prim.omega (arith, some.0, one)
+pair-few false c e =
+    let some = len_utf8_bounds c in
+    let two : width_of Pairs c ≡ 2 = rw e refl in
+    Prim.omega (arith, some.0, two)
+
 width-few : (stride : Stride) (c : ℕ) → width_of stride c ≤ 2 * len_utf8 c
 width-few Utf8 c = Prim.omega arith
 width-few Utf16 c = width-few-by c (order c 0x10000)
+width-few Pairs c = pair-few (nat_lt c 0x80) c refl
+width-few Bytes c = let some = len_utf8_bounds c in Prim.omega (arith, some.0)
 
 width-small : (stride : Stride) (cs : List ℕ) → run_width stride cs ≤ 2 * length (encode_utf8_all cs)
 width-small stride [] = Prim.omega arith

@@ -4,6 +4,7 @@ pub mod Showing
 pub mod Collecting
 pub mod Lifting
 pub mod Moving
+pub mod Fronts
 pub mod PlainRuns
 pub mod Turning
 pub mod Utf8Runs

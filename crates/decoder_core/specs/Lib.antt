@@ -6,6 +6,7 @@ pub mod Counted
 pub mod Counts
 pub mod Examples
 pub mod Forms
+pub mod Fronts
 pub mod Holding
 pub mod Lift
 pub mod OneByteLaws

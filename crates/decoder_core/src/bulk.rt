@@ -7,6 +7,10 @@ pub enum Stride {
     Utf8,
     /// Twice as long as the number of units that its code point has in UTF-16.
     Utf16,
+    /// One byte where its code point is ASCII, and two where it isn't.
+    Pairs,
+    /// One byte.
+    Bytes,
 }
 
 /// Bytes that a decoder took in bulk: each of their items is one code point, they have no gaps

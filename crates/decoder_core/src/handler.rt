@@ -1,15 +1,18 @@
 //! Handlers: one turn of a decoder as the Encoding Standard states it.
-ghost use Rattle.std.specs.Prelude.{◌≡◌, ℕ, Bool, true, Option};
+ghost use Rattle.std.specs.Prelude.{◌≡◌, ℕ, Bool, true, Option, IfSome};
 ghost use Rattle.decoder_core.specs.Bulk.{IsBulk};
 ghost use Rattle.decoder_core.specs.AsciiRuns.{TakesAscii};
+ghost use Rattle.decoder_core.specs.Fronts.{TakesByte, TakesPair};
 ghost use Rattle.decoder_core.specs.Queue.{Turn, Falls};
 ghost use Rattle.decoder_core.specs.Counts.{Counts};
 ghost use Rattle.decoder_core.specs.Steps.{bytes_of};
 
 use crate::ascii_runs::AsciiRuns;
 use crate::bulk::{Bulk, NO_BULK};
+use crate::characters::Characters;
 use crate::few::Few;
 use crate::item::Item;
+use enc_names::Scalar;
 
 /// What a handler answers (Encoding Standard, "Encoders and decoders"): continue, an item, or finished.
 #[derive(Clone, Copy, PartialEq, Eq, Debug)]
@@ -61,6 +64,34 @@ pub trait Handler {
     {
         let _ = state;
         AsciiRuns::None
+    }
+
+    /// Which characters the decoder takes in bulk in a state where all ASCII bytes are their own
+    /// code points.
+    #[inline(always)]
+    fn characters(&self) -> Characters {
+        Characters::Ascii
+    }
+
+    /// The code point of a byte, where it has exactly one in this state and leaves it as it is; the
+    /// decoder takes runs of such bytes in bulk. `None` says nothing of the byte.
+    #[inline(always)]
+    fn known_byte(&self, state: Self::State, byte: u8) -> Option<Scalar>
+        ensures { IfSome result (λ code_point. TakesByte (table self.now) state byte code_point) }
+    {
+        let _ = (state, byte);
+        None
+    }
+
+    /// The code point of two bytes, where they have exactly one in this state and leave it as it
+    /// is; the decoder takes runs of such pairs and of ASCII in bulk. `None` says nothing of the
+    /// bytes.
+    #[inline(always)]
+    fn known_pair(&self, state: Self::State, lead: u8, trail: u8) -> Option<Scalar>
+        ensures { IfSome result (λ code_point. TakesPair (table self.now) state lead trail code_point) }
+    {
+        let _ = (state, lead, trail);
+        None
     }
 
     /// Takes bytes in bulk in a state that has no such bytes, as `Decoder::bulk` does.

@@ -11,12 +11,16 @@ use crate::memory::OutOfMemory;
 use crate::sink::Sink;
 
 /// How many bytes are stepped over at first where none was taken in bulk, before that is tried
-/// again: at each byte it would cost more than it gains.
-const SHORTEST: usize = 16;
+/// again: at each byte it would cost more than it gains. An odd number, so that pairs are not met
+/// in their middle again and again.
+const SHORTEST: usize = 7;
 
-/// How many bytes are stepped over at most. Each time that none is taken twice as many are stepped
-/// over, so that text without runs is decoded as fast as without the trials.
-const LONGEST: usize = 256;
+/// How many bytes are stepped over at most. Each time that few are taken or none, twice as many are
+/// stepped over and one more, so that text without runs is decoded as fast as without the trials.
+const LONGEST: usize = 255;
+
+/// How many bytes are a run that pays.
+const RUN: usize = 16;
 
 /// Steps over the bytes from a state, gives the items to the sink, and answers the state behind
 /// the bytes. The meter counts the bytes.
@@ -91,7 +95,11 @@ fn advance<D: Decoder, K: Sink<D::State>>(
         return Ok(Moved {
             state,
             taken,
-            stretch: SHORTEST,
+            stretch: if taken < RUN {
+                longer(stretch)
+            } else {
+                SHORTEST
+            },
         });
     }
     let taken = rest.len().min(stretch);
@@ -99,8 +107,16 @@ fn advance<D: Decoder, K: Sink<D::State>>(
     Ok(Moved {
         state: after,
         taken,
-        stretch: stretch.saturating_mul(2).min(LONGEST),
+        stretch: longer(stretch),
     })
+}
+
+/// How many bytes are stepped over next where few were taken in bulk, or none.
+#[inline(always)]
+fn longer(stretch: usize) -> usize
+    ensures { 0 < result }
+{
+    stretch.saturating_mul(2).saturating_add(1).min(LONGEST)
 }
 
 /// Steps over some bytes, which stand behind the first `read`.

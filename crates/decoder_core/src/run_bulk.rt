@@ -43,7 +43,7 @@ fn copy_run(runs: AsciiRuns, bytes: &[u8], text: &mut [u8; 1024]) -> Bulk
 
 /// Whether the next bytes are ASCII bytes, and enough of them that a run of its own pays.
 #[inline(always)]
-fn begins_ascii(bytes: &[u8]) -> bool {
+pub(crate) fn begins_ascii(bytes: &[u8]) -> bool {
     match bytes.first_chunk::<16>() {
         Some(front) => u128::from_le_bytes(*front) & 0x8080_8080_8080_8080_8080_8080_8080_8080 == 0,
         None => false,

@@ -8,10 +8,12 @@ ghost use Rattle.decoder_core.specs.OneByteLaws.{single_byte_holding};
 ghost use Rattle.decoder_core.specs.SingleByte.{single_byte, single_byte_item};
 
 use crate::ascii_runs::AsciiRuns;
+use crate::characters::Characters;
 use crate::forms::{finish, found, give, scalar};
 use crate::handler::{Handled, Handler};
 use crate::item::Item;
 use crate::one_byte::OneByteState;
+use enc_names::Scalar;
 use index_loader::Index;
 use std::marker::Model;
 
@@ -64,6 +66,19 @@ impl<'i> Handler for SingleByteDecoder<'i> {
     fn ascii_runs(&self, state: OneByteState) -> AsciiRuns {
         let _ = state;
         AsciiRuns::All
+    }
+
+    #[inline(always)]
+    fn characters(&self) -> Characters {
+        Characters::Bytes
+    }
+
+    // In the loop over the bytes.
+    #[inline(always)]
+    fn known_byte(&self, state: OneByteState, byte: u8) -> Option<Scalar> {
+        let _ = state;
+        let pointer = byte.checked_sub(0x80)?;
+        self.index.code_point(u32::from(pointer))
     }
 
     // In the loop over the bytes.

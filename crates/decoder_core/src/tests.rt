@@ -18,11 +18,13 @@ use crate::memory::OutOfMemory;
 use crate::parts::decode_parts;
 use crate::piece::run_piece;
 use crate::placed::Placed;
+use crate::single_byte::SingleByteDecoder;
 use crate::sink::Sink;
 use crate::utf8::Utf8Decoder;
-use crate::x_user_defined::XUserDefinedDecoder;
-use enc_names::Scalar;
+use enc_names::{Encoding, Scalar};
+use index_loader::{Index, IndexKind};
 use std::alloc::{AllocError, Global};
+use std::test::Fail;
 
 mod bulk;
 mod one_byte;
@@ -297,22 +299,21 @@ impl<S: Copy> Sink<S> for Bounded {
 }
 
 #[test]
-fn a_refusing_sink_stops_the_run(rt: HostRuntime) {
+fn a_refusing_sink_stops_the_run(rt: HostRuntime) -> Result<(), Fail> {
+    // None of these bytes has a code point, so that they are stepped over.
+    let kind = IndexKind::SingleByte(Encoding::Windows1252);
+    let index = Index::parse(rt.alloc(), kind, b"0\t0x20AC\n")?;
+    let decoder = SingleByteDecoder::new(&index);
     let mut sink = Bounded {
         room: 2,
         ends: [0; 4],
     };
     let mut count = meter();
-    let outcome = run_piece(
-        &XUserDefinedDecoder,
-        XUserDefinedDecoder.start(),
-        b"abcd",
-        &mut sink,
-        &mut count,
-    );
+    let outcome = run_piece(&decoder, decoder.start(), &[0x81; 4], &mut sink, &mut count);
     assert!(rt; outcome.is_err());
     assert_eq!(rt; sink.ends, [0, 0, 1, 2]);
     assert_eq!(rt; count.decoded(), 4);
+    Ok(())
 }
 
 #[test]

@@ -5,10 +5,13 @@ ghost use Rattle.decoder_core.specs.Queue.{run, feed};
 
 use crate::ascii_runs::AsciiRuns;
 use crate::bulk::Bulk;
+use crate::byte_bulk::byte_bulk;
+use crate::characters::Characters;
 use crate::decoder::{Decoder, Simple, Step};
 use crate::few::Few;
 use crate::handler::{Answer, Handled, Handler};
 use crate::items::Items;
+use crate::pair_bulk::pair_bulk;
 use crate::run_bulk::run_bulk;
 
 impl<H: Handler> Decoder for H {
@@ -35,6 +38,11 @@ impl<H: Handler> Decoder for H {
     fn bulk(&self, state: H::State, bytes: &[u8], text: &mut [u8; 1024]) -> Bulk {
         match self.ascii_runs(state) {
             AsciiRuns::None => self.take_bulk(state, bytes, text),
+            AsciiRuns::All => match self.characters() {
+                Characters::Ascii => run_bulk(self, state, AsciiRuns::All, bytes, text),
+                Characters::Bytes => byte_bulk(self, state, bytes, text),
+                Characters::Pairs => pair_bulk(self, state, bytes, text),
+            },
             runs => run_bulk(self, state, runs, bytes, text),
         }
     }

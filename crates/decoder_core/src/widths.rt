@@ -13,11 +13,14 @@ pub(crate) fn width_of(stride: Stride, c: char) -> usize
         Stride::Utf8 => c.len_utf8(),
         Stride::Utf16 if (c as u32) < 0x1_0000 => 2,
         Stride::Utf16 => 4,
+        Stride::Pairs if c.is_ascii() => 1,
+        Stride::Pairs => 2,
+        Stride::Bytes => 1,
     }
 }
 
 /// The length in bytes of the items that are the code points of a text.
-pub(crate) fn text_width(stride: Stride, text: &str) -> usize
+pub fn text_width(stride: Stride, text: &str) -> usize
     ensures { result ≡ run_width stride (chars text.now) }
 {
     let mut width = 0;

@@ -7,9 +7,11 @@ ghost use Rattle.decoder_core.specs.OneByteLaws.{x_user_defined_holding};
 ghost use Rattle.decoder_core.specs.XUserDefined.{x_user_defined, x_user_defined_code_point};
 
 use crate::ascii_runs::AsciiRuns;
-use crate::forms::{finish, give_one};
+use crate::characters::Characters;
+use crate::forms::{finish, give_one, scalar};
 use crate::handler::{Handled, Handler};
 use crate::one_byte::OneByteState;
+use enc_names::Scalar;
 
 /// The x-user-defined decoder (Encoding Standard, "x-user-defined decoder").
 #[derive(Clone, Copy, PartialEq, Eq, Debug)]
@@ -30,6 +32,18 @@ impl Handler for XUserDefinedDecoder {
     fn ascii_runs(&self, state: OneByteState) -> AsciiRuns {
         let _ = state;
         AsciiRuns::All
+    }
+
+    #[inline(always)]
+    fn characters(&self) -> Characters {
+        Characters::Bytes
+    }
+
+    // In the loop over the bytes.
+    #[inline(always)]
+    fn known_byte(&self, state: OneByteState, byte: u8) -> Option<Scalar> {
+        let _ = state;
+        Some(scalar(code_point(byte)))
     }
 
     // In the loop over the bytes.

@@ -23,6 +23,6 @@ pub use lane_ascii::NeedsRoom;
 pub use places::{nth_scalar, nth_utf16};
 pub use select::Select;
 pub use surrogates::first_lone_surrogate;
-pub use to_utf8::utf16_to_utf8;
+pub use to_utf8::{put_scalar, utf16_to_utf8};
 pub use to_utf16::utf8_to_utf16;
 pub use valid::valid_run;

@@ -75,7 +75,7 @@ fn write(units: &[u16], bytes: &mut [u8])
             tested = read + 8;
         }
         let (code_point, width) = front(units, read);
-        written = put(bytes, written, code_point);
+        written = put_scalar(bytes, written, code_point);
         read += width;
     }
 }
@@ -156,9 +156,11 @@ fn front(units: &[u16], at: usize) -> (u32, usize)
     (0x1_0000 + (unit - 0xD800) * 0x400 + (trail - 0xDC00), 2)
 }
 
-/// Writes the bytes of a code point, and returns the index behind them.
+/// Writes the UTF-8 form of a code point (Unicode, chapter 3, D92) from an index on, and returns the
+/// index behind it.
+// In the loop over the code points of a text.
 #[inline(always)]
-fn put(bytes: &mut [u8], at: usize, c: u32) -> usize
+pub fn put_scalar(bytes: &mut [u8], at: usize, c: u32) -> usize
     requires scalar { IsScalar c }
     requires room { at + utf8_width c ≤ length bytes.old }
     ensures end { result ≡ at + utf8_width c }

@@ -1,17 +1,19 @@
 //! The Big5 decoder.
-ghost use Rattle.std.specs.Prelude.{◌≡◌};
+ghost use Rattle.std.specs.Prelude.{◌≡◌, Some, IfSome};
 ghost use Rattle.std.proofs.Common.{rules};
 ghost use Rattle.index_loader.specs.Index.{code_point_of};
+ghost use Rattle.decoder_core.specs.declared.item.Item.TheVariants.{One};
 ghost use Rattle.decoder_core.specs.Holding.{falls_of, counts_of};
 ghost use Rattle.multibyte_decoders.specs.declared.pairs.PairState.TheVariants.{Idle};
 ghost use Rattle.multibyte_decoders.specs.Big5.{big5, big5_pair, big5_pointer, big5_item, is_big5_lead};
 ghost use Rattle.multibyte_decoders.specs.Pairs.{ascii_item};
 ghost use Rattle.multibyte_decoders.specs.Holdings.{big5_holding};
 
-use crate::pairs::{PairRules, PairState, pair_turn};
+use crate::pairs::{PairRules, PairState, known_pair, pair_turn};
 use crate::turns::{ascii_item, one_of};
 use decoder_core::forms::scalar;
-use decoder_core::{AsciiRuns, Handled, Handler, Item};
+use decoder_core::{AsciiRuns, Characters, Handled, Handler, Item};
+use enc_names::Scalar;
 use index_loader::Index;
 use std::marker::Model;
 
@@ -50,6 +52,18 @@ impl<'i> Big5Decoder<'i> {
             1164 => Some(Item::Two(scalar(0xEA), scalar(0x304))),
             1166 => Some(Item::Two(scalar(0xEA), scalar(0x30C))),
             _ => one_of(self.index.code_point(pointer)),
+        }
+    }
+
+    /// The code point of a pointer that gives one alone.
+    // In the loop over the bytes.
+    #[inline(always)]
+    fn entry(&self, pointer: u32) -> Option<Scalar>
+        ensures { IfSome result (λ code_point. big5_item (code_point_of self.now) pointer ≡ Some (One code_point)) }
+    {
+        match pointer {
+            1133 | 1135 | 1164 | 1166 => None,
+            _ => self.index.code_point(pointer),
         }
     }
 }
@@ -91,6 +105,15 @@ impl<'i> PairRules for Big5Decoder<'i> {
             _ => None,
         }
     }
+
+    // In the loop over the bytes.
+    #[inline(always)]
+    fn code_point(&self, lead: u8, byte: u8) -> Option<Scalar> {
+        match byte {
+            0x40..=0x7E | 0xA1..=0xFE => self.entry(pointer(lead, byte)),
+            _ => None,
+        }
+    }
 }
 
 impl<'i> Handler for Big5Decoder<'i> {
@@ -110,6 +133,17 @@ impl<'i> Handler for Big5Decoder<'i> {
             PairState::Idle => AsciiRuns::All,
             PairState::Lead(_) => AsciiRuns::None,
         }
+    }
+
+    #[inline(always)]
+    fn characters(&self) -> Characters {
+        Characters::Pairs
+    }
+
+    // In the loop over the bytes.
+    #[inline(always)]
+    fn known_pair(&self, state: PairState, lead: u8, trail: u8) -> Option<Scalar> {
+        known_pair(self, state, lead, trail)
     }
 
     // In the loop over the bytes.

@@ -10,7 +10,7 @@ ghost use Rattle.multibyte_decoders.specs.Holdings.{euc_jp_holding};
 
 use crate::turns::{ascii_item, begin, complete, one_of};
 use decoder_core::forms::{finish, give, give_one, hold};
-use decoder_core::{AsciiRuns, Handled, Handler, Item};
+use decoder_core::{AsciiRuns, Characters, Handled, Handler, Item};
 use enc_names::Scalar;
 use index_loader::Index;
 use std::marker::Model;
@@ -100,6 +100,20 @@ impl<'i> Handler for EucJpDecoder<'i> {
         match state {
             EucJpState::Idle => AsciiRuns::All,
             _ => AsciiRuns::None,
+        }
+    }
+
+    #[inline(always)]
+    fn characters(&self) -> Characters {
+        Characters::Pairs
+    }
+
+    // In the loop over the bytes.
+    #[inline(always)]
+    fn known_pair(&self, state: EucJpState, lead: u8, trail: u8) -> Option<Scalar> {
+        match (state, lead) {
+            (EucJpState::Idle, 0xA1..=0xFE) => pair(self.jis0208, lead, trail),
+            _ => None,
         }
     }
 

@@ -4,13 +4,14 @@ ghost use Rattle.std.proofs.Common.{rules};
 ghost use Rattle.index_loader.specs.Index.{code_point_of};
 ghost use Rattle.decoder_core.specs.Holding.{falls_of, counts_of};
 ghost use Rattle.multibyte_decoders.specs.declared.pairs.PairState.TheVariants.{Idle};
-ghost use Rattle.multibyte_decoders.specs.EucKr.{euc_kr, euc_kr_pair, is_euc_kr_lead};
+ghost use Rattle.multibyte_decoders.specs.EucKr.{euc_kr, euc_kr_pair, euc_kr_pointer, is_euc_kr_lead};
 ghost use Rattle.multibyte_decoders.specs.Pairs.{ascii_item};
 ghost use Rattle.multibyte_decoders.specs.Holdings.{euc_kr_holding};
 
-use crate::pairs::{PairRules, PairState, pair_turn};
+use crate::pairs::{PairRules, PairState, known_pair, pair_turn};
 use crate::turns::{ascii_item, one_of};
-use decoder_core::{AsciiRuns, Handled, Handler, Item};
+use decoder_core::{AsciiRuns, Characters, Handled, Handler, Item};
+use enc_names::Scalar;
 use index_loader::Index;
 use std::marker::Model;
 
@@ -38,6 +39,15 @@ impl<'i> EucKrDecoder<'i> {
     }
 }
 
+/// The pointer of a lead and a trail.
+// In the loop over the bytes.
+#[inline(always)]
+fn pointer(lead: u8, trail: u8) -> u32
+    ensures { result ≡ euc_kr_pointer lead trail }
+{
+    u32::from(lead.saturating_sub(0x81)) * 190 + u32::from(trail.saturating_sub(0x41))
+}
+
 impl<'i> PairRules for EucKrDecoder<'i> {
     ghost leads = { λ d. is_euc_kr_lead };
 
@@ -61,10 +71,16 @@ impl<'i> PairRules for EucKrDecoder<'i> {
     #[inline(always)]
     fn pair(&self, lead: u8, byte: u8) -> Option<Item> {
         match byte {
-            0x41..=0xFE => {
-                let row = u32::from(lead.saturating_sub(0x81));
-                one_of(self.index.code_point(row * 190 + u32::from(byte - 0x41)))
-            }
+            0x41..=0xFE => one_of(self.index.code_point(pointer(lead, byte))),
+            _ => None,
+        }
+    }
+
+    // In the loop over the bytes.
+    #[inline(always)]
+    fn code_point(&self, lead: u8, byte: u8) -> Option<Scalar> {
+        match byte {
+            0x41..=0xFE => self.index.code_point(pointer(lead, byte)),
             _ => None,
         }
     }
@@ -87,6 +103,17 @@ impl<'i> Handler for EucKrDecoder<'i> {
             PairState::Idle => AsciiRuns::All,
             PairState::Lead(_) => AsciiRuns::None,
         }
+    }
+
+    #[inline(always)]
+    fn characters(&self) -> Characters {
+        Characters::Pairs
+    }
+
+    // In the loop over the bytes.
+    #[inline(always)]
+    fn known_pair(&self, state: PairState, lead: u8, trail: u8) -> Option<Scalar> {
+        known_pair(self, state, lead, trail)
     }
 
     // In the loop over the bytes.

@@ -10,7 +10,7 @@ ghost use Rattle.multibyte_decoders.specs.Holdings.{gb18030_holding};
 
 use crate::turns::{ascii_item, begin, complete, one_of};
 use decoder_core::forms::{finish, found, give, hold, restore, scalar};
-use decoder_core::{AsciiRuns, Few, Handled, Handler, Item};
+use decoder_core::{AsciiRuns, Characters, Few, Handled, Handler, Item};
 use enc_names::Scalar;
 use index_loader::Index;
 use std::marker::Model;
@@ -121,6 +121,20 @@ impl<'i> Handler for Gb18030Decoder<'i> {
         match state {
             Gb18030State::Idle => AsciiRuns::All,
             _ => AsciiRuns::None,
+        }
+    }
+
+    #[inline(always)]
+    fn characters(&self) -> Characters {
+        Characters::Pairs
+    }
+
+    // In the loop over the bytes.
+    #[inline(always)]
+    fn known_pair(&self, state: Gb18030State, lead: u8, trail: u8) -> Option<Scalar> {
+        match (state, lead) {
+            (Gb18030State::Idle, 0x81..=0xFE) => self.pair(lead, trail),
+            _ => None,
         }
     }
 

@@ -7,10 +7,10 @@ ghost use Rattle.multibyte_decoders.specs.declared.pairs.PairState.TheVariants.{
 ghost use Rattle.multibyte_decoders.specs.ShiftJis.{shift_jis, shift_jis_single, shift_jis_pair, shift_jis_pointer, shift_jis_code_point, is_shift_jis_lead};
 ghost use Rattle.multibyte_decoders.specs.Holdings.{shift_jis_holding};
 
-use crate::pairs::{PairRules, PairState, pair_turn};
+use crate::pairs::{PairRules, PairState, known_pair, pair_turn};
 use crate::turns::one_of;
 use decoder_core::forms::scalar;
-use decoder_core::{AsciiRuns, Handled, Handler, Item};
+use decoder_core::{AsciiRuns, Characters, Handled, Handler, Item};
 use enc_names::Scalar;
 use index_loader::Index;
 use std::marker::Model;
@@ -41,7 +41,7 @@ impl<'i> ShiftJisDecoder<'i> {
     /// The code point of a pointer.
     // In the loop over the bytes.
     #[inline(always)]
-    fn code_point(&self, pointer: u32) -> Option<Scalar>
+    fn entry(&self, pointer: u32) -> Option<Scalar>
         ensures { result ≡ shift_jis_code_point (code_point_of self.now) pointer }
     {
         match pointer {
@@ -90,7 +90,16 @@ impl<'i> PairRules for ShiftJisDecoder<'i> {
     #[inline(always)]
     fn pair(&self, lead: u8, byte: u8) -> Option<Item> {
         match byte {
-            0x40..=0x7E | 0x80..=0xFC => one_of(self.code_point(pointer(lead, byte))),
+            0x40..=0x7E | 0x80..=0xFC => one_of(self.entry(pointer(lead, byte))),
+            _ => None,
+        }
+    }
+
+    // In the loop over the bytes.
+    #[inline(always)]
+    fn code_point(&self, lead: u8, byte: u8) -> Option<Scalar> {
+        match byte {
+            0x40..=0x7E | 0x80..=0xFC => self.entry(pointer(lead, byte)),
             _ => None,
         }
     }
@@ -113,6 +122,17 @@ impl<'i> Handler for ShiftJisDecoder<'i> {
             PairState::Idle => AsciiRuns::All,
             PairState::Lead(_) => AsciiRuns::None,
         }
+    }
+
+    #[inline(always)]
+    fn characters(&self) -> Characters {
+        Characters::Pairs
+    }
+
+    // In the loop over the bytes.
+    #[inline(always)]
+    fn known_pair(&self, state: PairState, lead: u8, trail: u8) -> Option<Scalar> {
+        known_pair(self, state, lead, trail)
     }
 
     // In the loop over the bytes.

@@ -8,14 +8,14 @@ use Rattle.std.specs.Char.{len_utf8}
 use Rattle.std.specs.Str.{chars, IsUtf8}
 use Rattle.lane_utf.specs.Widths.{utf8_width, utf16_width, total_width}
 use Rattle.decoder_core.specs.declared.bulk.Stride.{Stride}
-use Rattle.decoder_core.specs.declared.bulk.Stride.TheVariants.{Utf8, Utf16}
+use Rattle.decoder_core.specs.declared.bulk.Stride.TheVariants.{Utf8, Utf16, Pairs, Bytes}
 use Rattle.decoder_core.specs.declared.item.Item.TheVariants.{One}
 use Rattle.decoder_core.specs.Bulk.{width_of, run_width, plain_from, plain_to}
 use Rattle.decoder_core.specs.Shown.{Shown}
 use Rattle.iso2022jp.specs.declared.output.OutputState.{OutputState}
 use Rattle.state_memo.specs.declared.ended.Ended.{Ended}
 use Rattle.state_memo.specs.declared.kind.ItemKind.{ItemKind}
-use Rattle.state_memo.specs.Gathering.{Gathered, with_item, with_shown, with_more, plain_items_from, plain_items, least_width}
+use Rattle.state_memo.specs.Gathering.{Gathered, with_item, with_shown, with_more, plain_items_from, plain_items, IsEven}
 use Rattle.state_memo.specs.Items.{kept_item}
 use Rattle.state_memo.specs.Runs.{item_of_kind, items_until}
 use Rattle.state_memo.proofs.Gathered.{more-nil}
@@ -37,14 +37,6 @@ utf8-width stride text cs e width = width ∙ sym (utf8-run cs) ∙ ap (λ (t : 
 pub utf16-width : (stride : Stride) (cs : List ℕ) (units width : ℕ) → stride ≡ Utf16 → units ≡ total_width utf16_width cs → width ≡ units * 2 → width ≡ run_width stride cs
 utf16-width stride cs units width e units_is width_is = omega (arith, units_is, width_is, utf16-run cs) ∙ ap (λ (t : Stride). run_width t cs) (sym e)
 
-pub utf8-even : (stride : Stride) (text cs : List ℕ) (n : ℕ) → stride ≡ Utf8 → length text ≡ total_width utf8_width cs → length text ≡ n → n ≡ length cs → run_width stride cs ≡ least_width stride * length cs
-utf8-even stride text cs n e width same count =
-    subst (λ (t : Stride). run_width t cs ≡ least_width t * length cs) (sym e) (omega (arith, utf8-run cs, width, same, count))
-
-pub utf16-even : (stride : Stride) (cs : List ℕ) (n units : ℕ) → stride ≡ Utf16 → units ≡ total_width utf16_width cs → units ≡ n → n ≡ length cs → run_width stride cs ≡ least_width stride * length cs
-utf16-even stride cs n units e units_is same count =
-    subst (λ (t : Stride). run_width t cs ≡ least_width t * length cs) (sym e) (omega (arith, utf16-run cs, units_is, same, count))
-
 -- ---- as they are shown one by one
 
 pub fold-plain : {S : Type 0} (output : S → OutputState) (stride : Stride) (from : ℤ) (after : S) (cs : List ℕ) (g : Gathered)
@@ -64,18 +56,29 @@ pub record AllWide (stride : Stride) (width : ℕ) (c : ℕ) (cs : List ℕ) : T
   pub first : width_of stride c ≡ width
   pub rest : run_width stride cs ≡ width * length cs
 
-module _ (stride : Stride) (width : ℕ) (kind : ItemKind) (output : OutputState) (one : (c : ℕ) (end : ℤ) → item_of_kind kind end ≡ kept_item (One c) end output)
-    (wide : (c : ℕ) (cs : List ℕ) → run_width stride (c ∷ cs) ≡ width * length (c ∷ cs) → AllWide stride width c cs) where
-  even-from : (from : ℤ) (cs : List ℕ) → run_width stride cs ≡ width * length cs
+-- items that are as long as they can be, or as short
+even-of : (stride : Stride) (width : ℕ) → ((c : ℕ) (cs : List ℕ) → run_width stride (c ∷ cs) ≡ width * length (c ∷ cs) → AllWide stride width c cs)
+    → (cs : List ℕ) → run_width stride cs ≡ width * length cs → IsEven stride width cs
+even-of stride width wide [] e = tt
+even-of stride width wide (c ∷ cs) e = let w = wide c cs e in (w.first, even-of stride width wide cs w.rest)
+
+even-run : (stride : Stride) (width : ℕ) (cs : List ℕ) → IsEven stride width cs → run_width stride cs ≡ length cs * width
+even-run stride width [] e = omega arith
+even-run stride width (c ∷ cs) e =
+    let rest = even-run stride width cs e.1 in
+    let more : suc (length cs) * width ≡ width + length cs * width = omega arith in
+    omega (arith, e.0, rest, more)
+
+module _ (stride : Stride) (width : ℕ) (kind : ItemKind) (output : OutputState) (one : (c : ℕ) (end : ℤ) → item_of_kind kind end ≡ kept_item (One c) end output) where
+  even-from : (from : ℤ) (cs : List ℕ) → IsEven stride width cs
       → plain_items_from stride from output cs ≡ items_until kind width (from +ℤ pos (length cs * width)) (length cs)
   even-from from [] e = refl
   even-from from (c ∷ cs) e =
-      let w = wide c cs e in
       let end = from +ℤ pos (width_of stride c) in
       ap (λ (i : Ended). i ∷ plain_items_from stride end output cs) (sym (one c end))
-      ∙ ap (λ (is : List Ended). item_of_kind kind end ∷ is) (even-from end cs w.rest)
-      ∙ ap (λ (l : ℤ). item_of_kind kind end ∷ items_until kind width l (length cs)) (last_is from (width_of stride c) width (length cs * width) (suc (length cs) * width) w.first (times (length cs) width))
-      ∙ ap (λ (l : ℤ). item_of_kind kind l ∷ items_until kind width (from +ℤ pos (suc (length cs) * width)) (length cs)) (first_is from (width_of stride c) width (length cs * width) (suc (length cs) * width) w.first (times (length cs) width))
+      ∙ ap (λ (is : List Ended). item_of_kind kind end ∷ is) (even-from end cs e.1)
+      ∙ ap (λ (l : ℤ). item_of_kind kind end ∷ items_until kind width l (length cs)) (last_is from (width_of stride c) width (length cs * width) (suc (length cs) * width) e.0 (times (length cs) width))
+      ∙ ap (λ (l : ℤ). item_of_kind kind l ∷ items_until kind width (from +ℤ pos (suc (length cs) * width)) (length cs)) (first_is from (width_of stride c) width (length cs * width) (suc (length cs) * width) e.0 (times (length cs) width))
       ∙ sym (first-until kind width (from +ℤ pos (suc (length cs) * width)) (length cs))
     where
       times : (n s : ℕ) → suc n * s ≡ s + n * s
@@ -87,14 +90,11 @@ module _ (stride : Stride) (width : ℕ) (kind : ItemKind) (output : OutputState
       first_is : (from : ℤ) (w width k m : ℕ) → w ≡ width → m ≡ width + k → from +ℤ pos w ≡ (from +ℤ pos m) -ℤ pos k
       first_is from w width k m e f = omega (arith, ints, e, f)
 
-  pub even : (end : ℤ) (cs : List ℕ) → run_width stride cs ≡ width * length cs → items_until kind width end (length cs) ≡ plain_items stride end output cs
+  pub even : (end : ℤ) (cs : List ℕ) → IsEven stride width cs → items_until kind width end (length cs) ≡ plain_items stride end output cs
   even end cs e =
-      ap (λ (l : ℤ). items_until kind width l (length cs)) (whole end (run_width stride cs) (length cs * width) (e ∙ swapped width (length cs)))
+      ap (λ (l : ℤ). items_until kind width l (length cs)) (whole end (run_width stride cs) (length cs * width) (even-run stride width cs e))
       ∙ sym (even-from (end -ℤ pos (run_width stride cs)) cs e)
     where
-      swapped : (a b : ℕ) → a * b ≡ b * a
-      swapped a b = omega arith
-
       whole : (end : ℤ) (w k : ℕ) → w ≡ k → end ≡ (end -ℤ pos w) +ℤ pos k
       whole end w k e = omega (arith, ints, e)
 
@@ -127,18 +127,76 @@ units-wide c cs e =
     let rest = at-least-two cs in
     record { first = omega (arith, e, some, rest); rest = omega (arith, e, some, rest) }
 
+pair-some : (c : ℕ) → 1 ≤ width_of Pairs c
+pair-some c = at_least_one (nat_lt c 0x80)
+  where
+    at_least_one : (t : Bool) → 1 ≤ cond t 1 2
+    at_least_one true = omega arith
+    at_least_one false = omega arith
+
+at-least-one : (cs : List ℕ) → length cs ≤ run_width Pairs cs
+at-least-one [] = omega arith
+at-least-one (c ∷ cs) = omega (arith, at-least-one cs, pair-some c)
+
+pair-most : (c : ℕ) → width_of Pairs c ≤ 2
+pair-most c = at_most_two (nat_lt c 0x80)
+  where
+    at_most_two : (t : Bool) → cond t 1 2 ≤ 2
+    at_most_two true = omega arith
+    at_most_two false = omega arith
+
+at-most-twice : (cs : List ℕ) → run_width Pairs cs ≤ 2 * length cs
+at-most-twice [] = omega arith
+at-most-twice (c ∷ cs) = omega (arith, at-most-twice cs, pair-most c)
+
+-- as many bytes as code points, and twice as many
+one-wide : (c : ℕ) (cs : List ℕ) → run_width Pairs (c ∷ cs) ≡ 1 * length (c ∷ cs) → AllWide Pairs 1 c cs
+one-wide c cs e =
+    let some = pair-some c in
+    let rest = at-least-one cs in
+    record { first = omega (arith, e, some, rest); rest = omega (arith, e, some, rest) }
+
+two-wide : (c : ℕ) (cs : List ℕ) → run_width Pairs (c ∷ cs) ≡ 2 * length (c ∷ cs) → AllWide Pairs 2 c cs
+two-wide c cs e =
+    let most = pair-most c in
+    let rest = at-most-twice cs in
+    record { first = omega (arith, e, most, rest); rest = omega (arith, e, most, rest) }
+
+pub pairs-one : (cs : List ℕ) (width count : ℕ) → width ≡ run_width Pairs cs → count ≡ length cs → width ≡ count → IsEven Pairs 1 cs
+pairs-one cs width count width_is count_is same = even-of Pairs 1 one-wide cs (omega (arith, width_is, count_is, same))
+
+pub pairs-two : (cs : List ℕ) (width count : ℕ) → width ≡ run_width Pairs cs → count ≡ length cs → width ≡ 2 * count → IsEven Pairs 2 cs
+pairs-two cs width count width_is count_is same = even-of Pairs 2 two-wide cs (omega (arith, width_is, count_is, same))
+
+pub utf8-even : (stride : Stride) (text cs : List ℕ) (n : ℕ) → stride ≡ Utf8 → length text ≡ total_width utf8_width cs → length text ≡ n → n ≡ length cs → IsEven stride 1 cs
+utf8-even stride text cs n e width same count =
+    subst (λ (t : Stride). IsEven t 1 cs) (sym e) (even-of Utf8 1 ascii-wide cs (omega (arith, utf8-run cs, width, same, count)))
+
+pub utf16-even : (stride : Stride) (cs : List ℕ) (n units : ℕ) → stride ≡ Utf16 → units ≡ total_width utf16_width cs → units ≡ n → n ≡ length cs → IsEven stride 2 cs
+utf16-even stride cs n units e units_is same count =
+    subst (λ (t : Stride). IsEven t 2 cs) (sym e) (even-of Utf16 2 units-wide cs (omega (arith, utf16-run cs, units_is, same, count)))
+
+bytes-by : (cs : List ℕ) → IsEven Bytes 1 cs
+bytes-by [] = tt
+bytes-by (c ∷ cs) = (refl, bytes-by cs)
+
+pub bytes-even : (stride : Stride) (cs : List ℕ) → stride ≡ Bytes → IsEven stride 1 cs
+bytes-even stride cs e = subst (λ (t : Stride). IsEven t 1 cs) (sym e) (bytes-by cs)
+
+bytes-run : (cs : List ℕ) → length cs ≡ run_width Bytes cs
+bytes-run [] = refl
+bytes-run (c ∷ cs) = let rest = bytes-run cs in omega (arith, rest)
+
+pub bytes-width : (stride : Stride) (cs : List ℕ) (n : ℕ) → stride ≡ Bytes → n ≡ length cs → n ≡ run_width stride cs
+bytes-width stride cs n e count = count ∙ bytes-run cs ∙ ap (λ (t : Stride). run_width t cs) (sym e)
+
 pub even-is : (stride : Stride) (kind : ItemKind) (output : OutputState) → ((end : ℤ) → item_of_kind kind end ≡ record { scalars = 1; end = end; error = false; output = output })
-    → (end last : ℤ) (step more : ℕ) (cs : List ℕ) → step ≡ least_width stride → last ≡ end → suc more ≡ length cs → run_width stride cs ≡ least_width stride * length cs
+    → (end last : ℤ) (step more : ℕ) (cs : List ℕ) → IsEven stride step cs → last ≡ end → suc more ≡ length cs
     → items_until kind step last (suc more) ≡ plain_items stride end output cs
-even-is stride kind output one end last step more cs step_is last_is count all =
+even-is stride kind output one end last step more cs all last_is count =
     ap (λ (n : ℕ). items_until kind step last n) count
     ∙ ap (λ (l : ℤ). items_until kind step l (length cs)) last_is
-    ∙ ap (λ (s : ℕ). items_until kind s end (length cs)) step_is
-    ∙ by_stride stride all
-  where
-    by_stride : (t : Stride) → run_width t cs ≡ least_width t * length cs → items_until kind (least_width t) end (length cs) ≡ plain_items t end output cs
-    by_stride Utf8 e = even Utf8 1 kind output (λ c l. one l) ascii-wide end cs e
-    by_stride Utf16 e = even Utf16 2 kind output (λ c l. one l) units-wide end cs e
+    ∙ even stride step kind output (λ c l. one l) end cs all
 
 -- ---- one code point after the other
 

@@ -1,7 +1,6 @@
 -- Text and items under way.
-use Rattle.std.specs.Prelude.{ℕ, ℤ, pos, ◌-ℤ◌, ◌+ℤ◌, List, [], ◌∷◌, ◌++◌}
+use Rattle.std.specs.Prelude.{◌≡◌, ℕ, ℤ, pos, ◌-ℤ◌, ◌+ℤ◌, List, [], ◌∷◌, ◌++◌}
 use Rattle.decoder_core.specs.declared.bulk.Stride.{Stride}
-use Rattle.decoder_core.specs.declared.bulk.Stride.TheVariants.{Utf8, Utf16}
 use Rattle.decoder_core.specs.declared.item.Item.{Item}
 use Rattle.decoder_core.specs.declared.item.Item.TheVariants.{One}
 use Rattle.decoder_core.specs.declared.item.Ended.{Ended as EndedItem}
@@ -39,10 +38,10 @@ with_ended output g e = with_item g e.item (pos 0 -ℤ pos e.back) output
 abbrev pub with_more : Gathered → List ℕ → List Ended → Gathered
 with_more g text items = record { text = g.text ++ text; items = g.items ++ items }
 
--- the length of the shortest items
-abbrev pub least_width : Stride → ℕ
-least_width Utf8 = 1
-least_width Utf16 = 2
+-- items that are all of one length
+abbrev pub IsEven : Stride → ℕ → List ℕ → Type 0
+IsEven stride width [] = Unit {0}
+IsEven stride width (c ∷ cs) = (width_of stride c ≡ width) × IsEven stride width cs
 
 -- the items that are these code points, without gaps from the place `from` on
 abbrev pub plain_items_from : Stride → ℤ → OutputState → List ℕ → List Ended

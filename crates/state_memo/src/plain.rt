@@ -1,13 +1,14 @@
 //! Texts whose code points are items without gaps.
-ghost use Rattle.std.specs.Prelude.{◌≡◌, ◌*◌, IfSome, is_some, true, length, pos, ◌-ℤ◌};
+ghost use Rattle.std.specs.Prelude.{◌≡◌, IfSome, length, pos, ◌-ℤ◌};
 ghost use Rattle.std.specs.Str.{chars};
+ghost use Rattle.decoder_core.specs.declared.bulk.Stride.TheVariants.{Pairs};
 ghost use Rattle.decoder_core.specs.Bulk.{width_of, run_width};
-ghost use Rattle.state_memo.specs.Gathering.{plain_items, least_width};
+ghost use Rattle.state_memo.specs.Gathering.{plain_items, IsEven};
 ghost use Rattle.state_memo.specs.Runs.{items_of_run};
 
 use crate::kind::ItemKind;
 use crate::run::Run;
-use decoder_core::Stride;
+use decoder_core::{Stride, text_width};
 use iso2022jp::OutputState;
 use lane_utf::{count_scalars, count_utf16};
 
@@ -27,17 +28,32 @@ pub(crate) fn even_run(text: &str, end: i64, stride: Stride, output: OutputState
     })
 }
 
-/// The length of each item, where all are as short as can be: the text is ASCII, or no pair of
-/// UTF-16's units is in it.
+/// The length of each item, where all are as short as can be, or all are pairs.
 fn even_width(text: &str, stride: Stride) -> Option<u8>
-    ensures width { IfSome result (λ width. width ≡ least_width stride) }
-    ensures even { is_some result ≡ true → run_width stride (chars text.now) ≡ least_width stride * length (chars text.now) }
+    ensures { IfSome result (λ width. IsEven stride width (chars text.now)) }
 {
     let count = count_scalars(text);
     match stride {
         Stride::Utf8 if text.len() == count => Some(1),
         Stride::Utf16 if count_utf16(text) == count => Some(2),
+        Stride::Pairs => even_pairs(text, count),
+        Stride::Bytes => Some(1),
         _ => None,
+    }
+}
+
+/// The length of each item that is a byte or a pair, where all have the same.
+fn even_pairs(text: &str, count: usize) -> Option<u8>
+    requires { count ≡ length (chars text.now) }
+    ensures { IfSome result (λ width. IsEven Pairs width (chars text.now)) }
+{
+    let width = text_width(Stride::Pairs, text);
+    if width == count {
+        Some(1)
+    } else if width / 2 == count && width % 2 == 0 {
+        Some(2)
+    } else {
+        None
     }
 }
 
@@ -45,12 +61,12 @@ fn even_width(text: &str, stride: Stride) -> Option<u8>
 pub(crate) fn first_place(text: &str, end: i64, stride: Stride) -> Option<i64>
     ensures { IfSome result (λ from. from ≡ end -ℤ pos (run_width stride (chars text.now))) }
 {
-    let width = text_width(text, stride)?;
+    let width = run_width(text, stride)?;
     end.checked_sub(i64::try_from(width).ok()?)
 }
 
 /// The length in bytes of the items that are the code points of a text.
-fn text_width(text: &str, stride: Stride) -> Option<usize>
+fn run_width(text: &str, stride: Stride) -> Option<usize>
     ensures { IfSome result (λ width. width ≡ run_width stride (chars text.now)) }
 {
     match stride {
@@ -59,6 +75,8 @@ fn text_width(text: &str, stride: Stride) -> Option<usize>
             let width = count_utf16(text).checked_mul(2)?;
             Some(width)
         }
+        Stride::Pairs => Some(text_width(stride, text)),
+        Stride::Bytes => Some(count_scalars(text)),
     }
 }
 
@@ -69,5 +87,8 @@ pub(crate) fn item_width(stride: Stride, c: char) -> i64
     match stride {
         Stride::Utf8 => c.len_utf8() as i64,
         Stride::Utf16 => 2 * c.len_utf16() as i64,
+        Stride::Pairs if c.is_ascii() => 1,
+        Stride::Pairs => 2,
+        Stride::Bytes => 1,
     }
 }

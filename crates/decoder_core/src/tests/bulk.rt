@@ -13,6 +13,7 @@ use crate::x_user_defined::XUserDefinedDecoder;
 use enc_names::{Encoding, Scalar};
 use index_loader::{Index, IndexKind};
 use std::alloc::AllocError;
+use std::process::Abort;
 use std::test::Fail;
 
 /// Letters, more than a lane has bytes.
@@ -47,6 +48,44 @@ fn ascii_where_a_character_is_a_byte(rt: HostRuntime) -> Result<(), Fail> {
     let decoder = ReplacementDecoder;
     assert_eq!(rt; taken(&decoder, decoder.start(), &LETTERS), NO_BULK);
     Ok(())
+}
+
+/// The decoder takes a letter and a byte above ASCII in turn, up to the first 256, and writes their
+/// text.
+fn expect_bytes<D: Decoder>(
+    rt: &impl Abort,
+    decoder: &D,
+    byte: u8,
+    code_point: char,
+) -> Result<(), Fail> {
+    let mut bytes = [b'a'; 257];
+    for at in 0..=128 {
+        bytes[2 * at] = byte;
+    }
+    for count in 0..=257 {
+        let mut block = [0; 1024];
+        let bulk = decoder.bulk(decoder.start(), &bytes[..count], &mut block);
+        assert_eq!(rt; bulk.taken, count.min(256));
+        assert_eq!(rt; bulk.stride, Stride::Bytes);
+        let mut items = 0;
+        for c in str::from_utf8(&block[..bulk.written])?.chars() {
+            assert_eq!(rt; c, if items % 2 == 0 { code_point } else { 'a' });
+            items += 1;
+        }
+        assert_eq!(rt; items, bulk.taken);
+    }
+    Ok(())
+}
+
+#[test]
+fn bytes_that_are_characters(rt: HostRuntime) -> Result<(), Fail> {
+    let kind = IndexKind::SingleByte(Encoding::Windows1252);
+    let index = Index::parse(rt.alloc(), kind, b"0\t0x20AC\n")?;
+    let decoder = SingleByteDecoder::new(&index);
+    expect_bytes(&rt, &decoder, 0x80, '\u{20AC}')?;
+    // A byte without a code point.
+    assert_eq!(rt; taken(&decoder, decoder.start(), b"\x80a\x81a").taken, 2);
+    expect_bytes(&rt, &XUserDefinedDecoder, 0xFF, '\u{F7FF}')
 }
 
 #[test]

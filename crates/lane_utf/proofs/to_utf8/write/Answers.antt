@@ -9,8 +9,8 @@ use Rattle.lane_utf.proofs.UnitMasks.{ascii_units, ascii_bytes}
 use Rattle.lane_utf.proofs.Threes.{threes_length, threes_paired, three_bytes}
 use Rattle.lane_utf.proofs.to_utf8.write.Goals as goal
 
-pub put-written-requires-clause-room : goal.put-written-requires-clause-room
-put-written-requires-clause-room c =
+pub put_scalar-written-requires-clause-room : goal.put_scalar-written-requires-clause-room
+put_scalar-written-requires-clause-room c =
     let f = c.front-code_point in
     room_for _ c.units.written c.units.bytes c.args.bytes.now _ (encode_utf8_all (code_points (drop f.result.1 (drop c.units.read c.args.units.now)))) f.result.0 (length c.units.bytes)
     c.units.invariant.writing (ap encode_utf8_all f.ensures.first) (omega (arith, c.requires.room, c.units.auto.bytes))
@@ -22,9 +22,9 @@ units-preserved c =
     record {
       within = omega (arith, f.ensures.within, length-drop c.units.read c.args.units.now, c.units-test.true);
       paired = ap first_lone (sym behind) ∙ f.ensures.paired;
-      writing = put_goes_on _ c.units.written c.units.bytes c.args.bytes.now _ _ f.result.0 c.put-written.result c.put-written.new.bytes
+      writing = put_goes_on _ c.units.written c.units.bytes c.args.bytes.now _ _ f.result.0 c.put_scalar-written.result c.put_scalar-written.new.bytes
           c.units.invariant.writing (omega (arith, c.requires.room, c.units.auto.bytes)) (ap encode_utf8_all f.ensures.first ∙ ap (λ k. encode_utf8 f.result.0 ++ encode_utf8_all (code_points k)) behind)
-          c.put-written.ensures.end c.put-written.ensures.bytes;
+          c.put_scalar-written.ensures.end c.put_scalar-written.ensures.bytes;
     }
 
 pub narrow-requires-clause-bytes : goal.narrow-requires-clause-bytes

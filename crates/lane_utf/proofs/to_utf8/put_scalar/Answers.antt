@@ -1,5 +1,5 @@
 use Rattle.lane_utf.proofs.Putting.{put_one, put_two, put_four}
-use Rattle.lane_utf.proofs.to_utf8.put.Goals as goal
+use Rattle.lane_utf.proofs.to_utf8.put_scalar.Goals as goal
 
 pub returns-then-c-lt128-clause-bytes : goal.returns-then-c-lt128-clause-bytes
 returns-then-c-lt128-clause-bytes c = put_one c.args.at c.args.c c.args.bytes.now c.if-c-lt128.true

@@ -1,0 +1,202 @@
+-- Runs of characters of a byte or two: each is one item more, and leaves the state as it is.
+use Rattle.std.proofs.Common.{◌≡◌, ℕ, zero, suc, ◌+◌, ◌*◌, ◌<◌, ◌≤◌, List, [], ◌∷◌, ◌++◌, Option, Some, None, IfSome, length, take, drop, get_or, ℤ, pos, ◌+ℤ◌, ◌-ℤ◌, refl, sym, ap, subst, ◌∙◌, arith, append-nil, lit≤, Bool, true, false, nat_lt}
+use Rattle.std.proofs.Math.Seq.{take-add}
+use Rattle.std.proofs.Math.Utf8.{encode}
+use Rattle.std.specs.Char.{len_utf8, IsScalar, encode_utf8}
+use Rattle.std.specs.Simd.Lanes.{put_chunk}
+use Rattle.std.specs.Str.{chars, IsUtf8}
+use Rattle.std.proofs.lemmas.Bool.{lt-ltb, le-ltb, ltb-true}
+use Rattle.std.proofs.lemmas.Int.{ints}
+use Rattle.std.proofs.lemmas.List.{length-take-le, drop_more}
+use Rattle.std.proofs.lemmas.Simd.{take_more_put_chunk}
+use Rattle.std.proofs.lemmas.Str.{chars-append, chars_past_char, chars-nil, IsUtf8-append, IsUtf8-encode, IsUtf8-nil, length-encode, len_utf8_bounds, len_utf8_ascii}
+use Rattle.decoder_core.specs.declared.ascii_runs.AsciiRuns.TheVariants.{All}
+use Rattle.decoder_core.specs.declared.bulk.Bulk.{Bulk}
+use Rattle.decoder_core.specs.declared.bulk.Stride.{Stride}
+use Rattle.decoder_core.specs.declared.bulk.Stride.TheVariants.{Pairs, Bytes}
+use Rattle.decoder_core.specs.declared.item.Item.TheVariants.{One}
+use Rattle.decoder_core.specs.AsciiRuns.{TakesAscii}
+use Rattle.decoder_core.specs.Bulk.{IsBulk, width_of, run_width, plain_from}
+use Rattle.decoder_core.specs.Fronts.{TakesByte, TakesPair, IsFront}
+use Rattle.decoder_core.specs.Queue.{Table, Falls, Fed, feed}
+use Rattle.decoder_core.specs.Shown.{Shown, shown_from}
+use Rattle.decoder_core.proofs.Running.{feed-nil, feed-append}
+use Rattle.decoder_core.proofs.Showing.{shown-append}
+use Rattle.decoder_core.proofs.Turning.{held-shown, given-shown, held-state, given-state}
+
+-- ---- one code point more
+
+width-more : (stride : Stride) (cs : List ℕ) (c : ℕ) → run_width stride (cs ++ c ∷ []) ≡ run_width stride cs + width_of stride c
+width-more stride [] c = omega arith
+width-more stride (d ∷ cs) c = let rest = width-more stride cs c in omega (arith, rest)
+
+plain-more : {S : Type 0} (stride : Stride) (from end : ℤ) (after : S) (cs : List ℕ) (c : ℕ) → end ≡ from +ℤ pos (run_width stride cs + width_of stride c)
+    → plain_from stride from after (cs ++ c ∷ []) ≡ plain_from stride from after cs ++ record { item = One c; end = end; after = after } ∷ []
+plain-more stride from end after [] c e =
+    let same : from +ℤ pos (width_of stride c) ≡ end = omega (arith, ints, e) in
+    ap (λ (z : ℤ). record { item = One c; end = z; after = after } ∷ []) same
+plain-more stride from end after (d ∷ cs) c e =
+    let next = from +ℤ pos (width_of stride d) in
+    ap (λ (xs : List (Shown _)). record { item = One d; end = next; after = after } ∷ xs)
+    (plain-more stride next end after cs c (omega (arith, ints, e)))
+
+chars-more : (text : List ℕ) (c : ℕ) → IsUtf8 text → IsScalar c → chars (text ++ encode_utf8 c) ≡ chars text ++ c ∷ []
+chars-more text c spelt scalar =
+    let one : chars (encode_utf8 c) ≡ c ∷ [] =
+    chars_past_char (encode_utf8 c) [] c (IsUtf8-encode c scalar) (sym (append-nil (encode_utf8 c))) ∙ ap (λ (t : List ℕ). c ∷ t) chars-nil in
+    chars-append text (encode_utf8 c) spelt ∙ ap (λ (t : List ℕ). chars text ++ t) one
+
+-- the next bytes of a list
+take-one : (bytes : List ℕ) (at : ℕ) → at < length bytes → take 1 (drop at bytes) ≡ get_or bytes at 0 ∷ []
+take-one bytes at within = ap (λ (xs : List ℕ). take 1 xs) (drop_more bytes at 0 within)
+
+take-two : (bytes : List ℕ) (at : ℕ) → at + 1 < length bytes → take 2 (drop at bytes) ≡ get_or bytes at 0 ∷ get_or bytes (at + 1) 0 ∷ []
+take-two bytes at within =
+    ap (λ (xs : List ℕ). take 2 xs) (drop_more bytes at 0 (omega (arith, within)))
+    ∙ ap (λ (xs : List ℕ). get_or bytes at 0 ∷ take 1 xs) (drop_more bytes (at + 1) 0 within)
+
+-- a code point is at most twice as long in UTF-8 as its item, or four times where the item is a byte
+wide-by : (k : Bool) (c : ℕ) → nat_lt c 0x80 ≡ k → len_utf8 c ≤ 2 * width_of Pairs c
+wide-by true c e =
+    let one : width_of Pairs c ≡ 1 = rw e refl in
+    let low = len_utf8_ascii c (ltb-true c 0x80 e) in
+    omega (arith, one, low)
+wide-by false c e =
+    let few = len_utf8_bounds c in
+    let two : width_of Pairs c ≡ 2 = rw e refl in
+    omega (arith, few, two)
+
+pub few-pairs : (written at c got width end : ℕ) → got ≡ c → written ≤ 2 * at → width ≡ width_of Pairs c → end ≡ written + len_utf8 got → end ≤ 2 * (at + width)
+few-pairs written at c got width end same few wide end_is =
+    let one = wide-by (nat_lt c 0x80) c refl in
+    let length_is : len_utf8 got ≡ len_utf8 c = ap len_utf8 same in
+    omega (arith, few, wide, end_is, one, length_is)
+
+pub few-bytes : (written at got end : ℕ) → written ≤ 4 * at → end ≡ written + len_utf8 got → end ≤ 4 * (at + 1)
+few-bytes written at got end few end_is = let most = len_utf8_bounds got in omega (arith, few, end_is, most)
+
+module _ {S : Type 0} (table : Table S) (f : Falls table) (s : S) where
+  -- a byte
+  byte-front : (stride : Stride) (bytes : List ℕ) (at b c : ℕ) → TakesByte table s b c → at < length bytes → b ≡ get_or bytes at 0 → 1 ≡ width_of stride c
+      → IsFront table s stride bytes at c 1
+  byte-front stride bytes at b c turn within b_is wide =
+      let front : take 1 (drop at bytes) ≡ b ∷ [] = take-one bytes at within ∙ ap (λ (x : ℕ). x ∷ []) (sym b_is) in
+      record {
+        within = omega (arith, within);
+        some = omega arith;
+        wide = wide;
+        stays =
+            ap (λ (xs : List ℕ). (feed table s xs).state) front
+            ∙ given-state table f s s b c [] turn
+            ∙ ap (λ (x : Fed S). x.state) (feed-nil table f s);
+        items = λ read.
+            let end : pos (read + 1) -ℤ pos 0 ≡ pos (read + 1) = omega (arith, ints) in
+            ap (λ (xs : List ℕ). shown_from table read s xs) front
+            ∙ given-shown table f s s b c read [] turn
+            ∙ ap (λ (z : ℤ). record { item = One c; end = z; after = s } ∷ []) end;
+      }
+
+  -- an ASCII byte, between pairs and between bytes
+  pub ascii-pair : (bytes : List ℕ) (at c : ℕ) → TakesAscii table s All → at < length bytes → c ≡ get_or bytes at 0 → c < 0x80 → IsFront table s Pairs bytes at c 1
+  ascii-pair bytes at c takes within c_is low = byte-front Pairs bytes at c c (takes c low) within c_is (rw (lt-ltb c 0x80 low) refl)
+
+  pub ascii-byte : (bytes : List ℕ) (at c : ℕ) → TakesAscii table s All → at < length bytes → c ≡ get_or bytes at 0 → c < 0x80 → IsFront table s Bytes bytes at c 1
+  ascii-byte bytes at c takes within c_is low = byte-front Bytes bytes at c c (takes c low) within c_is refl
+
+  -- another byte
+  known-byte : (bytes : List ℕ) (at c : ℕ) → TakesByte table s (get_or bytes at 0) c → at < length bytes → IsFront table s Bytes bytes at c 1
+  known-byte bytes at c turn within = byte-front Bytes bytes at (get_or bytes at 0) c turn within refl refl
+
+  pub known-bytes : (bytes : List ℕ) (at : ℕ) → at < length bytes → (o : Option ℕ) → IfSome o (λ (c : ℕ). TakesByte table s (get_or bytes at 0) c)
+      → IfSome o (λ (c : ℕ). IsFront table s Bytes bytes at c 1)
+  known-bytes bytes at within (Some c) turn = known-byte bytes at c turn within
+  known-bytes bytes at within None turn = turn
+
+  -- no item yet
+  pub none-more : (stride : Stride) (bytes block : List ℕ) → IsBulk table s bytes (record { taken = 0; written = 0; stride = stride }) block
+  none-more stride bytes block = record {
+    within = omega arith;
+    room = lit≤ tt;
+    text = IsUtf8-nil;
+    stays = ap (λ (x : Fed S). x.state) (feed-nil table f s);
+    whole = rw chars-nil refl;
+    items = λ read. rw chars-nil refl;
+  }
+
+  -- a pair
+  pub pair-front : (bytes : List ℕ) (at c : ℕ) → TakesPair table s (get_or bytes at 0) (get_or bytes (at + 1) 0) c → at + 1 < length bytes → 0x80 ≤ c
+      → IsFront table s Pairs bytes at c 2
+  pair-front bytes at c takes within high =
+      let b = get_or bytes at 0 in
+      let t = get_or bytes (at + 1) 0 in
+      let held = (table s (Some b)).state in
+      let front : take 2 (drop at bytes) ≡ b ∷ t ∷ [] = take-two bytes at within in
+      record {
+        within = omega (arith, within);
+        some = omega arith;
+        wide = rw (le-ltb c 0x80 high) refl;
+        stays =
+            ap (λ (xs : List ℕ). (feed table s xs).state) front
+            ∙ held-state table f s held b (t ∷ []) takes.0
+            ∙ given-state table f held s t c [] takes.1
+            ∙ ap (λ (x : Fed S). x.state) (feed-nil table f s);
+        items = λ read.
+            let end : pos (read + 1 + 1) -ℤ pos 0 ≡ pos (read + 2) = omega (arith, ints) in
+            ap (λ (xs : List ℕ). shown_from table read s xs) front
+            ∙ held-shown table f s held b read (t ∷ []) takes.0
+            ∙ given-shown table f held s t c (read + 1) [] takes.1
+            ∙ ap (λ (z : ℤ). record { item = One c; end = z; after = s } ∷ []) end;
+      }
+
+  -- one item more
+  front-more : (stride : Stride) (bytes block new : List ℕ) (at written c width end : ℕ)
+      → IsBulk table s bytes (record { taken = at; written = written; stride = stride }) block → IsFront table s stride bytes at c width → IsScalar c
+      → written + 4 ≤ 1024 → length block ≡ 1024 → end ≡ written + len_utf8 c → new ≡ put_chunk written block (encode_utf8 c)
+      → IsBulk table s bytes (record { taken = at + width; written = end; stride = stride }) new
+  front-more stride bytes block new at written c width end bulk next scalar room large end_is new_is =
+      let few = len_utf8_bounds c in
+      let length_is : end ≡ written + length (encode_utf8 c) = end_is ∙ ap (λ (n : ℕ). written + n) (sym (length-encode c)) in
+      let inside : end ≤ length block = omega (arith, end_is, few, room, large) in
+      let cs = chars (take written block) in
+      let text : take end new ≡ take written block ++ encode_utf8 c =
+      ap (λ (xs : List ℕ). take end xs) new_is ∙ take_more_put_chunk written block (encode_utf8 c) end length_is inside in
+      let spelt : chars (take end new) ≡ cs ++ c ∷ [] = ap (λ (xs : List ℕ). chars xs) text ∙ chars-more (take written block) c bulk.text scalar in
+      let here = take at bytes in
+      let then = take width (drop at bytes) in
+      let both : take (at + width) bytes ≡ here ++ then = take-add at width bytes in
+      record {
+        within = next.within;
+        room = omega (arith, inside, large);
+        text = subst (λ (xs : List ℕ). IsUtf8 xs) (sym text) (IsUtf8-append (take written block) (encode_utf8 c) bulk.text (IsUtf8-encode c scalar));
+        stays =
+            ap (λ (xs : List ℕ). (feed table s xs).state) both
+            ∙ ap (λ (x : Fed S). x.state) (feed-append table f s here then)
+            ∙ ap (λ (x : S). (feed table x then).state) bulk.stays
+            ∙ next.stays;
+        whole =
+            ap (λ (xs : List ℕ). run_width stride xs) spelt
+            ∙ width-more stride cs c
+            ∙ ap (λ (n : ℕ). n + width_of stride c) bulk.whole
+            ∙ ap (λ (n : ℕ). at + n) (sym next.wide);
+        items = λ read.
+            let far : read + length here ≡ read + at = ap (λ (n : ℕ). read + n) (length-take-le at bytes bulk.within) in
+            let last : pos (read + at + width) ≡ pos read +ℤ pos (run_width stride cs + width_of stride c) = omega (arith, ints, bulk.whole, next.wide) in
+            let one : Shown S = record { item = One c; end = pos (read + at + width); after = s } in
+            ap (λ (xs : List ℕ). shown_from table read s xs) both
+            ∙ shown-append table f read s here then
+            ∙ ap (λ (n : ℕ). shown_from table read s here ++ shown_from table n (feed table s here).state then) far
+            ∙ ap (λ (x : S). shown_from table read s here ++ shown_from table (read + at) x then) bulk.stays
+            ∙ ap (λ (xs : List (Shown S)). shown_from table read s here ++ xs) (next.items (read + at))
+            ∙ ap (λ (xs : List (Shown S)). xs ++ one ∷ []) (bulk.items read)
+            ∙ sym (plain-more stride (pos read) (pos (read + at + width)) s cs c last)
+            ∙ ap (λ (xs : List ℕ). plain_from stride (pos read) s xs) (sym spelt);
+      }
+
+  -- the code point is written as it was got
+  pub front-read : (stride : Stride) (bytes block new : List ℕ) (at written c got width end : ℕ) → got ≡ c
+      → IsBulk table s bytes (record { taken = at; written = written; stride = stride }) block → IsFront table s stride bytes at c width → IsScalar got
+      → written + 4 ≤ 1024 → length block ≡ 1024 → end ≡ written + len_utf8 got → new ≡ put_chunk written block (encode_utf8 got)
+      → IsBulk table s bytes (record { taken = at + width; written = end; stride = stride }) new
+  front-read stride bytes block new at written c got width end same bulk next scalar room large end_is new_is =
+      let front : IsFront table s stride bytes at got width = subst (λ (x : ℕ). IsFront table s stride bytes at x width) (sym same) next in
+      front-more stride bytes block new at written got width end bulk front scalar room large end_is new_is

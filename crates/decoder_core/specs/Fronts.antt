@@ -1,0 +1,26 @@
+-- Bytes and pairs of bytes that are one code point each.
+use Rattle.std.specs.Prelude.{◌≡◌, ℕ, ◌+◌, ◌<◌, ◌≤◌, List, [], ◌∷◌, Some, drop, take, length, pos}
+use Rattle.decoder_core.specs.declared.bulk.Stride.{Stride}
+use Rattle.decoder_core.specs.declared.item.Item.TheVariants.{One}
+use Rattle.decoder_core.specs.Bulk.{width_of}
+use Rattle.decoder_core.specs.Forms.{gives, holds}
+use Rattle.decoder_core.specs.Queue.{Table, feed}
+use Rattle.decoder_core.specs.Shown.{shown_from}
+
+-- in this state the byte gives the code point and leads back to the state
+abbrev pub TakesByte : {S : Type 0} → Table S → S → ℕ → ℕ → Type 0
+TakesByte table s b c = table s (Some b) ≡ gives s (One c) []
+
+-- in this state the first byte is held, and the second gives the code point and leads back to the state
+abbrev pub TakesPair : {S : Type 0} → Table S → S → ℕ → ℕ → ℕ → Type 0
+TakesPair table s lead trail c =
+    (table s (Some lead) ≡ holds (table s (Some lead)).state)
+    × (table (table s (Some lead)).state (Some trail) ≡ gives s (One c) [])
+
+-- the bytes from an index on begin with the one item that is this code point, and steps over it lead back to the state
+pub record IsFront {S : Type 0} (table : Table S) (s : S) (stride : Stride) (bytes : List ℕ) (at c width : ℕ) : Type 0 where
+  pub within : at + width ≤ length bytes
+  pub some : 0 < width
+  pub wide : width ≡ width_of stride c
+  pub stays : (feed table s (take width (drop at bytes))).state ≡ s
+  pub items : (read : ℕ) → shown_from table read s (take width (drop at bytes)) ≡ record { item = One c; end = pos (read + width); after = s } ∷ []

@@ -1,0 +1,82 @@
+//! Runs of pairs of bytes, and of ASCII between them, in bulk.
+ghost use Rattle.std.specs.Prelude.{◌≡◌, ◌+◌, ◌<◌, ◌≤◌, IfSome, length};
+ghost use Rattle.decoder_core.specs.declared.ascii_runs.AsciiRuns.TheVariants.{All};
+ghost use Rattle.decoder_core.specs.declared.bulk.Stride.TheVariants.{Pairs};
+ghost use Rattle.decoder_core.specs.AsciiRuns.{TakesAscii};
+ghost use Rattle.decoder_core.specs.Bulk.{IsBulk};
+ghost use Rattle.decoder_core.specs.Fronts.{IsFront};
+
+use crate::ascii_runs::AsciiRuns;
+use crate::bulk::{Bulk, Stride};
+use crate::handler::Handler;
+use crate::run_bulk::{begins_ascii, run_bulk};
+use enc_names::Scalar;
+use lane_utf::put_scalar;
+
+/// How many bytes are taken at most: each is at most two bytes of UTF-8, so that the block has room
+/// for them.
+const MOST: usize = 512;
+
+/// Takes a run of ASCII bytes where the front is a long one, and else the ASCII bytes and the pairs
+/// at the front.
+// In the loop over the bytes.
+#[inline(always)]
+pub(crate) fn pair_bulk<H: Handler>(
+    handler: &H,
+    state: H::State,
+    bytes: &[u8],
+    text: &mut [u8; 1024],
+) -> Bulk
+    requires { TakesAscii (H.table handler.now) state All }
+    ensures { IsBulk (H.table handler.now) state bytes.now result text.new }
+{
+    if begins_ascii(bytes) {
+        run_bulk(handler, state, AsciiRuns::All, bytes, text)
+    } else {
+        take_pairs(handler, state, bytes, text)
+    }
+}
+
+/// Takes the ASCII bytes and the pairs at the front, as far as the block takes them.
+// Once in some hundred bytes: its loop has the registers to itself.
+#[inline(never)]
+fn take_pairs<H: Handler>(handler: &H, state: H::State, bytes: &[u8], text: &mut [u8; 1024]) -> Bulk
+    requires { TakesAscii (H.table handler.now) state All }
+    ensures { IsBulk (H.table handler.now) state bytes.now result text.new }
+{
+    let end = bytes.len().min(MOST);
+    let mut taken = 0;
+    let mut written = 0;
+    'pairs: while taken + 1 < end {
+        let lead = bytes[taken];
+        if lead < 0x80 {
+            written = put_scalar(text, written, u32::from(lead));
+            taken += 1;
+            continue;
+        }
+        let Some(code_point) = pair_at(handler, state, bytes, taken) else {
+            break;
+        };
+        written = put_scalar(text, written, code_point.get());
+        taken += 2;
+    }
+    Bulk {
+        taken,
+        written,
+        stride: Stride::Pairs,
+    }
+}
+
+/// The code point of the pair at an index.
+#[inline(always)]
+fn pair_at<H: Handler>(handler: &H, state: H::State, bytes: &[u8], at: usize) -> Option<Scalar>
+    requires { at + 1 < length bytes.now }
+    ensures { IfSome result (λ code_point. IsFront (H.table handler.now) state Pairs bytes.now at code_point 2) }
+{
+    let code_point = handler.known_pair(state, bytes[at], bytes[at + 1])?;
+    if code_point.get() < 0x80 {
+        None
+    } else {
+        Some(code_point)
+    }
+}
