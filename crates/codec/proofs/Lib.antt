@@ -4,3 +4,4 @@ pub mod Few
 pub mod Gathered
 pub mod Looking
 pub mod Near
+pub mod Windows

@@ -15,5 +15,6 @@ unfoldable pub use Rattle.codec.specs.Behind.{state_behind}
 pub use Rattle.codec.specs.Decode.{Decoded, fatal_of}
 unfoldable pub use Rattle.codec.specs.Decode.{is_decoded, decode}
 pub use Rattle.codec.specs.Mark.{mark_of, in_force, mark_length}
+pub use Rattle.codec.specs.Texts.{replaced}
 pub use Rattle.lane_ascii.specs.Marks.{marks, one_if}
 pub use Rattle.lane_utf.specs.Widths.{utf8_width, utf16_width, total_width}
