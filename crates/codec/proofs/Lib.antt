@@ -5,3 +5,4 @@ pub mod Gathered
 pub mod Looking
 pub mod Near
 pub mod OutputStates
+pub mod Windows

@@ -14,3 +14,4 @@ pub mod Refused
 pub mod Sniffed
 pub mod SniffedLaws
 pub mod Sniffing
+pub mod Texts

@@ -2,6 +2,7 @@
 #![tactic(auto)]
 
 mod by_any;
+mod changes;
 mod decoder;
 mod decoding;
 #[cfg(test)]
@@ -21,6 +22,7 @@ mod text_blocks;
 mod whole;
 
 pub use by_any::decode_any;
+pub use changes::one_window;
 pub use decoder::AnyDecoder;
 pub use decoding::{Decoding, decode_by};
 pub use fault::CodecFault;

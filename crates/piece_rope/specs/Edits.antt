@@ -6,6 +6,7 @@ use Rattle.index_loader.specs.Files.{Files}
 use Rattle.piece_rope.specs.declared.fault.DocFault.{DocFault}
 use Rattle.piece_rope.specs.declared.fault.DocFault.TheVariants.{NoIndex, OutOfRange, TooLarge, NotKept, OutOfMemory}
 use Rattle.state_memo.specs.Decoding.{is_decoded}
+pub use Rattle.state_memo.specs.Decoding.{replaced}
 use Rattle.piece_rope.specs.Document.{Document, text_of, errors_of}
 
 -- the most bytes that a document has
@@ -52,10 +53,6 @@ named OutOfMemory = None
 abbrev pub Faults : {A : Type 0} → Option DocFault → Result A DocFault → Type 0
 Faults fault (Ok x) = fault ≡ None
 Faults fault (Err e) = fault ≡ named e
-
--- a text with its code points from i to j replaced
-abbrev pub replaced : List ℕ → ℕ → ℕ → List ℕ → List ℕ
-replaced text i j put = take i text ++ put ++ drop j text
 
 -- decoded from scratch, the bytes of the splice give the old text with its code points from i to j replaced
 abbrev pub is_kept : Document → ℕ → ℕ → List ℕ → ℕ → ℕ → List ℕ → Bool

@@ -17,10 +17,13 @@ const BYTES: [u8; 40] = [
 
 /// At `at`, `del` bytes are taken out and `ins` is put in.
 #[derive(Drop)]
-struct Splice {
-    at: usize,
-    del: usize,
-    ins: Vec<u8>,
+pub struct Splice {
+    /// Where.
+    pub at: usize,
+    /// How many bytes are taken out.
+    pub del: usize,
+    /// The bytes put in.
+    pub ins: Vec<u8>,
 }
 
 /// A byte of these, or as often the letter `a`.
@@ -59,7 +62,7 @@ fn number_taken_out(chance: &mut Chance, left: usize) -> usize {
 }
 
 /// A splice of a document of so many bytes; `None` where memory is refused.
-fn splice_of(alloc: Global, chance: &mut Chance, length: usize) -> Option<Splice> {
+pub fn splice_of(alloc: Global, chance: &mut Chance, length: usize) -> Option<Splice> {
     let count = number_put_in(chance);
     let ins = bytes(alloc, chance, count)?;
     let at = chance.below(length);
@@ -68,7 +71,7 @@ fn splice_of(alloc: Global, chance: &mut Chance, length: usize) -> Option<Splice
 }
 
 /// The bytes behind the splice; `None` where memory is refused.
-fn spliced(alloc: Global, bytes: &[u8], splice: &Splice) -> Option<Vec<u8>> {
+pub fn spliced(alloc: Global, bytes: &[u8], splice: &Splice) -> Option<Vec<u8>> {
     let mut new = Vec::new(alloc);
     let front = bytes.get(..splice.at)?;
     let back = bytes.get(splice.at.checked_add(splice.del)?..)?;

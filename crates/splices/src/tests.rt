@@ -9,6 +9,7 @@ use std::process::Abort;
 use std::test::Fail;
 
 mod cases;
+mod changes;
 mod marks;
 mod meters;
 

@@ -17,5 +17,6 @@ unfoldable pub use Rattle.codec.specs.Decode.{is_decoded, decode}
 pub use Rattle.codec.specs.Mark.{mark_of, in_force, mark_length}
 pub use Rattle.iso2022jp.specs.declared.output.OutputState.{OutputState}
 pub use Rattle.iso2022jp.specs.declared.output.OutputState.TheVariants.{Ascii, Roman, Katakana, Jis0208}
+pub use Rattle.codec.specs.Texts.{replaced}
 pub use Rattle.lane_ascii.specs.Marks.{marks, one_if}
 pub use Rattle.lane_utf.specs.Widths.{utf8_width, utf16_width, total_width}

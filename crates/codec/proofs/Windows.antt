@@ -1,0 +1,101 @@
+-- A change of the text shows in the part alone up to where the decoder's states agree again.
+use Rattle.std.proofs.Common.{◌≡◌, ℕ, ◌+◌, ◌≤◌, List, [], ◌∷◌, ◌++◌, length, take, drop, flat_map, ◌↔◌, refl, sym, ap, ◌∙◌, arith, append_assoc, append-nil}
+use Rattle.std.proofs.Math.Seq.{take-append-add, drop-append-add}
+use Rattle.std.proofs.lemmas.Grind.{flat_map-append}
+use Rattle.std.proofs.lemmas.List.{append_cancel_left, append_cancel_right, take-append-le, drop-append-le}
+use Rattle.decoder_core.specs.declared.item.Ended.{Ended}
+use Rattle.decoder_core.specs.Queue.{Table, run, feed, further}
+use Rattle.decoder_core.specs.Text.{item_code_points}
+use Rattle.codec.specs.Texts.{ended_text, run_text, fed_text, replaced}
+
+-- ---- lists
+
+-- the range stands within a part of the list
+pub replaced-within : (front part back put : List ℕ) (i j : ℕ) → i ≤ length part → j ≤ length part
+    → replaced (front ++ (part ++ back)) (length front + i) (length front + j) put ≡ front ++ (replaced part i j put ++ back)
+replaced-within front part back put i j i_in j_in =
+    ap (λ (xs : List ℕ). (xs ++ put) ++ drop (length front + j) (front ++ (part ++ back))) (take-append-add front (part ++ back) i)
+    ∙ ap (λ (xs : List ℕ). ((front ++ take i (part ++ back)) ++ put) ++ xs) (drop-append-add front (part ++ back) j)
+    ∙ ap (λ (xs : List ℕ). ((front ++ xs) ++ put) ++ drop j (part ++ back)) (take-append-le i part back i_in)
+    ∙ ap (λ (xs : List ℕ). ((front ++ take i part) ++ put) ++ xs) (drop-append-le j part back j_in)
+    ∙ ap (λ (xs : List ℕ). xs ++ (drop j part ++ back)) (append_assoc front (take i part) put)
+    ∙ append_assoc front (take i part ++ put) (drop j part ++ back)
+    ∙ ap (λ (xs : List ℕ). front ++ xs) (sym (append_assoc (take i part ++ put) (drop j part) back))
+
+-- so a list is the replaced one exactly where the part is
+pub replaced_part : (front old new back put : List ℕ) (i j : ℕ) → i ≤ length old → j ≤ length old
+    → (front ++ (new ++ back) ≡ replaced (front ++ (old ++ back)) (length front + i) (length front + j) put) ↔ (new ≡ replaced old i j put)
+replaced_part front old new back put i j i_in j_in = (
+  (λ whole. append_cancel_right new (replaced old i j put) back (append_cancel_left front (new ++ back) (replaced old i j put ++ back)
+      (whole ∙ replaced-within front old back put i j i_in j_in))),
+  (λ part. ap (λ (xs : List ℕ). front ++ (xs ++ back)) part ∙ sym (replaced-within front old back put i j i_in j_in)),
+)
+
+-- the same where nothing is behind
+pub replaced-behind : (front part put : List ℕ) (i j : ℕ)
+    → replaced (front ++ part) (length front + i) (length front + j) put ≡ front ++ replaced part i j put
+replaced-behind front part put i j =
+    ap (λ (xs : List ℕ). (xs ++ put) ++ drop (length front + j) (front ++ part)) (take-append-add front part i)
+    ∙ ap (λ (xs : List ℕ). ((front ++ take i part) ++ put) ++ xs) (drop-append-add front part j)
+    ∙ ap (λ (xs : List ℕ). xs ++ drop j part) (append_assoc front (take i part) put)
+    ∙ append_assoc front (take i part ++ put) (drop j part)
+
+pub replaced_rest : (front old new put : List ℕ) (i j : ℕ)
+    → (front ++ new ≡ replaced (front ++ old) (length front + i) (length front + j) put) ↔ (new ≡ replaced old i j put)
+replaced_rest front old new put i j = (
+  (λ whole. append_cancel_left front new (replaced old i j put) (whole ∙ replaced-behind front old put i j)),
+  (λ part. ap (λ (xs : List ℕ). front ++ xs) part ∙ sym (replaced-behind front old put i j)),
+)
+
+-- ---- the text of a run, in parts
+
+text-further : (n : ℕ) (es : List Ended) → ended_text (further n es) ≡ ended_text es
+text-further n [] = refl
+text-further n (e ∷ es) = ap (λ (xs : List ℕ). item_code_points e.item ++ xs) (text-further n es)
+
+text-append : (xs ys : List Ended) → ended_text (xs ++ ys) ≡ ended_text xs ++ ended_text ys
+text-append xs ys = flat_map-append (λ (e : Ended). item_code_points e.item) xs ys
+
+-- what is said of the runs of a table over two queues in a row
+abbrev pub Parts : {S : Type 0} → Table S → Type 0
+Parts {S} table = (s : S) (p q : List ℕ) → run table s (p ++ q) ≡ further (length q) (feed table s p).items ++ run table (feed table s p).state q
+
+module _ {S : Type 0} (table : Table S) (parts : Parts table) where
+  pub run_text-append : (s : S) (p q : List ℕ) → run_text table s (p ++ q) ≡ fed_text table s p ++ run_text table (feed table s p).state q
+  run_text-append s p q =
+      ap ended_text (parts s p q)
+      ∙ text-append (further (length q) (feed table s p).items) (run table (feed table s p).state q)
+      ∙ ap (λ (xs : List ℕ). xs ++ run_text table (feed table s p).state q) (text-further (length q) (feed table s p).items)
+
+  -- the text before, between and behind
+  run_text-parts : (s : S) (front part back : List ℕ) → let at = (feed table s front).state in
+      run_text table s (front ++ (part ++ back)) ≡ fed_text table s front ++ (fed_text table at part ++ run_text table (feed table at part).state back)
+  run_text-parts s front part back =
+      run_text-append s front (part ++ back)
+      ∙ ap (λ (xs : List ℕ). fed_text table s front ++ xs) (run_text-append (feed table s front).state part back)
+
+  -- Where old and new bytes stand between the same bytes, and the states behind them agree, the whole text is replaced as it should be exactly
+  -- where the text between is.
+  pub window : (s : S) (front old new back put : List ℕ) (i j : ℕ) → let at = (feed table s front).state in
+      i ≤ length (fed_text table at old) → j ≤ length (fed_text table at old)
+      → (feed table at new).state ≡ (feed table at old).state
+      → (run_text table s (front ++ (new ++ back))
+          ≡ replaced (run_text table s (front ++ (old ++ back))) (length (fed_text table s front) + i) (length (fed_text table s front) + j) put)
+      ↔ (fed_text table at new ≡ replaced (fed_text table at old) i j put)
+  window s front old new back put i j i_in j_in agree =
+      let at = (feed table s front).state in
+      let before = fed_text table s front in
+      let behind = run_text table (feed table at old).state back in
+      let new_is : run_text table s (front ++ (new ++ back)) ≡ before ++ (fed_text table at new ++ behind) =
+          run_text-parts s front new back ∙ ap (λ (x : S). before ++ (fed_text table at new ++ run_text table x back)) agree in
+      let part = replaced_part before (fed_text table at old) (fed_text table at new) behind put i j i_in j_in in
+      rw (new_is, run_text-parts s front old back) part
+
+  -- Where they never agree, the window goes to the end.
+  pub window_to_end : (s : S) (front old new put : List ℕ) (i j : ℕ) → let at = (feed table s front).state in
+      (run_text table s (front ++ new)
+          ≡ replaced (run_text table s (front ++ old)) (length (fed_text table s front) + i) (length (fed_text table s front) + j) put)
+      ↔ (run_text table at new ≡ replaced (run_text table at old) i j put)
+  window_to_end s front old new put i j =
+      let at = (feed table s front).state in
+      rw (run_text-append s front new, run_text-append s front old) (replaced_rest (fed_text table s front) (run_text table at old) (run_text table at new) put i j)
