@@ -148,7 +148,10 @@ fn runs(
     let answer = doc.splice_kept(at, case.del, case.ins, i, j, case.text, &mut meter);
     assert_eq!(rt; answer.err(), case.refused, "with {letters} letters");
     let after = doc.source(0, doc.lengths().bytes)?;
-    assert_eq!(rt; after.as_slice() == before.as_slice(), case.refused.is_some());
+    assert_eq!(rt;
+        after.as_slice() == before.as_slice(),
+        case.refused.is_some()
+    );
     if case.refused == Some(DocFault::OutOfRange) {
         assert_eq!(rt; meter.decoded(), 0);
     }
