@@ -80,21 +80,21 @@ module _ {S : Type 0} (table : Table S) (parts : Parts table) where
       i ≤ length (fed_text table at old) → j ≤ length (fed_text table at old)
       → (feed table at new).state ≡ (feed table at old).state
       → (run_text table s (front ++ (new ++ back))
-          ≡ replaced (run_text table s (front ++ (old ++ back))) (length (fed_text table s front) + i) (length (fed_text table s front) + j) put)
+      ≡ replaced (run_text table s (front ++ (old ++ back))) (length (fed_text table s front) + i) (length (fed_text table s front) + j) put)
       ↔ (fed_text table at new ≡ replaced (fed_text table at old) i j put)
   window s front old new back put i j i_in j_in agree =
       let at = (feed table s front).state in
       let before = fed_text table s front in
       let behind = run_text table (feed table at old).state back in
       let new_is : run_text table s (front ++ (new ++ back)) ≡ before ++ (fed_text table at new ++ behind) =
-          run_text-parts s front new back ∙ ap (λ (x : S). before ++ (fed_text table at new ++ run_text table x back)) agree in
+      run_text-parts s front new back ∙ ap (λ (x : S). before ++ (fed_text table at new ++ run_text table x back)) agree in
       let part = replaced_part before (fed_text table at old) (fed_text table at new) behind put i j i_in j_in in
       rw (new_is, run_text-parts s front old back) part
 
   -- Where they never agree, the window goes to the end.
   pub window_to_end : (s : S) (front old new put : List ℕ) (i j : ℕ) → let at = (feed table s front).state in
       (run_text table s (front ++ new)
-          ≡ replaced (run_text table s (front ++ old)) (length (fed_text table s front) + i) (length (fed_text table s front) + j) put)
+      ≡ replaced (run_text table s (front ++ old)) (length (fed_text table s front) + i) (length (fed_text table s front) + j) put)
       ↔ (run_text table at new ≡ replaced (run_text table at old) i j put)
   window_to_end s front old new put i j =
       let at = (feed table s front).state in

@@ -227,19 +227,19 @@ pub back-begun : (ps : List Entry) (tail : Outcome) (j k before : ℕ) → IsTex
 back-begun ps tail j k before place within part at =
     elim (low_or_high k (length ps)) [
       | inl l ↦
-        let there = got ps k l in
-        let same : Some part ≡ Some (here_of there.0) = sym at ∙ parts-get ps tail k there.0 there.1 in
-        let own : part ≡ here_of there.0 = cc in
-        omega (arith, text-within ps j k before place there.0 there.1, ap (λ (o : Outcome). length o.text) own)
+          let there = got ps k l in
+          let same : Some part ≡ Some (here_of there.0) = sym at ∙ parts-get ps tail k there.0 there.1 in
+          let own : part ≡ here_of there.0 = cc in
+          omega (arith, text-within ps j k before place there.0 there.1, ap (λ (o : Outcome). length o.text) own)
       | inr g ↦
-        let none : drop (suc k) (parts_of ps tail) ≡ [] = drop-all (parts_of ps tail) (suc k) (omega (arith, parts-length ps tail, g)) in
-        omega (
-          arith,
-          back-enough ps tail j j k before place (omega arith) within,
-          ap length (text-next (parts_of ps tail) k part at),
-          length-append part.text (text_in (drop (suc k) (parts_of ps tail))),
-          ap (λ (os : List Outcome). length (text_in os)) none,
-        )
+          let none : drop (suc k) (parts_of ps tail) ≡ [] = drop-all (parts_of ps tail) (suc k) (omega (arith, parts-length ps tail, g)) in
+          omega (
+            arith,
+            back-enough ps tail j j k before place (omega arith) within,
+            ap length (text-next (parts_of ps tail) k part at),
+            length-append part.text (text_in (drop (suc k) (parts_of ps tail))),
+            ap (λ (os : List Outcome). length (text_in os)) none,
+          )
     ]
 
 -- ---- answers

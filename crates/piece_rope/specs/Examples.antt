@@ -18,7 +18,7 @@ at from to = record { from = from; to = to }
 
 -- a few entries of the indexes
 abbrev pub jis0208 : Loaded
-jis0208 = record { kind = Jis0208; pairs = (283, 0x3042) ∷ (1410, 0x4E9C) ∷ [] }
+jis0208 = record { kind = Jis0208; pairs = (1, 0x3001) ∷ (283, 0x3042) ∷ (1410, 0x4E9C) ∷ [] }
 
 abbrev pub katakana : Loaded
 katakana = record { kind = Katakana; pairs = (0, 0x3002) ∷ [] }

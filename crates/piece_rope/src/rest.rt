@@ -65,7 +65,7 @@ pub(crate) fn behind_standing<'a>(
     requires begun { (part : Part) → slice_get (parts_of edited.pieces.now.items tail.now) place ≡ Some part → skip ≤ length part.text }
     ensures some { IfSome result (λ left. rest_of (edited_parts edited.entry.pieces.now.items edited.entry.edit.now) rest.entry.head.now rest.entry.next
         ≡ encode_utf8_all (take count (drop skip (text_in (drop place (parts_of edited.entry.pieces.now.items tail.now)))))
-            ++ rest_of (edited_parts edited.entry.pieces.now.items edited.entry.edit.now) left.head.now left.next) }
+        ++ rest_of (edited_parts edited.entry.pieces.now.items edited.entry.edit.now) left.head.now left.next) }
     ensures none { IfNone result ((left : List ℕ) → rest_of (edited_parts edited.entry.pieces.now.items edited.entry.edit.now) rest.entry.head.now rest.entry.next
         ≢ encode_utf8_all (take count (drop skip (text_in (drop place (parts_of edited.entry.pieces.now.items tail.now))))) ++ left) }
 {

@@ -33,10 +33,11 @@ returns-in_default-checked_sub c =
     let count = edited-count ps e c.args.edited.prepared in
     let n = e.last + length e.renewals.items in
     let all : c.total.result.scalars ≡ length (texts_of ps) = ap (λ (s : Sum). s.scalars) c.total.ensures ∙ sums-scalars ps in
-    let own : c.scalars_in.result ≡ length (texts_of (take n ps)) = c.scalars_in.ensures ∙ ap (λ (k : ℕ). length (texts_of (take (e.last + k) ps))) renewals in
-    ((λ no. absurd cc),
-    (λ same. absurd (c.in_default-checked_sub.ensures
-    (omega (arith, same, count, c.scalars_in-before.ensures, c.in-Some.ensures.1, all, own, ap length (texts-split ps n), length-append (texts_of (take n ps)) (texts_of (drop n ps)))))))
+    let own : c.scalars_in.result ≡ length (texts_of (take n ps)) = c.scalars_in.ensures ∙ ap (λ (k : ℕ). length (texts_of (take (e.last + k) ps))) renewals in (
+      (λ no. absurd cc),
+      (λ same. absurd (c.in_default-checked_sub.ensures
+          (omega (arith, same, count, c.scalars_in-before.ensures, c.in-Some.ensures.1, all, own, ap length (texts-split ps n), length-append (texts_of (take n ps)) (texts_of (drop n ps)))))),
+    )
 
 pub returns-in-Some-made_counted : goal.returns-in-Some-made_counted
 returns-in-Some-made_counted c =
@@ -50,9 +51,10 @@ returns-in-Some-made_counted c =
     let split : length (texts_of ps) ≡ length (texts_of (take n ps)) + length (texts_of (drop n ps)) = ap length (texts-split ps n) ∙ length-append (texts_of (take n ps)) (texts_of (drop n ps)) in
     let end = e.tail.summed.scalars in
     let known = c.in-Some-made_counted.ensures.some in
-    let eq = Decides-eqb c.in-Some-made_counted.left e.tail.sum.scalars in
-    ((λ yes. omega (arith, eq.0 yes, count, c.scalars_in-before.ensures, c.in-Some.ensures.0, c.in-Some.ensures.1, c.in-Some-checked_sub.ensures.0, c.in-Some-checked_sub.ensures.1, all, own, split, end, known)),
-    (λ same. eq.1 (omega (arith, same, count, c.scalars_in-before.ensures, c.in-Some.ensures.0, c.in-Some.ensures.1, c.in-Some-checked_sub.ensures.0, c.in-Some-checked_sub.ensures.1, all, own, split, end, known))))
+    let eq = Decides-eqb c.in-Some-made_counted.left e.tail.sum.scalars in (
+      (λ yes. omega (arith, eq.0 yes, count, c.scalars_in-before.ensures, c.in-Some.ensures.0, c.in-Some.ensures.1, c.in-Some-checked_sub.ensures.0, c.in-Some-checked_sub.ensures.1, all, own, split, end, known)),
+      (λ same. eq.1 (omega (arith, same, count, c.scalars_in-before.ensures, c.in-Some.ensures.0, c.in-Some.ensures.1, c.in-Some-checked_sub.ensures.0, c.in-Some-checked_sub.ensures.1, all, own, split, end, known))),
+    )
 
 pub returns-in-None : goal.returns-in-None
 returns-in-None c =
@@ -64,6 +66,7 @@ returns-in-None c =
     let all : c.total.result.scalars ≡ length (texts_of ps) = ap (λ (s : Sum). s.scalars) c.total.ensures ∙ sums-scalars ps in
     let own : c.scalars_in.result ≡ length (texts_of (take n ps)) = c.scalars_in.ensures ∙ ap (λ (k : ℕ). length (texts_of (take (e.last + k) ps))) renewals in
     let split : length (texts_of ps) ≡ length (texts_of (take n ps)) + length (texts_of (drop n ps)) = ap length (texts-split ps n) ∙ length-append (texts_of (take n ps)) (texts_of (drop n ps)) in
-    let known = c.in-None.ensures.none in
-    ((λ no. absurd cc),
-    (λ same. absurd (omega (arith, same, count, c.scalars_in-before.ensures, c.in-Some.ensures.0, c.in-Some.ensures.1, c.in-Some-checked_sub.ensures.0, c.in-Some-checked_sub.ensures.1, all, own, split, known))))
+    let known = c.in-None.ensures.none in (
+      (λ no. absurd cc),
+      (λ same. absurd (omega (arith, same, count, c.scalars_in-before.ensures, c.in-Some.ensures.0, c.in-Some.ensures.1, c.in-Some-checked_sub.ensures.0, c.in-Some-checked_sub.ensures.1, all, own, split, known))),
+    )

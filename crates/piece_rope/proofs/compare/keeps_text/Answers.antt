@@ -30,10 +30,11 @@ returns-then-not-has_scalars c =
     let tail = c.args.tail.now in
     let put = c.scalar_count.ensures.count in
     let whole : c.whole_sum.result.scalars ≡ length (text_in (parts_of ps tail)) =
-    ap (λ (s : Sum). s.scalars) c.whole_sum.ensures ∙ omega (arith, sums-scalars ps, tail.summed.scalars, length-append (texts_of ps) tail.text, ap length (parts-text ps tail)) in
-    ((λ no. absurd cc),
-    (λ kept. absurd (numbers-differ (text_in (parts_of ps tail)) (text_in (edited_parts ps c.args.edited.edit.now)) (chars c.args.text.now) c.args.i c.args.j c.requires.order c.requires.within
-    (λ same. let yes = c.has_scalars.ensures.1 (omega (arith, same, whole, put, c.requires.order, c.requires.within)) in let no = c.if-not-has_scalars.true in cc) kept)))
+    ap (λ (s : Sum). s.scalars) c.whole_sum.ensures ∙ omega (arith, sums-scalars ps, tail.summed.scalars, length-append (texts_of ps) tail.text, ap length (parts-text ps tail)) in (
+      (λ no. absurd cc),
+      (λ kept. absurd (numbers-differ (text_in (parts_of ps tail)) (text_in (edited_parts ps c.args.edited.edit.now)) (chars c.args.text.now) c.args.i c.args.j c.requires.order c.requires.within
+          (λ same. let yes = c.has_scalars.ensures.1 (omega (arith, same, whole, put, c.requires.order, c.requires.within)) in let no = c.if-not-has_scalars.true in cc) kept)),
+    )
 
 pub returns : goal.returns
 returns c =

@@ -82,7 +82,6 @@ returns-then-not-keeps_text-clause-meter_most c =
     metered-doc doc c.args.self.now c.self.view_is c.in_ok-decoder.decoder c.args.at c.args.del c.in_ok-at.at c.in_ok-at.to c.args.meter.now c.prepare.new.meter c.args.ins.now c.new.result
     c.in_ok-decoder.ensures.ok_part c.new.ensures.behind c.in_ok-at.ensures.within c.in_ok-at.ensures.ok.0 c.in_ok-at.ensures.ok.1 c.prepare.ensures.meter
 
-
 pub returns-in_err-at-clause-faults : goal.returns-in_err-at-clause-faults
 returns-in_err-at-clause-faults c =
     let e = err_from_is_err_and c.from_residual.result c.from_residual.ensures.1 in
@@ -140,9 +139,11 @@ returns-then-not-keeps_text-clause-faults c =
     let text = parts-whole doc old c.self.inside.tail c.self.invariant.whole ∙ ap text_of c.self.view_is in
     let is = edited-doc doc c.args.self.now c.self.view_is (bytes_of new) c.args.ins.now c.args.at c.args.del c.in_ok-at.at c.in_ok-at.to c.in_ok-at.ensures.ok.0 c.in_ok-at.ensures.ok.1 c.in_ok-edit.ensures.bytes in
     let cut = ap (λ (x : Document). splice_fault x.bytes c.args.at c.args.del c.args.ins.now) (sym c.self.view_is) ∙ c.in_ok-at.ensures.faults in
-    let none = no-cause c.args.self.now c.args.at c.args.del c.args.ins.now c.args.i c.args.j (omega (arith, c.if-i-j.false)) (omega (arith, c.if-j-lengths.false, c.lengths.ensures.scalars)) cut in
-    (none, sym (kept-is c.args.self.now after c.args.at c.args.del c.args.ins.now c.args.i c.args.j c.keeps_text.result (chars c.args.text.now) (text_in (parts_of old c.self.inside.tail)) (text_in (edited_parts old edit)) is
-    (parts-whole after new edit.tail kept.whole) text c.keeps_text.ensures) ∙ c.if-not-keeps_text.true)
+    let none = no-cause c.args.self.now c.args.at c.args.del c.args.ins.now c.args.i c.args.j (omega (arith, c.if-i-j.false)) (omega (arith, c.if-j-lengths.false, c.lengths.ensures.scalars)) cut in (
+      none,
+      sym (kept-is c.args.self.now after c.args.at c.args.del c.args.ins.now c.args.i c.args.j c.keeps_text.result (chars c.args.text.now) (text_in (parts_of old c.self.inside.tail)) (text_in (edited_parts old edit)) is
+          (parts-whole after new edit.tail kept.whole) text c.keeps_text.ensures) ∙ c.if-not-keeps_text.true,
+    )
 
 pub returns-clause-faults : goal.returns-clause-faults
 returns-clause-faults c =
@@ -162,6 +163,8 @@ returns-clause-faults c =
     let text = parts-whole doc old c.self.inside.tail c.self.invariant.whole ∙ ap text_of c.self.view_is in
     let is = edited-doc doc c.args.self.now c.self.view_is (bytes_of new) c.args.ins.now c.args.at c.args.del c.in_ok-at.at c.in_ok-at.to c.in_ok-at.ensures.ok.0 c.in_ok-at.ensures.ok.1 c.in_ok-edit.ensures.bytes in
     let cut = ap (λ (x : Document). splice_fault x.bytes c.args.at c.args.del c.args.ins.now) (sym c.self.view_is) ∙ c.in_ok-at.ensures.faults in
-    let none = no-cause c.args.self.now c.args.at c.args.del c.args.ins.now c.args.i c.args.j (omega (arith, c.if-i-j.false)) (omega (arith, c.if-j-lengths.false, c.lengths.ensures.scalars)) cut in
-    (none, sym (kept-is c.args.self.now after c.args.at c.args.del c.args.ins.now c.args.i c.args.j c.keeps_text.result (chars c.args.text.now) (text_in (parts_of old c.self.inside.tail)) (text_in (edited_parts old edit)) is
-    (parts-whole after new edit.tail kept.whole) text c.keeps_text.ensures) ∙ c.if-not-keeps_text.false)
+    let none = no-cause c.args.self.now c.args.at c.args.del c.args.ins.now c.args.i c.args.j (omega (arith, c.if-i-j.false)) (omega (arith, c.if-j-lengths.false, c.lengths.ensures.scalars)) cut in (
+      none,
+      sym (kept-is c.args.self.now after c.args.at c.args.del c.args.ins.now c.args.i c.args.j c.keeps_text.result (chars c.args.text.now) (text_in (parts_of old c.self.inside.tail)) (text_in (edited_parts old edit)) is
+          (parts-whole after new edit.tail kept.whole) text c.keeps_text.ensures) ∙ c.if-not-keeps_text.false,
+    )
