@@ -50,6 +50,10 @@ fn take_pairs<H: Handler>(handler: &H, state: H::State, bytes: &[u8], text: &mut
     'pairs: while taken + 1 < end {
         let lead = bytes[taken];
         if lead < 0x80 {
+            // A long run of ASCII is taken by itself. Looked for now and then, it costs nothing.
+            if taken % 16 == 0 && begins_ascii(&bytes[taken..]) {
+                break;
+            }
             written = put_scalar(text, written, u32::from(lead));
             taken += 1;
             continue;

@@ -13,7 +13,7 @@ use crate::sink::Sink;
 /// How many bytes are stepped over at first where none was taken in bulk, before that is tried
 /// again: at each byte it would cost more than it gains. An odd number, so that pairs are not met
 /// in their middle again and again.
-const SHORTEST: usize = 7;
+const SHORTEST: usize = 15;
 
 /// How many bytes are stepped over at most. Each time that few are taken or none, twice as many are
 /// stepped over and one more, so that text without runs is decoded as fast as without the trials.

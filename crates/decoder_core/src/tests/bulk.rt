@@ -67,12 +67,11 @@ fn expect_bytes<D: Decoder>(
         let bulk = decoder.bulk(decoder.start(), &bytes[..count], &mut block);
         assert_eq!(rt; bulk.taken, count.min(256));
         assert_eq!(rt; bulk.stride, Stride::Bytes);
-        let mut items = 0;
-        for c in str::from_utf8(&block[..bulk.written])?.chars() {
-            assert_eq!(rt; c, if items % 2 == 0 { code_point } else { 'a' });
-            items += 1;
+        let text = str::from_utf8(&block[..bulk.written])?;
+        for (at, c) in text.chars().enumerate() {
+            assert_eq!(rt; c, if at % 2 == 0 { code_point } else { 'a' });
         }
-        assert_eq!(rt; items, bulk.taken);
+        assert_eq!(rt; text.chars().count(), bulk.taken);
     }
     Ok(())
 }

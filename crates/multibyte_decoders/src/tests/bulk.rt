@@ -56,12 +56,12 @@ fn expect_pairs<D: Decoder>(
         );
         assert!(rt; bulk.taken % 3 != 1, "{count} bytes");
         assert_eq!(rt; bulk.stride, Stride::Pairs);
-        let mut items = 0;
-        for c in str::from_utf8(&block[..bulk.written])?.chars() {
-            assert_eq!(rt; c, if items % 2 == 0 { code_point } else { 'a' });
-            items += 1;
+        let text = str::from_utf8(&block[..bulk.written])?;
+        for (at, c) in text.chars().enumerate() {
+            assert_eq!(rt; c, if at % 2 == 0 { code_point } else { 'a' });
         }
-        assert_eq!(rt; items, (bulk.taken * 2 + 1) / 3, "{count} bytes");
+        let items = bulk.taken.saturating_mul(2).saturating_add(1) / 3;
+        assert_eq!(rt; text.chars().count(), items, "{count} bytes");
     }
     Ok(())
 }
