@@ -1,5 +1,5 @@
 -- Where the output state changes: at the last byte of an escape alone, which gives no item that ends before it.
-use Rattle.std.proofs.Common.{◌≡◌, ◌≢◌, refl, sym, ap, subst, ◌∙◌, ℕ, zero, suc, ◌+◌, ◌-◌, ◌*◌, ◌<◌, ◌≤◌, ◌==◌, Bool, true, false, List, [], ◌∷◌, ◌++◌, length, take, length-append, if◌then◌else◌, append-nil, append_assoc, Option, Some, None, arith, rules, lit≤, All, ◌⊎◌, inl, inr}
+use Rattle.std.proofs.Common.{◌≡◌, ◌≢◌, refl, sym, ap, subst, ◌∙◌, ℕ, zero, suc, ◌+◌, ◌-◌, ◌*◌, ◌<◌, ◌≤◌, ◌==◌, Bool, true, false, List, [], ◌∷◌, ◌++◌, length, take, length-append, if◌then◌else◌, append_assoc, Option, Some, None, arith, rules, lit≤, All, ◌⊎◌, inl, inr}
 use Rattle.std.proofs.Math.Seq.{take-append_seam, take-length}
 use Rattle.std.proofs.lemmas.List.{take-append-le}
 use Rattle.std.proofs.lemmas.List.Elements.{All-cons, All-nil}
@@ -17,7 +17,7 @@ use Rattle.iso2022jp.specs.declared.output.OutputState.{OutputState}
 use Rattle.iso2022jp.specs.declared.output.OutputState.TheVariants.{Ascii, Roman, Katakana, Jis0208}
 use Rattle.iso2022jp.specs.declared.state.DecoderState.{DecoderState}
 use Rattle.iso2022jp.specs.declared.state.DecoderState.TheVariants.{Ready, Trail, EscapeStart, Escape}
-use Rattle.iso2022jp.specs.Iso2022Jp.{Iso2022Jp, iso_2022_jp, iso_2022_jp_start, output_of, entering, returning, switched, unflagged, ready_byte, escaped, escape_to, state_byte, is_pair_byte}
+use Rattle.iso2022jp.specs.Iso2022Jp.{Iso2022Jp, iso_2022_jp, iso_2022_jp_start, returning, switched, unflagged, ready_byte, escaped, escape_to, state_byte, is_pair_byte}
 use Rattle.iso2022jp.specs.Iso2022JpLaws.{iso_2022_jp_holding, iso_2022_jp_bytes}
 
 -- how many bytes of an escape have been read

@@ -1,8 +1,7 @@
 -- What items remember of the output state is the decoder's behind their ends, taken literally.
-use Rattle.std.proofs.Common.{◌≡◌, refl, sym, ap, ◌∙◌, subst, ℕ, ◌+◌, ◌-◌, ◌^◌, ◌<◌, ◌≤◌, true, List, [], ◌∷◌, ◌++◌, take, length, map, Option, Some, None, All, arith, append_assoc, append-nil, length-append}
+use Rattle.std.proofs.Common.{◌≡◌, refl, sym, ap, ◌∙◌, subst, ℕ, ◌+◌, ◌-◌, ◌^◌, ◌<◌, true, List, [], ◌∷◌, ◌++◌, take, length, map, Option, Some, None, All, arith, append_assoc, length-append}
 use Rattle.std.specs.Option.{is_some}
-use Rattle.std.specs.Prelude.{ℤ, pos, ◌-ℤ◌}
-use Rattle.std.proofs.Math.Seq.{take-length}
+use Rattle.std.specs.Prelude.{pos, ◌-ℤ◌}
 use Rattle.std.proofs.lemmas.Int.{ints}
 use Rattle.std.proofs.lemmas.List.{take-append-le}
 use Rattle.std.proofs.lemmas.List.Elements.{All-map, All-append, All-nil}
@@ -12,7 +11,7 @@ use Rattle.state_memo.specs.Decoding.{Ended as EndedItem, OwnDecoder, AnyState, 
 use Rattle.state_memo.specs.declared.ended.Ended.{Ended}
 use Rattle.state_memo.specs.declared.outcome.Outcome.{Outcome}
 use Rattle.state_memo.specs.Items.{kept_item}
-use Rattle.state_memo.specs.Outcome.{Contents, contents_of, outcome_of, ending_of, items_of_shown, items_of_ended}
+use Rattle.state_memo.specs.Outcome.{Contents, contents_of, outcome_of, ending_of, items_of_shown}
 use Rattle.state_memo.specs.Sums.{sum_of}
 use Rattle.piece_rope.specs.Chain.{Chain, bytes_of}
 use Rattle.piece_rope.specs.Document.{Document}

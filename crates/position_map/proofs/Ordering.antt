@@ -1,5 +1,5 @@
 -- A position that isn't behind another has no greater offset.
-use Rattle.std.proofs.Common.{◌≡◌, refl, sym, ap, subst, ◌∙◌, ℕ, zero, suc, ◌+◌, ◌-◌, ◌<◌, ◌≤◌, ◌==◌, ◌||◌, ◌&&◌, Bool, true, false, cond, nat_lt, List, [], ◌∷◌, ◌++◌, length, take, drop, arith, Option, Some, None, Ok, Err, slice_get, Result, if◌then◌else◌}
+use Rattle.std.proofs.Common.{◌≡◌, refl, sym, ap, subst, ◌∙◌, ℕ, zero, suc, ◌+◌, ◌-◌, ◌<◌, ◌≤◌, ◌==◌, ◌||◌, ◌&&◌, Bool, true, false, cond, nat_lt, List, [], ◌∷◌, length, drop, arith, Option, Some, None, Ok, Err, slice_get, Result, if◌then◌else◌}
 use Rattle.std.specs.Option.{option_map, ok_or}
 use Rattle.std.proofs.lemmas.Bool.Decides.{nat_tests}
 use Rattle.std.proofs.lemmas.List.{length-take}
@@ -12,7 +12,7 @@ use Rattle.position_map.specs.Lines.{Line, lines_from, lines_of}
 use Rattle.position_map.specs.Plan.{is_behind}
 use Rattle.position_map.specs.Positions.{along, between, offset_on, offset_at, offset_of}
 use Rattle.position_map.specs.Widths.{width_of}
-use Rattle.position_map.proofs.Alongs.{IsPlaceAlong, along_place}
+use Rattle.position_map.proofs.Alongs.{along_place}
 
 by_test : {A : Type 0} (b : Bool) → (b ≡ true → A) → (b ≡ false → A) → A
 by_test true p q = p refl

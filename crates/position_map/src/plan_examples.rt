@@ -4,7 +4,7 @@
 ghost use Rattle.std.specs.Prelude.{◌≡◌, [], ◌∷◌, Some, None, Ok, Err};
 ghost use Rattle.enc_names.specs.declared.encoding.Encoding.TheVariants.{Big5, ShiftJis, Iso2022Jp, Utf8, Replacement, Windows1252};
 ghost use Rattle.position_map.specs.declared.change_fault.ChangeFault.TheVariants.{OutOfRange, SplitsCharacter, SplitsItem, NoEncoder, Unencodable};
-ghost use Rattle.position_map.specs.declared.unit.Unit.TheVariants.{Utf16, Utf32};
+ghost use Rattle.position_map.specs.declared.unit.Unit.TheVariants.{Utf16};
 ghost use Rattle.position_map.specs.Plan.{planned};
 ghost use Rattle.position_map.specs.PlanExamples.{document, on_first_line};
 

@@ -1,14 +1,14 @@
-use Rattle.std.proofs.Common.{◌≡◌, ap, subst, sym, ◌∙◌, Some, ℕ, List, Option}
+use Rattle.std.proofs.Common.{◌≡◌, ap, subst, Some, Option}
 use Rattle.std.specs.Option.{IfSome}
 use Rattle.enc_names.specs.declared.encoding.Encoding.{Encoding}
-use Rattle.index_loader.specs.Files.{Files, index_of}
+use Rattle.index_loader.specs.Files.{Files}
 use Rattle.index_loader.specs.Index.{Loaded}
-use Rattle.decoder_core.specs.Queue.{Fed, feed}
+use Rattle.decoder_core.specs.Queue.{Fed}
 use Rattle.codec.specs.declared.own.OwnDecoder.{OwnDecoder}
 use Rattle.codec.specs.declared.state.AnyState.{AnyState}
 use Rattle.codec.specs.declared.state.AnyState.TheVariants.{Iso2022Jp as in_iso_2022_jp}
-use Rattle.codec.specs.Any.{any, any_start, given_start, decoder_in}
-use Rattle.codec.specs.Behind.{state_in, state_behind}
+use Rattle.codec.specs.Any.{any, given_start, decoder_in}
+use Rattle.codec.specs.Behind.{state_in}
 use Rattle.codec.specs.Decode.{run_in}
 use Rattle.codec.proofs.AnyRun.{Does}
 use Rattle.codec.proofs.Choosing.{chosen, behind}
