@@ -1,5 +1,7 @@
 //! Lines, positions, offsets and places, a row each, also with lines before and behind.
 
+ghost use Rattle.std.specs.Prelude.{◌≡◌, ◌*◌};
+
 use super::desk;
 use crate::{Command, Desk, Fault, Line, PlaceUnit, Reply, Unit};
 use enc_names::{Encoding, Place};
@@ -94,13 +96,15 @@ fn is_wanted(reply: &Reply, wanted: Wanted<'_>) -> bool {
 
 /// How many lines of one letter stand before the bytes of a row, and how many behind them.
 #[derive(Clone, Copy)]
-struct Around {
-    before: u64,
-    behind: u64,
+pub struct Around {
+    /// Lines before.
+    pub before: u16,
+    /// Lines behind.
+    pub behind: u16,
 }
 
 /// None, and 3,000 bytes before, behind, and both.
-const AROUND: [Around; 4] = [
+pub const AROUND: [Around; 4] = [
     Around {
         before: 0,
         behind: 0,
@@ -119,8 +123,31 @@ const AROUND: [Around; 4] = [
     },
 ];
 
+impl Around {
+    /// The lines before.
+    pub fn lines_before(self) -> u64
+        ensures { result ≡ self.before }
+    {
+        u64::from(self.before)
+    }
+
+    /// The bytes before, which are as many code points.
+    pub fn bytes_before(self) -> u64
+        ensures { result ≡ 2 * self.before }
+    {
+        2 * u64::from(self.before)
+    }
+
+    /// The bytes behind.
+    pub fn bytes_behind(self) -> u64
+        ensures { result ≡ 2 * self.behind }
+    {
+        2 * u64::from(self.behind)
+    }
+}
+
 /// The bytes with these lines around them.
-fn surrounded(alloc: Global, bytes: &[u8], around: Around) -> Result<Vec<u8>, Fail> {
+pub fn surrounded(alloc: Global, bytes: &[u8], around: Around) -> Result<Vec<u8>, Fail> {
     let mut all = Vec::new(alloc);
     for _ in 0..around.before {
         all.extend_from_slice(b"a\n")?;
@@ -180,12 +207,12 @@ fn pair_and_cr_lf(rt: HostRuntime) -> Result<(), Fail> {
 
 /// Lines, positions and offsets of `a`, U+1F600, CR, LF, `b`.
 fn pair_and_cr_lf_within(rt: &impl Abort, desk: &mut Desk<'_>, bytes: &[u8], around: Around) {
-    let line = around.before;
-    let at = 2 * around.before;
-    let end = at + 5 + 2 * around.behind;
+    let line = around.lines_before();
+    let at = around.bytes_before();
+    let end = at + 5 + around.bytes_behind();
     let split = Refused(Fault::SplitsCharacter);
     let past = Refused(Fault::OutOfRange);
-    let count = line + 2 + around.behind;
+    let count = line + 2 + u64::from(around.behind);
     let rows = [
         (
             Asked::Lines(line, 2),
@@ -214,8 +241,8 @@ fn pair_and_cr_lf_within(rt: &impl Abort, desk: &mut Desk<'_>, bytes: &[u8], aro
 
 /// Places of the same.
 fn pair_and_cr_lf_at_places(rt: &impl Abort, desk: &mut Desk<'_>, bytes: &[u8], around: Around) {
-    let at = 2 * around.before;
-    let total = at + 8 + 2 * around.behind;
+    let at = around.bytes_before();
+    let total = at + 8 + around.bytes_behind();
     let utf16 = PlaceUnit::Text(Unit::Utf16);
     let utf8 = PlaceUnit::Text(Unit::Utf8);
     let pair = Places(Some((at + 1, at + 5)), [at + 1, at + 1, at + 1]);
@@ -246,12 +273,15 @@ fn cr_and_cr_lf(rt: HostRuntime) -> Result<(), Fail> {
     let indexes = Indexes::new();
     let mut desk = desk(rt.alloc(), &indexes)?;
     for around in &AROUND {
-        let line = around.before;
-        let at = 2 * around.before;
+        let line = around.lines_before();
+        let at = around.bytes_before();
         let bytes = surrounded(rt.alloc(), b"\r\r\n", *around)?;
         let are = [(at, at), (at + 1, at + 1), (at + 3, at + 3)];
         let rows = [
-            (Asked::Lines(line, 3), Lines(line + 3 + around.behind, &are)),
+            (
+                Asked::Lines(line, 3),
+                Lines(line + 3 + u64::from(around.behind), &are),
+            ),
             (Asked::Position(at + 1, Unit::Utf16), Position(line + 1, 0)),
             (Asked::Position(at + 2, Unit::Utf16), Position(line + 1, 0)),
             (Asked::Position(at + 3, Unit::Utf16), Position(line + 2, 0)),
@@ -266,8 +296,8 @@ fn truncated_sequence(rt: HostRuntime) -> Result<(), Fail> {
     let indexes = Indexes::new();
     let mut desk = desk(rt.alloc(), &indexes)?;
     for around in &AROUND {
-        let at = 2 * around.before;
-        let behind = 2 * around.behind;
+        let at = around.bytes_before();
+        let behind = around.bytes_behind();
         let bytes = surrounded(rt.alloc(), b"\xE2\x82A", *around)?;
         let next = if behind == 0 {
             None
@@ -314,7 +344,7 @@ fn two_code_points_of_one_item(rt: HostRuntime) -> Result<(), Fail> {
     let indexes = few_indexes(rt.alloc())?;
     let mut desk = desk(rt.alloc(), &indexes)?;
     for around in &AROUND {
-        let at = 2 * around.before;
+        let at = around.bytes_before();
         let bytes = surrounded(rt.alloc(), b"\x88\x62", *around)?;
         let item = Some((at, at + 2));
         let first = Places(item, [at, at, at]);
@@ -328,7 +358,10 @@ fn two_code_points_of_one_item(rt: HostRuntime) -> Result<(), Fail> {
                 Asked::Place(PlaceUnit::Text(Unit::Utf8), at + 1),
                 Refused(Fault::SplitsCharacter),
             ),
-            (Asked::Offset(around.before, 9, Unit::Utf8), Offset(at + 2)),
+            (
+                Asked::Offset(around.lines_before(), 9, Unit::Utf8),
+                Offset(at + 2),
+            ),
         ];
         answers(&rt, &mut desk, Encoding::Big5, &bytes, &rows);
     }
@@ -340,7 +373,7 @@ fn item_without_bytes(rt: HostRuntime) -> Result<(), Fail> {
     let indexes = few_indexes(rt.alloc())?;
     let mut desk = desk(rt.alloc(), &indexes)?;
     for around in &AROUND {
-        let at = 2 * around.before;
+        let at = around.bytes_before();
         // The last byte leads, and the error takes in what follows it.
         let to = at + if around.behind == 0 { 6 } else { 7 };
         let bytes = surrounded(rt.alloc(), b"\x1B$B$\x1BA", *around)?;

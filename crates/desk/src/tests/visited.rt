@@ -23,7 +23,7 @@ fn count_pieces(doc: &Doc<'_>) -> u64 {
         let Some(piece) = found else {
             return count;
         };
-        at = before.bytes + piece.here().sum.bytes;
+        at = before.bytes.saturating_add(piece.here().sum.bytes);
     }
     5000
 }
@@ -31,9 +31,9 @@ fn count_pieces(doc: &Doc<'_>) -> u64 {
 /// Asserts that no call that seeks visits more, at a place in hundredths of the document.
 fn visits_few(rt: &impl Abort, doc: &Doc<'_>, hundredths: u64) {
     let lengths = doc.lengths();
-    let number = lengths.lines * hundredths / 100;
-    let offset = lengths.scalars * hundredths / 100;
-    let at = lengths.bytes * hundredths / 100;
+    let number = lengths.lines.saturating_mul(hundredths) / 100;
+    let offset = lengths.scalars.saturating_mul(hundredths) / 100;
+    let at = lengths.bytes.saturating_mul(hundredths) / 100;
     few_by_lines(rt, doc, number);
     few_by_offsets(rt, doc, offset, at);
 }
