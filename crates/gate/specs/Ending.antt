@@ -3,15 +3,16 @@ use Rattle.std.specs.Prelude.{ℕ, List, codes}
 use Rattle.enc_names.specs.declared.labels.LabelFault.{LabelFault}
 use Rattle.enc_names.specs.declared.labels.LabelFault.TheVariants as fault
 use Rattle.gate.specs.declared.failure.Failure.{Failure}
-use Rattle.gate.specs.declared.failure.Failure.TheVariants.{Words, NotText, Index, Labels, CannotRead, Read, Write, TooManyReads, CannotListen, Accept, OutOfMemory}
+use Rattle.gate.specs.declared.failure.Failure.TheVariants.{Words, NotText, Index, Labels, CannotRead, TraceLine, Read, Write, TooManyReads, CannotListen, Accept, OutOfMemory}
 
--- 2 for a mistake in the words or the files, 1 for a device that failed or memory that ran out
+-- 2 for a mistake in the words, the files or a trace, 1 for a device that failed or memory that ran out
 abbrev pub status_of : Failure → ℕ
 status_of (Words error) = 2
 status_of NotText = 2
 status_of (Index fault) = 2
 status_of (Labels fault) = 2
 status_of (CannotRead name) = 2
+status_of (TraceLine number) = 2
 status_of Read = 1
 status_of Write = 1
 status_of TooManyReads = 1

@@ -7,6 +7,9 @@ use std::alloc::Global;
 /// The command that serves the standard streams with files.
 const STDIO: &str = "stdio";
 
+/// The command that plays a trace.
+const TRACE: &str = "trace";
+
 /// The command that serves connections over TCP.
 const TCP: &str = "tcp";
 
@@ -26,6 +29,8 @@ pub enum Job<'a> {
     Plain,
     /// Serve the standard streams with these files.
     Stdio(Sources<'a>),
+    /// Play the trace on standard input with these files.
+    Trace(Sources<'a>),
     /// Serve connections over TCP with these files.
     Tcp(Sources<'a>, Listening),
 }
@@ -61,11 +66,15 @@ pub fn job_of(alloc: Global, words: &[String]) -> Result<Job<'_>, Error> {
             )?),
         };
     }
-    let Some(given) = matches.subcommand_matches(STDIO) else {
-        return Ok(Job::Plain);
+    let job = if let Some(given) = matches.subcommand_matches(STDIO) {
+        sources_of(given).map(Job::Stdio)
+    } else if let Some(given) = matches.subcommand_matches(TRACE) {
+        sources_of(given).map(Job::Trace)
+    } else {
+        Some(Job::Plain)
     };
-    match sources_of(given) {
-        Some(sources) => Ok(Job::Stdio(sources)),
+    match job {
+        Some(job) => Ok(job),
         None => Err(command.error(ErrorKind::MissingRequiredArgument, "--indexes is missing")?),
     }
 }
@@ -138,6 +147,9 @@ fn tcp<'a>(alloc: Global) -> Result<Command<'a>, Error> {
 fn command<'a>(alloc: Global) -> Result<Command<'a>, Error> {
     let about = "Serves standard input with index files and labels";
     let stdio = with_sources(alloc, STDIO, about)?;
+    let about =
+        "Plays the trace on standard input, the events of many connections, with index files and labels";
+    let trace = with_sources(alloc, TRACE, about)?;
     let gate = Command::new(alloc, "gate")
         .bin_name("gate")?
         .about(
@@ -145,6 +157,7 @@ fn command<'a>(alloc: Global) -> Result<Command<'a>, Error> {
         )
         .no_binary_name(true)
         .subcommand(stdio)?
+        .subcommand(trace)?
         .subcommand(tcp(alloc)?)?;
     Ok(gate)
 }

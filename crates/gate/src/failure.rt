@@ -21,6 +21,8 @@ pub enum Failure<'a> {
     Labels(LabelFault),
     /// The file of this name can't be read.
     CannotRead(&'a str),
+    /// The line of this number of a trace isn't skipped and has no event.
+    TraceLine(u64),
     /// A read failed.
     Read,
     /// A write failed.
@@ -36,8 +38,8 @@ pub enum Failure<'a> {
 }
 
 impl Failure<'_> {
-    /// The program's exit status: 2 for a mistake in the words or the files that they name, and 1
-    /// for a device that failed or memory that ran out.
+    /// The program's exit status: 2 for a mistake in the words, in the files that they name or in a
+    /// trace, and 1 for a device that failed or memory that ran out.
     pub fn status(&self) -> u8
         ensures { result ≡ status_of self.now }
     {
@@ -46,7 +48,8 @@ impl Failure<'_> {
             | Failure::NotText
             | Failure::Index(_)
             | Failure::Labels(_)
-            | Failure::CannotRead(_) => 2,
+            | Failure::CannotRead(_)
+            | Failure::TraceLine(_) => 2,
             Failure::Read
             | Failure::Write
             | Failure::TooManyReads
@@ -103,6 +106,7 @@ impl fmt::Display for Failure<'_> {
                 writeln!(f, "gate: label file: {cause}")
             }
             Failure::CannotRead(name) => writeln!(f, "gate: cannot read {name}"),
+            Failure::TraceLine(number) => writeln!(f, "gate: trace line {number}"),
             Failure::Read => f.write_str("gate: read fault\n"),
             Failure::Write => f.write_str("gate: write fault\n"),
             Failure::TooManyReads => f.write_str("gate: too many reads\n"),

@@ -5,6 +5,7 @@ mod command_line;
 mod failure;
 mod labels;
 mod perform;
+mod replay;
 mod serve;
 mod stdio;
 #[cfg(test)]

@@ -3,6 +3,7 @@
 use crate::command_line::{Job, Listening, Sources, job_of};
 use crate::failure::Failure;
 use crate::labels::{labels_in, names};
+use crate::replay::replay;
 use crate::serve::{ServeFault, serve};
 use crate::stdio::serve_stdio;
 use crate::text::Text;
@@ -47,6 +48,11 @@ fn attempt<'a, T: Files + Net<Listener = TcpListener, Stream = TcpStream>, R: Fe
             let indexes = indexes_in(rt, alloc, sources.indexes)?;
             let labels = labels_of(rt, alloc, sources)?;
             serve_stdio(alloc, &indexes, labels, input, output)
+        }
+        Ok(Job::Trace(sources)) => {
+            let indexes = indexes_in(rt, alloc, sources.indexes)?;
+            let labels = labels_of(rt, alloc, sources)?;
+            replay(alloc, &indexes, labels, input, output)
         }
         Ok(Job::Tcp(sources, listening)) => {
             let indexes = indexes_in(rt, alloc, sources.indexes)?;

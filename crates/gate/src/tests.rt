@@ -11,10 +11,10 @@ use std::{env, fs, process};
 
 /// What the program did: its status, and what it wrote to its output and to its error stream.
 #[derive(Drop)]
-struct Ending {
-    status: u8,
-    output: String,
-    error: String,
+pub(crate) struct Ending {
+    pub(crate) status: u8,
+    pub(crate) output: String,
+    pub(crate) error: String,
 }
 
 fn text_of(rt: &HostRuntime, device: &MemOutlet) -> Result<String, Fail> {
@@ -30,7 +30,7 @@ fn words_of(rt: &HostRuntime, words: &[&str]) -> Result<Vec<String>, Fail> {
 }
 
 /// Runs the program with these words over this input.
-fn performed(rt: &HostRuntime, words: &[&str], input: &str) -> Result<Ending, Fail> {
+pub(crate) fn performed(rt: &HostRuntime, words: &[&str], input: &str) -> Result<Ending, Fail> {
     let words = words_of(rt, words)?;
     let mut input = MemFeed::new(input.as_bytes());
     let mut output = MemOutlet::new(rt.alloc());
@@ -52,12 +52,12 @@ fn ends(rt: &HostRuntime, words: &[&str], status: u8, error: &str) -> Result<boo
 
 /// A folder for one test.
 #[derive(Drop)]
-struct Folder {
+pub(crate) struct Folder {
     path: PathBuf,
 }
 
 impl Folder {
-    fn new(rt: &HostRuntime, name: &str) -> Result<Folder, Fail> {
+    pub(crate) fn new(rt: &HostRuntime, name: &str) -> Result<Folder, Fail> {
         let id = process::id(rt.process());
         let name = format!(in rt.alloc(); "gate-test-{id}-{name}")?;
         let path = env::temp_dir(rt)?.join(rt.alloc(), name.as_str())?;
@@ -69,17 +69,17 @@ impl Folder {
         Ok(self.path.join(rt.alloc(), name)?.into_string())
     }
 
-    fn write(&self, rt: &HostRuntime, name: &str, bytes: &[u8]) -> Result<(), Fail> {
+    pub(crate) fn write(&self, rt: &HostRuntime, name: &str, bytes: &[u8]) -> Result<(), Fail> {
         let path = self.path_of(rt, name)?;
         fs::write(rt, path.as_str(), bytes)?;
         Ok(())
     }
 
-    fn as_str(&self) -> &str {
+    pub(crate) fn as_str(&self) -> &str {
         self.path.as_path().as_str()
     }
 
-    fn remove(&self, rt: &HostRuntime) -> Result<(), Fail> {
+    pub(crate) fn remove(&self, rt: &HostRuntime) -> Result<(), Fail> {
         fs::remove_dir_all(rt, self.path.as_path())?;
         Ok(())
     }
@@ -87,7 +87,7 @@ impl Folder {
 
 /// A stream on which every call fails.
 #[derive(Drop)]
-struct Broken;
+pub(crate) struct Broken;
 
 impl Read for Broken {
     fn read(&mut self, _buf: &mut [u8]) -> io::Result<usize> {
@@ -106,7 +106,7 @@ impl Write for Broken {
 }
 
 /// The status over these devices, and the text on the error stream.
-fn ended_over<R: Feed, W: Outlet>(
+pub(crate) fn ended_over<R: Feed, W: Outlet>(
     rt: &HostRuntime,
     input: &mut R,
     output: &mut W,
@@ -363,6 +363,7 @@ fn help_goes_to_the_output(rt: HostRuntime) -> Result<(), Fail> {
         &["-h"],
         &["help"],
         &["stdio", "--help"],
+        &["trace", "--help"],
         &["tcp", "--help"],
     ] {
         let done = performed(&rt, words, OPEN)?;
@@ -388,7 +389,9 @@ fn bad_words_are_refused_before_any_file_is_read(rt: HostRuntime) -> Result<(), 
     folder.write(&rt, "index-ibm866.txt", b"x\t0x41\n")?;
     let at = folder.as_str();
     assert!(rt; are_refused(&rt, &["stdio"])?);
-    assert!(rt; are_refused(&rt, &["trace", "--indexes", at])?);
+    assert!(rt; are_refused(&rt, &["trace"])?);
+    assert!(rt; are_refused(&rt, &["trace", "--indexes", at, "--serve", "1"])?);
+    assert!(rt; are_refused(&rt, &["replay", "--indexes", at])?);
     assert!(rt; are_refused(&rt, &["tcp"])?);
     for port in ["0", "65536", "-1", "http", ""] {
         assert!(rt; are_refused(&rt, &["tcp", "--indexes", at, "--port", port])?);

@@ -5,9 +5,10 @@ use Rattle.json.specs.Print.{escape_byte}
 use Rattle.serde_json.specs.Data.{Data}
 use Rattle.enc_names.specs.Labels.{LabelTable}
 use Rattle.index_loader.specs.Files.{Files}
-use Rattle.desk.specs.declared.fault.Fault.TheVariants.{BadBase64, NoDocument, NameTaken, UnknownLabel, NoIndex, TooManyDocuments, Stale, RevisionsSpent, OutOfRange, NoEncoder, Unencodable, TooLarge, Malformed, OutOfMemory}
+use Rattle.desk.specs.declared.fault.Fault.TheVariants.{BadBase64, NoDocument, NameTaken, UnknownLabel, NoIndex, TooManyDocuments, Stale, RevisionsSpent, OutOfRange, SplitsCharacter, NoEncoder, Unencodable, TooLarge, Malformed, OutOfMemory}
 use Rattle.desk.specs.declared.reply.Reply.{Reply}
-use Rattle.desk.specs.declared.reply.Reply.TheVariants.{Edited, Closed, Text, Bytes, Errors, Refused}
+use Rattle.desk.specs.declared.reply.Reply.TheVariants.{Edited, Closed, Text, Bytes, Errors, Lines, Position, Offset, Stat, Refused}
+use Rattle.desk.specs.declared.reply.Reply.TheVariants as replies
 use Rattle.gateway.specs.declared.request.refusal.Refusal.{Refusal}
 use Rattle.gateway.specs.declared.request.refusal.Refusal.TheVariants as refusal
 use Rattle.desk.specs.Commands.{Asked}
@@ -38,6 +39,11 @@ texts_apart id (Closed rev) = refl
 texts_apart id (Text rev text) = refl
 texts_apart id (Bytes rev bytes) = refl
 texts_apart id (Errors rev total places) = refl
+texts_apart id (Lines rev count lines) = refl
+texts_apart id (Position rev line character) = refl
+texts_apart id (Offset rev offset) = refl
+texts_apart id (replies.Place rev place utf8 utf16 utf32) = refl
+texts_apart id (Stat rev given encoding bom bytes errors lines utf8 utf16 utf32) = refl
 texts_apart id (Refused OutOfMemory) = tt
 texts_apart id (Refused BadBase64) = refl
 texts_apart id (Refused NoDocument) = refl
@@ -48,6 +54,7 @@ texts_apart id (Refused TooManyDocuments) = refl
 texts_apart id (Refused (Stale rev)) = refl
 texts_apart id (Refused RevisionsSpent) = refl
 texts_apart id (Refused OutOfRange) = refl
+texts_apart id (Refused SplitsCharacter) = refl
 texts_apart id (Refused NoEncoder) = refl
 texts_apart id (Refused (Unencodable code_point index)) = refl
 texts_apart id (Refused TooLarge) = refl
@@ -91,6 +98,11 @@ long_keeps (Refused fault) long = refl
 long_keeps (Text rev text) long = refl
 long_keeps (Bytes rev bytes) long = refl
 long_keeps (Errors rev total places) long = refl
+long_keeps (Lines rev count lines) long = refl
+long_keeps (Position rev line character) long = refl
+long_keeps (Offset rev offset) long = refl
+long_keeps (replies.Place rev place utf8 utf16 utf32) long = refl
+long_keeps (Stat rev given encoding bom bytes errors lines utf8 utf16 utf32) long = refl
 
 -- the desk answered, and memory didn't suffice to write its reply
 pub unwritten_reply_step : (old new : Office) (step : Step) (reply : Reply) (text : List ℕ) → text ≡ memory_text → (is_short reply ≡ true → ⊥) → (changes reply ≡ false → new ≡ old)

@@ -1,6 +1,6 @@
 -- The text of a reply: one line, an object of JSON with no space and its keys in ascending order.
 use Rattle.std.specs.Prelude.{◌≡◌, ◌≤◌, ℕ, length, List, [], ◌∷◌, ◌++◌, Bool, true, false, codes, Option, Some, None}
-use Rattle.serde_json.specs.Data.{Data, number, string, array, object, unsigned, Items, no_items, item, Members, no_members, member}
+use Rattle.serde_json.specs.Data.{Data, null, number, string, array, object, unsigned, Items, no_items, item, Members, no_members, member}
 use Rattle.serde_json.specs.Written.{compact_text}
 use Rattle.base64.specs.Engines.{standard}
 use Rattle.base64.specs.GeneralPurpose.{encode_of}
@@ -8,9 +8,11 @@ use Rattle.enc_names.specs.Names.{name_of}
 use Rattle.enc_names.specs.declared.encoding.Encoding.{Encoding}
 use Rattle.enc_names.specs.declared.place.Place.{Place}
 use Rattle.desk.specs.declared.fault.Fault.{Fault}
-use Rattle.desk.specs.declared.fault.Fault.TheVariants.{BadBase64, NoDocument, NameTaken, UnknownLabel, NoIndex, TooManyDocuments, Stale, RevisionsSpent, OutOfRange, NoEncoder, Unencodable, TooLarge, Malformed, OutOfMemory}
+use Rattle.desk.specs.declared.fault.Fault.TheVariants.{BadBase64, NoDocument, NameTaken, UnknownLabel, NoIndex, TooManyDocuments, Stale, RevisionsSpent, OutOfRange, SplitsCharacter, NoEncoder, Unencodable, TooLarge, Malformed, OutOfMemory}
 use Rattle.desk.specs.declared.reply.Reply.{Reply}
-use Rattle.desk.specs.declared.reply.Reply.TheVariants.{Edited, Closed, Text, Bytes, Errors, Refused}
+use Rattle.desk.specs.declared.line.Line.{Line}
+use Rattle.desk.specs.declared.reply.Reply.TheVariants.{Edited, Closed, Text, Bytes, Errors, Lines, Position, Offset, Stat, Refused}
+use Rattle.desk.specs.declared.reply.Reply.TheVariants as replies
 use Rattle.gateway.specs.declared.request.field.Field.{Field}
 use Rattle.gateway.specs.declared.request.field.Field.TheVariants as field
 use Rattle.gateway.specs.declared.request.refusal.Refusal.{Refusal}
@@ -28,6 +30,7 @@ fault_name TooManyDocuments = codes "TooManyDocuments"
 fault_name (Stale rev) = codes "Stale"
 fault_name RevisionsSpent = codes "RevisionsSpent"
 fault_name OutOfRange = codes "OutOfRange"
+fault_name SplitsCharacter = codes "SplitsCharacter"
 fault_name NoEncoder = codes "NoEncoder"
 fault_name (Unencodable code_point index) = codes "Unencodable"
 fault_name TooLarge = codes "TooLarge"
@@ -49,18 +52,37 @@ field_name field.From = codes "from"
 field_name field.To = codes "to"
 field_name field.Mode = codes "mode"
 field_name field.Max = codes "max"
+field_name field.Offset = codes "offset"
+field_name field.Line = codes "line"
+field_name field.Character = codes "character"
+field_name field.Unit = codes "unit"
+field_name field.Value = codes "value"
 
 -- ---- data
 
 abbrev pub whole : ℕ → Data
 whole n = number (unsigned n)
 
+abbrev pub pair_data : ℕ → ℕ → Data
+pair_data a b = array (item (whole a) (item (whole b) no_items))
+
 abbrev pub place_data : Place → Data
-place_data p = array (item (whole p.from) (item (whole p.to) no_items))
+place_data p = pair_data p.from p.to
+
+abbrev pub line_data : Line → Data
+line_data l = pair_data l.start l.end
+
+abbrev pub place_or_null : Option Place → Data
+place_or_null None = null
+place_or_null (Some p) = place_data p
 
 abbrev pub places_data : List Place → Items
 places_data [] = no_items
 places_data (p ∷ ps) = item (place_data p) (places_data ps)
+
+abbrev pub lines_items : List Line → Items
+lines_items [] = no_items
+lines_items (l ∷ ls) = item (line_data l) (lines_items ls)
 
 abbrev pub edited_data : ℕ → ℕ → Encoding → ℕ → Data
 edited_data id bom encoding rev =
@@ -84,6 +106,31 @@ abbrev pub errors_data : ℕ → ℕ → ℕ → List Place → Data
 errors_data id rev total places =
     object (member (codes "errors") (array (places_data places)) (member (codes "id") (whole id)
     (member (codes "rev") (whole rev) (member (codes "total") (whole total) no_members))))
+
+abbrev pub lines_data : ℕ → ℕ → ℕ → List Line → Data
+lines_data id rev count lines =
+    object (member (codes "count") (whole count) (member (codes "id") (whole id)
+    (member (codes "lines") (array (lines_items lines)) (member (codes "rev") (whole rev) no_members))))
+
+abbrev pub position_data : ℕ → ℕ → ℕ → ℕ → Data
+position_data id rev line character =
+    object (member (codes "character") (whole character) (member (codes "id") (whole id)
+    (member (codes "line") (whole line) (member (codes "rev") (whole rev) no_members))))
+
+abbrev pub offset_data : ℕ → ℕ → ℕ → Data
+offset_data id rev offset = object (member (codes "id") (whole id) (member (codes "offset") (whole offset) (member (codes "rev") (whole rev) no_members)))
+
+abbrev pub found_place_data : ℕ → ℕ → Option Place → ℕ → ℕ → ℕ → Data
+found_place_data id rev place utf8 utf16 utf32 =
+    object (member (codes "id") (whole id) (member (codes "place") (place_or_null place) (member (codes "rev") (whole rev)
+    (member (codes "utf16") (whole utf16) (member (codes "utf32") (whole utf32) (member (codes "utf8") (whole utf8) no_members))))))
+
+abbrev pub stat_data : ℕ → ℕ → Encoding → Encoding → ℕ → ℕ → ℕ → ℕ → ℕ → ℕ → ℕ → Data
+stat_data id rev given encoding bom bytes errors lines utf8 utf16 utf32 =
+    object (member (codes "bom") (whole bom) (member (codes "bytes") (whole bytes) (member (codes "encoding") (string (name_of encoding))
+    (member (codes "errors") (whole errors) (member (codes "given") (string (name_of given)) (member (codes "id") (whole id)
+    (member (codes "lines") (whole lines) (member (codes "rev") (whole rev) (member (codes "utf16") (whole utf16)
+    (member (codes "utf32") (whole utf32) (member (codes "utf8") (whole utf8) no_members)))))))))))
 
 -- a fault alone, and one that answers the request with this number
 abbrev pub bare_data : List ℕ → Data
@@ -119,6 +166,11 @@ reply_data id (Closed rev) = closed_data id rev
 reply_data id (Text rev text) = text_data id rev text
 reply_data id (Bytes rev bytes) = bytes_data id rev bytes
 reply_data id (Errors rev total places) = errors_data id rev total places
+reply_data id (Lines rev count lines) = lines_data id rev count lines
+reply_data id (Position rev line character) = position_data id rev line character
+reply_data id (Offset rev offset) = offset_data id rev offset
+reply_data id (replies.Place rev place utf8 utf16 utf32) = found_place_data id rev place utf8 utf16 utf32
+reply_data id (Stat rev given encoding bom bytes errors lines utf8 utf16 utf32) = stat_data id rev given encoding bom bytes errors lines utf8 utf16 utf32
 reply_data id (Refused f) = fault_data id f
 
 -- the number of the request, where it was read
@@ -145,7 +197,7 @@ line_of d = compact_text d ++ 10 ∷ []
 
 -- the most bytes of a line that is stored inline
 abbrev pub inline_limit : ℕ
-inline_limit = 256
+inline_limit = 328
 
 -- the line of this object, which is short enough to be stored inline
 abbrev pub IsShortLine : Data → List ℕ → Type 0
@@ -167,4 +219,9 @@ is_short (Closed rev) = true
 is_short (Text rev text) = false
 is_short (Bytes rev bytes) = false
 is_short (Errors rev total places) = false
+is_short (Lines rev count lines) = false
+is_short (Position rev line character) = true
+is_short (Offset rev offset) = true
+is_short (replies.Place rev place utf8 utf16 utf32) = true
+is_short (Stat rev given encoding bom bytes errors lines utf8 utf16 utf32) = true
 is_short (Refused f) = true

@@ -2,15 +2,20 @@
 -- the last counts, and a number that has a fraction, an exponent or a minus sign is no whole number.
 use Rattle.std.specs.Prelude.{◌≡◌, ◌<◌, ◌-◌, ◌^◌, ℕ, ◌||◌, ◌==◌, nat_lt, nat_le, List, length, codes, if◌then◌else◌, is_some, Option, Some, None, option_and_then, Result, Ok, Err}
 use Rattle.std.specs.Str.{bytes_eq}
+use Rattle.std.specs.Option.{option_map}
 use Rattle.serde_json.specs.Data.{Data}
 use Rattle.serde_json.specs.Find.{get, as_number, as_u64, as_str, as_object}
 use Rattle.serde_json.specs.View.{view}
 use Rattle.serde_json.specs.declared.value.Value.{Value}
 use Rattle.enc_names.specs.Json.{json_of}
-use Rattle.desk.specs.Commands.{Asked, asked_of, Opens, Closes, Splices, Reads, ReadsBytes, Encodes, ListsErrors, asked}
+use Rattle.desk.specs.Commands.{Asked, asked_of, Opens, Closes, Splices, Reads, ReadsBytes, Encodes, ListsErrors, ListsLines, FindsPosition, FindsOffset, FindsPlace, Measures, asked}
 use Rattle.desk.specs.declared.command.Command.{Command}
+use Rattle.position_map.specs.declared.unit.Unit.{Unit as TextUnit}
+use Rattle.position_map.specs.declared.unit.Unit.TheVariants.{Utf8, Utf16, Utf32}
 use Rattle.encoders.specs.declared.mode.EncodeMode.{EncodeMode}
 use Rattle.encoders.specs.declared.mode.EncodeMode.TheVariants as encode_mode
+use Rattle.desk.specs.declared.place_unit.PlaceUnit.{PlaceUnit}
+use Rattle.desk.specs.declared.place_unit.PlaceUnit.TheVariants.{Byte, Text}
 use Rattle.desk.specs.declared.text_mode.TextMode.{TextMode}
 use Rattle.desk.specs.declared.text_mode.TextMode.TheVariants.{Replacement, Fatal}
 use Rattle.gateway.specs.declared.request.field.Field.{Field}
@@ -86,6 +91,28 @@ or_fatal (Some d) = option_and_then as_encode_mode (as_str d)
 abbrev pub encode_mode_at : Data → Option EncodeMode
 encode_mode_at d = or_fatal (get (codes "mode") d)
 
+-- a unit by its name in LSP
+abbrev pub as_unit : List ℕ → Option TextUnit
+as_unit text =
+    if bytes_eq text (codes "utf-8") then Some Utf8
+    else (if bytes_eq text (codes "utf-16") then Some Utf16
+    else (if bytes_eq text (codes "utf-32") then Some Utf32 else None))
+
+abbrev pub or_utf16 : Option Data → Option TextUnit
+or_utf16 None = Some Utf16
+or_utf16 (Some d) = option_and_then as_unit (as_str d)
+
+-- the unit of a position, which is `utf-16` where it is absent
+abbrev pub unit_at : Data → Option TextUnit
+unit_at d = or_utf16 (get (codes "unit") d)
+
+abbrev pub as_place_unit : List ℕ → Option PlaceUnit
+as_place_unit text = if bytes_eq text (codes "byte") then Some Byte else option_map Text (as_unit text)
+
+-- what the value of `place` counts, which has to be there
+abbrev pub place_unit_at : Data → Option PlaceUnit
+place_unit_at d = option_and_then as_place_unit (text_at d (codes "unit"))
+
 -- ---- the fields of each command, in the order of their checks
 
 abbrev pub open_command : Data → Result Asked Field
@@ -140,6 +167,40 @@ errors_command d = do
   max ← need field.Max (number_at d (codes "max") max_entries)
   Ok (asked_of doc (ListsErrors from max))
 
+abbrev pub lines_command : Data → Result Asked Field
+lines_command d = do
+  doc ← need field.Doc (name_at d)
+  from ← need field.From (number_at d (codes "from") max_number)
+  max ← need field.Max (number_at d (codes "max") max_entries)
+  Ok (asked_of doc (ListsLines from max))
+
+abbrev pub position_command : Data → Result Asked Field
+position_command d = do
+  doc ← need field.Doc (name_at d)
+  offset ← need field.Offset (number_at d (codes "offset") max_number)
+  unit ← need field.Unit (unit_at d)
+  Ok (asked_of doc (FindsPosition offset unit))
+
+abbrev pub offset_command : Data → Result Asked Field
+offset_command d = do
+  doc ← need field.Doc (name_at d)
+  line ← need field.Line (number_at d (codes "line") max_number)
+  character ← need field.Character (number_at d (codes "character") max_number)
+  unit ← need field.Unit (unit_at d)
+  Ok (asked_of doc (FindsOffset line character unit))
+
+abbrev pub place_command : Data → Result Asked Field
+place_command d = do
+  doc ← need field.Doc (name_at d)
+  unit ← need field.Unit (place_unit_at d)
+  value ← need field.Value (number_at d (codes "value") max_number)
+  Ok (asked_of doc (FindsPlace unit value))
+
+abbrev pub stat_command : Data → Result Asked Field
+stat_command d = do
+  doc ← need field.Doc (name_at d)
+  Ok (asked_of doc Measures)
+
 abbrev pub with_id : ℕ → Result Asked Field → Result (ℕ × Asked) Refusal
 with_id id (Ok command) = Ok (id, command)
 with_id id (Err f) = Err (BadRequest (Some id) f)
@@ -153,7 +214,12 @@ command_of d id op =
     else (if bytes_eq op (codes "source") then with_id id (source_command d)
     else (if bytes_eq op (codes "encode") then with_id id (encode_command d)
     else (if bytes_eq op (codes "errors") then with_id id (errors_command d)
-    else Err (UnknownOp id)))))))
+    else (if bytes_eq op (codes "lines") then with_id id (lines_command d)
+    else (if bytes_eq op (codes "position") then with_id id (position_command d)
+    else (if bytes_eq op (codes "offset") then with_id id (offset_command d)
+    else (if bytes_eq op (codes "place") then with_id id (place_command d)
+    else (if bytes_eq op (codes "stat") then with_id id (stat_command d)
+    else Err (UnknownOp id))))))))))))
 
 -- the request in an object: its number and its command
 abbrev pub request_of : Data → Result (ℕ × Asked) Refusal

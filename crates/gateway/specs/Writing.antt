@@ -1,10 +1,10 @@
 -- How the code writes a reply line. Nothing here has to be believed.
 use Rattle.std.specs.Prelude.{ℕ, ◌&&◌, ◌||◌, ◌==◌, Bool, true, not, nat_lt, List, [], ◌∷◌, ◌+◌, length, ◌≡◌, ◌++◌, Some}
 use denote.Ref.{Bor}
-use Rattle.serde_json.specs.Data.{Data, string, Members, no_members, member}
+use Rattle.serde_json.specs.Data.{Data, null, string, Members, no_members, member}
 use Rattle.gateway.specs.Replies.{whole, place_data}
 use Rattle.gateway.specs.declared.reply_line.members.Content.{Content}
-use Rattle.gateway.specs.declared.reply_line.members.Content.TheVariants.{Number, Text, At}
+use Rattle.gateway.specs.declared.reply_line.members.Content.TheVariants.{Number, Text, At, Nothing}
 use Rattle.serde.specs.Event.{Log}
 use Rattle.serde_json.specs.Sent.{IsTextOf}
 use Rattle.gateway.specs.declared.reply_line.Storage.{Storage}
@@ -28,6 +28,7 @@ abbrev pub content_data : Content → Data
 content_data (Number n) = whole n
 content_data (Text t) = string t.now
 content_data (At place) = place_data place
+content_data Nothing = null
 
 abbrev pub members_of : MemberList → Members
 members_of [] = no_members
@@ -37,12 +38,13 @@ abbrev pub content_is_plain : Content → Bool
 content_is_plain (Number n) = true
 content_is_plain (Text t) = all_plain t.now
 content_is_plain (At place) = true
+content_is_plain Nothing = true
 
 abbrev pub are_plain : MemberList → Bool
 are_plain [] = true
 are_plain (m ∷ ms) = all_plain m.0.now && content_is_plain m.1 && are_plain ms
 
--- the most bytes of a name, of a number, and of a place, which is two numbers in brackets
+-- the most bytes of a name, of a number, of a place, which is two numbers in brackets, and of `null`
 abbrev pub name_room : ℕ
 name_room = 20
 
@@ -52,11 +54,15 @@ number_room = 20
 abbrev pub place_room : ℕ
 place_room = 43
 
+abbrev pub null_room : ℕ
+null_room = 4
+
 -- at most so many bytes
 abbrev pub content_room : Content → ℕ
 content_room (Number n) = number_room
 content_room (Text t) = length t.now + 2
 content_room (At place) = place_room
+content_room Nothing = null_room
 
 -- at most so many bytes, with a comma before each member and the closing bracket
 abbrev pub room_of : MemberList → ℕ

@@ -7,6 +7,7 @@ pub(crate) mod short_text;
 #[cfg(test)]
 mod tests;
 
+use crate::reply_line::short::Measures;
 use crate::reply_line::short_text::ShortText;
 use crate::request::Refusal;
 use desk::Reply;
@@ -84,6 +85,57 @@ impl ReplyLine {
                 Ok(ReplyLine {
                     storage: Storage::Allocated(bytes),
                 })
+            }
+            Reply::Lines { rev, count, lines } => {
+                let bytes = long::lines(alloc, id, *rev, *count, lines.as_slice())?;
+                Ok(ReplyLine {
+                    storage: Storage::Allocated(bytes),
+                })
+            }
+            Reply::Position {
+                rev,
+                line,
+                character,
+            } => Ok(ReplyLine::inline(short::position(
+                id, *rev, *line, *character,
+            ))),
+            Reply::Offset { rev, offset } => {
+                Ok(ReplyLine::inline(short::offset(id, *rev, *offset)))
+            }
+            Reply::Place {
+                rev,
+                place,
+                utf8,
+                utf16,
+                utf32,
+            } => Ok(ReplyLine::inline(short::place(
+                id, *rev, *place, *utf8, *utf16, *utf32,
+            ))),
+            Reply::Stat {
+                rev,
+                given,
+                encoding,
+                bom,
+                bytes,
+                errors,
+                lines,
+                utf8,
+                utf16,
+                utf32,
+            } => {
+                let measured = Measures {
+                    bom: *bom,
+                    bytes: *bytes,
+                    encoding: *encoding,
+                    errors: *errors,
+                    given: *given,
+                    lines: *lines,
+                    rev: *rev,
+                    utf16: *utf16,
+                    utf32: *utf32,
+                    utf8: *utf8,
+                };
+                Ok(ReplyLine::inline(short::stat(id, &measured)))
             }
             Reply::Refused { fault } => Ok(ReplyLine::inline(short::fault(id, *fault))),
         }

@@ -9,6 +9,9 @@ use desk::Desk;
 use serde_json::Value;
 use std::alloc::Global;
 
+#[cfg(test)]
+mod tests;
+
 /// The most bytes of a line, its line feed left out.
 pub(crate) const LINE_LIMIT: usize = 4_194_304;
 

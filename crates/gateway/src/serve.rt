@@ -12,7 +12,7 @@ use crate::gateway::{Event, Gateway, Out};
 use crate::reply_line::ReplyLine;
 
 #[cfg(test)]
-mod tests;
+pub(crate) mod tests;
 
 /// The most bytes of one read.
 const PIECE: usize = 4096;

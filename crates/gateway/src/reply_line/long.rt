@@ -3,9 +3,10 @@ ghost use Rattle.std.specs.Prelude.{◌≡◌, IfOk, OnOk};
 ghost use Rattle.serde_json.specs.Data.{array};
 ghost use Rattle.serde_json.specs.Events.{SendsValue, SendsItems};
 ghost use Rattle.gateway.specs.Writing.{IsLineOf};
-ghost use Rattle.gateway.specs.Replies.{line_of, text_data, base64_data, bytes_data, errors_data, place_data, places_data};
+ghost use Rattle.gateway.specs.Replies.{line_of, text_data, base64_data, bytes_data, errors_data, lines_data, lines_items, pair_data, places_data};
 
 use base64::engine::general_purpose::STANDARD;
+use desk::Line;
 use enc_names::Place;
 use serde::{Described, Serialize, Serializer};
 use std::alloc::{AllocError, Global};
@@ -41,6 +42,25 @@ pub(super) fn errors(
         rev,
         total,
         places,
+    };
+    line(alloc, &reply)
+}
+
+/// The line with a page of lines.
+pub(super) fn lines(
+    alloc: Global,
+    id: u64,
+    rev: u64,
+    count: u64,
+    lines: &[Line],
+) -> Result<Vec<u8>, AllocError>
+    ensures { IfOk result (λ line. line.items ≡ line_of (lines_data id rev count lines.now)) }
+{
+    let reply = LinesReply {
+        id,
+        rev,
+        count,
+        lines,
     };
     line(alloc, &reply)
 }
@@ -143,17 +163,57 @@ fn send_places<S: Serializer>(places: &[Place], out: &mut S) -> Result<(), S::Er
 {
     out.begin_seq(Some(places.len()))?;
     for place in places {
-        send_place(*place, out)?;
+        send_pair(place.from, place.to, out)?;
     }
     out.end_seq()
 }
 
-/// Writes a place as a list of its two ends.
-fn send_place<S: Serializer>(place: Place, out: &mut S) -> Result<(), S::Error>
-    ensures { OnOk result (SendsValue (place_data place) (S.written out.old) (S.written out.new)) }
+/// The reply to `lines`.
+#[derive(Clone, Copy)]
+struct LinesReply<'a> {
+    id: u64,
+    rev: u64,
+    count: u64,
+    lines: &'a [Line],
+}
+
+impl Described for LinesReply<'_> {
+    ghost writes = { λ reply. SendsValue
+        (lines_data reply.id reply.rev reply.count reply.lines.now) };
+}
+
+impl Serialize for LinesReply<'_> {
+    fn serialize<S: Serializer>(&self, out: &mut S) -> Result<(), S::Error> {
+        out.begin_map(Some(4))?;
+        out.key("count")?;
+        out.u64(self.count)?;
+        out.key("id")?;
+        out.u64(self.id)?;
+        out.key("lines")?;
+        send_lines(self.lines, out)?;
+        out.key("rev")?;
+        out.u64(self.rev)?;
+        out.end_map()
+    }
+}
+
+/// Writes a list of lines.
+fn send_lines<S: Serializer>(lines: &[Line], out: &mut S) -> Result<(), S::Error>
+    ensures { OnOk result (SendsValue (array (lines_items lines.now)) (S.written out.old) (S.written out.new)) }
+{
+    out.begin_seq(Some(lines.len()))?;
+    for line in lines {
+        send_pair(line.start, line.end, out)?;
+    }
+    out.end_seq()
+}
+
+/// Writes two numbers as a list.
+fn send_pair<S: Serializer>(first: u64, second: u64, out: &mut S) -> Result<(), S::Error>
+    ensures { OnOk result (SendsValue (pair_data first second) (S.written out.old) (S.written out.new)) }
 {
     out.begin_seq(Some(2))?;
-    out.u64(place.from)?;
-    out.u64(place.to)?;
+    out.u64(first)?;
+    out.u64(second)?;
     out.end_seq()
 }

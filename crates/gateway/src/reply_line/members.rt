@@ -19,6 +19,8 @@ pub(super) enum Content<'a> {
     Text(&'a str),
     /// The two ends of a place, as a list.
     At(Place),
+    /// `null`.
+    Nothing,
 }
 
 /// The line of an object with these members, in this order.
@@ -58,6 +60,7 @@ fn put(line: &mut ShortText, later: bool, key: &str, content: Content<'_>)
         Content::Number(number) => put_number(line, number),
         Content::Text(text) => line.quote(text),
         Content::At(place) => put_place(line, place),
+        Content::Nothing => line.extend(b"null"),
     }
 }
 

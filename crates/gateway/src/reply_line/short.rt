@@ -2,7 +2,7 @@
 ghost use Rattle.std.specs.Prelude.{◌≡◌, ◌≤◌, length, codes, IsTrue};
 ghost use Rattle.enc_names.specs.Names.{name_of};
 ghost use Rattle.gateway.specs.Writing.{all_plain, name_room};
-ghost use Rattle.gateway.specs.Replies.{IsShortLine, edited_data, closed_data, fault_data, refusal_data, bare_data, fault_with_id_data, unencodable_data, malformed_data, bad_request_data, fault_name, field_name};
+ghost use Rattle.gateway.specs.Replies.{IsShortLine, edited_data, closed_data, position_data, offset_data, found_place_data, stat_data, fault_data, refusal_data, bare_data, fault_with_id_data, unencodable_data, malformed_data, bad_request_data, fault_name, field_name};
 
 use crate::reply_line::members::{Content, line};
 use crate::reply_line::short_text::ShortText;
@@ -27,6 +27,89 @@ pub(super) fn closed(id: u64, rev: u64) -> ShortText
     ensures { IsShortLine (closed_data id rev) result }
 {
     line(&[("id", Content::Number(id)), ("rev", Content::Number(rev))])
+}
+
+/// The position of an offset.
+pub(super) fn position(id: u64, rev: u64, row: u64, character: u64) -> ShortText
+    ensures { IsShortLine (position_data id rev row character) result }
+{
+    line(&[
+        ("character", Content::Number(character)),
+        ("id", Content::Number(id)),
+        ("line", Content::Number(row)),
+        ("rev", Content::Number(rev)),
+    ])
+}
+
+/// The offset of a position.
+pub(super) fn offset(id: u64, rev: u64, offset: u64) -> ShortText
+    ensures { IsShortLine (offset_data id rev offset) result }
+{
+    line(&[
+        ("id", Content::Number(id)),
+        ("offset", Content::Number(offset)),
+        ("rev", Content::Number(rev)),
+    ])
+}
+
+/// An offset in each unit, and the place of the code point there.
+pub(super) fn place(
+    id: u64,
+    rev: u64,
+    place: Option<Place>,
+    utf8: u64,
+    utf16: u64,
+    utf32: u64,
+) -> ShortText
+    ensures { IsShortLine (found_place_data id rev place utf8 utf16 utf32) result }
+{
+    let place = match place {
+        Some(place) => Content::At(place),
+        None => Content::Nothing,
+    };
+    line(&[
+        ("id", Content::Number(id)),
+        ("place", place),
+        ("rev", Content::Number(rev)),
+        ("utf16", Content::Number(utf16)),
+        ("utf32", Content::Number(utf32)),
+        ("utf8", Content::Number(utf8)),
+    ])
+}
+
+/// What `stat` measures of a document, in the order of the reply's keys.
+#[derive(Clone, Copy)]
+pub(super) struct Measures {
+    pub(super) bom: u64,
+    pub(super) bytes: u64,
+    pub(super) encoding: Encoding,
+    pub(super) errors: u64,
+    pub(super) given: Encoding,
+    pub(super) lines: u64,
+    pub(super) rev: u64,
+    pub(super) utf16: u64,
+    pub(super) utf32: u64,
+    pub(super) utf8: u64,
+}
+
+/// How long a document and its text are.
+pub(super) fn stat(id: u64, measured: &Measures) -> ShortText
+    ensures { IsShortLine (stat_data id measured.now.rev measured.now.given measured.now.encoding measured.now.bom measured.now.bytes
+        measured.now.errors measured.now.lines measured.now.utf8 measured.now.utf16 measured.now.utf32) result }
+{
+    line(&[
+        ("bom", Content::Number(measured.bom)),
+        ("bytes", Content::Number(measured.bytes)),
+        ("encoding", Content::Text(encoding_name(measured.encoding))),
+        ("errors", Content::Number(measured.errors)),
+        ("given", Content::Text(encoding_name(measured.given))),
+        ("id", Content::Number(id)),
+        ("lines", Content::Number(measured.lines)),
+        ("rev", Content::Number(measured.rev)),
+        ("utf16", Content::Number(measured.utf16)),
+        ("utf32", Content::Number(measured.utf32)),
+        ("utf8", Content::Number(measured.utf8)),
+    ])
 }
 
 /// The desk refused the request.
@@ -144,6 +227,7 @@ fn fault_name(fault: Fault) -> &'static str
         Fault::Stale { .. } => "Stale",
         Fault::RevisionsSpent => "RevisionsSpent",
         Fault::OutOfRange => "OutOfRange",
+        Fault::SplitsCharacter => "SplitsCharacter",
         Fault::NoEncoder => "NoEncoder",
         Fault::Unencodable { .. } => "Unencodable",
         Fault::TooLarge => "TooLarge",
@@ -173,5 +257,10 @@ fn field_name(field: Field) -> &'static str
         Field::To => "to",
         Field::Mode => "mode",
         Field::Max => "max",
+        Field::Offset => "offset",
+        Field::Line => "line",
+        Field::Character => "character",
+        Field::Unit => "unit",
+        Field::Value => "value",
     }
 }

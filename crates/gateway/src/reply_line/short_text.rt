@@ -3,7 +3,7 @@
 use std::marker::Model;
 
 /// The most bytes of a short text.
-pub(crate) const CAPACITY: usize = 256;
+pub(crate) const CAPACITY: usize = 328;
 
 /// A text of at most `CAPACITY` bytes, stored inline. Contracts see its bytes.
 #[derive(Drop)]

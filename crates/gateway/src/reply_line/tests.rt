@@ -3,7 +3,8 @@ ghost use Rattle.std.specs.Prelude.{◌≡◌, ◌++◌, ◌∷◌, [], codes, S
 ghost use Rattle.enc_names.specs.declared.encoding.Encoding.TheVariants.{Utf8};
 ghost use Rattle.gateway.specs.Replies.{reply_text, refusal_text};
 ghost use Rattle.desk.specs.declared.fault.Fault.TheVariants as fault;
-ghost use Rattle.desk.specs.declared.reply.Reply.TheVariants.{Edited, Closed, Text, Errors, Refused};
+ghost use Rattle.desk.specs.declared.reply.Reply.TheVariants.{Edited, Closed, Text, Errors, Lines, Position, Offset, Stat, Refused};
+ghost use Rattle.desk.specs.declared.reply.Reply.TheVariants as replies;
 ghost use Rattle.gateway.specs.declared.request.field.Field.TheVariants as field;
 ghost use Rattle.gateway.specs.declared.request.refusal.Refusal.TheVariants as refusal;
 
@@ -41,6 +42,20 @@ fn other_replies()
         ∷ codes "\"}\n" }
 {}
 
+fn replies_on_positions()
+    ensures stat { reply_text 1 (Stat 0 Utf8 Utf8 0 8 0 2 8 6 5)
+        ≡ codes "{\"bom\":0,\"bytes\":8,\"encoding\":\"UTF-8\",\"errors\":0,\"given\":\"UTF-8\",\"id\":1,\"lines\":2,\"rev\":0,\"utf16\":6,\"utf32\":5,\"utf8\":8}\n" }
+    ensures lines { reply_text 2 (Lines 0 2 (record { start = 0; end = 2 } ∷ record { start = 4; end = 5 } ∷ []))
+        ≡ codes "{\"count\":2,\"id\":2,\"lines\":[[0,2],[4,5]],\"rev\":0}\n" }
+    ensures position { reply_text 3 (Position 0 0 3) ≡ codes "{\"character\":3,\"id\":3,\"line\":0,\"rev\":0}\n" }
+    ensures offset { reply_text 6 (Offset 0 2) ≡ codes "{\"id\":6,\"offset\":2,\"rev\":0}\n" }
+    ensures place { reply_text 1 (replies.Place 0 (Some (record { from = 0; to = 2 })) 0 0 0)
+        ≡ codes "{\"id\":1,\"place\":[0,2],\"rev\":0,\"utf16\":0,\"utf32\":0,\"utf8\":0}\n" }
+    ensures end { reply_text 2 (replies.Place 0 None 4 2 2)
+        ≡ codes "{\"id\":2,\"place\":null,\"rev\":0,\"utf16\":2,\"utf32\":2,\"utf8\":4}\n" }
+    ensures splits { reply_text 4 (Refused fault.SplitsCharacter) ≡ codes "{\"fault\":\"SplitsCharacter\",\"id\":4}\n" }
+{}
+
 fn refused_lines()
     ensures long { refusal_text refusal.LineTooLong ≡ codes "{\"fault\":\"LineTooLong\"}\n" }
     ensures json { refusal_text refusal.BadJson ≡ codes "{\"fault\":\"BadJson\"}\n" }
@@ -56,6 +71,7 @@ fn refused_lines()
 fn replies_that_are_refusals(rt: HostRuntime) -> Result<(), Fail> {
     stored_session();
     other_replies();
+    replies_on_positions();
     let place = Place { from: 0, to: 2 };
     for (fault, text) in [
         (

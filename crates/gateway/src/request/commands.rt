@@ -1,7 +1,7 @@
 //! From a JSON value to a command.
 ghost use Rattle.std.specs.Prelude.{◌≡◌};
 ghost use Rattle.serde_json.specs.View.{view};
-ghost use Rattle.gateway.specs.Request.{open_command, close_command, splice_command, text_command, source_command, encode_command, errors_command, request_of, command_asked, request_asked};
+ghost use Rattle.gateway.specs.Request.{open_command, close_command, splice_command, text_command, source_command, encode_command, errors_command, lines_command, position_command, offset_command, place_command, stat_command, request_of, command_asked, request_asked};
 ghost use Rattle.gateway.specs.declared.request.refusal.Refusal.TheVariants.{BadRequest};
 
 use crate::request::field::Field;
@@ -10,7 +10,7 @@ use crate::request::refusal::Refusal;
 use desk::Command;
 use serde_json::Value;
 
-/// The most places of errors that one request may ask for.
+/// The most places of errors, or lines, that one request may ask for.
 const MAX_ENTRIES: u64 = 10_000;
 
 /// The number of a request and its command, which borrows the request's texts.
@@ -34,6 +34,11 @@ pub(crate) fn request(value: &Value) -> Result<(u64, Command<'_>), Refusal>
         "source" => source(value),
         "encode" => encode(value),
         "errors" => errors(value),
+        "lines" => lines(value),
+        "position" => position(value),
+        "offset" => offset(value),
+        "place" => place(value),
+        "stat" => stat(value),
         _ => return Err(Refusal::UnknownOp { id }),
     };
     match command {
@@ -137,4 +142,62 @@ fn errors(value: &Value) -> Result<Command<'_>, Field>
     let from = fields::number(value, "from", MAX_NUMBER).ok_or(Field::From)?;
     let max = fields::number(value, "max", MAX_ENTRIES).ok_or(Field::Max)?;
     Ok(Command::Errors { doc, from, max })
+}
+
+/// The command `lines`, or the first faulty field.
+fn lines(value: &Value) -> Result<Command<'_>, Field>
+    ensures { command_asked result ≡ lines_command (view value.now) }
+{
+    let doc = fields::name(value).ok_or(Field::Doc)?;
+    let from = fields::number(value, "from", MAX_NUMBER).ok_or(Field::From)?;
+    let max = fields::number(value, "max", MAX_ENTRIES).ok_or(Field::Max)?;
+    Ok(Command::Lines { doc, from, max })
+}
+
+/// The command `position`, or the first faulty field.
+fn position(value: &Value) -> Result<Command<'_>, Field>
+    ensures { command_asked result ≡ position_command (view value.now) }
+{
+    let doc = fields::name(value).ok_or(Field::Doc)?;
+    let offset = fields::number(value, "offset", MAX_NUMBER).ok_or(Field::Offset)?;
+    let unit = fields::unit(value).ok_or(Field::Unit)?;
+    Ok(Command::Position { doc, offset, unit })
+}
+
+/// The command `offset`, or the first faulty field.
+fn offset(value: &Value) -> Result<Command<'_>, Field>
+    ensures { command_asked result ≡ offset_command (view value.now) }
+{
+    let doc = fields::name(value).ok_or(Field::Doc)?;
+    let line = fields::number(value, "line", MAX_NUMBER).ok_or(Field::Line)?;
+    let character = fields::number(value, "character", MAX_NUMBER).ok_or(Field::Character)?;
+    let unit = fields::unit(value).ok_or(Field::Unit)?;
+    Ok(Command::Offset {
+        doc,
+        line,
+        character,
+        unit,
+    })
+}
+
+/// The command `place`, or the first faulty field.
+fn place(value: &Value) -> Result<Command<'_>, Field>
+    ensures { command_asked result ≡ place_command (view value.now) }
+{
+    let doc = fields::name(value).ok_or(Field::Doc)?;
+    let unit = fields::place_unit(value).ok_or(Field::Unit)?;
+    let named = fields::number(value, "value", MAX_NUMBER).ok_or(Field::Value)?;
+    Ok(Command::Place {
+        doc,
+        unit,
+        value: named,
+    })
+}
+
+/// The command `stat`, or the first faulty field.
+fn stat(value: &Value) -> Result<Command<'_>, Field>
+    ensures { command_asked result ≡ stat_command (view value.now) }
+{
+    let doc = fields::name(value).ok_or(Field::Doc)?;
+    Ok(Command::Stat { doc })
 }

@@ -18,4 +18,9 @@ pub(crate) enum Field {
     To,
     Mode,
     Max,
+    Offset,
+    Line,
+    Character,
+    Unit,
+    Value,
 }

@@ -1,9 +1,9 @@
 //! The fields of an object, each by its kind. An absent field and one of another kind are alike.
 ghost use Rattle.std.specs.Prelude.{◌≡◌, ◌↔◌, IsTrue, IsSome, option_map};
 ghost use Rattle.serde_json.specs.View.{view};
-ghost use Rattle.gateway.specs.Request.{number_at, text_at, name_at, text_mode_at, encode_mode_at};
+ghost use Rattle.gateway.specs.Request.{number_at, text_at, name_at, text_mode_at, encode_mode_at, as_unit, unit_at, place_unit_at};
 
-use desk::TextMode;
+use desk::{PlaceUnit, TextMode, Unit};
 use encoders::EncodeMode;
 use serde_json::Value;
 
@@ -64,5 +64,37 @@ pub(super) fn encode_mode(value: &Value) -> Option<EncodeMode>
         "fatal" => Some(EncodeMode::Fatal),
         "html" => Some(EncodeMode::Html),
         _ => None,
+    }
+}
+
+/// The unit of this name in LSP.
+fn named_unit(name: &str) -> Option<Unit>
+    ensures { result ≡ as_unit name.now }
+{
+    match name {
+        "utf-8" => Some(Unit::Utf8),
+        "utf-16" => Some(Unit::Utf16),
+        "utf-32" => Some(Unit::Utf32),
+        _ => None,
+    }
+}
+
+/// The unit of a position, which is UTF-16 where it is absent.
+pub(super) fn unit(value: &Value) -> Option<Unit>
+    ensures { result ≡ unit_at (view value.now) }
+{
+    let Some(unit) = value.get("unit") else {
+        return Some(Unit::Utf16);
+    };
+    named_unit(unit.as_str()?)
+}
+
+/// What a value counts: bytes of the document, or units of its text.
+pub(super) fn place_unit(value: &Value) -> Option<PlaceUnit>
+    ensures { result ≡ place_unit_at (view value.now) }
+{
+    match text(value, "unit")? {
+        "byte" => Some(PlaceUnit::Byte),
+        name => named_unit(name).map(PlaceUnit::Text),
     }
 }

@@ -1,7 +1,9 @@
 //! Worked lines: their requests, computed on the definition, and what is parsed from them.
 ghost use Rattle.std.specs.Prelude.{◌≡◌, ◌∷◌, [], codes, Ok, Err, Some, None};
-ghost use Rattle.desk.specs.Commands.{asked_of, Opens, Closes, Splices, Reads, ReadsBytes, Encodes, ListsErrors};
+ghost use Rattle.desk.specs.Commands.{asked_of, Opens, Closes, Splices, Reads, ReadsBytes, Encodes, ListsErrors, ListsLines, FindsPosition, FindsOffset, FindsPlace, Measures};
 ghost use Rattle.gateway.specs.Request.{request_of_line};
+ghost use Rattle.position_map.specs.declared.unit.Unit.TheVariants.{Utf8, Utf16, Utf32};
+ghost use Rattle.desk.specs.declared.place_unit.PlaceUnit.TheVariants as place_unit;
 ghost use Rattle.encoders.specs.declared.mode.EncodeMode.TheVariants as encode_mode;
 ghost use Rattle.desk.specs.declared.text_mode.TextMode.TheVariants.{Replacement, Fatal};
 ghost use Rattle.gateway.specs.declared.request.field.Field.TheVariants as field;
@@ -35,6 +37,30 @@ fn numbers()
     ensures minus { request_of_line (codes "{\"id\":-0,\"op\":\"\"}") ≡ Err (BadRequest None field.Id) }
     ensures text { request_of_line (codes "{\"id\":\"1\",\"op\":\"\"}") ≡ Err (BadRequest None field.Id) }
     ensures last { request_of_line (codes "{\"id\":1,\"op\":\"\",\"id\":2}") ≡ Err (UnknownOp 2) }
+{}
+
+fn commands_of_positions()
+    ensures lines { request_of_line (codes "{\"id\":2,\"op\":\"lines\",\"doc\":\"d\",\"from\":0,\"max\":10}")
+        ≡ Ok (2, asked_of (codes "d") (ListsLines 0 10)) }
+    ensures position { request_of_line (codes "{\"id\":3,\"op\":\"position\",\"doc\":\"d\",\"offset\":3}")
+        ≡ Ok (3, asked_of (codes "d") (FindsPosition 3 Utf16)) }
+    ensures offset { request_of_line (codes
+        "{\"id\":5,\"op\":\"offset\",\"doc\":\"d\",\"line\":1,\"character\":2,\"unit\":\"utf-8\"}")
+        ≡ Ok (5, asked_of (codes "d") (FindsOffset 1 2 Utf8)) }
+    ensures place { request_of_line (codes
+        "{\"id\":4,\"op\":\"place\",\"doc\":\"d\",\"unit\":\"utf-32\",\"value\":2}")
+        ≡ Ok (4, asked_of (codes "d") (FindsPlace (place_unit.Text Utf32) 2)) }
+    ensures byte { request_of_line (codes
+        "{\"id\":4,\"op\":\"place\",\"doc\":\"d\",\"unit\":\"byte\",\"value\":2}")
+        ≡ Ok (4, asked_of (codes "d") (FindsPlace place_unit.Byte 2)) }
+    ensures stat { request_of_line (codes "{\"id\":1,\"op\":\"stat\",\"doc\":\"d\"}")
+        ≡ Ok (1, asked_of (codes "d") Measures) }
+    ensures no_unit { request_of_line (codes
+        "{\"id\":4,\"op\":\"place\",\"doc\":\"d\",\"value\":-1}")
+        ≡ Err (BadRequest (Some 4) field.Unit) }
+    ensures null_unit { request_of_line (codes
+        "{\"id\":3,\"op\":\"position\",\"doc\":\"d\",\"offset\":0,\"unit\":null}")
+        ≡ Err (BadRequest (Some 3) field.Unit) }
 {}
 
 fn commands()
@@ -132,6 +158,7 @@ fn lines_without_a_command(rt: HostRuntime) {
 #[test]
 fn the_first_faulty_field_is_named(rt: HostRuntime) {
     faulty_fields();
+    commands_of_positions();
     let rows = [
         (r#"{"id":1,"op":"text","from":-1}"#, bad(Field::Doc)),
         (
@@ -170,6 +197,40 @@ fn the_first_faulty_field_is_named(rt: HostRuntime) {
             r#"{"id":1,"op":"errors","doc":"a","from":0,"max":10001}"#,
             bad(Field::Max),
         ),
+        (r#"{"id":1,"op":"lines","doc":"a","max":-1}"#, bad(Field::From)),
+        (
+            r#"{"id":1,"op":"lines","doc":"a","from":0,"max":10001}"#,
+            bad(Field::Max),
+        ),
+        (
+            r#"{"id":1,"op":"position","doc":"a","offset":1.0,"unit":1}"#,
+            bad(Field::Offset),
+        ),
+        (
+            r#"{"id":1,"op":"position","doc":"a","offset":1,"unit":"byte"}"#,
+            bad(Field::Unit),
+        ),
+        (
+            r#"{"id":1,"op":"offset","doc":"a","character":-1}"#,
+            bad(Field::Line),
+        ),
+        (
+            r#"{"id":1,"op":"offset","doc":"a","line":0,"character":-1,"unit":1}"#,
+            bad(Field::Character),
+        ),
+        (
+            r#"{"id":1,"op":"offset","doc":"a","line":0,"character":0,"unit":"utf-7"}"#,
+            bad(Field::Unit),
+        ),
+        (
+            r#"{"id":1,"op":"place","doc":"a","unit":"UTF-8","value":-1}"#,
+            bad(Field::Unit),
+        ),
+        (
+            r#"{"id":1,"op":"place","doc":"a","unit":"byte"}"#,
+            bad(Field::Value),
+        ),
+        (r#"{"id":1,"op":"stat","doc":""}"#, bad(Field::Doc)),
     ];
     refusals(&rt, rt.alloc(), &rows);
 }

@@ -1,6 +1,6 @@
 use Rattle.std.proofs.Common.{subst}
 use Rattle.gateway.specs.Step.{IsStep, step_by}
-use Rattle.gateway.proofs.StepReplies.{desk_step, unwritten_reply_step}
+use Rattle.gateway.proofs.StepReplies.{desk_step, refused_step, unwritten_reply_step}
 use Rattle.gateway.proofs.respond.answer.Goals as goal
 
 pub returns-in-Ok-of : goal.returns-in-Ok-of
@@ -11,3 +11,8 @@ returns-in-Ok-of c =
 pub returns-in-Ok : goal.returns-in-Ok
 returns-in-Ok c =
     unwritten_reply_step _ _ _ c.answer-reply.result _ c.out_of_memory.ensures.text (λ short. let no = c.in-Err-of.ensures.short short in cc) c.answer-reply.ensures.kept
+
+pub returns : goal.returns
+returns c =
+    subst (λ r. IsStep c.args.desk.now (step_by c.args.desk.now r) c.refused.result c.args.desk.now) c.in-Err.ensures
+    (refused_step c.args.desk.now c.in-Err.refusal c.refused.result c.refused.ensures.text)
