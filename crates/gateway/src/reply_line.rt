@@ -96,9 +96,7 @@ impl ReplyLine {
                 rev,
                 line,
                 character,
-            } => Ok(ReplyLine::inline(short::position(
-                id, *rev, *line, *character,
-            ))),
+            } => Ok(ReplyLine::inline(short::position(id, *rev, *line, *character))),
             Reply::Offset { rev, offset } => {
                 Ok(ReplyLine::inline(short::offset(id, *rev, *offset)))
             }
@@ -108,9 +106,7 @@ impl ReplyLine {
                 utf8,
                 utf16,
                 utf32,
-            } => Ok(ReplyLine::inline(short::place(
-                id, *rev, *place, *utf8, *utf16, *utf32,
-            ))),
+            } => Ok(ReplyLine::inline(short::place(id, *rev, *place, *utf8, *utf16, *utf32))),
             Reply::Stat {
                 rev,
                 given,

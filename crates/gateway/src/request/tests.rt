@@ -197,7 +197,10 @@ fn the_first_faulty_field_is_named(rt: HostRuntime) {
             r#"{"id":1,"op":"errors","doc":"a","from":0,"max":10001}"#,
             bad(Field::Max),
         ),
-        (r#"{"id":1,"op":"lines","doc":"a","max":-1}"#, bad(Field::From)),
+        (
+            r#"{"id":1,"op":"lines","doc":"a","max":-1}"#,
+            bad(Field::From),
+        ),
         (
             r#"{"id":1,"op":"lines","doc":"a","from":0,"max":10001}"#,
             bad(Field::Max),

@@ -100,7 +100,12 @@ fn expect_run<R: Feed>(
 }
 
 /// Asserts that a run of these lines, by a gateway of its own, writes these replies.
-pub(crate) fn expect_replies(rt: &impl Abort, alloc: Global, lines: &[u8], replies: &str) -> Result<(), Fail> {
+pub(crate) fn expect_replies(
+    rt: &impl Abort,
+    alloc: Global,
+    lines: &[u8],
+    replies: &str,
+) -> Result<(), Fail> {
     let indexes = Indexes::new();
     let mut gateway = new_gateway(alloc, &indexes)?;
     let mut reader = MemFeed::new(lines);
