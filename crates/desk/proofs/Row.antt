@@ -75,6 +75,7 @@ decided-unless P None answer p q = q
 decided-unless P (Some cause.NoIndex) answer p q = tt
 decided-unless P (Some cause.OutOfRange) answer p q = tt
 decided-unless P (Some cause.TooLarge) answer p q = tt
+decided-unless P (Some cause.NotKept) answer p q = tt
 decided-unless P (Some cause.OutOfMemory) answer p q = p refl
 
 -- a reply that is not OutOfMemory

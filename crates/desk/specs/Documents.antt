@@ -11,7 +11,7 @@ use Rattle.piece_rope.specs.Document.{Document, decoded}
 use Rattle.position_map.specs.declared.fault.PosFault.{PosFault}
 use Rattle.position_map.specs.declared.fault.PosFault.TheVariants as position
 use Rattle.desk.specs.declared.fault.Fault.{Fault}
-use Rattle.desk.specs.declared.fault.Fault.TheVariants.{NoIndex, OutOfRange, SplitsCharacter, TooLarge, OutOfMemory}
+use Rattle.desk.specs.declared.fault.Fault.TheVariants.{NoIndex, OutOfRange, SplitsCharacter, TooLarge, NotKept, OutOfMemory}
 use Rattle.desk.specs.declared.reply.Reply.{Reply}
 use Rattle.desk.specs.declared.reply.Reply.TheVariants.{Edited, Refused}
 
@@ -46,6 +46,7 @@ abbrev pub fault_of : DocFault → Fault
 fault_of cause.NoIndex = NoIndex
 fault_of cause.OutOfRange = OutOfRange
 fault_of cause.TooLarge = TooLarge
+fault_of cause.NotKept = NotKept
 fault_of cause.OutOfMemory = OutOfMemory
 
 -- an answer, unless there is a fault

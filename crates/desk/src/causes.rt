@@ -16,6 +16,7 @@ impl From<DocFault> for Fault {
             DocFault::NoIndex => Fault::NoIndex,
             DocFault::OutOfRange => Fault::OutOfRange,
             DocFault::TooLarge => Fault::TooLarge,
+            DocFault::NotKept => Fault::NotKept,
             DocFault::OutOfMemory => Fault::OutOfMemory,
         }
     }

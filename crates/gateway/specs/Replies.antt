@@ -8,7 +8,7 @@ use Rattle.enc_names.specs.Names.{name_of}
 use Rattle.enc_names.specs.declared.encoding.Encoding.{Encoding}
 use Rattle.enc_names.specs.declared.place.Place.{Place}
 use Rattle.desk.specs.declared.fault.Fault.{Fault}
-use Rattle.desk.specs.declared.fault.Fault.TheVariants.{BadBase64, NoDocument, NameTaken, UnknownLabel, NoIndex, TooManyDocuments, Stale, RevisionsSpent, OutOfRange, SplitsCharacter, NoEncoder, Unencodable, TooLarge, Malformed, OutOfMemory}
+use Rattle.desk.specs.declared.fault.Fault.TheVariants.{BadBase64, NoDocument, NameTaken, UnknownLabel, NoIndex, TooManyDocuments, Stale, RevisionsSpent, OutOfRange, SplitsCharacter, NoEncoder, Unencodable, TooLarge, NotKept, Malformed, OutOfMemory}
 use Rattle.desk.specs.declared.reply.Reply.{Reply}
 use Rattle.desk.specs.declared.line.Line.{Line}
 use Rattle.desk.specs.declared.reply.Reply.TheVariants.{Edited, Closed, Text, Bytes, Errors, Lines, Position, Offset, Stat, Refused}
@@ -34,6 +34,7 @@ fault_name SplitsCharacter = codes "SplitsCharacter"
 fault_name NoEncoder = codes "NoEncoder"
 fault_name (Unencodable code_point index) = codes "Unencodable"
 fault_name TooLarge = codes "TooLarge"
+fault_name NotKept = codes "NotKept"
 fault_name (Malformed place) = codes "Malformed"
 fault_name OutOfMemory = codes "OutOfMemory"
 

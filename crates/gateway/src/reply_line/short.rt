@@ -231,6 +231,7 @@ fn fault_name(fault: Fault) -> &'static str
         Fault::NoEncoder => "NoEncoder",
         Fault::Unencodable { .. } => "Unencodable",
         Fault::TooLarge => "TooLarge",
+        Fault::NotKept => "NotKept",
         Fault::Malformed { .. } => "Malformed",
         Fault::OutOfMemory => "OutOfMemory",
     }
