@@ -6,6 +6,7 @@ ghost use Rattle.gateway.specs.Trace.{event_on, is_skipped, parts, printed, refu
 
 use crate::device::breaking::{Failing, Narrow};
 use crate::device::{Feed, FromRead, MemFeed, MemOutlet, ToWrite};
+use crate::gateway::Gateway;
 use crate::gateway::tests::new_gateway;
 use crate::traces::event::TRACE_LIMIT;
 use crate::traces::{TraceFault, trace};
@@ -172,27 +173,38 @@ fn reader_that_fails_in_mid_line_of_a_trace(rt: HostRuntime) -> Result<(), Fail>
     expect_trace(&rt, rt.alloc(), &mut reader, read, "16 !BadNumber\n")
 }
 
-/// A trace printed to a device that takes five bytes a write and `room` in all.
-fn print_narrow(rt: &impl Abort, alloc: Global, text: &str, room: usize) -> Result<Vec<u8>, Fail> {
-    let indexes = Indexes::new();
-    let mut gateway = new_gateway(alloc, &indexes)?;
-    let mut out = Vec::new(alloc);
+/// A trace played to a device that takes five bytes a write and `room` bytes in all.
+fn trace_narrow(
+    gateway: &mut Gateway<'_>,
+    alloc: Global,
+    text: &str,
+    out: &mut Vec<u8>,
+    room: usize,
+) -> Result<(), TraceFault> {
     let mut reader = MemFeed::new(text.as_bytes());
     let mut writer = ToWrite::new(Narrow {
-        out: &mut out,
+        out,
         at_once: 5,
         room,
     });
-    let result = trace(alloc, &mut gateway, &mut reader, &mut writer);
-    assert_eq!(rt; result, Err(TraceFault::Write), "with room for {room}");
-    Ok(out)
+    trace(alloc, gateway, &mut reader, &mut writer)
 }
 
 #[test]
 fn writer_that_fails_at_each_byte_of_a_trace(rt: HostRuntime) -> Result<(), Fail> {
     let whole = REFUSALS_AND_REPLIES_PRINTED.as_bytes();
     for room in 0..whole.len() {
-        let out = print_narrow(&rt, rt.alloc(), REFUSALS_AND_REPLIES, room)?;
+        let indexes = Indexes::new();
+        let mut gateway = new_gateway(rt.alloc(), &indexes)?;
+        let mut out = Vec::new(rt.alloc());
+        let result = trace_narrow(
+            &mut gateway,
+            rt.alloc(),
+            REFUSALS_AND_REPLIES,
+            &mut out,
+            room,
+        );
+        assert_eq!(rt; result, Err(TraceFault::Write), "with room for {room}");
         assert_eq!(rt; out.as_slice(), &whole[..room]);
     }
     Ok(())
