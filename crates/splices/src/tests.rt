@@ -9,7 +9,6 @@ use std::process::Abort;
 use std::test::Fail;
 
 mod cases;
-mod changes;
 mod marks;
 mod meters;
 
