@@ -1,8 +1,7 @@
 //! Traces over memory and over devices that break off.
-ghost use Rattle.std.specs.Prelude.{◌≡◌, ◌∷◌, [], codes, None, Some};
-ghost use Rattle.gateway.specs.declared.gateway.GateFault.TheVariants.{AlreadyOpen};
-ghost use Rattle.gateway.specs.Events.{Opening, Bringing, Closing};
-ghost use Rattle.gateway.specs.Trace.{event_on, is_skipped, parts, printed, refusal_line, text_lines};
+ghost use Rattle.std.specs.Prelude.{◌≡◌, ◌∷◌, [], codes, None};
+ghost use Rattle.gateway.specs.Events.{Bringing};
+ghost use Rattle.gateway.specs.Trace.{event_on, parts, text_lines};
 
 use crate::device::breaking::{Failing, Narrow};
 use crate::device::{Feed, FromRead, MemFeed, MemOutlet, ToWrite};
@@ -25,15 +24,10 @@ const REFUSALS_AND_REPLIES_PRINTED: &str = "\
 16 !BadNumber
 ";
 
-/// The events on lines, and lines that have none.
-fn events_on_lines()
-    ensures open { event_on (codes "open 3") ≡ Some (Opening 3) }
-    ensures close { event_on (codes "close 255") ≡ Some (Closing 255) }
-    ensures bytes { event_on (codes "bytes 3 e30K") ≡ Some (Bringing 3 (codes "{}\n")) }
+/// Lines that bring no bytes have no event.
+fn bytes_without_base64()
     ensures no_base64 { event_on (codes "bytes 3") ≡ None }
     ensures empty_base64 { event_on (codes "bytes 3 ") ≡ None }
-    ensures leading_zero { event_on (codes "open 03") ≡ None }
-    ensures above_255 { event_on (codes "open 256") ≡ None }
 {}
 
 /// The last line may lack its line feed, and an event of bytes goes up to a line feed.
@@ -41,8 +35,6 @@ fn lines_and_parts()
     ensures ended { text_lines [] (codes "open 3\n") ≡ codes "open 3" ∷ [] ∷ [] }
     ensures not_ended { text_lines [] (codes "#\nopen 3") ≡ codes "#" ∷ codes "open 3" ∷ [] }
     ensures parts { parts (Bringing 3 (codes "a\nb\n")) ≡ Bringing 3 (codes "a\nb\n") ∷ Bringing 3 (codes "b\n") ∷ [] }
-    ensures reply { printed (3, codes "{}\n") ≡ codes "3 {}\n" }
-    ensures refusal { refusal_line 3 AlreadyOpen ≡ codes "3 !AlreadyOpen\n" }
 {}
 
 /// Asserts that a trace, on a gateway of its own, has this result and prints this.
