@@ -1,7 +1,6 @@
 -- Runs of characters of a byte or two: each is one item more, and leaves the state as it is.
-use Rattle.std.proofs.Common.{◌≡◌, ℕ, zero, suc, ◌+◌, ◌*◌, ◌<◌, ◌≤◌, List, [], ◌∷◌, ◌++◌, Option, Some, None, IfSome, length, take, drop, get_or, ℤ, pos, ◌+ℤ◌, ◌-ℤ◌, refl, sym, ap, subst, ◌∙◌, arith, append-nil, lit≤, Bool, true, false, nat_lt}
+use Rattle.std.proofs.Common.{◌≡◌, ℕ, ◌+◌, ◌*◌, ◌<◌, ◌≤◌, List, [], ◌∷◌, ◌++◌, Option, Some, None, IfSome, length, take, drop, get_or, ℤ, pos, ◌+ℤ◌, ◌-ℤ◌, refl, sym, ap, subst, ◌∙◌, arith, append-nil, lit≤, Bool, true, false, nat_lt}
 use Rattle.std.proofs.Math.Seq.{take-add}
-use Rattle.std.proofs.Math.Utf8.{encode}
 use Rattle.std.specs.Char.{len_utf8, IsScalar, encode_utf8}
 use Rattle.std.specs.Simd.Lanes.{put_chunk}
 use Rattle.std.specs.Str.{chars, IsUtf8}
@@ -11,7 +10,6 @@ use Rattle.std.proofs.lemmas.List.{length-take-le, drop_more}
 use Rattle.std.proofs.lemmas.Simd.{take_more_put_chunk}
 use Rattle.std.proofs.lemmas.Str.{chars-append, chars_past_char, chars-nil, IsUtf8-append, IsUtf8-encode, IsUtf8-nil, length-encode, len_utf8_bounds, len_utf8_ascii}
 use Rattle.decoder_core.specs.declared.ascii_runs.AsciiRuns.TheVariants.{All}
-use Rattle.decoder_core.specs.declared.bulk.Bulk.{Bulk}
 use Rattle.decoder_core.specs.declared.bulk.Stride.{Stride}
 use Rattle.decoder_core.specs.declared.bulk.Stride.TheVariants.{Pairs, Bytes}
 use Rattle.decoder_core.specs.declared.item.Item.TheVariants.{One}

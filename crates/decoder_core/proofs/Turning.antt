@@ -5,7 +5,7 @@ use Rattle.decoder_core.specs.declared.item.Item.TheVariants.{One}
 use Rattle.decoder_core.specs.declared.handler.Answer.TheVariants.{Gives}
 use Rattle.decoder_core.specs.Queue.{Turn, Table, Falls, Fed, feed, fed_after}
 use Rattle.decoder_core.specs.Forms.{gives, holds}
-use Rattle.decoder_core.specs.Shown.{Shown, shown_at, shown_from}
+use Rattle.decoder_core.specs.Shown.{shown_at, shown_from}
 use Rattle.decoder_core.proofs.Running.{feed-nil, feed-turn, feed-append}
 
 module _ {S : Type 0} (table : Table S) (f : Falls table) where

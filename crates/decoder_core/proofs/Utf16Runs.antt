@@ -1,8 +1,8 @@
 -- Runs of UTF-16 without lone surrogates: each code point is an item, and leaves nothing pending.
-use Rattle.std.proofs.Common.{◌≡◌, ℕ, zero, suc, ◌+◌, ◌-◌, ◌*◌, ◌/◌, ◌%◌, ◌<◌, ◌≤◌, Bool, true, false, List, [], ◌∷◌, ◌++◌, ◌&&◌, Some, None, Ok, Err, Result, Option, cond, if◌then◌else◌, nat_le, take, drop, get_or, set, subst, append_assoc, append-nil, length, length-append, ℤ, pos, ◌+ℤ◌, ◌-ℤ◌, refl, sym, ap, ◌∙◌, arith, ◌⊎◌, inl, inr}
+use Rattle.std.proofs.Common.{◌≡◌, ℕ, zero, suc, ◌+◌, ◌-◌, ◌*◌, ◌/◌, ◌%◌, ◌<◌, ◌≤◌, Bool, true, false, List, [], ◌∷◌, ◌++◌, ◌&&◌, Some, None, Ok, Err, Result, Option, if◌then◌else◌, nat_le, take, drop, get_or, set, subst, append_assoc, append-nil, length, ℤ, pos, ◌+ℤ◌, ◌-ℤ◌, refl, sym, ap, ◌∙◌, arith, ◌⊎◌, inl, inr}
 use Rattle.std.proofs.lemmas.Bool.{le-leb, lt-leb, lt-ltb, le-ltb, leb-true}
 use Rattle.std.proofs.lemmas.Int.{ints}
-use Rattle.std.proofs.Math.Utf8.{encode, scalar, scalars, scalar_cases}
+use Rattle.std.proofs.Math.Utf8.{scalar, scalars, scalar_cases}
 use Rattle.std.specs.Str.{chars, encode_utf8_all, IsUtf8}
 use Rattle.std.proofs.lemmas.List.{length-take-le, take-take, drop_more, drop_all, take_more_set}
 use Rattle.std.proofs.Math.Seq.{take-append_seam}
@@ -20,7 +20,7 @@ use Rattle.decoder_core.specs.declared.utf16.ByteOrder.TheVariants.{BigEndian, L
 use Rattle.decoder_core.specs.Bulk.{IsBulk, plain_from, run_width, width_of}
 use Rattle.decoder_core.specs.Forms.{gives, holds}
 use Rattle.decoder_core.specs.Holding.{falls_of}
-use Rattle.decoder_core.specs.Queue.{Turn, Table, Falls, Fed, feed}
+use Rattle.decoder_core.specs.Queue.{Falls, Fed, feed}
 use Rattle.decoder_core.specs.Shown.{Shown, shown_from}
 use Rattle.decoder_core.specs.Utf16.{Utf16, utf16, utf16_start, utf16_single, utf16_second, unit_of, units_of, pair_code_point}
 use Rattle.decoder_core.specs.Utf16Laws.{utf16_holding}

@@ -1,5 +1,5 @@
 -- Runs of UTF-8: each code point is an item, and leaves nothing pending.
-use Rattle.std.proofs.Common.{◌≡◌, ℕ, zero, suc, ◌+◌, ◌-◌, ◌*◌, ◌/◌, ◌%◌, ◌<◌, ◌≤◌, Bool, true, false, List, [], ◌∷◌, ◌++◌, Some, nat_le, nat_lt, if◌then◌else◌, ◌==◌, ◌&&◌, take, drop, subst, length-append, length, ℤ, pos, ◌+ℤ◌, ◌-ℤ◌, refl, sym, ap, ◌∙◌, arith, ◌⊎◌, inl, inr}
+use Rattle.std.proofs.Common.{◌≡◌, ℕ, ◌+◌, ◌-◌, ◌*◌, ◌/◌, ◌%◌, ◌<◌, ◌≤◌, Bool, true, false, List, [], ◌∷◌, ◌++◌, Some, nat_lt, if◌then◌else◌, ◌==◌, ◌&&◌, take, drop, subst, length, ℤ, pos, ◌+ℤ◌, ◌-ℤ◌, refl, sym, ap, ◌∙◌, arith, ◌⊎◌, inl, inr}
 use Rattle.std.proofs.lemmas.Bool.{le-leb, lt-leb, eqb-true, lt-ltb, le-ltb, ltb-true, ltb-false}
 use Rattle.std.proofs.lemmas.Int.{ints}
 use Rattle.std.proofs.Math.Utf8.{encode, scalar, scalars, scalar_cases}
@@ -7,16 +7,14 @@ use Rattle.std.specs.Char.{len_utf8}
 use Rattle.std.specs.Str.{chars, encode_utf8_all, IsUtf8}
 use Rattle.std.proofs.lemmas.List.{length-take, length-take-le, take-append-drop, take-append-le}
 use Rattle.std.specs.Str.Lossy.{utf8_valid_len}
-use Rattle.std.proofs.lemmas.Str.{encodes-chars, scalars-chars, length-encode, utf8_valid_len_le}
+use Rattle.std.proofs.lemmas.Str.{encodes-chars, scalars-chars, utf8_valid_len_le}
 use Rattle.decoder_core.specs.declared.bulk.Stride.TheVariants.{Utf8 as by_utf8}
 use Rattle.decoder_core.specs.Bulk.{IsBulk, plain_from, run_width}
-use Rattle.decoder_core.specs.declared.item.Ended.{Ended}
 use Rattle.decoder_core.specs.declared.item.Item.TheVariants.{One}
-use Rattle.decoder_core.specs.declared.handler.Answer.TheVariants.{Nothing, Gives}
-use Rattle.decoder_core.specs.Queue.{Turn, Table, Falls, Fed, feed, fed_after}
+use Rattle.decoder_core.specs.Queue.{Fed, feed}
 use Rattle.decoder_core.specs.Forms.{gives, holds}
-use Rattle.decoder_core.specs.Shown.{Shown, shown_at, shown_from}
-use Rattle.decoder_core.specs.Utf8.{Utf8, utf8, utf8_start, utf8_first, utf8_begins, utf8_trail}
+use Rattle.decoder_core.specs.Shown.{Shown, shown_from}
+use Rattle.decoder_core.specs.Utf8.{Utf8, utf8, utf8_start, utf8_begins}
 use Rattle.decoder_core.specs.Utf8Laws.{utf8_falls}
 use Rattle.decoder_core.proofs.Running.{feed-nil}
 use Rattle.decoder_core.proofs.ItemWidths.{utf8-width}

@@ -1,16 +1,14 @@
 //! Runs of bytes that are characters, in bulk.
-ghost use Rattle.std.specs.Prelude.{◌≡◌, ◌<◌, IfSome, length};
+ghost use Rattle.std.specs.Prelude.{◌<◌, IfSome, length};
 ghost use Rattle.decoder_core.specs.declared.ascii_runs.AsciiRuns.TheVariants.{All};
 ghost use Rattle.decoder_core.specs.declared.bulk.Stride.TheVariants.{Bytes};
 ghost use Rattle.decoder_core.specs.AsciiRuns.{TakesAscii};
 ghost use Rattle.decoder_core.specs.Bulk.{IsBulk};
 ghost use Rattle.decoder_core.specs.Fronts.{IsFront};
 
-use crate::ascii_runs::AsciiRuns;
 use crate::bulk::{Bulk, Stride};
 use crate::forms::scalar;
 use crate::handler::Handler;
-use crate::run_bulk::{begins_ascii, run_bulk};
 use enc_names::Scalar;
 use lane_utf::put_scalar;
 
@@ -18,30 +16,15 @@ use lane_utf::put_scalar;
 /// room for them.
 const MOST: usize = 256;
 
-/// Takes a run of ASCII bytes where the front is a long one, and else the bytes at the front, each
-/// of which is a code point.
-// In the loop over the bytes.
-#[inline(always)]
-pub(crate) fn byte_bulk<H: Handler>(
+/// Takes the bytes at the front that are code points, as far as the block takes them.
+// Once in some hundred bytes: its loop has the registers to itself.
+#[inline(never)]
+pub(crate) fn take_bytes<H: Handler>(
     handler: &H,
     state: H::State,
     bytes: &[u8],
     text: &mut [u8; 1024],
 ) -> Bulk
-    requires { TakesAscii (H.table handler.now) state All }
-    ensures { IsBulk (H.table handler.now) state bytes.now result text.new }
-{
-    if begins_ascii(bytes) {
-        run_bulk(handler, state, AsciiRuns::All, bytes, text)
-    } else {
-        take_bytes(handler, state, bytes, text)
-    }
-}
-
-/// Takes the bytes at the front that are code points, as far as the block takes them.
-// Once in some hundred bytes: its loop has the registers to itself.
-#[inline(never)]
-fn take_bytes<H: Handler>(handler: &H, state: H::State, bytes: &[u8], text: &mut [u8; 1024]) -> Bulk
     requires { TakesAscii (H.table handler.now) state All }
     ensures { IsBulk (H.table handler.now) state bytes.now result text.new }
 {

@@ -56,105 +56,80 @@ fn text_and_error_places()
     ensures errors { error_places (places 3 0 (run utf8 utf8_start (0xE2 ∷ 0x82 ∷ 0x41 ∷ []))) ≡ record { from = 0; to = 2 } ∷ [] }
 {}
 
-/// An item's code point, or `None` for an error, and its place.
-type Row = (Option<char>, u64, u64);
-
-fn placed(row: &Row) -> Placed {
-    let item = match row.0 {
-        Some(code_point) => Item::One(Scalar::from(code_point)),
-        None => Item::Error,
-    };
-    Placed {
-        item,
-        from: row.1,
-        to: row.2,
+/// The item of a code point, or an error where it is U+FFFD.
+fn item(code_point: char) -> Item {
+    match code_point {
+        '�' => Item::Error,
+        _ => Item::One(Scalar::from(code_point)),
     }
 }
 
-fn is_as_listed(found: &[Placed], rows: &[Row]) -> bool {
-    found.len() == rows.len()
-        && found
-            .iter()
-            .zip(rows.iter())
-            .all(|(a, row)| *a == placed(row))
+/// Whether the items are those of the text, where U+FFFD stands for an error, each of so many bytes.
+fn is_as_listed(found: &[Placed], text: &str, widths: &[u64]) -> bool {
+    let mut same = found.len() == widths.len() && found.len() == text.chars().count();
+    let mut from: u64 = 0;
+    for ((placed, code_point), width) in found.iter().zip(text.chars()).zip(widths.iter()) {
+        let to = from.saturating_add(*width);
+        let item = item(code_point);
+        same = same && *placed == Placed { item, from, to };
+        from = to;
+    }
+    same
 }
 
-/// Whether the bytes decode to these rows whole, and in two parts for each cut.
+/// Whether the bytes decode to this text, where U+FFFD stands for an error, with so many bytes for
+/// each item: whole, and in two parts for each cut.
 fn decode_to<D: Decoder>(
     alloc: Global,
     decoder: &D,
     bytes: &[u8],
-    rows: &[Row],
+    text: &str,
+    widths: &[u64],
 ) -> Result<bool, AllocError> {
     let mut count = meter();
     let whole = decode_parts(alloc, decoder, bytes, 0, &[], &mut count)?;
-    let mut same = is_as_listed(whole.as_slice(), rows);
+    let mut same = is_as_listed(whole.as_slice(), text, widths);
     for cut in 0..bytes.len() {
         let parts = decode_parts(alloc, decoder, bytes, 0, &[cut], &mut count)?;
-        same = same && is_as_listed(parts.as_slice(), rows);
+        same = same && is_as_listed(parts.as_slice(), text, widths);
     }
     Ok(same)
 }
 
 #[test]
 fn no_byte(rt: HostRuntime) -> Result<(), AllocError> {
-    assert!(rt; decode_to(rt.alloc(), &Utf8Decoder, &[], &[])?);
+    assert!(rt; decode_to(rt.alloc(), &Utf8Decoder, &[], "", &[])?);
     Ok(())
 }
 
 #[test]
 fn cut_sequence_then_a(rt: HostRuntime) -> Result<(), AllocError> {
-    assert!(rt;
-        decode_to(
-            rt.alloc(),
-            &Utf8Decoder,
-            &[0xE2, 0x82, 0x41],
-            &[(None, 0, 2), (Some('A'), 2, 3)]
-        )?
-    );
+    assert!(rt; decode_to(rt.alloc(), &Utf8Decoder, &[0xE2, 0x82, 0x41], "�A", &[2, 1])?);
     Ok(())
 }
 
 #[test]
 fn cut_sequence_then_the_end(rt: HostRuntime) -> Result<(), AllocError> {
-    assert!(rt;
-        decode_to(
-            rt.alloc(),
-            &Utf8Decoder,
-            &[0xF0, 0x9F, 0x98],
-            &[(None, 0, 3)]
-        )?
-    );
+    assert!(rt; decode_to(rt.alloc(), &Utf8Decoder, &[0xF0, 0x9F, 0x98], "�", &[3])?);
     Ok(())
 }
 
 #[test]
 fn overlong_form_of_nul(rt: HostRuntime) -> Result<(), AllocError> {
-    assert!(rt;
-        decode_to(
-            rt.alloc(),
-            &Utf8Decoder,
-            &[0xC0, 0x80],
-            &[(None, 0, 1), (None, 1, 2)]
-        )?
-    );
+    assert!(rt; decode_to(rt.alloc(), &Utf8Decoder, &[0xC0, 0x80], "��", &[1, 1])?);
     Ok(())
 }
 
 #[test]
 fn one_character_of_each_length(rt: HostRuntime) -> Result<(), AllocError> {
-    let rows = [
-        (Some('a'), 0, 1),
-        (Some('\u{E9}'), 1, 3),
-        (Some('\u{20AC}'), 3, 6),
-        (Some('\u{1F600}'), 6, 10),
-    ];
+    let text = "a\u{E9}\u{20AC}\u{1F600}";
     assert!(rt;
         decode_to(
             rt.alloc(),
             &Utf8Decoder,
-            "a\u{E9}\u{20AC}\u{1F600}".as_bytes(),
-            &rows
+            text.as_bytes(),
+            text,
+            &[1, 2, 3, 4]
         )?
     );
     Ok(())
@@ -164,18 +139,7 @@ fn one_character_of_each_length(rt: HostRuntime) -> Result<(), AllocError> {
 #[test]
 fn non_shortest_forms(rt: HostRuntime) -> Result<(), AllocError> {
     let bytes = [0xC0, 0xAF, 0xE0, 0x80, 0xBF, 0xF0, 0x81, 0x82, 0x41];
-    let rows = [
-        (None, 0, 1),
-        (None, 1, 2),
-        (None, 2, 3),
-        (None, 3, 4),
-        (None, 4, 5),
-        (None, 5, 6),
-        (None, 6, 7),
-        (None, 7, 8),
-        (Some('A'), 8, 9),
-    ];
-    assert!(rt; decode_to(rt.alloc(), &Utf8Decoder, &bytes, &rows)?);
+    assert!(rt; decode_to(rt.alloc(), &Utf8Decoder, &bytes, "��������A", &[1; 9])?);
     Ok(())
 }
 
@@ -183,18 +147,7 @@ fn non_shortest_forms(rt: HostRuntime) -> Result<(), AllocError> {
 #[test]
 fn surrogates(rt: HostRuntime) -> Result<(), AllocError> {
     let bytes = [0xED, 0xA0, 0x80, 0xED, 0xBF, 0xBF, 0xED, 0xAF, 0x41];
-    let rows = [
-        (None, 0, 1),
-        (None, 1, 2),
-        (None, 2, 3),
-        (None, 3, 4),
-        (None, 4, 5),
-        (None, 5, 6),
-        (None, 6, 7),
-        (None, 7, 8),
-        (Some('A'), 8, 9),
-    ];
-    assert!(rt; decode_to(rt.alloc(), &Utf8Decoder, &bytes, &rows)?);
+    assert!(rt; decode_to(rt.alloc(), &Utf8Decoder, &bytes, "��������A", &[1; 9])?);
     Ok(())
 }
 
@@ -202,18 +155,7 @@ fn surrogates(rt: HostRuntime) -> Result<(), AllocError> {
 #[test]
 fn above_10ffff_and_lone_trail_bytes(rt: HostRuntime) -> Result<(), AllocError> {
     let bytes = [0xF4, 0x91, 0x92, 0x93, 0xFF, 0x41, 0x80, 0xBF, 0x42];
-    let rows = [
-        (None, 0, 1),
-        (None, 1, 2),
-        (None, 2, 3),
-        (None, 3, 4),
-        (None, 4, 5),
-        (Some('A'), 5, 6),
-        (None, 6, 7),
-        (None, 7, 8),
-        (Some('B'), 8, 9),
-    ];
-    assert!(rt; decode_to(rt.alloc(), &Utf8Decoder, &bytes, &rows)?);
+    assert!(rt; decode_to(rt.alloc(), &Utf8Decoder, &bytes, "�����A��B", &[1; 9])?);
     Ok(())
 }
 
@@ -221,14 +163,7 @@ fn above_10ffff_and_lone_trail_bytes(rt: HostRuntime) -> Result<(), AllocError> 
 #[test]
 fn truncated_sequences(rt: HostRuntime) -> Result<(), AllocError> {
     let bytes = [0xE1, 0x80, 0xE2, 0xF0, 0x91, 0x92, 0xF1, 0xBF, 0x41];
-    let rows = [
-        (None, 0, 2),
-        (None, 2, 3),
-        (None, 3, 6),
-        (None, 6, 8),
-        (Some('A'), 8, 9),
-    ];
-    assert!(rt; decode_to(rt.alloc(), &Utf8Decoder, &bytes, &rows)?);
+    assert!(rt; decode_to(rt.alloc(), &Utf8Decoder, &bytes, "����A", &[2, 1, 3, 2, 1])?);
     Ok(())
 }
 

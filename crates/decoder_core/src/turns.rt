@@ -5,14 +5,14 @@ ghost use Rattle.decoder_core.specs.Queue.{run, feed};
 
 use crate::ascii_runs::AsciiRuns;
 use crate::bulk::Bulk;
-use crate::byte_bulk::byte_bulk;
+use crate::byte_bulk::take_bytes;
 use crate::characters::Characters;
 use crate::decoder::{Decoder, Simple, Step};
 use crate::few::Few;
 use crate::handler::{Answer, Handled, Handler};
 use crate::items::Items;
-use crate::pair_bulk::pair_bulk;
-use crate::run_bulk::run_bulk;
+use crate::pair_bulk::take_pairs;
+use crate::run_bulk::{begins_ascii, run_bulk};
 
 impl<H: Handler> Decoder for H {
     type State = H::State;
@@ -36,14 +36,16 @@ impl<H: Handler> Decoder for H {
     // In the loop over the bytes.
     #[inline(always)]
     fn bulk(&self, state: H::State, bytes: &[u8], text: &mut [u8; 1024]) -> Bulk {
-        match self.ascii_runs(state) {
-            AsciiRuns::None => self.take_bulk(state, bytes, text),
-            AsciiRuns::All => match self.characters() {
-                Characters::Ascii => run_bulk(self, state, AsciiRuns::All, bytes, text),
-                Characters::Bytes => byte_bulk(self, state, bytes, text),
-                Characters::Pairs => pair_bulk(self, state, bytes, text),
-            },
-            runs => run_bulk(self, state, runs, bytes, text),
+        match (self.ascii_runs(state), self.characters()) {
+            (AsciiRuns::None, _) => self.take_bulk(state, bytes, text),
+            // A long run of ASCII at the front is taken by itself.
+            (AsciiRuns::All, Characters::Bytes) if !begins_ascii(bytes) => {
+                take_bytes(self, state, bytes, text)
+            }
+            (AsciiRuns::All, Characters::Pairs) if !begins_ascii(bytes) => {
+                take_pairs(self, state, bytes, text)
+            }
+            (runs, _) => run_bulk(self, state, runs, bytes, text),
         }
     }
 

@@ -14,14 +14,9 @@ const WINDOWS_1252: &[u8] = b"0\t0x20AC\n59\t0xBB\n63\t0xBF\n";
 fn entries_ascii_and_null(rt: HostRuntime) -> Result<(), Fail> {
     let kind = IndexKind::SingleByte(Encoding::Windows1252);
     let index = Index::parse(rt.alloc(), kind, WINDOWS_1252)?;
-    let rows = [
-        (Some('\u{20AC}'), 0, 1),
-        (Some('\u{BB}'), 1, 2),
-        (Some('A'), 2, 3),
-        (None, 3, 4),
-    ];
+    let bytes = [0x80, 0xBB, 0x41, 0xFF];
     let decoder = SingleByteDecoder::new(&index);
-    assert!(rt; decode_to(rt.alloc(), &decoder, &[0x80, 0xBB, 0x41, 0xFF], &rows)?);
+    assert!(rt; decode_to(rt.alloc(), &decoder, &bytes, "\u{20AC}\u{BB}A�", &[1; 4])?);
     Ok(())
 }
 
@@ -29,42 +24,34 @@ fn entries_ascii_and_null(rt: HostRuntime) -> Result<(), Fail> {
 fn ascii_is_not_looked_up(rt: HostRuntime) -> Result<(), Fail> {
     let kind = IndexKind::SingleByte(Encoding::Windows1252);
     let index = Index::parse(rt.alloc(), kind, b"0\t0x20AC\n65\t0x42\n")?;
-    let rows = [
-        (Some('\0'), 0, 1),
-        (Some('A'), 1, 2),
-        (Some('\u{7F}'), 2, 3),
-        (Some('B'), 3, 4),
-    ];
     let decoder = SingleByteDecoder::new(&index);
-    assert!(rt; decode_to(rt.alloc(), &decoder, &[0, 0x41, 0x7F, 0xC1], &rows)?);
+    assert!(rt;
+        decode_to(
+            rt.alloc(),
+            &decoder,
+            &[0, 0x41, 0x7F, 0xC1],
+            "\0A\u{7F}B",
+            &[1; 4]
+        )?
+    );
     Ok(())
 }
 
 #[test]
 fn x_user_defined(rt: HostRuntime) -> Result<(), Fail> {
-    let rows = [
-        (Some('A'), 0, 1),
-        (Some('\u{F780}'), 1, 2),
-        (Some('\u{F7FF}'), 2, 3),
-    ];
-    assert!(rt; decode_to(rt.alloc(), &XUserDefinedDecoder, &[0x41, 0x80, 0xFF], &rows)?);
+    let bytes = [0x41, 0x80, 0xFF];
+    let text = "A\u{F780}\u{F7FF}";
+    assert!(rt; decode_to(rt.alloc(), &XUserDefinedDecoder, &bytes, text, &[1; 3])?);
     Ok(())
 }
 
 #[test]
 fn replacement_has_one_error_and_a_silent_tail(rt: HostRuntime) -> Result<(), Fail> {
-    let rows = [(None, 0, 1)];
-    assert!(rt; decode_to(rt.alloc(), &ReplacementDecoder, &[0x41, 0x42], &rows)?);
-    assert!(rt;
-        decode_to(
-            rt.alloc(),
-            &ReplacementDecoder,
-            &[0x1B, 0x24, 0x42, 0x41],
-            &rows
-        )?
-    );
-    assert!(rt; decode_to(rt.alloc(), &ReplacementDecoder, &[0x41], &rows)?);
-    assert!(rt; decode_to(rt.alloc(), &ReplacementDecoder, &[], &[])?);
+    let escape = [0x1B, 0x24, 0x42, 0x41];
+    assert!(rt; decode_to(rt.alloc(), &ReplacementDecoder, &[0x41, 0x42], "�", &[1])?);
+    assert!(rt; decode_to(rt.alloc(), &ReplacementDecoder, &escape, "�", &[1])?);
+    assert!(rt; decode_to(rt.alloc(), &ReplacementDecoder, &[0x41], "�", &[1])?);
+    assert!(rt; decode_to(rt.alloc(), &ReplacementDecoder, &[], "", &[])?);
     Ok(())
 }
 

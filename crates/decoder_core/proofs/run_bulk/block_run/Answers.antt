@@ -1,4 +1,4 @@
-use Rattle.std.proofs.Common.{arith, ◌≡◌, ◌≤◌, take, length, sym, ◌⊎◌, inl, inr}
+use Rattle.std.proofs.Common.{arith, length, sym, inl, inr}
 use Rattle.std.proofs.Math.Seq.{take-length}
 use Rattle.decoder_core.proofs.PlainRuns.{run-front}
 use Rattle.decoder_core.proofs.run_bulk.block_run.Goals as goal

@@ -1,4 +1,4 @@
-use Rattle.std.proofs.Common.{rules, arith, ◌≡◌, ◌∙◌, ◌*◌, ◌≤◌, sym, subst, length}
+use Rattle.std.proofs.Common.{rules, arith, ◌≡◌, ◌*◌, ◌≤◌, sym, subst, length}
 use Rattle.decoder_core.specs.declared.bulk.Bulk.{Bulk}
 use Rattle.decoder_core.specs.Bulk.{IsBulk}
 use Rattle.decoder_core.specs.Holding.{falls_of}

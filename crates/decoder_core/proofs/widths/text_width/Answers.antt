@@ -1,4 +1,4 @@
-use Rattle.std.proofs.Common.{arith, ◌≡◌, ◌+◌, ◌∙◌, ap, ℕ, List}
+use Rattle.std.proofs.Common.{arith, ap, ℕ, List}
 use Rattle.std.proofs.lemmas.Str.{IsUtf8-past_char}
 use Rattle.std.proofs.StrCases.{chars_of_empty}
 use Rattle.decoder_core.specs.Bulk.{run_width}
