@@ -2,42 +2,21 @@
 ghost use Rattle.std.specs.Prelude.{◌≡◌};
 ghost use Rattle.std.proofs.Common.{rules};
 ghost use Rattle.index_loader.specs.Index.{code_point_of};
-ghost use Rattle.decoder_core.specs.Holding.{falls_of, counts_of};
-ghost use Rattle.multibyte_decoders.specs.declared.pairs.PairState.TheVariants.{Idle};
-ghost use Rattle.multibyte_decoders.specs.EucKr.{euc_kr, euc_kr_pair, euc_kr_pointer, is_euc_kr_lead};
+ghost use Rattle.multibyte_decoders.specs.EucKr.{euc_kr_pair, euc_kr_pointer, is_euc_kr_lead};
 ghost use Rattle.multibyte_decoders.specs.Pairs.{ascii_item};
-ghost use Rattle.multibyte_decoders.specs.Holdings.{euc_kr_holding};
 
-use crate::pairs::{PairRules, PairState, known_pair, pair_turn};
+use crate::pairs::{PairDecoder, PairRules};
 use crate::turns::{ascii_item, one_of};
-use decoder_core::{AsciiRuns, Characters, Handled, Handler, Item};
+use decoder_core::Item;
 use enc_names::Scalar;
 use index_loader::Index;
-use std::marker::Model;
 
-/// The EUC-KR decoder (Encoding Standard, "EUC-KR decoder"), which borrows index EUC-KR. Contracts
-/// see the index.
-#[derive(Drop)]
-pub struct EucKrDecoder<'i> {
-    index: &'i Index,
-}
+/// The EUC-KR decoder (Encoding Standard, "EUC-KR decoder"), which borrows index EUC-KR. Contracts see the
+/// index.
+pub type EucKrDecoder<'i> = PairDecoder<'i, EucKrRules>;
 
-impl<'i> Model for EucKrDecoder<'i> {
-    ghost use Rattle.index_loader.specs.Index.{Loaded};
-
-    ghost Value = { Loaded };
-
-    ghost view = { λ d. d.index.now };
-}
-
-impl<'i> EucKrDecoder<'i> {
-    /// The decoder over index EUC-KR.
-    pub fn new(index: &'i Index) -> EucKrDecoder<'i>
-        ensures { result ≡ index.now }
-    {
-        EucKrDecoder { index }
-    }
-}
+/// What EUC-KR says of its single bytes and pairs.
+pub enum EucKrRules {}
 
 /// The pointer of a lead and a trail.
 // In the loop over the bytes.
@@ -48,83 +27,42 @@ fn pointer(lead: u8, trail: u8) -> u32
     u32::from(lead.saturating_sub(0x81)) * 190 + u32::from(trail.saturating_sub(0x41))
 }
 
-impl<'i> PairRules for EucKrDecoder<'i> {
-    ghost leads = { λ d. is_euc_kr_lead };
+impl PairRules for EucKrRules {
+    ghost leads = { is_euc_kr_lead };
 
-    ghost singles = { λ d. ascii_item };
+    ghost singles = { ascii_item };
 
-    ghost pairs = { λ d. euc_kr_pair (code_point_of d) };
+    ghost pairs = { euc_kr_pair };
 
     // In the loop over the bytes.
     #[inline(always)]
-    fn is_lead(&self, byte: u8) -> bool {
+    fn is_lead(byte: u8) -> bool {
         (0x81..=0xFE).contains(&byte)
     }
 
     // In the loop over the bytes.
     #[inline(always)]
-    fn single(&self, byte: u8) -> Item {
+    fn single(byte: u8) -> Item {
         ascii_item(byte)
     }
 
     // In the loop over the bytes.
     #[inline(always)]
-    fn pair(&self, lead: u8, byte: u8) -> Option<Item> {
+    fn pair(index: &Index, lead: u8, byte: u8) -> Option<Item> {
         match byte {
-            0x41..=0xFE => one_of(self.index.code_point(pointer(lead, byte))),
+            0x41..=0xFE => one_of(index.code_point(pointer(lead, byte))),
             _ => None,
         }
     }
 
     // In the loop over the bytes.
     #[inline(always)]
-    fn code_point(&self, lead: u8, byte: u8) -> Option<Scalar> {
+    fn code_point(index: &Index, lead: u8, byte: u8) -> Option<Scalar> {
         match byte {
-            0x41..=0xFE => self.index.code_point(pointer(lead, byte)),
+            0x41..=0xFE => index.code_point(pointer(lead, byte)),
             _ => None,
         }
     }
-}
 
-impl<'i> Handler for EucKrDecoder<'i> {
-    type State = PairState;
-
-    ghost table = { λ d. euc_kr (code_point_of d) };
-
-    ghost initial = { λ _. Idle };
-
-    fn start_state(&self) -> PairState {
-        PairState::Idle
-    }
-
-    #[inline(always)]
-    fn ascii_runs(&self, state: PairState) -> AsciiRuns {
-        match state {
-            PairState::Idle => AsciiRuns::All,
-            PairState::Lead(_) => AsciiRuns::None,
-        }
-    }
-
-    #[inline(always)]
-    fn characters(&self) -> Characters {
-        Characters::Pairs
-    }
-
-    // In the loop over the bytes.
-    #[inline(always)]
-    fn known_pair(&self, state: PairState, lead: u8, trail: u8) -> Option<Scalar> {
-        known_pair(self, state, lead, trail)
-    }
-
-    // In the loop over the bytes.
-    #[inline(always)]
-    fn turn(&self, state: PairState, byte: Option<u8>) -> Handled<PairState> {
-        pair_turn(self, state, byte)
-    }
-
-    ghost ends = { λ d. falls_of _ (euc_kr_holding (code_point_of d)) };
-
-    ghost counts = { λ d. counts_of _ (euc_kr_holding (code_point_of d)) };
-
-    ghost exact = { λ a b h. Prim.search rules };
+    ghost ascii = { λ b low. Prim.search rules };
 }

@@ -1,15 +1,20 @@
-//! What the decoders of single bytes and pairs have in common.
-ghost use Rattle.std.specs.Prelude.{◌≡◌, ℕ, Bool, Option, Some, IfSome};
+//! The decoder of single bytes and pairs, which the rules of an encoding make its own.
+ghost use Rattle.std.specs.Prelude.{◌≡◌, ℕ, ◌<◌, Bool, false, Option, Some, IfSome};
+ghost use Rattle.std.proofs.Common.{rules};
+ghost use Rattle.index_loader.specs.Index.{code_point_of};
 ghost use Rattle.decoder_core.specs.declared.item.Item.{Item};
 ghost use Rattle.decoder_core.specs.declared.item.Item.TheVariants.{One};
-ghost use Rattle.decoder_core.specs.Fronts.{TakesPair};
-ghost use Rattle.decoder_core.specs.Steps.{bytes_of};
+ghost use Rattle.decoder_core.specs.Holding.{falls_of, counts_of};
+ghost use Rattle.multibyte_decoders.specs.declared.pairs.PairState.TheVariants.{Idle};
+ghost use Rattle.multibyte_decoders.specs.Holdings.{pair_holding};
 ghost use Rattle.multibyte_decoders.specs.Pairs.{pair_table};
 
 use crate::turns::{begin, complete};
 use decoder_core::forms::{finish, give};
-use decoder_core::{Handled, Item};
+use decoder_core::{AsciiRuns, Characters, Handled, Handler, Item};
 use enc_names::Scalar;
+use index_loader::Index;
+use std::marker::{Model, PhantomData};
 
 /// Where the decoder of an encoding with at most two bytes a character stands between two bytes.
 #[derive(Clone, Copy, PartialEq, Eq, Debug)]
@@ -20,75 +25,114 @@ pub enum PairState {
     Lead(u8),
 }
 
-/// What an encoding says of its single bytes and pairs.
-pub(crate) trait PairRules {
-    ghost leads: { Self → ℕ → Bool };
+/// What an encoding says of its single bytes, and of its pairs over its index.
+pub trait PairRules {
+    ghost leads: { ℕ → Bool };
 
-    ghost singles: { Self → ℕ → Item };
+    ghost singles: { ℕ → Item };
 
-    ghost pairs: { Self → ℕ → ℕ → Option Item };
+    ghost pairs: { (ℕ → Option ℕ) → ℕ → ℕ → Option Item };
 
     /// Whether the byte is the lead of a pair.
-    fn is_lead(&self, byte: u8) -> bool
-        ensures { result ≡ leads self.now byte };
+    fn is_lead(byte: u8) -> bool
+        ensures { result ≡ leads byte };
 
     /// The item of a byte that is no lead.
-    fn single(&self, byte: u8) -> Item
-        ensures { result ≡ singles self.now byte };
+    fn single(byte: u8) -> Item
+        ensures { result ≡ singles byte };
 
     /// The item of a lead and the byte after it, if they have one.
-    fn pair(&self, lead: u8, byte: u8) -> Option<Item>
-        ensures { result ≡ pairs self.now lead byte };
+    fn pair(index: &Index, lead: u8, byte: u8) -> Option<Item>
+        ensures { result ≡ pairs (code_point_of index.now) lead byte };
 
     /// The code point of a lead and the byte after it, where they have one alone and it is known at
     /// once.
-    fn code_point(&self, lead: u8, byte: u8) -> Option<Scalar>
-        ensures { IfSome result (λ code_point. pairs self.now lead byte ≡ Some (One code_point)) };
+    fn code_point(index: &Index, lead: u8, byte: u8) -> Option<Scalar>
+        ensures { IfSome result (λ code_point. pairs (code_point_of index.now) lead byte ≡ Some (One code_point)) };
+
+    ghost ascii: { (b : ℕ) → b < 128 → (leads b ≡ false) × (singles b ≡ One b) };
 }
 
-/// The code point of a pair, where nothing is pending and the pair has one alone.
-// In the loop over the bytes.
-#[inline(always)]
-pub(crate) fn known_pair<R: PairRules>(
-    rules: &R,
-    state: PairState,
-    lead: u8,
-    trail: u8,
-) -> Option<Scalar>
-    ensures { IfSome result (λ c. TakesPair (pair_table (R.leads rules.now) (R.singles rules.now) (R.pairs rules.now)) state lead trail c) }
-{
-    match state {
-        PairState::Idle if rules.is_lead(lead) => rules.code_point(lead, trail),
-        _ => None,
+/// The decoder of an encoding of single bytes and pairs by its rules, which borrows its index.
+/// Contracts see the index.
+#[derive(Drop)]
+pub struct PairDecoder<'i, R> {
+    index: &'i Index,
+    encoding: PhantomData<R>,
+}
+
+impl<'i, R> Model for PairDecoder<'i, R> {
+    ghost use Rattle.index_loader.specs.Index.{Loaded};
+
+    ghost Value = { Loaded };
+
+    ghost view = { λ d. d.index.now };
+}
+
+impl<'i, R> PairDecoder<'i, R> {
+    /// The decoder over the encoding's index.
+    pub fn new(index: &'i Index) -> PairDecoder<'i, R>
+        ensures { result ≡ index.now }
+    {
+        PairDecoder {
+            index,
+            encoding: PhantomData,
+        }
     }
 }
 
-/// One turn of the decoder of single bytes and pairs.
-// In the loop over the bytes.
-#[inline(always)]
-pub(crate) fn pair_turn<R: PairRules>(
-    rules: &R,
-    state: PairState,
-    byte: Option<u8>,
-) -> Handled<PairState>
-    ensures state { result.state ≡ (pair_table (R.leads rules.now) (R.singles rules.now) (R.pairs rules.now) state byte).state }
-    ensures answer { result.answer ≡ (pair_table (R.leads rules.now) (R.singles rules.now) (R.pairs rules.now) state byte).answer }
-    ensures back { bytes_of result.back ≡ (pair_table (R.leads rules.now) (R.singles rules.now) (R.pairs rules.now) state byte).back }
-{
-    match (state, byte) {
-        (PairState::Idle, None) => finish(PairState::Idle),
-        (PairState::Lead(_), None) => give(PairState::Idle, Item::Error),
-        (PairState::Idle, Some(byte)) => {
-            let held = PairState::Lead(byte);
-            begin(
-                PairState::Idle,
-                rules.is_lead(byte),
-                held,
-                rules.single(byte),
-            )
-        }
-        (PairState::Lead(lead), Some(byte)) => {
-            complete(PairState::Idle, rules.pair(lead, byte), byte)
+impl<'i, R: PairRules> Handler for PairDecoder<'i, R> {
+    type State = PairState;
+
+    ghost table = { λ d. pair_table R.leads R.singles (R.pairs (code_point_of d)) };
+
+    ghost initial = { λ _. Idle };
+
+    fn start_state(&self) -> PairState {
+        PairState::Idle
+    }
+
+    // In the loop over the bytes.
+    #[inline(always)]
+    fn turn(&self, state: PairState, byte: Option<u8>) -> Handled<PairState> {
+        match (state, byte) {
+            (PairState::Idle, None) => finish(PairState::Idle),
+            (PairState::Lead(_), None) => give(PairState::Idle, Item::Error),
+            (PairState::Idle, Some(byte)) => {
+                let held = PairState::Lead(byte);
+                begin(PairState::Idle, R::is_lead(byte), held, R::single(byte))
+            }
+            (PairState::Lead(lead), Some(byte)) => {
+                complete(PairState::Idle, R::pair(self.index, lead, byte), byte)
+            }
         }
     }
+
+    #[inline(always)]
+    fn ascii_runs(&self, state: PairState) -> AsciiRuns {
+        match state {
+            PairState::Idle => AsciiRuns::All,
+            PairState::Lead(_) => AsciiRuns::None,
+        }
+    }
+
+    #[inline(always)]
+    fn characters(&self) -> Characters {
+        Characters::Pairs
+    }
+
+    // In the loop over the bytes.
+    #[inline(always)]
+    fn known_pair(&self, state: PairState, lead: u8, trail: u8) -> Option<Scalar> {
+        match state {
+            PairState::Idle if R::is_lead(lead) => R::code_point(self.index, lead, trail),
+            _ => None,
+        }
+    }
+
+    ghost ends = { λ d. falls_of _ (pair_holding R.leads R.singles (R.pairs (code_point_of d))) };
+
+    ghost counts = { λ d. counts_of _ (pair_holding R.leads R.singles (R.pairs (code_point_of d))) };
+
+    ghost exact = { λ a b h. Prim.search rules };
 }
