@@ -4,11 +4,10 @@ ghost use Rattle.decoder_core.specs.Steps.{bytes_of};
 ghost use Rattle.index_loader.specs.Table.{pointer_limit};
 ghost use Rattle.encoders.specs.Big5.{big5_bytes, big5_pair, big5_pointer, takes_last};
 
-use crate::stateless::Stateless;
+use crate::over_index::IndexRules;
 use decoder_core::Few;
 use enc_names::Scalar;
 use index_loader::{Index, pointer_exclusion};
-use std::marker::Model;
 
 /// The least pointer that is written: those below are the Hong Kong supplement's.
 const LEAST_POINTER: u32 = 5024;
@@ -51,45 +50,22 @@ fn big5_pair(pointer: u32) -> Few
     Few::Two(lead, trail + offset)
 }
 
-/// The Big5 encoder, which borrows its index. Contracts see the index.
-#[derive(Drop)]
-pub(crate) struct Big5Encoder<'i> {
-    index: &'i Index,
-}
+/// What the encoder of Big5 writes (Encoding Standard).
+pub(crate) enum Big5 {}
 
-impl<'i> Model for Big5Encoder<'i> {
-    ghost use Rattle.std.specs.Prelude.{◌≡◌};
-    ghost use Rattle.index_loader.specs.Index.{Loaded};
-    ghost use Rattle.index_loader.specs.Table.{pointer_limit};
-
-    ghost Value = { Loaded };
-
-    ghost view = { λ e. e.index.now };
-
-    ghost invariant = { λ e. pointer_limit e.index.now.kind ≡ 19781 };
-}
-
-impl<'i> Big5Encoder<'i> {
-    /// The encoder over its index.
-    pub(crate) fn new(index: &'i Index) -> Big5Encoder<'i>
-        requires { pointer_limit index.now.kind ≡ 19781 }
-        ensures { result ≡ index.now }
-    {
-        Big5Encoder { index }
-    }
-}
-
-impl<'i> Stateless for Big5Encoder<'i> {
+impl IndexRules for Big5 {
     ghost use Rattle.encoders.specs.StatelessLaws.{by_ascii_or};
 
-    ghost encodes = { big5_bytes };
+    ghost limit = { 19781 };
+
+    ghost written = { big5_bytes };
 
     #[inline(always)]
-    fn bytes(&self, code_point: char) -> Option<Few> {
+    fn bytes(index: &Index, code_point: char) -> Option<Few> {
         if code_point.is_ascii() {
             return Some(Few::One(code_point as u8));
         }
-        Some(big5_pair(big5_pointer(self.index, code_point)?))
+        Some(big5_pair(big5_pointer(index, code_point)?))
     }
 
     ghost ascii = { λ e c is. by_ascii_or _ c is };

@@ -9,14 +9,15 @@ ghost use Rattle.encoders.specs.Found.{IsOfKind};
 ghost use Rattle.encoders.specs.Stateless.{stateless};
 ghost use Rattle.encoders.specs.Steps.{encoded_from, encoded_iso};
 
-use crate::big5::Big5Encoder;
-use crate::euc_jp::EucJpEncoder;
-use crate::euc_kr::EucKrEncoder;
+use crate::big5::Big5;
+use crate::euc_jp::EucJp;
+use crate::euc_kr::EucKr;
 use crate::fault::EncodeFault;
-use crate::gb18030::{Gb18030Encoder, GbkEncoder};
+use crate::gb18030::{Gb18030Encoder, Gbk};
 use crate::mode::EncodeMode;
-use crate::shift_jis::ShiftJisEncoder;
-use crate::single_byte::SingleByteEncoder;
+use crate::over_index::IndexEncoder;
+use crate::shift_jis::ShiftJis;
+use crate::single_byte::SingleByte;
 use crate::stateless::{ByBytes, Stateless};
 use crate::utf16::encode_utf16;
 use crate::x_user_defined::XUserDefinedEncoder;
@@ -52,20 +53,20 @@ pub fn encode(
         }
         Encoding::ShiftJis => {
             let index = of_kind(indexes, IndexKind::Jis0208)?;
-            encode_bytes(alloc, &ShiftJisEncoder::new(index), mode, text)
+            encode_bytes(alloc, &IndexEncoder::<ShiftJis>::new(index), mode, text)
         }
         Encoding::EucJp => {
             let index = of_kind(indexes, IndexKind::Jis0208)?;
             of_kind(indexes, IndexKind::Jis0212)?;
-            encode_bytes(alloc, &EucJpEncoder::new(index), mode, text)
+            encode_bytes(alloc, &IndexEncoder::<EucJp>::new(index), mode, text)
         }
         Encoding::EucKr => {
             let index = of_kind(indexes, IndexKind::EucKr)?;
-            encode_bytes(alloc, &EucKrEncoder::new(index), mode, text)
+            encode_bytes(alloc, &IndexEncoder::<EucKr>::new(index), mode, text)
         }
         Encoding::Big5 => {
             let index = of_kind(indexes, IndexKind::Big5)?;
-            encode_bytes(alloc, &Big5Encoder::new(index), mode, text)
+            encode_bytes(alloc, &IndexEncoder::<Big5>::new(index), mode, text)
         }
         Encoding::Gb18030 => {
             let index = of_kind(indexes, IndexKind::Gb18030)?;
@@ -75,11 +76,11 @@ pub fn encode(
         Encoding::Gbk => {
             let index = of_kind(indexes, IndexKind::Gb18030)?;
             of_kind(indexes, IndexKind::Gb18030Ranges)?;
-            encode_bytes(alloc, &GbkEncoder::new(index), mode, text)
+            encode_bytes(alloc, &IndexEncoder::<Gbk>::new(index), mode, text)
         }
         _ => {
             let index = of_kind(indexes, IndexKind::SingleByte(encoding))?;
-            encode_bytes(alloc, &SingleByteEncoder::new(index), mode, text)
+            encode_bytes(alloc, &IndexEncoder::<SingleByte>::new(index), mode, text)
         }
     }
 }

@@ -3,12 +3,11 @@ ghost use Rattle.std.specs.Prelude.{◌≡◌, ◌≤◌};
 ghost use Rattle.decoder_core.specs.Steps.{bytes_of};
 ghost use Rattle.encoders.specs.EucJp.{euc_jp_bytes, euc_jp_pair};
 
+use crate::over_index::IndexRules;
 use crate::shift_jis::minus_folded;
-use crate::stateless::Stateless;
 use decoder_core::Few;
 use index_loader::Index;
 use iso2022jp::row_pointer;
-use std::marker::Model;
 
 /// The two bytes of a pointer.
 fn euc_jp_pair(pointer: u32) -> Few
@@ -20,36 +19,18 @@ fn euc_jp_pair(pointer: u32) -> Few
     Few::Two(lead, trail)
 }
 
-/// The EUC-JP encoder, which borrows index jis0208 alone. Contracts see the index.
-#[derive(Drop)]
-pub(crate) struct EucJpEncoder<'i> {
-    jis0208: &'i Index,
-}
+/// What the encoder of EUC-JP writes (Encoding Standard).
+pub(crate) enum EucJp {}
 
-impl<'i> Model for EucJpEncoder<'i> {
-    ghost use Rattle.index_loader.specs.Index.{Loaded};
-
-    ghost Value = { Loaded };
-
-    ghost view = { λ e. e.jis0208.now };
-}
-
-impl<'i> EucJpEncoder<'i> {
-    /// The encoder over its index.
-    pub(crate) fn new(jis0208: &'i Index) -> EucJpEncoder<'i>
-        ensures { result ≡ jis0208.now }
-    {
-        EucJpEncoder { jis0208 }
-    }
-}
-
-impl<'i> Stateless for EucJpEncoder<'i> {
+impl IndexRules for EucJp {
     ghost use Rattle.encoders.specs.StatelessLaws.{by_ascii_or};
 
-    ghost encodes = { euc_jp_bytes };
+    ghost limit = { 11279 };
+
+    ghost written = { euc_jp_bytes };
 
     #[inline(always)]
-    fn bytes(&self, code_point: char) -> Option<Few> {
+    fn bytes(index: &Index, code_point: char) -> Option<Few> {
         match u32::from(code_point) {
             0..=0x7F => Some(Few::One(code_point as u8)),
             0xA5 => Some(Few::One(0x5C)),
@@ -59,7 +40,7 @@ impl<'i> Stateless for EucJpEncoder<'i> {
                 Some(Few::Two(0x8E, trail))
             }
             _ => {
-                let pointer = row_pointer(self.jis0208, minus_folded(code_point))?;
+                let pointer = row_pointer(index, minus_folded(code_point))?;
                 Some(euc_jp_pair(pointer))
             }
         }

@@ -4,6 +4,7 @@ ghost use Rattle.decoder_core.specs.Steps.{bytes_of};
 ghost use Rattle.index_loader.specs.Table.{pointer_limit};
 ghost use Rattle.encoders.specs.Gb18030.{gb18030_bytes, gb18030_four, gb18030_pair, gbk_bytes};
 
+use crate::over_index::IndexRules;
 use crate::stateless::Stateless;
 use decoder_core::Few;
 use enc_names::Scalar;
@@ -86,47 +87,24 @@ impl<'i> Stateless for Gb18030Encoder<'i> {
     ghost ascii = { λ e c is. by_ascii_or _ c is };
 }
 
-/// The GBK encoder, which borrows index gb18030 alone. Contracts see the index.
-#[derive(Drop)]
-pub(crate) struct GbkEncoder<'i> {
-    index: &'i Index,
-}
+/// What the encoder of GBK writes (Encoding Standard).
+pub(crate) enum Gbk {}
 
-impl<'i> Model for GbkEncoder<'i> {
-    ghost use Rattle.std.specs.Prelude.{◌≡◌};
-    ghost use Rattle.index_loader.specs.Index.{Loaded};
-    ghost use Rattle.index_loader.specs.Table.{pointer_limit};
-
-    ghost Value = { Loaded };
-
-    ghost view = { λ e. e.index.now };
-
-    ghost invariant = { λ e. pointer_limit e.index.now.kind ≡ 23939 };
-}
-
-impl<'i> GbkEncoder<'i> {
-    /// The encoder over its index.
-    pub(crate) fn new(index: &'i Index) -> GbkEncoder<'i>
-        requires { pointer_limit index.now.kind ≡ 23939 }
-        ensures { result ≡ index.now }
-    {
-        GbkEncoder { index }
-    }
-}
-
-impl<'i> Stateless for GbkEncoder<'i> {
+impl IndexRules for Gbk {
     ghost use Rattle.encoders.specs.StatelessLaws.{by_ascii_or};
 
-    ghost encodes = { gbk_bytes };
+    ghost limit = { 23939 };
+
+    ghost written = { gbk_bytes };
 
     #[inline(always)]
-    fn bytes(&self, code_point: char) -> Option<Few> {
+    fn bytes(index: &Index, code_point: char) -> Option<Few> {
         match u32::from(code_point) {
             0..=0x7F => Some(Few::One(code_point as u8)),
             0xE5E5 => None,
             0x20AC => Some(Few::One(0x80)),
             _ => {
-                let pointer = self.index.pointer(Scalar::from(code_point))?;
+                let pointer = index.pointer(Scalar::from(code_point))?;
                 Some(gb18030_pair(pointer))
             }
         }

@@ -11,6 +11,7 @@ mod examples;
 mod fault;
 mod gb18030;
 mod mode;
+mod over_index;
 mod shift_jis;
 mod single_byte;
 mod stateless;

@@ -4,11 +4,10 @@ ghost use Rattle.decoder_core.specs.Steps.{bytes_of};
 ghost use Rattle.index_loader.specs.Table.{pointer_limit};
 ghost use Rattle.encoders.specs.ShiftJis.{minus_folded, shift_jis_bytes, shift_jis_pair, shift_jis_pointer};
 
-use crate::stateless::Stateless;
+use crate::over_index::IndexRules;
 use decoder_core::Few;
 use enc_names::Scalar;
 use index_loader::{Index, pointer_exclusion};
-use std::marker::Model;
 
 /// The smallest pointer of a code point that isn't one of the duplicates 8272 to 8835 (Encoding
 /// Standard, "index Shift_JIS pointer").
@@ -46,48 +45,25 @@ fn shift_jis_pair(pointer: u32) -> Few
     Few::Two(lead + lead_offset, trail + trail_offset)
 }
 
-/// The Shift_JIS encoder, which borrows its index. Contracts see the index.
-#[derive(Drop)]
-pub(crate) struct ShiftJisEncoder<'i> {
-    index: &'i Index,
-}
+/// What the encoder of Shift_JIS writes (Encoding Standard).
+pub(crate) enum ShiftJis {}
 
-impl<'i> Model for ShiftJisEncoder<'i> {
-    ghost use Rattle.std.specs.Prelude.{◌≡◌};
-    ghost use Rattle.index_loader.specs.Index.{Loaded};
-    ghost use Rattle.index_loader.specs.Table.{pointer_limit};
-
-    ghost Value = { Loaded };
-
-    ghost view = { λ e. e.index.now };
-
-    ghost invariant = { λ e. pointer_limit e.index.now.kind ≡ 11279 };
-}
-
-impl<'i> ShiftJisEncoder<'i> {
-    /// The encoder over its index.
-    pub(crate) fn new(index: &'i Index) -> ShiftJisEncoder<'i>
-        requires { pointer_limit index.now.kind ≡ 11279 }
-        ensures { result ≡ index.now }
-    {
-        ShiftJisEncoder { index }
-    }
-}
-
-impl<'i> Stateless for ShiftJisEncoder<'i> {
+impl IndexRules for ShiftJis {
     ghost use Rattle.encoders.specs.StatelessLaws.{by_ascii_or};
 
-    ghost encodes = { shift_jis_bytes };
+    ghost limit = { 11279 };
+
+    ghost written = { shift_jis_bytes };
 
     #[inline(always)]
-    fn bytes(&self, code_point: char) -> Option<Few> {
+    fn bytes(index: &Index, code_point: char) -> Option<Few> {
         match u32::from(code_point) {
             0..=0x80 => Some(Few::One(code_point as u8)),
             0xA5 => Some(Few::One(0x5C)),
             0x203E => Some(Few::One(0x7E)),
             0xFF61..=0xFF9F => Some(Few::One((u32::from(code_point) - 0xFF61) as u8 + 0xA1)),
             _ => {
-                let pointer = shift_jis_pointer(self.index, minus_folded(code_point))?;
+                let pointer = shift_jis_pointer(index, minus_folded(code_point))?;
                 Some(shift_jis_pair(pointer))
             }
         }

@@ -65,198 +65,96 @@ fn expect(
     Ok(())
 }
 
-/// Over the small files the text has these bytes in mode fatal.
-fn gives(
-    rt: &impl Abort,
-    alloc: Global,
-    encoding: Encoding,
-    text: &str,
-    bytes: &[u8],
-) -> Result<(), Fail> {
-    let indexes = small_indexes(alloc)?;
-    let want = Ok(bytes);
-    expect(rt, alloc, &indexes, encoding, EncodeMode::Fatal, text, want)
-}
-
-/// Over the small files the text has these bytes in mode html, and in mode fatal it is refused at
-/// this code point.
-fn refers(
-    rt: &impl Abort,
-    alloc: Global,
-    encoding: Encoding,
-    text: &str,
-    bytes: &[u8],
-    refused: Unencodable,
-) -> Result<(), Fail> {
-    let indexes = small_indexes(alloc)?;
-    let html = EncodeMode::Html;
-    expect(rt, alloc, &indexes, encoding, html, text, Ok(bytes))?;
-    let want = Err(EncodeFault::Unencodable(refused));
-    expect(rt, alloc, &indexes, encoding, EncodeMode::Fatal, text, want)
-}
-
 /// A code point without bytes, and its place.
 fn unencodable(index: u64, code_point: char) -> Unencodable {
     Unencodable { index, code_point }
 }
 
-#[test]
-fn utf8_is_the_text(rt: HostRuntime) -> Result<(), Fail> {
-    gives(
-        &rt,
-        rt.alloc(),
+/// An encoding, a text and its bytes, over the small files and in mode fatal.
+const ENCODED: [(Encoding, &str, &[u8]); 19] = [
+    (
         Encoding::Utf8,
         "a\u{20AC}\u{1F600}",
         b"a\xE2\x82\xAC\xF0\x9F\x98\x80",
-    )
-}
-
-#[test]
-fn utf16_without_a_mark(rt: HostRuntime) -> Result<(), Fail> {
-    let alloc = rt.alloc();
-    let big = b"\xD8\x3D\xDE\x00\x00\x61";
-    let little = b"\x3D\xD8\x00\xDE\x61\x00";
-    gives(&rt, alloc, Encoding::Utf16Be, "\u{1F600}a", big)?;
-    gives(&rt, alloc, Encoding::Utf16Le, "\u{1F600}a", little)
-}
-
-#[test]
-fn shift_jis_minus_sign_and_hiragana(rt: HostRuntime) -> Result<(), Fail> {
-    let alloc = rt.alloc();
-    gives(&rt, alloc, Encoding::ShiftJis, "\u{2212}", b"\x81\x7C")?;
-    gives(&rt, alloc, Encoding::ShiftJis, "\u{3042}", b"\x82\xA0")?;
-    gives(
-        &rt,
-        alloc,
+    ),
+    // No mark stands in front.
+    (Encoding::Utf16Be, "\u{1F600}a", b"\xD8\x3D\xDE\x00\x00\x61"),
+    (Encoding::Utf16Le, "\u{1F600}a", b"\x3D\xD8\x00\xDE\x61\x00"),
+    // The minus sign is U+FF0D.
+    (Encoding::ShiftJis, "\u{2212}", b"\x81\x7C"),
+    (Encoding::ShiftJis, "\u{3042}", b"\x82\xA0"),
+    (
         Encoding::ShiftJis,
         "a\u{80}\u{A5}\u{203E}\u{FF71}",
         b"a\x80\x5C\x7E\xB1",
-    )
-}
+    ),
+    (Encoding::EucJp, "\u{4E9C}", b"\xB0\xA1"),
+    (Encoding::EucJp, "\u{FF71}\u{A5}", b"\x8E\xB1\x5C"),
+    (Encoding::EucKr, "\u{AC00}", b"\xB0\xA1"),
+    (Encoding::Big5, "\u{4E00}", b"\xA4\x40"),
+    // Pairs, ranges, a code point for private use with four bytes, and the last of all.
+    (Encoding::Gb18030, "\u{554A}", b"\xB0\xA1"),
+    (Encoding::Gb18030, "\u{20AC}", b"\x81\x36\xC4\x36"),
+    (Encoding::Gb18030, "\u{E7C7}", b"\x81\x35\xF4\x37"),
+    (Encoding::Gb18030, "\u{10FFFF}", b"\xE3\x32\x9A\x35"),
+    // GBK has a byte for the euro.
+    (Encoding::Gbk, "\u{20AC}", b"\x80"),
+    // Halfwidth katakana are written as those of full width.
+    (Encoding::Iso2022Jp, "\u{FF61}", b"\x1B$B!#\x1B(B"),
+    (Encoding::Iso2022Jp, "\u{A5}", b"\x1B(J\\\x1B(B"),
+    (Encoding::Windows1252, "\u{20AC}x\u{BF}", b"\x80x\xBF"),
+    (Encoding::XUserDefined, "A\u{F780}\u{F7FF}", b"A\x80\xFF"),
+];
 
 #[test]
-fn euc_jp_kanji_and_katakana(rt: HostRuntime) -> Result<(), Fail> {
-    let alloc = rt.alloc();
-    gives(&rt, alloc, Encoding::EucJp, "\u{4E9C}", b"\xB0\xA1")?;
-    gives(
-        &rt,
-        alloc,
-        Encoding::EucJp,
-        "\u{FF71}\u{A5}",
-        b"\x8E\xB1\x5C",
-    )
+fn bytes_of_texts(rt: HostRuntime) -> Result<(), Fail> {
+    let indexes = small_indexes(rt.alloc())?;
+    for (encoding, text, bytes) in &ENCODED {
+        let mode = EncodeMode::Fatal;
+        expect(&rt, rt.alloc(), &indexes, *encoding, mode, text, Ok(bytes))?;
+    }
+    Ok(())
 }
 
-#[test]
-fn euc_jp_never_writes_jis0212(rt: HostRuntime) -> Result<(), Fail> {
-    refers(
-        &rt,
-        rt.alloc(),
-        Encoding::EucJp,
-        "\u{2D8}",
-        b"&#728;",
-        unencodable(0, '\u{2D8}'),
-    )
-}
-
-#[test]
-fn euc_kr_and_big5_letters(rt: HostRuntime) -> Result<(), Fail> {
-    let alloc = rt.alloc();
-    gives(&rt, alloc, Encoding::EucKr, "\u{AC00}", b"\xB0\xA1")?;
-    gives(&rt, alloc, Encoding::Big5, "\u{4E00}", b"\xA4\x40")
-}
-
-#[test]
-fn gb18030_pairs_and_ranges(rt: HostRuntime) -> Result<(), Fail> {
-    let alloc = rt.alloc();
-    gives(&rt, alloc, Encoding::Gb18030, "\u{554A}", b"\xB0\xA1")?;
-    let euro = b"\x81\x36\xC4\x36";
-    gives(&rt, alloc, Encoding::Gb18030, "\u{20AC}", euro)?;
-    let private_use = b"\x81\x35\xF4\x37";
-    gives(&rt, alloc, Encoding::Gb18030, "\u{E7C7}", private_use)?;
-    let last = b"\xE3\x32\x9A\x35";
-    gives(&rt, alloc, Encoding::Gb18030, "\u{10FFFF}", last)?;
-    refers(
-        &rt,
-        alloc,
-        Encoding::Gb18030,
-        "\u{E5E5}",
-        b"&#58853;",
-        unencodable(0, '\u{E5E5}'),
-    )
-}
-
-#[test]
-fn gbk_has_a_byte_for_the_euro_and_no_four(rt: HostRuntime) -> Result<(), Fail> {
-    let alloc = rt.alloc();
-    gives(&rt, alloc, Encoding::Gbk, "\u{20AC}", b"\x80")?;
-    refers(
-        &rt,
-        alloc,
-        Encoding::Gbk,
-        "\u{E7C7}",
-        b"&#59335;",
-        unencodable(0, '\u{E7C7}'),
-    )
-}
-
-#[test]
-fn iso_2022_jp_reference_in_ascii(rt: HostRuntime) -> Result<(), Fail> {
-    refers(
-        &rt,
-        rt.alloc(),
+/// An encoding, a text, its bytes in mode html over the small files, and the code point that has
+/// none, with its place, at which mode fatal refuses it.
+const REFERENCES: [(Encoding, &str, &[u8], u64, char); 7] = [
+    // EUC-JP never writes jis0212.
+    (Encoding::EucJp, "\u{2D8}", b"&#728;", 0, '\u{2D8}'),
+    (Encoding::Gb18030, "\u{E5E5}", b"&#58853;", 0, '\u{E5E5}'),
+    // GBK has no four bytes.
+    (Encoding::Gbk, "\u{E7C7}", b"&#59335;", 0, '\u{E7C7}'),
+    // A reference is written in ASCII, and U+FFFD is refused in place of a shift.
+    (
         Encoding::Iso2022Jp,
         "\u{3042}\u{1F600}",
         b"\x1B$B$\"\x1B(B&#128512;",
-        unencodable(1, '\u{1F600}'),
-    )
-}
-
-#[test]
-fn iso_2022_jp_katakana_yen_and_shift_out(rt: HostRuntime) -> Result<(), Fail> {
-    let alloc = rt.alloc();
-    let stop = b"\x1B$B!#\x1B(B";
-    gives(&rt, alloc, Encoding::Iso2022Jp, "\u{FF61}", stop)?;
-    let yen = b"\x1B(J\\\x1B(B";
-    gives(&rt, alloc, Encoding::Iso2022Jp, "\u{A5}", yen)?;
-    refers(
-        &rt,
-        alloc,
-        Encoding::Iso2022Jp,
-        "\u{E}",
-        b"&#65533;",
-        unencodable(0, '\u{FFFD}'),
-    )
-}
-
-#[test]
-fn windows_1252_by_its_index(rt: HostRuntime) -> Result<(), Fail> {
-    let alloc = rt.alloc();
-    let text = "\u{20AC}x\u{BF}";
-    gives(&rt, alloc, Encoding::Windows1252, text, b"\x80x\xBF")?;
-    refers(
-        &rt,
-        alloc,
+        1,
+        '\u{1F600}',
+    ),
+    (Encoding::Iso2022Jp, "\u{E}", b"&#65533;", 0, '\u{FFFD}'),
+    (
         Encoding::Windows1252,
         "ab\u{3042}",
         b"ab&#12354;",
-        unencodable(2, '\u{3042}'),
-    )
-}
+        2,
+        '\u{3042}',
+    ),
+    (Encoding::XUserDefined, "\u{80}", b"&#128;", 0, '\u{80}'),
+];
 
 #[test]
-fn x_user_defined_private_use(rt: HostRuntime) -> Result<(), Fail> {
+fn references_to_code_points_without_bytes(rt: HostRuntime) -> Result<(), Fail> {
     let alloc = rt.alloc();
-    let text = "A\u{F780}\u{F7FF}";
-    gives(&rt, alloc, Encoding::XUserDefined, text, b"A\x80\xFF")?;
-    refers(
-        &rt,
-        alloc,
-        Encoding::XUserDefined,
-        "\u{80}",
-        b"&#128;",
-        unencodable(0, '\u{80}'),
-    )
+    let indexes = small_indexes(alloc)?;
+    for (encoding, text, bytes, index, code_point) in &REFERENCES {
+        let html = EncodeMode::Html;
+        expect(&rt, alloc, &indexes, *encoding, html, text, Ok(bytes))?;
+        let fatal = EncodeMode::Fatal;
+        let want = Err(EncodeFault::Unencodable(unencodable(*index, *code_point)));
+        expect(&rt, alloc, &indexes, *encoding, fatal, text, want)?;
+    }
+    Ok(())
 }
 
 #[test]

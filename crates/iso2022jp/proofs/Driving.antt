@@ -1,5 +1,5 @@
 -- Code points one after another.
-use Rattle.std.proofs.Common.{◌≡◌, ℕ, ◌+◌, ◌-◌, ◌<◌, ◌≤◌, Bool, List, [], ◌∷◌, ◌++◌, All, Result, Ok, Err, length, take, drop, refl, sym, ap, ◌∙◌, subst, arith, append_assoc, length-append}
+use Rattle.std.proofs.Common.{◌≡◌, ℕ, ◌+◌, ◌-◌, ◌≤◌, Bool, List, [], ◌∷◌, ◌++◌, All, Result, Ok, Err, length, take, drop, refl, sym, ap, ◌∙◌, subst, arith, append_assoc, length-append}
 use Rattle.std.specs.Str.{chars, IsUtf8, IsCharBoundary}
 use Rattle.std.specs.Char.{encode_utf8, len_utf8}
 use Rattle.std.proofs.lemmas.List.{nil_from_length, take-append-drop}
@@ -9,7 +9,7 @@ use Rattle.iso2022jp.specs.declared.fault.PutFault.{PutFault}
 use Rattle.iso2022jp.specs.declared.fault.PutFault.TheVariants.{Unencodable as unencodable_here, OutOfMemory}
 use Rattle.iso2022jp.specs.declared.fault.Unencodable.{Unencodable}
 use Rattle.iso2022jp.specs.EncoderOutput.{PutOne, PutAll, fault_at}
-use Rattle.iso2022jp.specs.EncoderSteps.{Table, Put, PutsItself, answered, behind, onward, taken, encoded_from}
+use Rattle.iso2022jp.specs.EncoderSteps.{Table, Put, PutsItself, behind, onward, taken, encoded_from}
 use Rattle.iso2022jp.specs.Plain.{IsRun}
 
 abbrev got : {S E : Type 0} → Put S → Result (Put S) E → Put S

@@ -1,5 +1,5 @@
 -- No code point is restored twice.
-use Rattle.std.proofs.Common.{◌≡◌, ◌≢◌, ℕ, Option, rules, arith}
+use Rattle.std.proofs.Common.{◌≡◌, ◌≢◌, ℕ, Option, rules}
 use Rattle.std.proofs.lemmas.Bool.Decides.{nat_tests}
 use Rattle.iso2022jp.specs.declared.encoder.EncoderAnswer.TheVariants.{Restores}
 use Rattle.iso2022jp.specs.declared.output.OutputState.{OutputState}

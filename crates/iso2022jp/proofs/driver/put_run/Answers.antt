@@ -1,5 +1,4 @@
 use Rattle.std.proofs.Common.{false}
-use Rattle.iso2022jp.specs.EncoderSteps.{PutsItself}
 use Rattle.iso2022jp.proofs.Driving.{run-boundary}
 use Rattle.iso2022jp.proofs.driver.put_run.Goals as goal
 

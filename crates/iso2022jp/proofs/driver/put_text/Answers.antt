@@ -1,7 +1,5 @@
-use Rattle.std.proofs.Common.{◌≡◌, ℕ, ◌+◌, ◌-◌, ◌≤◌, List, ◌∷◌, Ok, length, sym, ap, ◌∙◌, arith, append-nil}
-use Rattle.std.specs.Str.{chars}
+use Rattle.std.proofs.Common.{ℕ, List, Ok, sym, ap, ◌∙◌, arith, append-nil}
 use Rattle.std.proofs.lemmas.Str.{IsUtf8-past_char, chars_past_char}
-use Rattle.iso2022jp.specs.EncoderSteps.{behind, encoded_from}
 use Rattle.iso2022jp.proofs.Driving.{goes, stops-at, past-run, chars_of_empty, fewer}
 use Rattle.iso2022jp.proofs.driver.put_text.Goals as goal
 

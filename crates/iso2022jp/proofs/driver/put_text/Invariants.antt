@@ -1,4 +1,4 @@
-use Rattle.std.proofs.Common.{◌≡◌, ℕ, ◌+◌, ◌≤◌, length}
+use Rattle.std.proofs.Common.{◌≡◌, ◌+◌, ◌≤◌, length}
 use Rattle.std.specs.Str.{chars, IsUtf8}
 use Rattle.iso2022jp.specs.EncoderSteps.{encoded_from, behind}
 use Rattle.iso2022jp.proofs.driver.put_text.Given as goal

@@ -1,5 +1,4 @@
 use Rattle.std.proofs.Common.{sym, ◌∙◌}
-use Rattle.std.specs.Str.{IsCharBoundary}
 use Rattle.iso2022jp.proofs.Driving.{char-boundary}
 use Rattle.iso2022jp.proofs.driver.split_first.Goals as goal
 

@@ -1,4 +1,4 @@
-use Rattle.std.proofs.Common.{◌≡◌, ℕ, ◌+◌, ◌-◌, ◌≤◌, List, ◌++◌, length, take, refl, arith, ap, sym, ◌∙◌, append_assoc}
+use Rattle.std.proofs.Common.{◌+◌, ◌-◌, ◌≤◌, ◌++◌, length, take, refl, arith, ap, sym, ◌∙◌, append_assoc}
 use Rattle.iso2022jp.specs.EncoderOutput.{Written}
 use Rattle.iso2022jp.proofs.Filling.{filled_more}
 use Rattle.iso2022jp.proofs.byte_blocks.ByteBlocks.fill.Goals as goal
