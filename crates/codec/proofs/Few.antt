@@ -1,11 +1,11 @@
 -- How many items a decoder gives: one for each byte read, and at most seven more.
-use Rattle.std.proofs.Common.{◌≡◌, refl, sym, ap, ◌∙◌, subst, ℕ, zero, suc, ◌+◌, ◌*◌, ◌≤◌, List, [], ◌∷◌, ◌++◌, length, length-append, map, arith, Option, Some, None}
+use Rattle.std.proofs.Common.{◌≡◌, refl, ap, ℕ, zero, suc, ◌+◌, ◌*◌, ◌≤◌, List, [], ◌∷◌, length, length-append, arith, Some}
 use Rattle.decoder_core.specs.declared.item.Ended.{Ended}
 use Rattle.decoder_core.specs.declared.handler.Answer.{Answer}
 use Rattle.decoder_core.specs.declared.handler.Answer.TheVariants.{Nothing, Gives, Finished}
 use Rattle.decoder_core.specs.Queue.{Table, Fed, turn_at, queue_after, told, fed_after, turns, run, feed_for, feed}
 use Rattle.decoder_core.specs.Counts.{Counts, cost}
-use Rattle.decoder_core.specs.Shown.{Shown, shown_at, shown_from}
+use Rattle.decoder_core.specs.Shown.{shown_at, shown_from}
 
 module _ {S : Type 0} (table : Table S) (c : Counts table) where
   after_turn : (a : Answer) (n left room bytes : ℕ) (next : S) (f : Fed S) → left + c.bytes next + cost a ≤ room → length f.items + c.bytes f.state ≤ left + c.bytes next

@@ -145,15 +145,5 @@ pub const GB18030: &[u8] = b"\
     \xc0\xca\xd2\" width=\"320\" height=\"240\"><div class=\"footer\">\xc1\xaa\xcf\xb5: library@exa\
     mple.cn</div>\n</body></html>\n";
 
-/// The page in Chinese of the mainland.
-pub const GBK: &[u8] = b"\
-    <!DOCTYPE html>\n<html lang=\"zh-CN\"><head><meta charset=\"utf-8\"><title>\xcd\xbc\xca\xe9\xb9\
-    \xdd\xcd\xa8\xd1\xb6</title></head>\n<body><ul class=\"menu\"><li><a href=\"/library/index.html\
-    \">\xbc\xf2\xbd\xe9</a></li><li><a href=\"/library/search.html\">\xb2\xe9\xca\xe9</a></li></ul>\
-    \n<h1 id=\"news\">\xd0\xc2\xcd\xbc\xca\xe9\xb9\xdd</h1>\n<p class=\"lead\">\xc0\xeb\xb3\xb5\xd5\
-    \xbe<b>5\xb7\xd6\xd6\xd3</b>\xb5\xc4\xb5\xd8\xb7\xbd<a href=\"https://www.example.cn/map?zoom=1\
-    5\">\xbf\xaa\xb9\xdd</a>\xa1\xa3</p>\n<table class=\"hours\"><tr><td>\xd0\xc7\xc6\xda\xd2\xbb</\
-    td><td align=\"right\">10:00-18:00</td></tr><tr><td>\xd0\xc7\xc6\xda\xc1\xf9</td><td align=\"ri\
-    ght\">10:00-20:00</td></tr></table>\n<img src=\"/images/reading-room.png\" alt=\"\xd4\xc4\xc0\
-    \xc0\xca\xd2\" width=\"320\" height=\"240\"><div class=\"footer\">\xc1\xaa\xcf\xb5: library@exa\
-    mple.cn</div>\n</body></html>\n";
+/// The page in Chinese of the mainland: all its characters have two bytes, as in gb18030.
+pub const GBK: &[u8] = GB18030;
