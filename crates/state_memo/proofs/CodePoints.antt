@@ -1,17 +1,13 @@
 -- Texts whose code points are items without gaps.
 use Rattle.std.proofs.Common.{◌≡◌, refl, sym, ap, subst, ◌∙◌, ℕ, suc, ◌+◌, ◌*◌, ◌≤◌, List, [], ◌∷◌, ◌++◌, append_assoc, length, fold, arith, ℤ, pos, ◌+ℤ◌, ◌-ℤ◌, Bool, true, false, cond, nat_lt}
-use Rattle.std.proofs.lemmas.Grind.{fold-append}
 use Rattle.std.proofs.lemmas.Int.{ints}
-use Rattle.std.proofs.lemmas.Str.{chars_past_char, len_utf8_bounds}
-use Rattle.std.proofs.Math.Utf8.{encode}
+use Rattle.std.proofs.lemmas.Str.{len_utf8_bounds}
 use Rattle.std.specs.Char.{len_utf8}
-use Rattle.std.specs.Str.{chars, IsUtf8}
 use Rattle.lane_utf.specs.Widths.{utf8_width, utf16_width, total_width}
 use Rattle.decoder_core.specs.declared.bulk.Stride.{Stride}
 use Rattle.decoder_core.specs.declared.bulk.Stride.TheVariants.{Utf8, Utf16, Pairs, Bytes}
 use Rattle.decoder_core.specs.declared.item.Item.TheVariants.{One}
-use Rattle.decoder_core.specs.Bulk.{width_of, run_width, plain_from, plain_to}
-use Rattle.decoder_core.specs.Shown.{Shown}
+use Rattle.decoder_core.specs.Bulk.{width_of, run_width, plain_from}
 use Rattle.iso2022jp.specs.declared.output.OutputState.{OutputState}
 use Rattle.state_memo.specs.declared.ended.Ended.{Ended}
 use Rattle.state_memo.specs.declared.kind.ItemKind.{ItemKind}
@@ -62,7 +58,7 @@ even-of : (stride : Stride) (width : ℕ) → ((c : ℕ) (cs : List ℕ) → run
 even-of stride width wide [] e = tt
 even-of stride width wide (c ∷ cs) e = let w = wide c cs e in (w.first, even-of stride width wide cs w.rest)
 
-even-run : (stride : Stride) (width : ℕ) (cs : List ℕ) → IsEven stride width cs → run_width stride cs ≡ length cs * width
+pub even-run : (stride : Stride) (width : ℕ) (cs : List ℕ) → IsEven stride width cs → run_width stride cs ≡ length cs * width
 even-run stride width [] e = omega arith
 even-run stride width (c ∷ cs) e =
     let rest = even-run stride width cs e.1 in
@@ -70,7 +66,7 @@ even-run stride width (c ∷ cs) e =
     omega (arith, e.0, rest, more)
 
 module _ (stride : Stride) (width : ℕ) (kind : ItemKind) (output : OutputState) (one : (c : ℕ) (end : ℤ) → item_of_kind kind end ≡ kept_item (One c) end output) where
-  even-from : (from : ℤ) (cs : List ℕ) → IsEven stride width cs
+  pub even-from : (from : ℤ) (cs : List ℕ) → IsEven stride width cs
       → plain_items_from stride from output cs ≡ items_until kind width (from +ℤ pos (length cs * width)) (length cs)
   even-from from [] e = refl
   even-from from (c ∷ cs) e =
@@ -127,47 +123,6 @@ units-wide c cs e =
     let rest = at-least-two cs in
     record { first = omega (arith, e, some, rest); rest = omega (arith, e, some, rest) }
 
-pair-some : (c : ℕ) → 1 ≤ width_of Pairs c
-pair-some c = at_least_one (nat_lt c 0x80)
-  where
-    at_least_one : (t : Bool) → 1 ≤ cond t 1 2
-    at_least_one true = omega arith
-    at_least_one false = omega arith
-
-at-least-one : (cs : List ℕ) → length cs ≤ run_width Pairs cs
-at-least-one [] = omega arith
-at-least-one (c ∷ cs) = omega (arith, at-least-one cs, pair-some c)
-
-pair-most : (c : ℕ) → width_of Pairs c ≤ 2
-pair-most c = at_most_two (nat_lt c 0x80)
-  where
-    at_most_two : (t : Bool) → cond t 1 2 ≤ 2
-    at_most_two true = omega arith
-    at_most_two false = omega arith
-
-at-most-twice : (cs : List ℕ) → run_width Pairs cs ≤ 2 * length cs
-at-most-twice [] = omega arith
-at-most-twice (c ∷ cs) = omega (arith, at-most-twice cs, pair-most c)
-
--- as many bytes as code points, and twice as many
-one-wide : (c : ℕ) (cs : List ℕ) → run_width Pairs (c ∷ cs) ≡ 1 * length (c ∷ cs) → AllWide Pairs 1 c cs
-one-wide c cs e =
-    let some = pair-some c in
-    let rest = at-least-one cs in
-    record { first = omega (arith, e, some, rest); rest = omega (arith, e, some, rest) }
-
-two-wide : (c : ℕ) (cs : List ℕ) → run_width Pairs (c ∷ cs) ≡ 2 * length (c ∷ cs) → AllWide Pairs 2 c cs
-two-wide c cs e =
-    let most = pair-most c in
-    let rest = at-most-twice cs in
-    record { first = omega (arith, e, most, rest); rest = omega (arith, e, most, rest) }
-
-pub pairs-one : (cs : List ℕ) (width count : ℕ) → width ≡ run_width Pairs cs → count ≡ length cs → width ≡ count → IsEven Pairs 1 cs
-pairs-one cs width count width_is count_is same = even-of Pairs 1 one-wide cs (omega (arith, width_is, count_is, same))
-
-pub pairs-two : (cs : List ℕ) (width count : ℕ) → width ≡ run_width Pairs cs → count ≡ length cs → width ≡ 2 * count → IsEven Pairs 2 cs
-pairs-two cs width count width_is count_is same = even-of Pairs 2 two-wide cs (omega (arith, width_is, count_is, same))
-
 pub utf8-even : (stride : Stride) (text cs : List ℕ) (n : ℕ) → stride ≡ Utf8 → length text ≡ total_width utf8_width cs → length text ≡ n → n ≡ length cs → IsEven stride 1 cs
 utf8-even stride text cs n e width same count =
     subst (λ (t : Stride). IsEven t 1 cs) (sym e) (even-of Utf8 1 ascii-wide cs (omega (arith, utf8-run cs, width, same, count)))
@@ -175,6 +130,29 @@ utf8-even stride text cs n e width same count =
 pub utf16-even : (stride : Stride) (cs : List ℕ) (n units : ℕ) → stride ≡ Utf16 → units ≡ total_width utf16_width cs → units ≡ n → n ≡ length cs → IsEven stride 2 cs
 utf16-even stride cs n units e units_is same count =
     subst (λ (t : Stride). IsEven t 2 cs) (sym e) (even-of Utf16 2 units-wide cs (omega (arith, utf16-run cs, units_is, same, count)))
+
+one-pair : (c : ℕ) → width_of Utf8 c ≡ 1 → width_of Pairs c ≡ 1
+one-pair c e = by_first (nat_lt c 0x80) _ (two_more (nat_lt c 0x800) (nat_lt c 0x10000)) e
+  where
+    two_more : (a b : Bool) → 2 ≤ cond a 2 (cond b 3 4)
+    two_more true b = omega arith
+    two_more false true = omega arith
+    two_more false false = omega arith
+
+    first : Bool → ℕ → ℕ
+    first ascii more = cond ascii 1 more
+
+    by_first : (ascii : Bool) (more : ℕ) → 2 ≤ more → first ascii more ≡ 1 → first ascii 2 ≡ 1
+    by_first true more h e = refl
+    by_first false more h e = absurd (omega (arith, h, e))
+
+ascii-pairs : (cs : List ℕ) → IsEven Utf8 1 cs → IsEven Pairs 1 cs
+ascii-pairs [] e = tt
+ascii-pairs (c ∷ cs) e = (one-pair c e.0, ascii-pairs cs e.1)
+
+pub ascii-even : (stride : Stride) (text cs : List ℕ) (n : ℕ) → stride ≡ Pairs → length text ≡ total_width utf8_width cs → length text ≡ n → n ≡ length cs → IsEven stride 1 cs
+ascii-even stride text cs n e width same count =
+    subst (λ (t : Stride). IsEven t 1 cs) (sym e) (ascii-pairs cs (even-of Utf8 1 ascii-wide cs (omega (arith, utf8-run cs, width, same, count))))
 
 bytes-by : (cs : List ℕ) → IsEven Bytes 1 cs
 bytes-by [] = tt
@@ -197,40 +175,3 @@ even-is stride kind output one end last step more cs all last_is count =
     ap (λ (n : ℕ). items_until kind step last n) count
     ∙ ap (λ (l : ℤ). items_until kind step l (length cs)) last_is
     ∙ even stride step kind output (λ c l. one l) end cs all
-
--- ---- one code point after the other
-
--- the item that is shown next
-abbrev pub shown-next : {S : Type 0} → Stride → ℤ → S → ℕ → List ℕ → Shown S
-shown-next stride end after c rest = record { item = One c; end = end -ℤ pos (run_width stride rest); after = after }
-
-plain-first : {S : Type 0} (stride : Stride) (end : ℤ) (after : S) (c : ℕ) (cs : List ℕ)
-    → plain_to stride end after (c ∷ cs) ≡ shown-next stride end after c cs ∷ plain_to stride end after cs
-plain-first stride end after c cs =
-    let behind : (end -ℤ pos (width_of stride c + run_width stride cs)) +ℤ pos (width_of stride c) ≡ end -ℤ pos (run_width stride cs) = omega (arith, ints) in
-    ap (λ (z : ℤ). record { item = One c; end = z; after = after } ∷ plain_from stride z after cs) behind
-
-pub next-place : (stride : Stride) (end at next : ℤ) (text rest : List ℕ) (c w : ℕ) → IsUtf8 text → text ≡ encode c ++ rest → at ≡ end -ℤ pos (run_width stride (chars text)) → w ≡ width_of stride c
-    → next ≡ at +ℤ pos w → next ≡ end -ℤ pos (run_width stride (chars rest))
-next-place stride end at next text rest c w spelt parts at_is w_is next_is =
-    let first = ap (λ (cs : List ℕ). run_width stride cs) (chars_past_char text rest c spelt parts) in
-    omega (arith, ints, first, at_is, w_is, next_is)
-
-module _ {S : Type 0} (output : S → OutputState) (stride : Stride) (end : ℤ) (after : S) (text rest : List ℕ) (c : ℕ) (spelt : IsUtf8 text) (parts : text ≡ encode c ++ rest) where
-  pub next-whole : (front whole : List (Shown S)) → whole ≡ front ++ plain_to stride end after (chars text)
-      → whole ≡ (front ++ shown-next stride end after c (chars rest) ∷ []) ++ plain_to stride end after (chars rest)
-  next-whole front whole whole_is =
-      whole_is
-      ∙ ap (λ (cs : List ℕ). front ++ plain_to stride end after cs) (chars_past_char text rest c spelt parts)
-      ∙ ap (λ (xs : List (Shown S)). front ++ xs) (plain-first stride end after c (chars rest))
-      ∙ sym (append_assoc front (shown-next stride end after c (chars rest) ∷ []) (plain_to stride end after (chars rest)))
-
-  pub next-gathered : (given : ℕ) (at : ℤ) (o : OutputState) (old now new : Gathered) (front : List (Shown S)) → now ≡ fold (with_shown output) old front → given ≡ c → at ≡ end -ℤ pos (run_width stride (chars rest))
-      → o ≡ output after → new ≡ with_item now (One given) at o → new ≡ fold (with_shown output) old (front ++ shown-next stride end after c (chars rest) ∷ [])
-  next-gathered given at o old now new front now_is same at_is o_is new_is =
-      new_is
-      ∙ ap (λ (n : ℕ). with_item now (One n) at o) same
-      ∙ ap (λ (l : ℤ). with_item now (One c) l o) at_is
-      ∙ ap (λ (p : OutputState). with_item now (One c) (end -ℤ pos (run_width stride (chars rest))) p) o_is
-      ∙ ap (λ (g : Gathered). with_shown output g (shown-next stride end after c (chars rest))) now_is
-      ∙ sym (fold-append (with_shown output) old front (shown-next stride end after c (chars rest) ∷ []))

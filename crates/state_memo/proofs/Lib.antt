@@ -1,11 +1,14 @@
+pub mod AsciiBytes
 pub mod CodePoints
 pub mod Counted
 pub mod Fitting
 pub mod Gathered
 pub mod Joining
+pub mod Leads
 pub mod Lifted
 pub mod Marks
 pub mod Numbers
 pub mod Places
 pub mod Splitting
+pub mod Stretches
 pub mod Walks

@@ -130,8 +130,8 @@ first-read text bytes b spelt same e = first-is bytes b (sym e) ∙ ap begins_lf
 pub none-read : (text bytes : List ℕ) → IsUtf8 text → bytes ≡ text → None ≡ slice_get bytes 0 → false ≡ begins_lf (chars text)
 none-read text bytes spelt same e = first-none bytes (sym e) ∙ ap begins_lf same ∙ first-lf text spelt
 
-pub last-read : (text bytes : List ℕ) (b : ℕ) → IsUtf8 text → bytes ≡ text → Some b ≡ slice_get bytes (length bytes - 1) → (b == cr) ≡ ends_cr false (chars text)
-last-read text bytes b spelt same e = sym (ends-last false bytes b (sym e)) ∙ ap (ends_cr false) same ∙ ends-bytes false text spelt
+pub last-read : (f : Bool) (text bytes : List ℕ) (b : ℕ) → IsUtf8 text → bytes ≡ text → Some b ≡ slice_get bytes (length bytes - 1) → (b == cr) ≡ ends_cr f (chars text)
+last-read f text bytes b spelt same e = sym (ends-last f bytes b (sym e)) ∙ ap (ends_cr f) same ∙ ends-bytes f text spelt
 
-pub none-last : (text bytes : List ℕ) → IsUtf8 text → bytes ≡ text → None ≡ slice_get bytes (length bytes - 1) → false ≡ ends_cr false (chars text)
-none-last text bytes spelt same e = sym (ends-none false bytes (sym e)) ∙ ap (ends_cr false) same ∙ ends-bytes false text spelt
+pub none-last : (f : Bool) (text bytes : List ℕ) → IsUtf8 text → bytes ≡ text → None ≡ slice_get bytes (length bytes - 1) → f ≡ ends_cr f (chars text)
+none-last f text bytes spelt same e = sym (ends-none f bytes (sym e)) ∙ ap (ends_cr f) same ∙ ends-bytes f text spelt

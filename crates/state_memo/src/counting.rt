@@ -1,5 +1,5 @@
 //! Numbers of a text and its items.
-ghost use Rattle.std.specs.Prelude.{◌≡◌, ◌<◌, ◌^◌, length, false};
+ghost use Rattle.std.specs.Prelude.{◌≡◌, length};
 ghost use Rattle.std.specs.Str.{chars};
 ghost use Rattle.lane_ascii.specs.Marks.{marks, ends_cr};
 ghost use Rattle.state_memo.specs.Items.{errors_in, all_scalars};
@@ -22,21 +22,21 @@ pub(crate) fn sum_of(bytes: usize, text: &str, items: &ItemRuns) -> Sum
         utf16: count_utf16(text) as u64,
         utf8: text.len() as u64,
         errors: items.count_errors(),
-        marks: count_marks(text) as u64,
+        marks: count_marks(text, false),
         lf_first: begins_lf(text),
-        cr_last: ends_cr(text),
+        cr_last: ends_cr(text, false),
     }
 }
 
-/// The number of line marks.
-fn count_marks(text: &str) -> usize
-    ensures { result ≡ marks false (chars text.now) }
+/// The number of line marks, where `after_cr` says that a CR stands in front of the text.
+pub fn count_marks(text: &str, after_cr: bool) -> u64
+    ensures { result ≡ marks after_cr (chars text.now) }
 {
-    count_line_ends(text.as_bytes(), false)
+    count_line_ends(text.as_bytes(), after_cr) as u64
 }
 
 /// Whether the text begins with LF.
-fn begins_lf(text: &str) -> bool
+pub fn begins_lf(text: &str) -> bool
     ensures { result ≡ begins_lf (chars text.now) }
 {
     match text.as_bytes().first() {
@@ -45,12 +45,12 @@ fn begins_lf(text: &str) -> bool
     }
 }
 
-/// Whether the text ends in CR.
-fn ends_cr(text: &str) -> bool
-    ensures { result ≡ ends_cr false (chars text.now) }
+/// Whether the text ends in CR, where `after_cr` says so of what stands in front of it.
+pub fn ends_cr(text: &str, after_cr: bool) -> bool
+    ensures { result ≡ ends_cr after_cr (chars text.now) }
 {
     match text.as_bytes().last() {
         Some(byte) => *byte == b'\r',
-        None => false,
+        None => after_cr,
     }
 }

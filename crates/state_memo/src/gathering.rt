@@ -13,11 +13,10 @@ use crate::items::OpenRuns;
 use crate::kind::ItemKind;
 use crate::outcome::{Outcome, Text};
 use crate::outputs::Outputs;
-use crate::plain::{even_run, first_place, item_width};
+use crate::plain::{even_front, even_run, first_place, run_from};
 use crate::run::Run;
 use codec::{AnyState, TextBlocks};
 use decoder_core::{Ended, Item, OutOfMemory, Sink, Stride};
-use enc_names::Scalar;
 use iso2022jp::OutputState;
 use std::alloc::{AllocError, Global};
 use std::marker::Model;
@@ -136,13 +135,14 @@ impl<S: Outputs> Sink<S> for Gathering {
         let Some(mut at) = first_place(text, end, stride) else {
             return Err(AllocError);
         };
-        let mut rest = text.chars();
-        'rest: while let Some(c) = rest.next() {
-            let Some(next) = at.checked_add(item_width(stride, c)) else {
+        let mut rest = text;
+        'rest: while let Some(front) = even_front(rest, stride) {
+            let Some(run) = run_from(at, front.width, front.more, output) else {
                 return Err(AllocError);
             };
-            self.take(Item::One(Scalar::from(c)), next, output)?;
-            at = next;
+            self.take_run(front.text, run)?;
+            at = i64::from(run.last);
+            rest = front.behind;
         }
         Ok(())
     }

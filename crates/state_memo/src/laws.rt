@@ -1,5 +1,7 @@
 //! The laws by which pieces in a row make up a document.
-ghost use Rattle.std.specs.Prelude.{◌≡◌, ℕ, ◌≤◌, ◌+◌, ◌<◌, ◌^◌, ◌++◌, true, List, [], length};
+ghost use Rattle.std.specs.Prelude.{◌≡◌, ℕ, Bool, ◌≤◌, ◌+◌, ◌<◌, ◌^◌, ◌++◌, true, List, [], length};
+ghost use Rattle.std.specs.Str.{chars, IsUtf8};
+ghost use Rattle.lane_ascii.specs.Marks.{marks, ends_cr};
 ghost use Rattle.decoder_core.specs.Queue.{feed, run, further};
 ghost use Rattle.decoder_core.specs.Shown.{shown_from, shown_items, ended_at};
 ghost use Rattle.codec.specs.Any.{any};
@@ -48,4 +50,11 @@ pub fn piece_laws(_decoder: &AnyDecoder<'_>)
 /// decoder; the call does nothing.
 pub fn sum_laws()
     ensures joined { (a b : List ℕ) (is js : List Ended) (s t : Sum) → IsSumOf a is s → IsSumOf b js t → IsSumOf (a ++ b) (is ++ js) (joined s t) }
+{}
+
+/// The laws by which the line marks of a text's bytes are those of its code points, and a CR stands
+/// last in both or in neither; the call does nothing.
+pub fn mark_laws()
+    ensures marks { (f : Bool) (bytes : List ℕ) → IsUtf8 bytes → marks f bytes ≡ marks f (chars bytes) }
+    ensures ends { (f : Bool) (bytes : List ℕ) → IsUtf8 bytes → ends_cr f bytes ≡ ends_cr f (chars bytes) }
 {}

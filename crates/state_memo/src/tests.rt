@@ -147,6 +147,63 @@ fn letters_are_one_run(rt: HostRuntime) -> Result<(), Fail> {
     has_one_run(&rt, rt.alloc(), Encoding::Utf16Le, &[0x61; 2048], last)
 }
 
+/// The items of a piece that is entered behind the first two bytes of itself are code points that
+/// end there, in so many runs.
+fn has_ends(
+    rt: &impl Abort,
+    alloc: Global,
+    encoding: Encoding,
+    bytes: &[u8],
+    ends: &[i64],
+    runs: usize,
+) -> Result<(), Fail> {
+    let indexes = small_indexes(alloc)?;
+    let decoder = AnyDecoder::new(&indexes, encoding).ok_or(CodecFault::NoIndex)?;
+    let (front, _) = bytes.split_at(bytes.len().min(2));
+    let before = Piece::new(alloc, front)?.compute(&decoder, start_of(&decoder), &mut meter())?;
+    let here = Piece::new(alloc, bytes)?.compute(&decoder, before.exit, &mut meter())?;
+    for (k, end) in ends.iter().enumerate() {
+        let item = Ended {
+            scalars: 1,
+            end: *end,
+            error: false,
+            output: OutputState::Ascii,
+        };
+        assert_eq!(rt; here.items.get(k as u64), Some(item), "item {k}");
+    }
+    assert_eq!(rt; here.items.get(ends.len() as u64), None);
+    assert_eq!(rt; here.items.runs().len(), runs);
+    Ok(())
+}
+
+#[test]
+fn stretches_of_one_width_are_runs(rt: HostRuntime) -> Result<(), Fail> {
+    let cases: [(Encoding, &[u8], &[i64], usize); 3] = [
+        (
+            Encoding::ShiftJis,
+            b"ab\x82\xA0\x88\x9F\x82\xA0cde",
+            &[1, 2, 4, 6, 8, 9, 10, 11],
+            3,
+        ),
+        (
+            Encoding::Utf8,
+            "ab\u{E9}\u{E9}\u{20AC}\u{20AC}\u{1F600}\u{1F600}\u{20AC}\u{20AC}cd".as_bytes(),
+            &[1, 2, 4, 6, 9, 12, 16, 20, 23, 26, 27, 28],
+            6,
+        ),
+        (
+            Encoding::Utf16Le,
+            b"A\0B\0\x3D\xD8\0\xDE\x3D\xD8\0\xDEC\0D\0",
+            &[2, 4, 8, 12, 14, 16],
+            3,
+        ),
+    ];
+    for (encoding, bytes, ends, runs) in cases.iter() {
+        has_ends(&rt, rt.alloc(), *encoding, bytes, ends, *runs)?;
+    }
+    Ok(())
+}
+
 #[test]
 fn items_of_two_code_points(rt: HostRuntime) -> Result<(), Fail> {
     let alloc = rt.alloc();

@@ -1,5 +1,5 @@
 use Rattle.std.specs.Str.{chars}
-use Rattle.state_memo.proofs.CodePoints.{utf8-even, utf16-even, bytes-even}
+use Rattle.state_memo.proofs.CodePoints.{utf8-even, utf16-even, ascii-even, bytes-even}
 use Rattle.state_memo.proofs.Numbers.{width-chars}
 use Rattle.state_memo.proofs.plain.even_width.Goals as goal
 
@@ -13,3 +13,7 @@ returns-in-Utf16 c =
 
 pub returns-in-Bytes : goal.returns-in-Bytes
 returns-in-Bytes c = bytes-even c.args.stride (chars c.args.text.now) c.in-Bytes.is
+
+pub returns-in-Pairs : goal.returns-in-Pairs
+returns-in-Pairs c =
+    ascii-even c.args.stride c.args.text.now (chars c.args.text.now) c.count_scalars-count.result c.in-Pairs.is (width-chars c.args.text.now c.utf8.text) c.if-text-count-2.true c.count_scalars-count.ensures
