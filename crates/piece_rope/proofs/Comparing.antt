@@ -1,5 +1,5 @@
 -- A text is the wanted one exactly where the code points are that an edit can have changed.
-use Rattle.std.proofs.Common.{◌≡◌, ◌≢◌, refl, sym, ap, ◌∙◌, ℕ, zero, suc, ◌+◌, ◌-◌, ◌<◌, ◌≤◌, List, [], ◌∷◌, ◌++◌, take, drop, length, slice_get, Bool, true, false, Option, Some, None, is_some, inl, inr, Decides, IfSome, arith, append_assoc, append-nil, length-append, length-drop, take-append-drop}
+use Rattle.std.proofs.Common.{◌≡◌, refl, sym, ap, ◌∙◌, ℕ, zero, suc, ◌+◌, ◌-◌, ◌≤◌, List, [], ◌∷◌, ◌++◌, take, drop, length, slice_get, Bool, Option, Some, None, is_some, inl, inr, Decides, IfSome, arith, append_assoc, length-append, length-drop, take-append-drop}
 use Rattle.std.specs.Option.{IfNone}
 use Rattle.std.specs.Str.{encode_utf8_all}
 use Rattle.std.proofs.lemmas.List.{append_cancel_left, length-take-le, drop-drop}
@@ -7,13 +7,11 @@ use Rattle.std.proofs.lemmas.Str.{encodes-append, encode_same}
 use Rattle.std.proofs.Math.Seq.{drop-append-add}
 use Rattle.std.proofs.Math.Utf8.{encode}
 use Rattle.state_memo.specs.declared.outcome.Outcome.{Outcome}
-use Rattle.piece_rope.specs.declared.edit.Edit.{Edit}
 use Rattle.piece_rope.specs.declared.span.Span.{Span}
 use Rattle.piece_rope.specs.Compare.{IsSpan, wanted}
-use Rattle.piece_rope.specs.Edit.{edited}
 use Rattle.piece_rope.specs.Edits.{replaced}
-use Rattle.piece_rope.specs.Entry.{Entry, here_of, texts_of}
-use Rattle.piece_rope.specs.Parts.{parts_of, text_in, edited_parts, made_pieces, IsPrepared}
+use Rattle.piece_rope.specs.Entry.{Entry, here_of}
+use Rattle.piece_rope.specs.Parts.{parts_of, text_in}
 use Rattle.piece_rope.proofs.Measuring.{low_or_high}
 use Rattle.piece_rope.proofs.Parting.{got, parts-text, parts-get, parts-length, text-append, text-next}
 use Rattle.piece_rope.proofs.Spanning.{parts-drop}

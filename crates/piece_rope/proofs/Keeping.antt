@@ -58,11 +58,11 @@ new-rope d start exit bytes ps start_is own chain exit_is small wide few = recor
   };
 }
 
-pub exchanged-length : (bytes ins : List ℕ) (at del start to : ℕ) → start ≡ at → to ≡ at + del → length (exchanged bytes start to ins) ≡ length (spliced bytes at del ins)
-exchanged-length bytes ins at del start to start_is to_is =
-    ap (λ (n : ℕ). length (take n bytes ++ (ins ++ drop to bytes))) start_is
-    ∙ ap (λ (n : ℕ). length (take at bytes ++ (ins ++ drop n bytes))) to_is
-    ∙ ap length (sym (append_assoc (take at bytes) ins (drop (at + del) bytes)))
+pub exchanged-bytes : (bytes ins : List ℕ) (at del start to : ℕ) → start ≡ at → to ≡ at + del → exchanged bytes start to ins ≡ spliced bytes at del ins
+exchanged-bytes bytes ins at del start to start_is to_is =
+    ap (λ (n : ℕ). take n bytes ++ (ins ++ drop to bytes)) start_is
+    ∙ ap (λ (n : ℕ). take at bytes ++ (ins ++ drop n bytes)) to_is
+    ∙ sym (append_assoc (take at bytes) ins (drop (at + del) bytes))
 
 -- what is said of a decoder that is there
 pub decoder-known : {A : Type 0} (P : A → Type 0) {x : A} (o : Option A) → o ≡ Some x → IfSome o P → P x

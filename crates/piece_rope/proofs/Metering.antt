@@ -17,7 +17,7 @@ new-front bytes ins at to m l =
     ap (λ (k : ℕ). take k ((take at bytes ++ ins) ++ drop to bytes)) (sym long)
     ∙ take-append-add (take at bytes ++ ins) (drop to bytes) m
 
-pub metered-splice : (doc : Document) (d : OwnDecoder) (at del to old new : ℕ) (ins : List ℕ) (chosen : Option OwnDecoder) → chosen ≡ Some d
+metered-splice : (doc : Document) (d : OwnDecoder) (at del to old new : ℕ) (ins : List ℕ) (chosen : Option OwnDecoder) → chosen ≡ Some d
     → IfSome chosen (λ (e : OwnDecoder). (bytes : List ℕ) → (feed (any e) (any_start e) bytes).state ≡ state_behind doc.indexes doc.given bytes)
     → at + del ≤ length doc.bytes → to ≡ at + del → Metered d doc.bytes at to ins old new
     → (m : ℕ) → Resyncs doc at del ins m → new ≤ old + (length ins + m + 4 * 2048)
@@ -35,10 +35,14 @@ metered-splice doc d at del to old new ins chosen chosen_is behind within to_is 
     ∙ ap (λ (bs : List ℕ). state_behind doc.indexes doc.given bs) cut
     ∙ sym (same (take to B ++ take m (drop to B))))
 
-pub metered-doc : (doc self : Document) → doc ≡ self → (d : OwnDecoder) (at del start to old new : ℕ) (ins : List ℕ) (chosen : Option OwnDecoder) → chosen ≡ Some d
+pub metered-cut : (doc : Document) (d : OwnDecoder) (at del start to old new : ℕ) (ins : List ℕ) (chosen : Option OwnDecoder) → chosen ≡ Some d
     → IfSome chosen (λ (e : OwnDecoder). (bytes : List ℕ) → (feed (any e) (any_start e) bytes).state ≡ state_behind doc.indexes doc.given bytes)
     → at + del ≤ length doc.bytes → start ≡ at → to ≡ at + del → Metered d doc.bytes start to ins old new
+    → (m : ℕ) → Resyncs doc at del ins m → new ≤ old + (length ins + m + 4 * 2048)
+metered-cut doc d at del start to old new ins chosen chosen_is behind within start_is to_is metered =
+    metered-splice doc d at del to old new ins chosen chosen_is behind within to_is (subst (λ (k : ℕ). Metered d doc.bytes k to ins old new) start_is metered)
+
+-- the same of the document that contracts see
+pub metered-as : (doc self : Document) → doc ≡ self → (at del old new : ℕ) (ins : List ℕ) → ((m : ℕ) → Resyncs doc at del ins m → new ≤ old + (length ins + m + 4 * 2048))
     → (m : ℕ) → Resyncs self at del ins m → new ≤ old + (length ins + m + 4 * 2048)
-metered-doc doc self same d at del start to old new ins chosen chosen_is behind within start_is to_is metered =
-    subst (λ (x : Document). (m : ℕ) → Resyncs x at del ins m → new ≤ old + (length ins + m + 4 * 2048)) same
-    (metered-splice doc d at del to old new ins chosen chosen_is behind within to_is (subst (λ (k : ℕ). Metered d doc.bytes k to ins old new) start_is metered))
+metered-as doc self same at del old new ins metered = subst (λ (x : Document). (m : ℕ) → Resyncs x at del ins m → new ≤ old + (length ins + m + 4 * 2048)) same metered

@@ -1,5 +1,5 @@
 -- The parts of a document, one by one.
-use Rattle.std.proofs.Common.{◌≡◌, refl, sym, ap, ◌∙◌, ℕ, zero, suc, ◌+◌, ◌<◌, ◌≤◌, List, [], ◌∷◌, ◌++◌, map, take, drop, length, slice_get, Option, Some, None, arith, append_assoc, length-append, length-drop, take-append-drop, append-nil, add-one}
+use Rattle.std.proofs.Common.{◌≡◌, refl, sym, ap, ◌∙◌, ℕ, zero, suc, ◌+◌, ◌<◌, ◌≤◌, List, [], ◌∷◌, ◌++◌, take, drop, length, slice_get, Some, None, arith, append_assoc, length-append, length-drop, take-append-drop, append-nil, add-one}
 use Rattle.std.proofs.lemmas.Grind.{flat_map-append}
 use Rattle.std.proofs.lemmas.List.{length-take-le, drop-drop}
 use Rattle.std.proofs.lemmas.Option.{slice_get_past}
@@ -9,7 +9,6 @@ use Rattle.state_memo.specs.declared.outcome.Outcome.{Outcome}
 use Rattle.piece_rope.specs.declared.edit.Edit.{Edit}
 use Rattle.piece_rope.specs.declared.entered.Renewal.{Renewal}
 use Rattle.piece_rope.specs.Chain.{renew, renewed}
-use Rattle.piece_rope.specs.Compare.{rest_of}
 use Rattle.piece_rope.specs.Edit.{edited}
 use Rattle.piece_rope.specs.Entry.{Entry, here_of, texts_of}
 use Rattle.piece_rope.specs.Parts.{parts_of, text_in, edited_parts, later_parts, made_pieces, IsPrepared}

@@ -1,9 +1,8 @@
 -- The code points that an edit can have changed.
-use Rattle.std.proofs.Common.{◌≡◌, refl, sym, ap, ◌∙◌, ℕ, zero, suc, ◌+◌, ◌-◌, ◌<◌, ◌≤◌, List, [], ◌∷◌, ◌++◌, take, drop, length, map, arith, append_assoc, append-nil, length-append, length-drop, take-append-drop}
+use Rattle.std.proofs.Common.{◌≡◌, refl, sym, ap, ◌∙◌, ℕ, zero, suc, ◌+◌, ◌-◌, ◌≤◌, List, [], ◌∷◌, ◌++◌, take, drop, length, arith, append_assoc, append-nil, length-append, take-append-drop}
 use Rattle.std.proofs.lemmas.List.{length-take-le, drop-drop, take-append-le}
 use Rattle.state_memo.specs.declared.outcome.Outcome.{Outcome}
 use Rattle.piece_rope.specs.declared.edit.Edit.{Edit}
-use Rattle.piece_rope.specs.declared.span.Span.{Span}
 use Rattle.piece_rope.specs.Compare.{IsSpan}
 use Rattle.piece_rope.specs.Edit.{edited}
 use Rattle.piece_rope.specs.Entry.{Entry, here_of, texts_of}

@@ -9,9 +9,11 @@ pub mod ErrorCount
 pub mod Errors
 pub mod Examples
 pub mod Kept
+pub mod KeptExamples
 pub mod Made
 pub mod Outputs
 pub mod Parts
 pub mod Resync
 pub mod Sizes
+pub mod Splice
 pub mod Window

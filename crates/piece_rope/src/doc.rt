@@ -12,15 +12,15 @@ ghost use Rattle.piece_rope.specs.Sizes.{AreSized, AreCounted, shortest};
 mod kept;
 
 use crate::bytes::push_bytes;
-use crate::edit::{Edit, prepare};
 use crate::entered::Entered;
 use crate::errors::{errors_between, nth_error};
 use crate::fault::DocFault;
 use crate::fresh::{Fresh, fresh_pieces};
-use crate::install::install;
+use crate::install::install_edit;
 use crate::lengths::{Lengths, whole_sum};
-use crate::limits::{DOCUMENT_LIMIT, checked_cut, checked_part};
+use crate::limits::{DOCUMENT_LIMIT, checked_part};
 use crate::pieces::{Pieces, built, first_bytes};
+use crate::splice::prepare_splice;
 use crate::text::text_between;
 use enc_names::{Encoding, Place};
 use index_loader::Indexes;
@@ -118,21 +118,12 @@ impl<'i> Doc<'i> {
         ensures meter_most { (m : ℕ) → Resyncs self.old at del ins.now m → meter.new ≤ meter.old + (length ins.now + m + 4 * 2048) }
         ensures meter_refused { splice_fault self.old.bytes at del ins.now ≢ None → meter.new ≡ meter.old }
     {
-        let (at, to) = checked_cut(&self.pieces, at, del, ins)?;
-        let decoder = AnyDecoder::new(self.indexes, self.given).ok_or(DocFault::NoIndex)?;
-        piece_laws(&decoder);
-        let end = self.tail.exit;
-        let edit = prepare(self.alloc, &decoder, &self.pieces, end, at, to, ins, meter)?;
-        let Edit {
-            first,
-            last,
-            fresh,
-            renewals,
-            tail,
-        } = edit;
-        self.pieces.reserve(fresh.len())?;
-        install(&mut self.pieces, first, last, fresh, renewals);
-        self.tail = tail;
+        let (indexes, given) = (self.indexes, self.given);
+        let (pieces, tail) = (&self.pieces, &self.tail);
+        let edit = prepare_splice(
+            self.alloc, indexes, given, pieces, tail, at, del, ins, meter,
+        )?;
+        install_edit(&mut self.pieces, &mut self.tail, edit)?;
         Ok(())
     }
 

@@ -1,11 +1,14 @@
-//! Putting what was prepared in place; none of it takes memory.
-ghost use Rattle.std.specs.Prelude.{◌≡◌, ◌+◌, ◌≤◌, ◌<◌, ◌++◌, ◌∷◌, suc, length, take, drop, slice_get, Some};
+//! Putting what was prepared in place: memory is taken first, and then none.
+ghost use Rattle.std.specs.Prelude.{◌≡◌, ◌+◌, ◌≤◌, ◌<◌, ◌++◌, ◌∷◌, suc, length, take, drop, slice_get, Some, OnOk, OnErr};
 ghost use Rattle.piece_rope.specs.Chain.{renew, renewed};
+ghost use Rattle.piece_rope.specs.Edit.{edited};
 ghost use Rattle.piece_rope.specs.Entry.{Entry};
 ghost use Rattle.piece_rope.specs.Sizes.{AreShort, CanJoin};
 
+use crate::edit::Edit;
 use crate::entered::{Entered, Renewal};
 use crate::pieces::{Pieces, put_piece, take_piece};
+use state_memo::{OutOfMemory, Outcome};
 
 /// Renews the piece at a place.
 fn renew_at(pieces: &mut Pieces, place: usize, renewal: Renewal)
@@ -67,7 +70,7 @@ fn insert_all(pieces: &mut Pieces, first: usize, fresh: Vec<Entered>)
 }
 
 /// Puts new pieces in the place of those at `first..last`, and renews the first of those behind.
-pub(crate) fn install(
+fn install(
     pieces: &mut Pieces,
     first: usize,
     last: usize,
@@ -84,4 +87,33 @@ pub(crate) fn install(
     renew_from(pieces, last, renewals);
     remove_range(pieces, first, last);
     insert_all(pieces, first, fresh);
+}
+
+/// Makes an edit: its pieces in place, and its end behind them. Where memory is refused nothing
+/// changes.
+pub(crate) fn install_edit(
+    pieces: &mut Pieces,
+    tail: &mut Outcome,
+    edit: Edit,
+) -> Result<(), OutOfMemory>
+    requires order { edit.first ≤ edit.last }
+    requires within { edit.last + length edit.renewals.items ≤ length pieces.old.items }
+    requires old { CanJoin pieces.old.items }
+    requires new { CanJoin (edited pieces.old.items edit) }
+    ensures pieces { OnOk result (pieces.new.items ≡ edited pieces.old.items edit) }
+    ensures tail { OnOk result (tail.new ≡ edit.tail) }
+    ensures pieces_kept { OnErr result (pieces.new.items ≡ pieces.old.items) }
+    ensures tail_kept { OnErr result (tail.new ≡ tail.old) }
+{
+    let Edit {
+        first,
+        last,
+        fresh,
+        renewals,
+        tail: end,
+    } = edit;
+    pieces.reserve(fresh.len())?;
+    install(pieces, first, last, fresh, renewals);
+    *tail = end;
+    Ok(())
 }

@@ -15,6 +15,8 @@ mod examples;
 mod fault;
 mod fresh;
 mod install;
+#[cfg(test)]
+mod kept_examples;
 mod later;
 mod lengths;
 mod limits;
@@ -22,6 +24,7 @@ mod pieces;
 mod rest;
 mod scalars;
 mod span;
+mod splice;
 #[cfg(test)]
 mod tests;
 mod text;

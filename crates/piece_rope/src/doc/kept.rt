@@ -4,12 +4,11 @@ ghost use Rattle.std.specs.Str.{chars};
 
 use crate::compare::keeps_text;
 use crate::doc::Doc;
-use crate::edit::{Edit, prepare};
 use crate::edited::Edited;
 use crate::fault::DocFault;
-use crate::install::install;
-use crate::limits::checked_cut;
-use state_memo::{AnyDecoder, Meter, piece_laws};
+use crate::install::install_edit;
+use crate::splice::prepare_splice;
+use state_memo::Meter;
 
 impl<'i> Doc<'i> {
     ghost use Rattle.piece_rope.specs.Edits.{KeptAnswers, is_kept, kept_fault, spliced_document};
@@ -40,28 +39,20 @@ impl<'i> Doc<'i> {
         if i > j || j > self.lengths().scalars {
             return Err(DocFault::OutOfRange);
         }
-        let (at, to) = checked_cut(&self.pieces, at, del, ins)?;
-        let decoder = AnyDecoder::new(self.indexes, self.given).ok_or(DocFault::NoIndex)?;
-        piece_laws(&decoder);
-        let end = self.tail.exit;
-        let edit = prepare(self.alloc, &decoder, &self.pieces, end, at, to, ins, meter)?;
+        let (indexes, given) = (self.indexes, self.given);
+        let (pieces, tail) = (&self.pieces, &self.tail);
+        let edit = prepare_splice(
+            self.alloc, indexes, given, pieces, tail, at, del, ins, meter,
+        )?;
         let edited = Edited {
-            pieces: &self.pieces,
+            pieces,
             edit: &edit,
         };
-        if !keeps_text(edited, &self.tail, i, j, text) {
+        let kept = keeps_text(edited, tail, i, j, text);
+        if !kept {
             return Err(DocFault::NotKept);
         }
-        let Edit {
-            first,
-            last,
-            fresh,
-            renewals,
-            tail,
-        } = edit;
-        self.pieces.reserve(fresh.len())?;
-        install(&mut self.pieces, first, last, fresh, renewals);
-        self.tail = tail;
+        install_edit(&mut self.pieces, &mut self.tail, edit)?;
         Ok(())
     }
 }

@@ -1,4 +1,4 @@
-use Rattle.std.proofs.Common.{◌≡◌, ◌+◌, ◌-◌, ◌≤◌, ◌++◌, ℕ, [], List, length, take, drop, ap, sym, ◌∙◌, arith, refl, append-nil}
+use Rattle.std.proofs.Common.{◌-◌, ◌++◌, ℕ, [], List, take, drop, ap, sym, ◌∙◌, arith, refl, append-nil}
 use Rattle.std.specs.Str.{chars, encode_utf8_all}
 use Rattle.std.proofs.lemmas.Option.{IfSome_then}
 use Rattle.std.proofs.lemmas.Str.{encodes-chars}

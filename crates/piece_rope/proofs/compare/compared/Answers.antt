@@ -1,8 +1,7 @@
-use Rattle.std.proofs.Common.{rules, ◌≡◌, ◌+◌, ◌-◌, ◌≤◌, ◌<◌, ◌++◌, ℕ, [], List, length, take, drop, ap, sym, ◌∙◌, arith, length-append, suc, refl, Bool, true, false, not}
+use Rattle.std.proofs.Common.{rules, ◌≡◌, ◌++◌, length, ap, ◌∙◌, arith, length-append, suc, refl, Bool, true, false, not}
 use Rattle.state_memo.specs.declared.sum.Sum.{Sum}
 use Rattle.state_memo.specs.Memo.{same_state}
 use Rattle.piece_rope.specs.Entry.{texts_of}
-use Rattle.piece_rope.specs.Parts.{parts_of, edited_parts, text_in}
 use Rattle.piece_rope.proofs.Parting.{parts-text}
 use Rattle.piece_rope.proofs.Spanning.{span-agreed, span-to-end, texts-grow}
 use Rattle.piece_rope.proofs.Texts.{text-place, sums-scalars}

@@ -1,8 +1,7 @@
-use Rattle.std.proofs.Common.{rules, ◌≡◌, ◌+◌, ◌-◌, ◌≤◌, ◌<◌, ℕ, List, length, take, drop, ap, sym, ◌∙◌, arith, Decides, length-append}
+use Rattle.std.proofs.Common.{rules, ◌≡◌, ◌+◌, ℕ, length, take, drop, ap, ◌∙◌, arith, length-append}
 use Rattle.std.proofs.lemmas.Bool.Decides.{Decides-eqb}
 use Rattle.state_memo.specs.declared.sum.Sum.{Sum}
 use Rattle.piece_rope.specs.Entry.{texts_of}
-use Rattle.piece_rope.specs.Parts.{made_pieces}
 use Rattle.piece_rope.proofs.Spanning.{edited-count}
 use Rattle.piece_rope.proofs.Parting.{texts-most}
 use Rattle.piece_rope.proofs.Texts.{sums-scalars, texts-split}

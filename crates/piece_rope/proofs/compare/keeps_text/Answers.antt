@@ -1,4 +1,4 @@
-use Rattle.std.proofs.Common.{rules, ◌≡◌, ◌+◌, ◌-◌, ◌≤◌, ◌<◌, ◌++◌, ℕ, List, length, take, drop, ap, sym, ◌∙◌, arith, length-append}
+use Rattle.std.proofs.Common.{◌≡◌, length, ap, ◌∙◌, arith, length-append}
 use Rattle.std.specs.Str.{chars}
 use Rattle.state_memo.specs.declared.sum.Sum.{Sum}
 use Rattle.piece_rope.specs.Compare.{rest_of}

@@ -1,9 +1,8 @@
-use Rattle.std.proofs.Common.{rules, ◌≡◌, ◌+◌, ◌≤◌, ◌<◌, ℕ, List, length, take, slice_get, Some, None, ap, sym, ◌∙◌, arith, option_copied}
-use Rattle.state_memo.specs.declared.outcome.Outcome.{Outcome}
-use Rattle.piece_rope.specs.Entry.{Entry, here_of, texts_of}
+use Rattle.std.proofs.Common.{rules, ◌≡◌, ◌+◌, length, slice_get, Some, None, ◌∙◌, arith}
+use Rattle.piece_rope.specs.Entry.{here_of}
 use Rattle.piece_rope.specs.Parts.{edited_parts, made_pieces}
 use Rattle.piece_rope.proofs.Matching.{if_none}
-use Rattle.piece_rope.proofs.Parting.{made-at, made-there, made-length, few-made, texts-next, texts-all, counted-off}
+use Rattle.piece_rope.proofs.Parting.{made-at, made-there, made-length, texts-next, texts-all, counted-off}
 use Rattle.piece_rope.proofs.compare.made_counted.Goals as goal
 
 pub unreachable-requires : goal.unreachable-requires

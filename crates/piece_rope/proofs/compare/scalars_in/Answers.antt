@@ -1,4 +1,4 @@
-use Rattle.std.proofs.Common.{rules, ◌≡◌, ap, ◌∙◌, take, ℕ}
+use Rattle.std.proofs.Common.{ap, ◌∙◌, take}
 use Rattle.state_memo.specs.declared.sum.Sum.{Sum}
 use Rattle.piece_rope.proofs.Texts.{sums-scalars}
 use Rattle.piece_rope.proofs.compare.scalars_in.Goals as goal

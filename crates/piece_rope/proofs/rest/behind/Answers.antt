@@ -1,8 +1,6 @@
-use Rattle.std.proofs.Common.{rules, ◌≡◌, ◌≢◌, ◌+◌, ◌-◌, ◌≤◌, ◌<◌, ◌++◌, ℕ, List, [], length, take, drop, slice_get, Some, None, ap, sym, ◌∙◌, arith, append-nil}
-use Rattle.std.specs.Str.{encode_utf8_all, chars}
+use Rattle.std.proofs.Common.{◌≡◌, ◌+◌, ◌-◌, ◌++◌, ℕ, List, [], length, take, drop, slice_get, None, ap, sym, ◌∙◌, arith}
+use Rattle.std.specs.Str.{encode_utf8_all}
 use Rattle.std.proofs.lemmas.Option.{slice_get_within}
-use Rattle.state_memo.specs.declared.outcome.Outcome.{Outcome}
-use Rattle.piece_rope.specs.Compare.{rest_of}
 use Rattle.piece_rope.specs.Parts.{edited_parts, text_in}
 use Rattle.piece_rope.proofs.Matching.{unmatched, more-sliced, found-all, found-short, head-gone, if_none, none-left, positive, next-found}
 use Rattle.piece_rope.proofs.Parting.{bytes-next-part, bytes-past, few-parts}

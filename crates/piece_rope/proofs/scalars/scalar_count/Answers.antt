@@ -1,5 +1,4 @@
-use Rattle.std.proofs.Common.{rules, ◌≡◌, length, arith}
-use Rattle.std.specs.Str.{chars}
+use Rattle.std.proofs.Common.{rules, arith}
 use Rattle.std.proofs.lemmas.Str.{chars_from_encodes}
 use Rattle.piece_rope.proofs.scalars.scalar_count.Goals as goal
 

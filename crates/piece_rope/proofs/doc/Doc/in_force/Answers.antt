@@ -1,6 +1,6 @@
 use Rattle.std.proofs.Common.{◌≡◌, subst, true}
 use Rattle.index_loader.specs.Files.{has_files}
-use Rattle.state_memo.specs.Decoding.{decode, is_decoded, in_force}
+use Rattle.state_memo.specs.Decoding.{decode, is_decoded}
 use Rattle.piece_rope.specs.Chain.{bytes_of}
 use Rattle.piece_rope.specs.Document.{Document, decoded}
 use Rattle.piece_rope.proofs.doc.Doc.in_force.Goals as goal

@@ -1,4 +1,4 @@
-use Rattle.std.proofs.Common.{◌≡◌, ap, sym, ◌∙◌, ◌+◌, ◌-◌, Some, length, arith, refl, slice_get, ℕ, rules}
+use Rattle.std.proofs.Common.{◌≡◌, ap, sym, ◌∙◌, ◌-◌, Some, length, arith, rules}
 use Rattle.std.proofs.lemmas.Option.{slice_get_read}
 use Rattle.state_memo.specs.declared.outcome.Outcome.{Outcome}
 use Rattle.piece_rope.proofs.Parting.{made-part, part-later}
