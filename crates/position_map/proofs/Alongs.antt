@@ -1,5 +1,5 @@
 -- Places along a text by units.
-use Rattle.std.proofs.Common.{◌≡◌, refl, sym, ap, ◌∙◌, ℕ, zero, suc, ◌+◌, ◌-◌, ◌<◌, ◌≤◌, ◌⊎◌, inl, inr, Bool, true, false, cond, ◌==◌, nat_lt, List, [], ◌∷◌, ◌++◌, length, length-drop, take, drop, take-append-drop, append_assoc, arith, add-one, Option, Some, None}
+use Rattle.std.proofs.Common.{◌≡◌, refl, sym, ap, ◌∙◌, ℕ, zero, suc, ◌+◌, ◌-◌, ◌<◌, ◌≤◌, ◌⊎◌, inl, inr, true, false, cond, ◌==◌, nat_lt, List, [], ◌∷◌, ◌++◌, length, length-drop, take, drop, take-append-drop, append_assoc, arith, add-one, Option, Some, None}
 use Rattle.std.specs.Option.{option_map}
 use Rattle.std.proofs.lemmas.Bool.Decides.{nat_tests}
 use Rattle.std.proofs.lemmas.List.{length-take-le, take-take, drop-take}
@@ -7,6 +7,7 @@ use Rattle.position_map.specs.declared.unit.Unit.{Unit as TextUnit}
 use Rattle.position_map.specs.Widths.{width, width_of}
 use Rattle.position_map.specs.Positions.{along, between}
 use Rattle.position_map.proofs.Widths.{width-some, width-append}
+use Rattle.position_map.proofs.Cases.{by_test, by_le, same_some, none_some}
 
 not_zero : {A : Type 0} (n : ℕ) (x y : A) → 0 < n → cond (n == 0) x y ≡ y
 not_zero n x y h = let t : (n == 0) ≡ false = grind (arith, nat_tests) in ap (λ b. cond b x y) t
@@ -41,13 +42,6 @@ along-append u (c ∷ cs) b n =
     ∙ ap (λ m. option_map (λ k. k + 1) (along u (cs ++ b) m)) less
     ∙ ap (option_map (λ k. k + 1)) (along-append u cs b n)
     ∙ map_map (λ k. k + 1) (λ k. length cs + k) (λ k. length (c ∷ cs) + k) (λ k. omega arith) (along u b n)
-
-pub by_test : {A : Type 0} (b : Bool) → (b ≡ true → A) → (b ≡ false → A) → A
-by_test true p q = p refl
-by_test false p q = q refl
-
-by_le : {A : Type 0} (m n : ℕ) → (m ≤ n → A) → (n < m → A) → A
-by_le m n p q = by_test (nat_lt n m) (λ t. q (grind (arith, nat_tests))) (λ t. p (grind (arith, nat_tests)))
 
 -- what lies behind doesn't count
 pub along_within : (u : TextUnit) (a b : List ℕ) (n : ℕ) → n < width u a → along u (a ++ b) n ≡ along u a n
@@ -103,15 +97,9 @@ past_line u text s e n h g l =
     let len : length (between text s e) ≡ e - s = length-take-le (e - s) (drop s text) (omega (arith, length-drop s text)) in
     ap (option_map (λ k. s + k)) (along_past u (between text s e) n (omega (arith, line_width u text s e h))) ∙ ap Some (omega (arith, len))
 
-some_same : {x y : ℕ} → Some x ≡ Some y → x ≡ y
-some_same h = cc
-
-none_some : {x : ℕ} → None ≡ Some x → ⊥
-none_some h = cc
-
 map_some : (o : Option ℕ) (k : ℕ) → option_map (λ j. j + 1) o ≡ Some k → (j : ℕ) × (o ≡ Some j) × (j + 1 ≡ k)
 map_some None k e = cc
-map_some (Some j) k e = (j, refl, some_same e)
+map_some (Some j) k e = (j, refl, same_some e)
 
 -- a place along a text: the code points in front take just so many units, or all take fewer
 pub record IsPlaceAlong (u : TextUnit) (cs : List ℕ) (n k : ℕ) : Type 0 where
@@ -119,13 +107,13 @@ pub record IsPlaceAlong (u : TextUnit) (cs : List ℕ) (n k : ℕ) : Type 0 wher
   pub exact : (n ≡ width u (take k cs)) ⊎ (width u cs < n)
 
 pub along_place : (u : TextUnit) (cs : List ℕ) (n k : ℕ) → along u cs n ≡ Some k → IsPlaceAlong u cs n k
-along_place u [] zero k e = let z : 0 ≡ k = some_same e in record { within = omega (arith, z); exact = inl (ap (λ j. width u (take j [])) z) }
-along_place u [] (suc n) k e = let z : 0 ≡ k = some_same e in record { within = omega (arith, z); exact = inr (omega arith) }
+along_place u [] zero k e = let z : 0 ≡ k = same_some e in record { within = omega (arith, z); exact = inl (ap (λ j. width u (take j [])) z) }
+along_place u [] (suc n) k e = let z : 0 ≡ k = same_some e in record { within = omega (arith, z); exact = inr (omega arith) }
 along_place u (c ∷ cs) n k e =
     by_test (n == 0)
     (λ z. let t : Some 0 ≡ Some k = sym (ap (λ b. cond b (Some 0) (cond (nat_lt n (width_of u c)) None (option_map (λ j. j + 1) (along u cs (n - width_of u c))))) z) ∙ e in
     let none : n ≡ 0 = grind (arith, nat_tests) in
-    record { within = omega (arith, some_same t); exact = inl (none ∙ ap (λ j. width u (take j (c ∷ cs))) (some_same t)) })
+    record { within = omega (arith, same_some t); exact = inl (none ∙ ap (λ j. width u (take j (c ∷ cs))) (same_some t)) })
     (λ z. let t : cond (nat_lt n (width_of u c)) None (option_map (λ j. j + 1) (along u cs (n - width_of u c))) ≡ Some k =
     sym (ap (λ b. cond b (Some 0) (cond (nat_lt n (width_of u c)) None (option_map (λ j. j + 1) (along u cs (n - width_of u c))))) z) ∙ e in
     by_test (nat_lt n (width_of u c))

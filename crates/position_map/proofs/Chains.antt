@@ -17,6 +17,7 @@ use Rattle.position_map.specs.Places.{place_of}
 use Rattle.position_map.specs.Placing.{bom_of, IsChained, last_to, HasItem, IsPlaced}
 use Rattle.position_map.specs.Whole.{Pieced}
 use Rattle.position_map.proofs.Items.{IsPieced, items_of, counted, made_split, made_count, scalars-append}
+use Rattle.position_map.proofs.Cases.{by_test, same_some, none_some}
 
 no_item : Ended
 no_item = record { scalars = 0; end = pos 0; error = false; output = Ascii }
@@ -29,12 +30,6 @@ places-chained total from (e ∷ es) = (refl, places-chained total (total - e.ba
 pub chained : (d : Document) → IsChained (decoded d).bom (decoded d).items
 unfolding decode
 chained d = places-chained (length d.bytes) (mark_length d.bytes) (run_in d.indexes (in_force d.given d.bytes) (drop (mark_length d.bytes) d.bytes))
-
-same_some : {x y : ℕ} → Some x ≡ Some y → x ≡ y
-same_some h = cc
-
-none_some : {x : ℕ} → None ≡ Some x → ⊥
-none_some h = cc
 
 some_none : {x : ℕ} → Some x ≡ None → ⊥
 some_none h = cc
@@ -77,10 +72,6 @@ place-append (p ∷ xs) ys n h =
 map_one : (o : Option ℕ) (k : ℕ) → option_map (λ j. j + 1) o ≡ Some k → (j : ℕ) × (o ≡ Some j) × (k ≡ suc j)
 map_one None k e = cc
 map_one (Some j) k e = let h : j + 1 ≡ k = same_some e in (j, refl, omega (arith, h))
-
-by_test : {A : Type 0} (b : Bool) → (b ≡ true → A) → (b ≡ false → A) → A
-by_test true p q = p refl
-by_test false p q = q refl
 
 has_first : (base : ℕ) (p : Placed) (ps : List Placed) (e : Ended) (es : List Ended) (n k : ℕ) → AreEnded base (p ∷ ps) (e ∷ es) → n < e.scalars → Some 0 ≡ Some k → HasItem base (p ∷ ps) (e ∷ es) n k
 has_first base p ps e es n k w h g =

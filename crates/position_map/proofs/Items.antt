@@ -23,6 +23,7 @@ use Rattle.position_map.specs.Whole.{AreAtLeast}
 use Rattle.position_map.specs.Places.{scalars_until, scalar_of_byte}
 use Rattle.position_map.specs.Points.{IsEnd}
 use Rattle.position_map.specs.Whole.{Pieced, IsWhole}
+use Rattle.position_map.proofs.Cases.{by_test}
 
 abbrev pub IsPieced : Pieced → Type 0
 IsPieced d = IsWhole d.doc d.pieces d.tail
@@ -65,10 +66,6 @@ within_none at base bytes [] w h = refl
 within_none at base bytes (p ∷ ps) w h =
     let t : nat_le p.to at ≡ false = grind (arith, nat_tests, w.1) in
     until-cons at p ps ∙ ap (λ b. cond b (length (item_code_points p.item)) 0 + scalars_until at ps) t ∙ ap (λ n. 0 + n) (within_none at base bytes ps w.2 h)
-
-by_test : {A : Type 0} (b : Bool) → (b ≡ true → A) → (b ≡ false → A) → A
-by_test true p q = p refl
-by_test false p q = q refl
 
 ends_before : (at base to : ℕ) (end limit : ℤ) → at < 2 ^ 64 - 1 → to ≡ ends_at base end → pos at ≡ pos base +ℤ limit → le_z end limit ≡ nat_le to at
 ends_before at base to end limit s e l =

@@ -13,19 +13,7 @@ use Rattle.position_map.specs.Plan.{is_behind}
 use Rattle.position_map.specs.Positions.{along, between, offset_on, offset_at, offset_of}
 use Rattle.position_map.specs.Widths.{width_of}
 use Rattle.position_map.proofs.Alongs.{along_place}
-
-by_test : {A : Type 0} (b : Bool) → (b ≡ true → A) → (b ≡ false → A) → A
-by_test true p q = p refl
-by_test false p q = q refl
-
-by_le : {A : Type 0} (m n : ℕ) → (m ≤ n → A) → (n < m → A) → A
-by_le m n p q = by_test (nat_lt n m) (λ t. q (grind (arith, nat_tests))) (λ t. p (grind (arith, nat_tests)))
-
-same_some : {A : Type 0} {x y : A} → Some x ≡ Some y → x ≡ y
-same_some h = cc
-
-none_some : {A : Type 0} {x : A} → None ≡ Some x → ⊥
-none_some h = cc
+use Rattle.position_map.proofs.Cases.{by_le, same_some, none_some}
 
 -- ---- lines
 

@@ -16,7 +16,8 @@ use Rattle.position_map.specs.Widths.{width}
 use Rattle.position_map.specs.Positions.{along}
 use Rattle.position_map.specs.Along.{IsAlongFront}
 use Rattle.position_map.specs.Cuts.{IsScalarCut}
-use Rattle.position_map.proofs.Alongs.{along_step, along_front, along_place, by_test}
+use Rattle.position_map.proofs.Alongs.{along_step, along_front, along_place}
+use Rattle.position_map.proofs.Cases.{by_test}
 use Rattle.position_map.proofs.Cutting.{IsCut, IsCut-at}
 use Rattle.position_map.proofs.Widths.{width-scalars, width-bytes}
 

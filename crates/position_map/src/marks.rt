@@ -7,7 +7,7 @@ ghost use Rattle.position_map.specs.declared.unit.Unit.{Unit as TextUnit};
 ghost use Rattle.position_map.specs.Marked.{IsMarkAt, IsLineStart};
 ghost use Rattle.position_map.specs.Whole.{pieces_most};
 
-use crate::cuts::{begins_line_feed, ending_of, split_at_mark, split_at_scalar};
+use crate::cuts::{ending_of, split_at_mark, split_at_scalar};
 use crate::ending::Ending;
 use crate::locate::{locate, sum_in};
 use crate::mark::Mark;
@@ -15,6 +15,7 @@ use crate::parts::Parts;
 use crate::point::{Point, point_behind};
 use crate::unit::Unit;
 use piece_rope::{Axis, Visits};
+use state_memo::begins_lf;
 
 // Line mark `n`, where there are more than `n`.
 pub(crate) fn mark<'d>(
@@ -46,7 +47,7 @@ pub(crate) fn line_feed_at(parts: &Parts<'_, '_>, n: u64, visits: &mut Visits) -
 {
     let (before, here) = locate(parts, Axis::Scalar, n, visits);
     match split_at_scalar(here, (n - before.scalars) as usize) {
-        Some((_, rest)) => begins_line_feed(rest),
+        Some((_, rest)) => begins_lf(rest),
         None => false,
     }
 }

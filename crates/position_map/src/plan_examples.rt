@@ -1,16 +1,23 @@
 //! Planned changes, computed at worked examples.
 #![tactic(auto, unfolding(crate::specs::Plan::planned, crate::specs::Plan::replacing, crate::specs::Lines::lines_of, crate::specs::Positions::offset_of, piece_rope::specs::Document::text_of, state_memo::specs::Decoding::decode, state_memo::specs::Decoding::state_behind, state_memo::specs::Decoding::run, state_memo::specs::Decoding::turns, state_memo::specs::Decoding::feed, state_memo::specs::Feeding::feed_for))]
 
-ghost use Rattle.std.specs.Prelude.{◌≡◌, [], ◌∷◌, Some, None, Ok, Err};
+ghost use Rattle.std.specs.Prelude.{◌≡◌, ℕ, List, [], ◌∷◌, Some, None, Ok, Err, false};
 ghost use Rattle.enc_names.specs.declared.encoding.Encoding.TheVariants.{Big5, ShiftJis, Iso2022Jp, Utf8, Replacement, Windows1252};
 ghost use Rattle.position_map.specs.declared.change_fault.ChangeFault.TheVariants.{OutOfRange, SplitsCharacter, SplitsItem, NoEncoder, Unencodable};
-ghost use Rattle.position_map.specs.declared.unit.Unit.TheVariants.{Utf16};
-ghost use Rattle.position_map.specs.Plan.{planned};
+ghost use Rattle.position_map.specs.declared.position.Range.{Range};
+ghost use Rattle.position_map.specs.declared.unit.Unit.TheVariants.{Utf8 as by_utf8, Utf16};
+ghost use Rattle.position_map.specs.Plan.{planned, is_behind};
 ghost use Rattle.position_map.specs.PlanExamples.{document, on_first_line};
 
-/// Big5 `88 62`: one item of two code points, and an end between them.
+/// Big5 `88 62`: one item of two code points. Between them is no cut, whatever is put in; an end
+/// inside one of them is told first, as is a range that starts behind its end.
 fn inside_an_item()
-    ensures { planned (document Big5 (0x88 ∷ 0x62 ∷ [])) (Some (on_first_line 1 1)) Utf16 (0x41 ∷ []) ≡ Err SplitsItem }
+    ensures letter { planned (document Big5 (0x88 ∷ 0x62 ∷ [])) (Some (on_first_line 1 1)) Utf16 (0x41 ∷ []) ≡ Err SplitsItem }
+    ensures no_bytes { planned (document Big5 (0x88 ∷ 0x62 ∷ [])) (Some (on_first_line 1 1)) Utf16 (0x1F600 ∷ []) ≡ Err SplitsItem }
+    ensures right { planned (document Big5 (0x88 ∷ 0x62 ∷ [])) (Some (on_first_line 0 1)) Utf16 (0x1F600 ∷ []) ≡ Err SplitsItem }
+    ensures whole_item { planned (document Big5 (0x88 ∷ 0x62 ∷ [])) (Some (on_first_line 0 2)) Utf16 (0x1F600 ∷ []) ≡ Err (Unencodable (record { index = 0; code_point = 0x1F600 })) }
+    ensures character { planned (document Big5 (0x88 ∷ 0x62 ∷ [])) (Some (on_first_line 2 3)) by_utf8 (0x1F600 ∷ []) ≡ Err SplitsCharacter }
+    ensures order { planned (document Big5 (0x88 ∷ 0x62 ∷ [])) (Some (on_first_line 3 2)) by_utf8 (0x1F600 ∷ []) ≡ Err OutOfRange }
 {}
 
 /// Shift_JIS: a letter behind a lead byte that would swallow it, and a yen sign, whose byte decodes
@@ -31,10 +38,32 @@ fn before_a_shift()
         ≡ Ok (record { at = 1; del = 5; ins = []; i = 1; j = 2 }) }
 {}
 
-/// ISO-2022-JP `1B 24 42 24 22`: a letter behind it is put in ASCII, and the state leads back.
+/// ISO-2022-JP `41 1B 24 40 24 22`: an escape of 1978 leads on too.
+fn before_a_shift_of_1978()
+    ensures { planned (document Iso2022Jp (0x41 ∷ 0x1B ∷ 0x24 ∷ 0x40 ∷ 0x24 ∷ 0x22 ∷ [])) (Some (on_first_line 1 1)) Utf16 (0x4E9C ∷ [])
+        ≡ Ok (record { at = 1; del = 0; ins = 0x1B ∷ 0x24 ∷ 0x42 ∷ 0x30 ∷ 0x21 ∷ []; i = 1; j = 1 }) }
+{}
+
+/// ISO-2022-JP `1B 24 42 24 22`: a letter behind it is put in ASCII, and the state leads back, as it
+/// does where nothing is put in; a kanji goes on in the state.
 fn back_to_the_state_behind()
-    ensures { planned (document Iso2022Jp (0x1B ∷ 0x24 ∷ 0x42 ∷ 0x24 ∷ 0x22 ∷ [])) (Some (on_first_line 1 1)) Utf16 (0x41 ∷ [])
+    ensures letter { planned (document Iso2022Jp (0x1B ∷ 0x24 ∷ 0x42 ∷ 0x24 ∷ 0x22 ∷ [])) (Some (on_first_line 1 1)) Utf16 (0x41 ∷ [])
         ≡ Ok (record { at = 5; del = 0; ins = 0x1B ∷ 0x28 ∷ 0x42 ∷ 0x41 ∷ 0x1B ∷ 0x24 ∷ 0x42 ∷ []; i = 1; j = 1 }) }
+    ensures nothing { planned (document Iso2022Jp (0x1B ∷ 0x24 ∷ 0x42 ∷ 0x24 ∷ 0x22 ∷ [])) (Some (on_first_line 0 1)) Utf16 []
+        ≡ Ok (record { at = 0; del = 5; ins = 0x1B ∷ 0x24 ∷ 0x42 ∷ []; i = 0; j = 1 }) }
+    ensures kanji { planned (document Iso2022Jp (0x1B ∷ 0x24 ∷ 0x42 ∷ 0x24 ∷ 0x22 ∷ [])) (Some (on_first_line 1 1)) Utf16 (0x4E9C ∷ [])
+        ≡ Ok (record { at = 5; del = 0; ins = 0x30 ∷ 0x21 ∷ []; i = 1; j = 1 }) }
+{}
+
+/// ISO-2022-JP `1B 28 49 41`: no letter is put in the state of katakana, and it is led back to; a
+/// yen sign is put in that of Roman, and nothing as nothing.
+fn behind_katakana()
+    ensures letter { planned (document Iso2022Jp (0x1B ∷ 0x28 ∷ 0x49 ∷ 0x41 ∷ [])) (Some (on_first_line 1 1)) Utf16 (0x41 ∷ [])
+        ≡ Ok (record { at = 4; del = 0; ins = 0x1B ∷ 0x28 ∷ 0x42 ∷ 0x41 ∷ 0x1B ∷ 0x28 ∷ 0x49 ∷ []; i = 1; j = 1 }) }
+    ensures yen_sign { planned (document Iso2022Jp (0x1B ∷ 0x28 ∷ 0x49 ∷ 0x41 ∷ [])) (Some (on_first_line 1 1)) Utf16 (0xA5 ∷ [])
+        ≡ Ok (record { at = 4; del = 0; ins = 0x1B ∷ 0x28 ∷ 0x4A ∷ 0x5C ∷ 0x1B ∷ 0x28 ∷ 0x49 ∷ []; i = 1; j = 1 }) }
+    ensures nothing { planned (document Iso2022Jp (0x1B ∷ 0x28 ∷ 0x49 ∷ 0x41 ∷ [])) (Some (on_first_line 1 1)) Utf16 []
+        ≡ Ok (record { at = 4; del = 0; ins = []; i = 1; j = 1 }) }
 {}
 
 /// `a`, U+1F600, CR, LF, `b`: a pair of surrogates is one code point, and no end may be inside it.
@@ -45,11 +74,17 @@ fn pair_of_surrogates()
     ensures start_behind_end { planned (document Utf8 (0x61 ∷ 0xF0 ∷ 0x9F ∷ 0x98 ∷ 0x80 ∷ 0x0D ∷ 0x0A ∷ 0x62 ∷ [])) (Some (on_first_line 3 2)) Utf16 (0x78 ∷ []) ≡ Err OutOfRange }
 {}
 
-/// replacement has no encoder, and windows-1252 has no hiragana.
+/// replacement has no encoder: every change of `41` is refused so, whatever is put in, save a range
+/// that starts behind its end. In UTF-16 no end is inside the one code point that it decodes to.
+fn replacement()
+    ensures range { (range : Range) (text : List ℕ) → is_behind range.start range.end ≡ false → planned (document Replacement (0x41 ∷ [])) (Some range) Utf16 text ≡ Err NoEncoder }
+    ensures whole { (text : List ℕ) → planned (document Replacement (0x41 ∷ [])) None Utf16 text ≡ Err NoEncoder }
+{}
+
+/// windows-1252 has no hiragana, and ISO-2022-JP has U+3042, but no U+1F600.
 fn no_bytes()
-    ensures replacement { planned (document Replacement (0x41 ∷ [])) (Some (on_first_line 0 1)) Utf16 (0x42 ∷ []) ≡ Err NoEncoder }
-    ensures nothing { planned (document Replacement (0x41 ∷ [])) None Utf16 [] ≡ Err NoEncoder }
     ensures hiragana { planned (document Windows1252 (0x41 ∷ [])) (Some (on_first_line 1 1)) Utf16 (0x3042 ∷ []) ≡ Err (Unencodable (record { index = 0; code_point = 0x3042 })) }
+    ensures second { planned (document Iso2022Jp (0x41 ∷ [])) (Some (on_first_line 1 1)) Utf16 (0x3042 ∷ 0x1F600 ∷ []) ≡ Err (Unencodable (record { index = 1; code_point = 0x1F600 })) }
 {}
 
 /// Without a range the whole text is replaced, and the byte order mark stays.

@@ -5,7 +5,7 @@ ghost use Rattle.position_map.specs.Fronts.{IsOnLine};
 ghost use Rattle.position_map.specs.Positions.{position_of};
 ghost use Rattle.position_map.specs.Whole.{pieces_most};
 
-use crate::cuts::{marks_in, parts_cr_lf, split_at_scalar};
+use crate::cuts::{parts_cr_lf, split_at_scalar};
 use crate::fault::PosFault;
 use crate::lines::line_start;
 use crate::locate::{locate, sum_in};
@@ -15,6 +15,7 @@ use crate::point::units_in;
 use crate::position::Position;
 use crate::unit::Unit;
 use piece_rope::{Axis, Doc, Visits};
+use state_memo::count_marks;
 
 /// The position of an offset in code points (LSP 3.17, "Position"): the last line that starts at or
 /// before it, and the units from there to the offset or to the line's end, whichever comes first.
@@ -55,7 +56,7 @@ fn place_at(parts: &Parts<'_, '_>, unit: Unit, offset: u64, visits: &mut Visits)
     let (before, here) = locate(parts, Axis::Scalar, offset, visits);
     match split_at_scalar(here, (offset - before.scalars) as usize) {
         Some((front, rest)) => {
-            let marks = before.marks + marks_in(front, before.cr_last);
+            let marks = before.marks + count_marks(front, before.cr_last);
             let units = sum_in(before, unit) + units_in(front, unit);
             if parts_cr_lf(front, before.cr_last, rest) {
                 OnLine {

@@ -10,4 +10,4 @@ use Rattle.position_map.proofs.plan_examples.back_to_the_state_behind.Goals as g
 
 pub returns : goal.returns
 unfolding slot_of planned replacing lines_of offset_of text_of decode state_behind run turns feed feed_for
-returns c = refl
+returns c = record { letter = refl; nothing = refl; kanji = refl }

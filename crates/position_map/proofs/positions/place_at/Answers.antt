@@ -6,7 +6,7 @@ use Rattle.position_map.proofs.positions.place_at.Goals as goal
 
 pub overflow_add-marks : goal.overflow_add-marks
 overflow_add-marks c =
-    omega (arith, marks_fit _ _ _ _ _ _ _ c.locate.ensures.place c.in-Some.ensures c.marks_in.ensures, c.end-end.ensures.scalars, c.end-end.type_inv)
+    omega (arith, marks_fit _ _ _ _ _ _ _ c.locate.ensures.place c.in-Some.ensures c.count_marks.ensures, c.end-end.ensures.scalars, c.end-end.type_inv)
 
 pub overflow_add-units : goal.overflow_add-units
 overflow_add-units c =
@@ -16,16 +16,16 @@ overflow_add-units c =
 
 pub overflow_sub-result : goal.overflow_sub-result
 overflow_sub-result c =
-    (placed_split c.args.unit _ _ _ _ _ _ _ _ _ _ c.locate.ensures.place c.in-Some.ensures c.parts_cr_lf.ensures c.if-parts_cr_lf.true c.marks_in.ensures c.sum_in.ensures c.units_in.ensures).0
+    (placed_split c.args.unit _ _ _ _ _ _ _ _ _ _ c.locate.ensures.place c.in-Some.ensures c.parts_cr_lf.ensures c.if-parts_cr_lf.true c.count_marks.ensures c.sum_in.ensures c.units_in.ensures).0
 
 pub overflow_sub-result-then-parts_cr_lf : goal.overflow_sub-result-then-parts_cr_lf
 overflow_sub-result-then-parts_cr_lf c =
-    (placed_split c.args.unit _ _ _ _ _ _ _ _ _ _ c.locate.ensures.place c.in-Some.ensures c.parts_cr_lf.ensures c.if-parts_cr_lf.true c.marks_in.ensures c.sum_in.ensures c.units_in.ensures).1
+    (placed_split c.args.unit _ _ _ _ _ _ _ _ _ _ c.locate.ensures.place c.in-Some.ensures c.parts_cr_lf.ensures c.if-parts_cr_lf.true c.count_marks.ensures c.sum_in.ensures c.units_in.ensures).1
 
 pub returns-then-parts_cr_lf-clause-place : goal.returns-then-parts_cr_lf-clause-place
 returns-then-parts_cr_lf-clause-place c =
-    (placed_split c.args.unit _ _ _ _ _ _ _ _ _ _ c.locate.ensures.place c.in-Some.ensures c.parts_cr_lf.ensures c.if-parts_cr_lf.true c.marks_in.ensures c.sum_in.ensures c.units_in.ensures).2
+    (placed_split c.args.unit _ _ _ _ _ _ _ _ _ _ c.locate.ensures.place c.in-Some.ensures c.parts_cr_lf.ensures c.if-parts_cr_lf.true c.count_marks.ensures c.sum_in.ensures c.units_in.ensures).2
 
 pub returns-else-parts_cr_lf-clause-place : goal.returns-else-parts_cr_lf-clause-place
 returns-else-parts_cr_lf-clause-place c =
-    placed_here c.args.unit _ _ _ _ _ _ _ _ _ _ c.locate.ensures.place c.in-Some.ensures c.parts_cr_lf.ensures c.if-parts_cr_lf.false c.marks_in.ensures c.sum_in.ensures c.units_in.ensures
+    placed_here c.args.unit _ _ _ _ _ _ _ _ _ _ c.locate.ensures.place c.in-Some.ensures c.parts_cr_lf.ensures c.if-parts_cr_lf.false c.count_marks.ensures c.sum_in.ensures c.units_in.ensures

@@ -1,0 +1,70 @@
+use Rattle.std.proofs.Common.{◌≡◌, refl, sym, ap, ◌∙◌, ℕ, zero, suc, ◌+◌, ◌⊎◌, inl, inr, false, List, [], ◌∷◌, arith, Option, Some, None, Result, Ok, Err}
+use Rattle.std.specs.Option.{option_map, ok_or}
+use Rattle.enc_names.specs.declared.encoding.Encoding.TheVariants.{Replacement}
+use Rattle.state_memo.specs.Decoding.{decode, run, turns}
+use Rattle.piece_rope.specs.Document.{Document, text_of}
+use Rattle.position_map.specs.declared.change_fault.ChangeFault.TheVariants.{NoEncoder}
+use Rattle.position_map.specs.declared.fault.PosFault.{PosFault}
+use Rattle.position_map.specs.declared.fault.PosFault.TheVariants.{SplitsCharacter}
+use Rattle.position_map.specs.declared.position.Range.{Range}
+use Rattle.position_map.specs.declared.unit.Unit.TheVariants.{Utf16}
+use Rattle.position_map.specs.Lines.{lines_of}
+use Rattle.position_map.specs.Plan.{is_behind, planned, replacing}
+use Rattle.position_map.specs.PlanExamples.{document}
+use Rattle.position_map.specs.Positions.{along, offset_of}
+use Rattle.position_map.proofs.Alongs.{along_step}
+use Rattle.position_map.proofs.Planning.{over_ends}
+use Rattle.position_map.proofs.plan_examples.replacement.Goals as goal
+
+abbrev letter : Document
+letter = document Replacement (0x41 ∷ [])
+
+-- its text is one code point of one unit, so an end is before or behind it
+end_at : (line character : ℕ) → (offset_of (text_of letter) Utf16 (record { line = line; character = character }) ≡ Ok 0) ⊎ (offset_of (text_of letter) Utf16 (record { line = line; character = character }) ≡ Ok 1)
+unfolding text_of decode run turns lines_of offset_of
+end_at zero zero = inl refl
+end_at zero (suc n) =
+    let past : along Utf16 (0xFFFD ∷ []) (suc n) ≡ Some 1 = along_step Utf16 0xFFFD [] (suc n) (omega arith) in
+    inr (ap (λ (o : Option ℕ). ok_or (option_map (λ k. 0 + k) o) SplitsCharacter) past)
+end_at (suc k) n = inr refl
+
+from_start : (text : List ℕ) → replacing letter text 0 0 ≡ Err NoEncoder
+unfolding replacing decode run turns
+from_start text = refl
+
+over_all : (text : List ℕ) → replacing letter text 0 1 ≡ Err NoEncoder
+unfolding replacing decode run turns
+over_all text = refl
+
+behind_all : (text : List ℕ) → replacing letter text 1 1 ≡ Err NoEncoder
+unfolding replacing decode run turns
+behind_all text = refl
+
+backwards : (text : List ℕ) → replacing letter text 1 0 ≡ Err NoEncoder
+unfolding replacing decode run turns
+backwards text = refl
+
+-- whatever its ends, no bytes are put in
+module _ (range : Range) (text : List ℕ) (order : is_behind range.start range.end ≡ false) where
+  abbrev start : Result ℕ PosFault
+  start = offset_of (text_of letter) Utf16 range.start
+
+  abbrev end : Result ℕ PosFault
+  end = offset_of (text_of letter) Utf16 range.end
+
+  by_ends : (start ≡ Ok 0) ⊎ (start ≡ Ok 1) → (end ≡ Ok 0) ⊎ (end ≡ Ok 1) → planned letter (Some range) Utf16 text ≡ Err NoEncoder
+  by_ends (inl e) (inl f) = over_ends letter (Some range) Utf16 text range refl 0 0 order (sym e) (sym f) ∙ from_start text
+  by_ends (inl e) (inr f) = over_ends letter (Some range) Utf16 text range refl 0 1 order (sym e) (sym f) ∙ over_all text
+  by_ends (inr e) (inl f) = over_ends letter (Some range) Utf16 text range refl 1 0 order (sym e) (sym f) ∙ backwards text
+  by_ends (inr e) (inr f) = over_ends letter (Some range) Utf16 text range refl 1 1 order (sym e) (sym f) ∙ behind_all text
+
+over_range : (range : Range) (text : List ℕ) → is_behind range.start range.end ≡ false → planned letter (Some range) Utf16 text ≡ Err NoEncoder
+over_range range text order =
+    by_ends range text order (end_at range.start.line range.start.character) (end_at range.end.line range.end.character)
+
+over_text : (text : List ℕ) → planned letter None Utf16 text ≡ Err NoEncoder
+unfolding planned replacing text_of decode run turns
+over_text text = refl
+
+pub returns : goal.returns
+returns c = record { range = over_range; whole = over_text }
