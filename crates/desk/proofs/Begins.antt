@@ -1,5 +1,5 @@
 -- Where lives of a document begin and end.
-use Rattle.std.proofs.Common.{◌≡◌, ◌≢◌, ℕ, ◌&&◌, Bool, true, false, cond, List, [], ◌∷◌, if◌then◌else◌, refl, sym, ap, ◌∙◌, subst}
+use Rattle.std.proofs.Common.{◌≡◌, ◌≢◌, ℕ, Bool, true, false, cond, List, if◌then◌else◌, refl, sym, ap, ◌∙◌}
 use Rattle.std.proofs.lemmas.Slice.Eq.{bytes_eq-Decides}
 use Rattle.std.specs.declared.option.Option.{Option}
 use Rattle.std.specs.declared.option.Option.TheVariants.{None, Some}
@@ -8,10 +8,10 @@ use Rattle.std.specs.declared.result.Result.TheVariants.{Ok, Err}
 use Rattle.std.specs.Option.{is_some}
 use Rattle.std.specs.FinMap as finite
 use Rattle.std.specs.FinMap.{get}
-use Rattle.std.specs.Cmp.Lexicographic.{slice_cmp, nat_list_cmp_total}
+use Rattle.std.specs.Cmp.Lexicographic.{nat_list_cmp_total}
 use Rattle.std.specs.Str.{bytes_eq}
 use Rattle.enc_names.specs.declared.encoding.Encoding.{Encoding}
-use Rattle.enc_names.specs.Labels.{LabelTable, lookup_in}
+use Rattle.enc_names.specs.Labels.{lookup_in}
 use Rattle.index_loader.specs.Files.{Files}
 use Rattle.piece_rope.specs.declared.fault.DocFault.{DocFault}
 use Rattle.piece_rope.specs.Decode.{is_decoded}
@@ -37,12 +37,12 @@ same_name : (doc : List ℕ) → bytes_eq doc doc ≡ true
 same_name doc = (bytes_eq-Decides doc doc).1 refl
 
 -- what is held at the name of an accepted command
-held_here : (o p : Office) (c : Asked) (reply : Reply) → Answers o c reply p → is_accepted reply ≡ true
+pub held_here : (o p : Office) (c : Asked) (reply : Reply) → Answers o c reply p → is_accepted reply ≡ true
     → get p.documents c.doc ≡ held_after (get o.documents c.doc) (effect_of o c).move
 held_here o p c reply answers e =
     held_is o p c reply answers (accepts reply e) c.doc ∙ ap (λ b. at_name b (get o.documents c.doc) (effect_of o c).move) (same_name c.doc)
 
-accepted_here : (o p : Office) (c : Asked) (reply : Reply) → Answers o c reply p → is_accepted reply ≡ true → is_accepted (effect_of o c).reply ≡ true
+pub accepted_here : (o p : Office) (c : Asked) (reply : Reply) → Answers o c reply p → is_accepted reply ≡ true → is_accepted (effect_of o c).reply ≡ true
 accepted_here o p c reply answers e = ap is_accepted (reply_is o p c reply answers (accepts reply e)) ∙ e
 
 -- ---- a document that is admitted

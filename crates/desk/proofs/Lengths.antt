@@ -1,5 +1,5 @@
 -- The row of the op `stat`.
-use Rattle.std.proofs.Common.{◌≡◌, refl}
+use Rattle.std.proofs.Common.{refl}
 use Rattle.std.specs.declared.result.Result.TheVariants.{Ok}
 use Rattle.enc_names.specs.Labels.{LabelTable}
 use Rattle.index_loader.specs.Files.{Files}

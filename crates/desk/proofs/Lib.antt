@@ -1,8 +1,10 @@
 mod Apart
 mod Begins
 mod Close
+mod Edits
 mod Encode
 mod Errors
+mod KeptText
 mod Lengths
 mod Lines
 mod Lives
@@ -12,6 +14,7 @@ mod Offsets
 mod Open
 mod Places
 mod Positions
+mod Replacing
 mod Row
 mod Rows
 mod Source

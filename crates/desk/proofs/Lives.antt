@@ -1,26 +1,21 @@
 -- Lives of a document: each accepted edit once, in its order.
-use Rattle.std.proofs.Common.{◌≡◌, ◌≢◌, ℕ, ◌+◌, ◌&&◌, ◌==◌, nat_lt, Bool, true, false, cond, List, [], ◌∷◌, ◌++◌, length, if◌then◌else◌, refl, sym, ap, ◌∙◌, subst, ◌⊎◌, inl, inr, arith, length-append}
-use Rattle.std.proofs.lemmas.Bool.{eqb-true}
-use Rattle.std.specs.declared.option.Option.{Option}
-use Rattle.std.specs.declared.option.Option.TheVariants.{None, Some}
+use Rattle.std.proofs.Common.{◌≡◌, ◌≢◌, ℕ, ◌+◌, ◌&&◌, Bool, true, false, cond, List, [], ◌∷◌, ◌++◌, length, if◌then◌else◌, refl, sym, ap, ◌∙◌, subst, ◌⊎◌, inl, inr, arith, length-append}
+use Rattle.std.specs.declared.option.Option.TheVariants.{Some}
 use Rattle.std.specs.declared.result.Result.{Result}
 use Rattle.std.specs.declared.result.Result.TheVariants.{Ok, Err}
 use Rattle.std.specs.Option.{is_some}
 use Rattle.std.specs.FinMap as finite
 use Rattle.std.specs.FinMap.{get}
-use Rattle.std.specs.Cmp.Lexicographic.{slice_cmp, nat_list_cmp_total}
+use Rattle.std.specs.Cmp.Lexicographic.{nat_list_cmp_total}
 use Rattle.std.specs.Str.{bytes_eq}
 use Rattle.enc_names.specs.declared.encoding.Encoding.{Encoding}
-use Rattle.enc_names.specs.Labels.{LabelTable, lookup_in}
 use Rattle.index_loader.specs.Files.{Files}
-use Rattle.piece_rope.specs.declared.fault.DocFault.{DocFault}
-use Rattle.piece_rope.specs.Edits.{spliced, splice_fault}
 use Rattle.desk.specs.Commands.{Ask, Asked}
 use Rattle.desk.specs.Desk.{Office, effect, effect_of, has_place, Answers, Adopts}
 use Rattle.desk.specs.Documents.{Entry}
-use Rattle.desk.specs.Effects.{Move, Stays, Puts, Goes, Effect}
+use Rattle.desk.specs.Effects.{Move, Stays, Puts, Goes}
 use Rattle.desk.specs.Changes.{is_accepted}
-use Rattle.desk.specs.Lives.{Act, Commanded, Adopted, Acts, ActsAll, is_edit, is_close, edit_in, edits_of, ends_life, Lasts, edited_by, edited_by_all, NameFrom, IsLife, Lives}
+use Rattle.desk.specs.Lives.{Act, Commanded, Adopted, Acts, is_edit, is_close, edit_in, edits_of, ends_life, edited_by, edited_by_all, NameFrom, IsLife, Lives}
 use Rattle.desk.specs.Open.{adopted}
 use Rattle.desk.specs.declared.fault.Fault.{Fault}
 use Rattle.desk.specs.declared.fault.Fault.TheVariants.{OutOfMemory, NameTaken}

@@ -1,5 +1,5 @@
 -- The row of the op `open`, its steps, and those of an adoption.
-use Rattle.std.proofs.Common.{◌≡◌, ◌≢◌, ℕ, Bool, true, false, nat_le, List, length, if◌then◌else◌, refl, sym, ap, ◌∙◌, subst}
+use Rattle.std.proofs.Common.{◌≡◌, ℕ, Bool, true, false, nat_le, List, length, refl, sym, ap, ◌∙◌, subst}
 use Rattle.std.specs.declared.option.Option.{Option}
 use Rattle.std.specs.declared.option.Option.TheVariants.{None, Some}
 use Rattle.std.specs.declared.result.Result.{Result}
@@ -12,14 +12,13 @@ use Rattle.index_loader.specs.Files.{Files}
 use Rattle.piece_rope.specs.Decode.{is_decoded}
 use Rattle.piece_rope.specs.Edits.{document_limit, open_fault}
 use Rattle.desk.specs.Changes.{is_accepted}
-use Rattle.desk.specs.Commands.{Ask, asked_of, Opens}
-use Rattle.desk.specs.Desk.{Office, Outcome, Answers, Adopts, IsAdopted, IsOutcome, outcome, has_place}
+use Rattle.desk.specs.Commands.{asked_of, Opens}
+use Rattle.desk.specs.Desk.{Office, Outcome, Answers, Adopts, IsOutcome, outcome, has_place}
 use Rattle.desk.specs.Documents.{Entry, Names, Shelf, edit_reply}
 use Rattle.desk.specs.Effects.{base64_bytes, with_bytes, put}
 use Rattle.desk.specs.Lives.{done}
 use Rattle.desk.specs.Open.{admitted, opened}
 use Rattle.desk.specs.declared.fault.Fault.{Fault}
-use Rattle.desk.specs.declared.fault.Fault.TheVariants.{OutOfMemory}
 use Rattle.desk.specs.declared.reply.Reply.{Reply}
 use Rattle.desk.specs.declared.reply.Reply.TheVariants.{Refused}
 use Rattle.desk.proofs.Row.{IsRow, Keeps, Answered, ContinuesBy, Decided, IsOther, Caused, caused-if, decided-if, decided-unless, keeps-with_bytes, keeps-put, answered-with_bytes, answered-put}

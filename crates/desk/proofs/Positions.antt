@@ -1,5 +1,5 @@
 -- The row of the op `position`.
-use Rattle.std.proofs.Common.{◌≡◌, ℕ, refl}
+use Rattle.std.proofs.Common.{ℕ, refl}
 use Rattle.enc_names.specs.Labels.{LabelTable}
 use Rattle.index_loader.specs.Files.{Files}
 use Rattle.position_map.specs.declared.unit.Unit.{Unit as TextUnit}

@@ -130,12 +130,6 @@ answered-put reply (Ok h) p = p
 answered-put reply (Err OutOfMemory) p = absurd p
 answered-put reply (Err f) p = λ e. cc
 
--- an edit, whose accepted reply is no refusal
-pub continues-put : (indexes : Files) (h : Entry) (ask : Ask) (reply : Entry → Reply) (change : Result Entry Fault) → is_edit ask ≡ true → ((k : Entry) → is_accepted (reply k) ≡ true)
-    → ((k : Entry) → change ≡ Ok k → IsLife indexes h (ask ∷ []) k) → ContinuesBy indexes h ask (put reply change)
-continues-put indexes h ask reply (Ok k) e accepted life = (ap (λ b. b && is_accepted (reply k)) e ∙ accepted k, life k refl)
-continues-put indexes h ask reply (Err f) e accepted life = continues-refused indexes h ask f
-
 -- ---- a question
 
 continues-question : (indexes : Files) (h : Entry) (ask : Ask) (answer : Result Reply Fault) → is_edit ask ≡ false → ContinuesBy indexes h ask (replied answer)

@@ -1,10 +1,10 @@
 -- The rows of the desk's table, and what follows from them for each command.
-use Rattle.std.proofs.Common.{◌≡◌, ◌≢◌, Bool, true, false, refl, sym, ap, ◌∙◌}
+use Rattle.std.proofs.Common.{◌≡◌, false, sym, ap, ◌∙◌}
 use Rattle.std.specs.FinMap.{get}
 use Rattle.enc_names.specs.Labels.{LabelTable}
 use Rattle.index_loader.specs.Files.{Files}
 use Rattle.desk.specs.Changes.{changes, OnlyChangesChange, RefusalsChangeNothing, MemoryIsNeverWanted}
-use Rattle.desk.specs.Commands.{Ask, Asked, Opens, Closes, Splices, Reads, ReadsBytes, Encodes, ListsErrors, ListsLines, FindsPosition, FindsOffset, FindsPlace, Measures}
+use Rattle.desk.specs.Commands.{Ask, Asked, Opens, Closes, Splices, ChangesText, Reads, ReadsBytes, Encodes, ListsErrors, ListsLines, FindsPosition, FindsOffset, FindsPlace, Measures}
 use Rattle.desk.specs.Desk.{Office, Outcome, Answers, IsOutcome, moved, answer_of, has_place}
 use Rattle.desk.specs.Documents.{Names}
 use Rattle.desk.specs.declared.fault.Fault.TheVariants.{OutOfMemory}
@@ -19,6 +19,7 @@ use Rattle.desk.proofs.Offsets as offsets
 use Rattle.desk.proofs.Open as open_
 use Rattle.desk.proofs.Places as places
 use Rattle.desk.proofs.Positions as positions
+use Rattle.desk.proofs.Replacing as replacing
 use Rattle.desk.proofs.Source as source
 use Rattle.desk.proofs.Splice as splice
 use Rattle.desk.proofs.Lengths as lengths
@@ -28,6 +29,7 @@ pub row : (indexes : Files) (labels : LabelTable) (ask : Ask) → IsRow indexes 
 row indexes labels (Opens label bytes) = open_.row indexes labels label bytes
 row indexes labels Closes = close.row indexes labels
 row indexes labels (Splices rev at del bytes) = splice.row indexes labels rev at del bytes
+row indexes labels (ChangesText rev unit range text) = replacing.row indexes labels rev unit range text
 row indexes labels (Reads from to mode) = text.row indexes labels from to mode
 row indexes labels (ReadsBytes at len) = source.row indexes labels at len
 row indexes labels (Encodes from to label mode) = encode.row indexes labels from to label mode

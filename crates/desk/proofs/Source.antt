@@ -1,10 +1,9 @@
 -- The row of the op `source`.
-use Rattle.std.proofs.Common.{◌≡◌, ℕ, ◌+◌, nat_le, List, length, refl}
+use Rattle.std.proofs.Common.{ℕ, ◌+◌, nat_le, List, length, refl}
 use Rattle.enc_names.specs.Labels.{LabelTable}
 use Rattle.index_loader.specs.Files.{Files}
 use Rattle.piece_rope.specs.Edits.{source_fault}
 use Rattle.desk.specs.Commands.{ReadsBytes}
-use Rattle.desk.specs.Documents.{Entry}
 use Rattle.desk.specs.Source.{source_reply}
 use Rattle.desk.proofs.Row.{IsRow, question, IsOther, Caused, caused-if, decided-unless}
 

@@ -1,5 +1,5 @@
 -- Lines, positions and places, worked by the definitions.
-use Rattle.std.proofs.Common.{◌≡◌, List, [], ◌∷◌, refl}
+use Rattle.std.proofs.Common.{◌≡◌, [], ◌∷◌, refl}
 use Rattle.std.specs.declared.option.Option.TheVariants.{None, Some}
 use Rattle.std.specs.declared.result.Result.TheVariants.{Ok, Err}
 use Rattle.enc_names.specs.declared.encoding.Encoding.TheVariants.{Utf8}

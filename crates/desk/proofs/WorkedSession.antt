@@ -1,12 +1,11 @@
 -- A session, worked by the definition.
-use Rattle.std.proofs.Common.{◌≡◌, ℕ, List, [], ◌∷◌, codes, drop, if◌then◌else◌, nat_lt, refl, ap, ◌∙◌}
+use Rattle.std.proofs.Common.{◌≡◌, ℕ, List, [], ◌∷◌, codes, drop, nat_lt, refl, ap, ◌∙◌}
 use Rattle.std.specs.declared.option.Option.TheVariants.{None, Some}
 use Rattle.std.specs.Cmp.Lexicographic.{slice_cmp, nat_list_cmp_total}
 use Rattle.std.specs.Ordering.{nat_cmp}
 use Rattle.std.specs.FinMap as finite
 use lib.Utf8.{encode}
-use Rattle.std.specs.Option.{is_some}
-use Rattle.std.specs.declared.result.Result.TheVariants.{Ok, Err}
+use Rattle.std.specs.declared.result.Result.TheVariants.{Ok}
 use Rattle.base64.proofs.OnLiterals.{base64_on_literals}
 use Rattle.enc_names.specs.declared.encoding.Encoding.TheVariants.{Utf8}
 use Rattle.enc_names.specs.Labels.{name_labels}
@@ -18,14 +17,14 @@ use Rattle.piece_rope.specs.Edits.{open_fault, splice_fault, text_fault, errors_
 use Rattle.desk.specs.Close.{closed}
 use Rattle.desk.specs.Commands.{Asked, Opens, Closes, Splices, Reads, ListsErrors}
 use Rattle.desk.specs.Desk.{Office, Outcome, max_documents, outcome, answer_of, has_place}
-use Rattle.desk.specs.Documents.{Entry, Names, entry, unless, edit_reply}
-use Rattle.desk.specs.Effects.{base64_bytes, with_bytes, replied, refused, put, of_document}
+use Rattle.desk.specs.Documents.{Entry, Names, edit_reply}
+use Rattle.desk.specs.Effects.{Puts, base64_bytes, with_bytes, replied, refused, put, of_document}
 use Rattle.desk.specs.Errors.{errors_reply}
-use Rattle.desk.specs.Open.{admitted, opened, opened_as}
+use Rattle.desk.specs.Open.{admitted, opened}
 use Rattle.desk.specs.Session.{a, replies_to, office_without_files, truncated, session, session_replies}
-use Rattle.desk.specs.Splice.{edited, splice_effect}
+use Rattle.desk.specs.Splice.{splice_effect}
 use Rattle.desk.specs.Text.{text_reply}
-use Rattle.desk.specs.declared.fault.Fault.TheVariants.{NameTaken, NoIndex, TooManyDocuments, OutOfRange}
+use Rattle.desk.specs.declared.fault.Fault.TheVariants.{OutOfRange}
 use Rattle.desk.specs.declared.reply.Reply.{Reply}
 use Rattle.desk.specs.declared.reply.Reply.TheVariants.{Edited, Closed, Text, Errors, Refused}
 use Rattle.desk.specs.declared.text_mode.TextMode.TheVariants.{Replacement}
@@ -51,10 +50,6 @@ truncated_edit : edit_reply no_files truncated ≡ Edited 0 Utf8 0
 unfolding decode
 truncated_edit = refl
 
-completed_edit : edit_reply no_files completed ≡ Edited 0 Utf8 1
-unfolding decode
-completed_edit = refl
-
 truncated_text : text_reply no_files truncated 0 2 Replacement ≡ Ok (Text 0 (0xEF ∷ 0xBF ∷ 0xBD ∷ 0x41 ∷ []))
 unfolding text_fault text_of decode run turns encode
 truncated_text = refl
@@ -67,11 +62,11 @@ completed_text : text_reply no_files completed 0 2 Replacement ≡ Ok (Text 1 (0
 unfolding text_fault text_of decode run turns encode
 completed_text = refl
 
-completing : edited truncated 0 2 0 (0xAC ∷ []) ≡ Ok completed
-unfolding splice_fault
+completing : splice_effect no_files 0 2 0 (0xAC ∷ []) truncated ≡ record { reply = Edited 0 Utf8 1; move = Puts completed }
+unfolding splice_fault decode
 completing = refl
 
-past_end : edited completed 1 5 0 [] ≡ Err OutOfRange
+past_end : splice_effect no_files 1 5 0 [] completed ≡ refused OutOfRange
 unfolding splice_fault
 past_end = refl
 
@@ -127,10 +122,9 @@ lists_errors =
 
 splices : answer_of (office one) (a (Splices 0 2 0 (codes "rA=="))) ≡ record { reply = Edited 0 Utf8 1; documents = two }
 splices =
-    ap (λ b. outcome one name (with_bytes b (λ ins. splice_effect no_files 0 2 0 ins (finite.get one name)))) spliced_bytes
-    ∙ ap (λ found. outcome one name (splice_effect no_files 0 2 0 (0xAC ∷ []) found)) one_entry
-    ∙ ap (λ r. outcome one name (put (edit_reply no_files) r)) completing
-    ∙ ap (λ r. record { reply = r; documents = two }) completed_edit
+    ap (λ b. outcome one name (with_bytes b (λ ins. of_document (finite.get one name) (splice_effect no_files 0 2 0 ins)))) spliced_bytes
+    ∙ ap (λ found. outcome one name (of_document found (splice_effect no_files 0 2 0 (0xAC ∷ [])))) one_entry
+    ∙ ap (outcome one name) completing
 
 reads_completed : answer_of (office two) (a (Reads 0 2 Replacement)) ≡ record { reply = Text 1 (0xE2 ∷ 0x82 ∷ 0xAC ∷ 0x41 ∷ []); documents = two }
 reads_completed =
@@ -139,9 +133,9 @@ reads_completed =
 
 splices_past_end : answer_of (office two) (a (Splices 1 5 0 (codes ""))) ≡ record { reply = Refused OutOfRange; documents = two }
 splices_past_end =
-    ap (λ b. outcome two name (with_bytes b (λ ins. splice_effect no_files 1 5 0 ins (finite.get two name)))) no_bytes
-    ∙ ap (λ found. outcome two name (splice_effect no_files 1 5 0 [] found)) two_entries
-    ∙ ap (λ r. outcome two name (put (edit_reply no_files) r)) past_end
+    ap (λ b. outcome two name (with_bytes b (λ ins. of_document (finite.get two name) (splice_effect no_files 1 5 0 ins)))) no_bytes
+    ∙ ap (λ found. outcome two name (of_document found (splice_effect no_files 1 5 0 []))) two_entries
+    ∙ ap (outcome two name) past_end
 
 abbrev none : Names
 none = finite.remove two name

@@ -5,7 +5,7 @@ use Rattle.desk.specs.Desk.{Office, answer_of}
 use Rattle.desk.specs.declared.fault.Fault.{Fault}
 use Rattle.desk.specs.declared.fault.Fault.TheVariants.{OutOfMemory}
 use Rattle.desk.specs.declared.reply.Reply.{Reply}
-use Rattle.desk.specs.declared.reply.Reply.TheVariants.{Edited, Closed, Refused}
+use Rattle.desk.specs.declared.reply.Reply.TheVariants.{Edited, Changed, Closed, Refused}
 
 abbrev pub is_accepted : Reply → Bool
 is_accepted (Refused fault) = false
@@ -14,6 +14,7 @@ is_accepted reply = true
 -- the reply accepts an open, an edit or a close
 abbrev pub changes : Reply → Bool
 changes (Edited bom encoding rev) = true
+changes (Changed at bom del encoding ins rev) = true
 changes (Closed rev) = true
 changes reply = false
 

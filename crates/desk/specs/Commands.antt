@@ -1,9 +1,10 @@
 -- The commands: what a client asks of the desk. Texts are lists of UTF-8 bytes.
-use Rattle.std.specs.Prelude.{ℕ, List}
+use Rattle.std.specs.Prelude.{ℕ, List, Option}
+use Rattle.position_map.specs.declared.position.Range.{Range}
 use Rattle.position_map.specs.declared.unit.Unit.{Unit as TextUnit}
 use Rattle.encoders.specs.declared.mode.EncodeMode.{EncodeMode}
 use Rattle.desk.specs.declared.command.Command.{Command}
-use Rattle.desk.specs.declared.command.Command.TheVariants.{Open, Close, Splice, Text, Source, Encode, Errors, Lines, Position, Offset, Place, Stat}
+use Rattle.desk.specs.declared.command.Command.TheVariants.{Open, Close, Splice, Change, Text, Source, Encode, Errors, Lines, Position, Offset, Place, Stat}
 use Rattle.desk.specs.declared.place_unit.PlaceUnit.{PlaceUnit}
 use Rattle.desk.specs.declared.text_mode.TextMode.{TextMode}
 
@@ -14,6 +15,8 @@ pub data Ask : Type 0 where
   Closes : Ask
   -- rev at del bytes
   Splices : ℕ → ℕ → ℕ → List ℕ → Ask
+  -- rev unit range text
+  ChangesText : ℕ → TextUnit → Option Range → List ℕ → Ask
   -- from to mode
   Reads : ℕ → ℕ → TextMode → Ask
   -- at len
@@ -44,6 +47,7 @@ abbrev pub asked : Command → Asked
 asked (Open doc label bytes) = asked_of doc.now (Opens label.now bytes.now)
 asked (Close doc) = asked_of doc.now Closes
 asked (Splice doc rev at del bytes) = asked_of doc.now (Splices rev at del bytes.now)
+asked (Change doc rev unit range text) = asked_of doc.now (ChangesText rev unit range text.now)
 asked (Text doc from to mode) = asked_of doc.now (Reads from to mode)
 asked (Source doc at len) = asked_of doc.now (ReadsBytes at len)
 asked (Encode doc from to label mode) = asked_of doc.now (Encodes from to label.now mode)

@@ -81,11 +81,6 @@ abbrev pub Gives : {A : Type 0} → Result A Fault → Result A Fault → Type 0
 Gives defined (Err OutOfMemory) = Unit {0}
 Gives defined answer = defined ≡ answer
 
--- an accepted change, with its value
-abbrev pub with_value : {A B : Type 0} → A → Result B Fault → Result A Fault
-with_value x (Ok y) = Ok x
-with_value x (Err fault) = Err fault
-
 -- a refusal as a reply
 abbrev pub reply_of : Result Reply Fault → Reply
 reply_of (Ok reply) = reply

@@ -8,7 +8,6 @@ use Rattle.desk.specs.Documents.{Entry, reply_of}
 use Rattle.desk.specs.declared.fault.Fault.{Fault}
 use Rattle.desk.specs.declared.fault.Fault.TheVariants.{BadBase64, NoDocument, OutOfMemory}
 use Rattle.desk.specs.declared.reply.Reply.{Reply}
-use Rattle.desk.specs.declared.reply.Reply.TheVariants.{Refused}
 
 -- what becomes of the entry at a name
 pub data Move : Type 0 where

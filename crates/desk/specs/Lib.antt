@@ -5,9 +5,11 @@ pub mod Codes
 pub mod Commands
 pub mod Desk
 pub mod Documents
+pub mod Edits
 pub mod Effects
 pub mod Encode
 pub mod Errors
+pub mod KeptText
 pub mod Lengths
 pub mod Lines
 pub mod Lives
@@ -16,6 +18,7 @@ pub mod Open
 pub mod OpenDocuments
 pub mod Places
 pub mod Positions
+pub mod Replacing
 pub mod Session
 pub mod Source
 pub mod Splice

@@ -1,15 +1,18 @@
 -- Lives of a document: from its open or adoption to its close, with each accepted edit.
-use Rattle.std.specs.Prelude.{◌≡◌, ℕ, ◌+◌, ◌&&◌, Bool, true, false, List, [], ◌∷◌, ◌++◌, length, if◌then◌else◌, Option, Some, None, Result, Ok}
-use Rattle.std.specs.Str.{bytes_eq}
+use Rattle.std.specs.Prelude.{◌≡◌, ℕ, ◌+◌, ◌&&◌, Bool, true, false, List, [], ◌∷◌, ◌++◌, length, if◌then◌else◌, Option, Some, None, Result, Ok, Err}
+use Rattle.std.specs.Str.{bytes_eq, chars}
 use Rattle.std.specs.FinMap.{get}
 use Rattle.enc_names.specs.declared.encoding.Encoding.{Encoding}
 use Rattle.enc_names.specs.Labels.{lookup_in}
 use Rattle.index_loader.specs.Files.{Files}
 use Rattle.piece_rope.specs.Edits.{spliced}
+use Rattle.position_map.specs.declared.change_fault.ChangeFault.{ChangeFault}
+use Rattle.position_map.specs.declared.plan.Plan.{Plan}
+use Rattle.position_map.specs.Plan.{planned}
 use Rattle.desk.specs.Changes.{is_accepted}
-use Rattle.desk.specs.Commands.{Ask, Asked, asked_of, Opens, Closes, Splices}
+use Rattle.desk.specs.Commands.{Ask, Asked, asked_of, Opens, Closes, Splices, ChangesText}
 use Rattle.desk.specs.Desk.{Office, Answers, Adopts}
-use Rattle.desk.specs.Documents.{Entry, entry}
+use Rattle.desk.specs.Documents.{Entry, entry, document_of}
 use Rattle.desk.specs.Effects.{base64_bytes}
 use Rattle.desk.specs.declared.fault.Fault.{Fault}
 use Rattle.desk.specs.declared.reply.Reply.{Reply}
@@ -36,6 +39,7 @@ ActsAll o (a ∷ acts) p = (mid : Office) × Acts o a mid × ActsAll mid acts p
 -- it asks for an edit
 abbrev pub is_edit : Ask → Bool
 is_edit (Splices rev at del bytes) = true
+is_edit (ChangesText rev unit range text) = true
 is_edit ask = false
 
 abbrev pub is_close : Ask → Bool
@@ -66,15 +70,22 @@ Lasts d (a ∷ acts) = (ends_life d a ≡ false) × Lasts d acts
 -- the revision that an edit names
 abbrev pub named_by : Ask → Option ℕ
 named_by (Splices rev at del bytes) = Some rev
+named_by (ChangesText rev unit range text) = Some rev
 named_by ask = None
 
 abbrev pub with_spliced : List ℕ → ℕ → ℕ → Option (List ℕ) → List ℕ
 with_spliced bytes at del None = bytes
 with_spliced bytes at del (Some ins) = spliced bytes at del ins
 
+abbrev pub with_planned : List ℕ → Result Plan ChangeFault → List ℕ
+with_planned bytes (Err fault) = bytes
+with_planned bytes (Ok plan) = spliced bytes plan.at plan.del plan.ins
+
 -- the bytes that an edit leaves of these
 abbrev pub edited_by : Files → Encoding → List ℕ → Ask → List ℕ
 edited_by indexes given bytes (Splices rev at del text) = with_spliced bytes at del (base64_bytes text)
+edited_by indexes given bytes (ChangesText rev unit range text) =
+    with_planned bytes (planned (document_of indexes (entry given bytes rev)) range unit (chars text))
 edited_by indexes given bytes ask = bytes
 
 abbrev pub edited_by_all : Files → Encoding → List ℕ → List Ask → List ℕ

@@ -1,11 +1,12 @@
 //! Refusals whose cause a layer below reports.
 ghost use Rattle.std.specs.Prelude.{◌≡◌};
 ghost use Rattle.desk.specs.Documents.{fault_of, position_fault};
+ghost use Rattle.desk.specs.Replacing.{change_fault};
 ghost use Rattle.desk.specs.declared.fault.Fault.TheVariants.{OutOfMemory};
 
 use crate::fault::Fault;
 use piece_rope::DocFault;
-use position_map::PosFault;
+use position_map::{ChangeFault, PosFault};
 use std::alloc::AllocError;
 
 impl From<DocFault> for Fault {
@@ -29,6 +30,24 @@ impl From<PosFault> for Fault {
         match cause {
             PosFault::OutOfRange => Fault::OutOfRange,
             PosFault::SplitsCharacter => Fault::SplitsCharacter,
+        }
+    }
+}
+
+impl From<ChangeFault> for Fault {
+    ghost from_gives = { λ cause fault. fault ≡ change_fault cause };
+
+    fn from(cause: ChangeFault) -> Fault {
+        match cause {
+            ChangeFault::OutOfRange => Fault::OutOfRange,
+            ChangeFault::SplitsCharacter => Fault::SplitsCharacter,
+            ChangeFault::SplitsItem => Fault::SplitsItem,
+            ChangeFault::NoEncoder => Fault::NoEncoder,
+            ChangeFault::Unencodable(found) => Fault::Unencodable {
+                code_point: u32::from(found.code_point),
+                index: found.index,
+            },
+            ChangeFault::OutOfMemory => Fault::OutOfMemory,
         }
     }
 }

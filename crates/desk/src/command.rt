@@ -3,7 +3,7 @@
 use crate::place_unit::PlaceUnit;
 use crate::text_mode::TextMode;
 use encoders::EncodeMode;
-use position_map::Unit;
+use position_map::{Range, Unit};
 
 /// One command. Its texts are borrowed from the line that it was parsed from.
 #[derive(Clone, Copy)]
@@ -34,6 +34,19 @@ pub enum Command<'a> {
         del: u64,
         /// The bytes to put in their place, in base64 (RFC 4648, section 4).
         bytes: &'a str,
+    },
+    /// Replaces a range of a document's text (LSP 3.17, "TextDocumentContentChangeEvent").
+    Change {
+        /// The document's name.
+        doc: &'a str,
+        /// The document's revision now.
+        rev: u64,
+        /// What the range's characters are counted in.
+        unit: Unit,
+        /// The range to replace; the whole text without one.
+        range: Option<Range>,
+        /// The text to put in its place.
+        text: &'a str,
     },
     /// Returns the code points `from..to` of a document's text.
     Text {

@@ -17,6 +17,7 @@ use position_map::Position;
 use std::alloc::Global;
 use std::marker::Model;
 
+mod change;
 mod close;
 mod encode;
 mod errors;
@@ -114,6 +115,13 @@ impl<'i> Desk<'i> {
                 del,
                 bytes,
             } => self.splice(doc, rev, at, del, bytes),
+            Command::Change {
+                doc,
+                rev,
+                unit,
+                range,
+                text,
+            } => self.change(doc, rev, unit, range, text),
             Command::Text {
                 doc,
                 from,

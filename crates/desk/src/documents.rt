@@ -8,10 +8,10 @@ ghost use Rattle.desk.specs.Desk.{IsOutcome, has_place, outcome};
 ghost use Rattle.desk.specs.Documents.{edit_reply, reply_of};
 ghost use Rattle.desk.specs.Effects.{of_document, put};
 ghost use Rattle.desk.specs.Open.{admitted};
-ghost use Rattle.desk.specs.Splice.{splice_effect};
 ghost use Rattle.desk.specs.OpenDocuments.{AllOpened, entry_of, names};
 ghost use Rattle.index_loader.specs.Files.{Files};
 
+use crate::edit::Edit;
 use crate::fault::Fault;
 use crate::open_document::OpenDocument;
 use crate::reply::Reply;
@@ -99,21 +99,17 @@ impl<'i> Documents<'i> {
         Ok(reply)
     }
 
-    /// Splices the document of this name, as `OpenDocument::splice` does.
-    pub fn splice(
-        &mut self,
-        name: &str,
-        rev: u64,
-        at: u64,
-        del: u64,
-        ins: &[u8],
-    ) -> Result<Reply, Fault>
+    /// Makes an edit of the document of this name.
+    pub fn edit<E: Edit>(&mut self, name: &str, edit: &E) -> Result<Reply, Fault>
         ensures step { IsOutcome
-            (outcome self.old.named name.now (splice_effect self.old.indexes rev at del ins.now (map.get self.old.named name.now)))
+            (outcome self.old.named name.now (of_document (map.get self.old.named name.now) (E.effect edit.now self.old.indexes)))
             (reply_of result) self.old.named self.new.named }
         ensures indexes { self.new.indexes ≡ self.old.indexes }
     {
-        splice_in(&mut self.named, name, rev, at, del, ins)
+        let Some(found) = self.named.get_mut(name) else {
+            return Err(Fault::NoDocument);
+        };
+        edit.make(found)
     }
 
     /// Removes the document of this name.
@@ -145,25 +141,4 @@ impl<'i> Documents<'i> {
         self.named.insert(name, opened)?;
         Ok(())
     }
-}
-
-/// Splices the document of this name among those that are open.
-fn splice_in(
-    named: &mut BTreeMap<String, OpenDocument<'_>>,
-    name: &str,
-    rev: u64,
-    at: u64,
-    del: u64,
-    ins: &[u8],
-) -> Result<Reply, Fault>
-    ensures step { (indexes : Files) → AllOpened indexes named.old.entries → IsOutcome
-        (outcome (names named.old.entries) name.now (splice_effect indexes rev at del ins.now (map.get (names named.old.entries) name.now)))
-        (reply_of result) (names named.old.entries) (names named.new.entries) }
-    ensures opened { (indexes : Files) → AllOpened indexes named.old.entries → AllOpened indexes named.new.entries }
-{
-    let Some(found) = named.get_mut(name) else {
-        return Err(Fault::NoDocument);
-    };
-    found.splice(rev, at, del, ins)?;
-    Ok(found.edit_reply())
 }

@@ -1,6 +1,7 @@
 //! Laws of the desk's definition, which every desk meets.
 ghost use Rattle.desk.specs.Apart.{DocumentsAreApart};
 ghost use Rattle.desk.specs.Changes.{OnlyChangesChange, RefusalsChangeNothing, MemoryIsNeverWanted};
+ghost use Rattle.desk.specs.KeptText.{ChangesKeepText};
 ghost use Rattle.desk.specs.Lives.{OpensBegin, AdoptionsBegin, ClosesEnd, Lives};
 
 /// A refused command changes nothing; and the definition itself never refuses for lack of memory.
@@ -17,6 +18,12 @@ pub fn lives_have_each_edit_once()
     ensures adoptions { AdoptionsBegin }
     ensures closes { ClosesEnd }
     ensures lives { Lives }
+{}
+
+/// An accepted change leaves the bytes of the splice planned for its range, whose text, decoded from
+/// scratch, is the old text with the code points of the range replaced.
+pub fn changes_keep_text()
+    ensures { ChangesKeepText }
 {}
 
 /// What a desk answers for one document depends on no other, but for whether there is a place for

@@ -6,6 +6,7 @@ mod causes;
 mod command;
 mod desk;
 mod documents;
+mod edit;
 mod fault;
 mod laws;
 mod line;
@@ -19,9 +20,11 @@ mod text_mode;
 pub use command::Command;
 pub use desk::Desk;
 pub use fault::Fault;
-pub use laws::{documents_are_apart, lives_have_each_edit_once, refusals_change_nothing};
+pub use laws::{
+    changes_keep_text, documents_are_apart, lives_have_each_edit_once, refusals_change_nothing,
+};
 pub use line::Line;
 pub use place_unit::PlaceUnit;
 pub use position_map::{Position, Range, Unit};
-pub use reply::{Reply, ReplyBytes, ReplyLines, ReplyPlaces, ReplyText};
+pub use reply::{Reply, ReplyList, ReplyText};
 pub use text_mode::TextMode;

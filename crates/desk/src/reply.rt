@@ -37,113 +37,62 @@ impl ReplyText {
     }
 }
 
-/// The bytes of a reply. Contracts see their list.
+/// What a reply has many of (bytes, places or lines), in their order. Contracts see the list.
 #[derive(Drop)]
-pub struct ReplyBytes {
-    bytes: Vec<u8>,
+pub struct ReplyList<T: Drop> {
+    items: Vec<T>,
 }
 
-impl Model for ReplyBytes {
-    ghost use Rattle.std.specs.Prelude.{List, ℕ};
-
-    ghost Value = { List ℕ };
-
-    ghost view = { λ s. s.bytes.items };
-}
-
-impl ReplyBytes {
-    ghost use Rattle.std.specs.Prelude.{◌≡◌};
-
-    /// The same bytes, without a copy.
-    pub fn new(bytes: Vec<u8>) -> ReplyBytes
-        ensures { result ≡ bytes.items }
-    {
-        ReplyBytes { bytes }
-    }
-
-    /// The bytes.
-    pub fn as_slice(&self) -> &[u8]
-        ensures { result.now ≡ self.now }
-    {
-        self.bytes.as_slice()
-    }
-}
-
-/// The places of a reply, in bytes of the document and in their order. Contracts see their list.
-#[derive(Drop)]
-pub struct ReplyPlaces {
-    places: Vec<Place>,
-}
-
-impl Model for ReplyPlaces {
+impl<T: Drop> Model for ReplyList<T> {
     ghost use Rattle.std.specs.Prelude.{List};
-    ghost use Rattle.enc_names.specs.declared.place.Place.{Place};
 
-    ghost Value = { List Place };
+    ghost Value = { List T };
 
-    ghost view = { λ s. s.places.items };
+    ghost view = { λ s. s.items.items };
 }
 
-impl ReplyPlaces {
+impl<T: Drop> ReplyList<T> {
     ghost use Rattle.std.specs.Prelude.{◌≡◌};
 
-    /// The same places, without a copy.
-    pub fn new(places: Vec<Place>) -> ReplyPlaces
-        ensures { result ≡ places.items }
+    /// The same items, without a copy.
+    pub fn new(items: Vec<T>) -> ReplyList<T>
+        ensures { result ≡ items.items }
     {
-        ReplyPlaces { places }
+        ReplyList { items }
     }
 
-    /// The places.
-    pub fn as_slice(&self) -> &[Place]
+    /// The items.
+    pub fn as_slice(&self) -> &[T]
         ensures { result.now ≡ self.now }
     {
-        self.places.as_slice()
-    }
-}
-
-/// The lines of a reply, in their order. Contracts see their list.
-#[derive(Drop)]
-pub struct ReplyLines {
-    lines: Vec<Line>,
-}
-
-impl Model for ReplyLines {
-    ghost use Rattle.std.specs.Prelude.{List};
-    ghost use Rattle.desk.specs.declared.line.Line.{Line};
-
-    ghost Value = { List Line };
-
-    ghost view = { λ s. s.lines.items };
-}
-
-impl ReplyLines {
-    ghost use Rattle.std.specs.Prelude.{◌≡◌};
-
-    /// The same lines, without a copy.
-    pub fn new(lines: Vec<Line>) -> ReplyLines
-        ensures { result ≡ lines.items }
-    {
-        ReplyLines { lines }
-    }
-
-    /// The lines.
-    pub fn as_slice(&self) -> &[Line]
-        ensures { result.now ≡ self.now }
-    {
-        self.lines.as_slice()
+        self.items.as_slice()
     }
 }
 
 /// The answer to one command.
 #[derive(Drop)]
 pub enum Reply {
-    /// An open or an edit was accepted.
+    /// An open or a splice was accepted.
     Edited {
         /// How many bytes of the document are its byte order mark.
         bom: u64,
         /// The encoding in force.
         encoding: Encoding,
+        /// The document's revision after the command.
+        rev: u64,
+    },
+    /// A change was accepted.
+    Changed {
+        /// How many bytes stand before those put in.
+        at: u64,
+        /// How many bytes of the document are its byte order mark.
+        bom: u64,
+        /// How many bytes were taken out.
+        del: u64,
+        /// The encoding in force.
+        encoding: Encoding,
+        /// How many bytes were put in.
+        ins: u64,
         /// The document's revision after the command.
         rev: u64,
     },
@@ -164,7 +113,7 @@ pub enum Reply {
         /// The document's revision.
         rev: u64,
         /// The bytes.
-        bytes: ReplyBytes,
+        bytes: ReplyList<u8>,
     },
     /// A page of the places of errors.
     Errors {
@@ -173,7 +122,7 @@ pub enum Reply {
         /// How many errors the document has in all.
         total: u64,
         /// The places asked for, in bytes of the document.
-        places: ReplyPlaces,
+        places: ReplyList<Place>,
     },
     /// A page of lines.
     Lines {
@@ -182,7 +131,7 @@ pub enum Reply {
         /// How many lines the document has in all.
         count: u64,
         /// The lines asked for.
-        lines: ReplyLines,
+        lines: ReplyList<Line>,
     },
     /// The position of an offset.
     Position {

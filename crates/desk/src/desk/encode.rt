@@ -11,7 +11,7 @@ ghost use Rattle.encoders.specs.declared.fault.EncodeFault.{EncodeFault};
 use crate::desk::Desk;
 use crate::fault::Fault;
 use crate::open_document::OpenDocument;
-use crate::reply::{Reply, ReplyBytes};
+use crate::reply::{Reply, ReplyList};
 use enc_names::Encoding;
 use encoders::{EncodeFault, EncodeMode, encode};
 use std::alloc::Global;
@@ -68,7 +68,7 @@ fn encoded_reply(rev: u64, answer: Result<Vec<u8>, EncodeFault>) -> Result<Reply
     match answer {
         Ok(bytes) => Ok(Reply::Bytes {
             rev,
-            bytes: ReplyBytes::new(bytes),
+            bytes: ReplyList::new(bytes),
         }),
         Err(EncodeFault::NoIndex) => Err(Fault::NoIndex),
         Err(EncodeFault::NoEncoder) => Err(Fault::NoEncoder),

@@ -8,7 +8,7 @@ ghost use Rattle.desk.specs.OpenDocuments.{entry_of};
 use crate::desk::Desk;
 use crate::fault::Fault;
 use crate::open_document::OpenDocument;
-use crate::reply::{Reply, ReplyPlaces};
+use crate::reply::{Reply, ReplyList};
 
 impl Desk<'_> {
     /// At most `max` places of a document's errors, from number `from` on.
@@ -31,7 +31,7 @@ impl OpenDocument<'_> {
         Ok(Reply::Errors {
             rev: self.revision,
             total: self.document.lengths().errors,
-            places: ReplyPlaces::new(places),
+            places: ReplyList::new(places),
         })
     }
 }

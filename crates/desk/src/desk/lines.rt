@@ -12,7 +12,7 @@ use crate::desk::Desk;
 use crate::fault::Fault;
 use crate::line::Line;
 use crate::open_document::OpenDocument;
-use crate::reply::{Reply, ReplyLines};
+use crate::reply::{Reply, ReplyList};
 use piece_rope::{Doc, Visits};
 use position_map::{LineCursor, line_count};
 use std::alloc::{AllocError, Global};
@@ -43,7 +43,7 @@ impl OpenDocument<'_> {
         Ok(Reply::Lines {
             rev: self.revision,
             count,
-            lines: ReplyLines::new(lines),
+            lines: ReplyList::new(lines),
         })
     }
 }

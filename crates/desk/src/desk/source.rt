@@ -8,7 +8,7 @@ ghost use Rattle.desk.specs.Source.{source_reply};
 use crate::desk::Desk;
 use crate::fault::Fault;
 use crate::open_document::OpenDocument;
-use crate::reply::{Reply, ReplyBytes};
+use crate::reply::{Reply, ReplyList};
 
 impl Desk<'_> {
     /// The `len` bytes of a document from `at` on.
@@ -30,7 +30,7 @@ impl OpenDocument<'_> {
         let bytes = self.document.source(at, len)?;
         Ok(Reply::Bytes {
             rev: self.revision,
-            bytes: ReplyBytes::new(bytes),
+            bytes: ReplyList::new(bytes),
         })
     }
 }

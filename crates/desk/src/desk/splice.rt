@@ -1,20 +1,17 @@
 //! The op `splice`.
-ghost use Rattle.std.specs.Prelude.{◌≡◌, OnErr};
+ghost use Rattle.std.specs.Prelude.{◌≡◌};
 ghost use Rattle.desk.specs.Commands.{asked_of, Splices};
 ghost use Rattle.desk.specs.Desk.{Answers};
-ghost use Rattle.desk.specs.Documents.{Gives, reply_of, with_value};
-ghost use Rattle.desk.specs.OpenDocuments.{entry_of};
-ghost use Rattle.desk.specs.Splice.{edited};
+ghost use Rattle.desk.specs.Documents.{reply_of};
+ghost use Rattle.desk.specs.Splice.{splice_effect};
 
 use crate::base64_text::bytes_of;
 use crate::desk::Desk;
+use crate::edit::Edit;
 use crate::fault::Fault;
 use crate::open_document::OpenDocument;
 use crate::reply::Reply;
 use decoder_core::meter;
-
-/// The greatest revision, 2^53 - 1: the greatest whole number that a line may hold.
-const MAX_REVISION: u64 = 9_007_199_254_740_991;
 
 impl Desk<'_> {
     /// Puts bytes in place of `del` bytes from `at` on.
@@ -29,26 +26,29 @@ impl Desk<'_> {
         ensures { Answers self.old (asked_of doc.now (Splices rev at del bytes.now)) (reply_of result) self.new }
     {
         let ins = bytes_of(self.alloc, bytes)?;
-        self.documents.splice(doc, rev, at, del, &ins)
+        let ins = ins.as_slice();
+        self.documents.edit(doc, &Splice { rev, at, del, ins })
     }
 }
 
-impl OpenDocument<'_> {
-    /// Puts `ins` in place of `del` bytes from `at` on and raises the revision by one, if `rev` is
-    /// the revision now.
-    pub(crate) fn splice(&mut self, rev: u64, at: u64, del: u64, ins: &[u8]) -> Result<(), Fault>
-        ensures edit { Gives (edited (entry_of self.old) rev at del ins.now) (with_value (entry_of self.new) result) }
-        ensures indexes { self.new.document.indexes ≡ self.old.document.indexes }
-        ensures err { OnErr result (self.new ≡ self.old) }
-    {
-        if rev != self.revision {
-            return Err(Fault::Stale { rev: self.revision });
-        }
-        if self.revision >= MAX_REVISION {
-            return Err(Fault::RevisionsSpent);
-        }
-        self.document.splice(at, del, ins, &mut meter())?;
-        self.revision += 1;
-        Ok(())
+/// Puts `ins` in place of `del` bytes from `at` on, if `rev` is the revision now.
+#[derive(Drop)]
+struct Splice<'a> {
+    rev: u64,
+    at: u64,
+    del: u64,
+    ins: &'a [u8],
+}
+
+impl Edit for Splice<'_> {
+    ghost effect = { λ s indexes h. splice_effect indexes s.rev s.at s.del s.ins.now h };
+
+    fn make(&self, opened: &mut OpenDocument<'_>) -> Result<Reply, Fault> {
+        opened.check_revision(self.rev)?;
+        opened
+            .document
+            .splice(self.at, self.del, self.ins, &mut meter())?;
+        opened.revision += 1;
+        Ok(opened.edit_reply())
     }
 }

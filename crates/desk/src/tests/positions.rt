@@ -401,26 +401,24 @@ fn lengths_of_a_document(rt: HostRuntime) -> Result<(), Fail> {
     // A byte order mark, then E2 82, which is an error, A, U+1F600, CR, LF.
     let bytes = b"\xEF\xBB\xBF\xE2\x82A\xF0\x9F\x98\x80\r\n";
     assert_eq!(rt; desk.adopt("d", Encoding::XUserDefined, bytes, 7), Ok(()));
-    let Reply::Stat {
-        rev,
-        given,
-        encoding,
-        bom,
-        bytes,
-        errors,
-        lines,
-        utf8,
-        utf16,
-        utf32,
-    } = desk.answer(&Command::Stat { doc: "d" })
-    else {
-        assert!(rt; false, "no lengths");
-        return Ok(());
-    };
-    assert_eq!(rt; given, Encoding::XUserDefined);
-    assert_eq!(rt; encoding, Encoding::Utf8);
-    assert_eq!(rt; [rev, bom, bytes, errors, lines], [7, 3, 12, 1, 2]);
-    assert_eq!(rt; [utf8, utf16, utf32], [10, 6, 5]);
+    let reply = desk.answer(&Command::Stat { doc: "d" });
+    assert!(rt;
+        matches!(
+            reply,
+            Reply::Stat {
+                rev: 7,
+                given: Encoding::XUserDefined,
+                encoding: Encoding::Utf8,
+                bom: 3,
+                bytes: 12,
+                errors: 1,
+                lines: 2,
+                utf8: 10,
+                utf16: 6,
+                utf32: 5,
+            }
+        )
+    );
     Ok(())
 }
 

@@ -1,4 +1,4 @@
-use Rattle.std.proofs.Common.{sym, ap, ◌∙◌, rules, arith, false, ◌≡◌}
+use Rattle.std.proofs.Common.{rules, false, ◌≡◌}
 use Rattle.std.specs.FinMap.{get}
 use Rattle.std.specs.Option.{is_some}
 use Rattle.desk.proofs.Open.{adopted_answers}

@@ -1,4 +1,4 @@
-use Rattle.std.proofs.Common.{sym, ◌≡◌, false, rules, Some}
+use Rattle.std.proofs.Common.{◌≡◌, false, rules, Some}
 use Rattle.std.specs.FinMap.{get}
 use Rattle.std.specs.Option.{is_some}
 use Rattle.enc_names.specs.Labels.{lookup_in}

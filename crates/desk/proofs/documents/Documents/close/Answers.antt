@@ -1,10 +1,11 @@
 use Rattle.desk.proofs.Names.{opened_removed}
-use Rattle.desk.proofs.Close.{closed_answers, closed_nowhere}
+use Rattle.desk.proofs.Close.{closed_answers}
+use Rattle.desk.proofs.Edits.{nowhere}
 use Rattle.desk.proofs.documents.Documents.close.Goals as goal
 
 pub returns-in_default-clause-step : goal.returns-in_default-clause-step
 returns-in_default-clause-step c = rw (← c.self.view_is)
-    (closed_nowhere c.self.inside.named c.remove.new.self c.args.name.now c.in_default.ensures.value c.in_default.ensures.unchanged)
+    (nowhere c.self.inside.named c.remove.new.self c.args.name.now _ c.in_default.ensures.value c.in_default.ensures.unchanged)
 
 pub invariant_of-self-2 : goal.invariant_of-self-2
 invariant_of-self-2 c = rw c.remove.ensures.entries (opened_removed _ c.args.name.now c.self.inside.named.entries c.self.invariant)

@@ -1,5 +1,4 @@
-use Rattle.std.proofs.Common.{◌≡◌, true, ap, ◌∙◌, sym, rules}
-use Rattle.std.specs.Str.{chars}
+use Rattle.std.proofs.Common.{◌≡◌, true, rules}
 use Rattle.index_loader.specs.Files.{has_files}
 use Rattle.desk.specs.OpenDocuments.{entry_of}
 use Rattle.desk.proofs.Encode.{encoded_range}

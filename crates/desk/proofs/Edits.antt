@@ -1,0 +1,144 @@
+-- What the edits have in common: their steps, and their rows.
+use Rattle.std.proofs.Common.{◌≡◌, ◌≢◌, ℕ, ◌+◌, ◌&&◌, ◌==◌, Bool, true, false, nat_le, nat_lt, List, length, if◌then◌else◌, String, string_bytes, refl, sym, ap, ◌∙◌, subst, arith}
+use Rattle.std.proofs.lemmas.Bool.{eqb-true}
+use Rattle.std.specs.Prelude.{IfOk, OnErr}
+use Rattle.std.specs.declared.alloc.Global.{Global}
+use Rattle.std.specs.declared.option.Option.TheVariants.{None, Some}
+use Rattle.std.specs.declared.result.Result.{Result}
+use Rattle.std.specs.declared.result.Result.TheVariants.{Ok, Err}
+use Rattle.std.specs.BTreeMap as tree
+use Rattle.std.specs.BTreeMap.{BTreeMap}
+use Rattle.std.specs.Cmp.Lexicographic.{slice_cmp}
+use Rattle.std.specs.FinMap as finite
+use Rattle.std.specs.Map.{lookup, set_value}
+use Rattle.std.specs.Ordering.{nat_cmp}
+use Rattle.std.specs.String.{string_cmp}
+use Rattle.std.proofs.lemmas.Map.Steps.{set_value_same}
+use Rattle.index_loader.specs.Files.{Files}
+use Rattle.piece_rope.specs.Edits.{document_limit, splice_fault, spliced}
+use Rattle.desk.specs.Changes.{is_accepted, changes}
+use Rattle.desk.specs.Commands.{Ask}
+use Rattle.desk.specs.Desk.{IsOutcome, outcome}
+use Rattle.desk.specs.Documents.{Entry, max_revision, reply_of}
+use Rattle.desk.specs.Edits.{Splice, left_by, at_revision, put_splice, edited, Makes}
+use Rattle.desk.specs.Effects.{Effect, Puts, of_document}
+use Rattle.desk.specs.Lives.{is_edit, named_by, edited_by}
+use Rattle.desk.specs.OpenDocuments.{AllOpened, entry_of, names}
+use Rattle.desk.specs.declared.fault.Fault.{Fault}
+use Rattle.desk.specs.declared.fault.Fault.TheVariants.{OutOfMemory, NoDocument}
+use Rattle.desk.specs.declared.open_document.OpenDocument.{OpenDocument}
+use Rattle.desk.specs.declared.reply.Reply.{Reply}
+use Rattle.desk.specs.declared.reply.Reply.TheVariants.{Refused}
+use Rattle.desk.proofs.Names.{at_text, entry_none, entry_some, names_updated, opened_found}
+use Rattle.desk.proofs.Row.{ContinuesBy, Keeps, Answered, Decided, Caused, caused-if, decided-if, continues-refused}
+
+abbrev Map : Type 0
+Map = BTreeMap (String Global) OpenDocument
+
+-- ---- steps
+
+module _ (old new : Map) (doc : List ℕ) where
+  abbrev Here : Effect → Reply → Type 0
+  Here effect reply = IsOutcome (outcome (names old.entries) doc effect) reply (names old.entries) (names new.entries)
+
+  -- what is asked of the document at the name
+  abbrev pub Step : (Entry → Effect) → Reply → Type 0
+  Step ask reply = Here (of_document (finite.get (names old.entries) doc) ask) reply
+
+  -- no document is there
+  pub nowhere : (ask : Entry → Effect) → None ≡ lookup (at_text doc) old.entries → new.entries ≡ old.entries → Step ask (Refused NoDocument)
+  nowhere ask none same =
+      ap (λ f. outcome (names old.entries) doc (of_document f ask)) (entry_none doc old.entries none)
+      ∙ ap (λ es. record { reply = Refused NoDocument; documents = names es }) (sym same)
+
+  -- this one is
+  pub there : (ask : Entry → Effect) (k : OpenDocument) (reply : Reply) → Some k ≡ lookup (at_text doc) old.entries → Here (ask (entry_of k)) reply → Step ask reply
+  there ask k reply some step = subst (λ f. Here (of_document f ask) reply) (sym (entry_some doc old.entries k some)) step
+
+  accepted : (effect : Effect) (h : Entry) (reply : Reply) → is_accepted reply ≡ true → effect ≡ record { reply = reply; move = Puts h }
+      → names new.entries ≡ finite.insert (names old.entries) doc h → Here effect reply
+  accepted effect h (Refused f) is makes same = cc
+  accepted effect h reply is makes same = ap (outcome (names old.entries) doc) makes ∙ ap (λ n. record { reply = reply; documents = n }) (sym same)
+
+  not_made : (effect : Effect) (h : Entry) (f : Fault) → Makes effect (Err f) h → names new.entries ≡ names old.entries → Here effect (Refused f)
+  not_made effect h OutOfMemory makes same = same
+  not_made effect h f makes same = ap (outcome (names old.entries) doc) makes ∙ ap (λ n. record { reply = Refused f; documents = n }) (sym same)
+
+  -- an edit that made the document l of k, or was refused
+  module _ (indexes : Files) (edit : Files → Entry → Effect) (k l : OpenDocument) (some : Some k ≡ lookup (at_text doc) old.entries) (all : AllOpened indexes old.entries) where
+    made : (answer : Result Reply Fault) → Makes (edit indexes (entry_of k)) answer (entry_of l) → IfOk answer (λ reply. is_accepted reply ≡ true) → OnErr answer (l ≡ k)
+        → new.entries ≡ set_value (at_text doc) old.entries l → tree.UpdatesBy string_cmp (λ q. slice_cmp nat_cmp doc (string_bytes q)) old new (Some l)
+        → Here (edit indexes (entry_of k)) (reply_of answer)
+    made (Ok reply) makes is same write updates = accepted (edit indexes (entry_of k)) (entry_of l) reply is makes (names_updated doc old new l updates)
+    made (Err f) makes is same write updates =
+        not_made (edit indexes (entry_of k)) (entry_of l) f makes
+        (ap names (write ∙ ap (set_value (at_text doc) old.entries) same ∙ set_value_same (at_text doc) old.entries k (sym some)))
+
+    pub edited_here : (answer : Result Reply Fault) → Makes (edit k.document.indexes (entry_of k)) answer (entry_of l) → IfOk answer (λ reply. is_accepted reply ≡ true) → OnErr answer (l ≡ k)
+        → new.entries ≡ set_value (at_text doc) old.entries l → tree.UpdatesBy string_cmp (λ q. slice_cmp nat_cmp doc (string_bytes q)) old new (Some l)
+        → Step (edit indexes) (reply_of answer)
+    edited_here answer makes is same write updates =
+        there (edit indexes) k (reply_of answer) some
+        (made answer (subst (λ i. Makes (edit i (entry_of k)) answer (entry_of l)) (opened_found indexes doc old.entries k all some) makes) is same write updates)
+
+-- ---- an edit that is accepted
+
+if-ok : {A : Type 0} (b : Bool) (x y : Result A Fault) (k : A) → (y ≡ Ok k → ⊥) → (if b then x else y) ≡ Ok k → (b ≡ true) × (x ≡ Ok k)
+if-ok true x y k never e = (refl, e)
+if-ok false x y k never e = absurd (never e)
+
+-- it names the revision
+pub at_revision-ok : {A : Type 0} (h : Entry) (rev : ℕ) (answer : Result A Fault) (k : A) → at_revision h rev answer ≡ Ok k → (rev ≡ h.revision) × (answer ≡ Ok k)
+at_revision-ok h rev answer k e =
+    let outer = if-ok (rev == h.revision) _ _ k (λ e. cc) e in
+    let inner = if-ok (nat_lt h.revision max_revision) _ _ k (λ e. cc) outer.1 in
+    (eqb-true rev h.revision outer.0, inner.1)
+
+-- ---- the row
+
+pub caused-splice : (bytes : List ℕ) (at del : ℕ) (ins : List ℕ) → Caused (splice_fault bytes at del ins)
+unfolding splice_fault
+caused-splice bytes at del ins =
+    caused-if (nat_le (at + del) (length bytes)) _ _ (caused-if (nat_le (length (spliced bytes at del ins)) document_limit) _ _ (λ e. cc) (λ e. cc)) (λ e. cc)
+
+accepts : (reply : Reply) → changes reply ≡ true → is_accepted reply ≡ true
+accepts (Refused f) e = cc
+accepts reply e = refl
+
+never-memory : (reply : Reply) → changes reply ≡ true → reply ≢ Refused OutOfMemory
+never-memory reply e is = let never : false ≡ true = ap changes (sym is) ∙ e in cc
+
+-- an edit of an entry, whose accepted reply reports a change
+module _ (h : Entry) (rev : ℕ) (reply : Splice → Entry → Reply) (reports : (s : Splice) (k : Entry) → changes (reply s k) ≡ true) where
+  keeps-put : (r : Result Splice Fault) → Keeps (put_splice h reply r)
+  keeps-put (Ok s) = λ e. let never : true ≡ false = sym (reports s (left_by h s)) ∙ e in cc
+  keeps-put (Err f) = λ e. refl
+
+  pub keeps-edited : (wanted : Result Splice Fault) → Keeps (edited h rev reply wanted)
+  keeps-edited wanted = keeps-put (at_revision h rev wanted)
+
+  abbrev Possible : Result Splice Fault → Type 0
+  Possible r = Decided (λ s. Unit {0}) r
+
+  answered-put : (r : Result Splice Fault) → Possible r → Answered (put_splice h reply r)
+  answered-put (Ok s) p = never-memory (reply s (left_by h s)) (reports s (left_by h s))
+  answered-put (Err OutOfMemory) p = absurd p
+  answered-put (Err f) p = λ e. cc
+
+  pub answered-edited : (wanted : Result Splice Fault) → Possible wanted → Answered (edited h rev reply wanted)
+  answered-edited wanted p =
+      answered-put (at_revision h rev wanted) (decided-if (λ s. Unit {0}) (rev == h.revision) _ _ (decided-if (λ s. Unit {0}) (nat_lt h.revision max_revision) _ _ p tt) tt)
+
+  -- it is one more of the edits in the document's life
+  module _ (indexes : Files) (ask : Ask) (asks : is_edit ask ≡ true) (named : named_by ask ≡ Some rev) (wanted : Result Splice Fault)
+      (leaves : (s : Splice) → wanted ≡ Ok s → edited_by indexes h.given h.bytes ask ≡ spliced h.bytes s.at s.del s.ins) where
+    continues-put : (r : Result Splice Fault) → at_revision h rev wanted ≡ r → ContinuesBy indexes h ask (put_splice h reply r)
+    continues-put (Ok s) e =
+        let ok = at_revision-ok h rev wanted s e in (
+          ap (λ b. b && is_accepted (reply s (left_by h s))) asks ∙ accepts (reply s (left_by h s)) (reports s (left_by h s)),
+          record { given = refl; revision = omega arith; named = (named ∙ ap Some ok.0, tt); bytes = sym (leaves s ok.1) },
+        )
+    continues-put (Err f) e = continues-refused indexes h ask f
+
+    pub continues-edited : ContinuesBy indexes h ask (edited h rev reply wanted)
+    continues-edited = continues-put (at_revision h rev wanted) refl
