@@ -10,7 +10,7 @@ use Rattle.gateway.specs.declared.traces.begun_line.LineFault.TheVariants.{Bad, 
 use Rattle.gateway.specs.declared.traces.feeding.TracePlace.{TracePlace}
 use Rattle.gateway.specs.Lines.{complete, unfinished, has_end, before_end}
 use Rattle.gateway.specs.Traffic.{Traffic}
-use Rattle.gateway.specs.Trace.{is_skipped, IsBad, PrintsLine, PrintsAll, text_lines, StopsAtBad, StopsInPrint, StopsBetween}
+use Rattle.gateway.specs.Trace.{is_skipped, IsBad, PrintsLine, PrintsAll, text_lines, StopsAtBad, StopsInPrint, StopsForMemory}
 use Rattle.gateway.specs.TraceLines.{Begun, Known, MayBe, Goes, PlaysLine}
 use Rattle.gateway.specs.Tracing.{FeedsOn, Feeds, Anything, FeedStops, numbered_fault}
 use Rattle.gateway.proofs.Cuts.{complete-append, unfinished-append, complete_without, unfinished_without, before_without, cut_at_end, complete_at_end, unfinished_at_end, taken_at_end}
@@ -91,11 +91,13 @@ module _ (line a b : List ℕ) (t u v : Traffic) (x y z : Option (List ℕ)) (p 
     stops = two.stops;
   }
 
-  stops-between : StopsBetween (unfinished line a) b u v y z → StopsBetween line (a ++ b) t v x z
-  stops-between two = record {
+  stops-for-memory : StopsForMemory (unfinished line a) b u v y z → StopsForMemory line (a ++ b) t v x z
+  stops-for-memory two = record {
     first = complete line a ++ two.first;
+    last = two.last;
     more = two.more;
-    cut = complete-append line a b ∙ ap (λ l. complete line a ++ l) two.cut ∙ sym (append_assoc (complete line a) two.first two.more);
+    cut = lines-append line a b ∙ ap (λ l. complete line a ++ l) two.cut ∙ sym (append_assoc (complete line a) two.first (two.last ∷ two.more));
+    counts = two.counts;
     out = one.out ++ two.out;
     appends = Appends-trans x y z one.out two.out one.appends two.appends;
     prints = prints-append t u v (complete line a) two.first one.out two.out one.prints two.prints;
@@ -106,7 +108,7 @@ feeds-stop (fault.BadLine n) a b t u v x y z p q one two = λ line m. let first 
 feeds-stop fault.Read a b t u v x y z p q one two = two
 feeds-stop fault.Write a b t u v x y z p q one two = λ line m. let first = one line m in stops-in-print line a b t u v x y z p q first (two (unfinished line a) first.next)
 feeds-stop fault.TooManyReads a b t u v x y z p q one two = two
-feeds-stop fault.OutOfMemory a b t u v x y z p q one two = λ line m. let first = one line m in stops-between line a b t u v x y z p q first (two (unfinished line a) first.next)
+feeds-stop fault.OutOfMemory a b t u v x y z p q one two = λ line m. let first = one line m in stops-for-memory line a b t u v x y z p q first (two (unfinished line a) first.next)
 
 -- ---- bytes without a line feed
 
@@ -137,10 +139,12 @@ more-stops Bad bytes t x p q e bad = λ line m. record {
   prints = (refl, refl);
 }
 more-stops Write bytes t x p q e bad = absurd bad
-more-stops OutOfMemory bytes t x p q e bad = λ line m. record {
+more-stops OutOfMemory bytes t x p q e counts = λ line m. record {
   first = [];
-  more = complete line bytes;
-  cut = refl;
+  last = line ++ bytes;
+  more = [];
+  cut = ap (λ l. l ++ unfinished line bytes ∷ []) (complete_without line bytes e) ∙ ap (λ l. l ∷ []) (unfinished_without line bytes e);
+  counts = counts line m;
   out = [];
   appends = Appends-nil x;
   prints = (refl, refl);
@@ -162,6 +166,9 @@ module _ (bytes : List ℕ) (k : ℕ) (e : has_end bytes ≡ true) (front : befo
       (ap (λ l. complete line (l ++ later)) cut ∙ ap (complete line) (append_assoc (before_end bytes) (10 ∷ rest) later)
       ∙ complete_at_end line (before_end bytes) (rest ++ later) (before_without bytes))
 
+  ended-here : (line : List ℕ) → text_lines line bytes ≡ (line ++ before_end bytes) ∷ complete [] rest ++ unfinished line bytes ∷ []
+  ended-here line = ap (λ l. l ++ unfinished line bytes ∷ []) (ap (complete line) cut ∙ complete_at_end line (before_end bytes) rest (before_without bytes))
+
   pub end-stops : (f : LineFault) (t : Traffic) (x : Option (List ℕ)) (p : TracePlace) (q : Begun) → Goes {A = Unit {0}} (Err f) p.begun (take k bytes) q
       → FeedStops (numbered_fault f p.number) bytes t t x x p
   end-stops Bad t x p q bad = λ line m. record {
@@ -178,10 +185,12 @@ module _ (bytes : List ℕ) (k : ℕ) (e : has_end bytes ≡ true) (front : befo
     prints = (refl, refl);
   }
   end-stops Write t x p q bad = absurd bad
-  end-stops OutOfMemory t x p q bad = λ line m. record {
+  end-stops OutOfMemory t x p q counts = λ line m. record {
     first = [];
-    more = complete line bytes;
-    cut = refl;
+    last = line ++ before_end bytes;
+    more = complete [] rest ++ unfinished line bytes ∷ [];
+    cut = ended-here line;
+    counts = rw front (counts line m);
     out = [];
     appends = Appends-nil x;
     prints = (refl, refl);
@@ -237,9 +246,11 @@ module _ (bytes : List ℕ) (k : ℕ) (e : has_end bytes ≡ true) (front : befo
         let done = plays (line ++ before_end bytes) (ended line m) in
         record {
           first = [];
-          more = complete line bytes;
-          cut = refl;
+          last = line ++ before_end bytes;
+          more = complete [] rest ++ unfinished line bytes ∷ [];
+          cut = ended-here line;
+          counts = done.0;
           out = [];
-          appends = subst (λ w. Appends x w []) (sym done.1) (Appends-nil x);
-          prints = (refl, done.0);
+          appends = subst (λ w. Appends x w []) (sym done.2) (Appends-nil x);
+          prints = (refl, done.1);
         }

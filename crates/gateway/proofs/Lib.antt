@@ -14,5 +14,7 @@ mod Runs
 mod SentLines
 mod StepReplies
 mod Took
+mod Traced
 mod Tracing
+mod TracedLines
 mod Words

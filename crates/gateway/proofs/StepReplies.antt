@@ -5,9 +5,9 @@ use Rattle.json.specs.Print.{escape_byte}
 use Rattle.serde_json.specs.Data.{Data}
 use Rattle.enc_names.specs.Labels.{LabelTable}
 use Rattle.index_loader.specs.Files.{Files}
-use Rattle.desk.specs.declared.fault.Fault.TheVariants.{BadBase64, NoDocument, NameTaken, UnknownLabel, NoIndex, TooManyDocuments, Stale, RevisionsSpent, OutOfRange, SplitsCharacter, NoEncoder, Unencodable, TooLarge, NotKept, Malformed, OutOfMemory}
+use Rattle.desk.specs.declared.fault.Fault.TheVariants.{BadBase64, NoDocument, NameTaken, UnknownLabel, NoIndex, TooManyDocuments, Stale, RevisionsSpent, OutOfRange, SplitsCharacter, SplitsItem, NoEncoder, Unencodable, TooLarge, NotKept, Malformed, OutOfMemory}
 use Rattle.desk.specs.declared.reply.Reply.{Reply}
-use Rattle.desk.specs.declared.reply.Reply.TheVariants.{Edited, Closed, Text, Bytes, Errors, Lines, Position, Offset, Stat, Refused}
+use Rattle.desk.specs.declared.reply.Reply.TheVariants.{Edited, Changed, Closed, Text, Bytes, Errors, Lines, Position, Offset, Stat, Refused}
 use Rattle.desk.specs.declared.reply.Reply.TheVariants as replies
 use Rattle.gateway.specs.declared.request.refusal.Refusal.{Refusal}
 use Rattle.gateway.specs.declared.request.refusal.Refusal.TheVariants as refusal
@@ -35,6 +35,7 @@ IsApart id reply = bytes_eq (reply_text id reply) memory_text ≡ false
 pub texts_apart : (id : ℕ) (reply : Reply) → IsApart id reply
 unfolding escape_byte
 texts_apart id (Edited bom encoding rev) = refl
+texts_apart id (Changed at bom del encoding ins rev) = refl
 texts_apart id (Closed rev) = refl
 texts_apart id (Text rev text) = refl
 texts_apart id (Bytes rev bytes) = refl
@@ -55,6 +56,7 @@ texts_apart id (Refused (Stale rev)) = refl
 texts_apart id (Refused RevisionsSpent) = refl
 texts_apart id (Refused OutOfRange) = refl
 texts_apart id (Refused SplitsCharacter) = refl
+texts_apart id (Refused SplitsItem) = refl
 texts_apart id (Refused NoEncoder) = refl
 texts_apart id (Refused (Unencodable code_point index)) = refl
 texts_apart id (Refused TooLarge) = refl
@@ -94,6 +96,7 @@ desk_step old new id command reply text e a =
 -- a reply with a text or a list reports no change
 long_keeps : (reply : Reply) → is_short reply ≡ false → changes reply ≡ false
 long_keeps (Edited bom encoding rev) long = cc
+long_keeps (Changed at bom del encoding ins rev) long = cc
 long_keeps (Closed rev) long = cc
 long_keeps (Refused fault) long = refl
 long_keeps (Text rev text) long = refl

@@ -169,10 +169,12 @@ module _ (t u : Traffic) (l m x y : Option (List ℕ)) (p q : TracePlace) (fresh
           on.consumes,
           record {
             first = complete [] on.read;
+            last = unfinished [] on.read;
             more = [];
-            cut = sym (append-nil (complete [] on.read));
+            cut = refl;
+            counts = done.0;
             out = fed.out;
-            appends = subst (λ w. Appends x w fed.out) (sym done.1) fed.appends;
-            prints = subst (λ w. PrintsAll t (complete [] on.read) fed.out w) (sym done.0) fed.prints;
+            appends = subst (λ w. Appends x w fed.out) (sym done.2) fed.appends;
+            prints = subst (λ w. PrintsAll t (complete [] on.read) fed.out w) (sym done.1) fed.prints;
           },
         )

@@ -10,6 +10,7 @@ pub mod Serving
 pub mod Step
 pub mod Trace
 pub mod TraceLines
+pub mod Traced
 pub mod Tracing
 pub mod Traffic
 pub mod Writing

@@ -8,10 +8,10 @@ use Rattle.enc_names.specs.Names.{name_of}
 use Rattle.enc_names.specs.declared.encoding.Encoding.{Encoding}
 use Rattle.enc_names.specs.declared.place.Place.{Place}
 use Rattle.desk.specs.declared.fault.Fault.{Fault}
-use Rattle.desk.specs.declared.fault.Fault.TheVariants.{BadBase64, NoDocument, NameTaken, UnknownLabel, NoIndex, TooManyDocuments, Stale, RevisionsSpent, OutOfRange, SplitsCharacter, NoEncoder, Unencodable, TooLarge, NotKept, Malformed, OutOfMemory}
+use Rattle.desk.specs.declared.fault.Fault.TheVariants.{BadBase64, NoDocument, NameTaken, UnknownLabel, NoIndex, TooManyDocuments, Stale, RevisionsSpent, OutOfRange, SplitsCharacter, SplitsItem, NoEncoder, Unencodable, TooLarge, NotKept, Malformed, OutOfMemory}
 use Rattle.desk.specs.declared.reply.Reply.{Reply}
 use Rattle.desk.specs.declared.line.Line.{Line}
-use Rattle.desk.specs.declared.reply.Reply.TheVariants.{Edited, Closed, Text, Bytes, Errors, Lines, Position, Offset, Stat, Refused}
+use Rattle.desk.specs.declared.reply.Reply.TheVariants.{Edited, Changed, Closed, Text, Bytes, Errors, Lines, Position, Offset, Stat, Refused}
 use Rattle.desk.specs.declared.reply.Reply.TheVariants as replies
 use Rattle.gateway.specs.declared.request.field.Field.{Field}
 use Rattle.gateway.specs.declared.request.field.Field.TheVariants as field
@@ -31,6 +31,7 @@ fault_name (Stale rev) = codes "Stale"
 fault_name RevisionsSpent = codes "RevisionsSpent"
 fault_name OutOfRange = codes "OutOfRange"
 fault_name SplitsCharacter = codes "SplitsCharacter"
+fault_name SplitsItem = codes "SplitsItem"
 fault_name NoEncoder = codes "NoEncoder"
 fault_name (Unencodable code_point index) = codes "Unencodable"
 fault_name TooLarge = codes "TooLarge"
@@ -58,6 +59,8 @@ field_name field.Line = codes "line"
 field_name field.Character = codes "character"
 field_name field.Unit = codes "unit"
 field_name field.Value = codes "value"
+field_name field.Range = codes "range"
+field_name field.Text = codes "text"
 
 -- ---- data
 
@@ -89,6 +92,12 @@ abbrev pub edited_data : ℕ → ℕ → Encoding → ℕ → Data
 edited_data id bom encoding rev =
     object (member (codes "bom") (whole bom) (member (codes "encoding") (string (name_of encoding))
     (member (codes "id") (whole id) (member (codes "rev") (whole rev) no_members))))
+
+abbrev pub changed_data : ℕ → ℕ → ℕ → ℕ → Encoding → ℕ → ℕ → Data
+changed_data id at bom del encoding ins rev =
+    object (member (codes "at") (whole at) (member (codes "bom") (whole bom) (member (codes "del") (whole del)
+    (member (codes "encoding") (string (name_of encoding)) (member (codes "id") (whole id) (member (codes "ins") (whole ins)
+    (member (codes "rev") (whole rev) no_members)))))))
 
 abbrev pub closed_data : ℕ → ℕ → Data
 closed_data id rev = object (member (codes "id") (whole id) (member (codes "rev") (whole rev) no_members))
@@ -163,6 +172,7 @@ fault_data id f = fault_with_id_data (fault_name f) id
 -- the object that answers the request with this number
 abbrev pub reply_data : ℕ → Reply → Data
 reply_data id (Edited bom encoding rev) = edited_data id bom encoding rev
+reply_data id (Changed at bom del encoding ins rev) = changed_data id at bom del encoding ins rev
 reply_data id (Closed rev) = closed_data id rev
 reply_data id (Text rev text) = text_data id rev text
 reply_data id (Bytes rev bytes) = bytes_data id rev bytes
@@ -216,6 +226,7 @@ memory_text = line_of (bare_data (codes "OutOfMemory"))
 -- The reply is stored inline: it holds no text and no list.
 abbrev pub is_short : Reply → Bool
 is_short (Edited bom encoding rev) = true
+is_short (Changed at bom del encoding ins rev) = true
 is_short (Closed rev) = true
 is_short (Text rev text) = false
 is_short (Bytes rev bytes) = false

@@ -3,13 +3,15 @@
 use Rattle.std.specs.Prelude.{◌≡◌, ◌<◌, ◌-◌, ◌^◌, ℕ, ◌||◌, ◌==◌, nat_lt, nat_le, List, length, codes, if◌then◌else◌, is_some, Option, Some, None, option_and_then, Result, Ok, Err}
 use Rattle.std.specs.Str.{bytes_eq}
 use Rattle.std.specs.Option.{option_map}
-use Rattle.serde_json.specs.Data.{Data}
+use Rattle.serde_json.specs.Data.{Data, null}
 use Rattle.serde_json.specs.Find.{get, as_number, as_u64, as_str, as_object}
 use Rattle.serde_json.specs.View.{view}
 use Rattle.serde_json.specs.declared.value.Value.{Value}
 use Rattle.enc_names.specs.Json.{json_of}
-use Rattle.desk.specs.Commands.{Asked, asked_of, Opens, Closes, Splices, Reads, ReadsBytes, Encodes, ListsErrors, ListsLines, FindsPosition, FindsOffset, FindsPlace, Measures, asked}
+use Rattle.desk.specs.Commands.{Asked, asked_of, Opens, Closes, Splices, ChangesText, Reads, ReadsBytes, Encodes, ListsErrors, ListsLines, FindsPosition, FindsOffset, FindsPlace, Measures, asked}
 use Rattle.desk.specs.declared.command.Command.{Command}
+use Rattle.position_map.specs.declared.position.Position.{Position}
+use Rattle.position_map.specs.declared.position.Range.{Range}
 use Rattle.position_map.specs.declared.unit.Unit.{Unit as TextUnit}
 use Rattle.position_map.specs.declared.unit.Unit.TheVariants.{Utf8, Utf16, Utf32}
 use Rattle.encoders.specs.declared.mode.EncodeMode.{EncodeMode}
@@ -113,6 +115,34 @@ as_place_unit text = if bytes_eq text (codes "byte") then Some Byte else option_
 abbrev pub place_unit_at : Data → Option PlaceUnit
 place_unit_at d = option_and_then as_place_unit (text_at d (codes "unit"))
 
+-- ---- the range of a change
+
+abbrev pub position_of : ℕ → ℕ → Position
+position_of line character = record { line = line; character = character }
+
+abbrev pub range_of : Position → Position → Range
+range_of start end = record { start = start; end = end }
+
+-- a position: both of its numbers have to be there
+abbrev pub as_position : Data → Option Position
+as_position d =
+    option_and_then (λ line. option_map (position_of line) (number_at d (codes "character") max_number)) (number_at d (codes "line") max_number)
+
+abbrev pub position_at : Data → List ℕ → Option Position
+position_at d name = option_and_then as_position (get name d)
+
+abbrev pub as_range : Data → Option Range
+as_range d = option_and_then (λ start. option_map (range_of start) (position_at d (codes "end"))) (position_at d (codes "start"))
+
+abbrev pub or_whole : Option Data → Option (Option Range)
+or_whole None = Some None
+or_whole (Some null) = Some None
+or_whole (Some d) = option_map Some (as_range d)
+
+-- the range of a change; none is the whole text, which is meant where it is absent or null
+abbrev pub range_at : Data → Option (Option Range)
+range_at d = or_whole (get (codes "range") d)
+
 -- ---- the fields of each command, in the order of their checks
 
 abbrev pub open_command : Data → Result Asked Field
@@ -135,6 +165,15 @@ splice_command d = do
   del ← need field.Del (number_at d (codes "del") max_number)
   bytes ← need field.Bytes (text_at d (codes "bytes"))
   Ok (asked_of doc (Splices rev at del bytes))
+
+abbrev pub change_command : Data → Result Asked Field
+change_command d = do
+  doc ← need field.Doc (name_at d)
+  rev ← need field.Rev (number_at d (codes "rev") max_number)
+  unit ← need field.Unit (unit_at d)
+  range ← need field.Range (range_at d)
+  text ← need field.Text (text_at d (codes "text"))
+  Ok (asked_of doc (ChangesText rev unit range text))
 
 abbrev pub text_command : Data → Result Asked Field
 text_command d = do
@@ -210,6 +249,7 @@ command_of d id op =
     if bytes_eq op (codes "open") then with_id id (open_command d)
     else (if bytes_eq op (codes "close") then with_id id (close_command d)
     else (if bytes_eq op (codes "splice") then with_id id (splice_command d)
+    else (if bytes_eq op (codes "change") then with_id id (change_command d)
     else (if bytes_eq op (codes "text") then with_id id (text_command d)
     else (if bytes_eq op (codes "source") then with_id id (source_command d)
     else (if bytes_eq op (codes "encode") then with_id id (encode_command d)
@@ -219,7 +259,7 @@ command_of d id op =
     else (if bytes_eq op (codes "offset") then with_id id (offset_command d)
     else (if bytes_eq op (codes "place") then with_id id (place_command d)
     else (if bytes_eq op (codes "stat") then with_id id (stat_command d)
-    else Err (UnknownOp id))))))))))))
+    else Err (UnknownOp id)))))))))))))
 
 -- the request in an object: its number and its command
 abbrev pub request_of : Data → Result (ℕ × Asked) Refusal

@@ -165,11 +165,13 @@ pub record StopsInPrint (line bytes : List ℕ) (MayFollow : List ℕ → Type 0
   pub prints : PrintsAll old first sent mid
   pub stops : PrintStops mid event part new
 
--- The first few of the complete lines were played.
-pub record StopsBetween (line bytes : List ℕ) (old new : Traffic) (before after : Option (List ℕ)) : Type 0 where
+-- The first few lines were played, and memory ran out for the next one, which isn't skipped and may go on.
+pub record StopsForMemory (line bytes : List ℕ) (old new : Traffic) (before after : Option (List ℕ)) : Type 0 where
   pub first : List (List ℕ)
+  pub last : List ℕ
   pub more : List (List ℕ)
-  pub cut : complete line bytes ≡ first ++ more
+  pub cut : text_lines line bytes ≡ first ++ last ∷ more
+  pub counts : is_skipped last ≡ false
   pub out : List ℕ
   pub appends : Appends before after out
   pub prints : PrintsAll old first out new
@@ -189,7 +191,7 @@ TracesText (Err (BadLine n)) read rest old new before after = StopsAtBad n 1 [] 
 TracesText (Err Read) read rest old new before after = PlaysLines (complete [] read) old new before after
 TracesText (Err Write) read rest old new before after = StopsInPrint [] read (λ later. rest ≡ Some later) old new before after
 TracesText (Err TooManyReads) read rest old new before after = PlaysLines (complete [] read) old new before after
-TracesText (Err OutOfMemory) read rest old new before after = StopsBetween [] read old new before after
+TracesText (Err OutOfMemory) read rest old new before after = StopsForMemory [] read old new before after
 
 -- text was read and played
 abbrev pub Traces : {A : Type 0} → Result A TraceFault → Traffic → Traffic → Option (List ℕ) → Option (List ℕ) → Option (List ℕ) → Option (List ℕ) → Type 0

@@ -25,12 +25,12 @@ abbrev pub MayBe : Begun → List ℕ → Type 0
 MayBe (Known xs) line = line ≡ xs
 MayBe Comment line = (is_skipped line ≡ true) × (0 < length line)
 
--- bytes went on with the line; or it is bad, whatever comes after them; or memory ran out
+-- bytes went on with the line; or it is bad, whatever comes after them; or it isn't skipped, and memory ran out
 abbrev pub Goes : {A : Type 0} → Result A LineFault → Begun → List ℕ → Begun → Type 0
 Goes (Ok x) old bytes new = (line : List ℕ) → MayBe old line → MayBe new (line ++ bytes)
 Goes (Err Bad) old bytes new = (line more : List ℕ) → MayBe old line → IsBad ((line ++ bytes) ++ more)
 Goes (Err Write) old bytes new = ⊥
-Goes (Err OutOfMemory) old bytes new = Unit {0}
+Goes (Err OutOfMemory) old bytes new = (line : List ℕ) → MayBe old line → is_skipped (line ++ bytes) ≡ false
 
 -- the line was played
 abbrev pub PlaysLine : {A : Type 0} → Result A LineFault → List ℕ → Traffic → Traffic → Option (List ℕ) → Option (List ℕ) → Type 0
@@ -38,7 +38,7 @@ PlaysLine (Ok x) line old new before after = (out : List ℕ) × Appends before 
 PlaysLine (Err Bad) line old new before after = IsBad line × (new ≡ old) × (after ≡ before)
 PlaysLine (Err Write) line old new before after =
     (is_skipped line ≡ false) × (e : Happening) × (event_on line ≡ Some e) × (out : List ℕ) × Appends before after out × PrintStops old e out new
-PlaysLine (Err OutOfMemory) line old new before after = (new ≡ old) × (after ≡ before)
+PlaysLine (Err OutOfMemory) line old new before after = (is_skipped line ≡ false) × (new ≡ old) × (after ≡ before)
 
 -- how many of the writes failed
 abbrev pub line_write_failures : {A : Type 0} → Result A LineFault → ℕ

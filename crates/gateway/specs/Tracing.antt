@@ -18,7 +18,7 @@ use Rattle.gateway.specs.Traffic.{Traffic}
 use Rattle.gateway.specs.Events.{Happening, Opening, Bringing, Closing}
 use Rattle.gateway.specs.Clients.{Numbered, OccurAll}
 use Rattle.gateway.specs.TraceLines.{MayBe}
-use Rattle.gateway.specs.Trace.{some_bytes, after_ends, printed, printed_all, Prints, PrintStops, PrintsAll, StopsAtBad, StopsInPrint, StopsBetween}
+use Rattle.gateway.specs.Trace.{some_bytes, after_ends, printed, printed_all, Prints, PrintStops, PrintsAll, StopsAtBad, StopsInPrint, StopsForMemory}
 
 -- ---- the event on a line
 
@@ -107,7 +107,7 @@ FeedStops (fault.BadLine n) bytes old new before after was =
 FeedStops fault.Read bytes old new before after was = ⊥
 FeedStops fault.Write bytes old new before after was = (line : List ℕ) → MayBe was.begun line → StopsInPrint line bytes Anything old new before after
 FeedStops fault.TooManyReads bytes old new before after was = ⊥
-FeedStops fault.OutOfMemory bytes old new before after was = (line : List ℕ) → MayBe was.begun line → StopsBetween line bytes old new before after
+FeedStops fault.OutOfMemory bytes old new before after was = (line : List ℕ) → MayBe was.begun line → StopsForMemory line bytes old new before after
 
 -- by the answer, which is the number of bytes taken
 abbrev pub FeedsFront : Result ℕ TraceFault → List ℕ → Traffic → Traffic → Option (List ℕ) → Option (List ℕ) → TracePlace → TracePlace → Type 0

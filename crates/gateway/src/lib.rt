@@ -15,7 +15,7 @@ mod traces;
 pub use connection::CONNECTIONS;
 pub use device::{Failed, Feed, FromRead, MemFeed, MemOutlet, Outlet, ToWrite, write_all};
 pub use gateway::{Event, GateFault, Gateway, Out};
-pub use laws::replies_in_order;
+pub use laws::{replies_in_order, traces_in_order};
 pub use reply_line::ReplyLine;
 pub use serve::{RunFault, run};
 pub use traces::{TraceFault, trace};

@@ -7,7 +7,7 @@ pub(crate) mod short_text;
 #[cfg(test)]
 mod tests;
 
-use crate::reply_line::short::Measures;
+use crate::reply_line::short::{Change, Measures};
 use crate::reply_line::short_text::ShortText;
 use crate::request::Refusal;
 use desk::Reply;
@@ -66,6 +66,24 @@ impl ReplyLine {
         match reply {
             Reply::Edited { bom, encoding, rev } => {
                 Ok(ReplyLine::inline(short::edited(id, *bom, *encoding, *rev)))
+            }
+            Reply::Changed {
+                at,
+                bom,
+                del,
+                encoding,
+                ins,
+                rev,
+            } => {
+                let done = Change {
+                    at: *at,
+                    bom: *bom,
+                    del: *del,
+                    encoding: *encoding,
+                    ins: *ins,
+                    rev: *rev,
+                };
+                Ok(ReplyLine::inline(short::changed(id, &done)))
             }
             Reply::Closed { rev } => Ok(ReplyLine::inline(short::closed(id, *rev))),
             Reply::Text { rev, text } => {

@@ -31,7 +31,8 @@ use std::alloc::Global;
 /// # Errors
 ///
 /// `BadLine` with the number of the first line that isn't skipped and has no event, or is longer
-/// than 6,291,456 bytes; `Read` or `Write` where a device failed; `TooManyReads`; `OutOfMemory`.
+/// than 6,291,456 bytes; `Read` or `Write` where a device failed; `TooManyReads`; `OutOfMemory` in a
+/// line that isn't skipped, of which at least a byte was read.
 pub fn trace<R: Feed, W: Outlet>(
     alloc: Global,
     gateway: &mut Gateway<'_>,

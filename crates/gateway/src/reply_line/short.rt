@@ -2,7 +2,7 @@
 ghost use Rattle.std.specs.Prelude.{◌≡◌, ◌≤◌, length, codes, IsTrue};
 ghost use Rattle.enc_names.specs.Names.{name_of};
 ghost use Rattle.gateway.specs.Writing.{all_plain, name_room};
-ghost use Rattle.gateway.specs.Replies.{IsShortLine, edited_data, closed_data, position_data, offset_data, found_place_data, stat_data, fault_data, refusal_data, bare_data, fault_with_id_data, unencodable_data, malformed_data, bad_request_data, fault_name, field_name};
+ghost use Rattle.gateway.specs.Replies.{IsShortLine, edited_data, changed_data, closed_data, position_data, offset_data, found_place_data, stat_data, fault_data, refusal_data, bare_data, fault_with_id_data, unencodable_data, malformed_data, bad_request_data, fault_name, field_name};
 
 use crate::reply_line::members::{Content, line};
 use crate::reply_line::short_text::ShortText;
@@ -19,6 +19,32 @@ pub(super) fn edited(id: u64, bom: u64, encoding: Encoding, rev: u64) -> ShortTe
         ("encoding", Content::Text(encoding_name(encoding))),
         ("id", Content::Number(id)),
         ("rev", Content::Number(rev)),
+    ])
+}
+
+/// What a change did to a document, in the order of the reply's keys.
+#[derive(Clone, Copy)]
+pub(super) struct Change {
+    pub(super) at: u64,
+    pub(super) bom: u64,
+    pub(super) del: u64,
+    pub(super) encoding: Encoding,
+    pub(super) ins: u64,
+    pub(super) rev: u64,
+}
+
+/// A change was accepted.
+pub(super) fn changed(id: u64, done: &Change) -> ShortText
+    ensures { IsShortLine (changed_data id done.now.at done.now.bom done.now.del done.now.encoding done.now.ins done.now.rev) result }
+{
+    line(&[
+        ("at", Content::Number(done.at)),
+        ("bom", Content::Number(done.bom)),
+        ("del", Content::Number(done.del)),
+        ("encoding", Content::Text(encoding_name(done.encoding))),
+        ("id", Content::Number(id)),
+        ("ins", Content::Number(done.ins)),
+        ("rev", Content::Number(done.rev)),
     ])
 }
 
@@ -228,6 +254,7 @@ fn fault_name(fault: Fault) -> &'static str
         Fault::RevisionsSpent => "RevisionsSpent",
         Fault::OutOfRange => "OutOfRange",
         Fault::SplitsCharacter => "SplitsCharacter",
+        Fault::SplitsItem => "SplitsItem",
         Fault::NoEncoder => "NoEncoder",
         Fault::Unencodable { .. } => "Unencodable",
         Fault::TooLarge => "TooLarge",
@@ -263,5 +290,7 @@ fn field_name(field: Field) -> &'static str
         Field::Character => "character",
         Field::Unit => "unit",
         Field::Value => "value",
+        Field::Range => "range",
+        Field::Text => "text",
     }
 }

@@ -1,9 +1,9 @@
 //! Worked reply lines, computed on the definition and written.
 ghost use Rattle.std.specs.Prelude.{◌≡◌, ◌++◌, ◌∷◌, [], codes, Some, None};
-ghost use Rattle.enc_names.specs.declared.encoding.Encoding.TheVariants.{Utf8};
+ghost use Rattle.enc_names.specs.declared.encoding.Encoding.TheVariants.{Iso2022Jp, Utf8};
 ghost use Rattle.gateway.specs.Replies.{reply_text, refusal_text};
 ghost use Rattle.desk.specs.declared.fault.Fault.TheVariants as fault;
-ghost use Rattle.desk.specs.declared.reply.Reply.TheVariants.{Edited, Closed, Text, Errors, Lines, Position, Offset, Stat, Refused};
+ghost use Rattle.desk.specs.declared.reply.Reply.TheVariants.{Edited, Changed, Closed, Text, Errors, Lines, Position, Offset, Stat, Refused};
 ghost use Rattle.desk.specs.declared.reply.Reply.TheVariants as replies;
 ghost use Rattle.gateway.specs.declared.request.field.Field.TheVariants as field;
 ghost use Rattle.gateway.specs.declared.request.refusal.Refusal.TheVariants as refusal;
@@ -11,7 +11,7 @@ ghost use Rattle.gateway.specs.declared.request.refusal.Refusal.TheVariants as r
 use crate::reply_line::ReplyLine;
 use crate::request::{Field, Refusal};
 use desk::{Fault, Reply, ReplyText};
-use enc_names::Place;
+use enc_names::{Encoding, Place};
 use std::test::Fail;
 
 fn stored_session()
@@ -54,6 +54,18 @@ fn replies_on_positions()
     ensures end { reply_text 2 (replies.Place 0 None 4 2 2)
         ≡ codes "{\"id\":2,\"place\":null,\"rev\":0,\"utf16\":2,\"utf32\":2,\"utf8\":4}\n" }
     ensures splits { reply_text 4 (Refused fault.SplitsCharacter) ≡ codes "{\"fault\":\"SplitsCharacter\",\"id\":4}\n" }
+{}
+
+fn replies_to_changes()
+    ensures changed { reply_text 9 (Changed 1 0 4 Utf8 1 1)
+        ≡ codes "{\"at\":1,\"bom\":0,\"del\":4,\"encoding\":\"UTF-8\",\"id\":9,\"ins\":1,\"rev\":1}\n" }
+    ensures shifted { reply_text 2 (Changed 1 0 0 Iso2022Jp 5 1)
+        ≡ codes "{\"at\":1,\"bom\":0,\"del\":0,\"encoding\":\"ISO-2022-JP\",\"id\":2,\"ins\":5,\"rev\":1}\n" }
+    ensures splits { reply_text 4 (Refused fault.SplitsItem) ≡ codes "{\"fault\":\"SplitsItem\",\"id\":4}\n" }
+    ensures kept { reply_text 4 (Refused fault.NotKept) ≡ codes "{\"fault\":\"NotKept\",\"id\":4}\n" }
+    ensures encoder { reply_text 4 (Refused fault.NoEncoder) ≡ codes "{\"fault\":\"NoEncoder\",\"id\":4}\n" }
+    ensures unencodable { reply_text 4 (Refused (fault.Unencodable 12354 0))
+        ≡ codes "{\"code_point\":12354,\"fault\":\"Unencodable\",\"id\":4,\"index\":0}\n" }
 {}
 
 fn refused_lines()
@@ -128,5 +140,30 @@ fn text_is_escaped_in_the_shortest_way(rt: HostRuntime) -> Result<(), Fail> {
     let line = ReplyLine::of(alloc, 1, &Reply::Text { rev: 0, text })?;
     let wanted = "{\"id\":1,\"rev\":0,\"text\":\"\\\"\\\\\\b\\t\\n\\f\\r\\u001f\u{7f}\"}\n";
     assert_eq!(rt; line.bytes(), wanted.as_bytes());
+    Ok(())
+}
+
+#[test]
+fn replies_that_tell_of_changes(rt: HostRuntime) -> Result<(), Fail> {
+    replies_to_changes();
+    let done = Reply::Changed {
+        at: 1,
+        bom: 0,
+        del: 4,
+        encoding: Encoding::Utf8,
+        ins: 1,
+        rev: 1,
+    };
+    let line = ReplyLine::of(rt.alloc(), 9, &done)?;
+    let text =
+        "{\"at\":1,\"bom\":0,\"del\":4,\"encoding\":\"UTF-8\",\"id\":9,\"ins\":1,\"rev\":1}\n";
+    assert_eq!(rt; line.bytes(), text.as_bytes());
+    for (fault, text) in [
+        (Fault::SplitsItem, "{\"fault\":\"SplitsItem\",\"id\":4}\n"),
+        (Fault::NotKept, "{\"fault\":\"NotKept\",\"id\":4}\n"),
+    ] {
+        let line = ReplyLine::of(rt.alloc(), 4, &Reply::Refused { fault })?;
+        assert_eq!(rt; line.bytes(), text.as_bytes());
+    }
     Ok(())
 }

@@ -1,7 +1,7 @@
 //! From a JSON value to a command.
 ghost use Rattle.std.specs.Prelude.{◌≡◌};
 ghost use Rattle.serde_json.specs.View.{view};
-ghost use Rattle.gateway.specs.Request.{open_command, close_command, splice_command, text_command, source_command, encode_command, errors_command, lines_command, position_command, offset_command, place_command, stat_command, request_of, command_asked, request_asked};
+ghost use Rattle.gateway.specs.Request.{open_command, close_command, splice_command, change_command, text_command, source_command, encode_command, errors_command, lines_command, position_command, offset_command, place_command, stat_command, request_of, command_asked, request_asked};
 ghost use Rattle.gateway.specs.declared.request.refusal.Refusal.TheVariants.{BadRequest};
 
 use crate::request::field::Field;
@@ -30,6 +30,7 @@ pub(crate) fn request(value: &Value) -> Result<(u64, Command<'_>), Refusal>
         "open" => open(value),
         "close" => close(value),
         "splice" => splice(value),
+        "change" => change(value),
         "text" => text(value),
         "source" => source(value),
         "encode" => encode(value),
@@ -87,6 +88,24 @@ fn splice(value: &Value) -> Result<Command<'_>, Field>
         at,
         del,
         bytes,
+    })
+}
+
+/// The command `change`, or the first faulty field.
+fn change(value: &Value) -> Result<Command<'_>, Field>
+    ensures { command_asked result ≡ change_command (view value.now) }
+{
+    let doc = fields::name(value).ok_or(Field::Doc)?;
+    let rev = fields::number(value, "rev", MAX_NUMBER).ok_or(Field::Rev)?;
+    let unit = fields::unit(value).ok_or(Field::Unit)?;
+    let range = fields::range(value).ok_or(Field::Range)?;
+    let text = fields::text(value, "text").ok_or(Field::Text)?;
+    Ok(Command::Change {
+        doc,
+        rev,
+        unit,
+        range,
+        text,
     })
 }
 

@@ -23,4 +23,6 @@ pub(crate) enum Field {
     Character,
     Unit,
     Value,
+    Range,
+    Text,
 }

@@ -1,9 +1,9 @@
 //! The fields of an object, each by its kind. An absent field and one of another kind are alike.
 ghost use Rattle.std.specs.Prelude.{◌≡◌, ◌↔◌, IsTrue, IsSome, option_map};
 ghost use Rattle.serde_json.specs.View.{view};
-ghost use Rattle.gateway.specs.Request.{number_at, text_at, name_at, text_mode_at, encode_mode_at, as_unit, unit_at, place_unit_at};
+ghost use Rattle.gateway.specs.Request.{number_at, text_at, name_at, text_mode_at, encode_mode_at, as_unit, unit_at, place_unit_at, position_at, range_at};
 
-use desk::{PlaceUnit, TextMode, Unit};
+use desk::{PlaceUnit, Position, Range, TextMode, Unit};
 use encoders::EncodeMode;
 use serde_json::Value;
 
@@ -97,4 +97,29 @@ pub(super) fn place_unit(value: &Value) -> Option<PlaceUnit>
         "byte" => Some(PlaceUnit::Byte),
         name => named_unit(name).map(PlaceUnit::Text),
     }
+}
+
+/// A position: a line and a character, both whole numbers.
+fn position(value: &Value, name: &str) -> Option<Position>
+    ensures { result ≡ position_at (view value.now) name.now }
+{
+    let position = value.get(name)?;
+    let line = number(position, "line", MAX_NUMBER)?;
+    let character = number(position, "character", MAX_NUMBER)?;
+    Some(Position { line, character })
+}
+
+/// The range of a change. No range is the whole text, which is meant where it is absent or null.
+pub(super) fn range(value: &Value) -> Option<Option<Range>>
+    ensures { result ≡ range_at (view value.now) }
+{
+    let Some(range) = value.get("range") else {
+        return Some(None);
+    };
+    if range.is_null() {
+        return Some(None);
+    }
+    let start = position(range, "start")?;
+    let end = position(range, "end")?;
+    Some(Some(Range { start, end }))
 }

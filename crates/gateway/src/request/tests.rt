@@ -1,7 +1,7 @@
 //! Worked lines: their requests, computed on the definition, and what is parsed from them.
 ghost use Rattle.std.specs.Prelude.{◌≡◌, ◌∷◌, [], codes, Ok, Err, Some, None};
-ghost use Rattle.desk.specs.Commands.{asked_of, Opens, Closes, Splices, Reads, ReadsBytes, Encodes, ListsErrors, ListsLines, FindsPosition, FindsOffset, FindsPlace, Measures};
-ghost use Rattle.gateway.specs.Request.{request_of_line};
+ghost use Rattle.desk.specs.Commands.{asked_of, Opens, Closes, Splices, ChangesText, Reads, ReadsBytes, Encodes, ListsErrors, ListsLines, FindsPosition, FindsOffset, FindsPlace, Measures};
+ghost use Rattle.gateway.specs.Request.{request_of_line, position_of, range_of};
 ghost use Rattle.position_map.specs.declared.unit.Unit.TheVariants.{Utf8, Utf16, Utf32};
 ghost use Rattle.desk.specs.declared.place_unit.PlaceUnit.TheVariants as place_unit;
 ghost use Rattle.encoders.specs.declared.mode.EncodeMode.TheVariants as encode_mode;
@@ -10,7 +10,7 @@ ghost use Rattle.gateway.specs.declared.request.field.Field.TheVariants as field
 ghost use Rattle.gateway.specs.declared.request.refusal.Refusal.TheVariants.{BadJson, BadRequest, UnknownOp};
 
 use crate::request::{Field, Refusal, read, request};
-use desk::{Command, TextMode};
+use desk::{Command, Position, Range, TextMode, Unit};
 use std::alloc::Global;
 use std::process::Abort;
 use std::test::Fail;
@@ -91,6 +91,39 @@ fn commands()
     ensures errors { request_of_line (codes
         "{\"id\":3,\"op\":\"errors\",\"doc\":\"a\",\"from\":0,\"max\":10000}")
         ≡ Ok (3, asked_of (codes "a") (ListsErrors 0 10000)) }
+{}
+
+/// A range is two positions, and the whole text where it is absent or null.
+fn changes()
+    ensures range { request_of_line (codes
+        "{\"id\":9,\"op\":\"change\",\"doc\":\"d\",\"rev\":0,\"range\":{\"start\":{\"line\":0,\"character\":1},\"end\":{\"line\":2,\"character\":3}},\"text\":\"x\"}")
+        ≡ Ok (9, asked_of (codes "d") (ChangesText 0 Utf16 (Some (range_of (position_of 0 1) (position_of 2 3))) (codes "x"))) }
+    ensures whole { request_of_line (codes "{\"id\":9,\"op\":\"change\",\"doc\":\"d\",\"rev\":1,\"unit\":\"utf-8\",\"text\":\"\"}")
+        ≡ Ok (9, asked_of (codes "d") (ChangesText 1 Utf8 None [])) }
+    ensures null_range { request_of_line (codes "{\"id\":9,\"op\":\"change\",\"doc\":\"d\",\"rev\":1,\"unit\":\"utf-32\",\"range\":null,\"text\":\"x\"}")
+        ≡ Ok (9, asked_of (codes "d") (ChangesText 1 Utf32 None (codes "x"))) }
+    ensures last { request_of_line (codes
+        "{\"id\":9,\"op\":\"change\",\"doc\":\"d\",\"rev\":0,\"range\":{\"end\":{\"character\":3,\"line\":0},\"start\":7,\"rangeLength\":1,\"start\":{\"line\":4,\"character\":1,\"line\":0}},\"text\":\"x\"}")
+        ≡ Ok (9, asked_of (codes "d") (ChangesText 0 Utf16 (Some (range_of (position_of 0 1) (position_of 0 3))) (codes "x"))) }
+{}
+
+/// Whatever is wrong in a range, it is `range` that is named.
+fn faulty_ranges()
+    ensures no_range { request_of_line (codes "{\"id\":1,\"op\":\"change\",\"doc\":\"d\",\"rev\":0,\"range\":{},\"text\":\"x\"}")
+        ≡ Err (BadRequest (Some 1) field.Range) }
+    ensures no_end { request_of_line (codes
+        "{\"id\":1,\"op\":\"change\",\"doc\":\"d\",\"rev\":0,\"range\":{\"start\":{\"line\":0,\"character\":1}},\"text\":\"x\"}")
+        ≡ Err (BadRequest (Some 1) field.Range) }
+    ensures character { request_of_line (codes
+        "{\"id\":1,\"op\":\"change\",\"doc\":\"d\",\"rev\":0,\"range\":{\"start\":{\"line\":0,\"character\":1},\"end\":{\"line\":0,\"character\":1.0}},\"text\":7}")
+        ≡ Err (BadRequest (Some 1) field.Range) }
+    ensures number { request_of_line (codes
+        "{\"id\":1,\"op\":\"change\",\"doc\":\"d\",\"rev\":0,\"range\":{\"start\":{\"line\":9007199254740992,\"character\":1},\"end\":{\"line\":0,\"character\":1}},\"text\":\"x\"}")
+        ≡ Err (BadRequest (Some 1) field.Range) }
+    ensures unit { request_of_line (codes "{\"id\":1,\"op\":\"change\",\"doc\":\"d\",\"rev\":0,\"unit\":null,\"range\":[]}")
+        ≡ Err (BadRequest (Some 1) field.Unit) }
+    ensures text { request_of_line (codes "{\"id\":1,\"op\":\"change\",\"doc\":\"d\",\"rev\":0,\"text\":null}")
+        ≡ Err (BadRequest (Some 1) field.Text) }
 {}
 
 fn faulty_fields()
@@ -236,6 +269,127 @@ fn the_first_faulty_field_is_named(rt: HostRuntime) {
         (r#"{"id":1,"op":"stat","doc":""}"#, bad(Field::Doc)),
     ];
     refusals(&rt, rt.alloc(), &rows);
+}
+
+/// A change of the document `a` at revision 0, from the field `unit` on.
+fn change(alloc: Global, fields: &str) -> Result<String, Fail> {
+    let mut line = String::from_str(alloc, r#"{"id":1,"op":"change","doc":"a","rev":0"#)?;
+    line.push_str(fields)?;
+    line.push('}')?;
+    Ok(line)
+}
+
+#[test]
+fn the_first_faulty_field_of_a_change_is_named(rt: HostRuntime) -> Result<(), Fail> {
+    faulty_ranges();
+    let rows = [
+        (r#","unit":"byte","range":1"#, Field::Unit),
+        (r#","range":0,"text":0"#, Field::Range),
+        (r#","range":false"#, Field::Range),
+        (r#","range":"0:0-0:1""#, Field::Range),
+        (r#","range":[]"#, Field::Range),
+        (r#","range":{}"#, Field::Range),
+        (
+            r#","range":{"start":{"line":0,"character":0}}"#,
+            Field::Range,
+        ),
+        (
+            r#","range":{"start":null,"end":{"line":0,"character":0}}"#,
+            Field::Range,
+        ),
+        (
+            r#","range":{"start":{"line":0,"character":0},"end":{"line":0}}"#,
+            Field::Range,
+        ),
+        (
+            r#","range":{"start":{"line":0,"character":0},"end":{"line":0,"character":-1}}"#,
+            Field::Range,
+        ),
+        (
+            r#","range":{"start":{"line":"0","character":0},"end":{"line":0,"character":1}}"#,
+            Field::Range,
+        ),
+        (
+            r#","range":{"start":{"line":0,"character":0},"end":{"line":0,"character":9007199254740992}}"#,
+            Field::Range,
+        ),
+        (
+            r#","range":{"start":{"line":0,"character":0},"end":{"line":0,"character":9007199254740991}}"#,
+            Field::Text,
+        ),
+        (r#","range":null,"text":null"#, Field::Text),
+        (r#","range":null"#, Field::Text),
+    ];
+    for (fields, field) in rows {
+        let line = change(rt.alloc(), fields)?;
+        assert_eq!(rt;
+            refusal(rt.alloc(), line.as_str()),
+            Some(bad(field)),
+            "{line}"
+        );
+    }
+    Ok(())
+}
+
+/// The unit and the range that the change in a line has, where its text is `x`.
+fn change_asked(alloc: Global, line: &str) -> Option<(Unit, Option<Range>)> {
+    let value = read(alloc, line.as_bytes()).ok()?;
+    match request(&value) {
+        Ok(
+            (
+                1,
+                Command::Change {
+                    doc: "a",
+                    rev: 0,
+                    unit,
+                    range,
+                    text: "x",
+                },
+            ),
+        ) => Some((unit, range)),
+        _ => None,
+    }
+}
+
+#[test]
+fn ranges_of_a_change(rt: HostRuntime) -> Result<(), Fail> {
+    changes();
+    let start = Position {
+        line: 0,
+        character: 1,
+    };
+    let end = Position {
+        line: 2,
+        character: 3,
+    };
+    let range = Some(Range { start, end });
+    let rows = [
+        (r#","text":"x""#, Unit::Utf16, None),
+        (
+            r#","text":"x","range":null,"unit":"utf-16""#,
+            Unit::Utf16,
+            None,
+        ),
+        (
+            r#","unit":"utf-8","range":{"start":{"line":0,"character":1},"end":{"line":2,"character":3}},"text":"x""#,
+            Unit::Utf8,
+            range,
+        ),
+        (
+            r#","unit":"utf-32","range":{"end":{"character":3,"line":2},"start":7,"rangeLength":1,"start":{"line":4,"character":1,"line":0}},"text":"\u0078""#,
+            Unit::Utf32,
+            range,
+        ),
+    ];
+    for (fields, unit, range) in rows {
+        let line = change(rt.alloc(), fields)?;
+        assert_eq!(rt;
+            change_asked(rt.alloc(), line.as_str()),
+            Some((unit, range)),
+            "{line}"
+        );
+    }
+    Ok(())
 }
 
 /// A line with so many levels of JSON, in a field that is ignored.

@@ -105,3 +105,86 @@ fn lines_and_positions_of_two_documents(rt: HostRuntime) -> Result<(), Fail> {
     ];
     expect_rows(&rt, rt.alloc(), &rows)
 }
+
+#[test]
+fn changes_of_ranges(rt: HostRuntime) -> Result<(), Fail> {
+    // d is a, U+1F600, CR, LF, b; it becomes a, x, CR, LF, b.
+    let rows = [
+        (
+            r#"{"id":0,"op":"open","doc":"d","label":"utf-8","bytes":"YfCfmIANCmI="}"#,
+            r#"{"bom":0,"encoding":"UTF-8","id":0,"rev":0}"#,
+        ),
+        (
+            r#"{"id":1,"op":"change","doc":"d","rev":0,"range":{"start":{"line":0,"character":2},"end":{"line":0,"character":3}},"text":"x"}"#,
+            r#"{"fault":"SplitsCharacter","id":1}"#,
+        ),
+        (
+            r#"{"id":2,"op":"change","doc":"d","rev":0,"range":{"start":{"line":0,"character":3},"end":{"line":0,"character":2}},"text":"x"}"#,
+            r#"{"fault":"OutOfRange","id":2}"#,
+        ),
+        (
+            r#"{"id":3,"op":"change","doc":"d","rev":1,"range":{"start":{"line":0,"character":3},"end":{"line":0,"character":2}},"text":"x"}"#,
+            r#"{"fault":"Stale","id":3,"rev":0}"#,
+        ),
+        (
+            r#"{"id":4,"op":"change","doc":"e","rev":1,"text":"x"}"#,
+            r#"{"fault":"NoDocument","id":4}"#,
+        ),
+        (
+            r#"{"id":5,"op":"change","doc":"d","rev":0,"range":{"start":{"line":0,"character":3}},"text":"x"}"#,
+            r#"{"fault":"BadRequest","field":"range","id":5}"#,
+        ),
+        (
+            r#"{"id":9,"op":"change","doc":"d","rev":0,"range":{"start":{"line":0,"character":1},"end":{"line":0,"character":3}},"text":"x"}"#,
+            r#"{"at":1,"bom":0,"del":4,"encoding":"UTF-8","id":9,"ins":1,"rev":1}"#,
+        ),
+        (
+            r#"{"id":10,"op":"source","doc":"d","at":0,"len":5}"#,
+            r#"{"bytes":"YXgNCmI=","id":10,"rev":1}"#,
+        ),
+        (
+            r#"{"id":11,"op":"change","doc":"d","rev":1,"unit":"utf-8","range":{"start":{"line":1,"character":1},"end":{"line":9,"character":0}},"text":"\u00e9"}"#,
+            r#"{"at":5,"bom":0,"del":0,"encoding":"UTF-8","id":11,"ins":2,"rev":2}"#,
+        ),
+        (
+            r#"{"id":12,"op":"change","doc":"d","rev":2,"range":null,"text":"\ufeffx"}"#,
+            r#"{"fault":"NotKept","id":12}"#,
+        ),
+        (
+            r#"{"id":13,"op":"change","doc":"d","rev":2,"text":"x"}"#,
+            r#"{"at":0,"bom":0,"del":7,"encoding":"UTF-8","id":13,"ins":1,"rev":3}"#,
+        ),
+        (
+            r#"{"id":14,"op":"text","doc":"d","from":0,"to":1}"#,
+            r#"{"id":14,"rev":3,"text":"x"}"#,
+        ),
+    ];
+    expect_rows(&rt, rt.alloc(), &rows)
+}
+
+#[test]
+fn changes_that_an_encoder_refuses(rt: HostRuntime) -> Result<(), Fail> {
+    let rows = [
+        (
+            r#"{"id":0,"op":"open","doc":"r","label":"replacement","bytes":"QQ=="}"#,
+            r#"{"bom":0,"encoding":"replacement","id":0,"rev":0}"#,
+        ),
+        (
+            r#"{"id":1,"op":"change","doc":"r","rev":0,"text":""}"#,
+            r#"{"fault":"NoEncoder","id":1}"#,
+        ),
+        (
+            r#"{"id":0,"op":"open","doc":"u","label":"x-user-defined","bytes":"QQ=="}"#,
+            r#"{"bom":0,"encoding":"x-user-defined","id":0,"rev":0}"#,
+        ),
+        (
+            r#"{"id":2,"op":"change","doc":"u","rev":0,"range":{"start":{"line":0,"character":1},"end":{"line":0,"character":1}},"text":"b\u3042"}"#,
+            r#"{"code_point":12354,"fault":"Unencodable","id":2,"index":1}"#,
+        ),
+        (
+            r#"{"id":3,"op":"source","doc":"u","at":0,"len":1}"#,
+            r#"{"bytes":"QQ==","id":3,"rev":0}"#,
+        ),
+    ];
+    expect_rows(&rt, rt.alloc(), &rows)
+}

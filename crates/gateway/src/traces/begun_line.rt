@@ -64,7 +64,7 @@ impl BegunTraceLine {
     pub(super) fn extend(&mut self, piece: &[u8]) -> Result<(), LineFault>
         ensures { Goes result self.old piece.now self.new }
     {
-        if self.comment {
+        if self.comment || piece.is_empty() {
             return Ok(());
         }
         if begins_comment(&self.kept, piece) {

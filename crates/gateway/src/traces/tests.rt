@@ -1,7 +1,7 @@
 //! Traces over memory and over devices that break off.
-ghost use Rattle.std.specs.Prelude.{◌≡◌, ◌∷◌, [], codes, None};
-ghost use Rattle.gateway.specs.Events.{Bringing};
-ghost use Rattle.gateway.specs.Trace.{event_on, parts, text_lines};
+ghost use Rattle.std.specs.Prelude.{◌≡◌, ◌∷◌, [], codes, true, false, None, Some};
+ghost use Rattle.gateway.specs.Events.{Opening, Bringing, Closing};
+ghost use Rattle.gateway.specs.Trace.{event_on, is_skipped, parts, text_lines};
 
 use crate::device::breaking::{Failing, Narrow};
 use crate::device::{Feed, FromRead, MemFeed, MemOutlet, ToWrite};
@@ -23,6 +23,29 @@ const REFUSALS_AND_REPLIES_PRINTED: &str = "\
 3 {\"fault\":\"BadRequest\",\"field\":\"id\"}
 16 !BadNumber
 ";
+
+/// Lines with an event.
+fn events_on_lines()
+    ensures opens { event_on (codes "open 3") ≡ Some (Opening 3) }
+    ensures brings { event_on (codes "bytes 3 e30K") ≡ Some (Bringing 3 (123 ∷ 125 ∷ 10 ∷ [])) }
+    ensures closes { event_on (codes "close 255") ≡ Some (Closing 255) }
+{}
+
+/// Words that are no number from 0 to 255 in decimal without leading zeros, and words in capitals.
+fn lines_without_event()
+    ensures leading_zero { event_on (codes "open 03") ≡ None }
+    ensures sign { event_on (codes "open +3") ≡ None }
+    ensures too_large { event_on (codes "open 256") ≡ None }
+    ensures second_space { event_on (codes "open  3") ≡ None }
+    ensures capitals { event_on (codes "OPEN 3") ≡ None }
+{}
+
+/// Lines that are skipped, and one that isn't since its comment doesn't begin it.
+fn skipped_lines()
+    ensures empty { is_skipped [] ≡ true }
+    ensures comment { is_skipped (codes "# open 3") ≡ true }
+    ensures space { is_skipped (codes " # open 3") ≡ false }
+{}
 
 /// Lines that bring no bytes have no event.
 fn bytes_without_base64()
