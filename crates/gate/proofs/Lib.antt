@@ -1,2 +1,2 @@
-mod Beginning
 mod SessionSteps
+mod Streams

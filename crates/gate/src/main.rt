@@ -1,6 +1,7 @@
 //! The program: its words, the files that they name, and the standard streams.
 #![tactic(auto)]
 
+mod beginning;
 mod command_line;
 mod failure;
 mod labels;

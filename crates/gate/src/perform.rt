@@ -1,5 +1,6 @@
 //! All that the program does with its words.
 
+use crate::beginning::beginning;
 use crate::command_line::{Job, Listening, Sources, job_of};
 use crate::failure::Failure;
 use crate::labels::{labels_in, names};
@@ -7,9 +8,8 @@ use crate::replay::replay;
 use crate::serve::{ServeFault, serve};
 use crate::stdio::serve_stdio;
 use crate::text::Text;
-use desk::Desk;
 use enc_names::Labels;
-use gateway::{Feed, Gateway, Outlet};
+use gateway::{Feed, Outlet};
 use index_files::indexes_in;
 use index_loader::Indexes;
 use std::alloc::Global;
@@ -83,10 +83,7 @@ fn listen<'a, T: Net<Listener = TcpListener, Stream = TcpStream>>(
     labels: Labels,
     listening: Listening,
 ) -> Result<(), Failure<'a>> {
-    let Ok(desk) = Desk::new(alloc, indexes, labels) else {
-        return Err(Failure::OutOfMemory);
-    };
-    let mut gateway = Gateway::new(alloc, desk);
+    let mut gateway = beginning(alloc, indexes, labels);
     let Ok(listener) = TcpListener::bind(rt, ("127.0.0.1", listening.port)) else {
         return Err(Failure::CannotListen(listening.port));
     };

@@ -1,14 +1,14 @@
 //! Playing a trace from the standard input.
-ghost use Rattle.std.specs.Prelude.{◌≡◌, ◌+◌, OnOk};
+ghost use Rattle.std.specs.Prelude.{◌≡◌, ◌+◌, Err, OnOk};
 ghost use Rattle.std.specs.Io.KnownBytes.{IsAtEnd};
 ghost use Rattle.gateway.specs.Trace.{EndsOnce, IsReadSoFar, trace_read_failures, trace_write_failures};
 ghost use Rattle.gate.specs.Serving.{beginning};
 ghost use Rattle.gate.specs.Replaying.{trace_answer, Replayed};
 
+use crate::beginning::beginning;
 use crate::failure::Failure;
-use desk::Desk;
 use enc_names::Labels;
-use gateway::{Feed, Gateway, Outlet, TraceFault, trace};
+use gateway::{Feed, Outlet, TraceFault, trace};
 use index_loader::Indexes;
 use std::alloc::Global;
 
@@ -37,16 +37,22 @@ pub fn replay<'a, R: Feed, W: Outlet>(
     ensures read_failures { R.failures input.new ≡ R.failures input.old + trace_read_failures (trace_answer result) }
     ensures write_failures { W.failures output.new ≡ W.failures output.old + trace_write_failures (trace_answer result) }
 {
-    let Ok(desk) = Desk::new(alloc, indexes, labels) else {
-        return Err(Failure::OutOfMemory);
-    };
-    let mut gateway = Gateway::new(alloc, desk);
+    let mut gateway = beginning(alloc, indexes, labels);
     match trace(alloc, &mut gateway, input, output) {
         Ok(()) => Ok(()),
-        Err(TraceFault::BadLine(number)) => Err(Failure::TraceLine(number)),
-        Err(TraceFault::Read) => Err(Failure::Read),
-        Err(TraceFault::Write) => Err(Failure::Write),
-        Err(TraceFault::TooManyReads) => Err(Failure::TooManyReads),
-        Err(TraceFault::OutOfMemory) => Err(Failure::OutOfMemory),
+        Err(fault) => Err(failure_of(fault)),
+    }
+}
+
+/// The failure for a fault of a trace.
+fn failure_of<'a>(fault: TraceFault) -> Failure<'a>
+    ensures { trace_answer {A = Unit {0}} (Err result) ≡ Err fault }
+{
+    match fault {
+        TraceFault::BadLine(number) => Failure::TraceLine(number),
+        TraceFault::Read => Failure::Read,
+        TraceFault::Write => Failure::Write,
+        TraceFault::TooManyReads => Failure::TooManyReads,
+        TraceFault::OutOfMemory => Failure::OutOfMemory,
     }
 }

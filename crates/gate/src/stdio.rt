@@ -5,10 +5,10 @@ ghost use Rattle.gateway.specs.Serving.{ends_of, read_failures_of, write_failure
 ghost use Rattle.gateway.specs.declared.serve.RunFault.TheVariants.{NotFree};
 ghost use Rattle.gate.specs.Serving.{beginning, run_answer, Served};
 
+use crate::beginning::beginning;
 use crate::failure::Failure;
-use desk::Desk;
 use enc_names::Labels;
-use gateway::{Feed, Gateway, Outlet, RunFault, run};
+use gateway::{Feed, Outlet, RunFault, run};
 use index_loader::Indexes;
 use std::alloc::Global;
 
@@ -35,15 +35,22 @@ pub fn serve_stdio<'a, R: Feed, W: Outlet>(
     ensures read_failures { R.failures input.new ≡ R.failures input.old + read_failures_of (run_answer result) }
     ensures write_failures { W.failures output.new ≡ W.failures output.old + write_failures_of (run_answer result) }
 {
-    let Ok(desk) = Desk::new(alloc, indexes, labels) else {
-        return Err(Failure::OutOfMemory);
-    };
-    let mut gateway = Gateway::new(alloc, desk);
+    let mut gateway = beginning(alloc, indexes, labels);
     match run(&mut gateway, 0, input, output) {
         Ok(()) => Ok(()),
-        Err(RunFault::Read) => Err(Failure::Read),
-        Err(RunFault::Write) => Err(Failure::Write),
-        Err(RunFault::TooManyReads) => Err(Failure::TooManyReads),
-        Err(RunFault::NotFree) => unreachable!(),
+        Err(fault) => Err(failure_of(fault)),
+    }
+}
+
+/// The failure for a fault of a run on a connection that is free.
+fn failure_of<'a>(fault: RunFault) -> Failure<'a>
+    requires { fault ≢ NotFree }
+    ensures { run_answer {A = Unit {0}} (Err result) ≡ Err fault }
+{
+    match fault {
+        RunFault::Read => Failure::Read,
+        RunFault::Write => Failure::Write,
+        RunFault::TooManyReads => Failure::TooManyReads,
+        RunFault::NotFree => unreachable!(),
     }
 }

@@ -118,10 +118,10 @@ pub(crate) fn ended_over<R: Feed, W: Outlet>(
     Ok((status, text_of(rt, &error)?))
 }
 
-const OPEN: &str =
+pub(crate) const OPEN: &str =
     "{\"id\":1,\"op\":\"open\",\"doc\":\"a\",\"label\":\"utf-8\",\"bytes\":\"4oJB\"}\n";
 
-const OPENED: &str = "{\"bom\":0,\"encoding\":\"UTF-8\",\"id\":1,\"rev\":0}\n";
+pub(crate) const OPENED: &str = "{\"bom\":0,\"encoding\":\"UTF-8\",\"id\":1,\"rev\":0}\n";
 
 #[test]
 fn no_words_serve_the_input(rt: HostRuntime) -> Result<(), Fail> {
@@ -209,6 +209,67 @@ fn range_of_a_document_encoded_with_the_index_files(rt: HostRuntime) -> Result<(
     Ok(())
 }
 
+/// Lines of documents in three encodings, each with its reply. A position between two code points
+/// of one pair of bytes, a letter behind the lead byte that would swallow it, a code point whose
+/// byte is read as another, and a character in front of a shift.
+const CHANGES: [(&str, &str); 9] = [
+    (
+        r#"{"id":0,"op":"open","doc":"b","label":"big5","bytes":"iGI="}"#,
+        r#"{"bom":0,"encoding":"Big5","id":0,"rev":0}"#,
+    ),
+    (
+        r#"{"id":1,"op":"change","doc":"b","rev":0,"range":{"start":{"line":0,"character":1},"end":{"line":0,"character":1}},"text":""}"#,
+        r#"{"fault":"SplitsItem","id":1}"#,
+    ),
+    (
+        r#"{"id":0,"op":"open","doc":"s","label":"shift_jis","bytes":"gQ=="}"#,
+        r#"{"bom":0,"encoding":"Shift_JIS","id":0,"rev":0}"#,
+    ),
+    (
+        r#"{"id":2,"op":"change","doc":"s","rev":0,"range":{"start":{"line":0,"character":1},"end":{"line":0,"character":1}},"text":"A"}"#,
+        r#"{"fault":"NotKept","id":2}"#,
+    ),
+    (
+        r#"{"id":3,"op":"source","doc":"s","at":0,"len":1}"#,
+        r#"{"bytes":"gQ==","id":3,"rev":0}"#,
+    ),
+    (
+        r#"{"id":4,"op":"change","doc":"s","rev":0,"text":"\u00a5"}"#,
+        r#"{"fault":"NotKept","id":4}"#,
+    ),
+    (
+        r#"{"id":0,"op":"open","doc":"i","label":"iso-2022-jp","bytes":"QRskQiQiGyhC"}"#,
+        r#"{"bom":0,"encoding":"ISO-2022-JP","id":0,"rev":0}"#,
+    ),
+    (
+        r#"{"id":5,"op":"change","doc":"i","rev":0,"range":{"start":{"line":0,"character":1},"end":{"line":0,"character":1}},"text":"\u4e9c"}"#,
+        r#"{"at":1,"bom":0,"del":0,"encoding":"ISO-2022-JP","id":5,"ins":5,"rev":1}"#,
+    ),
+    (
+        r#"{"id":6,"op":"source","doc":"i","at":0,"len":14}"#,
+        r#"{"bytes":"QRskQjAhGyRCJCIbKEI=","id":6,"rev":1}"#,
+    ),
+];
+
+#[test]
+fn changes_of_documents_with_index_files(rt: HostRuntime) -> Result<(), Fail> {
+    let folder = Folder::new(&rt, "changed")?;
+    folder.write(&rt, "index-big5.txt", b"5495\t0x4E00\n")?;
+    // With the first line, the bytes 81 41 are one character in Shift_JIS.
+    let jis0208 = b"1\t0x3001\n283\t0x3042\n1410\t0x4E9C\n";
+    folder.write(&rt, "index-jis0208.txt", jis0208)?;
+    folder.write(&rt, "index-iso-2022-jp-katakana.txt", b"0\t0x3002\n")?;
+    let mut talk = Talk::new(&rt);
+    for (line, reply) in CHANGES {
+        talk.add(line, reply)?;
+    }
+    let done = talk.ending(&rt, &folder)?;
+    folder.remove(&rt)?;
+    assert_eq!(rt; done.output.as_str(), talk.replies.as_str());
+    assert_eq!(rt; done.status, 0);
+    Ok(())
+}
+
 /// The single-byte encodings that have a file of their own, each with the file's name.
 const SINGLE_BYTE: [(&str, &str); 27] = [
     ("IBM866", "index-ibm866.txt"),
@@ -283,6 +344,15 @@ impl Talk {
         }
     }
 
+    /// Sends a line and wants its reply.
+    fn add(&mut self, line: &str, reply: &str) -> Result<(), Fail> {
+        self.lines.push_str(line)?;
+        self.lines.push('\n')?;
+        self.replies.push_str(reply)?;
+        self.replies.push('\n')?;
+        Ok(())
+    }
+
     /// Opens a document with the label's encoding and reads its one character.
     fn ask(&mut self, rt: &HostRuntime, label: &str, bytes: &str) -> Result<(), Fail> {
         let lines = format!(in rt.alloc();
@@ -309,10 +379,10 @@ impl Talk {
         Ok(())
     }
 
-    /// The program's output, with the index files of this folder.
-    fn output(&self, rt: &HostRuntime, folder: &Folder) -> Result<String, Fail> {
+    /// What the program does over these lines with the index files of this folder.
+    fn ending(&self, rt: &HostRuntime, folder: &Folder) -> Result<Ending, Fail> {
         let words = ["stdio", "--indexes", folder.as_str()];
-        Ok(performed(rt, &words, self.lines.as_str())?.output)
+        performed(rt, &words, self.lines.as_str())
     }
 }
 
@@ -330,9 +400,10 @@ fn each_single_byte_encoding_reads_its_own_file(rt: HostRuntime) -> Result<(), F
     }
     talk.ask(&rt, "ISO-8859-8-I", "gA==")?;
     talk.want_text(&rt, "ISO-8859-8-I", "\u{2607}")?;
-    let output = talk.output(&rt, &folder)?;
+    let done = talk.ending(&rt, &folder)?;
     folder.remove(&rt)?;
-    assert_eq!(rt; output.as_str(), talk.replies.as_str());
+    assert_eq!(rt; done.output.as_str(), talk.replies.as_str());
+    assert_eq!(rt; done.status, 0);
     Ok(())
 }
 
@@ -350,8 +421,8 @@ fn each_other_encoding_needs_its_own_files(rt: HostRuntime) -> Result<(), Fail> 
                 talk.want_no_index()?;
             }
         }
-        let output = talk.output(&rt, &folder)?;
-        assert_eq!(rt; output.as_str(), talk.replies.as_str(), "{file}");
+        let done = talk.ending(&rt, &folder)?;
+        assert_eq!(rt; done.output.as_str(), talk.replies.as_str(), "{file}");
     }
     folder.remove(&rt)
 }
