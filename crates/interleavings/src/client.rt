@@ -1,7 +1,8 @@
 //! One client: what it has begun, and what it has still to send.
 
-use crate::chance::Chance;
 use crate::commands::line;
+use rand::RngExt;
+use rand::rngs::SmallRng;
 use std::alloc::{AllocError, Global};
 
 /// A client on a connection of its own.
@@ -35,14 +36,14 @@ impl Client {
     pub fn next_bytes(
         &mut self,
         alloc: Global,
-        chance: &mut Chance,
+        rng: &mut SmallRng,
         id: u64,
     ) -> Result<Vec<u8>, AllocError> {
-        if self.unsent.is_empty() || chance.below(4) == 0 {
-            let more = line(alloc, chance, id)?;
+        if self.unsent.is_empty() || rng.random_range(0..4u32) == 0 {
+            let more = line(alloc, rng, id)?;
             self.unsent.extend_from_slice(more.as_bytes())?;
         }
-        let count = chance.below(160) as usize;
+        let count = rng.random_range(0..160usize);
         let front = self.unsent.get(..count).unwrap_or(&self.unsent);
         let mut bytes = Vec::new(alloc);
         bytes.extend_from_slice(front)?;

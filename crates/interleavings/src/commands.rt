@@ -1,16 +1,25 @@
 //! Lines that clients send: commands on a few documents, and lines that are none.
 
-use crate::chance::Chance;
+use rand::RngExt;
+use rand::rngs::SmallRng;
+use rand::seq::IndexedRandom;
 use std::alloc::{AllocError, Global};
 
+/// One of these texts.
+fn one_of<'a>(rng: &mut SmallRng, texts: &[&'a str]) -> &'a str {
+    texts.choose(rng).copied().unwrap_or("")
+}
+
 /// A line with its line feed. Most of them are commands that can be accepted.
-pub fn line(alloc: Global, chance: &mut Chance, id: u64) -> Result<String, AllocError> {
-    let doc = chance.one_of(&["a", "b", "c"]);
-    let bytes = chance.one_of(&["", "YQ==", "YmM=", "4oI=", "YQ"]);
-    let (rev, at, del) = (chance.below(4), chance.below(3), chance.below(2));
-    match chance.below(12) {
+pub fn line(alloc: Global, rng: &mut SmallRng, id: u64) -> Result<String, AllocError> {
+    let doc = one_of(rng, &["a", "b", "c"]);
+    let bytes = one_of(rng, &["", "YQ==", "YmM=", "4oI=", "YQ"]);
+    let rev = rng.random_range(0..4u32);
+    let at = rng.random_range(0..3u32);
+    let del = rng.random_range(0..2u32);
+    match rng.random_range(0..12u32) {
         0 | 1 => {
-            let label = chance.one_of(&["utf-8", "utf-16le", "big5", "none"]);
+            let label = one_of(rng, &["utf-8", "utf-16le", "big5", "none"]);
             format!(in alloc;
                 "{{\"id\":{id},\"op\":\"open\",\"doc\":\"{doc}\",\"label\":\"{label}\",\"bytes\":\"{bytes}\"}}\n"
             )
@@ -27,7 +36,7 @@ pub fn line(alloc: Global, chance: &mut Chance, id: u64) -> Result<String, Alloc
         ),
         6 => String::from_str(
             alloc,
-            chance.one_of(&["\n", "[]\r\n", "{\"id\":1}\n", "{\"id\":\n"]),
+            one_of(rng, &["\n", "[]\r\n", "{\"id\":1}\n", "{\"id\":\n"]),
         ),
         _ => format!(in alloc;
             "{{\"id\":{id},\"op\":\"splice\",\"doc\":\"{doc}\",\"rev\":{rev},\"at\":{at},\"del\":{del},\"bytes\":\"{bytes}\"}}\n"

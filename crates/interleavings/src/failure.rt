@@ -1,12 +1,15 @@
 //! Why the comparison ends early.
 
+use gateway::TraceFault;
 use std::alloc::AllocError;
 
-/// A difference, or the program's own want of memory.
+/// A difference, a trace that broke off, or the program's own want of memory.
 #[derive(Clone, Copy, PartialEq, Eq, Debug)]
 pub enum Failure {
     /// A reply, a refusal or a number of bytes taken is another than wanted.
     Different,
+    /// The trace broke off.
+    Trace(TraceFault),
     /// Memory ran out.
     OutOfMemory,
 }

@@ -1,30 +1,38 @@
-//! Events of sixteen connections, interleaved at random and cut anywhere: every reply has to be
-//! that of one desk that takes the lines one at a time, in the order of their line feeds.
+//! A trace from the standard input, whose replies are printed. Then events of sixteen connections,
+//! interleaved at random and cut anywhere: every reply has to be that of one desk that takes the
+//! lines one at a time, in the order of their line feeds.
 #![tactic(auto)]
 
-mod chance;
 mod client;
 mod commands;
 mod failure;
 mod play;
+mod replay;
 mod tally;
 
-use chance::Chance;
 use failure::Failure;
+use gateway::{FromRead, ToWrite};
 use index_loader::Indexes;
 use play::Play;
+use rand::SeedableRng;
+use rand::rngs::SmallRng;
+use replay::replay;
+use std::io;
 use std::process::ExitCode;
 
 /// How many events there are.
 const EVENTS: u64 = 40_000;
 
-/// Plays the events, and says whether they told something.
+/// Plays the trace and then the events, and says whether these told something.
 fn compare(rt: &HostRuntime) -> Result<bool, Failure> {
+    let mut input = FromRead::new(rt.reader());
+    let mut output = ToWrite::new(io::writer(rt));
+    replay(rt.alloc(), &mut input, &mut output)?;
     let indexes = Indexes::new();
     let mut play = Play::new(rt.alloc(), &indexes)?;
-    let mut chance = Chance::new(EVENTS);
+    let mut rng = SmallRng::seed_from_u64(1);
     for id in 0..EVENTS {
-        play.step(&mut chance, id)?;
+        play.step(&mut rng, id)?;
     }
     Ok(play.tally.is_telling())
 }
@@ -34,6 +42,7 @@ fn main(rt: HostRuntime) -> ExitCode {
         Ok(true) => println!(rt; "{EVENTS} events: every reply is that of one desk"),
         Ok(false) => println!(rt; "too few lines, edits or refusals"),
         Err(Failure::Different) => println!(rt; "a reply is another than that of one desk"),
+        Err(Failure::Trace(_)) => println!(rt; "the trace broke off"),
         Err(Failure::OutOfMemory) => println!(rt; "out of memory"),
     };
     match said {

@@ -1,6 +1,5 @@
 //! Events on sixteen connections, and beside them one desk that takes the lines one at a time.
 
-use crate::chance::Chance;
 use crate::client::Client;
 use crate::failure::Failure;
 use crate::tally::Tally;
@@ -9,6 +8,8 @@ use enc_names::Labels;
 use gateway::{CONNECTIONS, Event, GateFault, Gateway, Out};
 use index_loader::Indexes;
 use memchr::memchr;
+use rand::RngExt;
+use rand::rngs::SmallRng;
 use std::alloc::Global;
 
 /// A gateway that is compared, and one that is given whole lines alone, on one connection.
@@ -23,7 +24,7 @@ pub struct Play<'i> {
 }
 
 /// A gateway without index files, whose labels are the names alone.
-fn gateway<'i>(alloc: Global, indexes: &'i Indexes) -> Result<Gateway<'i>, Failure> {
+pub fn new_gateway<'i>(alloc: Global, indexes: &'i Indexes) -> Result<Gateway<'i>, Failure> {
     let labels = Labels::names(alloc).map_err(|_| Failure::OutOfMemory)?;
     let desk = Desk::new(alloc, indexes, labels).map_err(|_| Failure::OutOfMemory)?;
     Ok(Gateway::new(alloc, desk))
@@ -32,7 +33,7 @@ fn gateway<'i>(alloc: Global, indexes: &'i Indexes) -> Result<Gateway<'i>, Failu
 impl<'i> Play<'i> {
     /// No connection is open but the one of the lines in order.
     pub fn new(alloc: Global, indexes: &'i Indexes) -> Result<Play<'i>, Failure> {
-        let mut in_order = gateway(alloc, indexes)?;
+        let mut in_order = new_gateway(alloc, indexes)?;
         if in_order.event(Event::Open(0)).is_err() {
             return Err(Failure::Different);
         }
@@ -43,7 +44,7 @@ impl<'i> Play<'i> {
                 .map_err(|_| Failure::OutOfMemory)?;
         }
         Ok(Play {
-            compared: gateway(alloc, indexes)?,
+            compared: new_gateway(alloc, indexes)?,
             in_order,
             clients,
             tally: Tally::new(),
@@ -52,12 +53,12 @@ impl<'i> Play<'i> {
     }
 
     /// One event, on a connection of any number up to one too many.
-    pub fn step(&mut self, chance: &mut Chance, id: u64) -> Result<(), Failure> {
-        let c = u8::try_from(chance.below(CONNECTIONS as u64 + 1)).unwrap_or(u8::MAX);
-        match chance.below(20) {
+    pub fn step(&mut self, rng: &mut SmallRng, id: u64) -> Result<(), Failure> {
+        let c = rng.random_range(0..=CONNECTIONS as u8);
+        match rng.random_range(0..20u32) {
             0 => self.switch(c, true),
-            1 if chance.below(3) == 0 => self.switch(c, false),
-            _ => self.send(c, chance, id),
+            1 if rng.random_range(0..3u32) == 0 => self.switch(c, false),
+            _ => self.send(c, rng, id),
         }
     }
 
@@ -86,14 +87,14 @@ impl<'i> Play<'i> {
     }
 
     /// Bytes are sent on the connection.
-    fn send(&mut self, c: u8, chance: &mut Chance, id: u64) -> Result<(), Failure> {
+    fn send(&mut self, c: u8, rng: &mut SmallRng, id: u64) -> Result<(), Failure> {
         let Some(client) = self.clients.get_mut(c as usize) else {
             return self.refused(Event::Bytes(c, b"\n"), GateFault::BadNumber);
         };
         if !client.open {
             return self.refused(Event::Bytes(c, b"\n"), GateFault::NotOpen);
         }
-        let bytes = client.next_bytes(self.alloc, chance, id)?;
+        let bytes = client.next_bytes(self.alloc, rng, id)?;
         match self.compared.event(Event::Bytes(c, &bytes)) {
             Ok(out) => self.taken(c, &bytes, &out),
             Err(_) => Err(Failure::Different),

@@ -1,7 +1,6 @@
 //! The documents.
 
 use enc_names::Encoding;
-use index_loader::{Index, IndexKind, Indexes};
 use std::alloc::Global;
 
 /// A document and its edit: bytes that are repeated, and where so many are taken out and others put
@@ -46,16 +45,6 @@ pub const CASES: [Case; 3] = [
         put_in: b"\x1B(J\\\\\\",
     },
 ];
-
-/// The index files that they need: a line of each.
-pub fn indexes(alloc: Global) -> Option<Indexes> {
-    let mut indexes = Indexes::new();
-    let jis0208 = b"283\t0x3042\n";
-    let katakana = b"0\t0x3002\n";
-    indexes.put(Index::parse(alloc, IndexKind::Jis0208, jis0208).ok()?);
-    indexes.put(Index::parse(alloc, IndexKind::Katakana, katakana).ok()?);
-    Some(indexes)
-}
 
 /// The bytes of a document, and those that its edit puts in.
 #[derive(Drop)]

@@ -13,6 +13,7 @@ use budget::{Room, all_but};
 use cases::{Bytes, CASES, Case, made};
 use index_loader::Indexes;
 use rounds::{Tallies, tallies_of};
+use small_indexes::small_indexes;
 use std::alloc::Global;
 use std::io;
 use tally::Tally;
@@ -54,7 +55,7 @@ fn report(rt: &HostRuntime, case: &Case, tallies: Option<Tallies>) -> io::Result
 }
 
 fn main(rt: HostRuntime) -> io::Result<()> {
-    let Some(indexes) = cases::indexes(rt.alloc()) else {
+    let Some(indexes) = small_indexes(rt.alloc()) else {
         println!(rt; "out of memory")?;
         return Ok(());
     };

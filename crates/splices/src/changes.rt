@@ -1,6 +1,5 @@
 //! Splices that are to keep the text, each compared with the texts decoded from scratch.
 
-use crate::chance::Chance;
 use crate::compare::agrees;
 use crate::random::{Splice, splice_of, spliced};
 use codec::decode_whole;
@@ -8,6 +7,8 @@ use decoder_core::meter;
 use enc_names::Encoding;
 use index_loader::Indexes;
 use piece_rope::{Doc, DocFault};
+use rand::rngs::SmallRng;
+use rand::{RngExt, SeedableRng};
 use std::alloc::Global;
 
 /// A splice, and the code points `i..j` of the text that it is to replace.
@@ -17,6 +18,16 @@ struct Change {
     i: usize,
     j: usize,
     text: Vec<char>,
+}
+
+/// How changes came out.
+#[derive(Clone, Copy)]
+pub struct Tally {
+    /// Changes that are made or refused as the texts decoded from scratch say, and leave a document
+    /// that agrees with its bytes.
+    pub agree: usize,
+    /// Changes that are made.
+    pub made: usize,
 }
 
 /// The code points that these bytes decode to from scratch; `None` where memory is refused.
@@ -57,10 +68,10 @@ fn common_back(old: &[char], new: &[char], front: usize) -> usize {
 }
 
 /// As many as these, or fewer, and sometimes none.
-fn fewer(chance: &mut Chance, count: usize) -> usize {
-    match chance.below(3) {
-        0 => chance.below(count),
-        1 => count.saturating_sub(chance.below(5)),
+fn fewer(rng: &mut SmallRng, count: usize) -> usize {
+    match rng.random_range(0..3u32) {
+        0 => rng.random_range(0..=count),
+        1 => count.saturating_sub(rng.random_range(0..5usize)),
         _ => count,
     }
 }
@@ -69,15 +80,15 @@ fn fewer(chance: &mut Chance, count: usize) -> usize {
 /// either side; `None` where memory is refused.
 fn change_of(
     alloc: Global,
-    chance: &mut Chance,
+    rng: &mut SmallRng,
     old: &[char],
     new: &[char],
     splice: Splice,
 ) -> Option<Change> {
     let front = common_front(old, new);
     let back = common_back(old, new, front);
-    let i = fewer(chance, front);
-    let stay = fewer(chance, back);
+    let i = fewer(rng, front);
+    let stay = fewer(rng, back);
     let j = old.len().saturating_sub(stay);
     let part = new.get(i..new.len().saturating_sub(stay))?;
     let mut text = Vec::new(alloc);
@@ -86,8 +97,8 @@ fn change_of(
 }
 
 /// Makes of a change, as often as not, one that is to be refused.
-fn disturb(chance: &mut Chance, change: &mut Change) -> Option<()> {
-    match chance.below(12) {
+fn disturb(rng: &mut SmallRng, change: &mut Change) -> Option<()> {
+    match rng.random_range(0..12u32) {
         0 => change.text.push('x').ok()?,
         1 => {
             change.text.pop();
@@ -150,33 +161,33 @@ fn refusal_of(alloc: Global, doc: &mut Doc<'_>, change: &Change) -> Option<DocFa
     .err()
 }
 
-/// How many of so many changes, one after another, are made or refused as the texts decoded from
-/// scratch say, and leave a document that agrees with its bytes; `None` where memory is refused.
-pub fn changes_that_agree(
+/// How so many changes, one after another, come out; `None` where memory is refused.
+pub fn changes_of(
     alloc: Global,
     indexes: &Indexes,
     given: Encoding,
     changes: usize,
-) -> Option<usize> {
-    let mut chance = Chance::new(0x2545_F491_4F6C_DD1D);
+) -> Option<Tally> {
+    let mut rng = SmallRng::seed_from_u64(2);
     let mut bytes = Vec::new(alloc);
     let mut doc = Doc::open(alloc, indexes, given, &bytes, &mut meter()).ok()?;
-    let mut count: usize = 0;
+    let mut tally = Tally { agree: 0, made: 0 };
     for _ in 0..changes {
-        let splice = splice_of(alloc, &mut chance, bytes.len())?;
+        let splice = splice_of(alloc, &mut rng, bytes.len())?;
         let after = spliced(alloc, &bytes, &splice)?;
         let old = code_points(alloc, indexes, given, &bytes)?;
         let new = code_points(alloc, indexes, given, &after)?;
-        let mut change = change_of(alloc, &mut chance, &old, &new, splice)?;
-        disturb(&mut chance, &mut change)?;
+        let mut change = change_of(alloc, &mut rng, &old, &new, splice)?;
+        disturb(&mut rng, &mut change)?;
         let wanted = refusal(bytes.len(), &old, &new, &change);
         let found = refusal_of(alloc, &mut doc, &change);
         if found.is_none() {
             bytes = after;
+            tally.made = tally.made.saturating_add(1);
         }
         if found == wanted && agrees(alloc, &doc, given, &bytes)? {
-            count = count.saturating_add(1);
+            tally.agree = tally.agree.saturating_add(1);
         }
     }
-    Some(count)
+    Some(tally)
 }

@@ -3,17 +3,14 @@
 //! each accepted or refused as the texts decoded from scratch say.
 #![tactic(auto)]
 
-mod chance;
 mod changes;
 mod compare;
 mod random;
-mod small_indexes;
 #[cfg(test)]
 mod tests;
 
-use changes::changes_that_agree;
+use changes::{Tally, changes_of};
 use enc_names::Encoding;
-use index_loader::Indexes;
 use random::splices_that_agree;
 use small_indexes::small_indexes;
 use std::io;
@@ -51,24 +48,24 @@ const CHANGED: [Encoding; 6] = [
 /// How many changes each of these has.
 const CHANGES: usize = 600;
 
-/// Prints how many changes of documents in this encoding are answered as they should be.
-fn print_changes(rt: &HostRuntime, indexes: &Indexes, given: Encoding) -> io::Result<()> {
+/// Prints how many splices of documents in this encoding agree.
+fn print_splices(rt: &HostRuntime, given: Encoding, agree: Option<usize>) -> io::Result<()> {
     let name = given.name();
-    match changes_that_agree(rt.alloc(), indexes, given, CHANGES) {
-        Some(count) => println!(rt; "{name:<14} {count} of {CHANGES} changes agree")?,
-        None => println!(rt; "{name:<14} a call was refused")?,
+    match agree {
+        Some(agree) => println!(rt; "{name:<14} {agree} of {SPLICES} splices agree"),
+        None => println!(rt; "{name:<14} a call was refused"),
     }
-    Ok(())
 }
 
-/// Prints how many splices of documents in this encoding agree.
-fn print_count(rt: &HostRuntime, indexes: &Indexes, given: Encoding) -> io::Result<()> {
+/// Prints how many changes of documents in this encoding agree, and how many are made.
+fn print_changes(rt: &HostRuntime, given: Encoding, tally: Option<Tally>) -> io::Result<()> {
     let name = given.name();
-    match splices_that_agree(rt.alloc(), indexes, given, SPLICES) {
-        Some(count) => println!(rt; "{name:<14} {count} of {SPLICES} splices agree")?,
-        None => println!(rt; "{name:<14} a call was refused")?,
+    match tally {
+        Some(Tally { agree, made }) => {
+            println!(rt; "{name:<14} {agree} of {CHANGES} changes agree, {made} made")
+        }
+        None => println!(rt; "{name:<14} a call was refused"),
     }
-    Ok(())
 }
 
 fn main(rt: HostRuntime) -> io::Result<()> {
@@ -76,11 +73,13 @@ fn main(rt: HostRuntime) -> io::Result<()> {
         println!(rt; "out of memory")?;
         return Ok(());
     };
-    for encoding in &ENCODINGS {
-        print_count(&rt, &indexes, *encoding)?;
+    for given in &ENCODINGS {
+        let agree = splices_that_agree(rt.alloc(), &indexes, *given, SPLICES);
+        print_splices(&rt, *given, agree)?;
     }
-    for encoding in &CHANGED {
-        print_changes(&rt, &indexes, *encoding)?;
+    for given in &CHANGED {
+        let tally = changes_of(rt.alloc(), &indexes, *given, CHANGES);
+        print_changes(&rt, *given, tally)?;
     }
     Ok(())
 }

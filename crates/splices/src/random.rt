@@ -1,11 +1,14 @@
 //! Splices that look random.
+ghost use Rattle.std.specs.Prelude.{◌≡◌, ◌+◌, ◌≤◌, IfSome};
+ghost use Rattle.piece_rope.specs.Edits.{spliced};
 
-use crate::chance::Chance;
 use crate::compare::agrees;
 use decoder_core::meter;
 use enc_names::Encoding;
 use index_loader::Indexes;
 use piece_rope::Doc;
+use rand::rngs::SmallRng;
+use rand::{RngExt, SeedableRng};
 use std::alloc::Global;
 
 /// Bytes that mean something in one encoding or another: escapes, leads, trails, marks, line ends.
@@ -27,51 +30,57 @@ pub struct Splice {
 }
 
 /// A byte of these, or as often the letter `a`.
-fn byte(chance: &mut Chance) -> u8 {
-    let place = chance.below(80);
+fn byte(rng: &mut SmallRng) -> u8 {
+    let place = rng.random_range(0..80usize);
     BYTES.get(place).copied().unwrap_or(b'a')
 }
 
 /// So many bytes.
-fn bytes(alloc: Global, chance: &mut Chance, count: usize) -> Option<Vec<u8>> {
+fn bytes(alloc: Global, rng: &mut SmallRng, count: usize) -> Option<Vec<u8>> {
     let mut bytes = Vec::new(alloc);
     for _ in 0..count {
-        bytes.push(byte(chance)).ok()?;
+        bytes.push(byte(rng)).ok()?;
     }
     Some(bytes)
 }
 
 /// How many bytes are put in: mostly few, sometimes many.
-fn number_put_in(chance: &mut Chance) -> usize {
-    let most = match chance.below(8) {
+fn number_put_in(rng: &mut SmallRng) -> usize {
+    let most = match rng.random_range(0..8u32) {
         0 => 9000,
         1 => 700,
-        _ => 9,
+        _ => 8,
     };
-    chance.below(most)
+    rng.random_range(0..=most)
 }
 
 /// How many of `left` bytes are taken out: mostly few, sometimes most.
-fn number_taken_out(chance: &mut Chance, left: usize) -> usize {
-    let most = match chance.below(10) {
+fn number_taken_out(rng: &mut SmallRng, left: usize) -> usize
+    ensures { result ≤ left }
+{
+    let most = match rng.random_range(0..10u32) {
         0 => left,
         1 => left.min(5000),
         _ => left.min(8),
     };
-    chance.below(most)
+    rng.random_range(0..=most)
 }
 
 /// A splice of a document of so many bytes; `None` where memory is refused.
-pub fn splice_of(alloc: Global, chance: &mut Chance, length: usize) -> Option<Splice> {
-    let count = number_put_in(chance);
-    let ins = bytes(alloc, chance, count)?;
-    let at = chance.below(length);
-    let del = number_taken_out(chance, length.saturating_sub(at));
+pub fn splice_of(alloc: Global, rng: &mut SmallRng, length: usize) -> Option<Splice>
+    ensures fits { IfSome result (λ splice. splice.at + splice.del ≤ length) }
+{
+    let count = number_put_in(rng);
+    let ins = bytes(alloc, rng, count)?;
+    let at = rng.random_range(0..=length);
+    let del = number_taken_out(rng, length - at);
     Some(Splice { at, del, ins })
 }
 
 /// The bytes behind the splice; `None` where memory is refused.
-pub fn spliced(alloc: Global, bytes: &[u8], splice: &Splice) -> Option<Vec<u8>> {
+pub fn spliced(alloc: Global, bytes: &[u8], splice: &Splice) -> Option<Vec<u8>>
+    ensures { IfSome result (λ new. new.items ≡ spliced bytes.now splice.now.at splice.now.del splice.now.ins.items) }
+{
     let mut new = Vec::new(alloc);
     let front = bytes.get(..splice.at)?;
     let back = bytes.get(splice.at.checked_add(splice.del)?..)?;
@@ -90,13 +99,8 @@ fn agrees_behind(
     bytes: &[u8],
     splice: &Splice,
 ) -> Option<bool> {
-    doc.splice(
-        splice.at as u64,
-        splice.del as u64,
-        &splice.ins,
-        &mut meter(),
-    )
-    .ok()?;
+    let (at, del) = (splice.at as u64, splice.del as u64);
+    doc.splice(at, del, &splice.ins, &mut meter()).ok()?;
     agrees(alloc, doc, given, bytes)
 }
 
@@ -108,12 +112,12 @@ pub fn splices_that_agree(
     given: Encoding,
     splices: usize,
 ) -> Option<usize> {
-    let mut chance = Chance::new(0x9E37_79B9_7F4A_7C15);
+    let mut rng = SmallRng::seed_from_u64(1);
     let mut bytes = Vec::new(alloc);
     let mut doc = Doc::open(alloc, indexes, given, &bytes, &mut meter()).ok()?;
     let mut count: usize = 0;
     for _ in 0..splices {
-        let splice = splice_of(alloc, &mut chance, bytes.len())?;
+        let splice = splice_of(alloc, &mut rng, bytes.len())?;
         bytes = spliced(alloc, &bytes, &splice)?;
         if agrees_behind(alloc, &mut doc, given, &bytes, &splice)? {
             count = count.saturating_add(1);

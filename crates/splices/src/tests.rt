@@ -1,22 +1,40 @@
 //! Documents at work: a table of documents in each family of encodings, byte order marks that
-//! appear and vanish, and what a splice decodes.
+//! appear and vanish, what a splice decodes, and which splices keep the text.
 
 use decoder_core::meter;
-use enc_names::{Encoding, Place};
+use enc_names::Encoding;
 use index_loader::Indexes;
 use piece_rope::{Doc, DocFault};
+use std::alloc::Global;
 use std::process::Abort;
 use std::test::Fail;
 
 mod cases;
+mod kept;
 mod marks;
 mod meters;
 
-/// The document answers everything with this text and these errors.
-fn answers(rt: &impl Abort, doc: &Doc<'_>, text: &str, errors: &[Place]) -> Result<(), DocFault> {
+/// So many bytes `a` and then these.
+fn behind_letters(alloc: Global, count: usize, bytes: &[u8]) -> Result<Vec<u8>, DocFault> {
+    let mut all = vec![in alloc; b'a'; count]?;
+    all.extend_from_slice(bytes)?;
+    Ok(all)
+}
+
+/// The document answers everything with this text, and with errors from here to there.
+fn answers(
+    rt: &impl Abort,
+    doc: &Doc<'_>,
+    text: &str,
+    errors: &[(u64, u64)],
+) -> Result<(), DocFault> {
     let lengths = doc.lengths();
     assert_eq!(rt; doc.text(0, lengths.scalars)?.as_str(), text);
-    assert_eq!(rt; doc.errors(0, lengths.errors)?.as_slice(), errors);
-    assert_eq!(rt; doc.fatal(), errors.first().copied());
+    let places = doc.errors(0, lengths.errors)?;
+    assert_eq!(rt; places.len(), errors.len());
+    for (place, (from, to)) in places.iter().zip(errors) {
+        assert_eq!(rt; (place.from, place.to), (*from, *to));
+    }
+    assert_eq!(rt; doc.fatal(), places.first().copied());
     Ok(())
 }

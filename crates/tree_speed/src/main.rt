@@ -2,7 +2,6 @@
 //! and searches take.
 #![tactic(auto)]
 
-mod chance;
 mod item;
 mod items;
 mod load;

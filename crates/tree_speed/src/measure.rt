@@ -1,9 +1,10 @@
 //! What searches visit, and what edits and searches cost.
 
-use crate::chance::Chance;
 use crate::item::Item;
 use crate::items::{Items, put, take};
 use crate::load::Axis;
+use rand::rngs::SmallRng;
+use rand::{RngExt, SeedableRng};
 use std::alloc::Global;
 use std::io;
 use std::time::{Clock, Duration, Instant};
@@ -27,10 +28,10 @@ pub struct Timing {
 pub fn grown(alloc: Global, count: usize) -> Result<Items, OutOfMemory> {
     let mut items = SumTree::new(alloc);
     items.reserve(count.saturating_add(STEPS))?;
-    let mut chance = Chance::new(88_172_645_463_325_252);
+    let mut rng = SmallRng::seed_from_u64(1);
     for _ in 0..count {
-        let i = chance.below(items.len().saturating_add(1));
-        let weight = chance.below(65536);
+        let i = rng.random_range(0..=items.len());
+        let weight = rng.random_range(0..65536usize);
         put(&mut items, i, light(weight));
     }
     Ok(items)
@@ -59,10 +60,10 @@ pub fn visited(items: &Items) -> (u64, u64) {
 
 /// The fastest of some rounds of a thousand finds, inserts and removes.
 pub fn fastest<C: Clock>(clock: &C, items: &mut Items) -> io::Result<Timing> {
-    let mut chance = Chance::new(2_463_534_242);
-    let mut best = once(clock, items, &mut chance)?;
+    let mut rng = SmallRng::seed_from_u64(2);
+    let mut best = once(clock, items, &mut rng)?;
     for _ in 1..ROUNDS {
-        let next = once(clock, items, &mut chance)?;
+        let next = once(clock, items, &mut rng)?;
         best.insert = best.insert.min(next.insert);
         best.remove = best.remove.min(next.remove);
         best.find = best.find.min(next.find);
@@ -71,10 +72,10 @@ pub fn fastest<C: Clock>(clock: &C, items: &mut Items) -> io::Result<Timing> {
 }
 
 /// One round of each kind of step: finds, then inserts, then as many removes.
-fn once<C: Clock>(clock: &C, items: &mut Items, chance: &mut Chance) -> io::Result<Timing> {
+fn once<C: Clock>(clock: &C, items: &mut Items, rng: &mut SmallRng) -> io::Result<Timing> {
     let mut targets = [0; STEPS];
     for target in &mut targets {
-        *target = chance.below(items.len());
+        *target = rng.random_range(0..items.len().max(1));
     }
     let start = Instant::now(clock)?;
     searched(items, &targets);

@@ -1,20 +1,15 @@
 //! The tree against a plain vector, by the items of this program.
 
-use crate::chance::Chance;
 use crate::item::Item;
 use crate::items::{Items, built, put, swap, take};
 use crate::load::{Axis, Load};
+use crate::measure::light;
+use rand::rngs::SmallRng;
+use rand::{RngExt, SeedableRng};
 use std::alloc::Global;
 use std::process::Abort;
 use std::test::Fail;
 use sum_tree::{SumTree, visits};
-
-/// An item of this weight, at most.
-fn item(weight: usize) -> Item {
-    Item {
-        weight: (weight % 65536) as u64,
-    }
-}
 
 /// The sum of these items.
 fn load_of(items: &[Item]) -> Load {
@@ -70,9 +65,9 @@ fn two_inserts_at_the_front(rt: HostRuntime) -> Result<(), Fail> {
     let mut items: Items = SumTree::new(rt.alloc());
     items.reserve(2)?;
     assert_eq!(&rt; items.spare(), 2);
-    assert!(&rt; put(&mut items, 0, item(1)));
-    assert!(&rt; put(&mut items, 0, item(2)));
-    same(&rt, &items, &[item(2), item(1)], 2);
+    assert!(&rt; put(&mut items, 0, light(1)));
+    assert!(&rt; put(&mut items, 0, light(2)));
+    same(&rt, &items, &[light(2), light(1)], 2);
     assert_eq!(&rt; items.spare(), 0);
     Ok(())
 }
@@ -80,28 +75,29 @@ fn two_inserts_at_the_front(rt: HostRuntime) -> Result<(), Fail> {
 /// Thousands of inserts, removes and replaces at places that look random.
 #[test]
 fn edits_against_a_vector(rt: HostRuntime) -> Result<(), Fail> {
-    let mut chance = Chance::new(0x9E37_79B9_7F4A_7C15);
+    let mut rng = SmallRng::seed_from_u64(3);
     let mut items: Items = SumTree::new(rt.alloc());
     let mut wanted: Vec<Item> = Vec::new(rt.alloc());
     items.reserve(4000)?;
     for round in 0..6000 {
-        let weight = item(chance.below(70000));
-        let i = chance.below(wanted.len());
-        match chance.below(if round < 3000 { 4 } else { 6 }) {
+        let item = light(rng.random_range(0..65536usize));
+        let i = rng.random_range(0..=wanted.len());
+        let most: u32 = if round < 3000 { 3 } else { 5 };
+        match rng.random_range(0..=most) {
             0 if i < wanted.len() => {
-                assert_eq!(&rt; swap(&mut items, i, weight), Some(wanted[i]));
-                wanted[i] = weight;
+                assert_eq!(&rt; swap(&mut items, i, item), Some(wanted[i]));
+                wanted[i] = item;
             }
             1 | 4 | 5 if i < wanted.len() => {
                 assert_eq!(&rt; take(&mut items, i), Some(wanted.remove(i)));
             }
             _ => {
-                assert!(&rt; put(&mut items, i, weight));
-                wanted.insert(i, weight)?;
+                assert!(&rt; put(&mut items, i, item));
+                wanted.insert(i, item)?;
             }
         }
         if round % 500 == 0 {
-            same(&rt, &items, &wanted, chance.below(100_000_000) as u64);
+            same(&rt, &items, &wanted, rng.random_range(0..100_000_000));
         }
     }
     same(&rt, &items, &wanted, 0);
@@ -132,7 +128,7 @@ fn inserts_without_memory(rt: HostRuntime) -> Result<(), Fail> {
     let refused = items.reserve(1_000_000).is_err();
     let mut all = true;
     for i in 0..2000 {
-        all = put(&mut items, i / 2, item(i)) && all;
+        all = put(&mut items, i / 2, light(i)) && all;
     }
     drop(taken);
     assert!(&rt; refused);
@@ -145,10 +141,10 @@ fn inserts_without_memory(rt: HostRuntime) -> Result<(), Fail> {
 #[test]
 fn built_of_many(rt: HostRuntime) -> Result<(), Fail> {
     for n in [0, 1, 2, 3, 4, 5, 6, 7, 8, 100, 4097] {
-        let mut chance = Chance::new(77);
+        let mut rng = SmallRng::seed_from_u64(4);
         let mut items: Vec<Item> = Vec::new(rt.alloc());
         for _ in 0..n {
-            items.push(item(chance.below(65536)))?;
+            items.push(light(rng.random_range(0..65536usize)))?;
         }
         let wanted = items.clone()?;
         let built = built(rt.alloc(), &mut items)?;

@@ -2,39 +2,28 @@
 //! from its back.
 
 use super::*;
-use crate::small_indexes::small_indexes;
-use std::alloc::Global;
+use small_indexes::small_indexes;
 
-/// An encoding given, bytes, their text and the places of its errors.
-type Case = (Encoding, &'static [u8], &'static str, &'static [Place]);
+/// An encoding given, bytes, their text and from where to where its errors are.
+type Case = (Encoding, &'static [u8], &'static str, &'static [(u64, u64)]);
 
 /// Worked examples of the decoders' rules; the last three begin with a byte order mark.
 const CASES: [Case; 27] = [
     (Encoding::Utf8, &[], "", &[]),
-    (
-        Encoding::Utf8,
-        &[0xE2, 0x82, 0x41],
-        "\u{FFFD}A",
-        &[Place { from: 0, to: 2 }],
-    ),
-    (
-        Encoding::Utf8,
-        &[0xF0, 0x9F, 0x98],
-        "\u{FFFD}",
-        &[Place { from: 0, to: 3 }],
-    ),
+    (Encoding::Utf8, &[0xE2, 0x82, 0x41], "\u{FFFD}A", &[(0, 2)]),
+    (Encoding::Utf8, &[0xF0, 0x9F, 0x98], "\u{FFFD}", &[(0, 3)]),
     (
         Encoding::Utf8,
         &[0xC0, 0x80],
         "\u{FFFD}\u{FFFD}",
-        &[Place { from: 0, to: 1 }, Place { from: 1, to: 2 }],
+        &[(0, 1), (1, 2)],
     ),
     (Encoding::Utf8, &[0xE2, 0x82, 0xAC], "\u{20AC}", &[]),
     (
         Encoding::Windows1252,
         &[0x80, 0xBB, 0x41, 0x81],
         "\u{20AC}\u{BB}A\u{FFFD}",
-        &[Place { from: 3, to: 4 }],
+        &[(3, 4)],
     ),
     (
         Encoding::XUserDefined,
@@ -42,36 +31,31 @@ const CASES: [Case; 27] = [
         "A\u{F780}\u{F7FF}",
         &[],
     ),
-    (
-        Encoding::Replacement,
-        &[0x41, 0x42],
-        "\u{FFFD}",
-        &[Place { from: 0, to: 1 }],
-    ),
+    (Encoding::Replacement, &[0x41, 0x42], "\u{FFFD}", &[(0, 1)]),
     (
         Encoding::ShiftJis,
         &[0x82, 0xA0, 0xB1, 0x80, 0xF0, 0x40, 0x81, 0x2F],
         "\u{3042}\u{FF71}\u{80}\u{E000}\u{FFFD}/",
-        &[Place { from: 6, to: 7 }],
+        &[(6, 7)],
     ),
     (
         Encoding::EucJp,
         &[0x8F, 0xA2, 0xAF, 0x8E, 0xB1, 0xA4, 0xA2, 0x8E, 0x41],
         "\u{2D8}\u{FF71}\u{3042}\u{FFFD}A",
-        &[Place { from: 7, to: 8 }],
+        &[(7, 8)],
     ),
     (
         Encoding::EucKr,
         &[0xB0, 0xA1, 0xB0, 0x41, 0xFF],
         "\u{AC00}\u{FFFD}A\u{FFFD}",
-        &[Place { from: 2, to: 3 }, Place { from: 4, to: 5 }],
+        &[(2, 3), (4, 5)],
     ),
     (Encoding::Big5, &[0x88, 0x62], "\u{CA}\u{304}", &[]),
     (
         Encoding::Gb18030,
         &[0x81, 0x30, 0x81, 0x41],
         "\u{FFFD}0\u{4E04}",
-        &[Place { from: 0, to: 1 }],
+        &[(0, 1)],
     ),
     (
         Encoding::Gb18030,
@@ -89,53 +73,39 @@ const CASES: [Case; 27] = [
         Encoding::Gb18030,
         &[0xE3, 0x32, 0x9A, 0x36],
         "\u{FFFD}",
-        &[Place { from: 0, to: 4 }],
+        &[(0, 4)],
     ),
-    (
-        Encoding::Utf16Le,
-        &[0x41],
-        "\u{FFFD}",
-        &[Place { from: 0, to: 1 }],
-    ),
+    (Encoding::Utf16Le, &[0x41], "\u{FFFD}", &[(0, 1)]),
     (
         Encoding::Utf16Le,
         &[0x3D, 0xD8, 0x41],
         "\u{FFFD}",
-        &[Place { from: 0, to: 3 }],
+        &[(0, 3)],
     ),
-    (
-        Encoding::Utf16Be,
-        &[0xD8, 0x3D],
-        "\u{FFFD}",
-        &[Place { from: 0, to: 2 }],
-    ),
+    (Encoding::Utf16Be, &[0xD8, 0x3D], "\u{FFFD}", &[(0, 2)]),
     (
         Encoding::Utf16Le,
         &[0x3D, 0xD8, 0x41, 0x00],
         "\u{FFFD}A",
-        &[Place { from: 0, to: 2 }],
+        &[(0, 2)],
     ),
     (
         Encoding::Utf16Le,
         &[0x3D, 0xD8, 0x3D, 0xD8, 0x00, 0xDE],
         "\u{FFFD}\u{1F600}",
-        &[Place { from: 0, to: 2 }],
+        &[(0, 2)],
     ),
     (
         Encoding::Iso2022Jp,
         &[0x1B, 0x24, 0x42, 0x24, 0x1B, 0x41],
         "\u{FFFD}\u{FFFD}\u{FFFD}",
-        &[
-            Place { from: 0, to: 5 },
-            Place { from: 5, to: 5 },
-            Place { from: 5, to: 6 },
-        ],
+        &[(0, 5), (5, 5), (5, 6)],
     ),
     (
         Encoding::Iso2022Jp,
         &[0x1B, 0x28, 0x42, 0x1B, 0x28, 0x42, 0x41],
         "\u{FFFD}A",
-        &[Place { from: 0, to: 6 }],
+        &[(0, 6)],
     ),
     (
         Encoding::Iso2022Jp,
@@ -148,13 +118,13 @@ const CASES: [Case; 27] = [
         Encoding::ShiftJis,
         &[0xFF, 0xFE, 0x41],
         "\u{FFFD}",
-        &[Place { from: 2, to: 3 }],
+        &[(2, 3)],
     ),
     (
         Encoding::ShiftJis,
         &[0xEF, 0xBB, 0xBF, 0xFF],
         "\u{FFFD}",
-        &[Place { from: 3, to: 4 }],
+        &[(3, 4)],
     ),
 ];
 

@@ -1,7 +1,7 @@
 //! Byte order marks that splices complete and break.
 
 use super::*;
-use crate::small_indexes::small_indexes;
+use small_indexes::small_indexes;
 
 /// This encoding is in force behind a byte order mark of so many bytes.
 fn is_in_force(rt: &impl Abort, doc: &Doc<'_>, encoding: Encoding, bom_len: u64) {

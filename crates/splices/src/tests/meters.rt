@@ -2,15 +2,7 @@
 
 use super::*;
 use crate::compare::pieces_are_sized;
-use crate::small_indexes::small_indexes;
-use std::alloc::Global;
-
-/// So many bytes `a` and then these.
-fn behind_letters(alloc: Global, count: usize, bytes: &[u8]) -> Result<Vec<u8>, DocFault> {
-    let mut all = vec![in alloc; b'a'; count]?;
-    all.extend_from_slice(bytes)?;
-    Ok(all)
-}
+use small_indexes::small_indexes;
 
 /// How far the splice raises the meter.
 fn raised(doc: &mut Doc<'_>, at: u64, del: u64, ins: &[u8]) -> Result<u64, DocFault> {

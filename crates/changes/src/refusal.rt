@@ -1,0 +1,25 @@
+//! Why a change isn't made.
+
+use piece_rope::DocFault;
+use position_map::ChangeFault;
+
+/// Why a change isn't made: because it isn't planned, or because its splice is refused.
+#[derive(Clone, Copy, PartialEq, Eq, Debug)]
+pub enum Refusal {
+    /// It isn't planned.
+    Unplanned(ChangeFault),
+    /// Its splice is refused.
+    Unmade(DocFault),
+}
+
+impl From<ChangeFault> for Refusal {
+    fn from(fault: ChangeFault) -> Refusal {
+        Refusal::Unplanned(fault)
+    }
+}
+
+impl From<DocFault> for Refusal {
+    fn from(fault: DocFault) -> Refusal {
+        Refusal::Unmade(fault)
+    }
+}

@@ -1,0 +1,62 @@
+//! Texts with the places of their code points.
+
+use codec::{AnyDecoder, Sniffed, sniff};
+use decoder_core::{Item, decode_parts, meter};
+use enc_names::{Encoding, Place};
+use index_loader::Indexes;
+use std::alloc::Global;
+
+/// What decoding bytes from scratch gives: the encoding in force, the code points, and of each the
+/// place of its item.
+#[derive(Drop)]
+pub struct Text {
+    /// The encoding in force.
+    pub encoding: Encoding,
+    /// The length of the byte order mark, 0 where there is none.
+    pub bom_len: u64,
+    /// The code points.
+    pub chars: Vec<char>,
+    /// The places.
+    pub places: Vec<Place>,
+}
+
+impl Text {
+    /// The text of these bytes; `None` where an index file isn't there or memory is refused.
+    pub fn of(alloc: Global, indexes: &Indexes, given: Encoding, bytes: &[u8]) -> Option<Text> {
+        let decoder = AnyDecoder::new(indexes, given)?;
+        let Sniffed { encoding, bom_len } = sniff(given, bytes);
+        let items = decode_parts(alloc, &decoder, bytes, bom_len, &[], &mut meter()).ok()?;
+        let mut text = Text {
+            encoding,
+            bom_len,
+            chars: Vec::new(alloc),
+            places: Vec::new(alloc),
+        };
+        for placed in &items {
+            let place = Place {
+                from: placed.from,
+                to: placed.to,
+            };
+            text.take(placed.item, place)?;
+        }
+        Some(text)
+    }
+
+    /// Takes an item.
+    fn take(&mut self, item: Item, place: Place) -> Option<()> {
+        match item {
+            Item::One(c) => self.push(c.to_char(), place),
+            Item::Two(first, second) => {
+                self.push(first.to_char(), place)?;
+                self.push(second.to_char(), place)
+            }
+            Item::Error => self.push(char::REPLACEMENT_CHARACTER, place),
+        }
+    }
+
+    /// Takes a code point.
+    fn push(&mut self, c: char, place: Place) -> Option<()> {
+        self.chars.push(c).ok()?;
+        self.places.push(place).ok()
+    }
+}

@@ -1,0 +1,94 @@
+//! CR LF at every place round the border of two pieces.
+
+use crate::compare::compare;
+use crate::tally::Tally;
+use decoder_core::meter;
+use enc_names::Encoding;
+use index_loader::Indexes;
+use piece_rope::Doc;
+use rand::rngs::SmallRng;
+use std::alloc::Global;
+
+/// A letter and a line end in an encoding.
+pub struct LineEnd {
+    /// The encoding.
+    pub given: Encoding,
+    letter: &'static [u8],
+    line_end: &'static [u8],
+}
+
+/// One with a byte a letter, and two with two.
+pub const LINE_ENDS: [LineEnd; 3] = [
+    LineEnd {
+        given: Encoding::Utf8,
+        letter: b"a",
+        line_end: b"\r\n",
+    },
+    LineEnd {
+        given: Encoding::Utf16Le,
+        letter: b"a\0",
+        line_end: b"\r\0\n\0",
+    },
+    LineEnd {
+        given: Encoding::Utf16Be,
+        letter: b"\0a",
+        line_end: b"\0\r\0\n",
+    },
+];
+
+/// The least bytes of a document, which has two pieces, cut in its middle.
+const LEAST: usize = 2052;
+
+/// How many lengths there are: the middle may be inside a character.
+const LENGTHS: usize = 32;
+
+/// How many letters the line end is at most in front of the middle.
+const NEAR: usize = 4;
+
+impl LineEnd {
+    /// So many bytes, all letters but for a line end behind so many of them.
+    fn bytes(&self, alloc: Global, letters: usize, len: usize) -> Option<Vec<u8>> {
+        let mut bytes = Vec::new(alloc);
+        for _ in 0..letters {
+            bytes.extend_from_slice(self.letter).ok()?;
+        }
+        bytes.extend_from_slice(self.line_end).ok()?;
+        for _ in 0..len {
+            bytes.extend_from_slice(self.letter).ok()?;
+            if bytes.len() >= len {
+                break;
+            }
+        }
+        bytes.truncate(len);
+        Some(bytes)
+    }
+}
+
+/// A document of so many bytes whose line end is so many letters in front of its middle; `None`
+/// where a call is refused.
+fn one_document(
+    alloc: Global,
+    rng: &mut SmallRng,
+    case: &LineEnd,
+    near: usize,
+    len: usize,
+    tally: &mut Tally,
+) -> Option<()> {
+    let middle = (len / 2).checked_div(case.letter.len())?;
+    let bytes = case.bytes(alloc, middle.saturating_sub(near), len)?;
+    let indexes = Indexes::new();
+    let doc = Doc::open(alloc, &indexes, case.given, &bytes, &mut meter()).ok()?;
+    compare(alloc, rng, &doc, &bytes, tally)
+}
+
+/// The calls on documents with a line end at each place round the border of two pieces; `None`
+/// where a call is refused.
+pub fn line_ends(alloc: Global, rng: &mut SmallRng, case: &LineEnd) -> Option<Tally> {
+    let mut tally = Tally::new();
+    for more in 0..LENGTHS {
+        for near in 0..NEAR {
+            one_document(alloc, rng, case, near, LEAST + more, &mut tally)?;
+        }
+    }
+    Some(tally)
+}

@@ -1,0 +1,176 @@
+//! Splices that are to keep the text, alone and among 3,000 letters: each is made or refused, and a
+//! refused one changes nothing.
+
+use super::*;
+use crate::compare::agrees;
+use small_indexes::small_indexes;
+
+/// A splice of some bytes, and the code points that it is to replace.
+#[derive(Clone, Copy)]
+struct Case {
+    /// What it is an example of.
+    shows: &'static str,
+    given: Encoding,
+    bytes: &'static [u8],
+    /// From where on how many bytes give way to which.
+    splice: (u64, u64, &'static [u8]),
+    /// From where to where the code points are replaced by which.
+    replaced: (u64, u64, &'static str),
+    /// The bytes that are left; `None` where the splice is refused.
+    left: Option<&'static [u8]>,
+}
+
+/// The bytes between so many letters in front of them and so many behind.
+fn between(alloc: Global, front: usize, bytes: &[u8], back: usize) -> Result<Vec<u8>, DocFault> {
+    let mut all = behind_letters(alloc, front, bytes)?;
+    let letters = behind_letters(alloc, back, &[])?;
+    all.extend_from_slice(&letters)?;
+    Ok(all)
+}
+
+/// The splice is made or refused as the case says, between so many letters in front and behind.
+fn is_answered(
+    rt: &impl Abort,
+    alloc: Global,
+    case: &Case,
+    front: usize,
+    back: usize,
+) -> Result<(), DocFault> {
+    let Some(indexes) = small_indexes(alloc) else {
+        return Err(DocFault::OutOfMemory);
+    };
+    let (refused, left) = match case.left {
+        Some(left) => (None, left),
+        None => (Some(DocFault::NotKept), case.bytes),
+    };
+    let bytes = between(alloc, front, case.bytes, back)?;
+    let mut doc = Doc::open(alloc, &indexes, case.given, &bytes, &mut meter())?;
+    let more = front as u64;
+    let (at, del, ins) = case.splice;
+    let (i, j, text) = case.replaced;
+    let at = at.saturating_add(more);
+    let (i, j) = (i.saturating_add(more), j.saturating_add(more));
+    let answer = doc.splice_kept(at, del, ins, i, j, text, &mut meter());
+    let shows = case.shows;
+    assert_eq!(rt; answer.err(), refused, "{shows}, behind {front} letters");
+    let wanted = between(alloc, front, left, back)?;
+    let same = agrees(alloc, &doc, case.given, &wanted);
+    assert_eq!(rt; same, Some(true), "{shows}, behind {front} letters");
+    Ok(())
+}
+
+/// The splice is made or refused as the case says, alone and between letters.
+fn is_answered_anywhere(rt: &impl Abort, alloc: Global, case: &Case) -> Result<(), DocFault> {
+    is_answered(rt, alloc, case, 0, 0)?;
+    is_answered(rt, alloc, case, 3000, 3000)
+}
+
+/// Splices that are made or refused wherever they stand.
+const CASES: [Case; 7] = [
+    Case {
+        shows: "lead byte swallows a letter",
+        given: Encoding::ShiftJis,
+        bytes: &[0x81],
+        splice: (1, 0, b"A"),
+        replaced: (1, 1, "A"),
+        left: None,
+    },
+    Case {
+        shows: "yen sign is a backslash",
+        given: Encoding::ShiftJis,
+        bytes: &[0x41],
+        splice: (1, 0, &[0x5C]),
+        replaced: (1, 1, "\u{A5}"),
+        left: None,
+    },
+    Case {
+        shows: "half of an item",
+        given: Encoding::Big5,
+        bytes: &[0x88, 0x62],
+        splice: (0, 1, &[]),
+        replaced: (0, 1, ""),
+        left: None,
+    },
+    Case {
+        shows: "kanji before a switch",
+        given: Encoding::Iso2022Jp,
+        bytes: &[0x41, 0x1B, 0x24, 0x42, 0x24, 0x22, 0x1B, 0x28, 0x42],
+        splice: (1, 0, &[0x1B, 0x24, 0x42, 0x30, 0x21]),
+        replaced: (1, 1, "\u{4E9C}"),
+        left: Some(b"A\x1B$B0!\x1B$B$\"\x1B(B"),
+    },
+    Case {
+        shows: "kana deleted with its switch",
+        given: Encoding::Iso2022Jp,
+        bytes: &[0x41, 0x1B, 0x24, 0x42, 0x24, 0x22, 0x1B, 0x28, 0x42],
+        splice: (1, 5, &[]),
+        replaced: (1, 2, ""),
+        left: Some(&[0x41, 0x1B, 0x28, 0x42]),
+    },
+    Case {
+        shows: "letter behind a kana",
+        given: Encoding::Iso2022Jp,
+        bytes: &[0x1B, 0x24, 0x42, 0x24, 0x22],
+        splice: (5, 0, &[0x1B, 0x28, 0x42, 0x41, 0x1B, 0x24, 0x42]),
+        replaced: (1, 1, "A"),
+        left: Some(b"\x1B$B$\"\x1B(BA\x1B$B"),
+    },
+    Case {
+        shows: "pair of surrogates replaced",
+        given: Encoding::Utf8,
+        bytes: b"a\xF0\x9F\x98\x80\r\nb",
+        splice: (1, 4, b"x"),
+        replaced: (1, 2, "x"),
+        left: Some(b"ax\r\nb"),
+    },
+];
+
+#[test]
+fn anywhere_among_letters(rt: HostRuntime) -> Result<(), Fail> {
+    for case in &CASES {
+        is_answered_anywhere(&rt, rt.alloc(), case)?;
+    }
+    Ok(())
+}
+
+/// The bytes `A`, to be replaced by a byte order mark and a letter.
+fn mark_for_a_letter(left: Option<&'static [u8]>) -> Case {
+    Case {
+        shows: "mark for a letter",
+        given: Encoding::Utf8,
+        bytes: b"A",
+        splice: (0, 1, b"\xEF\xBB\xBFx"),
+        replaced: (0, 1, "\u{FEFF}x"),
+        left,
+    }
+}
+
+#[test]
+fn mark_at_the_start_is_no_text(rt: HostRuntime) -> Result<(), Fail> {
+    let case = mark_for_a_letter(None);
+    is_answered(&rt, rt.alloc(), &case, 0, 0)?;
+    is_answered(&rt, rt.alloc(), &case, 0, 3000)?;
+    Ok(())
+}
+
+#[test]
+fn mark_behind_letters_is_text(rt: HostRuntime) -> Result<(), Fail> {
+    let case = mark_for_a_letter(Some(b"\xEF\xBB\xBFx"));
+    is_answered(&rt, rt.alloc(), &case, 3000, 3000)?;
+    Ok(())
+}
+
+#[test]
+fn mark_behind_a_mark_is_text(rt: HostRuntime) -> Result<(), Fail> {
+    let case = Case {
+        shows: "mark behind a mark",
+        given: Encoding::Utf8,
+        bytes: b"\xEF\xBB\xBF",
+        splice: (3, 0, b"\xEF\xBB\xBF"),
+        replaced: (0, 0, "\u{FEFF}"),
+        left: Some(b"\xEF\xBB\xBF\xEF\xBB\xBF"),
+    };
+    is_answered(&rt, rt.alloc(), &case, 0, 3000)?;
+    is_answered_anywhere(&rt, rt.alloc(), &case)?;
+    Ok(())
+}
