@@ -1,6 +1,7 @@
 #!/usr/bin/env python3
-"""Puts run.py's figures into docs/SPEED.md, between its two marks, and draws docs/speed.svg by gnuplot."""
+"""Puts run.py's figures and the rates of both programs for codecs into docs/SPEED.md, and draws docs/speed.svg."""
 
+import argparse
 import csv
 import datetime
 import os
@@ -8,10 +9,10 @@ import pathlib
 import re
 import statistics
 import subprocess
-import sys
 
 DOCS = pathlib.Path(__file__).resolve().parent.parent / "docs"
 BEGIN, END = "<!-- figures -->", "<!-- end of figures -->"
+UNITS = {"instructions": "thousands of instructions", "us": "microseconds"}
 TITLES = {
     "edits": "Edits: a splice, a text of 100 code points, and the splice that takes it back",
     "changes": "Changes: a range change by line and character, and the one that takes it back",
@@ -22,14 +23,39 @@ TITLES = {
 
 
 def main():
-    with open(sys.argv[1], newline="") as lines:
-        rows = list(csv.DictReader(lines, delimiter="\t"))
+    words = argparse.ArgumentParser(description=__doc__)
+    words.add_argument("figures", nargs="+", help="what run.py printed, by time or by instructions")
+    words.add_argument("--codecs", nargs=2, metavar=("OURS", "THEIRS"), help="what codec_speed and codecs printed")
+    given = words.parse_args()
+    files = [rows_of(name) for name in given.figures]
     page = DOCS / "SPEED.md"
     text = page.read_text()
     front, back = text[: text.index(BEGIN)], text[text.index(END) :]
-    tables = [table(kind, [row for row in rows if row["kind"] == kind]) for kind in TITLES]
-    page.write_text(front + "\n\n".join([BEGIN, machine(), *filter(None, tables)]) + "\n\n" + back)
-    draw([row for row in rows if row["kind"] == "edits"])
+    parts = [part for unit in UNITS for rows in files if unit_of(rows) == unit for part in tables(rows, unit)]
+    if given.codecs:
+        parts += ["## Decoding and encoding alone", codecs(*map(rates_in, given.codecs))]
+    page.write_text(front + "\n\n".join([BEGIN, machine(), *parts]) + "\n\n" + back)
+    for rows in files:
+        if unit_of(rows) == "us":
+            draw([row for row in rows if row["kind"] == "edits"])
+
+
+def rows_of(name):
+    with open(name, newline="") as lines:
+        return list(csv.DictReader(lines, delimiter="\t"))
+
+
+def unit_of(rows):
+    return next(unit for unit in UNITS if f"gate_{unit}" in rows[0])
+
+
+def tables(rows, unit):
+    """A heading, and a table for each kind that was measured."""
+    yield f"## In {UNITS[unit]}"
+    for kind in TITLES:
+        own = [row for row in rows if row["kind"] == kind]
+        if own:
+            yield table(kind, own, unit)
 
 
 def machine():
@@ -37,23 +63,45 @@ def machine():
     return f"Measured on {datetime.date.today()}: {model}, {os.cpu_count()} processors."
 
 
-def table(kind, rows):
-    """Microseconds of gate by size, and at the greatest size the peer's, the ratio, and both programs' memory."""
-    if not rows:
-        return None
+def table(kind, rows, unit):
+    """What gate takes by size, and at the greatest size the peer, the ratio, and both programs' memory if measured."""
     sizes = sorted({int(row["bytes"]) for row in rows})
-    heads = ["encoding", *(f"{size // 1024} KiB" for size in sizes), "peer", "peer over gate", "MB", "peer's MB"]
+    memory = {"gate_MB": "MB", "peer_MB": "peer's MB"} if unit == "us" else {}
+    heads = ["encoding", *(f"{size // 1024} KiB" for size in sizes), "peer", "peer over gate", *memory.values()]
     lines = [f"### {TITLES[kind]}", "", line(heads), line(["---"] + ["---:"] * (len(heads) - 1))]
     for encoding in dict.fromkeys(row["encoding"] for row in rows):
         own = {int(row["bytes"]): row for row in rows if row["encoding"] == encoding}
         last = own[sizes[-1]]
-        further = (last[name] for name in ("peer_us", "ratio", "gate_MB", "peer_MB"))
-        lines.append(line([encoding, *(own[size]["gate_us"] for size in sizes), *further]))
+        further = (last[name] for name in (f"peer_{unit}", "ratio", *memory))
+        lines.append(line([encoding, *(own[size][f"gate_{unit}"] for size in sizes), *further]))
     return "\n".join(lines)
 
 
 def line(cells):
     return "| " + " | ".join(cells) + " |"
+
+
+def rates_in(name):
+    """The best rates of each encoding and text, decoded and encoded, of all runs in a file."""
+    best = {}
+    for found in re.finditer(r"(\S+) +(\w+) +(\d+) +(\d+) MB/s", pathlib.Path(name).read_text()):
+        encoding, text, *rates = found.groups()
+        known = best.setdefault(encoding, {}).get(text, (0, 0))
+        best[encoding][text] = tuple(map(max, known, map(int, rates)))
+    return best
+
+
+def codecs(ours, theirs):
+    """MB/s decoded, and how many times encoding_rs's rate it is; for encoding the latter alone."""
+    texts = list(next(iter(ours.values())))
+    heads = ["encoding", *(f"{text} decoded" for text in texts), *(f"{text} encoded" for text in texts)]
+    lines = [line(heads), line(["---"] + ["---:"] * (len(heads) - 1))]
+    for encoding, own in ours.items():
+        ratio = lambda text, which: f"{own[text][which] / theirs[encoding][text][which]:.2f}"
+        decoded = (f"{own[text][0]} ({ratio(text, 0)})" for text in texts)
+        encoded = ("" if encoding.startswith("UTF-16") else ratio(text, 1) for text in texts)
+        lines.append(line([encoding, *decoded, *encoded]))
+    return "\n".join(lines)
 
 
 def draw(rows):
@@ -75,6 +123,7 @@ set logscale xy
 set xtics (64, 256, 1024, 2048)
 set grid
 set key left top
+set xrange [50:2600]
 set yrange [10:*]
 $points << END
 {chr(10).join(points)}

@@ -1,7 +1,11 @@
 #!/usr/bin/env python3
-"""Runs gate and the peer in turn on the same sessions, compares every reply, and prints what each took."""
+"""Runs gate and the peer in turn on the same sessions, compares every reply, and prints what each took.
+
+By time, or by the instructions that valgrind counts: these are the same in each run, however busy the machine is.
+"""
 
 import argparse
+import re
 import subprocess
 import sys
 import tempfile
@@ -12,19 +16,38 @@ from sessions import KINDS, SAMPLES
 SIZES = {"64K": 65_536, "256K": 262_144, "1M": 1_048_576, "2M": 2_097_152}
 
 
-def once(words, session):
-    """Seconds, peak memory in bytes, and the replies."""
-    with tempfile.TemporaryFile() as replies, tempfile.NamedTemporaryFile("r") as peak:
+# Counts instructions alone: no cache, no profile. The C library's copies and fills run by vector loops, since an
+# instruction that repeats itself for each byte would be counted for each.
+NEVER = 1 << 30
+TUNABLES = f"GLIBC_TUNABLES=glibc.cpu.x86_rep_movsb_threshold={NEVER}:glibc.cpu.x86_rep_stosb_threshold={NEVER}"
+COUNTING = ["env", TUNABLES, "valgrind", "--tool=cachegrind", "--cache-sim=no", "--cachegrind-out-file=/dev/null"]
+
+
+def timed(words, session):
+    """Microseconds, peak memory in megabytes, and the replies."""
+    with tempfile.NamedTemporaryFile("r") as peak:
         # Measured by `time`: a child of this program would begin with this program's own peak.
-        measured = ["/usr/bin/time", "-f", "%M", "-o", peak.name, *words]
-        with open(session, "rb") as lines:
-            begun = time.monotonic()
-            status = subprocess.call(measured, stdin=lines, stdout=replies)
-            seconds = time.monotonic() - begun
+        begun = time.monotonic()
+        replies = replies_of(["/usr/bin/time", "-f", "%M", "-o", peak.name, *words], session)
+        took = time.monotonic() - begun
+        return took * 1e6, int(peak.read()) * 1024 / 1e6, replies
+
+
+def counted(words, session):
+    """Thousands of instructions, no memory, and the replies."""
+    with tempfile.NamedTemporaryFile("r") as log:
+        replies = replies_of([*COUNTING, f"--log-file={log.name}", *words], session)
+        count = re.search(r"I +refs: +([\d,]+)", log.read()).group(1)
+        return int(count.replace(",", "")) / 1e3, 0, replies
+
+
+def replies_of(words, session):
+    with tempfile.TemporaryFile() as replies, open(session, "rb") as lines:
+        status = subprocess.call(words, stdin=lines, stdout=replies)
         if status:
             sys.exit(f"{words[0]} ended with status {status}")
         replies.seek(0)
-        return seconds, int(peak.read()) * 1024, replies.read()
+        return replies.read()
 
 
 def main():
@@ -37,46 +60,56 @@ def main():
     words.add_argument("--encodings", nargs="*", choices=SAMPLES, default=list(SAMPLES))
     words.add_argument("--sizes", nargs="*", choices=SIZES, default=list(SIZES))
     words.add_argument("--times", type=int, default=5, help="runs of each session, of which the fastest counts")
+    words.add_argument("--instructions", action="store_true", help="count instructions, over a tenth of the rounds")
     chosen = words.parse_args()
     gate = [chosen.gate, "stdio", "--indexes", chosen.indexes, "--labels", chosen.labels]
-    print("kind", "encoding", "bytes", "gate_us", "peer_us", "ratio", "gate_MB", "peer_MB", sep="\t")
+    unit = "instructions" if chosen.instructions else "us"
+    print("kind", "encoding", "bytes", f"gate_{unit}", f"peer_{unit}", "ratio", "gate_MB", "peer_MB", sep="\t")
+    meter = Meter(counted, 1, 10) if chosen.instructions else Meter(timed, chosen.times, 1)
     for kind in chosen.kinds:
         for encoding in chosen.encodings:
             for size in chosen.sizes:
-                compare(kind, encoding, SIZES[size], gate, [chosen.peer], chosen.times)
+                compare(kind, encoding, SIZES[size], gate, [chosen.peer], meter)
 
 
-def compare(kind, encoding, size, gate, peer, times):
-    """One line: microseconds of a round, beyond the start and the open, and peak memory."""
+def compare(kind, encoding, size, gate, peer, meter):
+    """One line: the cost of a round, beyond the start and the open, and peak memory."""
     session, rounds = KINDS[kind]
-    before = measure([gate, peer], session(encoding, size, 0), times)
     # gate's rounds are short: it takes more of them, of which the peer's are the first.
-    ours = measure([gate], session(encoding, size, rounds.gate), times)[0]
-    theirs = measure([peer], session(encoding, size, rounds.peer), times)[0]
+    many, few = (max(1, count // meter.rounds_by) for count in rounds)
+    before = meter.measure([gate, peer], session(encoding, size, 0))
+    ours = meter.measure([gate], session(encoding, size, many))[0]
+    theirs = meter.measure([peer], session(encoding, size, few))[0]
     tell_difference(kind, encoding, size, ours.replies, theirs.replies)
-    took = (ours.seconds - before[0].seconds) / rounds.gate, (theirs.seconds - before[1].seconds) / rounds.peer
-    figures = [f"{took[0] * 1e6:.1f}", f"{took[1] * 1e6:.1f}", f"{took[1] / took[0]:.2f}"]
-    memory = [f"{run.peak / 1e6:.1f}" for run in (ours, theirs)]
+    took = (ours.cost - before[0].cost) / many, (theirs.cost - before[1].cost) / few
+    figures = [f"{took[0]:.1f}", f"{took[1]:.1f}", f"{took[1] / took[0]:.2f}"]
+    memory = [f"{run.peak:.1f}" for run in (ours, theirs)]
     print(kind, encoding, size, *figures, *memory, sep="\t", flush=True)
 
 
 class Run:
-    """The fastest of some runs of a program on a session."""
+    """The cheapest of some runs of a program on a session."""
 
     def __init__(self):
-        self.seconds, self.peak, self.replies = float("inf"), 0, b""
+        self.cost, self.peak, self.replies = float("inf"), 0, b""
 
 
-def measure(programs, session, times):
-    runs = [Run() for _ in programs]
-    with tempfile.NamedTemporaryFile() as lines:
-        lines.write(session)
-        lines.flush()
-        for _ in range(times):
-            for run, words in zip(runs, programs):
-                seconds, run.peak, run.replies = once(words, lines.name)
-                run.seconds = min(run.seconds, seconds)
-    return runs
+class Meter:
+    """How a run is measured, how often, and by how much its rounds are fewer."""
+
+    def __init__(self, once, times, rounds_by):
+        self.once, self.times, self.rounds_by = once, times, rounds_by
+
+    def measure(self, programs, session):
+        runs = [Run() for _ in programs]
+        with tempfile.NamedTemporaryFile() as lines:
+            lines.write(session)
+            lines.flush()
+            for _ in range(self.times):
+                for run, words in zip(runs, programs):
+                    cost, run.peak, run.replies = self.once(words, lines.name)
+                    run.cost = min(run.cost, cost)
+        return runs
 
 
 def tell_difference(kind, encoding, size, ours, theirs):
