@@ -7,6 +7,7 @@ mod answers;
 mod budget;
 mod cases;
 mod rounds;
+mod stack;
 mod tally;
 
 use budget::{Room, all_but};
@@ -14,6 +15,7 @@ use cases::{Bytes, CASES, Case, made};
 use index_loader::Indexes;
 use rounds::{Tallies, tallies_of};
 use small_indexes::small_indexes;
+use stack::has_stack;
 use std::alloc::Global;
 use std::io;
 use tally::Tally;
@@ -59,6 +61,14 @@ fn main(rt: HostRuntime) -> io::Result<()> {
         println!(rt; "out of memory")?;
         return Ok(());
     };
+    let Some(sample) = made(rt.alloc(), &CASES[0]) else {
+        println!(rt; "out of memory")?;
+        return Ok(());
+    };
+    if !has_stack(&sample.bytes) {
+        println!(rt; "out of stack")?;
+        return Ok(());
+    }
     let Some(Room { taken }) = all_but(rt.alloc(), ROOM) else {
         println!(rt; "out of memory")?;
         return Ok(());
