@@ -9,7 +9,7 @@ use Rattle.index_loader.specs.declared.kind.IndexKind.TheVariants.{Jis0208, Jis0
 use Rattle.index_loader.specs.Index.{Loaded, is_ranges}
 use Rattle.index_loader.specs.Kinds.{home_of}
 use Rattle.index_loader.specs.Pairs.{Pairs}
-use Rattle.index_loader.specs.Files.{Files, pairs_of, index_of, files_of}
+use Rattle.index_loader.specs.Files.{Files, pairs_of, index_of, files_of, has_files}
 use Rattle.decoder_core.specs.declared.item.Ended.{Ended}
 use Rattle.decoder_core.specs.Queue.{run, feed}
 use Rattle.decoder_core.specs.Placed.{places}
@@ -23,7 +23,7 @@ use Rattle.codec.specs.Any.{Standing, any, any_start, given, given_start, standi
 use Rattle.codec.specs.AnyLaws.{lawful}
 use Rattle.codec.specs.Behind.{state_in, state_behind}
 use Rattle.codec.specs.Coding.{coding, coding_run}
-use Rattle.codec.specs.Decode.{decode, is_decoded, run_in}
+use Rattle.codec.specs.Decode.{decode, run_in}
 use Rattle.codec.specs.Mark.{Mark, mark_of, mark_length}
 use Rattle.codec.specs.Sniffing.{spelt}
 use Rattle.codec.proofs.AnyRun.{Does, does}
@@ -87,8 +87,8 @@ module _ (files : Files) where
       by_two OfIso2022Jp is_katakana Jis0208 Katakana (λ a b. record { variant = refl; does = does (by.Iso2022Jp a) })
       (λ o. record { variant = refl; does = tt }) (λ i. record { variant = refl; does = tt }) (pairs_of files Jis0208) (pairs_of files Katakana)
 
-  pub chosen : (encoding : Encoding) → IsChosen (is_decoded files encoding) (index_of files) (family_of encoding)
-  unfolding is_decoded
+  pub chosen : (encoding : Encoding) → IsChosen (has_files files encoding) (index_of files) (family_of encoding)
+  unfolding has_files
   chosen encoding = chosen_by (family_of encoding)
 
 -- ---- behind the look for a byte order mark

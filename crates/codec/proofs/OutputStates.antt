@@ -14,7 +14,7 @@ use Rattle.index_loader.specs.Families.{Family, OfUtf8, OfSingleByte, OfGb18030,
 use Rattle.index_loader.specs.declared.kind.IndexKind.{IndexKind}
 use Rattle.index_loader.specs.declared.kind.IndexKind.TheVariants.{Jis0208, Katakana}
 use Rattle.index_loader.specs.Index.{Loaded, code_point_of}
-use Rattle.index_loader.specs.Files.{Files, index_of}
+use Rattle.index_loader.specs.Files.{Files, index_of, has_files}
 use Rattle.decoder_core.specs.declared.item.Ended.{Ended}
 use Rattle.decoder_core.specs.ByCases.{by_test}
 use Rattle.decoder_core.specs.Lift.{IsLifted, lift_fed}
@@ -32,7 +32,6 @@ use Rattle.codec.specs.declared.state.AnyState.TheVariants.{Sniffing as in_sniff
 use Rattle.codec.specs.Any.{any, output_of, standing, of_both, decoder_in}
 use Rattle.codec.specs.Behind.{state_in, state_behind}
 use Rattle.codec.specs.Coding.{looked_up}
-use Rattle.codec.specs.Decode.{is_decoded}
 use Rattle.codec.specs.Mark.{Mark, mark_of, in_force, mark_length}
 use Rattle.codec.specs.Sniffing.{spelt, prefix_of}
 
@@ -165,14 +164,14 @@ pub mark_fits : (bytes : List ℕ) → mark_length bytes ≤ length bytes
 mark_fits bytes = mark-fits bytes (shape bytes)
 
 -- a mark's encoding needs no file
-force : (files : Files) (given : Encoding) (bytes : List ℕ) → Shape bytes → is_decoded files given ≡ true → is_decoded files (in_force given bytes) ≡ true
-unfolding is_decoded
-force files given bytes (bare none) h = ap (λ (m : Option Mark). is_decoded files (unwrap_or (option_map (λ (m : Mark). m.encoding) m) given)) none ∙ h
-force files given bytes (utf8_mark r is) h = ap (λ (x : List ℕ). is_decoded files (in_force given x)) is
-force files given bytes (be_mark r is) h = ap (λ (x : List ℕ). is_decoded files (in_force given x)) is
-force files given bytes (le_mark r is) h = ap (λ (x : List ℕ). is_decoded files (in_force given x)) is
+force : (files : Files) (given : Encoding) (bytes : List ℕ) → Shape bytes → has_files files given ≡ true → has_files files (in_force given bytes) ≡ true
+unfolding has_files
+force files given bytes (bare none) h = ap (λ (m : Option Mark). has_files files (unwrap_or (option_map (λ (m : Mark). m.encoding) m) given)) none ∙ h
+force files given bytes (utf8_mark r is) h = ap (λ (x : List ℕ). has_files files (in_force given x)) is
+force files given bytes (be_mark r is) h = ap (λ (x : List ℕ). has_files files (in_force given x)) is
+force files given bytes (le_mark r is) h = ap (λ (x : List ℕ). has_files files (in_force given x)) is
 
-pub decoded_in_force : (files : Files) (given : Encoding) (bytes : List ℕ) → is_decoded files given ≡ true → is_decoded files (in_force given bytes) ≡ true
+pub decoded_in_force : (files : Files) (given : Encoding) (bytes : List ℕ) → has_files files given ≡ true → has_files files (in_force given bytes) ≡ true
 decoded_in_force files given bytes = force files given bytes (shape bytes)
 
 -- the prefix is all of the bytes

@@ -1,9 +1,9 @@
 -- Decoding of bytes (Encoding Standard, "decode").
-use Rattle.std.specs.Prelude.{ℕ, Bool, List, length, drop, slice_get, Option}
+use Rattle.std.specs.Prelude.{ℕ, List, length, drop, slice_get, Option}
 use Rattle.enc_names.specs.declared.encoding.Encoding.{Encoding}
 use Rattle.enc_names.specs.declared.place.Place.{Place}
 use Rattle.index_loader.specs.Families.{family_of}
-use Rattle.index_loader.specs.Files.{Files, index_of, has_files}
+use Rattle.index_loader.specs.Files.{Files, index_of}
 use Rattle.decoder_core.specs.declared.item.Ended.{Ended}
 use Rattle.decoder_core.specs.declared.placed.Placed.{Placed}
 use Rattle.decoder_core.specs.Placed.{places}
@@ -16,10 +16,6 @@ pub record Decoded : Type 0 where
   pub encoding : Encoding
   pub bom : ℕ
   pub items : List Placed
-
--- an encoding can be decoded: all its index files are there
-unfoldable pub is_decoded : Files → Encoding → Bool
-is_decoded files encoding = has_files files encoding
 
 -- the run of an encoding's decoder over the bytes
 abbrev pub run_in : Files → Encoding → List ℕ → List Ended

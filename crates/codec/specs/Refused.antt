@@ -2,15 +2,14 @@
 use Rattle.std.specs.Prelude.{◌≡◌, true, false, Option, Some, None, Result, Ok, Err}
 use Rattle.enc_names.specs.declared.encoding.Encoding.{Encoding}
 use Rattle.enc_names.specs.declared.place.Place.{Place}
-use Rattle.index_loader.specs.Files.{Files}
+use Rattle.index_loader.specs.Files.{Files, has_files}
 use Rattle.codec.specs.declared.fault.CodecFault.{CodecFault}
 use Rattle.codec.specs.declared.fault.CodecFault.TheVariants.{NoIndex, Malformed, OutOfMemory}
-use Rattle.codec.specs.Decode.{is_decoded}
 
 -- NoIndex exactly where the encoding given can't be decoded, then Malformed exactly where an error refuses; want of memory may stand in place of
 -- any answer but NoIndex
 abbrev pub Refused : {A : Type 0} → Files → Encoding → Option Place → Result A CodecFault → Type 0
-Refused files given error (Ok x) = (is_decoded files given ≡ true) × (error ≡ None)
-Refused files given error (Err NoIndex) = is_decoded files given ≡ false
-Refused files given error (Err (Malformed place)) = (is_decoded files given ≡ true) × (error ≡ Some place)
-Refused files given error (Err OutOfMemory) = is_decoded files given ≡ true
+Refused files given error (Ok x) = (has_files files given ≡ true) × (error ≡ None)
+Refused files given error (Err NoIndex) = has_files files given ≡ false
+Refused files given error (Err (Malformed place)) = (has_files files given ≡ true) × (error ≡ Some place)
+Refused files given error (Err OutOfMemory) = has_files files given ≡ true

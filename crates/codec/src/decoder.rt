@@ -1,12 +1,13 @@
 //! One decoder for all encodings.
 ghost use Rattle.std.specs.Prelude.{◌≡◌, List, ℕ, length, IfSome, is_some};
+ghost use Rattle.index_loader.specs.Files.{has_files};
 ghost use Rattle.decoder_core.specs.Placed.{places};
 ghost use Rattle.decoder_core.specs.Queue.{run, feed};
 ghost use Rattle.codec.specs.Exact.{any_exact};
 ghost use Rattle.codec.specs.Any.{any, any_start, decoder_in};
 ghost use Rattle.codec.specs.AnyLaws.{any_falls, any_counts};
 ghost use Rattle.codec.specs.Behind.{state_behind};
-ghost use Rattle.codec.specs.Decode.{decode, is_decoded};
+ghost use Rattle.codec.specs.Decode.{decode};
 ghost use Rattle.codec.specs.Mark.{mark_length};
 
 use crate::own::{OwnDecoder, among, turn_among};
@@ -44,7 +45,7 @@ impl<'i> AnyDecoder<'i> {
     /// order mark, else the encoding in force with where its own decoder stands behind the mark.
     pub fn new(indexes: &'i Indexes, encoding: Encoding) -> Option<AnyDecoder<'i>>
         ensures value { result ≡ decoder_in indexes.now encoding }
-        ensures variant { is_some result ≡ is_decoded indexes.now encoding }
+        ensures variant { is_some result ≡ has_files indexes.now encoding }
         ensures decode { IfSome result (λ d. (bytes : List ℕ) → places (length bytes) (mark_length bytes) (run (any d) (any_start d) bytes) ≡ (decode indexes.now encoding bytes).items) }
         ensures behind { IfSome result (λ d. (bytes : List ℕ) → (feed (any d) (any_start d) bytes).state ≡ state_behind indexes.now encoding bytes) }
     {

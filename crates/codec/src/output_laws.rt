@@ -2,12 +2,11 @@
 ghost use Rattle.std.specs.Prelude.{◌≡◌, ℕ, ◌+◌, ◌-◌, ◌≤◌, List, [], ◌∷◌, ◌++◌, length, take, Some, All, is_some, true};
 ghost use Rattle.decoder_core.specs.Queue.{feed, run};
 ghost use Rattle.enc_names.specs.declared.encoding.Encoding.{Encoding};
-ghost use Rattle.index_loader.specs.Files.{Files};
+ghost use Rattle.index_loader.specs.Files.{Files, has_files};
 ghost use Rattle.codec.specs.declared.own.OwnDecoder.{OwnDecoder};
 ghost use Rattle.codec.specs.declared.state.AnyState.{AnyState};
 ghost use Rattle.codec.specs.Any.{any, any_start, decoder_in, output_of};
 ghost use Rattle.codec.specs.Behind.{state_behind};
-ghost use Rattle.codec.specs.Decode.{is_decoded};
 ghost use Rattle.codec.specs.Mark.{in_force, mark_length};
 ghost use Rattle.iso2022jp.specs.declared.output.OutputState.TheVariants.{Ascii};
 
@@ -26,8 +25,8 @@ use iso2022jp::Iso2022JpDecoder;
 pub fn output_at_the_end()
     ensures mark { (files : Files) (given : Encoding) (bytes : List ℕ) → output_of (state_behind files given (take (mark_length bytes) bytes)) ≡ Ascii }
     ensures mark_fits { (bytes : List ℕ) → mark_length bytes ≤ length bytes }
-    ensures there { (files : Files) (given : Encoding) → is_some (decoder_in files given) ≡ is_decoded files given }
-    ensures in_force { (files : Files) (given : Encoding) (bytes : List ℕ) → is_decoded files given ≡ true → is_decoded files (in_force given bytes) ≡ true }
+    ensures there { (files : Files) (given : Encoding) → is_some (decoder_in files given) ≡ has_files files given }
+    ensures in_force { (files : Files) (given : Encoding) (bytes : List ℕ) → has_files files given ≡ true → has_files files (in_force given bytes) ≡ true }
     ensures behind { (files : Files) (given : Encoding) (d : OwnDecoder) (bytes : List ℕ) → decoder_in files given ≡ Some d → (feed (any d) (any_start d) bytes).state ≡ state_behind files given bytes }
     ensures parts { (d : OwnDecoder) (s : AnyState) (p q : List ℕ) → (feed (any d) s (p ++ q)).state ≡ (feed (any d) (feed (any d) s p).state q).state }
     ensures byte { (files : Files) (given : Encoding) (d : OwnDecoder) (p : List ℕ) (b : ℕ) → decoder_in files given ≡ Some d → All (λ e. output_of (state_behind files given (take (length p + 1 - e.back) (p ++ b ∷ []))) ≡ output_of (state_behind files given (p ++ b ∷ []))) (feed (any d) (state_behind files given p) (b ∷ [])).items }

@@ -12,9 +12,8 @@ use Rattle.std.specs.Cmp.Lexicographic.{nat_list_cmp_total}
 use Rattle.std.specs.Str.{bytes_eq}
 use Rattle.enc_names.specs.declared.encoding.Encoding.{Encoding}
 use Rattle.enc_names.specs.Labels.{lookup_in}
-use Rattle.index_loader.specs.Files.{Files}
+use Rattle.index_loader.specs.Files.{Files, has_files}
 use Rattle.piece_rope.specs.declared.fault.DocFault.{DocFault}
-use Rattle.piece_rope.specs.Decode.{is_decoded}
 use Rattle.piece_rope.specs.Edits.{open_fault}
 use Rattle.desk.specs.Changes.{is_accepted}
 use Rattle.desk.specs.Close.{closed}
@@ -58,7 +57,7 @@ admitted-unless (Some f) x k e = cc
 admitted-ok : (indexes : Files) (place : Bool) (given : Encoding) (bytes : List ℕ) (rev : ℕ) (k : Entry) → admitted indexes place given bytes rev ≡ Ok k → entry given bytes rev ≡ k
 admitted-ok indexes place given bytes rev k e =
     admitted-unless (open_fault indexes given bytes) (entry given bytes rev) k
-    (admitted-if place _ _ k (admitted-if (is_decoded indexes given) _ _ k e))
+    (admitted-if place _ _ k (admitted-if (has_files indexes given) _ _ k e))
 
 -- ---- an open
 

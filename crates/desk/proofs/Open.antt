@@ -8,8 +8,7 @@ use Rattle.std.specs.FinMap as finite
 use Rattle.std.specs.Option.{is_some}
 use Rattle.enc_names.specs.declared.encoding.Encoding.{Encoding}
 use Rattle.enc_names.specs.Labels.{LabelTable, lookup_in}
-use Rattle.index_loader.specs.Files.{Files}
-use Rattle.piece_rope.specs.Decode.{is_decoded}
+use Rattle.index_loader.specs.Files.{Files, has_files}
 use Rattle.piece_rope.specs.Edits.{document_limit, open_fault}
 use Rattle.desk.specs.Changes.{is_accepted}
 use Rattle.desk.specs.Commands.{asked_of, Opens}
@@ -65,12 +64,12 @@ adopted_answers o after name given bytes rev reply free step is indexes =
 caused-open : (indexes : Files) (given : Encoding) (bytes : List ℕ) → Caused (open_fault indexes given bytes)
 unfolding open_fault
 caused-open indexes given bytes =
-    caused-if (is_decoded indexes given) _ _ (caused-if (nat_le (length bytes) document_limit) _ _ (λ e. cc) (λ e. cc)) (λ e. cc)
+    caused-if (has_files indexes given) _ _ (caused-if (nat_le (length bytes) document_limit) _ _ (λ e. cc) (λ e. cc)) (λ e. cc)
 
 decided-admitted : (indexes : Files) (place : Bool) (given : Encoding) (bytes : List ℕ) → Decided (λ k. IsOther (edit_reply indexes k)) (admitted indexes place given bytes 0)
 decided-admitted indexes place given bytes =
     let P : Entry → Type 0 = λ k. IsOther (edit_reply indexes k) in
-    decided-if P (is_decoded indexes given) _ _
+    decided-if P (has_files indexes given) _ _
     (decided-if P place _ _ (decided-unless P (open_fault indexes given bytes) _ (caused-open indexes given bytes) (λ e. cc)) tt)
     tt
 

@@ -9,9 +9,9 @@ use Rattle.std.specs.declared.result.Result.TheVariants.{Ok}
 use Rattle.base64.proofs.OnLiterals.{base64_on_literals}
 use Rattle.enc_names.specs.declared.encoding.Encoding.TheVariants.{Utf8}
 use Rattle.enc_names.specs.Labels.{name_labels}
-use Rattle.index_loader.specs.Files.{no_files}
+use Rattle.index_loader.specs.Files.{no_files, has_files}
 use Rattle.decoder_core.specs.Queue.{run, turns}
-use Rattle.piece_rope.specs.Decode.{is_decoded, decode}
+use Rattle.piece_rope.specs.Decode.{decode}
 use Rattle.piece_rope.specs.Document.{text_of, errors_of}
 use Rattle.piece_rope.specs.Edits.{open_fault, splice_fault, text_fault, errors_fault}
 use Rattle.desk.specs.Close.{closed}
@@ -72,7 +72,7 @@ past_end = refl
 
 admitting : (n : ℕ) → n ≡ 0
     → admitted no_files (nat_lt n max_documents) Utf8 truncated.bytes 0 ≡ Ok truncated
-unfolding is_decoded open_fault
+unfolding has_files open_fault
 admitting n e = rw e refl
 
 -- ---- the documents

@@ -1,8 +1,7 @@
 -- Opening a document, and adopting one.
 use Rattle.std.specs.Prelude.{ℕ, List, if◌then◌else◌, Bool, Option, Some, None, is_some, Result, Err}
 use Rattle.enc_names.specs.declared.encoding.Encoding.{Encoding}
-use Rattle.index_loader.specs.Files.{Files}
-use Rattle.piece_rope.specs.Decode.{is_decoded}
+use Rattle.index_loader.specs.Files.{Files, has_files}
 use Rattle.piece_rope.specs.Edits.{open_fault}
 use Rattle.desk.specs.Documents.{Entry, entry, edit_reply, unless}
 use Rattle.desk.specs.Effects.{Effect, refused, put}
@@ -12,7 +11,7 @@ use Rattle.desk.specs.declared.fault.Fault.TheVariants.{NameTaken, UnknownLabel,
 -- a document at a revision, unless its encoding can't be decoded, no place is free, or it is too large
 abbrev pub admitted : Files → Bool → Encoding → List ℕ → ℕ → Result Entry Fault
 admitted indexes place given bytes rev =
-    if is_decoded indexes given
+    if has_files indexes given
     then (if place
     then unless (open_fault indexes given bytes) (entry given bytes rev)
     else Err TooManyDocuments)

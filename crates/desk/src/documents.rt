@@ -69,7 +69,7 @@ impl<'i> Documents<'i> {
     }
 
     /// Puts a document at a revision under a name that is free.
-    #[tactic(auto, unfolding(piece_rope::specs::Edits::open_fault, piece_rope::specs::Decode::is_decoded))]
+    #[tactic(auto, unfolding(piece_rope::specs::Edits::open_fault, index_loader::specs::Files::has_files))]
     pub fn open(
         &mut self,
         alloc: Global,

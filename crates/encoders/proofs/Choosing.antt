@@ -7,7 +7,7 @@ use Rattle.std.proofs.lemmas.Str.{encodes-chars}
 use Rattle.index_loader.specs.declared.kind.IndexKind.{IndexKind}
 use Rattle.index_loader.specs.Index.{Loaded}
 use Rattle.index_loader.specs.Kinds.{home_of}
-use Rattle.index_loader.specs.Files.{Files, Pairs, pairs_of, index_of}
+use Rattle.index_loader.specs.Files.{Files, Pairs, pairs_of, index_of, has_files}
 use Rattle.encoders.specs.declared.fault.EncodeFault.{EncodeFault}
 use Rattle.encoders.specs.declared.fault.EncodeFault.TheVariants.{NoIndex}
 use Rattle.iso2022jp.specs.declared.fault.FromFault.{FromFault}
@@ -80,7 +80,7 @@ module _ (files : Files) (mode : EncodeMode) (cs : List ℕ) (r : Result (Vec �
 
   pub over_single : (e : Encoding) (i made : Loaded) → index_of files (SingleByte e) ≡ Some i → made ≡ i → IsEncoded (by_bytes (single_byte_bytes made) (is_html mode) cs) r
       → e ≢ Utf8 → e ≢ Gbk → e ≢ Gb18030 → e ≢ Big5 → e ≢ EucJp → e ≢ Iso2022Jp → e ≢ ShiftJis → e ≢ EucKr → e ≢ Replacement → e ≢ Utf16Be → e ≢ Utf16Le → e ≢ XUserDefined → IsEncoded (encoded files e mode cs) r
-  unfolding encoded
+  unfolding encoded has_files
   over_single Utf8 i made x s h n0 n1 n2 n3 n4 n5 n6 n7 n8 n9 n10 n11 = absurd (n0 refl)
   over_single Gbk i made x s h n0 n1 n2 n3 n4 n5 n6 n7 n8 n9 n10 n11 = absurd (n1 refl)
   over_single Gb18030 i made x s h n0 n1 n2 n3 n4 n5 n6 n7 n8 n9 n10 n11 = absurd (n2 refl)

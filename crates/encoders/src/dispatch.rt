@@ -29,7 +29,7 @@ use std::alloc::Global;
 /// Encodes a text (Encoding Standard, "encode"; to UTF-16 by Unicode, chapter 3, D91, without a byte
 /// order mark). Refused as `NoIndex` where an index file of the encoding isn't there, as `NoEncoder`
 /// for replacement, and in mode `Fatal` as `Unencodable` at the first code point without bytes.
-#[tactic(auto, unfolding(crate::specs::Encode::encoded))]
+#[tactic(auto, unfolding(crate::specs::Encode::encoded, index_loader::specs::Files::has_files))]
 pub fn encode(
     alloc: Global,
     encoding: Encoding,

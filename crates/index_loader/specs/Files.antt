@@ -49,6 +49,6 @@ files_of (OfSingleByte kind) = kind ∷ []
 abbrev pub files_needed : Encoding → List IndexKind
 files_needed encoding = files_of (family_of encoding)
 
--- all files that an encoding needs are there
-abbrev pub has_files : Files → Encoding → Bool
+-- all files that an encoding needs are there, so that it is decoded and encoded
+unfoldable pub has_files : Files → Encoding → Bool
 has_files files encoding = list_all (λ kind. is_some (pairs_of files kind)) (files_needed encoding)

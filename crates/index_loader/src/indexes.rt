@@ -66,6 +66,7 @@ impl Indexes {
     }
 
     /// Whether all files that the encoding needs are there (Encoding Standard, "Indexes").
+    #[tactic(auto, unfolding(crate::specs::Files::has_files))]
     pub fn has(&self, encoding: Encoding) -> bool
         ensures { result ≡ has_files self.now encoding }
     {

@@ -104,6 +104,7 @@ impl<'i> Model for Iso2022JpEncoder<'i> {
 
 impl<'i> Iso2022JpEncoder<'i> {
     /// The encoder over the loaded files.
+    #[tactic(auto, unfolding(index_loader::specs::Files::has_files))]
     pub(crate) fn new(indexes: &'i Indexes) -> Iso2022JpEncoder<'i>
         requires { has_files indexes.now Iso2022Jp ≡ true }
         ensures { pointer_in indexes.now ≡ iso_pointer result.0 result.1 }

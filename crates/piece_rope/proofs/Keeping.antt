@@ -2,8 +2,8 @@
 use Rattle.std.proofs.Common.{◌≡◌, refl, sym, ap, ◌∙◌, subst, ℕ, ◌+◌, ◌≤◌, true, List, ◌++◌, take, drop, length, Option, Some, arith, append_assoc, inl, inr}
 use Rattle.std.specs.Option.{IfSome}
 use Rattle.enc_names.specs.declared.encoding.Encoding.{Encoding}
-use Rattle.index_loader.specs.Files.{Files}
-use Rattle.state_memo.specs.Decoding.{OwnDecoder, AnyState, any, any_start, feed, decoder_in, is_decoded, decode, places, run, mark_length}
+use Rattle.index_loader.specs.Files.{Files, has_files}
+use Rattle.state_memo.specs.Decoding.{OwnDecoder, AnyState, any, any_start, feed, decoder_in, decode, places, run, mark_length}
 use Rattle.state_memo.specs.declared.outcome.Outcome.{Outcome}
 use Rattle.state_memo.specs.Outcome.{contents_of, ending_of}
 use Rattle.piece_rope.specs.Entry.{Entry, texts_of, items_of, sums_of}
@@ -28,7 +28,7 @@ join-rope d laws ps end rope within = record {
 same_decoder : (chosen : Option OwnDecoder) (d e : OwnDecoder) → chosen ≡ Some d → chosen ≡ Some e → d ≡ e
 same_decoder chosen d e p q = let h : Some d ≡ Some e = sym p ∙ q in cc
 
-pub kept-rope : (files : Files) (given : Encoding) (d : OwnDecoder) (ps : List Entry) (tail : Outcome) → Laws d → ItemLaws d → decoder_in files given ≡ Some d → is_decoded files given ≡ true
+pub kept-rope : (files : Files) (given : Encoding) (d : OwnDecoder) (ps : List Entry) (tail : Outcome) → Laws d → ItemLaws d → decoder_in files given ≡ Some d → has_files files given ≡ true
     → length (bytes_of ps) ≤ document_limit → IsRope d ps tail.exit → contents_of tail ≡ ending_of d tail.exit
     → ((bytes : List ℕ) → places (length bytes) (mark_length bytes) (run (any d) (any_start d) bytes) ≡ (decode files given bytes).items) → SumLaw → IsKept files given ps tail
 kept-rope files given d ps tail laws items chosen can within rope tail_is scratch sums = record {

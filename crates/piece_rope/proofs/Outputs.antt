@@ -6,8 +6,8 @@ use Rattle.std.proofs.lemmas.Int.{ints}
 use Rattle.std.proofs.lemmas.List.{take-append-le}
 use Rattle.std.proofs.lemmas.List.Elements.{All-map, All-append, All-nil}
 use Rattle.enc_names.specs.declared.encoding.Encoding.{Encoding}
-use Rattle.index_loader.specs.Files.{Files}
-use Rattle.state_memo.specs.Decoding.{Ended as EndedItem, OwnDecoder, AnyState, any, any_start, feed, run, decoder_in, is_decoded, output_of, state_behind, Shown, shown_from}
+use Rattle.index_loader.specs.Files.{Files, has_files}
+use Rattle.state_memo.specs.Decoding.{Ended as EndedItem, OwnDecoder, AnyState, any, any_start, feed, run, decoder_in, output_of, state_behind, Shown, shown_from}
 use Rattle.state_memo.specs.declared.ended.Ended.{Ended}
 use Rattle.state_memo.specs.declared.outcome.Outcome.{Outcome}
 use Rattle.state_memo.specs.Items.{kept_item}
@@ -37,7 +37,7 @@ there-by : (files : Files) (given : Encoding) (o : Option OwnDecoder) → decode
 there-by files given (Some d) is some = record { decoder = d; chosen = is }
 there-by files given None is some = absurd cc
 
-pub is_there : (files : Files) (given : Encoding) → is_some (decoder_in files given) ≡ is_decoded files given → is_decoded files given ≡ true → IsThere files given
+pub is_there : (files : Files) (given : Encoding) → is_some (decoder_in files given) ≡ has_files files given → has_files files given ≡ true → IsThere files given
 is_there files given same can = there-by files given (decoder_in files given) refl (same ∙ can)
 
 ends : (base read back : ℕ) → base + read < 2 ^ 64 → ends_at base (pos read -ℤ pos back) ≡ base + read - back

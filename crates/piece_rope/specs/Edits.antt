@@ -2,10 +2,9 @@
 use Rattle.std.specs.Prelude.{◌≡◌, ℕ, ◌+◌, ◌&&◌, nat_le, Bool, true, false, List, ◌++◌, length, take, drop, Option, Some, None, Result, Ok, Err, if◌then◌else◌}
 use Rattle.std.specs.Str.{bytes_eq}
 use Rattle.enc_names.specs.declared.encoding.Encoding.{Encoding}
-use Rattle.index_loader.specs.Files.{Files}
+use Rattle.index_loader.specs.Files.{Files, has_files}
 use Rattle.piece_rope.specs.declared.fault.DocFault.{DocFault}
 use Rattle.piece_rope.specs.declared.fault.DocFault.TheVariants.{NoIndex, OutOfRange, TooLarge, NotKept, OutOfMemory}
-use Rattle.state_memo.specs.Decoding.{is_decoded}
 pub use Rattle.state_memo.specs.Decoding.{replaced}
 use Rattle.piece_rope.specs.Document.{Document, text_of, errors_of}
 
@@ -24,7 +23,7 @@ spliced_document d at del ins = record d { bytes = spliced d.bytes at del ins }
 -- The first cause, in the fixed order, that refuses a call.
 unfoldable pub open_fault : Files → Encoding → List ℕ → Option DocFault
 open_fault files encoding bytes =
-    if is_decoded files encoding then (if nat_le (length bytes) document_limit then None else Some TooLarge) else Some NoIndex
+    if has_files files encoding then (if nat_le (length bytes) document_limit then None else Some TooLarge) else Some NoIndex
 
 unfoldable pub splice_fault : List ℕ → ℕ → ℕ → List ℕ → Option DocFault
 splice_fault bytes at del ins =

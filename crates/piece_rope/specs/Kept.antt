@@ -1,8 +1,8 @@
 -- What a document keeps, and how far the meter rises with an edit.
 use Rattle.std.specs.Prelude.{◌≡◌, ℕ, ◌+◌, ◌-◌, ◌<◌, ◌≤◌, true, List, map, take, length, ◌++◌, Some}
 use Rattle.enc_names.specs.declared.encoding.Encoding.{Encoding}
-use Rattle.index_loader.specs.Files.{Files}
-use Rattle.state_memo.specs.Decoding.{OwnDecoder, decoder_in, state_behind, is_decoded}
+use Rattle.index_loader.specs.Files.{Files, has_files}
+use Rattle.state_memo.specs.Decoding.{OwnDecoder, decoder_in, state_behind}
 use Rattle.state_memo.specs.declared.outcome.Outcome.{Outcome}
 use Rattle.state_memo.specs.Outcome.{contents_of, ending_of}
 use Rattle.piece_rope.specs.Entry.{Entry, here_of, texts_of, items_of, sums_of}
@@ -17,7 +17,7 @@ use Rattle.piece_rope.specs.Sizes.{AreCounted, HasSizes}
 
 -- by the decoder of its encoding
 pub record IsKept (files : Files) (given : Encoding) (ps : List Entry) (tail : Outcome) : Type 0 where
-  pub can : is_decoded files given ≡ true
+  pub can : has_files files given ≡ true
   pub within : length (bytes_of ps) ≤ document_limit
   pub counted : AreCounted ps
   pub sizes : HasSizes ps

@@ -13,7 +13,7 @@ pub use Rattle.codec.specs.declared.state.AnyState.{AnyState}
 pub use Rattle.codec.specs.Any.{any, any_start, decoder_in, output_of}
 unfoldable pub use Rattle.codec.specs.Behind.{state_behind}
 pub use Rattle.codec.specs.Decode.{Decoded, fatal_of, run_in}
-unfoldable pub use Rattle.codec.specs.Decode.{is_decoded, decode}
+unfoldable pub use Rattle.codec.specs.Decode.{decode}
 pub use Rattle.codec.specs.Mark.{mark_of, in_force, mark_length}
 pub use Rattle.iso2022jp.specs.declared.output.OutputState.{OutputState}
 pub use Rattle.iso2022jp.specs.declared.output.OutputState.TheVariants.{Ascii, Roman, Katakana, Jis0208}

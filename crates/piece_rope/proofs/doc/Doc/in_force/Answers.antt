@@ -1,12 +1,12 @@
 use Rattle.std.proofs.Common.{◌≡◌, subst, true}
 use Rattle.index_loader.specs.Files.{has_files}
-use Rattle.state_memo.specs.Decoding.{decode, is_decoded}
+use Rattle.state_memo.specs.Decoding.{decode}
 use Rattle.piece_rope.specs.Chain.{bytes_of}
 use Rattle.piece_rope.specs.Document.{Document, decoded}
 use Rattle.piece_rope.proofs.doc.Doc.in_force.Goals as goal
 
 pub returns-clause-files : goal.returns-clause-files
-unfolding decode is_decoded
+unfolding decode has_files
 returns-clause-files c =
     let files = c.self.inside.indexes.now in
     let bytes = bytes_of c.self.inside.pieces.items in
