@@ -38,6 +38,15 @@ pub fn line(alloc: Global, rng: &mut SmallRng, id: u64) -> Result<String, AllocE
             alloc,
             one_of(rng, &["\n", "[]\r\n", "{\"id\":1}\n", "{\"id\":\n"]),
         ),
+        7 | 8 => {
+            let text = one_of(rng, &["", "x", "\\u00E9", "\\u8A9E"]);
+            let range = format!(in alloc;
+                "{{\"start\":{{\"line\":0,\"character\":{del}}},\"end\":{{\"line\":0,\"character\":{at}}}}}"
+            )?;
+            format!(in alloc;
+                "{{\"id\":{id},\"op\":\"change\",\"doc\":\"{doc}\",\"rev\":{rev},\"range\":{range},\"text\":\"{text}\"}}\n"
+            )
+        }
         _ => format!(in alloc;
             "{{\"id\":{id},\"op\":\"splice\",\"doc\":\"{doc}\",\"rev\":{rev},\"at\":{at},\"del\":{del},\"bytes\":\"{bytes}\"}}\n"
         ),

@@ -20,6 +20,9 @@ use std::alloc::Global;
 use std::io;
 use tally::Tally;
 
+/// How many KiB of stack the calls have.
+const STACK: usize = 512;
+
 /// The memory that is left for the documents, in bytes.
 const ROOM: usize = 67_108_864;
 
@@ -65,7 +68,7 @@ fn main(rt: HostRuntime) -> io::Result<()> {
         println!(rt; "out of memory")?;
         return Ok(());
     };
-    if !has_stack(&sample.bytes) {
+    if !sample.bytes.get(..STACK).is_some_and(has_stack) {
         println!(rt; "out of stack")?;
         return Ok(());
     }

@@ -1,17 +1,19 @@
 //! Stack that is there before memory is taken.
 
-/// How many bytes of stack the calls under a budget have at least.
-const STACK: usize = 1_048_576;
+/// How many bytes of stack each level takes.
+const LEVEL: usize = 1024;
 
-/// Whether so much stack is there. It stays with the program: asked for under a budget, a stack
-/// that has to grow finds no addresses left, and the system ends the program. The bytes are copied
-/// to it, so that no compiler leaves it out.
-#[inline(never)]
+/// Whether so much stack is there: a level, of 1 KiB at least, for each of these bytes. It stays
+/// with the program. Asked for under a budget, a stack that has to grow finds no addresses left, and
+/// the system ends the program.
 pub fn has_stack(bytes: &[u8]) -> bool {
-    let mut pages = [0u8; STACK];
-    let Some(front) = pages.get_mut(..bytes.len()) else {
-        return false;
+    let Some((_, rest)) = bytes.split_first() else {
+        return true;
     };
-    front.copy_from_slice(bytes);
-    pages.starts_with(bytes)
+    // Written and read again, so that no compiler leaves it out.
+    let mut level = [0; LEVEL];
+    for (to, from) in level.iter_mut().zip(rest) {
+        *to = *from;
+    }
+    has_stack(rest) && level.iter().zip(rest).all(|(to, from)| to == from)
 }

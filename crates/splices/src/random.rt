@@ -20,13 +20,10 @@ const BYTES: [u8; 40] = [
 
 /// At `at`, `del` bytes are taken out and `ins` is put in.
 #[derive(Drop)]
-pub struct Splice {
-    /// Where.
-    pub at: usize,
-    /// How many bytes are taken out.
-    pub del: usize,
-    /// The bytes put in.
-    pub ins: Vec<u8>,
+struct Splice {
+    at: usize,
+    del: usize,
+    ins: Vec<u8>,
 }
 
 /// A byte of these, or as often the letter `a`.
@@ -67,7 +64,7 @@ fn number_taken_out(rng: &mut SmallRng, left: usize) -> usize
 }
 
 /// A splice of a document of so many bytes; `None` where memory is refused.
-pub fn splice_of(alloc: Global, rng: &mut SmallRng, length: usize) -> Option<Splice>
+fn splice_of(alloc: Global, rng: &mut SmallRng, length: usize) -> Option<Splice>
     ensures fits { IfSome result (λ splice. splice.at + splice.del ≤ length) }
 {
     let count = number_put_in(rng);
@@ -78,7 +75,7 @@ pub fn splice_of(alloc: Global, rng: &mut SmallRng, length: usize) -> Option<Spl
 }
 
 /// The bytes behind the splice; `None` where memory is refused.
-pub fn spliced(alloc: Global, bytes: &[u8], splice: &Splice) -> Option<Vec<u8>>
+fn spliced(alloc: Global, bytes: &[u8], splice: &Splice) -> Option<Vec<u8>>
     ensures { IfSome result (λ new. new.items ≡ spliced bytes.now splice.now.at splice.now.del splice.now.ins.items) }
 {
     let mut new = Vec::new(alloc);
