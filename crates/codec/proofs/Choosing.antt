@@ -28,13 +28,10 @@ use Rattle.codec.specs.Sniffing.{prefix_of}
 abbrev pub Is : (List ℕ → List Ended) → (List ℕ → AnyState) → Standing → Type 0
 Is runs states s = (s.run ≡ runs) × (s.state ≡ states)
 
--- it is there where it is wanted, and does then what is wanted of it
-pub record Chosen (there : Bool) (runs : List ℕ → List Ended) (s : Standing) : Type 0 where
-  pub variant : is_some s.decoder ≡ there
-  pub does : IfSome s.decoder (λ d. Is runs s.state (standing_of d))
-
+-- the decoder of a family is there where it is wanted, and does then what is wanted of it
 abbrev pub IsChosen : Bool → (IndexKind → Option Loaded) → Family → Type 0
-IsChosen there index family = Chosen there (coding_run (coding index family)) (standing index family)
+IsChosen there index family =
+    let s = standing index family in (is_some s.decoder ≡ there) × IfSome s.decoder (λ d. Is (coding_run (coding index family)) s.state (standing_of d))
 
 abbrev found : IndexKind → Option Pairs → Option Loaded
 found kind o = option_map (λ pairs. record { kind = home_of kind; pairs = pairs }) o
@@ -65,26 +62,24 @@ by_two family second first other some no_first no_other None q = no_first (found
 
 module _ (files : Files) where
   chosen_by : (family : Family) → IsChosen (list_all (λ kind. is_some (pairs_of files kind)) (files_of family)) (index_of files) family
-  chosen_by OfUtf8 = record { variant = refl; does = (refl, refl) }
-  chosen_by OfReplacement = record { variant = refl; does = (refl, refl) }
-  chosen_by OfXUserDefined = record { variant = refl; does = (refl, refl) }
-  chosen_by OfUtf16Be = record { variant = refl; does = (refl, refl) }
-  chosen_by OfUtf16Le = record { variant = refl; does = (refl, refl) }
-  chosen_by (OfSingleByte kind) =
-      by_one (OfSingleByte kind) kind (λ i. record { variant = refl; does = (refl, refl) }) (record { variant = refl; does = tt }) (pairs_of files kind)
-  chosen_by OfBig5 = by_one OfBig5 Big5 (λ i. record { variant = refl; does = (refl, refl) }) (record { variant = refl; does = tt }) (pairs_of files Big5)
-  chosen_by OfShiftJis =
-      by_one OfShiftJis Jis0208 (λ i. record { variant = refl; does = (refl, refl) }) (record { variant = refl; does = tt }) (pairs_of files Jis0208)
-  chosen_by OfEucKr = by_one OfEucKr EucKr (λ i. record { variant = refl; does = (refl, refl) }) (record { variant = refl; does = tt }) (pairs_of files EucKr)
+  chosen_by OfUtf8 = (refl, (refl, refl))
+  chosen_by OfReplacement = (refl, (refl, refl))
+  chosen_by OfXUserDefined = (refl, (refl, refl))
+  chosen_by OfUtf16Be = (refl, (refl, refl))
+  chosen_by OfUtf16Le = (refl, (refl, refl))
+  chosen_by (OfSingleByte kind) = by_one (OfSingleByte kind) kind (λ i. (refl, (refl, refl))) (refl, tt) (pairs_of files kind)
+  chosen_by OfBig5 = by_one OfBig5 Big5 (λ i. (refl, (refl, refl))) (refl, tt) (pairs_of files Big5)
+  chosen_by OfShiftJis = by_one OfShiftJis Jis0208 (λ i. (refl, (refl, refl))) (refl, tt) (pairs_of files Jis0208)
+  chosen_by OfEucKr = by_one OfEucKr EucKr (λ i. (refl, (refl, refl))) (refl, tt) (pairs_of files EucKr)
   chosen_by OfGb18030 =
-      by_two OfGb18030 is_ranges Gb18030 Gb18030Ranges (λ i r. record { variant = refl; does = (refl, refl) })
-      (λ o. record { variant = refl; does = tt }) (λ i. record { variant = refl; does = tt }) (pairs_of files Gb18030) (pairs_of files Gb18030Ranges)
+      by_two OfGb18030 is_ranges Gb18030 Gb18030Ranges (λ i r. (refl, (refl, refl)))
+      (λ o. (refl, tt)) (λ i. (refl, tt)) (pairs_of files Gb18030) (pairs_of files Gb18030Ranges)
   chosen_by OfEucJp =
-      by_two OfEucJp is_jis0212 Jis0208 Jis0212 (λ a b. record { variant = refl; does = (refl, refl) })
-      (λ o. record { variant = refl; does = tt }) (λ i. record { variant = refl; does = tt }) (pairs_of files Jis0208) (pairs_of files Jis0212)
+      by_two OfEucJp is_jis0212 Jis0208 Jis0212 (λ a b. (refl, (refl, refl)))
+      (λ o. (refl, tt)) (λ i. (refl, tt)) (pairs_of files Jis0208) (pairs_of files Jis0212)
   chosen_by OfIso2022Jp =
-      by_two OfIso2022Jp is_katakana Jis0208 Katakana (λ a b. record { variant = refl; does = (refl, refl) })
-      (λ o. record { variant = refl; does = tt }) (λ i. record { variant = refl; does = tt }) (pairs_of files Jis0208) (pairs_of files Katakana)
+      by_two OfIso2022Jp is_katakana Jis0208 Katakana (λ a b. (refl, (refl, refl)))
+      (λ o. (refl, tt)) (λ i. (refl, tt)) (pairs_of files Jis0208) (pairs_of files Katakana)
 
   pub chosen : (encoding : Encoding) → IsChosen (has_files files encoding) (index_of files) (family_of encoding)
   unfolding has_files

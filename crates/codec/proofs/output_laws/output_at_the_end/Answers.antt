@@ -15,7 +15,7 @@ use Rattle.codec.proofs.OutputStates.{IsoLaws, output_at_mark, mark_fits, decode
 use Rattle.codec.proofs.output_laws.output_at_the_end.Goals as goal
 
 does_there : (files : Files) (encoding : Encoding) (d : OwnDecoder) → decoder_in files encoding ≡ Some d → Is (run_in files encoding) (state_in files encoding) (standing_of d)
-does_there files encoding d is = subst (λ (o : Option OwnDecoder). IfSome o (λ d. Is (run_in files encoding) (state_in files encoding) (standing_of d))) is (chosen files encoding).does
+does_there files encoding d is = subst (λ (o : Option OwnDecoder). IfSome o (λ d. Is (run_in files encoding) (state_in files encoding) (standing_of d))) is (chosen files encoding).1
 
 pub returns : goal.returns
 returns c =
@@ -32,7 +32,7 @@ returns c =
     record {
       mark = output_at_mark;
       mark_fits = mark_fits;
-      there = λ files given. (chosen files given).variant;
+      there = λ files given. (chosen files given).0;
       in_force = decoded_in_force;
       behind = λ files given d bytes is. c.standing_laws.ensures.state d bytes ∙ behind files given d (does_there files given d is) bytes;
       parts = λ d s p q. ap (λ (f : Fed AnyState). f.state) (c.all_runs.ensures.feed_parts d s p q);

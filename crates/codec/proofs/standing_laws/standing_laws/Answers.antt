@@ -35,18 +35,18 @@ lifting {start = start} runs feeds d put same = record {
   state = λ bytes. ap (λ (f : Fed AnyState). f.state) (feeds d put same start bytes);
 }
 
-utf8 : goal.After-all_among-11 → (d : OwnDecoder) → DoesAs d (standing (λ kind. None) OfUtf8)
+utf8 : goal.After-all_runs → (d : OwnDecoder) → DoesAs d (standing (λ kind. None) OfUtf8)
 utf8 c d = let laws = c.all_among.ensures in lifting (laws.runs (record {})) (laws.feeds (record {})) d state.Utf8 (λ s o. refl)
 
-utf16_be : goal.After-all_among-11 → (d : OwnDecoder) → DoesAs d (standing (λ kind. None) OfUtf16Be)
+utf16_be : goal.After-all_runs → (d : OwnDecoder) → DoesAs d (standing (λ kind. None) OfUtf16Be)
 utf16_be c d =
     let laws = c.all_among-11.ensures in lifting (laws.runs (record { order = BigEndian })) (laws.feeds (record { order = BigEndian })) d state.Utf16Be (λ s o. refl)
 
-utf16_le : goal.After-all_among-11 → (d : OwnDecoder) → DoesAs d (standing (λ kind. None) OfUtf16Le)
+utf16_le : goal.After-all_runs → (d : OwnDecoder) → DoesAs d (standing (λ kind. None) OfUtf16Le)
 utf16_le c d =
     let laws = c.all_among-11.ensures in lifting (laws.runs (record { order = LittleEndian })) (laws.feeds (record { order = LittleEndian })) d state.Utf16Le (λ s o. refl)
 
-own : goal.After-all_among-11 → (d : OwnDecoder) → DoesAs d (standing_of d)
+own : goal.After-all_runs → (d : OwnDecoder) → DoesAs d (standing_of d)
 own c (by.Utf8 d) = utf8 c (by.Utf8 d)
 own c (by.Gb18030 d) = let laws = c.all_among-2.ensures in lifting (laws.runs d) (laws.feeds d) (by.Gb18030 d) state.Gb18030 (λ s o. refl)
 own c (by.Big5 d) = let laws = c.all_among-3.ensures in lifting (laws.runs d) (laws.feeds d) (by.Big5 d) state.Big5 (λ s o. refl)
@@ -61,7 +61,7 @@ own c by.Utf16Be = utf16_be c by.Utf16Be
 own c by.Utf16Le = utf16_le c by.Utf16Le
 
 -- a turn of the look gives no item
-run-on : goal.After-all_among-11 → (d : OwnDecoder) (p : Prefix) (q : List ℕ)
+run-on : goal.After-all_runs → (d : OwnDecoder) (p : Prefix) (q : List ℕ)
     → let t = sniffing (given_start d) p (front q) in let left = queue_after (any d) (state.Sniffing p) q in run (any d) (state.Sniffing p) q ≡ run (any d) t.state left
 run-on c d p q =
     let left = queue_after (any d) (state.Sniffing p) q in
