@@ -1,8 +1,9 @@
 -- The decoder of an encoding is there exactly where the encoding can be decoded, and does what that encoding's own decoder does.
-use Rattle.std.proofs.Common.{◌≡◌, refl, sym, ap, ◌∙◌, ℕ, Bool, ◌&&◌, true, false, if◌then◌else◌, List, length, drop, Option, Some, None}
-use Rattle.std.specs.List.{list_all}
+use Rattle.std.proofs.Common.{◌≡◌, refl, ap, ℕ, eqb, Bool, ◌&&◌, true, false, if◌then◌else◌, List, [], ◌∷◌, length, drop, Option, Some, None}
+use Rattle.std.specs.List.{list_all, starts_with}
 use Rattle.std.specs.Option.{is_some, IfSome, option_map, unwrap_or}
 use Rattle.enc_names.specs.declared.encoding.Encoding.{Encoding}
+use Rattle.enc_names.specs.declared.encoding.Encoding.TheVariants.{Utf8, Utf16Be, Utf16Le}
 use Rattle.index_loader.specs.Families.{Family, OfUtf8, OfSingleByte, OfGb18030, OfBig5, OfEucJp, OfIso2022Jp, OfShiftJis, OfEucKr, OfReplacement, OfUtf16Be, OfUtf16Le, OfXUserDefined, family_of}
 use Rattle.index_loader.specs.declared.kind.IndexKind.{IndexKind}
 use Rattle.index_loader.specs.declared.kind.IndexKind.TheVariants.{Jis0208, Jis0212, Big5, EucKr, Gb18030, Gb18030Ranges, Katakana}
@@ -11,31 +12,26 @@ use Rattle.index_loader.specs.Kinds.{home_of}
 use Rattle.index_loader.specs.Pairs.{Pairs}
 use Rattle.index_loader.specs.Files.{Files, pairs_of, index_of, files_of, has_files}
 use Rattle.decoder_core.specs.declared.item.Ended.{Ended}
-use Rattle.decoder_core.specs.Queue.{run, feed}
+use Rattle.decoder_core.specs.ByCases.{by_if}
 use Rattle.decoder_core.specs.Placed.{places}
 use Rattle.codec.specs.declared.own.OwnDecoder.{OwnDecoder}
-use Rattle.codec.specs.declared.own.OwnDecoder.TheVariants as by
-use Rattle.codec.specs.declared.prefix.Prefix.{Prefix}
-use Rattle.codec.specs.declared.prefix.Prefix.TheVariants.{Nothing, Ef, EfBb, Fe, Ff}
 use Rattle.codec.specs.declared.state.AnyState.{AnyState}
 use Rattle.codec.specs.declared.state.AnyState.TheVariants.{Sniffing}
-use Rattle.codec.specs.Any.{Standing, any, any_start, given, given_start, standing}
-use Rattle.codec.specs.AnyLaws.{lawful}
+use Rattle.codec.specs.Any.{Standing, in_force_of, run_behind, standing, standing_of, stands_behind}
 use Rattle.codec.specs.Behind.{state_in, state_behind}
 use Rattle.codec.specs.Coding.{coding, coding_run}
 use Rattle.codec.specs.Decode.{decode, run_in}
-use Rattle.codec.specs.Mark.{Mark, mark_of, mark_length}
-use Rattle.codec.specs.Sniffing.{spelt}
-use Rattle.codec.proofs.AnyRun.{Does, does}
-use Rattle.codec.proofs.Looking.{run-looked, state-looked}
+use Rattle.codec.specs.Mark.{Mark, mark_of, in_force, mark_length}
+use Rattle.codec.specs.Sniffing.{prefix_of}
 
--- a decoder is there where it is wanted, and does then what is wanted of it
-pub record Chosen (there : Bool) (runs : List ℕ → List Ended) (s : Standing) : Type 0 where
-  pub variant : is_some s.decoder ≡ there
-  pub does : IfSome s.decoder (λ d. Does runs s.state (any d) (given_start d))
+-- a decoder does what is wanted of it
+abbrev pub Is : (List ℕ → List Ended) → (List ℕ → AnyState) → Standing → Type 0
+Is runs states s = (s.run ≡ runs) × (s.state ≡ states)
 
+-- the decoder of a family is there where it is wanted, and does then what is wanted of it
 abbrev pub IsChosen : Bool → (IndexKind → Option Loaded) → Family → Type 0
-IsChosen there index family = Chosen there (coding_run (coding index family)) (standing index family)
+IsChosen there index family =
+    let s = standing index family in (is_some s.decoder ≡ there) × IfSome s.decoder (λ d. Is (coding_run (coding index family)) s.state (standing_of d))
 
 abbrev found : IndexKind → Option Pairs → Option Loaded
 found kind o = option_map (λ pairs. record { kind = home_of kind; pairs = pairs }) o
@@ -66,59 +62,49 @@ by_two family second first other some no_first no_other None q = no_first (found
 
 module _ (files : Files) where
   chosen_by : (family : Family) → IsChosen (list_all (λ kind. is_some (pairs_of files kind)) (files_of family)) (index_of files) family
-  chosen_by OfUtf8 = record { variant = refl; does = does (by.Utf8 (record {})) }
-  chosen_by OfReplacement = record { variant = refl; does = does (by.Replacement (record {})) }
-  chosen_by OfXUserDefined = record { variant = refl; does = does (by.XUserDefined (record {})) }
-  chosen_by OfUtf16Be = record { variant = refl; does = does by.Utf16Be }
-  chosen_by OfUtf16Le = record { variant = refl; does = does by.Utf16Le }
-  chosen_by (OfSingleByte kind) =
-      by_one (OfSingleByte kind) kind (λ i. record { variant = refl; does = does (by.SingleByte i) }) (record { variant = refl; does = tt }) (pairs_of files kind)
-  chosen_by OfBig5 = by_one OfBig5 Big5 (λ i. record { variant = refl; does = does (by.Big5 i) }) (record { variant = refl; does = tt }) (pairs_of files Big5)
-  chosen_by OfShiftJis =
-      by_one OfShiftJis Jis0208 (λ i. record { variant = refl; does = does (by.ShiftJis i) }) (record { variant = refl; does = tt }) (pairs_of files Jis0208)
-  chosen_by OfEucKr = by_one OfEucKr EucKr (λ i. record { variant = refl; does = does (by.EucKr i) }) (record { variant = refl; does = tt }) (pairs_of files EucKr)
+  chosen_by OfUtf8 = (refl, (refl, refl))
+  chosen_by OfReplacement = (refl, (refl, refl))
+  chosen_by OfXUserDefined = (refl, (refl, refl))
+  chosen_by OfUtf16Be = (refl, (refl, refl))
+  chosen_by OfUtf16Le = (refl, (refl, refl))
+  chosen_by (OfSingleByte kind) = by_one (OfSingleByte kind) kind (λ i. (refl, (refl, refl))) (refl, tt) (pairs_of files kind)
+  chosen_by OfBig5 = by_one OfBig5 Big5 (λ i. (refl, (refl, refl))) (refl, tt) (pairs_of files Big5)
+  chosen_by OfShiftJis = by_one OfShiftJis Jis0208 (λ i. (refl, (refl, refl))) (refl, tt) (pairs_of files Jis0208)
+  chosen_by OfEucKr = by_one OfEucKr EucKr (λ i. (refl, (refl, refl))) (refl, tt) (pairs_of files EucKr)
   chosen_by OfGb18030 =
-      by_two OfGb18030 is_ranges Gb18030 Gb18030Ranges (λ i r. record { variant = refl; does = does (by.Gb18030 (record { index = i; ranges = r })) })
-      (λ o. record { variant = refl; does = tt }) (λ i. record { variant = refl; does = tt }) (pairs_of files Gb18030) (pairs_of files Gb18030Ranges)
+      by_two OfGb18030 is_ranges Gb18030 Gb18030Ranges (λ i r. (refl, (refl, refl)))
+      (λ o. (refl, tt)) (λ i. (refl, tt)) (pairs_of files Gb18030) (pairs_of files Gb18030Ranges)
   chosen_by OfEucJp =
-      by_two OfEucJp is_jis0212 Jis0208 Jis0212 (λ a b. record { variant = refl; does = does (by.EucJp (record { jis0208 = a; jis0212 = b })) })
-      (λ o. record { variant = refl; does = tt }) (λ i. record { variant = refl; does = tt }) (pairs_of files Jis0208) (pairs_of files Jis0212)
+      by_two OfEucJp is_jis0212 Jis0208 Jis0212 (λ a b. (refl, (refl, refl)))
+      (λ o. (refl, tt)) (λ i. (refl, tt)) (pairs_of files Jis0208) (pairs_of files Jis0212)
   chosen_by OfIso2022Jp =
-      by_two OfIso2022Jp is_katakana Jis0208 Katakana (λ a b. record { variant = refl; does = does (by.Iso2022Jp a) })
-      (λ o. record { variant = refl; does = tt }) (λ i. record { variant = refl; does = tt }) (pairs_of files Jis0208) (pairs_of files Katakana)
+      by_two OfIso2022Jp is_katakana Jis0208 Katakana (λ a b. (refl, (refl, refl)))
+      (λ o. (refl, tt)) (λ i. (refl, tt)) (pairs_of files Jis0208) (pairs_of files Katakana)
 
   pub chosen : (encoding : Encoding) → IsChosen (has_files files encoding) (index_of files) (family_of encoding)
   unfolding has_files
   chosen encoding = chosen_by (family_of encoding)
 
--- ---- behind the look for a byte order mark
+-- ---- behind a byte order mark
 
-module _ (files : Files) (encoding : Encoding) (d : OwnDecoder) (does : Does (run_in files encoding) (state_in files encoding) (any d) (given_start d)) where
-  abbrev wanted : List ℕ → Option Mark → List Ended
-  wanted bytes mark = run_in files (unwrap_or (option_map (λ (m : Mark). m.encoding) mark) encoding) (drop (unwrap_or (option_map (λ (m : Mark). m.len) mark) 0) bytes)
+by_mark : (P : Option Mark → Type 0) (bytes : List ℕ) → P (Some (record { encoding = Utf8; len = 3 }))
+    → P (Some (record { encoding = Utf16Be; len = 2 })) → P (Some (record { encoding = Utf16Le; len = 2 })) → P None → P (mark_of bytes)
+by_mark P bytes utf8 utf16_be utf16_le none =
+    by_if P (starts_with eqb bytes (0xEF ∷ 0xBB ∷ 0xBF ∷ [])) utf8
+    (by_if P (starts_with eqb bytes (0xFE ∷ 0xFF ∷ [])) utf16_be (by_if P (starts_with eqb bytes (0xFF ∷ 0xFE ∷ [])) utf16_le none))
 
-  pub decodes : (bytes : List ℕ) → places (length bytes) (mark_length bytes) (run (any d) (any_start d) bytes) ≡ (decode files encoding bytes).items
+module _ (files : Files) (encoding : Encoding) (d : OwnDecoder) (does : Is (run_in files encoding) (state_in files encoding) (standing_of d)) where
+  -- the decoder in force is that of the encoding in force
+  forced : (bytes : List ℕ) → let e = in_force encoding bytes in Is (run_in files e) (state_in files e) (in_force_of d (mark_of bytes))
+  forced bytes =
+      by_mark (λ mark. let e = unwrap_or (option_map (λ (m : Mark). m.encoding) mark) encoding in Is (run_in files e) (state_in files e) (in_force_of d mark)) bytes
+      (refl, refl) (refl, refl) (refl, refl) does
+
+  pub decodes : (bytes : List ℕ) → places (length bytes) (mark_length bytes) (run_behind d bytes (mark_of bytes)) ≡ (decode files encoding bytes).items
   unfolding decode
-  decodes bytes =
-      ap (places (length bytes) (mark_length bytes))
-      (run-looked (given_start d) (given d) (lawful d) (λ q. wanted q (mark_of q)) (λ q. refl) (λ q. refl) (λ q. refl)
-      (λ q none. does.run q ∙ ap (wanted q) (sym none)) bytes)
+  decodes bytes = ap (λ (runs : List ℕ → List Ended). places (length bytes) (mark_length bytes) (runs (drop (mark_length bytes) bytes))) (forced bytes).0
 
-  abbrev stands : List ℕ → Option Prefix → Option Mark → AnyState
-  stands bytes prefix mark =
-      unwrap_or (option_map Sniffing prefix)
-      (state_in files (unwrap_or (option_map (λ (m : Mark). m.encoding) mark) encoding) (drop (unwrap_or (option_map (λ (m : Mark). m.len) mark) 0) bytes))
-
-  prefix_stands : (p : Prefix) → Sniffing p ≡ state_behind files encoding (spelt p)
-  unfolding state_behind
-  prefix_stands Nothing = refl
-  prefix_stands Ef = refl
-  prefix_stands EfBb = refl
-  prefix_stands Fe = refl
-  prefix_stands Ff = refl
-
-  pub behind : (bytes : List ℕ) → (feed (any d) (any_start d) bytes).state ≡ state_behind files encoding bytes
+  pub behind : (bytes : List ℕ) → stands_behind d bytes (prefix_of bytes) (mark_of bytes) ≡ state_behind files encoding bytes
   unfolding state_behind
   behind bytes =
-      state-looked (given_start d) (given d) (lawful d) (state_behind files encoding) prefix_stands (λ q. refl) (λ q. refl) (λ q. refl)
-      (λ q no_prefix none. does.state q ∙ ap (stands q None) (sym none) ∙ ap (λ (p : Option Prefix). stands q p (mark_of q)) (sym no_prefix)) bytes
+      ap (λ (states : List ℕ → AnyState). unwrap_or (option_map Sniffing (prefix_of bytes)) (states (drop (mark_length bytes) bytes))) (forced bytes).1

@@ -1,4 +1,3 @@
-pub mod AnyRun
 pub mod Choosing
 pub mod Few
 pub mod Gathered

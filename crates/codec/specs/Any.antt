@@ -1,5 +1,6 @@
 -- One decoder for all encodings: each encoding's own decoder, as one among them all, behind the look for a byte order mark.
 use Rattle.std.specs.Prelude.{List, ℕ, drop, Option, Some, None, option_map, if◌then◌else◌}
+use Rattle.std.specs.Option.{unwrap_or}
 use Rattle.enc_names.specs.declared.encoding.Encoding.{Encoding}
 use Rattle.enc_names.specs.declared.encoding.Encoding.TheVariants.{Utf16Be, Utf16Le}
 use Rattle.index_loader.specs.Families.{Family, OfUtf8, OfSingleByte, OfGb18030, OfBig5, OfEucJp, OfIso2022Jp, OfShiftJis, OfEucKr, OfReplacement, OfUtf16Be, OfUtf16Le, OfXUserDefined, family_of}
@@ -12,6 +13,7 @@ use Rattle.decoder_core.specs.Queue.{Table}
 use Rattle.multibyte_decoders.specs.EucJp.{EucJpIndexes}
 use Rattle.iso2022jp.specs.declared.output.OutputState.{OutputState}
 use Rattle.iso2022jp.specs.declared.output.OutputState.TheVariants.{Ascii}
+use Rattle.codec.specs.declared.prefix.Prefix.{Prefix}
 use Rattle.codec.specs.declared.prefix.Prefix.TheVariants.{Nothing}
 use Rattle.codec.specs.declared.state.AnyState.{AnyState}
 use Rattle.codec.specs.declared.state.AnyState.TheVariants as state
@@ -19,7 +21,7 @@ use Rattle.codec.specs.declared.own.OwnDecoder.{OwnDecoder}
 use Rattle.codec.specs.declared.own.OwnDecoder.TheVariants as by
 use Rattle.codec.specs.Coding.{Coding, coding, coding_run, coding_state}
 use Rattle.codec.specs.Lifted.{lifted}
-use Rattle.codec.specs.Mark.{Mark, mark_of}
+use Rattle.codec.specs.Mark.{Mark}
 use Rattle.codec.specs.Sniffed.{sniffed}
 
 -- the output state of ISO-2022-JP, which is ASCII in every other encoding
@@ -104,10 +106,6 @@ given d = (standing_of d).turns
 abbrev pub given_start : OwnDecoder → AnyState
 given_start d = (standing_of d).start
 
--- the run of the given encoding's own decoder, alone
-abbrev pub own_run : OwnDecoder → List ℕ → List Ended
-own_run d = (standing_of d).run
-
 -- the table of each decoder
 abbrev pub any : OwnDecoder → Table AnyState
 any d = sniffed (given_start d) (given d)
@@ -122,14 +120,18 @@ mark_family Utf16Be = OfUtf16Be
 mark_family Utf16Le = OfUtf16Le
 mark_family encoding = OfUtf8
 
--- the run behind a byte order mark, by its encoding's decoder
-abbrev pub marked_run : Mark → List ℕ → List Ended
-marked_run mark bytes = coding_run (coding (λ kind. None) (mark_family mark.encoding)) (drop mark.len bytes)
+abbrev pub marked : Mark → Standing
+marked mark = standing (λ kind. None) (mark_family mark.encoding)
 
--- the run behind the byte order mark, if there is one
-abbrev pub run_behind : OwnDecoder → Option Mark → List ℕ → List Ended
-run_behind d (Some mark) bytes = marked_run mark bytes
-run_behind d None bytes = own_run d bytes
+-- the decoder in force: that of the byte order mark, if there is one, or else that of the encoding given
+abbrev pub in_force_of : OwnDecoder → Option Mark → Standing
+in_force_of d mark = unwrap_or (option_map marked mark) (standing_of d)
 
-abbrev pub behind_mark : OwnDecoder → List ℕ → List Ended
-behind_mark d bytes = run_behind d (mark_of bytes) bytes
+-- its run over the bytes behind the mark
+abbrev pub run_behind : OwnDecoder → List ℕ → Option Mark → List Ended
+run_behind d bytes mark = (in_force_of d mark).run (drop (unwrap_or (option_map (λ (m : Mark). m.len) mark) 0) bytes)
+
+-- where it stands behind them, unless the bytes are a proper prefix of a mark
+abbrev pub stands_behind : OwnDecoder → List ℕ → Option Prefix → Option Mark → AnyState
+stands_behind d bytes prefix mark =
+    unwrap_or (option_map state.Sniffing prefix) ((in_force_of d mark).state (drop (unwrap_or (option_map (λ (m : Mark). m.len) mark) 0) bytes))

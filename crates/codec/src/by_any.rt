@@ -1,9 +1,9 @@
 //! Decoding of bytes by the decoder of their encoding.
-ghost use Rattle.std.specs.Prelude.{◌-◌, ◌≤◌, length, IfOk};
+ghost use Rattle.std.specs.Prelude.{◌-◌, ◌≤◌, drop, length, IfOk};
 ghost use Rattle.decoder_core.specs.Counted.{Counted};
 ghost use Rattle.decoder_core.specs.Queue.{run};
 ghost use Rattle.decoder_core.specs.Placed.{places};
-ghost use Rattle.codec.specs.Any.{any, any_start, own_run, marked_run};
+ghost use Rattle.codec.specs.Any.{any, any_start, marked, standing_of};
 ghost use Rattle.codec.specs.Decoding.{IsDecoding};
 ghost use Rattle.codec.specs.Mark.{mark_length};
 
@@ -12,6 +12,7 @@ use crate::decoder::AnyDecoder;
 use crate::decoding::{Decoding, decode_by};
 use crate::mark::Mark;
 use crate::sniffing::{UTF_16BE, UTF_16LE};
+use crate::standing_laws::standing_laws;
 use decoder_core::{Meter, OutOfMemory, Utf8Decoder};
 use enc_names::Encoding;
 use std::alloc::Global;
@@ -27,6 +28,7 @@ pub fn decode_any(
     ensures ok { IfOk result (IsDecoding (places (length bytes.now) (mark_length bytes.now) (run (any decoder.now) (any_start decoder.now) bytes.now))) }
     ensures meter { Counted meter.old meter.new (length bytes.now - mark_length bytes.now) result }
 {
+    standing_laws();
     match Mark::of(bytes) {
         Some(mark) => decode_marked(alloc, mark, bytes, meter),
         None => decode_own(alloc, decoder, bytes, meter),
@@ -41,7 +43,7 @@ fn decode_marked(
     meter: &mut Meter,
 ) -> Result<Decoding, OutOfMemory>
     requires { mark.len ≤ length bytes.now }
-    ensures ok { IfOk result (IsDecoding (places (length bytes.now) mark.len (marked_run mark bytes.now))) }
+    ensures ok { IfOk result (IsDecoding (places (length bytes.now) mark.len ((marked mark).run (drop mark.len bytes.now)))) }
     ensures meter { Counted meter.old meter.new (length bytes.now - mark.len) result }
 {
     match mark.encoding {
@@ -66,7 +68,7 @@ fn decode_own(
     bytes: &[u8],
     meter: &mut Meter,
 ) -> Result<Decoding, OutOfMemory>
-    ensures ok { IfOk result (IsDecoding (places (length bytes.now) 0 (own_run decoder.now bytes.now))) }
+    ensures ok { IfOk result (IsDecoding (places (length bytes.now) 0 ((standing_of decoder.now).run bytes.now))) }
     ensures meter { Counted meter.old meter.new (length bytes.now) result }
 {
     by_own!(decoder.own(), decode_arm, alloc, bytes, meter)

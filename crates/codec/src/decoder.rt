@@ -13,6 +13,7 @@ ghost use Rattle.codec.specs.Mark.{mark_length};
 use crate::own::{OwnDecoder, among, turn_among};
 use crate::prefix::Prefix;
 use crate::sniffing::{UTF_16BE, UTF_16LE, sniffing_turn};
+use crate::standing_laws::standing_laws;
 use crate::state::AnyState;
 use decoder_core::{Handled, Handler, Utf8Decoder};
 use enc_names::Encoding;
@@ -49,6 +50,7 @@ impl<'i> AnyDecoder<'i> {
         ensures decode { IfSome result (λ d. (bytes : List ℕ) → places (length bytes) (mark_length bytes) (run (any d) (any_start d) bytes) ≡ (decode indexes.now encoding bytes).items) }
         ensures behind { IfSome result (λ d. (bytes : List ℕ) → (feed (any d) (any_start d) bytes).state ≡ state_behind indexes.now encoding bytes) }
     {
+        standing_laws();
         choose(indexes, encoding)
     }
 

@@ -15,6 +15,7 @@ mod output_laws;
 mod own;
 mod prefix;
 mod sniffing;
+mod standing_laws;
 mod state;
 #[cfg(test)]
 mod tests;

@@ -11,6 +11,7 @@ ghost use Rattle.codec.specs.Mark.{in_force, mark_length};
 ghost use Rattle.iso2022jp.specs.declared.output.OutputState.TheVariants.{Ascii};
 
 use crate::decoder::AnyDecoder;
+use crate::standing_laws::standing_laws;
 use decoder_core::{all_among, all_runs};
 use iso2022jp::Iso2022JpDecoder;
 
@@ -32,6 +33,7 @@ pub fn output_at_the_end()
     ensures byte { (files : Files) (given : Encoding) (d : OwnDecoder) (p : List ℕ) (b : ℕ) → decoder_in files given ≡ Some d → All (λ e. output_of (state_behind files given (take (length p + 1 - e.back) (p ++ b ∷ []))) ≡ output_of (state_behind files given (p ++ b ∷ []))) (feed (any d) (state_behind files given p) (b ∷ [])).items }
     ensures end { (files : Files) (given : Encoding) (d : OwnDecoder) (p : List ℕ) → decoder_in files given ≡ Some d → All (λ e. output_of (state_behind files given (take (length p - e.back) p)) ≡ output_of (state_behind files given p)) (run (any d) (state_behind files given p) []) }
 {
+    standing_laws();
     iso2022jp::output_at_the_end();
     all_runs::<AnyDecoder<'_>>();
     all_among::<Iso2022JpDecoder<'_>, AnyDecoder<'_>>();

@@ -8,21 +8,22 @@ use Rattle.codec.specs.Decoding.{IsDecoding}
 use Rattle.codec.specs.declared.own.OwnDecoder.{OwnDecoder}
 use Rattle.codec.specs.Any.{any, any_start, run_behind}
 use Rattle.codec.specs.Mark.{Mark, mark_of, mark_length}
-use Rattle.codec.proofs.AnyRun.{any-run}
 use Rattle.codec.proofs.by_any.decode_any.Goals as goal
 
 -- the items behind a byte order mark, if there is one
 abbrev items_behind : OwnDecoder → List ℕ → Option Mark → List Placed
-items_behind d bytes mark = places (length bytes) (unwrap_or (option_map (λ (m : Mark). m.len) mark) 0) (run_behind d mark bytes)
+items_behind d bytes mark = places (length bytes) (unwrap_or (option_map (λ (m : Mark). m.len) mark) 0) (run_behind d bytes mark)
 
-sniffed : (d : OwnDecoder) (bytes : List ℕ) (mark : Option Mark) → mark ≡ mark_of bytes
+sniffed : (d : OwnDecoder) (bytes : List ℕ) (mark : Option Mark) → run (any d) (any_start d) bytes ≡ run_behind d bytes (mark_of bytes) → mark ≡ mark_of bytes
     → items_behind d bytes mark ≡ places (length bytes) (mark_length bytes) (run (any d) (any_start d) bytes)
-sniffed d bytes mark e = ap (items_behind d bytes) e ∙ sym (ap (places (length bytes) (mark_length bytes)) (any-run d bytes))
+sniffed d bytes mark law e = ap (items_behind d bytes) e ∙ sym (ap (places (length bytes) (mark_length bytes)) law)
 
 pub returns-in-Some-clause-ok : goal.returns-in-Some-clause-ok
 returns-in-Some-clause-ok c =
-    IfOk-weaker c.decode_marked.result _ _ (λ d is. subst (λ items. IsDecoding items d) (sniffed c.args.decoder.now c.args.bytes.now _ c.in-Some.ensures.value) is) c.decode_marked.ensures.ok
+    let same = sniffed _ _ _ (c.standing_laws.ensures.run c.args.decoder.now c.args.bytes.now) c.in-Some.ensures.value in
+    IfOk-weaker c.decode_marked.result _ _ (λ d is. subst (λ items. IsDecoding items d) same is) c.decode_marked.ensures.ok
 
 pub returns-in-None-clause-ok : goal.returns-in-None-clause-ok
 returns-in-None-clause-ok c =
-    IfOk-weaker c.decode_own.result _ _ (λ d is. subst (λ items. IsDecoding items d) (sniffed c.args.decoder.now c.args.bytes.now _ c.in-None.ensures.value) is) c.decode_own.ensures.ok
+    let same = sniffed _ _ _ (c.standing_laws.ensures.run c.args.decoder.now c.args.bytes.now) c.in-None.ensures.value in
+    IfOk-weaker c.decode_own.result _ _ (λ d is. subst (λ items. IsDecoding items d) same is) c.decode_own.ensures.ok

@@ -1,4 +1,4 @@
-use Rattle.std.proofs.Common.{◌≡◌, ap, subst, Some, Option}
+use Rattle.std.proofs.Common.{◌≡◌, ap, subst, ◌∙◌, Some, Option}
 use Rattle.std.specs.Option.{IfSome}
 use Rattle.enc_names.specs.declared.encoding.Encoding.{Encoding}
 use Rattle.index_loader.specs.Files.{Files}
@@ -7,16 +7,15 @@ use Rattle.decoder_core.specs.Queue.{Fed}
 use Rattle.codec.specs.declared.own.OwnDecoder.{OwnDecoder}
 use Rattle.codec.specs.declared.state.AnyState.{AnyState}
 use Rattle.codec.specs.declared.state.AnyState.TheVariants.{Iso2022Jp as in_iso_2022_jp}
-use Rattle.codec.specs.Any.{any, given_start, decoder_in}
+use Rattle.codec.specs.Any.{standing_of, decoder_in}
 use Rattle.codec.specs.Behind.{state_in}
 use Rattle.codec.specs.Decode.{run_in}
-use Rattle.codec.proofs.AnyRun.{Does}
-use Rattle.codec.proofs.Choosing.{chosen, behind}
+use Rattle.codec.proofs.Choosing.{Is, chosen, behind}
 use Rattle.codec.proofs.OutputStates.{IsoLaws, output_at_mark, mark_fits, decoded_in_force, output_at_byte, output_at_last}
 use Rattle.codec.proofs.output_laws.output_at_the_end.Goals as goal
 
-does_there : (files : Files) (encoding : Encoding) (d : OwnDecoder) → decoder_in files encoding ≡ Some d → Does (run_in files encoding) (state_in files encoding) (any d) (given_start d)
-does_there files encoding d is = subst (λ (o : Option OwnDecoder). IfSome o (λ d. Does (run_in files encoding) (state_in files encoding) (any d) (given_start d))) is (chosen files encoding).does
+does_there : (files : Files) (encoding : Encoding) (d : OwnDecoder) → decoder_in files encoding ≡ Some d → Is (run_in files encoding) (state_in files encoding) (standing_of d)
+does_there files encoding d is = subst (λ (o : Option OwnDecoder). IfSome o (λ d. Is (run_in files encoding) (state_in files encoding) (standing_of d))) is (chosen files encoding).1
 
 pub returns : goal.returns
 returns c =
@@ -33,9 +32,9 @@ returns c =
     record {
       mark = output_at_mark;
       mark_fits = mark_fits;
-      there = λ files given. (chosen files given).variant;
+      there = λ files given. (chosen files given).0;
       in_force = decoded_in_force;
-      behind = λ files given d bytes is. behind files given d (does_there files given d is) bytes;
+      behind = λ files given d bytes is. c.standing_laws.ensures.state d bytes ∙ behind files given d (does_there files given d is) bytes;
       parts = λ d s p q. ap (λ (f : Fed AnyState). f.state) (c.all_runs.ensures.feed_parts d s p q);
       byte = output_at_byte laws;
       end = output_at_last laws;

@@ -1,0 +1,40 @@
+//! The laws of the one decoder's runs.
+ghost use Rattle.std.specs.Prelude.{◌≡◌, ℕ, List};
+ghost use Rattle.decoder_core.specs.Queue.{feed, run};
+ghost use Rattle.codec.specs.declared.own.OwnDecoder.{OwnDecoder};
+ghost use Rattle.codec.specs.Any.{any, any_start, run_behind, stands_behind};
+ghost use Rattle.codec.specs.Mark.{mark_of};
+ghost use Rattle.codec.specs.Sniffing.{prefix_of};
+
+use crate::decoder::AnyDecoder;
+use decoder_core::{
+    ReplacementDecoder, SingleByteDecoder, Utf8Decoder, Utf16Decoder, XUserDefinedDecoder,
+    all_among, all_runs,
+};
+use iso2022jp::Iso2022JpDecoder;
+use multibyte_decoders::{
+    Big5Decoder, EucJpDecoder, EucKrDecoder, Gb18030Decoder, ShiftJisDecoder,
+};
+
+/// The laws of the one decoder's runs from the first byte; the call does nothing.
+///
+/// Behind the byte order mark, or from the first byte where there is none, the one decoder does what
+/// the decoder in force does alone: it gives the items of its run (`run`) and stands where that one
+/// stands (`state`), unless the bytes are a proper prefix of a mark, which is its state then.
+pub(crate) fn standing_laws()
+    ensures run { (d : OwnDecoder) (bytes : List ℕ) → run (any d) (any_start d) bytes ≡ run_behind d bytes (mark_of bytes) }
+    ensures state { (d : OwnDecoder) (bytes : List ℕ) → (feed (any d) (any_start d) bytes).state ≡ stands_behind d bytes (prefix_of bytes) (mark_of bytes) }
+{
+    all_among::<Utf8Decoder, AnyDecoder<'_>>();
+    all_among::<Gb18030Decoder<'_>, AnyDecoder<'_>>();
+    all_among::<Big5Decoder<'_>, AnyDecoder<'_>>();
+    all_among::<EucJpDecoder<'_>, AnyDecoder<'_>>();
+    all_among::<Iso2022JpDecoder<'_>, AnyDecoder<'_>>();
+    all_among::<ShiftJisDecoder<'_>, AnyDecoder<'_>>();
+    all_among::<EucKrDecoder<'_>, AnyDecoder<'_>>();
+    all_among::<SingleByteDecoder<'_>, AnyDecoder<'_>>();
+    all_among::<XUserDefinedDecoder, AnyDecoder<'_>>();
+    all_among::<ReplacementDecoder, AnyDecoder<'_>>();
+    all_among::<Utf16Decoder, AnyDecoder<'_>>();
+    all_runs::<AnyDecoder<'_>>();
+}
