@@ -11,9 +11,8 @@ pub fn has_stack(bytes: &[u8]) -> bool {
         return true;
     };
     // Written and read again, so that no compiler leaves it out.
+    let front = &rest[..rest.len().min(LEVEL)];
     let mut level = [0; LEVEL];
-    for (to, from) in level.iter_mut().zip(rest) {
-        *to = *from;
-    }
-    has_stack(rest) && level.iter().zip(rest).all(|(to, from)| to == from)
+    level[..front.len()].copy_from_slice(front);
+    has_stack(rest) && level.starts_with(front)
 }
