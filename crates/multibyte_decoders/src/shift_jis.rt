@@ -99,14 +99,10 @@ impl PairRules for ShiftJisRules {
     // In the loop over the bytes.
     #[inline(always)]
     fn code_point(index: &Index, lead: u8, byte: u8) -> Option<Scalar> {
-        if !is_trail(byte) {
-            return None;
-        }
-        if lead < 0xF0 {
-            // Before the user-defined range.
-            index.code_point(pointer(lead, byte))
-        } else {
+        if is_trail(byte) {
             entry(index, pointer(lead, byte))
+        } else {
+            None
         }
     }
 
