@@ -1,5 +1,5 @@
 //! Runs of pairs of bytes, and of ASCII between them, in bulk.
-ghost use Rattle.std.specs.Prelude.{◌+◌, ◌<◌, IfSome, length};
+ghost use Rattle.std.specs.Prelude.{◌+◌, ◌<◌, ◌≤◌, IfSome, length};
 ghost use Rattle.decoder_core.specs.declared.ascii_runs.AsciiRuns.TheVariants.{All};
 ghost use Rattle.decoder_core.specs.declared.bulk.Stride.TheVariants.{Pairs};
 ghost use Rattle.decoder_core.specs.AsciiRuns.{TakesAscii};
@@ -45,7 +45,15 @@ pub(crate) fn take_pairs<H: Handler>(
         let Some(code_point) = pair_at(handler, state, bytes, taken) else {
             break;
         };
-        written = put_scalar(text, written, code_point.get());
+        let code_point = code_point.get();
+        if 0x800 <= code_point && code_point < 0x1_0000 {
+            // Most have three bytes of UTF-8: that is asked first, and then nothing else.
+            written = put_scalar(text, written, code_point);
+        } else if code_point < 0x80 {
+            break;
+        } else {
+            written = put_scalar(text, written, code_point);
+        }
         taken += 2;
     }
     Bulk {
@@ -55,16 +63,12 @@ pub(crate) fn take_pairs<H: Handler>(
     }
 }
 
-/// The code point of the pair at an index.
+/// The code point of the pair at an index, which is one item where it isn't ASCII.
 #[inline(always)]
 fn pair_at<H: Handler>(handler: &H, state: H::State, bytes: &[u8], at: usize) -> Option<Scalar>
     requires { at + 1 < length bytes.now }
-    ensures { IfSome result (λ code_point. IsFront (H.table handler.now) state Pairs bytes.now at code_point 2) }
+    ensures { IfSome result (λ code_point. 128 ≤ code_point → IsFront (H.table handler.now) state Pairs bytes.now at code_point 2) }
 {
     let code_point = handler.known_pair(state, bytes[at], bytes[at + 1])?;
-    if code_point.get() < 0x80 {
-        None
-    } else {
-        Some(code_point)
-    }
+    Some(code_point)
 }

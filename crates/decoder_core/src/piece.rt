@@ -11,9 +11,9 @@ use crate::memory::OutOfMemory;
 use crate::sink::Sink;
 
 /// How many bytes are stepped over at first where none was taken in bulk, before that is tried
-/// again: at each byte it would cost more than it gains. An odd number, so that pairs are not met
-/// in their middle again and again.
-const SHORTEST: usize = 15;
+/// again: mostly one character alone is between two runs. An odd number, so that pairs are not met
+/// in their middle again and again; with the next stretch it is four bytes, as gb18030 has them.
+const SHORTEST: usize = 1;
 
 /// How many bytes are stepped over at most. Each time that few are taken or none, twice as many are
 /// stepped over and one more, so that text without runs is decoded as fast as without the trials.

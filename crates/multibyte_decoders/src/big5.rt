@@ -3,7 +3,7 @@ ghost use Rattle.std.specs.Prelude.{◌≡◌, Some, IfSome};
 ghost use Rattle.std.proofs.Common.{rules};
 ghost use Rattle.index_loader.specs.Index.{code_point_of};
 ghost use Rattle.decoder_core.specs.declared.item.Item.TheVariants.{One};
-ghost use Rattle.multibyte_decoders.specs.Big5.{big5_pair, big5_pointer, big5_item, is_big5_lead};
+ghost use Rattle.multibyte_decoders.specs.Big5.{big5_pair, big5_pointer, big5_item, is_big5_lead, is_big5_trail};
 ghost use Rattle.multibyte_decoders.specs.Pairs.{ascii_item};
 
 use crate::pairs::{PairDecoder, PairRules};
@@ -53,8 +53,22 @@ fn entry(index: &Index, pointer: u32) -> Option<Scalar>
 fn pointer(lead: u8, trail: u8) -> u32
     ensures { result ≡ big5_pointer lead trail }
 {
-    let trail_offset = if trail < 0x7F { 0x40 } else { 0x62 };
-    u32::from(lead.saturating_sub(0x81)) * 157 + u32::from(trail.saturating_sub(trail_offset))
+    let column = if trail < 0x7F {
+        trail.saturating_sub(0x40)
+    } else {
+        trail - 0x62
+    };
+    u32::from(lead.saturating_sub(0x81)) * 157 + u32::from(column)
+}
+
+/// Whether the byte is the trail of a pair.
+// One range but for a gap in it: a branch on the half that it is in would be mispredicted again and
+// again.
+#[inline(always)]
+fn is_trail(byte: u8) -> bool
+    ensures { result ≡ is_big5_trail byte }
+{
+    0x40 <= byte && byte <= 0xFE && !(0x7F <= byte && byte <= 0xA0)
 }
 
 impl PairRules for Big5Rules {
@@ -79,18 +93,20 @@ impl PairRules for Big5Rules {
     // In the loop over the bytes.
     #[inline(always)]
     fn pair(index: &Index, lead: u8, byte: u8) -> Option<Item> {
-        match byte {
-            0x40..=0x7E | 0xA1..=0xFE => item(index, pointer(lead, byte)),
-            _ => None,
+        if is_trail(byte) {
+            item(index, pointer(lead, byte))
+        } else {
+            None
         }
     }
 
     // In the loop over the bytes.
     #[inline(always)]
     fn code_point(index: &Index, lead: u8, byte: u8) -> Option<Scalar> {
-        match byte {
-            0x40..=0x7E | 0xA1..=0xFE => entry(index, pointer(lead, byte)),
-            _ => None,
+        if is_trail(byte) {
+            entry(index, pointer(lead, byte))
+        } else {
+            None
         }
     }
 

@@ -5,7 +5,7 @@ ghost use Rattle.index_loader.specs.Index.{code_point_of};
 ghost use Rattle.decoder_core.specs.Steps.{bytes_of};
 ghost use Rattle.decoder_core.specs.Holding.{falls_of, counts_of};
 ghost use Rattle.multibyte_decoders.specs.declared.gb18030.Gb18030State.TheVariants.{Idle};
-ghost use Rattle.multibyte_decoders.specs.Gb18030.{gb18030, gb18030_single, gb18030_pair, gb18030_pointer, gb18030_four};
+ghost use Rattle.multibyte_decoders.specs.Gb18030.{gb18030, gb18030_single, is_gb18030_trail, gb18030_pair, gb18030_pointer, gb18030_four};
 ghost use Rattle.multibyte_decoders.specs.Holdings.{gb18030_holding};
 
 use crate::turns::{ascii_item, begin, complete, one_of};
@@ -62,9 +62,10 @@ impl<'i> Gb18030Decoder<'i> {
     fn pair(&self, first: u8, byte: u8) -> Option<Scalar>
         ensures { result ≡ gb18030_pair (code_point_of self.now.index) first byte }
     {
-        match byte {
-            0x40..=0x7E | 0x80..=0xFE => self.index.code_point(pointer(first, byte)),
-            _ => None,
+        if is_trail(byte) {
+            self.index.code_point(pointer(first, byte))
+        } else {
+            None
         }
     }
 }
@@ -75,8 +76,22 @@ impl<'i> Gb18030Decoder<'i> {
 fn pointer(first: u8, trail: u8) -> u32
     ensures { result ≡ gb18030_pointer first trail }
 {
-    let trail_offset = if trail < 0x7F { 0x40 } else { 0x41 };
-    u32::from(first.saturating_sub(0x81)) * 190 + u32::from(trail.saturating_sub(trail_offset))
+    let column = if trail < 0x7F {
+        trail.saturating_sub(0x40)
+    } else {
+        trail - 0x41
+    };
+    u32::from(first.saturating_sub(0x81)) * 190 + u32::from(column)
+}
+
+/// Whether the byte is the second of two.
+// One range but for one byte: a branch on the half that it is in would be mispredicted again and
+// again.
+#[inline(always)]
+fn is_trail(byte: u8) -> bool
+    ensures { result ≡ is_gb18030_trail byte }
+{
+    0x40 <= byte && byte <= 0xFE && byte != 0x7F
 }
 
 /// The pointer of four bytes.

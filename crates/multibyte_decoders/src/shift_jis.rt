@@ -2,7 +2,7 @@
 ghost use Rattle.std.specs.Prelude.{◌≡◌};
 ghost use Rattle.std.proofs.Common.{rules};
 ghost use Rattle.index_loader.specs.Index.{code_point_of};
-ghost use Rattle.multibyte_decoders.specs.ShiftJis.{shift_jis_single, shift_jis_pair, shift_jis_pointer, shift_jis_code_point, is_shift_jis_lead};
+ghost use Rattle.multibyte_decoders.specs.ShiftJis.{shift_jis_single, shift_jis_pair, shift_jis_pointer, shift_jis_code_point, is_shift_jis_lead, is_shift_jis_trail};
 
 use crate::pairs::{PairDecoder, PairRules};
 use crate::turns::one_of;
@@ -36,10 +36,27 @@ fn entry(index: &Index, pointer: u32) -> Option<Scalar>
 fn pointer(lead: u8, trail: u8) -> u32
     ensures { result ≡ shift_jis_pointer lead trail }
 {
-    let lead_offset = if lead < 0xA0 { 0x81 } else { 0xC1 };
-    let trail_offset = if trail < 0x7F { 0x40 } else { 0x41 };
-    u32::from(lead.saturating_sub(lead_offset)) * 188
-        + u32::from(trail.saturating_sub(trail_offset))
+    let row = if lead < 0xA0 {
+        lead.saturating_sub(0x81)
+    } else {
+        lead.saturating_sub(0xC1)
+    };
+    let column = if trail < 0x7F {
+        trail.saturating_sub(0x40)
+    } else {
+        trail - 0x41
+    };
+    u32::from(row) * 188 + u32::from(column)
+}
+
+/// Whether the byte is the trail of a pair.
+// One range but for one byte: a branch on the half that it is in would be mispredicted again and
+// again.
+#[inline(always)]
+fn is_trail(byte: u8) -> bool
+    ensures { result ≡ is_shift_jis_trail byte }
+{
+    0x40 <= byte && byte <= 0xFC && byte != 0x7F
 }
 
 impl PairRules for ShiftJisRules {
@@ -52,7 +69,11 @@ impl PairRules for ShiftJisRules {
     // In the loop over the bytes.
     #[inline(always)]
     fn is_lead(byte: u8) -> bool {
-        matches!(byte, 0x81..=0x9F | 0xE0..=0xFC)
+        if byte < 0xA0 {
+            byte > 0x80
+        } else {
+            (0xE0..=0xFC).contains(&byte)
+        }
     }
 
     // In the loop over the bytes.
@@ -68,18 +89,20 @@ impl PairRules for ShiftJisRules {
     // In the loop over the bytes.
     #[inline(always)]
     fn pair(index: &Index, lead: u8, byte: u8) -> Option<Item> {
-        match byte {
-            0x40..=0x7E | 0x80..=0xFC => one_of(entry(index, pointer(lead, byte))),
-            _ => None,
+        if is_trail(byte) {
+            one_of(entry(index, pointer(lead, byte)))
+        } else {
+            None
         }
     }
 
     // In the loop over the bytes.
     #[inline(always)]
     fn code_point(index: &Index, lead: u8, byte: u8) -> Option<Scalar> {
-        match byte {
-            0x40..=0x7E | 0x80..=0xFC => entry(index, pointer(lead, byte)),
-            _ => None,
+        if is_trail(byte) {
+            entry(index, pointer(lead, byte))
+        } else {
+            None
         }
     }
 

@@ -3,6 +3,7 @@ use Rattle.std.specs.Char.{IsScalar}
 use Rattle.decoder_core.specs.declared.bulk.Stride.TheVariants.{Pairs}
 use Rattle.decoder_core.proofs.Fronts.{none-more, ascii-pair, front-read, few-pairs}
 use Rattle.decoder_core.proofs.pair_bulk.take_pairs.Goals as goal
+use Rattle.decoder_core.proofs.pair_bulk.take_pairs.Goals.{then-code_point-ge2048+then-code_point-lt65536, else-code_point-ge2048+else-code_point-lt128}
 
 pub pairs-init : goal.pairs-init
 pairs-init g c = record {
@@ -12,15 +13,29 @@ pairs-init g c = record {
 
 pub pairs-preserved : goal.pairs-preserved
 pairs-preserved g c =
+    let table = g.H.Handler.table c.args.handler.now in
+    let ends = g.met.H.Handler.ends c.args.handler.now in
     let room : c.pairs.written + 4 ≤ 1024 = Prim.omega (arith, c.pairs.invariant.few, c.pairs-test.true, c.min-end.ensures) in
     let large : length c.pairs.text ≡ 1024 = Prim.search rules in
-    let written = c.put_scalar-written-in-pairs in
-    record {
-      bulk = front-read (g.H.Handler.table c.args.handler.now) (g.met.H.Handler.ends c.args.handler.now) c.args.state Pairs c.args.bytes.now c.pairs.text
-          written.new.bytes c.pairs.taken c.pairs.written _ c.get.result 2 written.result c.get.ensures.value
-          c.pairs.invariant.bulk c.in-Some.ensures c.get.ensures.scalar room large written.ensures.end written.ensures.bytes;
-      few = few-pairs c.pairs.written c.pairs.taken _ c.get.result 2 written.result c.get.ensures.value c.pairs.invariant.few c.in-Some.ensures.wide written.ensures.end;
-    }
+    let got = c.get-code_point in
+    elim c.if-code_point-ge2048.branch [
+      | then-code_point-ge2048+then-code_point-lt65536 w ↦
+          let put = w.put_scalar-written-then-code_point-lt65536 in
+          let next = c.in-Some.ensures (Prim.omega (arith, got.ensures.value, w.if-code_point-ge2048.true)) in
+          rw (w.text-is, w.written-is) (record {
+            bulk = front-read table ends c.args.state Pairs c.args.bytes.now c.pairs.text put.new.bytes c.pairs.taken c.pairs.written _ got.result 2
+                put.result got.ensures.value c.pairs.invariant.bulk next got.ensures.scalar room large put.ensures.end put.ensures.bytes;
+            few = few-pairs c.pairs.written c.pairs.taken _ got.result 2 put.result got.ensures.value c.pairs.invariant.few next.wide put.ensures.end;
+          })
+      | else-code_point-ge2048+else-code_point-lt128 w ↦
+          let put = w.put_scalar-written-else-code_point-lt128 in
+          let next = c.in-Some.ensures (Prim.omega (arith, got.ensures.value, w.if-code_point-lt128.false)) in
+          rw (w.text-is, w.written-is) (record {
+            bulk = front-read table ends c.args.state Pairs c.args.bytes.now c.pairs.text put.new.bytes c.pairs.taken c.pairs.written _ got.result 2
+                put.result got.ensures.value c.pairs.invariant.bulk next got.ensures.scalar room large put.ensures.end put.ensures.bytes;
+            few = few-pairs c.pairs.written c.pairs.taken _ got.result 2 put.result got.ensures.value c.pairs.invariant.few next.wide put.ensures.end;
+          })
+    ]
 
 pub pairs-preserved-then-lead-lt128 : goal.pairs-preserved-then-lead-lt128
 pairs-preserved-then-lead-lt128 g c =
