@@ -142,7 +142,8 @@ fn step_over<D: Decoder, K: Sink<D::State>>(
 }
 
 /// Gives the sink what the decoder takes in bulk, and returns the number of bytes taken.
-#[inline(always)]
+// Once in a stretch: the loop over the bytes has the registers to itself.
+#[inline(never)]
 fn bulk_into<D: Decoder, K: Sink<D::State>>(
     decoder: &D,
     state: D::State,
