@@ -50,6 +50,7 @@ pub(crate) fn take_pairs<H: Handler>(
             // Most have three bytes of UTF-8: that is asked first, and then nothing else.
             written = put_scalar(text, written, code_point);
         } else if code_point < 0x80 {
+            // One byte of UTF-8 stands for one byte in the source, and here it would for two.
             break;
         } else {
             written = put_scalar(text, written, code_point);
