@@ -13,23 +13,30 @@ use std::test::Fail;
 
 const WINDOWS_1252: IndexKind = IndexKind::SingleByte(Encoding::Windows1252);
 
-/// The fault of a file of windows-1252.
-fn fault(alloc: Global, bytes: &[u8]) -> Option<(u64, IndexCause)> {
-    fault_of(alloc, WINDOWS_1252, bytes)
-}
+/// A file's bytes, and the line and cause of its fault, if it has one.
+type FaultRow<'a> = (&'a [u8], Option<(u64, IndexCause)>);
 
-/// The fault of the ranges.
-fn ranges_fault(alloc: Global, bytes: &[u8]) -> Option<(u64, IndexCause)> {
-    fault_of(alloc, IndexKind::Gb18030Ranges, bytes)
-}
-
-fn fault_of(alloc: Global, kind: IndexKind, bytes: &[u8]) -> Option<(u64, IndexCause)>
+/// The first row whose file of the kind has another fault.
+fn first_other(alloc: Global, kind: IndexKind, rows: &[FaultRow<'_>]) -> Option<usize>
     requires { IsTrue (has_files_of kind) }
 {
-    match Index::parse(alloc, kind, bytes) {
-        Ok(_) => None,
-        Err(fault) => Some((fault.line, fault.cause)),
+    'rows: for (index, (bytes, expected)) in rows.iter().enumerate() {
+        let found = match Index::parse(alloc, kind, bytes) {
+            Ok(_) => None,
+            Err(fault) => Some((fault.line, fault.cause)),
+        };
+        if found != *expected {
+            return Some(index);
+        }
     }
+    None
+}
+
+/// Whether a file of the kind has no fault.
+fn parses(alloc: Global, kind: IndexKind, bytes: &[u8]) -> bool
+    requires { IsTrue (has_files_of kind) }
+{
+    Index::parse(alloc, kind, bytes).is_ok()
 }
 
 /// The code point of a pointer, as a number.
@@ -42,91 +49,44 @@ fn scalar(number: u32) -> Result<Scalar, Fail> {
 }
 
 #[test]
-fn equal_pointers_are_a_fault_of_the_second_line(rt: HostRuntime) {
-    let bytes = b"0\t0x20AC\n0\t0x81\n";
-    assert_eq!(rt;
-        fault(rt.alloc(), bytes),
-        Some((2, IndexCause::DuplicatePointer))
-    );
-}
-
-#[test]
-fn the_pointer_behind_the_last_is_too_large(rt: HostRuntime) {
-    assert_eq!(rt; fault(rt.alloc(), b"127\t0x81"), None);
-    assert_eq!(rt;
-        fault(rt.alloc(), b"128\t0x81"),
-        Some((1, IndexCause::PointerTooLarge))
-    );
-    let long = b"99999999999999999999\t0x41";
-    assert_eq!(rt;
-        fault(rt.alloc(), long),
-        Some((1, IndexCause::PointerTooLarge))
-    );
-}
-
-#[test]
-fn a_surrogate_is_no_code_point(rt: HostRuntime) {
-    assert_eq!(rt;
-        fault(rt.alloc(), b"0\t0xD800"),
-        Some((1, IndexCause::BadCodePoint))
-    );
-    assert_eq!(rt;
-        fault(rt.alloc(), b"128\t0xD800"),
-        Some((1, IndexCause::BadCodePoint))
-    );
-    assert_eq!(rt;
-        fault(rt.alloc(), b"0\t0x110000"),
-        Some((1, IndexCause::BadCodePoint))
-    );
-}
-
-#[test]
-fn a_misspelt_pointer_is_the_first_cause(rt: HostRuntime) {
-    assert_eq!(rt;
-        fault(rt.alloc(), b"x\t0x81"),
-        Some((1, IndexCause::BadPointer))
-    );
-    assert_eq!(rt;
-        fault(rt.alloc(), b"-1\t0x41"),
-        Some((1, IndexCause::BadPointer))
-    );
-    assert_eq!(rt;
-        fault(rt.alloc(), b"1 2\tx"),
-        Some((1, IndexCause::BadPointer))
-    );
-    assert_eq!(rt;
-        fault(rt.alloc(), b"   "),
-        Some((1, IndexCause::BadPointer))
-    );
-    let marked = b"\xEF\xBB\xBF0\t0x41";
-    assert_eq!(rt;
-        fault(rt.alloc(), marked),
-        Some((1, IndexCause::BadPointer))
-    );
-}
-
-#[test]
-fn a_code_point_is_written_with_0x_and_digits(rt: HostRuntime) {
-    assert_eq!(rt;
-        fault(rt.alloc(), b"0"),
-        Some((1, IndexCause::BadCodePoint))
-    );
-    assert_eq!(rt;
-        fault(rt.alloc(), b"0\t20AC"),
-        Some((1, IndexCause::BadCodePoint))
-    );
-    assert_eq!(rt;
-        fault(rt.alloc(), b"0\t0x"),
-        Some((1, IndexCause::BadCodePoint))
-    );
-    assert_eq!(rt;
-        fault(rt.alloc(), b"0\t0X41"),
-        Some((1, IndexCause::BadCodePoint))
-    );
-    assert_eq!(rt;
-        fault(rt.alloc(), b"0\t0x4G"),
-        Some((1, IndexCause::BadCodePoint))
-    );
+fn faults_of_a_line_and_their_order(rt: HostRuntime) {
+    let pointer = Some((1, IndexCause::BadPointer));
+    let code_point = Some((1, IndexCause::BadCodePoint));
+    let too_large = Some((1, IndexCause::PointerTooLarge));
+    let rows: [FaultRow<'_>; 20] = [
+        // Equal pointers are a fault of the second line.
+        (
+            b"0\t0x20AC\n0\t0x81\n",
+            Some((2, IndexCause::DuplicatePointer)),
+        ),
+        (b"127\t0x81", None),
+        (b"128\t0x81", too_large),
+        (b"99999999999999999999\t0x41", too_large),
+        // A surrogate is no code point, and that is said before the pointer's size.
+        (b"0\t0xD800", code_point),
+        (b"128\t0xD800", code_point),
+        (b"0\t0x110000", code_point),
+        // A misspelt pointer is the first cause.
+        (b"x\t0x81", pointer),
+        (b"-1\t0x41", pointer),
+        (b"1 2\tx", pointer),
+        (b"   ", pointer),
+        (b"\xEF\xBB\xBF0\t0x41", pointer),
+        // A code point is written with 0x and digits.
+        (b"0", code_point),
+        (b"0\t20AC", code_point),
+        (b"0\t0x", code_point),
+        (b"0\t0X41", code_point),
+        (b"0\t0x4G", code_point),
+        // Lines that hold nothing are counted.
+        (
+            b"# a comment\r\n\r\n\n 5 \t 0x2a \tname\r\nx\n",
+            Some((5, IndexCause::BadPointer)),
+        ),
+        (b"", None),
+        (b"\n#\n", None),
+    ];
+    assert_eq!(rt; first_other(rt.alloc(), WINDOWS_1252, &rows), None);
 }
 
 #[test]
@@ -138,12 +98,6 @@ fn leading_zeros_have_no_limit(rt: HostRuntime) -> Result<(), Fail> {
 }
 
 #[test]
-fn lines_that_hold_nothing_are_counted(rt: HostRuntime) {
-    let bytes = b"# a comment\r\n\r\n\n 5 \t 0x2a \tname\r\nx\n";
-    assert_eq!(rt; fault(rt.alloc(), bytes), Some((5, IndexCause::BadPointer)));
-}
-
-#[test]
 fn fields_are_stripped_and_further_ones_ignored(rt: HostRuntime) -> Result<(), Fail> {
     let bytes = b"#\n  5 \t 0x2a \t0x2b\r\n";
     let index = Index::parse(rt.alloc(), WINDOWS_1252, bytes)?;
@@ -152,31 +106,26 @@ fn fields_are_stripped_and_further_ones_ignored(rt: HostRuntime) -> Result<(), F
 }
 
 #[test]
-fn ranges_need_their_first_and_last_row(rt: HostRuntime) {
+fn ranges_need_their_ends_and_lie_in_the_first_plane(rt: HostRuntime) {
     let lacking = Some((0, IndexCause::BadRanges));
-    assert_eq!(rt; ranges_fault(rt.alloc(), b"0\t0x80"), lacking);
-    assert_eq!(rt;
-        ranges_fault(rt.alloc(), b"0\t0x81\n189000\t0x10000"),
-        lacking
-    );
-    assert_eq!(rt; ranges_fault(rt.alloc(), b"0\t0x80\n189000\t0x10000"), None);
-}
-
-#[test]
-fn rows_of_ranges_lie_in_the_first_plane(rt: HostRuntime) {
     let bad = Some((1, IndexCause::BadRanges));
-    assert_eq!(rt; ranges_fault(rt.alloc(), b"39420\t0x80"), bad);
+    let rows: [FaultRow<'_>; 9] = [
+        (b"0\t0x80", lacking),
+        (b"0\t0x81\n189000\t0x10000", lacking),
+        (b"0\t0x80\n189000\t0x10000", None),
+        (b"39420\t0x80", bad),
+        (b"99999999999999999999\t0x80", bad),
+        (b"1\t0x7F", bad),
+        (b"1\t0x10000", bad),
+        (b"189000\t0x10001", bad),
+        (
+            b"0\t0x80\n0\t0x81\n189000\t0x10000",
+            Some((2, IndexCause::DuplicatePointer)),
+        ),
+    ];
     assert_eq!(rt;
-        ranges_fault(rt.alloc(), b"99999999999999999999\t0x80"),
-        bad
-    );
-    assert_eq!(rt; ranges_fault(rt.alloc(), b"1\t0x7F"), bad);
-    assert_eq!(rt; ranges_fault(rt.alloc(), b"1\t0x10000"), bad);
-    assert_eq!(rt; ranges_fault(rt.alloc(), b"189000\t0x10001"), bad);
-    let twice = b"0\t0x80\n0\t0x81\n189000\t0x10000";
-    assert_eq!(rt;
-        ranges_fault(rt.alloc(), twice),
-        Some((2, IndexCause::DuplicatePointer))
+        first_other(rt.alloc(), IndexKind::Gb18030Ranges, &rows),
+        None
     );
 }
 
@@ -261,40 +210,34 @@ fn small_files_of_each_kind_parse(rt: HostRuntime) {
     let jis0208 =
         b"# A few entries of the Encoding Standard's index of jis0208: pointer, code point.\n\
         0\t0x3000\n1\t0x3001\n2\t0x3002\n60\t0xFF0D\n283\t0x3042\n1410\t0x4E9C\n";
-    assert_eq!(rt; fault_of(rt.alloc(), IndexKind::Jis0208, jis0208), None);
+    assert!(rt; parses(rt.alloc(), IndexKind::Jis0208, jis0208));
     let jis0212 =
         b"# A few entries of the Encoding Standard's index of jis0212: pointer, code point.\n\
         108\t0x02D8\n";
-    assert_eq!(rt; fault_of(rt.alloc(), IndexKind::Jis0212, jis0212), None);
+    assert!(rt; parses(rt.alloc(), IndexKind::Jis0212, jis0212));
     let iso_2022_jp_katakana =
         b"# A few entries of the Encoding Standard's index of ISO-2022-JP katakana: pointer, code point.\n\
         0\t0x3002\n";
-    assert_eq!(rt;
-        fault_of(rt.alloc(), IndexKind::Katakana, iso_2022_jp_katakana),
-        None
-    );
+    assert!(rt; parses(rt.alloc(), IndexKind::Katakana, iso_2022_jp_katakana));
     let euc_kr =
         b"# A few entries of the Encoding Standard's index of EUC-KR: pointer, code point.\n\
         9026\t0xAC00\n";
-    assert_eq!(rt; fault_of(rt.alloc(), IndexKind::EucKr, euc_kr), None);
+    assert!(rt; parses(rt.alloc(), IndexKind::EucKr, euc_kr));
     let big5 = b"# A few entries of the Encoding Standard's index of Big5: pointer, code point.\n\
         5495\t0x4E00\n";
-    assert_eq!(rt; fault_of(rt.alloc(), IndexKind::Big5, big5), None);
+    assert!(rt; parses(rt.alloc(), IndexKind::Big5, big5));
     let gb18030 =
         b"# A few entries of the Encoding Standard's index of gb18030: pointer, code point.\n\
         0\t0x4E02\n1\t0x4E04\n9026\t0x554A\n";
-    assert_eq!(rt; fault_of(rt.alloc(), IndexKind::Gb18030, gb18030), None);
+    assert!(rt; parses(rt.alloc(), IndexKind::Gb18030, gb18030));
     let gb18030_ranges =
         b"# Two rows of the Encoding Standard's ranges of gb18030: first pointer, first code point.\n\
         0\t0x0080\n189000\t0x10000\n";
-    assert_eq!(rt;
-        fault_of(rt.alloc(), IndexKind::Gb18030Ranges, gb18030_ranges),
-        None
-    );
+    assert!(rt; parses(rt.alloc(), IndexKind::Gb18030Ranges, gb18030_ranges));
     let windows_1252 =
         b"# A few entries of the Encoding Standard's index of windows-1252: pointer, code point.\n\
         0\t0x20AC\n59\t0x00BB\n63\t0x00BF\n";
-    assert_eq!(rt; fault_of(rt.alloc(), WINDOWS_1252, windows_1252), None);
+    assert!(rt; parses(rt.alloc(), WINDOWS_1252, windows_1252));
 }
 
 /// The worked examples hold, by computing.
