@@ -60,7 +60,7 @@ impl Model for Labels {
 }
 
 impl Labels {
-    /// The 40 names of the encodings as their own labels, and no other label.
+    /// Each encoding's name as its own label, and no other label.
     pub fn names(alloc: Global) -> Result<Labels, LabelFault>
         ensures ok { IfOk result (λ labels. labels ≡ name_labels) }
         ensures err { IsOkUnless result LabelFault.OutOfMemory }

@@ -25,7 +25,7 @@ pub const COMMON: [&'static [u8]; 8] = [
 /// The byte order marks.
 pub const MARKS: [&'static [u8]; 3] = [b"\xEF\xBB\xBF", b"\xFE\xFF", b"\xFF\xFE"];
 
-/// Ten encodings.
+/// The encodings that documents are drawn in.
 pub const SAMPLES: [Sample; 10] = [
     Sample {
         given: Encoding::Utf8,
