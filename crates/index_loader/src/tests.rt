@@ -44,8 +44,14 @@ fn number_at(index: &Index, pointer: u32) -> Option<u32> {
     Some(index.code_point(pointer)?.get())
 }
 
-fn scalar(number: u32) -> Result<Scalar, Fail> {
-    Ok(Scalar::new(number).ok_or("no scalar value")?)
+/// The first row whose pointer has another code point.
+fn first_other_number(index: &Index, rows: &[(u32, Option<u32>)]) -> Option<usize> {
+    'rows: for (at, (pointer, expected)) in rows.iter().enumerate() {
+        if number_at(index, *pointer) != *expected {
+            return Some(at);
+        }
+    }
+    None
 }
 
 #[test]
@@ -133,33 +139,44 @@ fn ranges_need_their_ends_and_lie_in_the_first_plane(rt: HostRuntime) {
 fn a_code_point_may_have_several_pointers(rt: HostRuntime) -> Result<(), Fail> {
     let bytes = b"10736\t0x2170\n10800\t0x2170\n8272\t0x2170\n";
     let index = Index::parse(rt.alloc(), IndexKind::Jis0208, bytes)?;
-    let roman_one = scalar(0x2170)?;
+    let roman_one = Scalar::from('\u{2170}');
     assert_eq!(rt; index.pointer(roman_one), Some(8272));
     assert_eq!(rt; index.pointer_from(roman_one, 8272), Some(8272));
     assert_eq!(rt; index.pointer_from(roman_one, 8836), Some(10736));
     assert_eq!(rt; index.pointer_from(roman_one, 10801), None);
     assert_eq!(rt; index.last_pointer(roman_one), Some(10800));
-    assert_eq!(rt; index.pointer(scalar(0x2171)?), None);
-    assert_eq!(rt; index.last_pointer(scalar(0x216F)?), None);
+    assert_eq!(rt; index.pointer(Scalar::from('\u{2171}')), None);
+    assert_eq!(rt; index.last_pointer(Scalar::from('\u{216F}')), None);
+    Ok(())
+}
+
+/// The file of ranges that every other one contains.
+const LEAST_RANGES: &'static [u8] = b"0\t0x80\n189000\t0x10000\n";
+
+#[test]
+fn pointers_of_ranges_are_looked_up_by_their_own_rule(rt: HostRuntime) -> Result<(), Fail> {
+    let ranges = Index::parse(rt.alloc(), IndexKind::Gb18030Ranges, LEAST_RANGES)?;
+    let rows = [
+        (8236, Some(0x20AC)),
+        (7457, Some(0xE7C7)),
+        (39_420, None),
+        (188_999, None),
+        (189_000, Some(0x10000)),
+        (1_237_575, Some(0x10_FFFF)),
+        (1_237_576, None),
+    ];
+    assert_eq!(rt; first_other_number(&ranges, &rows), None);
     Ok(())
 }
 
 #[test]
-fn ranges_are_looked_up_by_their_own_rule(rt: HostRuntime) -> Result<(), Fail> {
-    let bytes = b"0\t0x80\n189000\t0x10000\n";
-    let ranges = Index::parse(rt.alloc(), IndexKind::Gb18030Ranges, bytes)?;
-    assert_eq!(rt; number_at(&ranges, 8236), Some(0x20AC));
-    assert_eq!(rt; number_at(&ranges, 7457), Some(0xE7C7));
-    assert_eq!(rt; number_at(&ranges, 39420), None);
-    assert_eq!(rt; number_at(&ranges, 188_999), None);
-    assert_eq!(rt; number_at(&ranges, 189_000), Some(0x10000));
-    assert_eq!(rt; number_at(&ranges, 1_237_575), Some(0x10_FFFF));
-    assert_eq!(rt; number_at(&ranges, 1_237_576), None);
-    assert_eq!(rt; ranges.pointer(scalar(0x20AC)?), Some(8236));
-    assert_eq!(rt; ranges.pointer_from(scalar(0x20AC)?, 8237), None);
-    assert_eq!(rt; ranges.last_pointer(scalar(0xE7C7)?), Some(7457));
-    assert_eq!(rt; ranges.pointer(scalar(0x7F)?), None);
-    assert_eq!(rt; ranges.pointer(scalar(0x10_FFFF)?), Some(1_237_575));
+fn code_points_of_ranges_are_looked_up_by_their_own_rule(rt: HostRuntime) -> Result<(), Fail> {
+    let ranges = Index::parse(rt.alloc(), IndexKind::Gb18030Ranges, LEAST_RANGES)?;
+    assert_eq!(rt; ranges.pointer(Scalar::from('\u{20AC}')), Some(8236));
+    assert_eq!(rt; ranges.pointer_from(Scalar::from('\u{20AC}'), 8237), None);
+    assert_eq!(rt; ranges.last_pointer(Scalar::from('\u{E7C7}')), Some(7457));
+    assert_eq!(rt; ranges.pointer(Scalar::from('\u{7F}')), None);
+    assert_eq!(rt; ranges.pointer(Scalar::from('\u{10FFFF}')), Some(1_237_575));
     Ok(())
 }
 

@@ -10,12 +10,10 @@ mod edit;
 mod edited;
 mod entered;
 mod errors;
-#[cfg(test)]
 mod examples;
 mod fault;
 mod fresh;
 mod install;
-#[cfg(test)]
 mod kept_examples;
 mod later;
 mod lengths;
@@ -25,8 +23,6 @@ mod rest;
 mod scalars;
 mod span;
 mod splice;
-#[cfg(test)]
-mod tests;
 mod text;
 mod window;
 

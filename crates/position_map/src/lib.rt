@@ -7,7 +7,6 @@ mod changes;
 mod cuts;
 mod ending;
 mod escapes;
-#[cfg(test)]
 mod examples;
 mod fault;
 mod item_cuts;
@@ -22,7 +21,6 @@ mod on_line;
 mod parts;
 mod places;
 mod plan;
-#[cfg(test)]
 mod plan_examples;
 mod planned_bytes;
 mod point;

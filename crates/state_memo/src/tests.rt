@@ -102,6 +102,19 @@ fn each_family_of_encodings(rt: HostRuntime) -> Result<(), Fail> {
     Ok(())
 }
 
+/// What a piece of the bytes decodes to where the bytes `before` stand in front of it.
+fn outcome_behind(
+    alloc: Global,
+    encoding: Encoding,
+    before: &[u8],
+    bytes: &[u8],
+) -> Result<Outcome, Fail> {
+    let indexes = small_indexes(alloc)?;
+    let decoder = AnyDecoder::new(&indexes, encoding).ok_or(CodecFault::NoIndex)?;
+    let before = Piece::new(alloc, before)?.compute(&decoder, start_of(&decoder), &mut meter())?;
+    Ok(Piece::new(alloc, bytes)?.compute(&decoder, before.exit, &mut meter())?)
+}
+
 /// A piece that is entered behind the first two bytes of itself has one run, whose last item this is.
 fn has_one_run(
     rt: &impl Abort,
@@ -110,11 +123,8 @@ fn has_one_run(
     bytes: &[u8],
     last: Ended,
 ) -> Result<(), Fail> {
-    let indexes = small_indexes(alloc)?;
-    let decoder = AnyDecoder::new(&indexes, encoding).ok_or(CodecFault::NoIndex)?;
     let (front, _) = bytes.split_at(bytes.len().min(2));
-    let before = Piece::new(alloc, front)?.compute(&decoder, start_of(&decoder), &mut meter())?;
-    let piece = Piece::new(alloc, bytes)?.compute(&decoder, before.exit, &mut meter())?;
+    let piece = outcome_behind(alloc, encoding, front, bytes)?;
     assert_eq!(rt; piece.items.runs().len(), 1);
     assert_eq!(rt; piece.items.last(), Some(last));
     assert_eq!(rt; piece.items.get(piece.sum.scalars), None);
@@ -157,11 +167,8 @@ fn has_ends(
     ends: &[i64],
     runs: usize,
 ) -> Result<(), Fail> {
-    let indexes = small_indexes(alloc)?;
-    let decoder = AnyDecoder::new(&indexes, encoding).ok_or(CodecFault::NoIndex)?;
     let (front, _) = bytes.split_at(bytes.len().min(2));
-    let before = Piece::new(alloc, front)?.compute(&decoder, start_of(&decoder), &mut meter())?;
-    let here = Piece::new(alloc, bytes)?.compute(&decoder, before.exit, &mut meter())?;
+    let here = outcome_behind(alloc, encoding, front, bytes)?;
     for (k, end) in ends.iter().enumerate() {
         let item = Ended {
             scalars: 1,
@@ -206,11 +213,7 @@ fn stretches_of_one_width_are_runs(rt: HostRuntime) -> Result<(), Fail> {
 
 #[test]
 fn items_of_two_code_points(rt: HostRuntime) -> Result<(), Fail> {
-    let alloc = rt.alloc();
-    let indexes = small_indexes(alloc)?;
-    let decoder = AnyDecoder::new(&indexes, Encoding::Big5).ok_or(CodecFault::NoIndex)?;
-    let piece = Piece::new(alloc, b"\x88\x62A")?;
-    let here = piece.compute(&decoder, start_of(&decoder), &mut meter())?;
+    let here = outcome_behind(rt.alloc(), Encoding::Big5, b"", b"\x88\x62A")?;
     let before: [(i64, u64); 4] = [(1, 0), (2, 2), (3, 3), (-1, 0)];
     for (limit, scalars) in before.iter() {
         assert_eq!(&rt; here.scalars_before(*limit), *scalars);
@@ -224,11 +227,7 @@ fn items_of_two_code_points(rt: HostRuntime) -> Result<(), Fail> {
 
 #[test]
 fn output_state_behind_an_escape(rt: HostRuntime) -> Result<(), Fail> {
-    let alloc = rt.alloc();
-    let indexes = small_indexes(alloc)?;
-    let decoder = AnyDecoder::new(&indexes, Encoding::Iso2022Jp).ok_or(CodecFault::NoIndex)?;
-    let piece = Piece::new(alloc, b"\x1B(J\\")?;
-    let here = piece.compute(&decoder, start_of(&decoder), &mut meter())?;
+    let here = outcome_behind(rt.alloc(), Encoding::Iso2022Jp, b"", b"\x1B(J\\")?;
     let yen = Ended {
         scalars: 1,
         end: 4,
