@@ -1,3 +1,4 @@
+use Rattle.std.proofs.lemmas.Grind.{common_steps}
 use Rattle.std.proofs.Common.{rules, ◌+◌, ◌++◌, length, refl, arith}
 use Rattle.sum_tree.proofs.Reaching.{reach_front, reach_back, sought_front, sought_back, element_leaf, element_front, element_back}
 use Rattle.sum_tree.proofs.node.Child.+find.Goals as goal
@@ -86,3 +87,33 @@ returns-else-target-of-3-clause-found g t c =
     let laws = g.met.S.Summary.laws in
     let behind = element_back laws g.T.Summed.sum_of _ _ _ (c.in-Three.b.now.items ++ c.in-Three.c.now.items) c.in-Three.b.now.items c.in-Three.c.now.items _ (length c.in-Three.b.now.items + c.find-k-else-target-of-3.result.0) _ _ _ refl c.behind-second.ensures refl c.find-k-else-target-of-3.ensures.found in
     element_back laws g.T.Summed.sum_of _ _ _ _ _ _ _ _ _ _ _ c.in-Three.ensures.parts.items c.behind-first.ensures (omega arith) behind
+
+pub overflow_add-result : goal.overflow_add-result
+overflow_add-result g t c = grind (arith, common_steps)
+
+pub returns-then-target-of-2-clause-visited : goal.returns-then-target-of-2-clause-visited
+returns-then-target-of-2-clause-visited g t c = grind (arith, common_steps)
+
+pub overflow_add-result-then-target-of-3 : goal.overflow_add-result-then-target-of-3
+overflow_add-result-then-target-of-3 g t c = grind (arith, common_steps)
+
+pub overflow_add-result-else-target-of-3 : goal.overflow_add-result-else-target-of-3
+overflow_add-result-else-target-of-3 g t c = grind (arith, common_steps)
+
+pub overflow_add-result-else-target-of-3-2 : goal.overflow_add-result-else-target-of-3-2
+overflow_add-result-else-target-of-3-2 g t c = grind (arith, common_steps)
+
+pub returns-in-Leaf-clause-visited : goal.returns-in-Leaf-clause-visited
+returns-in-Leaf-clause-visited g t c = grind (arith, common_steps)
+
+pub returns-then-target-of-clause-visited : goal.returns-then-target-of-clause-visited
+returns-then-target-of-clause-visited g t c = grind (arith, common_steps)
+
+pub returns-else-target-of-clause-visited : goal.returns-else-target-of-clause-visited
+returns-else-target-of-clause-visited g t c = grind (arith, common_steps)
+
+pub returns-then-target-of-3-clause-visited : goal.returns-then-target-of-3-clause-visited
+returns-then-target-of-3-clause-visited g t c = grind (arith, common_steps)
+
+pub returns-else-target-of-3-clause-visited : goal.returns-else-target-of-3-clause-visited
+returns-else-target-of-3-clause-visited g t c = grind (arith, common_steps)

@@ -1,3 +1,4 @@
+use Rattle.std.proofs.lemmas.Grind.{common_steps}
 use Rattle.std.proofs.Common.{rules, ◌-◌, ◌++◌, refl, sym, ap, ◌∙◌, arith}
 use Rattle.std.specs.List.{insert}
 use Rattle.sum_tree.proofs.Edits.{inserts, edit_front, edit_back, edit_middle, edit_last, insert_first, insert_second}
@@ -81,3 +82,129 @@ pub returns-else-j-count-clause-items : goal.returns-else-j-count-clause-items
 returns-else-j-count-clause-items g t c =
     let cut = edit_last (inserts c.args.item) c.args.self.items c.in-Three.a.items c.in-Three.b.items c.in-Three.c.items c.args.i (c.args.i - c.count-in-Three-2.result) (c.args.i - c.count-in-Three-2.result - c.count-else-j-count.result) c.in-Three.ensures.opened.items (omega arith) (omega arith) in
     c.grown_back.ensures.items ∙ ap (λ l. c.in-Three.a.items ++ (c.in-Three.b.items ++ l)) c.insert-back-else-j-count.ensures.items ∙ sym cut
+
+pub take_last-other-requires : goal.take_last-other-requires
+take_last-other-requires g t c = grind (arith, common_steps)
+
+pub beside_right-requires-clause-shape : goal.beside_right-requires-clause-shape
+beside_right-requires-clause-shape g t c = grind (arith, common_steps)
+
+pub beside_right-requires-clause-sound : goal.beside_right-requires-clause-sound
+beside_right-requires-clause-sound g t c = grind (arith, common_steps)
+
+pub beside_right-requires-clause-summable : goal.beside_right-requires-clause-summable
+beside_right-requires-clause-summable g t c = grind (arith, common_steps)
+
+pub overflow_sub-j : goal.overflow_sub-j
+overflow_sub-j g t c = grind (arith, common_steps)
+
+pub beside_left-requires-clause-shape : goal.beside_left-requires-clause-shape
+beside_left-requires-clause-shape g t c = grind (arith, common_steps)
+
+pub beside_left-requires-clause-sound : goal.beside_left-requires-clause-sound
+beside_left-requires-clause-sound g t c = grind (arith, common_steps)
+
+pub grown_front-requires-clause-shape : goal.grown_front-requires-clause-shape
+grown_front-requires-clause-shape g t c = grind (arith, common_steps)
+
+pub grown_front-requires-clause-pair : goal.grown_front-requires-clause-pair
+grown_front-requires-clause-pair g t c = grind (arith, common_steps)
+
+pub grown_front-requires-clause-summable : goal.grown_front-requires-clause-summable
+grown_front-requires-clause-summable g t c = grind (arith, common_steps)
+
+pub grown_front-requires-clause-room : goal.grown_front-requires-clause-room
+grown_front-requires-clause-room g t c = grind (arith, common_steps)
+
+pub returns-then-i-count-2-clause-items : goal.returns-then-i-count-2-clause-items
+returns-then-i-count-2-clause-items g t c = grind (arith, common_steps)
+
+pub returns-then-i-count-2-clause-shape : goal.returns-then-i-count-2-clause-shape
+returns-then-i-count-2-clause-shape g t c = grind (arith, common_steps)
+
+pub returns-then-i-count-2-clause-boxes : goal.returns-then-i-count-2-clause-boxes
+returns-then-i-count-2-clause-boxes g t c = grind (arith, common_steps)
+
+pub returns-then-i-count-2-clause-capacity : goal.returns-then-i-count-2-clause-capacity
+returns-then-i-count-2-clause-capacity g t c = grind (arith, common_steps)
+
+pub overflow_sub-j-in-Three : goal.overflow_sub-j-in-Three
+overflow_sub-j-in-Three g t c = grind (arith, common_steps)
+
+pub grown_middle-requires-clause-shape : goal.grown_middle-requires-clause-shape
+grown_middle-requires-clause-shape g t c = grind (arith, common_steps)
+
+pub grown_middle-requires-clause-pair : goal.grown_middle-requires-clause-pair
+grown_middle-requires-clause-pair g t c = grind (arith, common_steps)
+
+pub grown_middle-requires-clause-room : goal.grown_middle-requires-clause-room
+grown_middle-requires-clause-room g t c = grind (arith, common_steps)
+
+pub overflow_sub-k : goal.overflow_sub-k
+overflow_sub-k g t c = grind (arith, common_steps)
+
+pub grown_back-requires-clause-shape : goal.grown_back-requires-clause-shape
+grown_back-requires-clause-shape g t c = grind (arith, common_steps)
+
+pub grown_back-requires-clause-pair : goal.grown_back-requires-clause-pair
+grown_back-requires-clause-pair g t c = grind (arith, common_steps)
+
+pub grown_back-requires-clause-room : goal.grown_back-requires-clause-room
+grown_back-requires-clause-room g t c = grind (arith, common_steps)
+
+pub returns-then-i-eq0-clause-shape : goal.returns-then-i-eq0-clause-shape
+returns-then-i-eq0-clause-shape g t c = grind (arith, common_steps)
+
+pub returns-then-i-eq0-clause-boxes : goal.returns-then-i-eq0-clause-boxes
+returns-then-i-eq0-clause-boxes g t c = grind (arith, common_steps)
+
+pub returns-then-i-eq0-clause-capacity : goal.returns-then-i-eq0-clause-capacity
+returns-then-i-eq0-clause-capacity g t c = grind (arith, common_steps)
+
+pub returns-else-i-eq0-clause-shape : goal.returns-else-i-eq0-clause-shape
+returns-else-i-eq0-clause-shape g t c = grind (arith, common_steps)
+
+pub returns-else-i-eq0-clause-boxes : goal.returns-else-i-eq0-clause-boxes
+returns-else-i-eq0-clause-boxes g t c = grind (arith, common_steps)
+
+pub returns-else-i-eq0-clause-capacity : goal.returns-else-i-eq0-clause-capacity
+returns-else-i-eq0-clause-capacity g t c = grind (arith, common_steps)
+
+pub returns-then-i-count-clause-items : goal.returns-then-i-count-clause-items
+returns-then-i-count-clause-items g t c = grind (arith, common_steps)
+
+pub returns-then-i-count-clause-shape : goal.returns-then-i-count-clause-shape
+returns-then-i-count-clause-shape g t c = grind (arith, common_steps)
+
+pub returns-then-i-count-clause-boxes : goal.returns-then-i-count-clause-boxes
+returns-then-i-count-clause-boxes g t c = grind (arith, common_steps)
+
+pub returns-then-i-count-clause-capacity : goal.returns-then-i-count-clause-capacity
+returns-then-i-count-clause-capacity g t c = grind (arith, common_steps)
+
+pub returns-else-i-count-clause-shape : goal.returns-else-i-count-clause-shape
+returns-else-i-count-clause-shape g t c = grind (arith, common_steps)
+
+pub returns-else-i-count-clause-boxes : goal.returns-else-i-count-clause-boxes
+returns-else-i-count-clause-boxes g t c = grind (arith, common_steps)
+
+pub returns-else-i-count-clause-capacity : goal.returns-else-i-count-clause-capacity
+returns-else-i-count-clause-capacity g t c = grind (arith, common_steps)
+
+pub returns-then-j-count-clause-shape : goal.returns-then-j-count-clause-shape
+returns-then-j-count-clause-shape g t c = grind (arith, common_steps)
+
+pub returns-then-j-count-clause-boxes : goal.returns-then-j-count-clause-boxes
+returns-then-j-count-clause-boxes g t c = grind (arith, common_steps)
+
+pub returns-then-j-count-clause-capacity : goal.returns-then-j-count-clause-capacity
+returns-then-j-count-clause-capacity g t c = grind (arith, common_steps)
+
+pub returns-else-j-count-clause-shape : goal.returns-else-j-count-clause-shape
+returns-else-j-count-clause-shape g t c = grind (arith, common_steps)
+
+pub returns-else-j-count-clause-boxes : goal.returns-else-j-count-clause-boxes
+returns-else-j-count-clause-boxes g t c = grind (arith, common_steps)
+
+pub returns-else-j-count-clause-capacity : goal.returns-else-j-count-clause-capacity
+returns-else-j-count-clause-capacity g t c = grind (arith, common_steps)

@@ -1,3 +1,4 @@
+use Rattle.std.proofs.lemmas.Grind.{common_steps}
 use Rattle.std.proofs.Common.{rules, ◌-◌, ◌++◌, refl, arith}
 use Rattle.sum_tree.proofs.Reaching.{reach_front, reach_back, prefix_leaf, prefix_front, prefix_back}
 use Rattle.sum_tree.proofs.node.Child.+prefix.Goals as goal
@@ -72,3 +73,30 @@ returns-else-j-count-clause-prefix g t c =
     let laws = g.met.S.Summary.laws in
     let behind = prefix_back laws g.T.Summed.sum_of _ (c.in-Three.b.now.items ++ c.in-Three.c.now.items) c.in-Three.b.now.items c.in-Three.c.now.items _ (c.args.i - c.count-in-Three-3.result) _ _ refl c.behind-else-j-count.ensures (omega arith) c.prefix-else-j-count.ensures.prefix in
     prefix_back laws g.T.Summed.sum_of _ _ _ _ _ _ _ _ c.in-Three.ensures.parts.items c.behind-behind.ensures (omega arith) behind
+
+pub overflow_sub-i : goal.overflow_sub-i
+overflow_sub-i g t c = grind (arith, common_steps)
+
+pub returns-then-i-count-2-clause-visited : goal.returns-then-i-count-2-clause-visited
+returns-then-i-count-2-clause-visited g t c = grind (arith, common_steps)
+
+pub overflow_sub-j : goal.overflow_sub-j
+overflow_sub-j g t c = grind (arith, common_steps)
+
+pub overflow_sub-j-else-j-count : goal.overflow_sub-j-else-j-count
+overflow_sub-j-else-j-count g t c = grind (arith, common_steps)
+
+pub returns-in-Leaf-clause-visited : goal.returns-in-Leaf-clause-visited
+returns-in-Leaf-clause-visited g t c = grind (arith, common_steps)
+
+pub returns-then-i-count-clause-visited : goal.returns-then-i-count-clause-visited
+returns-then-i-count-clause-visited g t c = grind (arith, common_steps)
+
+pub returns-else-i-count-clause-visited : goal.returns-else-i-count-clause-visited
+returns-else-i-count-clause-visited g t c = grind (arith, common_steps)
+
+pub returns-then-j-count-clause-visited : goal.returns-then-j-count-clause-visited
+returns-then-j-count-clause-visited g t c = grind (arith, common_steps)
+
+pub returns-else-j-count-clause-visited : goal.returns-else-j-count-clause-visited
+returns-else-j-count-clause-visited g t c = grind (arith, common_steps)

@@ -1,3 +1,4 @@
+use Rattle.std.proofs.lemmas.Grind.{common_steps}
 use Rattle.std.proofs.Common.{rules, ◌-◌, ◌++◌, append_assoc, refl, sym, ap, ◌∙◌, arith}
 use Rattle.std.specs.Prelude.{slice_get}
 use Rattle.std.specs.List.{remove}
@@ -132,3 +133,135 @@ returns-else-j-count-clause-items g t c =
 pub returns-else-j-count-clause-element : goal.returns-else-j-count-clause-element
 returns-else-j-count-clause-element g t c =
     ap (λ l. slice_get l c.args.i) c.in-Three.ensures.opened.items ∙ get_back c.in-Three.a.items (c.in-Three.b.items ++ c.in-Three.c.items) c.args.i (c.args.i - c.count-in-Three-2.result) (omega arith) ∙ get_back c.in-Three.b.items c.in-Three.c.items (c.args.i - c.count-in-Three-2.result) (c.args.i - c.count-in-Three-2.result - c.count-else-j-count.result) (omega arith) ∙ c.remove-x-else-j-count.ensures.element
+
+pub push_reserved-requires : goal.push_reserved-requires
+push_reserved-requires g t c = grind (arith, common_steps)
+
+pub taken_right-children-requires-clause-shape : goal.taken_right-children-requires-clause-shape
+taken_right-children-requires-clause-shape g t c = grind (arith, common_steps)
+
+pub taken_right-children-requires-clause-sound : goal.taken_right-children-requires-clause-sound
+taken_right-children-requires-clause-sound g t c = grind (arith, common_steps)
+
+pub settled-requires-clause-shape : goal.settled-requires-clause-shape
+settled-requires-clause-shape g t c = grind (arith, common_steps)
+
+pub settled-requires-clause-space : goal.settled-requires-clause-space
+settled-requires-clause-space g t c = grind (arith, common_steps)
+
+pub overflow_sub-j : goal.overflow_sub-j
+overflow_sub-j g t c = grind (arith, common_steps)
+
+pub taken_left-children-requires-clause-shape : goal.taken_left-children-requires-clause-shape
+taken_left-children-requires-clause-shape g t c = grind (arith, common_steps)
+
+pub taken_left-children-requires-clause-sound : goal.taken_left-children-requires-clause-sound
+taken_left-children-requires-clause-sound g t c = grind (arith, common_steps)
+
+pub settled-requires-else-i-count-clause-shape : goal.settled-requires-else-i-count-clause-shape
+settled-requires-else-i-count-clause-shape g t c = grind (arith, common_steps)
+
+pub settled-requires-else-i-count-clause-space : goal.settled-requires-else-i-count-clause-space
+settled-requires-else-i-count-clause-space g t c = grind (arith, common_steps)
+
+pub taken_right-children-requires-then-i-count-2-clause-shape : goal.taken_right-children-requires-then-i-count-2-clause-shape
+taken_right-children-requires-then-i-count-2-clause-shape g t c = grind (arith, common_steps)
+
+pub taken_right-children-requires-then-i-count-2-clause-sound : goal.taken_right-children-requires-then-i-count-2-clause-sound
+taken_right-children-requires-then-i-count-2-clause-sound g t c = grind (arith, common_steps)
+
+pub beside_right-requires-clause-shape : goal.beside_right-requires-clause-shape
+beside_right-requires-clause-shape g t c = grind (arith, common_steps)
+
+pub beside_right-requires-clause-sound : goal.beside_right-requires-clause-sound
+beside_right-requires-clause-sound g t c = grind (arith, common_steps)
+
+pub returns-then-i-count-2-clause-shape : goal.returns-then-i-count-2-clause-shape
+returns-then-i-count-2-clause-shape g t c = grind (arith, common_steps)
+
+pub returns-then-i-count-2-clause-boxes : goal.returns-then-i-count-2-clause-boxes
+returns-then-i-count-2-clause-boxes g t c = grind (arith, common_steps)
+
+pub returns-then-i-count-2-clause-capacity : goal.returns-then-i-count-2-clause-capacity
+returns-then-i-count-2-clause-capacity g t c = grind (arith, common_steps)
+
+pub overflow_sub-j-in-Three : goal.overflow_sub-j-in-Three
+overflow_sub-j-in-Three g t c = grind (arith, common_steps)
+
+pub taken_left-children-requires-then-j-count-clause-shape : goal.taken_left-children-requires-then-j-count-clause-shape
+taken_left-children-requires-then-j-count-clause-shape g t c = grind (arith, common_steps)
+
+pub taken_left-children-requires-then-j-count-clause-sound : goal.taken_left-children-requires-then-j-count-clause-sound
+taken_left-children-requires-then-j-count-clause-sound g t c = grind (arith, common_steps)
+
+pub beside_right-requires-then-j-count-clause-shape : goal.beside_right-requires-then-j-count-clause-shape
+beside_right-requires-then-j-count-clause-shape g t c = grind (arith, common_steps)
+
+pub beside_right-requires-then-j-count-clause-sound : goal.beside_right-requires-then-j-count-clause-sound
+beside_right-requires-then-j-count-clause-sound g t c = grind (arith, common_steps)
+
+pub overflow_sub-k : goal.overflow_sub-k
+overflow_sub-k g t c = grind (arith, common_steps)
+
+pub taken_left-children-requires-else-j-count-clause-shape : goal.taken_left-children-requires-else-j-count-clause-shape
+taken_left-children-requires-else-j-count-clause-shape g t c = grind (arith, common_steps)
+
+pub taken_left-children-requires-else-j-count-clause-sound : goal.taken_left-children-requires-else-j-count-clause-sound
+taken_left-children-requires-else-j-count-clause-sound g t c = grind (arith, common_steps)
+
+pub beside_left-requires-clause-shape : goal.beside_left-requires-clause-shape
+beside_left-requires-clause-shape g t c = grind (arith, common_steps)
+
+pub beside_left-requires-clause-sound : goal.beside_left-requires-clause-sound
+beside_left-requires-clause-sound g t c = grind (arith, common_steps)
+
+pub returns-in-Leaf-clause-element : goal.returns-in-Leaf-clause-element
+returns-in-Leaf-clause-element g t c = grind (arith, common_steps)
+
+pub returns-in-Leaf-clause-items : goal.returns-in-Leaf-clause-items
+returns-in-Leaf-clause-items g t c = grind (arith, common_steps)
+
+pub returns-in-Leaf-clause-shape : goal.returns-in-Leaf-clause-shape
+returns-in-Leaf-clause-shape g t c = grind (arith, common_steps)
+
+pub returns-in-Leaf-clause-boxes : goal.returns-in-Leaf-clause-boxes
+returns-in-Leaf-clause-boxes g t c = grind (arith, common_steps)
+
+pub returns-in-Leaf-clause-capacity : goal.returns-in-Leaf-clause-capacity
+returns-in-Leaf-clause-capacity g t c = grind (arith, common_steps)
+
+pub returns-then-i-count-clause-shape : goal.returns-then-i-count-clause-shape
+returns-then-i-count-clause-shape g t c = grind (arith, common_steps)
+
+pub returns-then-i-count-clause-boxes : goal.returns-then-i-count-clause-boxes
+returns-then-i-count-clause-boxes g t c = grind (arith, common_steps)
+
+pub returns-then-i-count-clause-capacity : goal.returns-then-i-count-clause-capacity
+returns-then-i-count-clause-capacity g t c = grind (arith, common_steps)
+
+pub returns-else-i-count-clause-shape : goal.returns-else-i-count-clause-shape
+returns-else-i-count-clause-shape g t c = grind (arith, common_steps)
+
+pub returns-else-i-count-clause-boxes : goal.returns-else-i-count-clause-boxes
+returns-else-i-count-clause-boxes g t c = grind (arith, common_steps)
+
+pub returns-else-i-count-clause-capacity : goal.returns-else-i-count-clause-capacity
+returns-else-i-count-clause-capacity g t c = grind (arith, common_steps)
+
+pub returns-then-j-count-clause-shape : goal.returns-then-j-count-clause-shape
+returns-then-j-count-clause-shape g t c = grind (arith, common_steps)
+
+pub returns-then-j-count-clause-boxes : goal.returns-then-j-count-clause-boxes
+returns-then-j-count-clause-boxes g t c = grind (arith, common_steps)
+
+pub returns-then-j-count-clause-capacity : goal.returns-then-j-count-clause-capacity
+returns-then-j-count-clause-capacity g t c = grind (arith, common_steps)
+
+pub returns-else-j-count-clause-shape : goal.returns-else-j-count-clause-shape
+returns-else-j-count-clause-shape g t c = grind (arith, common_steps)
+
+pub returns-else-j-count-clause-boxes : goal.returns-else-j-count-clause-boxes
+returns-else-j-count-clause-boxes g t c = grind (arith, common_steps)
+
+pub returns-else-j-count-clause-capacity : goal.returns-else-j-count-clause-capacity
+returns-else-j-count-clause-capacity g t c = grind (arith, common_steps)

@@ -1,3 +1,4 @@
+use Rattle.std.proofs.lemmas.Grind.{common_steps}
 use Rattle.std.proofs.Common.{rules, ◌-◌, ◌++◌, refl, sym, ap, ◌∙◌, arith, slice_set}
 use Rattle.std.specs.Prelude.{slice_get}
 use Rattle.sum_tree.proofs.Edits.{replaces, edit_front, edit_back, edit_middle, edit_last, get_front, get_back}
@@ -105,3 +106,93 @@ returns-else-j-count-clause-items g t c =
 pub returns-else-j-count-clause-element : goal.returns-else-j-count-clause-element
 returns-else-j-count-clause-element g t c =
     ap (λ l. slice_get l c.args.i) c.in-Three.ensures.opened.items ∙ get_back c.in-Three.a.items (c.in-Three.b.items ++ c.in-Three.c.items) c.args.i (c.args.i - c.count-in-Three-2.result) (omega arith) ∙ get_back c.in-Three.b.items c.in-Three.c.items (c.args.i - c.count-in-Three-2.result) (c.args.i - c.count-in-Three-2.result - c.count-else-j-count.result) (omega arith) ∙ c.replace-x-else-j-count.ensures.element
+
+pub close-requires-clause-level : goal.close-requires-clause-level
+close-requires-clause-level g t c = grind (arith, common_steps)
+
+pub close-requires-clause-summable : goal.close-requires-clause-summable
+close-requires-clause-summable g t c = grind (arith, common_steps)
+
+pub close-requires-then-i-count-clause-level : goal.close-requires-then-i-count-clause-level
+close-requires-then-i-count-clause-level g t c = grind (arith, common_steps)
+
+pub overflow_sub-j : goal.overflow_sub-j
+overflow_sub-j g t c = grind (arith, common_steps)
+
+pub close-requires-else-i-count-clause-level : goal.close-requires-else-i-count-clause-level
+close-requires-else-i-count-clause-level g t c = grind (arith, common_steps)
+
+pub close-requires-then-i-count-2-clause-level : goal.close-requires-then-i-count-2-clause-level
+close-requires-then-i-count-2-clause-level g t c = grind (arith, common_steps)
+
+pub returns-then-i-count-2-clause-height : goal.returns-then-i-count-2-clause-height
+returns-then-i-count-2-clause-height g t c = grind (arith, common_steps)
+
+pub returns-then-i-count-2-clause-nodes : goal.returns-then-i-count-2-clause-nodes
+returns-then-i-count-2-clause-nodes g t c = grind (arith, common_steps)
+
+pub returns-then-i-count-2-clause-sound : goal.returns-then-i-count-2-clause-sound
+returns-then-i-count-2-clause-sound g t c = grind (arith, common_steps)
+
+pub overflow_sub-j-in-Three : goal.overflow_sub-j-in-Three
+overflow_sub-j-in-Three g t c = grind (arith, common_steps)
+
+pub close-requires-then-j-count-clause-level : goal.close-requires-then-j-count-clause-level
+close-requires-then-j-count-clause-level g t c = grind (arith, common_steps)
+
+pub overflow_sub-k : goal.overflow_sub-k
+overflow_sub-k g t c = grind (arith, common_steps)
+
+pub close-requires-else-j-count-clause-level : goal.close-requires-else-j-count-clause-level
+close-requires-else-j-count-clause-level g t c = grind (arith, common_steps)
+
+pub returns-in-Leaf-clause-element : goal.returns-in-Leaf-clause-element
+returns-in-Leaf-clause-element g t c = grind (arith, common_steps)
+
+pub returns-in-Leaf-clause-items : goal.returns-in-Leaf-clause-items
+returns-in-Leaf-clause-items g t c = grind (arith, common_steps)
+
+pub returns-in-Leaf-clause-height : goal.returns-in-Leaf-clause-height
+returns-in-Leaf-clause-height g t c = grind (arith, common_steps)
+
+pub returns-in-Leaf-clause-nodes : goal.returns-in-Leaf-clause-nodes
+returns-in-Leaf-clause-nodes g t c = grind (arith, common_steps)
+
+pub returns-in-Leaf-clause-sound : goal.returns-in-Leaf-clause-sound
+returns-in-Leaf-clause-sound g t c = grind (arith, common_steps)
+
+pub returns-then-i-count-clause-height : goal.returns-then-i-count-clause-height
+returns-then-i-count-clause-height g t c = grind (arith, common_steps)
+
+pub returns-then-i-count-clause-nodes : goal.returns-then-i-count-clause-nodes
+returns-then-i-count-clause-nodes g t c = grind (arith, common_steps)
+
+pub returns-then-i-count-clause-sound : goal.returns-then-i-count-clause-sound
+returns-then-i-count-clause-sound g t c = grind (arith, common_steps)
+
+pub returns-else-i-count-clause-height : goal.returns-else-i-count-clause-height
+returns-else-i-count-clause-height g t c = grind (arith, common_steps)
+
+pub returns-else-i-count-clause-nodes : goal.returns-else-i-count-clause-nodes
+returns-else-i-count-clause-nodes g t c = grind (arith, common_steps)
+
+pub returns-else-i-count-clause-sound : goal.returns-else-i-count-clause-sound
+returns-else-i-count-clause-sound g t c = grind (arith, common_steps)
+
+pub returns-then-j-count-clause-height : goal.returns-then-j-count-clause-height
+returns-then-j-count-clause-height g t c = grind (arith, common_steps)
+
+pub returns-then-j-count-clause-nodes : goal.returns-then-j-count-clause-nodes
+returns-then-j-count-clause-nodes g t c = grind (arith, common_steps)
+
+pub returns-then-j-count-clause-sound : goal.returns-then-j-count-clause-sound
+returns-then-j-count-clause-sound g t c = grind (arith, common_steps)
+
+pub returns-else-j-count-clause-height : goal.returns-else-j-count-clause-height
+returns-else-j-count-clause-height g t c = grind (arith, common_steps)
+
+pub returns-else-j-count-clause-nodes : goal.returns-else-j-count-clause-nodes
+returns-else-j-count-clause-nodes g t c = grind (arith, common_steps)
+
+pub returns-else-j-count-clause-sound : goal.returns-else-j-count-clause-sound
+returns-else-j-count-clause-sound g t c = grind (arith, common_steps)

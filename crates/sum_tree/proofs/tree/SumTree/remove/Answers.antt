@@ -1,3 +1,4 @@
+use Rattle.std.proofs.lemmas.Grind.{common_steps}
 use Rattle.std.proofs.Common.{length, sym, ap, ◌∙◌, arith}
 use Rattle.std.specs.List.{remove}
 use Rattle.std.proofs.lemmas.List.Edits.{length-remove}
@@ -18,3 +19,21 @@ removed-item-requires-clause-summable g c =
       fit = whole_fits g.S.Summary.fits g.S.Summary.empty g.S.Summary.op g.T.Summed.sum_of (remove items c.args.i) c.requires.fit;
       short = omega arith;
     })
+
+pub removed-item-requires-clause-place : goal.removed-item-requires-clause-place
+removed-item-requires-clause-place g c = grind (arith, common_steps)
+
+pub removed-item-requires-clause-space : goal.removed-item-requires-clause-space
+removed-item-requires-clause-space g c = grind (arith, common_steps)
+
+pub overflow_add-self : goal.overflow_add-self
+overflow_add-self g c = grind (arith, common_steps)
+
+pub returns-clause-element : goal.returns-clause-element
+returns-clause-element g c = grind (arith, common_steps)
+
+pub returns-clause-items : goal.returns-clause-items
+returns-clause-items g c = grind (arith, common_steps)
+
+pub returns-clause-spare : goal.returns-clause-spare
+returns-clause-spare g c = grind (arith, common_steps)
