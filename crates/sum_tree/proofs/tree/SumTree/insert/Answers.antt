@@ -1,3 +1,4 @@
+use Rattle.std.proofs.lemmas.Grind.{common_steps}
 use Rattle.std.proofs.Common.{length, sym, ap, ◌∙◌, arith}
 use Rattle.std.specs.List.{insert}
 use Rattle.std.proofs.lemmas.List.Edits.{length-insert}
@@ -18,3 +19,24 @@ inserted-root-requires-clause-summable g c =
       fit = whole_fits g.S.Summary.fits g.S.Summary.empty g.S.Summary.op g.T.Summed.sum_of (insert items c.args.i c.args.item) c.requires.fit;
       short = omega arith;
     })
+
+pub inserted-root-requires-clause-sound : goal.inserted-root-requires-clause-sound
+inserted-root-requires-clause-sound g c = grind (arith, common_steps)
+
+pub inserted-root-requires-clause-place : goal.inserted-root-requires-clause-place
+inserted-root-requires-clause-place g c = grind (arith, common_steps)
+
+pub inserted-root-requires-clause-room : goal.inserted-root-requires-clause-room
+inserted-root-requires-clause-room g c = grind (arith, common_steps)
+
+pub overflow_sub-self : goal.overflow_sub-self
+overflow_sub-self g c = grind (arith, common_steps)
+
+pub invariant_of-self : goal.invariant_of-self
+invariant_of-self g c = grind (arith, common_steps)
+
+pub returns-clause-items : goal.returns-clause-items
+returns-clause-items g c = grind (arith, common_steps)
+
+pub returns-clause-spare : goal.returns-clause-spare
+returns-clause-spare g c = grind (arith, common_steps)

@@ -2,7 +2,7 @@ use Rattle.std.proofs.lemmas.Grind.{common_steps}
 use Rattle.std.proofs.Common.{length, sym, ap, ◌∙◌, arith}
 use Rattle.std.specs.List.{remove}
 use Rattle.std.proofs.lemmas.List.Edits.{length-remove}
-use Rattle.sum_tree.specs.Listed.{items_in}
+use Rattle.sum_tree.specs.Listed.{items_in, nodes_in}
 use Rattle.sum_tree.proofs.Totals.{summable_as, whole_fits}
 use Rattle.sum_tree.proofs.tree.SumTree.remove.Goals as goal
 
@@ -37,3 +37,23 @@ returns-clause-items g c = grind (arith, common_steps)
 
 pub returns-clause-spare : goal.returns-clause-spare
 returns-clause-spare g c = grind (arith, common_steps)
+
+pub invariant_of-self : goal.invariant_of-self
+invariant_of-self g c =
+    let items = c.args.self.now.items in
+    let seen = ap (λ r. r.items) c.self.view_is in
+    let count = ap length seen in
+    let held = c.self.invariant.summable.short in
+    let edited = length-remove items c.args.i c.requires.place in
+    let left = ap (λ l. remove l c.args.i) (sym seen ∙ ap items_in (sym c.take.ensures.value)) ∙ sym c.removed-item.ensures.items in
+    let fewer = ap length left in
+    let nodes = ap nodes_in c.take.ensures.value in
+    record {
+      sound = c.removed-item.ensures.sound;
+      summable = summable_as g.met.S.Summary.laws g.T.Summed.sum_of (remove items c.args.i) _ left (record {
+        fit = whole_fits g.S.Summary.fits g.S.Summary.empty g.S.Summary.op g.T.Summed.sum_of (remove items c.args.i) c.requires.fit;
+        short = omega arith;
+      });
+      room = omega arith;
+      space = omega arith;
+    }

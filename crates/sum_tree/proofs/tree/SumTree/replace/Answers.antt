@@ -1,3 +1,4 @@
+use Rattle.std.proofs.lemmas.Grind.{common_steps}
 use Rattle.std.proofs.Common.{length, sym, ap, ◌∙◌, arith}
 use Rattle.std.proofs.Common.{slice_set, length-set}
 use Rattle.sum_tree.specs.Listed.{items_in}
@@ -17,3 +18,18 @@ replaced-old-requires-clause-summable g c =
       fit = whole_fits g.S.Summary.fits g.S.Summary.empty g.S.Summary.op g.T.Summed.sum_of (slice_set items c.args.i c.args.item) c.requires.fit;
       short = omega arith;
     })
+
+pub replaced-old-requires-clause-place : goal.replaced-old-requires-clause-place
+replaced-old-requires-clause-place g c = grind (arith, common_steps)
+
+pub invariant_of-self : goal.invariant_of-self
+invariant_of-self g c = grind (arith, common_steps)
+
+pub returns-clause-element : goal.returns-clause-element
+returns-clause-element g c = grind (arith, common_steps)
+
+pub returns-clause-items : goal.returns-clause-items
+returns-clause-items g c = grind (arith, common_steps)
+
+pub returns-clause-spare : goal.returns-clause-spare
+returns-clause-spare g c = grind (arith, common_steps)
