@@ -1,12 +1,13 @@
 -- Where a state's outcome is remembered.
-use Rattle.std.proofs.Common.{◌≡◌, refl, sym, ap, ◌∙◌, ℕ, zero, suc, ◌≤◌, Bool, true, false, List, [], ◌∷◌, length, take, Option, Some, None, slice_get, arith, cond}
+use Rattle.std.proofs.Common.{◌≡◌, refl, sym, ap, ◌∙◌, ℕ, zero, suc, ◌<◌, ◌≤◌, Bool, true, false, List, [], ◌∷◌, length, take, Option, Some, None, get_or, slice_get, option_map, is_some, arith, cond}
 use Rattle.std.specs.List.{remove}
 use Rattle.std.proofs.lemmas.List.{take_all}
 use Rattle.std.proofs.lemmas.List.Edits.{length-remove}
+use Rattle.std.proofs.lemmas.Option.{slice_get_read}
 use Rattle.codec.specs.declared.state.AnyState.{AnyState}
 use Rattle.state_memo.specs.declared.outcome.Outcome.{Outcome}
 use Rattle.state_memo.specs.declared.known.Known.{Known}
-use Rattle.state_memo.specs.Memo.{same_state, recalled, without, IsPlace}
+use Rattle.state_memo.specs.Memo.{same_state, recalled, without, put_first, entered, IsPlace}
 
 pub pick-then : {A : Type 0} (b : Bool) (x y : A) → b ≡ true → cond b x y ≡ x
 pick-then true x y e = refl
@@ -60,3 +61,20 @@ room-absent ks s none = ap (λ (rest : List Known). take 3 rest) (sym (without-a
 pub room-found : (ks : List Known) (s : AnyState) (i : ℕ) → IsPlace ks s i → length ks ≤ 4 → remove ks i ≡ take 3 (without ks s)
 room-found ks s i p few =
     sym (take_all 3 (remove ks i) (omega (arith, length-remove ks i p.within, few))) ∙ ap (λ (rest : List Known). take 3 rest) (sym p.others)
+
+-- what is kept at the place is what is recalled
+pub outcome-at : (ks : List Known) (s : AnyState) (i : ℕ) (k : Known) → IsPlace ks s i → k ≡ get_or ks i k → Some k.outcome ≡ recalled ks s
+outcome-at ks s i k p here =
+    ap (option_map (λ (x : Known). x.outcome)) (sym (slice_get_read ks (length ks) i k refl p.within here)) ∙ sym p.found
+
+pub some-at : (ks : List Known) (s : AnyState) (i : ℕ) (k : Known) → IsPlace ks s i → k ≡ get_or ks i k → true ≡ is_some (recalled ks s)
+some-at ks s i k p here = ap is_some (outcome-at ks s i k p here)
+
+pub entered-at : (ks : List Known) (s : AnyState) (i : ℕ) (k : Known) → IsPlace ks s i → k ≡ get_or ks i k
+    → record { entry = s; outcome = k.outcome } ∷ remove ks i ≡ entered ks s
+entered-at ks s i k p here =
+    ap (λ (rest : List Known). record { entry = s; outcome = k.outcome } ∷ rest) (sym p.others)
+    ∙ ap (λ (o : Option Outcome). put_first o ks s) (outcome-at ks s i k p here)
+
+pub entered-absent : (ks : List Known) (s : AnyState) → recalled ks s ≡ None → ks ≡ entered ks s
+entered-absent ks s none = ap (λ (o : Option Outcome). put_first o ks s) (sym none)
