@@ -4,6 +4,8 @@ ghost use Rattle.decoder_core.specs.Counted.{Counted};
 ghost use Rattle.decoder_core.specs.Queue.{feed};
 ghost use Rattle.decoder_core.specs.Shown.{shown_from};
 ghost use Rattle.codec.specs.Any.{any, any_start};
+ghost use Rattle.codec.specs.declared.state.AnyState.{AnyState};
+ghost use Rattle.state_memo.specs.Among.{IsAmong};
 ghost use Rattle.state_memo.specs.Gathering.{with_shown, no_item};
 ghost use Rattle.state_memo.specs.Outcome.{contents_of, outcome_of, ending_of};
 
@@ -48,22 +50,36 @@ fn compute_any(
     gathering.finish(bytes.len(), exit)
 }
 
-/// Decoding by a decoder from a state of its own.
-macro_rules! compute_by {
-    ($name:ident, $own:expr, $state:expr, $alloc:expr, $decoder:expr, $bytes:expr, $meter:expr) => {{
-        // The items are few, and they are those of the one decoder.
-        few_items($decoder);
-        among($own, $decoder);
-        let (gathering, exit) = gather($alloc, $own, $state, $bytes, $meter)?;
-        gathering.finish($bytes.len(), AnyState::$name(exit))
-    }};
+/// Decoding by a decoder from a state of its own, which is named as a state of the one decoder.
+fn compute_by<S: Outputs + Eq, D: Decoder<State = S>, N: FnOnce(S) -> AnyState>(
+    alloc: Global,
+    decoder: &AnyDecoder<'_>,
+    own: &D,
+    name: N,
+    state: S,
+    bytes: &[u8],
+    meter: &mut Meter,
+) -> Result<Outcome, OutOfMemory>
+    requires callable { N.IsAlwaysCallable name }
+    requires among { (f : S → AnyState) × IsAmong f decoder.now (D.table own.now) S.output_at (N.post name) }
+    ensures outcome { (f : S → AnyState) → IsAmong f decoder.now (D.table own.now) S.output_at (N.post name)
+        → IfOk result (λ o. contents_of o ≡ outcome_of decoder.now (f state) bytes.now) }
+    ensures meter { Counted meter.old meter.new (length bytes.now) result }
+{
+    // The items are few, and they are those of the one decoder.
+    few_items(decoder);
+    among(own, decoder);
+    let (gathering, exit) = gather(alloc, own, state, bytes, meter)?;
+    gathering.finish(bytes.len(), name(exit))
 }
 
 /// Decoding by a decoder where the entry is a state of its own, and else by the one decoder.
 macro_rules! compute_arm {
     ($name:ident, $own:expr, $alloc:expr, $decoder:expr, $entry:expr, $bytes:expr, $meter:expr) => {
         match $entry {
-            AnyState::$name(s) => compute_by!($name, $own, s, $alloc, $decoder, $bytes, $meter),
+            AnyState::$name(s) => {
+                compute_by($alloc, $decoder, $own, AnyState::$name, s, $bytes, $meter)
+            }
             _ => compute_any($alloc, $decoder, $entry, $bytes, $meter),
         }
     };
@@ -105,9 +121,39 @@ pub(crate) fn compute_bytes(
     ensures meter { Counted meter.old meter.new (length bytes.now) result }
 {
     match entry {
-        AnyState::Utf8(s) => compute_by!(Utf8, &Utf8Decoder, s, alloc, decoder, bytes, meter),
-        AnyState::Utf16Be(s) => compute_by!(Utf16Be, &UTF_16BE, s, alloc, decoder, bytes, meter),
-        AnyState::Utf16Le(s) => compute_by!(Utf16Le, &UTF_16LE, s, alloc, decoder, bytes, meter),
+        AnyState::Utf8(s) => {
+            compute_by(
+                alloc,
+                decoder,
+                &Utf8Decoder,
+                AnyState::Utf8,
+                s,
+                bytes,
+                meter,
+            )
+        }
+        AnyState::Utf16Be(s) => {
+            compute_by(
+                alloc,
+                decoder,
+                &UTF_16BE,
+                AnyState::Utf16Be,
+                s,
+                bytes,
+                meter,
+            )
+        }
+        AnyState::Utf16Le(s) => {
+            compute_by(
+                alloc,
+                decoder,
+                &UTF_16LE,
+                AnyState::Utf16Le,
+                s,
+                bytes,
+                meter,
+            )
+        }
         _ => compute_own(alloc, decoder, entry, bytes, meter),
     }
 }

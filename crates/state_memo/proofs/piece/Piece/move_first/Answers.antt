@@ -1,7 +1,7 @@
-use Rattle.std.proofs.Common.{◌≡◌, sym, ap, ◌∙◌, subst, get_or, List, ◌∷◌, ℕ}
+use Rattle.std.proofs.Common.{◌≡◌, ap, ◌∙◌, subst, get_or, List, ◌∷◌, ℕ}
 use Rattle.std.specs.List.{remove}
 use Rattle.state_memo.specs.declared.known.Known.{Known}
-use Rattle.state_memo.specs.Memo.{Memo, entered}
+use Rattle.state_memo.specs.Memo.{Memo}
 use Rattle.state_memo.proofs.Places.{some-at, entered-at, entered-absent}
 use Rattle.state_memo.proofs.piece.Piece.move_first.Goals as goal
 
@@ -17,7 +17,7 @@ returns-in-Some-clause-moved c =
     let k = c.remove-known.result in
     let here : c.self.inside.known.items ≡ c.args.self.now.known = ap (λ (m : Memo). m.known) c.self.view_is in
     let moved = entered-at c.args.self.now.known c.args.state c.in-Some.place k c.in-Some.ensures.found
-        (subst (λ (ks : List Known). k ≡ get_or ks c.in-Some.place k) here c.remove-known.ensures.value) in
+    (subst (λ (ks : List Known). k ≡ get_or ks c.in-Some.place k) here c.remove-known.ensures.value) in
     c.put_first.ensures
     ∙ ap (λ (ks : List Known). record { bytes = c.self.inside.bytes.items; known = record { entry = c.args.state; outcome = k.outcome } ∷ ks })
     (c.remove-known.ensures.items ∙ ap (λ (ks : List Known). remove ks c.in-Some.place) here)
