@@ -1,3 +1,4 @@
+mod Answering
 mod Apart
 mod Begins
 mod Close
