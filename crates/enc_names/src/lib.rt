@@ -2,14 +2,10 @@
 #![tactic(auto)]
 
 mod encoding;
-#[cfg(test)]
-mod examples;
 mod json;
 mod labels;
 mod place;
 mod scalar;
-#[cfg(test)]
-mod tests;
 
 pub use encoding::Encoding;
 pub use json::parse_json;

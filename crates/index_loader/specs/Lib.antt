@@ -1,4 +1,3 @@
-pub mod Examples
 pub mod Families
 pub mod File
 pub mod FileLaws

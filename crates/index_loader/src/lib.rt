@@ -15,8 +15,6 @@ mod plain;
 mod reading;
 mod rows;
 mod table;
-#[cfg(test)]
-mod tests;
 
 pub use fault::{IndexCause, IndexFault};
 pub use files::INDEX_FILES;

@@ -4,14 +4,10 @@
 
 mod bits;
 mod class;
-#[cfg(test)]
-mod examples;
 mod line_ends;
 mod room;
 mod runs;
 mod swap;
-#[cfg(test)]
-mod tests;
 mod widening;
 
 pub use line_ends::{count_line_ends, nth_line_end};

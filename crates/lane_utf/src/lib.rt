@@ -3,15 +3,11 @@
 #![tactic(auto)]
 
 mod counts;
-#[cfg(test)]
-mod examples;
 mod faults;
 mod measure;
 mod places;
 mod select;
 mod surrogates;
-#[cfg(test)]
-mod tests;
 mod to_utf16;
 mod to_utf8;
 mod utf8_length;

@@ -1,11 +1,13 @@
 //! What no clause says: worked rows, and each kernel as it is built beside its plain definition, at
 //! every length up to 257, with what matters at each place, at each of 64 alignments.
 
-use crate::{
+use lane_utf::{
     NeedsRoom, Select, ToUtf8Fault, count_scalars, count_utf16, first_lone_surrogate, nth_scalar,
     nth_utf16, utf8_to_utf16, utf16_to_utf8, valid_run,
 };
 use std::ops::Fn;
+
+mod examples;
 
 const LONGEST: usize = 257;
 

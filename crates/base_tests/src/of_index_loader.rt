@@ -1,13 +1,10 @@
 //! Index files of a few lines: what they hold, their faults, and look-ups in them.
 ghost use Rattle.std.specs.Prelude.{IsTrue};
-ghost use Rattle.index_loader.specs.Examples.{Faults, LookUps, ParsedFiles};
+ghost use Rattle.base_tests.specs.IndexFiles.{Faults, LookUps, ParsedFiles};
 ghost use Rattle.index_loader.specs.Kinds.{has_files_of};
 
-use crate::fault::IndexCause;
-use crate::index::Index;
-use crate::indexes::Indexes;
-use crate::kind::IndexKind;
 use enc_names::{Encoding, Scalar};
+use index_loader::{Index, IndexCause, IndexKind, Indexes};
 use std::alloc::Global;
 use std::test::Fail;
 

@@ -1,7 +1,7 @@
 use Rattle.std.proofs.Common.{refl}
 use Rattle.std.specs.Str.{is_utf8, chars}
 use Rattle.serde_json.proofs.OnLiterals.{serde_json_on_literals}
-use Rattle.enc_names.proofs.examples.label_files_that_are_no_json.Goals as goal
+use Rattle.base_tests.proofs.of_enc_names.examples.label_files_that_are_no_json.Goals as goal
 
 pub returns-clause-unfinished : goal.returns-clause-unfinished
 unfolding is_utf8 chars serde_json_on_literals

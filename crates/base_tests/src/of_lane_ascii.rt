@@ -1,10 +1,12 @@
 //! What no clause says: worked rows, and each kernel as it is built beside its plain definition, at
 //! every length up to 257, with the byte that matters at each place, at each of 64 alignments.
 
-use crate::{
+use lane_ascii::{
     NeedsRoom, ascii_run, count_line_ends, nth_line_end, plain_run_iso, swap_pairs, widen,
 };
 use std::ops::Fn;
+
+mod examples;
 
 const LONGEST: usize = 257;
 

@@ -1,6 +1,9 @@
-use crate::{Encoding, LabelFault, Labels, Scalar};
+//! Names and label files of another shape or none, and scalar values.
+use enc_names::{Encoding, LabelFault, Labels, Scalar};
 use std::alloc::{AllocError, Global};
 use std::test::Fail;
+
+mod examples;
 
 #[test]
 fn each_name_is_a_label_in_any_case(rt: HostRuntime) -> Result<(), Fail> {

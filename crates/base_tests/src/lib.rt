@@ -1,0 +1,12 @@
+//! Tests of the lowest layers, names of encodings, index files and the kernels of lanes, over their
+//! public items. They are in a crate of their own since a crate with tests is proved twice.
+#![tactic(auto)]
+
+#[cfg(test)]
+mod of_enc_names;
+#[cfg(test)]
+mod of_index_loader;
+#[cfg(test)]
+mod of_lane_ascii;
+#[cfg(test)]
+mod of_lane_utf;
