@@ -132,18 +132,48 @@ fn ranges_need_their_ends_and_lie_in_the_first_plane(rt: HostRuntime) {
     );
 }
 
+/// Which pointer of a code point is looked up.
+#[derive(Clone, Copy)]
+enum Wanted {
+    Smallest,
+    SmallestFrom(u32),
+    Greatest,
+}
+
+/// The pointer that is wanted of a code point.
+fn pointer_at(index: &Index, wanted: Wanted, code_point: char) -> Option<u32> {
+    let code_point = Scalar::from(code_point);
+    match wanted {
+        Wanted::Smallest => index.pointer(code_point),
+        Wanted::SmallestFrom(from) => index.pointer_from(code_point, from),
+        Wanted::Greatest => index.last_pointer(code_point),
+    }
+}
+
+/// The first row whose code point has another pointer.
+fn first_other_pointer(index: &Index, rows: &[(Wanted, char, Option<u32>)]) -> Option<usize> {
+    'rows: for (at, (wanted, code_point, expected)) in rows.iter().enumerate() {
+        if pointer_at(index, *wanted, *code_point) != *expected {
+            return Some(at);
+        }
+    }
+    None
+}
+
 #[test]
 fn a_code_point_may_have_several_pointers(rt: HostRuntime) -> Result<(), Fail> {
     let bytes = b"10736\t0x2170\n10800\t0x2170\n8272\t0x2170\n";
     let index = Index::parse(rt.alloc(), IndexKind::Jis0208, bytes)?;
-    let roman_one = Scalar::from('\u{2170}');
-    assert_eq!(rt; index.pointer(roman_one), Some(8272));
-    assert_eq!(rt; index.pointer_from(roman_one, 8272), Some(8272));
-    assert_eq!(rt; index.pointer_from(roman_one, 8836), Some(10736));
-    assert_eq!(rt; index.pointer_from(roman_one, 10801), None);
-    assert_eq!(rt; index.last_pointer(roman_one), Some(10800));
-    assert_eq!(rt; index.pointer(Scalar::from('\u{2171}')), None);
-    assert_eq!(rt; index.last_pointer(Scalar::from('\u{216F}')), None);
+    let rows = [
+        (Wanted::Smallest, '\u{2170}', Some(8272)),
+        (Wanted::SmallestFrom(8272), '\u{2170}', Some(8272)),
+        (Wanted::SmallestFrom(8836), '\u{2170}', Some(10736)),
+        (Wanted::SmallestFrom(10801), '\u{2170}', None),
+        (Wanted::Greatest, '\u{2170}', Some(10800)),
+        (Wanted::Smallest, '\u{2171}', None),
+        (Wanted::Greatest, '\u{216F}', None),
+    ];
+    assert_eq!(rt; first_other_pointer(&index, &rows), None);
     Ok(())
 }
 
@@ -169,11 +199,14 @@ fn pointers_of_ranges_are_looked_up_by_their_own_rule(rt: HostRuntime) -> Result
 #[test]
 fn code_points_of_ranges_are_looked_up_by_their_own_rule(rt: HostRuntime) -> Result<(), Fail> {
     let ranges = Index::parse(rt.alloc(), IndexKind::Gb18030Ranges, LEAST_RANGES)?;
-    assert_eq!(rt; ranges.pointer(Scalar::from('\u{20AC}')), Some(8236));
-    assert_eq!(rt; ranges.pointer_from(Scalar::from('\u{20AC}'), 8237), None);
-    assert_eq!(rt; ranges.last_pointer(Scalar::from('\u{E7C7}')), Some(7457));
-    assert_eq!(rt; ranges.pointer(Scalar::from('\u{7F}')), None);
-    assert_eq!(rt; ranges.pointer(Scalar::from('\u{10FFFF}')), Some(1_237_575));
+    let rows = [
+        (Wanted::Smallest, '\u{20AC}', Some(8236)),
+        (Wanted::SmallestFrom(8237), '\u{20AC}', None),
+        (Wanted::Greatest, '\u{E7C7}', Some(7457)),
+        (Wanted::Smallest, '\u{7F}', None),
+        (Wanted::Smallest, '\u{10FFFF}', Some(1_237_575)),
+    ];
+    assert_eq!(rt; first_other_pointer(&ranges, &rows), None);
     Ok(())
 }
 
