@@ -5,8 +5,6 @@ mod by_any;
 mod changes;
 mod decoder;
 mod decoding;
-#[cfg(test)]
-mod examples;
 mod fault;
 mod gathering;
 mod laws;
@@ -17,8 +15,6 @@ mod prefix;
 mod sniffing;
 mod standing_laws;
 mod state;
-#[cfg(test)]
-mod tests;
 mod text_blocks;
 mod whole;
 

@@ -4,7 +4,6 @@ pub mod ByCases
 pub mod Collected
 pub mod Counted
 pub mod Counts
-pub mod Examples
 pub mod Forms
 pub mod Fronts
 pub mod Holding

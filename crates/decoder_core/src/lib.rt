@@ -11,8 +11,6 @@ mod characters;
 mod collector;
 mod counts;
 mod decoder;
-#[cfg(test)]
-mod examples;
 mod few;
 pub mod forms;
 mod handler;
@@ -30,8 +28,6 @@ mod replacement;
 mod run_bulk;
 mod single_byte;
 mod sink;
-#[cfg(test)]
-mod tests;
 mod turns;
 mod utf16;
 mod utf16_bulk;

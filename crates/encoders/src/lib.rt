@@ -6,8 +6,6 @@ mod big5;
 mod dispatch;
 mod euc_jp;
 mod euc_kr;
-#[cfg(test)]
-mod examples;
 mod fault;
 mod gb18030;
 mod mode;
@@ -15,8 +13,6 @@ mod over_index;
 mod shift_jis;
 mod single_byte;
 mod stateless;
-#[cfg(test)]
-mod tests;
 mod utf16;
 mod x_user_defined;
 

@@ -1,5 +1,5 @@
 -- A few entries of the indexes, for worked examples of the encoder.
-use Rattle.std.specs.Prelude.{ℕ, List, [], ◌∷◌, codes}
+use Rattle.std.specs.Prelude.{[], ◌∷◌}
 use Rattle.index_loader.specs.declared.kind.IndexKind.TheVariants.{Jis0208, Katakana}
 use Rattle.index_loader.specs.Index.{Loaded}
 
@@ -8,10 +8,3 @@ jis0208_pairs = record { kind = Jis0208; pairs = (0, 0x3000) ∷ (1, 0x3001) ∷
 
 abbrev pub katakana_pairs : Loaded
 katakana_pairs = record { kind = Katakana; pairs = (0, 0x3002) ∷ [] }
-
--- the character references of U+1F600 and U+FFFD
-abbrev pub grinning_face_reference : List ℕ
-grinning_face_reference = codes "&#128512;"
-
-abbrev pub replacement_reference : List ℕ
-replacement_reference = codes "&#65533;"

@@ -2,7 +2,6 @@ pub mod EncoderExamples
 pub mod EncoderOutput
 pub mod EncoderSteps
 pub mod Exact
-pub mod Examples
 pub mod Iso2022Jp
 pub mod Iso2022JpEncoder
 pub mod Iso2022JpLaws

@@ -7,12 +7,6 @@ mod byte_blocks;
 mod decoder;
 mod driver;
 mod encoder;
-#[cfg(test)]
-mod encoder_examples;
-#[cfg(test)]
-mod encoder_tests;
-#[cfg(test)]
-mod examples;
 mod fault;
 mod from_state;
 mod iso_encoder;
@@ -21,8 +15,6 @@ mod jis_pointer;
 mod laws;
 mod output;
 mod state;
-#[cfg(test)]
-mod tests;
 
 pub use decoder::Iso2022JpDecoder;
 pub use driver::encode_by;

@@ -1,7 +1,6 @@
 pub mod Big5
 pub mod EucJp
 pub mod EucKr
-pub mod Examples
 pub mod Gb18030
 pub mod Holding
 pub mod Holdings

@@ -6,13 +6,9 @@
 mod big5;
 mod euc_jp;
 mod euc_kr;
-#[cfg(test)]
-mod examples;
 mod gb18030;
 mod pairs;
 mod shift_jis;
-#[cfg(test)]
-mod tests;
 mod turns;
 
 pub use big5::Big5Decoder;

@@ -1,0 +1,2 @@
+pub mod DecoderEntries
+pub mod EncoderEntries

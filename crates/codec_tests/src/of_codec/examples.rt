@@ -1,0 +1,34 @@
+//! Worked examples, as equations over the definitions that computing them proves.
+#![tactic(auto, unfolding(decoder_core::specs::Queue::run, decoder_core::specs::Queue::turns, decoder_core::specs::Queue::feed, decoder_core::specs::Queue::feed_for, codec::specs::Decode::decode, codec::specs::Behind::state_behind))]
+
+ghost use Rattle.std.specs.Prelude.{◌≡◌, [], ◌∷◌};
+ghost use Rattle.enc_names.specs.declared.encoding.Encoding.TheVariants.{Utf8, Replacement, Utf16Be, Utf16Le};
+ghost use Rattle.index_loader.specs.Files.{no_files};
+ghost use Rattle.decoder_core.specs.declared.item.Item.TheVariants.{One, Error};
+ghost use Rattle.decoder_core.specs.Utf8.{utf8_start};
+ghost use Rattle.decoder_core.specs.Utf16.{utf16_start};
+ghost use Rattle.codec.specs.declared.prefix.Prefix.TheVariants.{Nothing, EfBb};
+ghost use Rattle.codec.specs.declared.state.AnyState.TheVariants.{Sniffing, Utf8 as in_utf8, Utf16Be as in_utf16_be};
+ghost use Rattle.codec.specs.Behind.{state_behind};
+ghost use Rattle.codec.specs.Decode.{decode};
+
+/// A mark puts its encoding in force, and isn't part of the text.
+fn marks()
+    ensures utf16_be { decode no_files Utf16Le (0xFE ∷ 0xFF ∷ 0x00 ∷ 0x41 ∷ []) ≡ record { encoding = Utf16Be; bom = 2; items = record { item = One 0x41; from = 2; to = 4 } ∷ [] } }
+    ensures utf8 { decode no_files Replacement (0xEF ∷ 0xBB ∷ 0xBF ∷ 0x41 ∷ []) ≡ record { encoding = Utf8; bom = 3; items = record { item = One 0x41; from = 3; to = 4 } ∷ [] } }
+    ensures utf16_le { decode no_files Utf8 (0xFF ∷ 0xFE ∷ []) ≡ record { encoding = Utf16Le; bom = 2; items = [] } }
+{}
+
+/// The beginning of a mark is none.
+fn half_a_mark()
+    ensures { decode no_files Utf8 (0xEF ∷ 0xBB ∷ []) ≡ record { encoding = Utf8; bom = 0; items = record { item = Error; from = 0; to = 2 } ∷ [] } }
+{}
+
+/// The bytes themselves while they may become a mark, and then a state of the encoding in force.
+fn states_behind_bytes()
+    ensures none { state_behind no_files Utf8 [] ≡ Sniffing Nothing }
+    ensures half { state_behind no_files Utf16Be (0xEF ∷ 0xBB ∷ []) ≡ Sniffing EfBb }
+    ensures mark { state_behind no_files Utf16Be (0xEF ∷ 0xBB ∷ 0xBF ∷ []) ≡ in_utf8 utf8_start }
+    ensures text { state_behind no_files Utf8 (0x41 ∷ []) ≡ in_utf8 utf8_start }
+    ensures another { state_behind no_files Utf8 (0xFE ∷ 0xFF ∷ []) ≡ in_utf16_be utf16_start }
+{}

@@ -1,0 +1,135 @@
+//! What decoders take in bulk: no clause asks them to take any byte.
+use crate::indexes::WINDOWS_1252;
+use decoder_core::{
+    Bulk, ByteOrder, Decoder, Item, NO_BULK, Placed, ReplacementDecoder, SingleByteDecoder, Stride,
+    Utf8Decoder, Utf16Decoder, XUserDefinedDecoder, decode_parts, meter,
+};
+use enc_names::{Encoding, Scalar};
+use index_loader::{Index, IndexKind};
+use std::alloc::AllocError;
+use std::process::Abort;
+use std::test::Fail;
+
+/// Letters, more than a lane has bytes.
+const LETTERS: [u8; 64] = [0x61; 64];
+
+/// What the decoder takes of the bytes in a state.
+fn taken<D: Decoder>(decoder: &D, state: D::State, bytes: &[u8]) -> Bulk {
+    let mut block = [0; 1024];
+    decoder.bulk(state, bytes, &mut block)
+}
+
+/// Whether the decoder takes all these bytes in its first state, and writes this text for them.
+fn takes<D: Decoder>(decoder: &D, bytes: &[u8], text: &str, stride: Stride) -> bool {
+    let mut block = [0; 1024];
+    let all = Bulk {
+        taken: bytes.len(),
+        written: text.len(),
+        stride,
+    };
+    let found = decoder.bulk(decoder.start(), bytes, &mut block);
+    found == all && block.starts_with(text.as_bytes())
+}
+
+#[test]
+fn ascii_where_a_character_is_a_byte(rt: HostRuntime) -> Result<(), Fail> {
+    let kind = IndexKind::SingleByte(Encoding::Windows1252);
+    let index = Index::parse(rt.alloc(), kind, WINDOWS_1252)?;
+    let decoder = SingleByteDecoder::new(&index);
+    assert_eq!(rt; taken(&decoder, decoder.start(), &LETTERS).taken, 64);
+    let decoder = XUserDefinedDecoder;
+    assert_eq!(rt; taken(&decoder, decoder.start(), &LETTERS).taken, 64);
+    let decoder = ReplacementDecoder;
+    assert_eq!(rt; taken(&decoder, decoder.start(), &LETTERS), NO_BULK);
+    Ok(())
+}
+
+/// The decoder takes a letter and a byte above ASCII in turn, up to the first 256, and writes their
+/// text.
+fn expect_bytes<D: Decoder>(
+    rt: &impl Abort,
+    decoder: &D,
+    byte: u8,
+    code_point: char,
+) -> Result<(), Fail> {
+    let mut bytes = [b'a'; 257];
+    for at in 0..=128 {
+        bytes[2 * at] = byte;
+    }
+    for count in 0..=257 {
+        let mut block = [0; 1024];
+        let bulk = decoder.bulk(decoder.start(), &bytes[..count], &mut block);
+        assert_eq!(rt; bulk.taken, count.min(256));
+        assert_eq!(rt; bulk.stride, Stride::Bytes);
+        let text = str::from_utf8(&block[..bulk.written])?;
+        for (at, c) in text.chars().enumerate() {
+            assert_eq!(rt; c, if at % 2 == 0 { code_point } else { 'a' });
+        }
+        assert_eq!(rt; text.chars().count(), bulk.taken);
+    }
+    Ok(())
+}
+
+#[test]
+fn bytes_that_are_characters(rt: HostRuntime) -> Result<(), Fail> {
+    let kind = IndexKind::SingleByte(Encoding::Windows1252);
+    let index = Index::parse(rt.alloc(), kind, WINDOWS_1252)?;
+    let decoder = SingleByteDecoder::new(&index);
+    expect_bytes(&rt, &decoder, 0x80, '\u{20AC}')?;
+    // A byte without a code point.
+    assert_eq!(rt; taken(&decoder, decoder.start(), b"\x80a\x81a").taken, 2);
+    expect_bytes(&rt, &XUserDefinedDecoder, 0xFF, '\u{F7FF}')
+}
+
+#[test]
+fn utf8_where_nothing_is_pending(rt: HostRuntime) {
+    let text = "a\u{E9}\u{672C}\u{1F600}";
+    assert!(rt; takes(&Utf8Decoder, text.as_bytes(), text, Stride::Utf8));
+    let pending = Utf8Decoder.step(Utf8Decoder.start(), 0xE2).state;
+    assert_eq!(rt; taken(&Utf8Decoder, pending, &LETTERS), NO_BULK);
+}
+
+/// A letter, a character of one unit and a pair in UTF-16LE.
+const LITTLE: &[u8] = b"\x61\x00\x2C\x67\x3D\xD8\x00\xDE";
+
+#[test]
+fn utf16_where_nothing_is_pending(rt: HostRuntime) {
+    let text = "a\u{672C}\u{1F600}";
+    let rows: [(ByteOrder, &[u8]); 2] = [
+        (ByteOrder::BigEndian, b"\x00\x61\x67\x2C\xD8\x3D\xDE\x00"),
+        (ByteOrder::LittleEndian, LITTLE),
+    ];
+    for (order, bytes) in rows {
+        assert!(rt; takes(&Utf16Decoder { order }, bytes, text, Stride::Utf16));
+    }
+    let little = Utf16Decoder {
+        order: ByteOrder::LittleEndian,
+    };
+    let cut = taken(&little, little.start(), LITTLE.get(..6).unwrap_or(&[]));
+    assert_eq!(rt; cut.taken, 4);
+    let pending = little.step(little.start(), 0x61).state;
+    assert_eq!(rt; taken(&little, pending, LITTLE), NO_BULK);
+}
+
+#[test]
+fn code_points_of_a_text_are_placed(rt: HostRuntime) -> Result<(), AllocError> {
+    let mut count = meter();
+    let items = decode_parts(
+        rt.alloc(),
+        &XUserDefinedDecoder,
+        &LETTERS,
+        0,
+        &[20],
+        &mut count,
+    )?;
+    let letter = |from: u64| Placed {
+        item: Item::One(Scalar::from('a')),
+        from,
+        to: from + 1,
+    };
+    assert_eq!(rt; items.len(), 64);
+    for (from, item) in items.iter().enumerate() {
+        assert!(rt; *item == letter(from as u64));
+    }
+    Ok(())
+}

@@ -1,0 +1,68 @@
+//! Worked examples, as equations over the definitions that computing them proves.
+
+ghost use Rattle.std.specs.Prelude.{◌≡◌, [], ◌∷◌, None, Ok, Some, Err, false, true};
+ghost use Rattle.codec_tests.specs.EncoderEntries.{big5_twice, euc_kr, gb18030, gb18030_ranges, jis0208, jis0208_duplicate_alone, jis0208_duplicates, private_use_reference};
+ghost use Rattle.encoders.specs.Big5.{big5_bytes};
+ghost use Rattle.encoders.specs.EucJp.{euc_jp_bytes};
+ghost use Rattle.encoders.specs.EucKr.{euc_kr_bytes};
+ghost use Rattle.encoders.specs.Examples.{big5};
+ghost use Rattle.encoders.specs.Gb18030.{gb18030_bytes, gbk_bytes};
+ghost use Rattle.encoders.specs.ShiftJis.{shift_jis_bytes};
+ghost use Rattle.encoders.specs.SingleByte.{x_user_defined_bytes};
+ghost use Rattle.encoders.specs.Stateless.{stateless};
+ghost use Rattle.encoders.specs.Steps.{encoded_from};
+ghost use Rattle.encoders.specs.Utf16.{utf16_bytes};
+
+/// The minus sign is taken as the full-width one, and a letter by its pointer.
+fn shift_jis()
+    ensures minus { shift_jis_bytes jis0208 0x2212 ≡ Some (0x81 ∷ 0x7C ∷ []) }
+    ensures hiragana { shift_jis_bytes jis0208 0x3042 ≡ Some (0x82 ∷ 0xA0 ∷ []) }
+    ensures katakana { shift_jis_bytes jis0208 0xFF71 ≡ Some (0xB1 ∷ []) }
+{}
+
+/// A duplicate is passed over in Shift_JIS, and alone it is none; EUC-JP has it.
+fn shift_jis_duplicates()
+    ensures passed_over { shift_jis_bytes jis0208_duplicates 0x2170 ≡ Some (0xFA ∷ 0x54 ∷ []) }
+    ensures alone { encoded_from (stateless (shift_jis_bytes jis0208_duplicate_alone)) false 0 tt (0x2170 ∷ []) ≡ Err (record { index = 0; code_point = 0x2170 }) }
+    ensures euc_jp { euc_jp_bytes jis0208_duplicates 0x2170 ≡ Some (0xF9 ∷ 0xA1 ∷ []) }
+{}
+
+/// A letter, and a half-width katakana.
+fn euc_jp()
+    ensures letter { euc_jp_bytes jis0208 0x4E9C ≡ Some (0xB0 ∷ 0xA1 ∷ []) }
+    ensures katakana { euc_jp_bytes jis0208 0xFF71 ≡ Some (0x8E ∷ 0xB1 ∷ []) }
+{}
+
+/// A letter in each.
+fn euc_kr_and_big5()
+    ensures euc_kr { euc_kr_bytes euc_kr 0xAC00 ≡ Some (0xB0 ∷ 0xA1 ∷ []) }
+    ensures big5 { big5_bytes big5 0x4E00 ≡ Some (0xA4 ∷ 0x40 ∷ []) }
+{}
+
+/// Six code points take their last pointer, all others the first behind the supplement's.
+fn big5_pointers()
+    ensures last { big5_bytes big5_twice 0x5341 ≡ Some (0xA4 ∷ 0x51 ∷ []) }
+    ensures first { big5_bytes big5_twice 0x5140 ≡ Some (0xA2 ∷ 0xCD ∷ []) }
+{}
+
+/// By the index, and by the ranges; U+E5E5 has no bytes.
+fn gb18030_encoder()
+    ensures pair { gb18030_bytes gb18030 gb18030_ranges 0x554A ≡ Some (0xB0 ∷ 0xA1 ∷ []) }
+    ensures euro { gb18030_bytes gb18030 gb18030_ranges 0x20AC ≡ Some (0x81 ∷ 0x36 ∷ 0xC4 ∷ 0x36 ∷ []) }
+    ensures private_use { gb18030_bytes gb18030 gb18030_ranges 0xE7C7 ≡ Some (0x81 ∷ 0x35 ∷ 0xF4 ∷ 0x37 ∷ []) }
+    ensures none { gb18030_bytes gb18030 gb18030_ranges 0xE5E5 ≡ None }
+{}
+
+/// GBK has a byte for U+20AC and no four bytes.
+fn gbk_encoder()
+    ensures euro { gbk_bytes gb18030 0x20AC ≡ Some (0x80 ∷ []) }
+    ensures html { encoded_from (stateless (gbk_bytes gb18030)) true 0 tt (0xE7C7 ∷ []) ≡ Ok (record { bytes = private_use_reference; state = tt }) }
+{}
+
+/// The ends of the private use area of x-user-defined, and a surrogate pair.
+fn without_an_index()
+    ensures first { x_user_defined_bytes 0xF780 ≡ Some (0x80 ∷ []) }
+    ensures last { x_user_defined_bytes 0xF7FF ≡ Some (0xFF ∷ []) }
+    ensures behind { x_user_defined_bytes 0xF800 ≡ None }
+    ensures utf_16 { utf16_bytes true 0x1F600 ≡ Some (0xD8 ∷ 0x3D ∷ 0xDE ∷ 0x00 ∷ []) }
+{}

@@ -1,0 +1,147 @@
+//! ASCII and pairs in bulk: no clause asks a decoder to take any byte.
+use crate::indexes::{BIG5, EUC_KR, GB18030, JIS0208, JIS0212, RANGES};
+use decoder_core::{Decoder, Stride};
+use index_loader::{Index, IndexKind};
+use multibyte_decoders::{
+    Big5Decoder, EucJpDecoder, EucKrDecoder, Gb18030Decoder, ShiftJisDecoder,
+};
+use std::process::Abort;
+use std::test::Fail;
+
+/// How many of 64 letters the decoder takes once it read some bytes.
+fn letters_behind<D: Decoder>(decoder: &D, bytes: &[u8]) -> usize {
+    let mut state = decoder.start();
+    for byte in bytes {
+        state = decoder.step(state, *byte).state;
+    }
+    let mut block = [0; 1024];
+    decoder.bulk(state, &[0x61; 64], &mut block).taken
+}
+
+/// The decoder takes letters where nothing is pending, and none behind these bytes.
+fn expect_bulk<D: Decoder>(rt: &impl Abort, decoder: &D, pending: &[u8]) {
+    assert_eq!(rt; letters_behind(decoder, &[]), 64);
+    for count in 1..=pending.len() {
+        assert_eq!(rt;
+            letters_behind(decoder, &pending[..count]),
+            0,
+            "behind {count} bytes"
+        );
+    }
+}
+
+/// How many of some bytes the decoder takes where nothing is pending.
+fn taken<D: Decoder>(decoder: &D, bytes: &[u8]) -> usize {
+    let mut block = [0; 1024];
+    decoder.bulk(decoder.start(), bytes, &mut block).taken
+}
+
+/// The decoder takes a pair and a letter, one behind the other, whatever the number of bytes: all
+/// but the last one, which may be a lead, and writes their text.
+fn expect_pairs<D: Decoder>(
+    rt: &impl Abort,
+    decoder: &D,
+    pair: [u8; 2],
+    code_point: char,
+) -> Result<(), Fail> {
+    let unit = [pair[0], pair[1], b'a'];
+    let mut bytes = [0; 257];
+    for (at, byte) in bytes.iter_mut().enumerate() {
+        *byte = unit[at % 3];
+    }
+    for count in 0..=257 {
+        let mut block = [0; 1024];
+        let bulk = decoder.bulk(decoder.start(), &bytes[..count], &mut block);
+        assert!(rt;
+            bulk.taken <= count && count <= bulk.taken + 1,
+            "{count} bytes"
+        );
+        assert!(rt; bulk.taken % 3 != 1, "{count} bytes");
+        assert_eq!(rt; bulk.stride, Stride::Pairs);
+        let text = str::from_utf8(&block[..bulk.written])?;
+        for (at, c) in text.chars().enumerate() {
+            assert_eq!(rt; c, if at % 2 == 0 { code_point } else { 'a' });
+        }
+        let items = bulk.taken.saturating_mul(2).saturating_add(1) / 3;
+        assert_eq!(rt; text.chars().count(), items, "{count} bytes");
+    }
+    Ok(())
+}
+
+/// Behind a pair the decoder takes none of these bytes.
+fn expect_stop<D: Decoder>(rt: &impl Abort, decoder: &D, pair: [u8; 2], bytes: [u8; 3]) {
+    let whole = [pair[0], pair[1], bytes[0], bytes[1], bytes[2], b'a'];
+    assert_eq!(rt; taken(decoder, &whole), 2);
+}
+
+#[test]
+fn shift_jis_takes_ascii_and_pairs_where_no_lead_is_pending(rt: HostRuntime) -> Result<(), Fail> {
+    let index = Index::parse(rt.alloc(), IndexKind::Jis0208, JIS0208)?;
+    let decoder = ShiftJisDecoder::new(&index);
+    expect_bulk(&rt, &decoder, &[0x82]);
+    // Half-width katakana, a pair without a code point, no trail.
+    for stop in [[0xB1, b'a', b'a'], [0x82, 0xA1, b'a'], [0x82, 0x2F, b'a']] {
+        expect_stop(&rt, &decoder, [0x82, 0xA0], stop);
+    }
+    expect_pairs(&rt, &decoder, [0x82, 0xA0], '\u{3042}')
+}
+
+#[test]
+fn euc_jp_takes_ascii_and_pairs_where_no_lead_is_pending(rt: HostRuntime) -> Result<(), Fail> {
+    let jis0208 = Index::parse(rt.alloc(), IndexKind::Jis0208, JIS0208)?;
+    let jis0212 = Index::parse(rt.alloc(), IndexKind::Jis0212, JIS0212)?;
+    let decoder = EucJpDecoder::new(&jis0208, &jis0212);
+    expect_bulk(&rt, &decoder, &[0x8F, 0xA2]);
+    // A pair in the other index, half-width katakana, a pair without a code point.
+    for stop in [[0x8F, 0xA2, 0xAF], [0x8E, 0xB1, b'a'], [0xA4, 0xA3, b'a']] {
+        expect_stop(&rt, &decoder, [0xA4, 0xA2], stop);
+    }
+    expect_pairs(&rt, &decoder, [0xA4, 0xA2], '\u{3042}')
+}
+
+#[test]
+fn euc_kr_takes_ascii_and_pairs_where_no_lead_is_pending(rt: HostRuntime) -> Result<(), Fail> {
+    let index = Index::parse(rt.alloc(), IndexKind::EucKr, EUC_KR)?;
+    let decoder = EucKrDecoder::new(&index);
+    expect_bulk(&rt, &decoder, &[0xB0]);
+    // No lead, a pair without a code point, no trail.
+    for stop in [[0x80, b'a', b'a'], [0xB0, 0xA2, b'a'], [0xB0, 0x40, b'a']] {
+        expect_stop(&rt, &decoder, [0xB0, 0xA1], stop);
+    }
+    expect_pairs(&rt, &decoder, [0xB0, 0xA1], '\u{AC00}')
+}
+
+#[test]
+fn big5_takes_ascii_and_pairs_where_no_lead_is_pending(rt: HostRuntime) -> Result<(), Fail> {
+    let index = Index::parse(rt.alloc(), IndexKind::Big5, BIG5)?;
+    let decoder = Big5Decoder::new(&index);
+    expect_bulk(&rt, &decoder, &[0xA4]);
+    // Two code points, a pair without a code point, no trail.
+    for stop in [[0x88, 0x62, b'a'], [0xA4, 0x41, b'a'], [0xA4, 0x80, b'a']] {
+        expect_stop(&rt, &decoder, [0xA4, 0x40], stop);
+    }
+    expect_pairs(&rt, &decoder, [0xA4, 0x40], '\u{4E00}')
+}
+
+#[test]
+fn gb18030_takes_ascii_and_pairs_where_no_lead_is_pending(rt: HostRuntime) -> Result<(), Fail> {
+    let index = Index::parse(rt.alloc(), IndexKind::Gb18030, GB18030)?;
+    let ranges = Index::parse(rt.alloc(), IndexKind::Gb18030Ranges, RANGES)?;
+    let decoder = Gb18030Decoder::new(&index, &ranges);
+    expect_bulk(&rt, &decoder, &[0x81, 0x30, 0x81]);
+    // Four bytes, the euro sign of GBK, a pair without a code point.
+    for stop in [[0x81, 0x30, 0x81], [0x80, b'a', b'a'], [0xB0, 0xA2, b'a']] {
+        expect_stop(&rt, &decoder, [0xB0, 0xA1], stop);
+    }
+    expect_pairs(&rt, &decoder, [0xB0, 0xA1], '\u{554A}')
+}
+
+#[test]
+fn pair_that_is_ascii_is_not_taken(rt: HostRuntime) -> Result<(), Fail> {
+    let index = Index::parse(rt.alloc(), IndexKind::EucKr, b"0\t0x0041\n")?;
+    assert_eq!(rt;
+        taken(&EucKrDecoder::new(&index), &[0x81, 0x41, 0x81, 0x41]),
+        0
+    );
+    Ok(())
+}

@@ -1,3 +1,0 @@
-//! Worked examples, as equations over the tables that computing them proves.
-mod one_byte;
-mod utf16;
