@@ -21,5 +21,3 @@ mod Rows
 mod Source
 mod Splice
 mod Text
-mod WorkedPositions
-mod WorkedSession

@@ -19,7 +19,6 @@ pub mod OpenDocuments
 pub mod Places
 pub mod Positions
 pub mod Replacing
-pub mod Session
 pub mod Source
 pub mod Splice
 pub mod Text

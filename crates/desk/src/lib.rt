@@ -13,8 +13,6 @@ mod line;
 mod open_document;
 mod place_unit;
 mod reply;
-#[cfg(test)]
-mod tests;
 mod text_mode;
 
 pub use command::Command;

@@ -4,8 +4,6 @@
 
 mod compare;
 mod random;
-#[cfg(test)]
-mod tests;
 
 use enc_names::Encoding;
 use random::splices_that_agree;

@@ -17,8 +17,6 @@ mod piece;
 mod plain;
 mod run;
 mod sum;
-#[cfg(test)]
-mod tests;
 
 pub use axis::Axis;
 pub use codec::{AnyDecoder, AnyState, Sniffed, output_at_the_end, sniff};

@@ -2,7 +2,7 @@
 //! from its back.
 
 use super::*;
-use small_indexes::small_indexes;
+use crate::indexes::small_indexes;
 
 /// An encoding given, bytes, their text and from where to where its errors are.
 type Case = (Encoding, &'static [u8], &'static str, &'static [(u64, u64)]);
@@ -175,9 +175,7 @@ fn is_as_listed(
 
 #[test]
 fn documents_in_each_family_of_encodings(rt: HostRuntime) -> Result<(), Fail> {
-    let Some(indexes) = small_indexes(rt.alloc()) else {
-        return Err(DocFault::OutOfMemory)?;
-    };
+    let indexes = small_indexes(rt.alloc())?;
     for case in &CASES {
         is_as_listed(&rt, rt.alloc(), &indexes, case)?;
     }

@@ -3,9 +3,10 @@
 ghost use Rattle.std.specs.Prelude.{◌≡◌, ◌*◌};
 
 use super::desk;
-use crate::{Command, Desk, Fault, Line, PlaceUnit, Reply, Unit};
+use crate::indexes::small_indexes;
+use desk::{Command, Desk, Fault, Line, PlaceUnit, Reply, Unit};
 use enc_names::{Encoding, Place};
-use index_loader::{Index, IndexKind, Indexes};
+use index_loader::Indexes;
 use std::alloc::Global;
 use std::process::Abort;
 use std::test::Fail;
@@ -325,23 +326,9 @@ fn truncated_sequence(rt: HostRuntime) -> Result<(), Fail> {
     Ok(())
 }
 
-/// A few lines of the index files of Big5 and ISO-2022-JP.
-fn few_indexes(alloc: Global) -> Result<Indexes, Fail> {
-    let mut indexes = Indexes::new();
-    let files: [(IndexKind, &[u8]); 3] = [
-        (IndexKind::Big5, b"5495\t0x4E00\n"),
-        (IndexKind::Jis0208, b"283\t0x3042\n"),
-        (IndexKind::Katakana, b"0\t0x3002\n"),
-    ];
-    for (kind, file) in &files {
-        indexes.put(Index::parse(alloc, *kind, file)?);
-    }
-    Ok(indexes)
-}
-
 #[test]
 fn two_code_points_of_one_item(rt: HostRuntime) -> Result<(), Fail> {
-    let indexes = few_indexes(rt.alloc())?;
+    let indexes = small_indexes(rt.alloc())?;
     let mut desk = desk(rt.alloc(), &indexes)?;
     for around in &AROUND {
         let at = around.bytes_before();
@@ -370,7 +357,7 @@ fn two_code_points_of_one_item(rt: HostRuntime) -> Result<(), Fail> {
 
 #[test]
 fn item_without_bytes(rt: HostRuntime) -> Result<(), Fail> {
-    let indexes = few_indexes(rt.alloc())?;
+    let indexes = small_indexes(rt.alloc())?;
     let mut desk = desk(rt.alloc(), &indexes)?;
     for around in &AROUND {
         let at = around.bytes_before();

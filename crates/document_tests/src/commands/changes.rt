@@ -2,9 +2,10 @@
 
 use super::desk;
 use super::positions::{AROUND, Around, surrounded};
-use crate::{Command, Desk, Fault, Position, Range, Reply, Unit};
+use crate::indexes::small_indexes;
+use desk::{Command, Desk, Fault, Position, Range, Reply, Unit};
 use enc_names::Encoding;
-use index_loader::{Index, IndexKind, Indexes};
+use index_loader::Indexes;
 use std::alloc::Global;
 use std::process::Abort;
 use std::test::Fail;
@@ -30,27 +31,6 @@ struct Row<'a> {
     to: u64,
     text: &'a str,
     wanted: Wanted<'a>,
-}
-
-/// A few lines of the index files of Big5, ISO-2022-JP, Shift_JIS and windows-1252.
-fn few_indexes(alloc: Global) -> Result<Indexes, Fail> {
-    let mut indexes = Indexes::new();
-    let files: [(IndexKind, &[u8]); 4] = [
-        (IndexKind::Big5, b"5495\t0x4E00\n"),
-        (
-            IndexKind::Jis0208,
-            b"1\t0x3001\n283\t0x3042\n1410\t0x4E9C\n",
-        ),
-        (IndexKind::Katakana, b"0\t0x3002\n"),
-        (
-            IndexKind::SingleByte(Encoding::Windows1252),
-            b"0\t0x20AC\n127\t0x00FF\n",
-        ),
-    ];
-    for (kind, file) in &files {
-        indexes.put(Index::parse(alloc, *kind, file)?);
-    }
-    Ok(indexes)
 }
 
 /// The change of a line from one character to another.
@@ -161,7 +141,7 @@ fn all_become(
     rows: &[Row<'_>],
     arounds: &[Around],
 ) -> Result<(), Fail> {
-    let indexes = few_indexes(alloc)?;
+    let indexes = small_indexes(alloc)?;
     let mut desk = desk(alloc, &indexes)?;
     for row in rows {
         for around in arounds {

@@ -1,8 +1,8 @@
 //! Documents of several pieces: what a splice decodes, and line ends that pieces cut.
 
+use super::compare::pieces_are_sized;
 use super::*;
-use crate::compare::pieces_are_sized;
-use small_indexes::small_indexes;
+use crate::indexes::small_indexes;
 
 /// How far the splice raises the meter.
 fn raised(doc: &mut Doc<'_>, at: u64, del: u64, ins: &[u8]) -> Result<u64, DocFault> {
@@ -27,9 +27,7 @@ fn one_byte_into_a_mebibyte(rt: HostRuntime) -> Result<(), Fail> {
 
 #[test]
 fn shift_taken_away_changes_all_behind_it(rt: HostRuntime) -> Result<(), Fail> {
-    let Some(indexes) = small_indexes(rt.alloc()) else {
-        return Err(DocFault::OutOfMemory)?;
-    };
+    let indexes = small_indexes(rt.alloc())?;
     let given = Encoding::Iso2022Jp;
     let bytes = behind_letters(rt.alloc(), 5000, &[0x5C])?;
     let mut doc = Doc::open(rt.alloc(), &indexes, given, &bytes, &mut meter())?;

@@ -21,7 +21,7 @@ use Rattle.desk.specs.Documents.{Entry, Names, edit_reply}
 use Rattle.desk.specs.Effects.{Puts, base64_bytes, with_bytes, replied, refused, put, of_document}
 use Rattle.desk.specs.Errors.{errors_reply}
 use Rattle.desk.specs.Open.{admitted, opened}
-use Rattle.desk.specs.Session.{a, replies_to, office_without_files, truncated, session, session_replies}
+use Rattle.document_tests.specs.Session.{a, replies_to, office_without_files, truncated, session, session_replies}
 use Rattle.desk.specs.Splice.{splice_effect}
 use Rattle.desk.specs.Text.{text_reply}
 use Rattle.desk.specs.declared.fault.Fault.TheVariants.{OutOfRange}

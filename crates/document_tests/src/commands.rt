@@ -1,9 +1,9 @@
 //! Commands and their replies, a row each.
 ghost use Rattle.std.specs.Prelude.{◌≡◌};
-ghost use Rattle.desk.specs.Session.{replies_to, office_without_files, session, session_replies};
+ghost use Rattle.document_tests.specs.Session.{replies_to, office_without_files, session, session_replies};
 
-use crate::{Command, Desk, Fault, Reply, TextMode};
 use base64::engine::general_purpose::STANDARD;
+use desk::{Command, Desk, Fault, Reply, TextMode};
 use enc_names::{Encoding, Labels, Place};
 use encoders::EncodeMode;
 use index_loader::Indexes;
@@ -14,7 +14,6 @@ use std::test::Fail;
 mod changes;
 mod examples;
 mod positions;
-mod visited;
 
 /// A document opens with a truncated sequence in it, which a splice then completes.
 fn truncated_sequence_is_completed()

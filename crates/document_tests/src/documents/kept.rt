@@ -1,9 +1,9 @@
 //! Splices that are to keep the text, alone and among 3,000 letters: each is made or refused, and a
 //! refused one changes nothing.
 
+use super::compare::agrees;
 use super::*;
-use crate::compare::agrees;
-use small_indexes::small_indexes;
+use crate::indexes::small_indexes;
 
 /// A splice of some bytes, and the code points that it is to replace.
 #[derive(Clone, Copy)]
@@ -35,10 +35,8 @@ fn is_answered(
     case: &Case,
     front: usize,
     back: usize,
-) -> Result<(), DocFault> {
-    let Some(indexes) = small_indexes(alloc) else {
-        return Err(DocFault::OutOfMemory);
-    };
+) -> Result<(), Fail> {
+    let indexes = small_indexes(alloc)?;
     let (refused, left) = match case.left {
         Some(left) => (None, left),
         None => (Some(DocFault::NotKept), case.bytes),
@@ -60,7 +58,7 @@ fn is_answered(
 }
 
 /// The splice is made or refused as the case says, alone and between letters.
-fn is_answered_anywhere(rt: &impl Abort, alloc: Global, case: &Case) -> Result<(), DocFault> {
+fn is_answered_anywhere(rt: &impl Abort, alloc: Global, case: &Case) -> Result<(), Fail> {
     is_answered(rt, alloc, case, 0, 0)?;
     is_answered(rt, alloc, case, 3000, 3000)
 }

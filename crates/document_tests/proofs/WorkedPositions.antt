@@ -16,7 +16,7 @@ use Rattle.desk.specs.Lines.{lines_reply}
 use Rattle.desk.specs.Offsets.{offset_reply}
 use Rattle.desk.specs.Places.{place_reply}
 use Rattle.desk.specs.Positions.{position_reply}
-use Rattle.desk.specs.Session.{truncated, pair_and_cr_lf}
+use Rattle.document_tests.specs.Session.{truncated, pair_and_cr_lf}
 use Rattle.desk.specs.declared.fault.Fault.TheVariants.{OutOfRange, SplitsCharacter}
 use Rattle.desk.specs.declared.place_unit.PlaceUnit.TheVariants.{Byte, Text}
 use Rattle.desk.specs.declared.reply.Reply.TheVariants.{Stat, Lines, Position, Offset, Place}

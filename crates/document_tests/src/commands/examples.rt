@@ -8,7 +8,7 @@ ghost use Rattle.desk.specs.Lines.{lines_reply};
 ghost use Rattle.desk.specs.Offsets.{offset_reply};
 ghost use Rattle.desk.specs.Places.{place_reply};
 ghost use Rattle.desk.specs.Positions.{position_reply};
-ghost use Rattle.desk.specs.Session.{truncated, pair_and_cr_lf};
+ghost use Rattle.document_tests.specs.Session.{truncated, pair_and_cr_lf};
 ghost use Rattle.desk.specs.declared.fault.Fault.TheVariants.{OutOfRange, SplitsCharacter};
 ghost use Rattle.desk.specs.declared.place_unit.PlaceUnit.TheVariants.{Byte, Text};
 ghost use Rattle.desk.specs.declared.reply.Reply.TheVariants.{Stat, Lines, Position, Offset, Place};

@@ -1,36 +1,16 @@
 //! Pieces over small indexes, cut at each byte, against decoding the bytes whole.
 
-use super::*;
+use crate::indexes::small_indexes;
 use codec::{CodecFault, Prefix, decode_whole};
 use decoder_core::meter;
 use enc_names::Encoding;
-use index_loader::{Index, IndexFault, IndexKind, Indexes};
+use index_loader::Indexes;
+use state_memo::{
+    AnyDecoder, AnyState, Ended, OutOfMemory, Outcome, OutputState, Piece, finish_of, start_of,
+};
 use std::alloc::Global;
 use std::process::Abort;
 use std::test::Fail;
-
-const FILES: [(IndexKind, &str); 8] = [
-    (
-        IndexKind::SingleByte(Encoding::Windows1252),
-        "0\t0x20AC\n59\t0x00BB\n63\t0x00BF\n",
-    ),
-    (IndexKind::Jis0208, "283\t0x3042\n1410\t0x4E9C\n"),
-    (IndexKind::Jis0212, "108\t0x02D8\n"),
-    (IndexKind::Big5, "5495\t0x4E00\n"),
-    (IndexKind::EucKr, "9026\t0xAC00\n"),
-    (IndexKind::Gb18030, "0\t0x4E02\n1\t0x4E04\n9026\t0x554A\n"),
-    (IndexKind::Gb18030Ranges, "0\t0x0080\n189000\t0x10000\n"),
-    (IndexKind::Katakana, "0\t0x3002\n"),
-];
-
-/// The small index files.
-fn small_indexes(alloc: Global) -> Result<Indexes, IndexFault> {
-    let mut indexes = Indexes::new();
-    for (kind, file) in FILES.iter() {
-        indexes.put(Index::parse(alloc, *kind, file.as_bytes())?);
-    }
-    Ok(indexes)
-}
 
 /// Two pieces of the bytes and what the end gives have this text, wherever the cut is, and so has
 /// decoding them whole.

@@ -1,7 +1,7 @@
 //! Byte order marks that splices complete and break.
 
 use super::*;
-use small_indexes::small_indexes;
+use crate::indexes::small_indexes;
 
 /// This encoding is in force behind a byte order mark of so many bytes.
 fn is_in_force(rt: &impl Abort, doc: &Doc<'_>, encoding: Encoding, bom_len: u64) {
@@ -11,9 +11,7 @@ fn is_in_force(rt: &impl Abort, doc: &Doc<'_>, encoding: Encoding, bom_len: u64)
 
 #[test]
 fn splice_takes_a_byte_order_mark_away(rt: HostRuntime) -> Result<(), Fail> {
-    let Some(indexes) = small_indexes(rt.alloc()) else {
-        return Err(DocFault::OutOfMemory)?;
-    };
+    let indexes = small_indexes(rt.alloc())?;
     let given = Encoding::Windows1252;
     let bytes = [0xEF, 0xBB, 0xBF, 0x41];
     let mut doc = Doc::open(rt.alloc(), &indexes, given, &bytes, &mut meter())?;

@@ -1,0 +1,2 @@
+mod WorkedPositions
+mod WorkedSession
