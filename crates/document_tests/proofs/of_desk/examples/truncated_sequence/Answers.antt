@@ -1,5 +1,5 @@
 use Rattle.document_tests.proofs.WorkedPositions.{inside_worked, end_worked, past_worked}
-use Rattle.document_tests.proofs.commands.examples.truncated_sequence.Goals as goal
+use Rattle.document_tests.proofs.of_desk.examples.truncated_sequence.Goals as goal
 
 pub returns-clause-inside : goal.returns-clause-inside
 returns-clause-inside c = inside_worked

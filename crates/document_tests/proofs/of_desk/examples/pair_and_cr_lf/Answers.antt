@@ -1,5 +1,5 @@
 use Rattle.document_tests.proofs.WorkedPositions.{stat_worked, lines_worked, position_worked, offset_worked, split_worked}
-use Rattle.document_tests.proofs.commands.examples.pair_and_cr_lf.Goals as goal
+use Rattle.document_tests.proofs.of_desk.examples.pair_and_cr_lf.Goals as goal
 
 pub returns-clause-stat : goal.returns-clause-stat
 returns-clause-stat c = stat_worked
