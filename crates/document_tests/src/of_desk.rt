@@ -401,24 +401,43 @@ fn adopted_at_the_last_revisions(rt: HostRuntime) -> Result<(), Fail> {
     Ok(())
 }
 
+/// Asserts that documents with these names, encodings given and bytes are adopted at revision 7, or
+/// why not.
+fn adoptions(
+    rt: &impl Abort,
+    desk: &mut Desk<'_>,
+    rows: &[(&str, Encoding, &[u8], Result<(), Fault>)],
+) {
+    for (n, (name, given, bytes, answer)) in rows.iter().enumerate() {
+        assert_eq!(rt; desk.adopt(name, *given, bytes, 7), *answer, "row {n}");
+    }
+}
+
 #[test]
 fn adoptions_refused_in_their_order(rt: HostRuntime) -> Result<(), Fail> {
     let alloc = rt.alloc();
     let indexes = Indexes::new();
     let mut desk = desk(alloc, &indexes)?;
     let too_large = vec![in alloc; b'a'; 2_097_153]?;
+    let largest = &too_large[1..];
     open_sixty_four(&rt, alloc, &mut desk)?;
-    let taken = desk.adopt("d0", Encoding::Big5, &too_large, 7);
-    assert_eq!(rt; taken, Err(Fault::NameTaken));
-    let no_index = desk.adopt("e", Encoding::Big5, &too_large, 7);
-    assert_eq!(rt; no_index, Err(Fault::NoIndex));
-    let too_many = desk.adopt("e", Encoding::Utf8, &too_large, 7);
-    assert_eq!(rt; too_many, Err(Fault::TooManyDocuments));
+    let among_sixty_four: [(&str, Encoding, &[u8], Result<(), Fault>); 3] = [
+        ("d0", Encoding::Big5, &too_large, Err(Fault::NameTaken)),
+        ("e", Encoding::Big5, &too_large, Err(Fault::NoIndex)),
+        (
+            "e",
+            Encoding::Utf8,
+            &too_large,
+            Err(Fault::TooManyDocuments),
+        ),
+    ];
+    adoptions(&rt, &mut desk, &among_sixty_four);
     replies(&rt, &mut desk, &[(close("d0"), Closed(0))]);
-    let answer = desk.adopt("e", Encoding::Utf8, &too_large, 7);
-    assert_eq!(rt; answer, Err(Fault::TooLarge));
-    let largest = desk.adopt("e", Encoding::Utf8, &too_large[1..], 7);
-    assert_eq!(rt; largest, Ok(()));
+    let among_sixty_three: [(&str, Encoding, &[u8], Result<(), Fault>); 2] = [
+        ("e", Encoding::Utf8, &too_large, Err(Fault::TooLarge)),
+        ("e", Encoding::Utf8, largest, Ok(())),
+    ];
+    adoptions(&rt, &mut desk, &among_sixty_three);
     replies(&rt, &mut desk, &[(text("e", 0, 1), Text(7, "a"))]);
     Ok(())
 }

@@ -22,6 +22,29 @@ fn behind_letters(alloc: Global, count: usize, bytes: &[u8]) -> Result<Vec<u8>, 
     Ok(all)
 }
 
+/// The document has this text from one code point to another.
+fn has_text(
+    rt: &impl Abort,
+    doc: &Doc<'_>,
+    from: u64,
+    to: u64,
+    text: &str,
+) -> Result<(), DocFault> {
+    assert_eq!(rt; doc.text(from, to)?.as_str(), text);
+    Ok(())
+}
+
+/// The document has errors from here to there.
+fn has_errors(rt: &impl Abort, doc: &Doc<'_>, errors: &[(u64, u64)]) -> Result<(), DocFault> {
+    let places = doc.errors(0, doc.lengths().errors)?;
+    assert_eq!(rt; places.len(), errors.len());
+    for (place, (from, to)) in places.iter().zip(errors) {
+        assert_eq!(rt; (place.from, place.to), (*from, *to));
+    }
+    assert_eq!(rt; doc.fatal(), places.first().copied());
+    Ok(())
+}
+
 /// The document answers everything with this text, and with errors from here to there.
 fn answers(
     rt: &impl Abort,
@@ -29,13 +52,6 @@ fn answers(
     text: &str,
     errors: &[(u64, u64)],
 ) -> Result<(), DocFault> {
-    let lengths = doc.lengths();
-    assert_eq!(rt; doc.text(0, lengths.scalars)?.as_str(), text);
-    let places = doc.errors(0, lengths.errors)?;
-    assert_eq!(rt; places.len(), errors.len());
-    for (place, (from, to)) in places.iter().zip(errors) {
-        assert_eq!(rt; (place.from, place.to), (*from, *to));
-    }
-    assert_eq!(rt; doc.fatal(), places.first().copied());
-    Ok(())
+    has_text(rt, doc, 0, doc.lengths().scalars, text)?;
+    has_errors(rt, doc, errors)
 }

@@ -2,7 +2,7 @@
 
 use crate::indexes::small_indexes;
 use codec::{CodecFault, Prefix, decode_whole};
-use decoder_core::meter;
+use decoder_core::{Meter, meter};
 use enc_names::Encoding;
 use index_loader::Indexes;
 use state_memo::{
@@ -11,6 +11,62 @@ use state_memo::{
 use std::alloc::Global;
 use std::process::Abort;
 use std::test::Fail;
+
+/// What a piece of the bytes decodes to from this state.
+fn outcome_from(
+    alloc: Global,
+    decoder: &AnyDecoder<'_>,
+    entry: AnyState,
+    bytes: &[u8],
+    meter: &mut Meter,
+) -> Result<Outcome, OutOfMemory> {
+    Piece::new(alloc, bytes)?.compute(decoder, entry, meter)
+}
+
+/// The texts of two pieces and of what the end gives, one behind another.
+fn text_of_two(
+    alloc: Global,
+    decoder: &AnyDecoder<'_>,
+    front: &[u8],
+    back: &[u8],
+    meter: &mut Meter,
+) -> Result<String, OutOfMemory> {
+    let first = outcome_from(alloc, decoder, start_of(decoder), front, meter)?;
+    let second = outcome_from(alloc, decoder, first.exit, back, meter)?;
+    let last = finish_of(alloc, decoder, second.exit)?;
+    join(
+        alloc,
+        first.text.as_str(),
+        second.text.as_str(),
+        last.text.as_str(),
+    )
+}
+
+/// Three texts, one behind another.
+fn join(alloc: Global, first: &str, second: &str, last: &str) -> Result<String, OutOfMemory> {
+    let mut all = String::from_str(alloc, first)?;
+    all.push_str(second)?;
+    all.push_str(last)?;
+    Ok(all)
+}
+
+/// Two pieces of the bytes and what the end gives have this text, wherever the cut is.
+fn decodes_cut(
+    rt: &impl Abort,
+    alloc: Global,
+    decoder: &AnyDecoder<'_>,
+    bytes: &[u8],
+    text: &str,
+) -> Result<(), OutOfMemory> {
+    for cut in 0..bytes.len() {
+        let (front, back) = bytes.split_at(cut);
+        let mut decoded = meter();
+        let parts = text_of_two(alloc, decoder, front, back, &mut decoded)?;
+        assert_eq!(rt; parts.as_str(), text, "cut at {cut}");
+        assert_eq!(rt; decoded.decoded(), bytes.len() as u64);
+    }
+    Ok(())
+}
 
 /// Two pieces of the bytes and what the end gives have this text, wherever the cut is, and so has
 /// decoding them whole.
@@ -25,19 +81,7 @@ fn decodes(
     let whole = decode_whole(alloc, &indexes, encoding, bytes)?;
     assert_eq!(rt; whole.text.as_str(), text);
     let decoder = AnyDecoder::new(&indexes, encoding).ok_or(CodecFault::NoIndex)?;
-    for cut in 0..bytes.len() {
-        let (front, back) = bytes.split_at(cut);
-        let mut decoded = meter();
-        let first = Piece::new(alloc, front)?.compute(&decoder, start_of(&decoder), &mut decoded)?;
-        let second = Piece::new(alloc, back)?.compute(&decoder, first.exit, &mut decoded)?;
-        let last = finish_of(alloc, &decoder, second.exit)?;
-        let mut parts = String::from_str(alloc, first.text.as_str())?;
-        parts.push_str(second.text.as_str())?;
-        parts.push_str(last.text.as_str())?;
-        assert_eq!(rt; parts.as_str(), text, "cut at {cut}");
-        assert_eq!(rt; decoded.decoded(), bytes.len() as u64);
-    }
-    Ok(())
+    Ok(decodes_cut(rt, alloc, &decoder, bytes, text)?)
 }
 
 #[test]
@@ -91,8 +135,8 @@ fn outcome_behind(
 ) -> Result<Outcome, Fail> {
     let indexes = small_indexes(alloc)?;
     let decoder = AnyDecoder::new(&indexes, encoding).ok_or(CodecFault::NoIndex)?;
-    let before = Piece::new(alloc, before)?.compute(&decoder, start_of(&decoder), &mut meter())?;
-    Ok(Piece::new(alloc, bytes)?.compute(&decoder, before.exit, &mut meter())?)
+    let before = outcome_from(alloc, &decoder, start_of(&decoder), before, &mut meter())?;
+    Ok(outcome_from(alloc, &decoder, before.exit, bytes, &mut meter())?)
 }
 
 /// A piece that is entered behind the first two bytes of itself has one run, whose last item this is.
@@ -253,11 +297,30 @@ fn remember(
     Ok(())
 }
 
+/// The same from each of these states.
+fn remember_each(
+    piece: &mut Piece,
+    decoder: &AnyDecoder<'_>,
+    prefixes: &[Prefix],
+) -> Result<(), OutOfMemory> {
+    for prefix in prefixes {
+        remember(piece, decoder, *prefix)?;
+    }
+    Ok(())
+}
+
 /// The text that is remembered for the state behind the beginning of a mark.
 fn remembered(piece: &Piece, prefix: Prefix) -> Option<&str> {
     match piece.peek(AnyState::Sniffing(prefix)) {
         Some(outcome) => Some(outcome.text.as_str()),
         None => None,
+    }
+}
+
+/// Asserts that these texts, or none, are remembered for these states.
+fn are_remembered(rt: &impl Abort, piece: &Piece, rows: &[(Prefix, Option<&str>)]) {
+    for (prefix, text) in rows {
+        assert_eq!(rt; remembered(piece, *prefix), *text);
     }
 }
 
@@ -268,16 +331,17 @@ fn a_fifth_outcome_forgets_the_one_entered_longest_ago(rt: HostRuntime) -> Resul
     let decoder = AnyDecoder::new(&indexes, Encoding::Utf8).ok_or(CodecFault::NoIndex)?;
     let mut piece = Piece::new(alloc, b"a")?;
     let four = [Prefix::Nothing, Prefix::Ef, Prefix::EfBb, Prefix::Fe];
-    for prefix in four.iter() {
-        remember(&mut piece, &decoder, *prefix)?;
-    }
+    remember_each(&mut piece, &decoder, &four)?;
     assert!(&rt; piece.move_first(AnyState::Sniffing(Prefix::Nothing)));
-    remember(&mut piece, &decoder, Prefix::Ff)?;
-    assert_eq!(&rt; remembered(&piece, Prefix::Nothing), Some("a"));
-    assert_eq!(&rt; remembered(&piece, Prefix::Ef), None);
-    assert_eq!(&rt; remembered(&piece, Prefix::EfBb), Some("\u{FFFD}a"));
-    assert_eq!(&rt; remembered(&piece, Prefix::Fe), Some("\u{FFFD}a"));
-    assert_eq!(&rt; remembered(&piece, Prefix::Ff), Some("\u{FFFD}a"));
+    remember_each(&mut piece, &decoder, &[Prefix::Ff])?;
+    let rows = [
+        (Prefix::Nothing, Some("a")),
+        (Prefix::Ef, None),
+        (Prefix::EfBb, Some("\u{FFFD}a")),
+        (Prefix::Fe, Some("\u{FFFD}a")),
+        (Prefix::Ff, Some("\u{FFFD}a")),
+    ];
+    are_remembered(&rt, &piece, &rows);
     assert!(&rt; !piece.move_first(AnyState::Sniffing(Prefix::Ef)));
     Ok(())
 }

@@ -287,21 +287,39 @@ fn texts_without_bytes(rt: HostRuntime) -> Result<(), Fail> {
     all_become(&rt, rt.alloc(), &rows, &AROUND)
 }
 
+/// Asserts that the command is refused for this cause.
+fn refuses(rt: &impl Abort, desk: &mut Desk<'_>, command: &Command<'_>, cause: Fault) {
+    assert!(rt; is_refused(&desk.answer(command), cause));
+}
+
+/// Asserts that so many bytes then stand before those put in, that so many are taken out and put in,
+/// and that these bytes are left.
+fn changes(
+    rt: &impl Abort,
+    desk: &mut Desk<'_>,
+    command: &Command<'_>,
+    (before, taken, put): (u64, u64, u64),
+    left: &[u8],
+) {
+    assert!(rt; is_changed(&desk.answer(command), before, taken, put));
+    assert!(rt; has_bytes(desk, 8, left));
+}
+
 #[test]
 fn marks_in_the_whole_text(rt: HostRuntime) -> Result<(), Fail> {
     let indexes = Indexes::new();
     let mut desk = desk(rt.alloc(), &indexes)?;
     assert_eq!(&rt; desk.adopt("d", Encoding::Utf8, b"A", 7), Ok(()));
     // What would be read as a byte order mark.
-    let reply = desk.answer(&change_whole(7, "\u{feff}x"));
-    assert!(&rt; is_refused(&reply, Fault::NotKept));
+    let whole = change_whole(7, "\u{feff}x");
+    refuses(&rt, &mut desk, &whole, Fault::NotKept);
     assert!(&rt; has_bytes(&mut desk, 7, b"A"));
     desk.answer(&Command::Close { doc: "d" });
     let mark = "\u{feff}".as_bytes();
     assert_eq!(&rt; desk.adopt("d", Encoding::Utf8, mark, 7), Ok(()));
-    let reply = desk.answer(&change_whole(7, "\u{feff}"));
-    assert!(&rt; is_changed(&reply, 3, 0, 3));
-    assert!(&rt; has_bytes(&mut desk, 8, "\u{feff}\u{feff}".as_bytes()));
+    let whole = change_whole(7, "\u{feff}");
+    let marks = "\u{feff}\u{feff}".as_bytes();
+    changes(&rt, &mut desk, &whole, (3, 0, 3), marks);
     Ok(())
 }
 
@@ -310,13 +328,12 @@ fn revisions_before_ranges(rt: HostRuntime) -> Result<(), Fail> {
     let indexes = Indexes::new();
     let mut desk = desk(rt.alloc(), &indexes)?;
     let last = (1u64 << 53) - 1;
-    let reply = desk.answer(&change(7, 0, 1, 0, ""));
-    assert!(&rt; is_refused(&reply, Fault::NoDocument));
+    let early = change(7, 0, 1, 0, "");
+    refuses(&rt, &mut desk, &early, Fault::NoDocument);
     assert_eq!(&rt; desk.adopt("d", Encoding::Utf8, b"A", last), Ok(()));
-    let reply = desk.answer(&change(7, 0, 1, 0, ""));
-    assert!(&rt; is_refused(&reply, Fault::Stale { rev: last }));
-    let reply = desk.answer(&change(last, 0, 1, 0, ""));
-    assert!(&rt; is_refused(&reply, Fault::RevisionsSpent));
+    refuses(&rt, &mut desk, &early, Fault::Stale { rev: last });
+    let spent = change(last, 0, 1, 0, "");
+    refuses(&rt, &mut desk, &spent, Fault::RevisionsSpent);
     assert!(&rt; has_bytes(&mut desk, last, b"A"));
     Ok(())
 }

@@ -32,9 +32,9 @@ fn shift_taken_away_changes_all_behind_it(rt: HostRuntime) -> Result<(), Fail> {
     let bytes = behind_letters(rt.alloc(), 5000, &[0x5C])?;
     let mut doc = Doc::open(rt.alloc(), &indexes, given, &bytes, &mut meter())?;
     doc.splice(0, 0, &[0x1B, 0x28, 0x4A], &mut meter())?;
-    assert_eq!(&rt; doc.text(5000, 5001)?.as_str(), "\u{A5}");
+    has_text(&rt, &doc, 5000, 5001, "\u{A5}")?;
     let raised = raised(&mut doc, 0, 3, &[])?;
-    assert_eq!(&rt; doc.text(5000, 5001)?.as_str(), "\\");
+    has_text(&rt, &doc, 5000, 5001, "\\")?;
     assert!(&rt; raised <= 13_193, "{raised} bytes decoded");
     Ok(())
 }
@@ -51,7 +51,7 @@ fn remembered_states(rt: HostRuntime) -> Result<(), Fail> {
     doc.splice(4, 0, &[0x00], &mut meter())?;
     let raised = raised(&mut doc, 4, 1, &[])?;
     assert!(&rt; raised <= 8192, "{raised} bytes decoded");
-    assert_eq!(&rt; doc.text(32_766, 32_768)?.as_str(), "AA");
+    has_text(&rt, &doc, 32_766, 32_768, "AA")?;
     Ok(())
 }
 
