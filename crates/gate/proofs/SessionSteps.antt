@@ -4,8 +4,8 @@ use Rattle.std.specs.Option.{IsSome}
 use Rattle.gateway.specs.Events.{Opening, gate_fault, line_at}
 use Rattle.gateway.specs.Serving.{Runs}
 use Rattle.gateway.specs.Traffic.{Traffic}
-use Rattle.gateway.specs.declared.serve.RunFault.{RunFault}
-use Rattle.gateway.specs.declared.serve.RunFault.TheVariants.{NotFree, Read, Write, TooManyReads}
+use Rattle.gateway.specs.RunFault.{RunFault}
+use Rattle.gateway.specs.RunFault.TheVariants.{NotFree, Read, Write, TooManyReads}
 use Rattle.gate.specs.Sessions.{AllServed, Session}
 
 pub served_next : (n : ℕ) (old mid new : Traffic) → AllServed n old mid → Session mid new → AllServed (n + 1) old new

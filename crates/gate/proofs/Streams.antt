@@ -2,7 +2,7 @@
 use Rattle.std.proofs.Common.{◌≡◌, ℕ, List, Option, Result, subst}
 use Rattle.gateway.specs.Serving.{Runs}
 use Rattle.gateway.specs.Traffic.{Traffic}
-use Rattle.gateway.specs.declared.serve.RunFault.{RunFault}
+use Rattle.gateway.specs.RunFault.{RunFault}
 use Rattle.gateway.specs.Trace.{Traces}
 use Rattle.gateway.specs.declared.traces.fault.TraceFault.{TraceFault}
 use Rattle.gate.specs.Serving.{Served}

@@ -7,8 +7,8 @@ use Rattle.index_loader.specs.Files.{Files}
 use Rattle.gateway.specs.Events.{connections}
 use Rattle.gateway.specs.Serving.{Runs}
 use Rattle.gateway.specs.Traffic.{Traffic}
-use Rattle.gateway.specs.declared.serve.RunFault.{RunFault}
-use Rattle.gateway.specs.declared.serve.RunFault.TheVariants as fault
+use Rattle.gateway.specs.RunFault.{RunFault}
+use Rattle.gateway.specs.RunFault.TheVariants as fault
 use Rattle.gate.specs.declared.failure.Failure.{Failure}
 use Rattle.gate.specs.declared.failure.Failure.TheVariants.{Read, Write, TooManyReads}
 

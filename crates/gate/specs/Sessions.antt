@@ -2,8 +2,8 @@
 use Rattle.std.specs.Prelude.{◌≡◌, ◌≢◌, ◌<◌, ℕ, zero, suc, List, Option, Result, Err}
 use Rattle.gateway.specs.Serving.{Runs}
 use Rattle.gateway.specs.Traffic.{Traffic}
-use Rattle.gateway.specs.declared.serve.RunFault.{RunFault}
-use Rattle.gateway.specs.declared.serve.RunFault.TheVariants.{NotFree}
+use Rattle.gateway.specs.RunFault.{RunFault}
+use Rattle.gateway.specs.RunFault.TheVariants.{NotFree}
 
 -- One connection was served as connection 0: what was read and written, and how it ended.
 pub record Session (old new : Traffic) : Type 0 where

@@ -2,7 +2,7 @@
 ghost use Rattle.std.specs.Prelude.{◌≡◌, ◌+◌, ◌≢◌, Err, OnOk};
 ghost use Rattle.std.specs.Io.KnownBytes.{IsAtEnd};
 ghost use Rattle.gateway.specs.Serving.{ends_of, read_failures_of, write_failures_of, IsReadUp};
-ghost use Rattle.gateway.specs.declared.serve.RunFault.TheVariants.{NotFree};
+ghost use Rattle.gateway.specs.RunFault.TheVariants.{NotFree};
 ghost use Rattle.gate.specs.Serving.{beginning, run_answer, Served};
 
 use crate::beginning::beginning;

@@ -6,16 +6,15 @@ use Rattle.std.proofs.KnownBytes.{Appends-trans, Appends-nil}
 use Rattle.std.proofs.lemmas.List.{drop_all, take_all, length-drop}
 use Rattle.std.proofs.Common.{◌-◌}
 use Rattle.std.proofs.Math.Seq.{drop-append-add}
-use Rattle.gateway.specs.declared.gateway.GateFault.{GateFault}
-use Rattle.gateway.specs.Lines.{has_end, before_end}
-use Rattle.gateway.specs.Traffic.{Traffic}
-use Rattle.gateway.specs.Events.{Happening, Bringing, connections, gate_fault, Took, Happens}
-use Rattle.gateway.specs.Delivery.{IsOpen}
-use Rattle.gateway.specs.Clients.{Numbered, number_of, sent_to, Occurs, OccurAll}
+use Rattle.connections.specs.declared.gateway.GateFault.{GateFault}
+use Rattle.connections.specs.CitedLaws.{LinesCut}
+use Rattle.connections.specs.Lines.{has_end, before_end}
+use Rattle.connections.specs.Traffic.{Traffic}
+use Rattle.connections.specs.Events.{Happening, Bringing, gate_fault, Took, Happens}
+use Rattle.connections.specs.Delivery.{IsOpen}
+use Rattle.connections.specs.Clients.{Numbered, number_of, sent_to, Occurs, OccurAll}
 use Rattle.gateway.specs.Trace.{printed, printed_all, after_ends, parts, refusal_line}
 use Rattle.gateway.specs.Tracing.{bringings, Plays, PlaysRest, Played, WritesAll, PrintsReply}
-use Rattle.gateway.proofs.Cuts.{cut_at_end, before_without}
-use Rattle.gateway.proofs.Took.{open_after}
 
 -- ---- what comes after a line feed
 
@@ -39,18 +38,18 @@ after-before (x ∷ before) more h =
     → (if t && nat_lt 0 (length (before ++ 10 ∷ more)) then (before ++ 10 ∷ more) ∷ after_ends (before ++ 10 ∷ more) else after_ends (before ++ 10 ∷ more)) ≡ after_ends (10 ∷ more))
     [ true ↦ λ never. cc | false ↦ λ e. after-before before more e ] h
 
-rest-after : (c : ℕ) (bytes : List ℕ) (taken : ℕ) (t : Bool) → has_end bytes ≡ t → taken ≡ (if t then length (before_end bytes) + 1 else length bytes)
+rest-after : (cuts : LinesCut) (c : ℕ) (bytes : List ℕ) (taken : ℕ) (t : Bool) → has_end bytes ≡ t → taken ≡ (if t then length (before_end bytes) + 1 else length bytes)
     → map (Bringing c) (after_ends bytes) ≡ bringings c (drop taken bytes)
-rest-after c bytes taken true e is =
-    let cut = cut_at_end bytes e in
+rest-after cuts c bytes taken true e is =
+    let cut = cuts.cut_at_end bytes e in
     let gone : drop taken bytes ≡ cut.0 = ap (λ n. drop n bytes) is ∙ ap (drop (length (before_end bytes) + 1)) cut.1 ∙ drop-append-add (before_end bytes) (10 ∷ cut.0) 1 in
-    ap (λ b. map (Bringing c) (after_ends b)) cut.1 ∙ ap (map (Bringing c)) (after-before (before_end bytes) cut.0 (before_without bytes)) ∙ after-end c cut.0 ∙ ap (bringings c) (sym gone)
-rest-after c bytes taken false e is =
+    ap (λ b. map (Bringing c) (after_ends b)) cut.1 ∙ ap (map (Bringing c)) (after-before (before_end bytes) cut.0 (cuts.before_without bytes)) ∙ after-end c cut.0 ∙ ap (bringings c) (sym gone)
+rest-after cuts c bytes taken false e is =
     ap (map (Bringing c)) (after-none bytes e) ∙ ap (bringings c) (sym (ap (λ n. drop n bytes) is ∙ drop_all (length bytes) bytes (omega arith)))
 
 -- what an event of bytes leaves to play
-left_over : (t u : Traffic) (c taken : ℕ) (bytes : List ℕ) (reply : Option (List ℕ)) → Took t c bytes taken reply u → map (Bringing c) (after_ends bytes) ≡ bringings c (drop taken bytes)
-left_over t u c taken bytes reply took = rest-after c bytes taken (has_end bytes) refl took.takes.count
+left_over : (cuts : LinesCut) (t u : Traffic) (c taken : ℕ) (bytes : List ℕ) (reply : Option (List ℕ)) → Took t c bytes taken reply u → map (Bringing c) (after_ends bytes) ≡ bringings c (drop taken bytes)
+left_over cuts t u c taken bytes reply took = rest-after cuts c bytes taken (has_end bytes) refl took.takes.count
 
 -- ---- one event after others
 
@@ -74,26 +73,26 @@ cut-on c b bs whole done taken cut left = cut ∙ ap (λ l. done ++ Bringing c (
 pub played-nil : (c : ℕ) (bytes : List ℕ) (t : Traffic) (x : Option (List ℕ)) → IsOpen t c → Played c bytes bytes t t x x
 played-nil c bytes t x is_open = record { done = []; replies = []; cut = refl; occurs = (refl, refl); appends = Appends-nil x; is_open = is_open }
 
-pub played-on : (c : ℕ) (bytes rest : List ℕ) (t u v : Traffic) (x y z : Option (List ℕ)) (taken : ℕ) (reply : Option (List ℕ)) → Played c bytes rest t u x y → 0 < length rest
-    → Took u c rest taken reply v → length u.lines ≡ connections → Appends y z (printed_all (sent_to c reply)) → Played c bytes (drop taken rest) t v x z
-played-on c bytes [] t u v x y z taken reply p some took count gone = absurd (omega (arith, some))
-played-on c bytes (b ∷ bs) t u v x y z taken reply p some took count gone = record {
+pub played-on : (cuts : LinesCut) (c : ℕ) (bytes rest : List ℕ) (t u v : Traffic) (x y z : Option (List ℕ)) (taken : ℕ) (reply : Option (List ℕ)) → Played c bytes rest t u x y → 0 < length rest
+    → Took u c rest taken reply v → IsOpen v c → Appends y z (printed_all (sent_to c reply)) → Played c bytes (drop taken rest) t v x z
+played-on cuts c bytes [] t u v x y z taken reply p some took still_open gone = absurd (omega (arith, some))
+played-on cuts c bytes (b ∷ bs) t u v x y z taken reply p some took still_open gone = record {
   done = p.done ++ Bringing c (b ∷ bs) ∷ [];
   replies = p.replies ++ sent_to c reply;
-  cut = cut-on c b bs (bringings c bytes) p.done taken p.cut (left_over u v c taken (b ∷ bs) reply took);
+  cut = cut-on c b bs (bringings c bytes) p.done taken p.cut (left_over cuts u v c taken (b ∷ bs) reply took);
   occurs = occur-snoc t u v p.done (Bringing c (b ∷ bs)) p.replies (sent_to c reply) p.occurs (occurs_open u v c taken (b ∷ bs) reply p.is_open took);
   appends = subst (λ o. Appends x z o) (sym (printed-append p.replies (sent_to c reply))) (Appends-trans x y z (printed_all p.replies) (printed_all (sent_to c reply)) p.appends gone);
-  is_open = open_after u v c taken (b ∷ bs) reply took p.is_open count;
+  is_open = still_open;
 }
 
 pub played-all : (A E : Type 0) (a : A) (c : ℕ) (bytes rest : List ℕ) (t u : Traffic) (x y : Option (List ℕ)) → Played c bytes rest t u x y → rest ≡ [] → PlaysRest {A = A} {E = E} (Ok a) c bytes t u x y
 played-all A E a c bytes rest t u x y p none =
     (p.replies, subst (λ es. OccurAll t es p.replies u) (sym (p.cut ∙ ap (λ r. p.done ++ bringings c r) none ∙ append-nil p.done)) p.occurs, p.appends)
 
-pub played-until : (A E : Type 0) (f : E) (c : ℕ) (bytes rest : List ℕ) (t u v : Traffic) (x y z : Option (List ℕ)) (taken : ℕ) (reply : Option (List ℕ)) → Played c bytes rest t u x y → 0 < length rest
+pub played-until : (cuts : LinesCut) (A E : Type 0) (f : E) (c : ℕ) (bytes rest : List ℕ) (t u v : Traffic) (x y z : Option (List ℕ)) (taken : ℕ) (reply : Option (List ℕ)) → Played c bytes rest t u x y → 0 < length rest
     → Took u c rest taken reply v → PrintsReply {A = A} {E = E} (Err f) (sent_to c reply) y z → PlaysRest {A = A} {E = E} (Err f) c bytes t v x z
-played-until A E f c bytes [] t u v x y z taken reply p some took gone = absurd (omega (arith, some))
-played-until A E f c bytes (b ∷ bs) t u v x y z taken reply p some took gone =
+played-until cuts A E f c bytes [] t u v x y z taken reply p some took gone = absurd (omega (arith, some))
+played-until cuts A E f c bytes (b ∷ bs) t u v x y z taken reply p some took gone =
     let part = gone.2 in (
       p.done ++ Bringing c (b ∷ bs) ∷ [],
       bringings c (drop taken (b ∷ bs)),
@@ -101,7 +100,7 @@ played-until A E f c bytes (b ∷ bs) t u v x y z taken reply p some took gone =
       gone.0,
       part.0,
       part.1,
-      cut-on c b bs (bringings c bytes) p.done taken p.cut (left_over u v c taken (b ∷ bs) reply took),
+      cut-on c b bs (bringings c bytes) p.done taken p.cut (left_over cuts u v c taken (b ∷ bs) reply took),
       subst (λ l. OccurAll t (p.done ++ Bringing c (b ∷ bs) ∷ []) (p.replies ++ l) v) gone.1
           (occur-snoc t u v p.done (Bringing c (b ∷ bs)) p.replies (sent_to c reply) p.occurs (occurs_open u v c taken (b ∷ bs) reply p.is_open took)),
       part.2,
@@ -118,12 +117,12 @@ rest_part xs n = take_all (length xs - n) (drop n xs) (let l = length-drop n xs 
 
 -- ---- an event of bytes that is accepted
 
-module _ (t u : Traffic) (c taken : ℕ) (bytes : List ℕ) (reply : Option (List ℕ)) (fine : gate_fault t.lines (Bringing c bytes) ≡ None) (took : Took t c bytes taken reply u) where
+module _ (cuts : LinesCut) (t u : Traffic) (c taken : ℕ) (bytes : List ℕ) (reply : Option (List ℕ)) (fine : gate_fault t.lines (Bringing c bytes) ≡ None) (took : Took t c bytes taken reply u) where
   first_occurs : Occurs t (Bringing c bytes) (sent_to c reply) u
   first_occurs = occurs_open t u c taken bytes reply fine took
 
   over : map (Bringing c) (after_ends bytes) ≡ bringings c (drop taken bytes)
-  over = left_over t u c taken bytes reply took
+  over = left_over cuts t u c taken bytes reply took
 
   pub bytes-play : (A E : Type 0) (r : Result A E) (v : Traffic) (x y z : Option (List ℕ)) → Appends x y (printed_all (sent_to c reply))
       → PlaysRest r c (drop taken bytes) u v y z → Plays r (Bringing c bytes) t v x z

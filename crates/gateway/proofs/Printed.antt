@@ -2,10 +2,10 @@
 use Rattle.std.proofs.Common.{◌≡◌, ℕ, List, [], ◌∷◌, ◌++◌, Option, Result, Ok, Err, refl, sym, ap, ◌∙◌, subst, append_assoc, append-nil, arith, length-append}
 use Rattle.std.specs.Io.KnownBytes.{Appends}
 use Rattle.std.proofs.KnownBytes.{Appends-trans}
-use Rattle.gateway.specs.Devices.{AppendsPart}
+use Rattle.devices.specs.Devices.{AppendsPart}
 use Rattle.std.specs.Prelude.{OnOk, OnErr}
 use Rattle.std.specs.Fmt.{decimal}
-use Rattle.gateway.specs.Clients.{Numbered}
+use Rattle.connections.specs.Clients.{Numbered}
 use Rattle.gateway.specs.Trace.{printed}
 use Rattle.gateway.specs.Tracing.{WritesAll, PrintsReply}
 

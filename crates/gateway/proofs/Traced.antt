@@ -1,12 +1,11 @@
 -- The events of a trace's lines, one after another.
 use Rattle.std.proofs.Common.{◌≡◌, ℕ, Bool, true, false, List, [], ◌∷◌, ◌++◌, map, Option, Some, None, refl, sym, ap, ◌∙◌, subst, append_assoc, append-nil}
-use Rattle.gateway.specs.declared.gateway.GateFault.{GateFault}
-use Rattle.gateway.specs.Traffic.{Traffic}
-use Rattle.gateway.specs.Events.{Happening, Opening, Bringing, Closing, gate_fault}
-use Rattle.gateway.specs.Clients.{Numbered, number_of, OccurAll}
+use Rattle.connections.specs.declared.gateway.GateFault.{GateFault}
+use Rattle.connections.specs.Traffic.{Traffic}
+use Rattle.connections.specs.Events.{Happening, Opening, Bringing, Closing, gate_fault}
+use Rattle.connections.specs.Clients.{Numbered, number_of, OccurAll, RepliesInOrder}
 use Rattle.gateway.specs.Trace.{is_skipped, parts, after_ends, refusal_line, printed, printed_all, PrintsBy, PrintsLine}
 use Rattle.gateway.specs.Traced.{line_events, events_on, Said, Answered, Refused, said_text, replies_among, TracesAreEvents, TracesInOrder}
-use Rattle.gateway.proofs.Clients.{replies_in_order}
 
 -- ---- what is said
 
@@ -72,8 +71,8 @@ traces_are_events t u (line ∷ lines) out p =
           (occur-append t p.0 u (line_events (is_skipped line) line) (events_on lines) (replies_among here.0) (replies_among later.0) here.2 later.2),
     )
 
-pub traces_in_order : TracesInOrder
-traces_in_order t u w lines out s p =
+pub traces_in_order : RepliesInOrder → TracesInOrder
+traces_in_order replies_in_order t u w lines out s p =
     let all = traces_are_events t u lines out p in
     let served = replies_in_order t u w (events_on lines) (replies_among all.0) s all.2 in
     (all.0, all.1, served.0, served.1)

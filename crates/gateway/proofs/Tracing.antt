@@ -7,9 +7,10 @@ use Rattle.gateway.specs.declared.traces.fault.TraceFault.TheVariants as fault
 use Rattle.gateway.specs.declared.traces.begun_line.LineFault.{LineFault}
 use Rattle.gateway.specs.declared.traces.begun_line.LineFault.TheVariants.{Bad, Write, OutOfMemory}
 use Rattle.gateway.specs.declared.traces.feeding.TracePlace.{TracePlace}
-use Rattle.gateway.specs.Lines.{complete, unfinished}
-use Rattle.gateway.specs.Serving.{most_reads}
-use Rattle.gateway.specs.Traffic.{Traffic}
+use Rattle.connections.specs.CitedLaws.{LinesCut}
+use Rattle.connections.specs.Lines.{complete, unfinished}
+use Rattle.connections.specs.Serving.{most_reads}
+use Rattle.connections.specs.Traffic.{Traffic}
 use Rattle.gateway.specs.Trace.{PrintsAll, text_lines, StopsAtBad, StopsInPrint, PlaysLines, Traces, IsReadSoFar}
 use Rattle.gateway.specs.TraceLines.{Known, MayBe, PlaysLine}
 use Rattle.gateway.specs.Tracing.{FeedsOn, Anything, FeedStops, numbered_fault, ReadsOn, ReadStops, ReadsBy}
@@ -20,27 +21,27 @@ use Rattle.gateway.proofs.Feeding.{prints-append, feeds-nil, feeds-trans, feeds-
 pub reads-nil : (t : Traffic) (l m x : Option (List ℕ)) (p : TracePlace) → Keeps l m → ReadsOn t t l m x x p p
 reads-nil t l m x p kept = record { read = []; consumes = Consumes-kept l l m [] (Consumes-nil l) kept; feeds = feeds-nil t x p }
 
-pub reads-trans : (t u v : Traffic) (l m n x y z : Option (List ℕ)) (p q r : TracePlace) → ReadsOn t u l m x y p q → ReadsOn u v m n y z q r → ReadsOn t v l n x z p r
-reads-trans t u v l m n x y z p q r one two = record {
+pub reads-trans : (cuts : LinesCut) (t u v : Traffic) (l m n x y z : Option (List ℕ)) (p q r : TracePlace) → ReadsOn t u l m x y p q → ReadsOn u v m n y z q r → ReadsOn t v l n x z p r
+reads-trans cuts t u v l m n x y z p q r one two = record {
   read = one.read ++ two.read;
   consumes = Consumes-trans l m n one.read two.read one.consumes two.consumes;
-  feeds = feeds-trans one.read two.read t u v x y z p q r one.feeds two.feeds;
+  feeds = feeds-trans cuts one.read two.read t u v x y z p q r one.feeds two.feeds;
 }
 
-reads-stop : (f : TraceFault) (t u v : Traffic) (l m n x y z : Option (List ℕ)) (p q : TracePlace) → ReadsOn t u l m x y p q → ReadStops f u v m n y z q → ReadStops f t v l n x z p
-reads-stop f t u v l m n x y z p q one two = record {
+reads-stop : (cuts : LinesCut) (f : TraceFault) (t u v : Traffic) (l m n x y z : Option (List ℕ)) (p q : TracePlace) → ReadsOn t u l m x y p q → ReadStops f u v m n y z q → ReadStops f t v l n x z p
+reads-stop cuts f t u v l m n x y z p q one two = record {
   read = one.read ++ two.read;
   consumes = Consumes-trans l m n one.read two.read one.consumes two.consumes;
-  stops = feeds-stop f one.read two.read t u v x y z p q one.feeds two.stops;
+  stops = feeds-stop cuts f one.read two.read t u v x y z p q one.feeds two.stops;
 }
 
-pub reads-err : (A B : Type 0) (f : TraceFault) (t u v : Traffic) (l m n x y z : Option (List ℕ)) (p q r : TracePlace) → ReadsOn t u l m x y p q → ReadsBy {A = A} (Err f) u v m n y z q r
+pub reads-err : (cuts : LinesCut) (A B : Type 0) (f : TraceFault) (t u v : Traffic) (l m n x y z : Option (List ℕ)) (p q r : TracePlace) → ReadsOn t u l m x y p q → ReadsBy {A = A} (Err f) u v m n y z q r
     → ReadsBy {A = B} (Err f) t v l n x z p r
-reads-err A B (fault.BadLine k) t u v l m n x y z p q r = reads-stop (fault.BadLine k) t u v l m n x y z p q
-reads-err A B fault.Read t u v l m n x y z p q r = reads-trans t u v l m n x y z p q r
-reads-err A B fault.Write t u v l m n x y z p q r = reads-stop fault.Write t u v l m n x y z p q
-reads-err A B fault.TooManyReads t u v l m n x y z p q r = reads-trans t u v l m n x y z p q r
-reads-err A B fault.OutOfMemory t u v l m n x y z p q r = reads-stop fault.OutOfMemory t u v l m n x y z p q
+reads-err cuts A B (fault.BadLine k) t u v l m n x y z p q r = reads-stop cuts (fault.BadLine k) t u v l m n x y z p q
+reads-err cuts A B fault.Read t u v l m n x y z p q r = reads-trans cuts t u v l m n x y z p q r
+reads-err cuts A B fault.Write t u v l m n x y z p q r = reads-stop cuts fault.Write t u v l m n x y z p q
+reads-err cuts A B fault.TooManyReads t u v l m n x y z p q r = reads-trans cuts t u v l m n x y z p q r
+reads-err cuts A B fault.OutOfMemory t u v l m n x y z p q r = reads-stop cuts fault.OutOfMemory t u v l m n x y z p q
 
 -- bytes were read, and feeding them came to this
 pub read-fed : (A : Type 0) (f : TraceFault) (read : List ℕ) (t u : Traffic) (l m x y : Option (List ℕ)) (p q : TracePlace) → Consumes l m read → FeedStops f read t u x y p

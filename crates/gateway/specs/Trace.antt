@@ -5,15 +5,15 @@ use Rattle.std.specs.Option.{option_map}
 use Rattle.std.specs.Fmt.{decimal}
 use Rattle.std.specs.Io.KnownBytes.{Consumes, Appends}
 use Rattle.desk.specs.Effects.{base64_bytes}
-use Rattle.gateway.specs.declared.gateway.GateFault.{GateFault}
-use Rattle.gateway.specs.declared.gateway.GateFault.TheVariants.{BadNumber, AlreadyOpen, NotOpen}
+use Rattle.connections.specs.declared.gateway.GateFault.{GateFault}
+use Rattle.connections.specs.declared.gateway.GateFault.TheVariants.{BadNumber, AlreadyOpen, NotOpen}
 use Rattle.gateway.specs.declared.traces.fault.TraceFault.{TraceFault}
 use Rattle.gateway.specs.declared.traces.fault.TraceFault.TheVariants.{BadLine, Read, Write, TooManyReads, OutOfMemory}
-use Rattle.gateway.specs.Lines.{complete, unfinished}
-use Rattle.gateway.specs.Traffic.{Traffic}
-use Rattle.gateway.specs.Events.{Happening, Opening, Bringing, Closing, gate_fault}
-use Rattle.gateway.specs.Clients.{Numbered, number_of, OccurAll}
-use Rattle.gateway.specs.Serving.{most_reads}
+use Rattle.connections.specs.Lines.{complete, unfinished}
+use Rattle.connections.specs.Traffic.{Traffic}
+use Rattle.connections.specs.Events.{Happening, Opening, Bringing, Closing, gate_fault}
+use Rattle.connections.specs.Clients.{Numbered, number_of, OccurAll}
+use Rattle.connections.specs.Serving.{most_reads}
 
 -- ---- the event on a line
 

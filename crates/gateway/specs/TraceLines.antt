@@ -3,8 +3,8 @@ use Rattle.std.specs.Prelude.{◌≡◌, ℕ, ◌<◌, ◌==◌, Bool, true, fal
 use Rattle.std.specs.Io.KnownBytes.{Appends}
 use Rattle.gateway.specs.declared.traces.begun_line.LineFault.{LineFault}
 use Rattle.gateway.specs.declared.traces.begun_line.LineFault.TheVariants.{Bad, Write, OutOfMemory}
-use Rattle.gateway.specs.Traffic.{Traffic}
-use Rattle.gateway.specs.Events.{Happening}
+use Rattle.connections.specs.Traffic.{Traffic}
+use Rattle.connections.specs.Events.{Happening}
 use Rattle.gateway.specs.Trace.{is_skipped, event_on, IsBad, PrintStops, PrintsLine}
 
 -- its bytes; or that it is a comment, whose bytes aren't kept

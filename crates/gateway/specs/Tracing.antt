@@ -11,12 +11,12 @@ use Rattle.gateway.specs.declared.traces.event.TraceEvent.TheVariants.{Open, Byt
 use Rattle.gateway.specs.declared.traces.reading.Progress.{Progress}
 use Rattle.gateway.specs.declared.traces.reading.Progress.TheVariants.{More, End}
 use Rattle.gateway.specs.declared.traces.feeding.TracePlace.{TracePlace}
-use Rattle.gateway.specs.Devices.{AppendsPart}
-use Rattle.gateway.specs.Delivery.{IsOpen}
-use Rattle.gateway.specs.Lines.{complete, unfinished}
-use Rattle.gateway.specs.Traffic.{Traffic}
-use Rattle.gateway.specs.Events.{Happening, Opening, Bringing, Closing}
-use Rattle.gateway.specs.Clients.{Numbered, OccurAll}
+use Rattle.devices.specs.Devices.{AppendsPart}
+use Rattle.connections.specs.Delivery.{IsOpen}
+use Rattle.connections.specs.Lines.{complete, unfinished}
+use Rattle.connections.specs.Traffic.{Traffic}
+use Rattle.connections.specs.Events.{Happening, Opening, Bringing, Closing}
+use Rattle.connections.specs.Clients.{Numbered, OccurAll}
 use Rattle.gateway.specs.TraceLines.{MayBe}
 use Rattle.gateway.specs.Trace.{some_bytes, after_ends, printed, printed_all, Prints, PrintStops, PrintsAll, StopsAtBad, StopsInPrint, StopsForMemory}
 

@@ -1,21 +1,15 @@
 //! The gateway: lines of JSON come in over connections, commands act on named documents, reply
-//! lines go out.
+//! lines go out. Traces of many connections are played here; the rest is handed on from the crates
+//! below.
 #![tactic(auto)]
 
-mod connection;
-mod device;
-mod gateway;
 mod laws;
-mod reply_line;
-mod request;
-mod respond;
-mod serve;
 mod traces;
 
-pub use connection::CONNECTIONS;
-pub use device::{Failed, Feed, FromRead, MemFeed, MemOutlet, Outlet, ToWrite, write_all};
-pub use gateway::{Event, GateFault, Gateway, Out};
-pub use laws::{replies_in_order, traces_in_order};
-pub use reply_line::ReplyLine;
-pub use serve::{RunFault, run};
+pub use connections::{
+    CONNECTIONS, Event, GateFault, Gateway, Out, RunFault, replies_in_order, run,
+};
+pub use devices::{Failed, Feed, FromRead, MemFeed, MemOutlet, Outlet, ToWrite, write_all};
+pub use laws::traces_in_order;
+pub use line_protocol::ReplyLine;
 pub use traces::{TraceFault, trace};

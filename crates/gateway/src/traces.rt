@@ -10,13 +10,11 @@ mod feeding;
 mod play;
 mod print;
 mod reading;
-#[cfg(test)]
-mod tests;
 
-use crate::device::{Feed, Outlet};
-use crate::gateway::Gateway;
 use crate::traces::feeding::{TracePlace, fault_at};
 use crate::traces::reading::read_lines;
+use connections::Gateway;
+use devices::{Feed, Outlet};
 pub use fault::TraceFault;
 use std::alloc::Global;
 

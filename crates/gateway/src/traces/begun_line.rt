@@ -1,13 +1,13 @@
 //! The line of a trace that is begun.
 ghost use Rattle.std.specs.Prelude.{◌≡◌, ◌+◌, [], ℕ, List, ◌++◌};
-ghost use Rattle.gateway.specs.Events.{happening};
+ghost use Rattle.connections.specs.Events.{happening};
 ghost use Rattle.gateway.specs.TraceLines.{Goes, Known, MayBe, PlaysLine, is_comment, line_write_failures};
 ghost use Rattle.gateway.specs.Tracing.{happening_of};
 
-use crate::device::{Failed, Outlet};
-use crate::gateway::{Event, Gateway};
 use crate::traces::event::{TRACE_LIMIT, TraceEvent, event_on_line};
 use crate::traces::play::play;
+use connections::{Event, Gateway};
+use devices::{Failed, Outlet};
 use std::alloc::Global;
 use std::marker::Model;
 

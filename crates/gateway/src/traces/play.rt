@@ -1,14 +1,13 @@
 //! One event of a trace, played on a gateway, with what it prints.
 ghost use Rattle.std.specs.Prelude.{◌≡◌};
-ghost use Rattle.gateway.specs.Devices.{failures_after};
-ghost use Rattle.gateway.specs.Events.{happening, Opening, Bringing, Closing};
-ghost use Rattle.gateway.specs.Delivery.{IsOpen};
+ghost use Rattle.devices.specs.Devices.{failures_after};
+ghost use Rattle.connections.specs.Events.{happening, Opening, Bringing, Closing};
+ghost use Rattle.connections.specs.Delivery.{IsOpen};
 ghost use Rattle.gateway.specs.Tracing.{Plays, PlaysRest};
 
-use crate::device::{Failed, Outlet};
-use crate::gateway::{Event, Gateway, Out};
-use crate::serve::bring;
 use crate::traces::print::{print_refusal, print_reply};
+use connections::{Event, Gateway, Out, bring, event_laws, line_laws};
+use devices::{Failed, Outlet};
 
 /// Plays one event, and prints its replies or its refusal.
 pub(super) fn play<W: Outlet>(
@@ -58,6 +57,8 @@ fn play_bytes<W: Outlet>(
     ensures plays { Plays result (Bringing c bytes.now) gateway.old gateway.new (W.written writer.old) (W.written writer.new) }
     ensures failures { W.failures writer.new ≡ failures_after result (W.failures writer.old) }
 {
+    line_laws();
+    event_laws();
     let Out { taken, reply } = match gateway.event(Event::Bytes(c, bytes)) {
         Ok(out) => out,
         Err(fault) => return print_refusal(writer, c, fault),
@@ -79,6 +80,8 @@ fn play_rest<W: Outlet>(
     ensures plays { PlaysRest result c bytes.now gateway.old gateway.new (W.written writer.old) (W.written writer.new) }
     ensures failures { W.failures writer.new ≡ failures_after result (W.failures writer.old) }
 {
+    line_laws();
+    event_laws();
     let mut rest = bytes;
     while !rest.is_empty() {
         let Out { taken, reply } = bring(gateway, c, rest);

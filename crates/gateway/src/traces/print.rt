@@ -1,16 +1,15 @@
 //! What a trace prints.
 ghost use Rattle.std.specs.Prelude.{◌≡◌, ◌≤◌, ◌++◌, ◌∷◌, [], length};
 ghost use Rattle.std.specs.Fmt.{decimal};
-ghost use Rattle.gateway.specs.Clients.{sent_to};
-ghost use Rattle.gateway.specs.Devices.{failures_after};
+ghost use Rattle.connections.specs.Clients.{sent_to};
+ghost use Rattle.devices.specs.Devices.{failures_after};
 ghost use Rattle.gateway.specs.Trace.{refusal_line, gate_fault_name, printed};
 ghost use Rattle.gateway.specs.Tracing.{WritesAll, PrintsReply};
 
-use crate::device::{Failed, Outlet, write_all};
-use crate::gateway::GateFault;
-use crate::reply_line::ReplyLine;
-use crate::reply_line::short_text::ShortText;
+use connections::GateFault;
+use devices::{Failed, Outlet, write_all};
 use itoa::Buffer;
+use line_protocol::{ReplyLine, ShortText};
 
 /// Prints a reply, if there is one, after the number of its connection.
 pub(super) fn print_reply<W: Outlet>(

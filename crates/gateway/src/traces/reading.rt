@@ -4,10 +4,10 @@ ghost use Rattle.std.specs.Io.KnownBytes.{IsAtEnd};
 ghost use Rattle.gateway.specs.Trace.{IsReadSoFar, trace_read_failures, trace_write_failures};
 ghost use Rattle.gateway.specs.Tracing.{ReadsBy, EndsAt, read_ends, all_read_ends};
 
-use crate::device::{Failed, Feed, Outlet};
-use crate::gateway::Gateway;
 use crate::traces::fault::TraceFault;
 use crate::traces::feeding::{TracePlace, feed};
+use connections::{Gateway, line_laws};
+use devices::{Failed, Feed, Outlet};
 use std::alloc::Global;
 
 /// The most bytes of one read.
@@ -40,6 +40,7 @@ pub(super) fn read_lines<R: Feed, W: Outlet>(
     ensures read_failures { R.failures reader.new ≡ R.failures reader.old + trace_read_failures result }
     ensures write_failures { W.failures writer.new ≡ W.failures writer.old + trace_write_failures result }
 {
+    line_laws();
     let mut buffer = [0; PIECE];
     for _ in 0..MOST_READS {
         match read_once(alloc, gateway, place, reader, writer, &mut buffer) {

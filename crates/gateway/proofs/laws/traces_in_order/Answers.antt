@@ -5,4 +5,4 @@ pub returns-clause-events : goal.returns-clause-events
 returns-clause-events c = traced.traces_are_events
 
 pub returns-clause-order : goal.returns-clause-order
-returns-clause-order c = traced.traces_in_order
+returns-clause-order c = traced.traces_in_order c.replies_in_order.ensures.order

@@ -1,6 +1,5 @@
 use Rattle.std.proofs.Common.{Err, ap, arith, refl, add-zero, sym}
 use Rattle.std.proofs.KnownBytes.{Keeps-refl}
-use Rattle.gateway.proofs.Counts.{still, once_more}
 use Rattle.gateway.proofs.Tracing.{reads-nil, reads-trans, reads-err, read_so_far}
 use Rattle.gateway.specs.declared.traces.reading.Progress.{Progress}
 use Rattle.gateway.proofs.traces.reading.read_lines.Goals as goal
@@ -16,10 +15,10 @@ loop-init g c = record {
 }
 
 pub returns-in-Ok-End-clause-reads_by : goal.returns-in-Ok-End-clause-reads_by
-returns-in-Ok-End-clause-reads_by g c = reads-trans _ _ _ _ _ _ _ _ _ _ _ _ c.loop.invariant.on c.in-Ok-End.ensures.reads_by
+returns-in-Ok-End-clause-reads_by g c = reads-trans c.line_laws.ensures _ _ _ _ _ _ _ _ _ _ _ _ c.loop.invariant.on c.in-Ok-End.ensures.reads_by
 
 pub returns-in-Err-clause-reads_by : goal.returns-in-Err-clause-reads_by
-returns-in-Err-clause-reads_by g c = reads-err Progress (Unit {0}) c.in-Err.fault _ _ _ _ _ _ _ _ _ _ _ _ c.loop.invariant.on c.in-Err.ensures.reads_by
+returns-in-Err-clause-reads_by g c = reads-err c.line_laws.ensures Progress (Unit {0}) c.in-Err.fault _ _ _ _ _ _ _ _ _ _ _ _ c.loop.invariant.on c.in-Err.ensures.reads_by
 
 pub returns-in-Err-clause-reads : goal.returns-in-Err-clause-reads
 returns-in-Err-clause-reads g c =
@@ -29,10 +28,10 @@ pub loop-preserved : goal.loop-preserved
 loop-preserved g c =
     let more = rw c.in-Ok-More.field-0-is at c.in-Ok-More.ensures in
     record {
-      on = reads-trans _ _ _ _ _ _ _ _ _ _ _ _ c.loop.invariant.on c.in-Ok-More.ensures.reads_by;
+      on = reads-trans c.line_laws.ensures _ _ _ _ _ _ _ _ _ _ _ _ c.loop.invariant.on c.in-Ok-More.ensures.reads_by;
       number = omega (arith, c.loop.invariant.number, more.number);
-      ends = still _ _ _ more.ends c.loop.invariant.ends;
-      reads = once_more _ _ _ _ more.reads c.loop.invariant.reads;
-      read_failures = still _ _ _ more.read_failures c.loop.invariant.read_failures;
-      write_failures = still _ _ _ more.write_failures c.loop.invariant.write_failures;
+      ends = omega (arith, more.ends, c.loop.invariant.ends);
+      reads = omega (arith, more.reads, c.loop.invariant.reads);
+      read_failures = omega (arith, more.read_failures, c.loop.invariant.read_failures);
+      write_failures = omega (arith, more.write_failures, c.loop.invariant.write_failures);
     }

@@ -1,0 +1,106 @@
+-- What was delivered before, and what is delivered next.
+use Rattle.std.proofs.Common.{ℕ, ◌+◌, ◌≤◌, ◌≢◌, List, [], ◌∷◌, ◌++◌, Option, Err, refl, sym, ap, ◌∙◌, subst, append_assoc}
+use Rattle.std.specs.Io.KnownBytes.{Keeps}
+use Rattle.std.proofs.KnownBytes.{Appends-trans, Appends-nil, Consumes-trans, Consumes-nil, Consumes-kept, Keeps-refl}
+use Rattle.connections.specs.declared.serve.RunFault.{RunFault}
+use Rattle.connections.specs.declared.serve.RunFault.TheVariants.{NotFree, Read, Write, TooManyReads}
+use Rattle.desk.specs.Desk.{Office}
+use Rattle.connections.specs.Traffic.{Traffic}
+use Rattle.connections.specs.Serving.{Serves, Breaks, SameOthers, most_reads, IsReadUp}
+use Rattle.connections.specs.Delivery.{IsOpen, Delivered, DeliveredUntil, Pumped, PumpedUntil, Pumps}
+use Rattle.connections.proofs.Cuts.{complete-append, unfinished-append}
+
+pub Serves-append : (o m n : Office) (xs ys : List (List ℕ)) (a b : List ℕ) → Serves o xs a m → Serves m ys b n → Serves o (xs ++ ys) (a ++ b) n
+Serves-append o m n [] ys a b p q = rw p.0 (subst (λ x. Serves x ys b n) p.1 q)
+Serves-append o m n (x ∷ xs) ys a b p q =
+    (p.0, p.1, p.2 ++ b, p.3, ap (λ l. l ++ b) p.4 ∙ append_assoc p.1 p.2 b, Serves-append p.0 m n xs ys p.2 b p.5 q)
+
+pub Serves-Breaks : (o m n : Office) (xs ys : List (List ℕ)) (a b : List ℕ) → Serves o xs a m → Breaks m ys b n → Breaks o (xs ++ ys) (a ++ b) n
+Serves-Breaks o m n xs ys a b p q = record {
+  first = xs ++ q.first;
+  last = q.last;
+  more = q.more;
+  cut = ap (λ l. xs ++ l) q.cut ∙ sym (append_assoc xs q.first (q.last ∷ q.more));
+  sent = a ++ q.sent;
+  part = q.part;
+  unsent = q.unsent;
+  mid = q.mid;
+  serves = Serves-append o m q.mid xs q.first a q.sent p q.serves;
+  fails = q.fails;
+  short = q.short;
+  front = ap (λ l. a ++ l) q.front ∙ sym (append_assoc a q.sent q.part);
+}
+
+-- ---- bytes that were delivered
+
+SameOthers-trans : (t u v : Traffic) (c : ℕ) → SameOthers t u c → SameOthers u v c → SameOthers t v c
+SameOthers-trans t u v c p q d ne = q d ne ∙ p d ne
+
+pub Delivered-nil : (c : ℕ) (t : Traffic) (x : Option (List ℕ)) → IsOpen t c → Delivered c [] t t x x
+Delivered-nil c t x is_open = record {
+  out = [];
+  appends = Appends-nil x;
+  serves = λ line b. (refl, refl);
+  is_open = is_open;
+  begun = λ line b. b;
+  others = λ d ne. refl;
+}
+
+pub Delivered-trans : (c : ℕ) (a b : List ℕ) (t u v : Traffic) (x y z : Option (List ℕ)) → Delivered c a t u x y → Delivered c b u v y z → Delivered c (a ++ b) t v x z
+Delivered-trans c a b t u v x y z p q = record {
+  out = p.out ++ q.out;
+  appends = Appends-trans x y z p.out q.out p.appends q.appends;
+  serves = λ line begun. rw (complete-append line a b) (Serves-append t.office u.office v.office _ _ p.out q.out (p.serves line begun) (q.serves _ (p.begun line begun)));
+  is_open = q.is_open;
+  begun = λ line begun. rw (unfinished-append line a b) (q.begun _ (p.begun line begun));
+  others = SameOthers-trans t u v c p.others q.others;
+}
+
+pub Delivered-DeliveredUntil : (c : ℕ) (a b : List ℕ) (t u v : Traffic) (x y z : Option (List ℕ)) → Delivered c a t u x y → DeliveredUntil c b u v y z → DeliveredUntil c (a ++ b) t v x z
+Delivered-DeliveredUntil c a b t u v x y z p q = record {
+  out = p.out ++ q.out;
+  appends = Appends-trans x y z p.out q.out p.appends q.appends;
+  breaks = λ line begun. rw (complete-append line a b) (Serves-Breaks t.office u.office v.office _ _ p.out q.out (p.serves line begun) (q.breaks _ (p.begun line begun)));
+  is_open = q.is_open;
+  others = SameOthers-trans t u v c p.others q.others;
+}
+
+-- ---- bytes that were read
+
+pub Pumped-nil : (c : ℕ) (t : Traffic) (l m x : Option (List ℕ)) → IsOpen t c → Keeps l m → Pumped c t t l m x x
+Pumped-nil c t l m x is_open kept = record {
+  read = [];
+  consumes = Consumes-kept l l m [] (Consumes-nil l) kept;
+  delivered = Delivered-nil c t x is_open;
+}
+
+pub Pumped-start : (c : ℕ) (t : Traffic) (l x : Option (List ℕ)) → IsOpen t c → Pumped c t t l l x x
+Pumped-start c t l x is_open = Pumped-nil c t l l x is_open (Keeps-refl l)
+
+pub Pumped-trans : (c : ℕ) (t u v : Traffic) (l m n x y z : Option (List ℕ)) → Pumped c t u l m x y → Pumped c u v m n y z → Pumped c t v l n x z
+Pumped-trans c t u v l m n x y z p q = record {
+  read = p.read ++ q.read;
+  consumes = Consumes-trans l m n p.read q.read p.consumes q.consumes;
+  delivered = Delivered-trans c p.read q.read t u v x y z p.delivered q.delivered;
+}
+
+Pumped-PumpedUntil : (c : ℕ) (t u v : Traffic) (l m n x y z : Option (List ℕ)) → Pumped c t u l m x y → PumpedUntil c u v m n y z → PumpedUntil c t v l n x z
+Pumped-PumpedUntil c t u v l m n x y z p q = record {
+  read = p.read ++ q.read;
+  consumes = Consumes-trans l m n p.read q.read p.consumes q.consumes;
+  delivered = Delivered-DeliveredUntil c p.read q.read t u v x y z p.delivered q.delivered;
+}
+
+pub Pumped-Err : (A B : Type 0) (f : RunFault) (c : ℕ) (t u v : Traffic) (l m n x y z : Option (List ℕ)) → Pumped c t u l m x y → Pumps {A = A} (Err f) c u v m n y z
+    → Pumps {A = B} (Err f) c t v l n x z
+Pumped-Err A B NotFree = λ c t u v l m n x y z p q. q
+Pumped-Err A B Read = Pumped-trans
+Pumped-Err A B Write = Pumped-PumpedUntil
+Pumped-Err A B TooManyReads = Pumped-trans
+
+-- a fault that came before the most reads
+pub reads_before : (A : Type 0) (f : RunFault) (old new : ℕ) → f ≢ TooManyReads → new ≤ old + most_reads → IsReadUp {A = A} (Err f) old new
+reads_before A NotFree old new ne small = small
+reads_before A Read old new ne small = small
+reads_before A Write old new ne small = small
+reads_before A TooManyReads old new ne small = absurd (ne refl)

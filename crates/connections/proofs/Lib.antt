@@ -1,0 +1,6 @@
+mod Chains
+mod Clients
+mod Cuts
+mod LineEnds
+mod Runs
+mod Took

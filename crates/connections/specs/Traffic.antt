@@ -1,0 +1,43 @@
+-- The connections, and what bytes of one connection do.
+use Rattle.std.specs.Prelude.{◌≡◌, ℕ, ◌+◌, List, [], ◌++◌, length, min, Option, Some, None, MatchBool, if◌then◌else◌}
+use Rattle.desk.specs.Desk.{Office}
+use Rattle.line_protocol.specs.Step.{line_limit, Replies}
+use Rattle.connections.specs.Lines.{has_end, before_end}
+
+-- What is known of a line that is begun: its bytes; or, where they were dropped, how many were received, counted up to the first that is too many.
+pub data Partial : Type 0 where
+  Received : List ℕ → Partial
+  Dropped : ℕ → Partial
+
+-- The line that is begun may be this one. A line whose bytes were dropped may be any of its length.
+abbrev pub Stands : Partial → List ℕ → Type 0
+Stands (Received xs) line = line ≡ xs
+Stands (Dropped n) line = n ≡ min (length line) (line_limit + 1)
+
+-- what the two fields of a line stand for
+abbrev pub partial_of : Option ℕ → List ℕ → Partial
+partial_of None xs = Received xs
+partial_of (Some n) xs = Dropped n
+
+-- the desk, and the line that is begun on each connection that is open
+pub record Traffic : Type 0 where
+  pub office : Office
+  pub lines : List (Option Partial)
+
+-- Bytes before a line feed completed a line: it was answered, and the next line is begun.
+pub record Completes (old : Office) (begun : Partial) (bytes : List ℕ) (reply : Option (List ℕ)) (new : Office) (next : Partial) : Type 0 where
+  pub text : List ℕ
+  pub is : reply ≡ Some text
+  pub fresh : next ≡ Received []
+  pub answers : (line : List ℕ) → Stands begun line → Replies old (line ++ bytes) text new
+
+-- Bytes went on with a line: nothing was answered.
+pub record Continues (old : Office) (begun : Partial) (bytes : List ℕ) (reply : Option (List ℕ)) (new : Office) (next : Partial) : Type 0 where
+  pub silent : reply ≡ None
+  pub same : new ≡ old
+  pub goes_on : (line : List ℕ) → Stands begun line → Stands next (line ++ bytes)
+
+-- What bytes of one connection do: they are taken up to and with the first line feed, or all of them.
+pub record Takes (bytes : List ℕ) (old : Office) (begun : Partial) (taken : ℕ) (reply : Option (List ℕ)) (new : Office) (next : Partial) : Type 0 where
+  pub count : taken ≡ (if has_end bytes then length (before_end bytes) + 1 else length bytes)
+  pub step : MatchBool (has_end bytes) (Completes old begun (before_end bytes) reply new next) (Continues old begun bytes reply new next)

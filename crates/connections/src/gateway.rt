@@ -1,0 +1,157 @@
+//! The gateway: one event at a time, on connections that have numbers.
+ghost use Rattle.std.specs.Prelude.{◌≡◌, ◌<◌, None, Some, length, replicate, MatchResult, IfOk, OnErr};
+
+use crate::connection::{BegunLine, Connections};
+use desk::Desk;
+use line_protocol::ReplyLine;
+use std::alloc::Global;
+use std::marker::Model;
+
+/// What happens on a connection, which is named by its number, from 0 up to `CONNECTIONS`.
+#[derive(Clone, Copy)]
+pub enum Event<'a> {
+    /// The connection opens, with no line begun.
+    Open(u8),
+    /// Bytes were received. An event takes them up to and with the first line feed; the caller goes on
+    /// with the rest.
+    Bytes(u8, &'a [u8]),
+    /// The connection closes, and a line that is begun is dropped.
+    Close(u8),
+}
+
+/// Why an event is refused. The causes are checked in this order.
+#[derive(Clone, Copy, PartialEq, Eq, Debug)]
+pub enum GateFault {
+    /// There is no connection of this number.
+    BadNumber,
+    /// The connection that is to open is open.
+    AlreadyOpen,
+    /// The connection is not open.
+    NotOpen,
+}
+
+/// What an event returns.
+#[derive(Drop)]
+pub struct Out {
+    /// How many bytes the event took: none, unless it brought some.
+    pub taken: usize,
+    /// The reply to the line that the event completed.
+    pub reply: Option<ReplyLine>,
+}
+
+impl Out {
+    /// No byte was taken, and nothing is answered.
+    fn nothing() -> Out
+        ensures taken { result.taken ≡ 0 }
+        ensures reply { result.reply ≡ None }
+    {
+        Out {
+            taken: 0,
+            reply: None,
+        }
+    }
+}
+
+/// A desk, and the connections over which lines come in. Contracts see the desk and, for each
+/// connection that is open, the line that is begun.
+#[derive(Drop)]
+pub struct Gateway<'i> {
+    desk: Desk<'i>,
+    connections: Connections,
+    alloc: Global,
+}
+
+impl<'i> Model for Gateway<'i> {
+    ghost use Rattle.connections.specs.Traffic.{Traffic};
+    ghost use Rattle.connections.specs.Codes.{traffic_code};
+
+    ghost Value = { Traffic };
+
+    ghost coded = { traffic_code };
+
+    ghost view = { λ a. record { office = a.desk; lines = a.connections } };
+}
+
+impl<'i> Gateway<'i> {
+    ghost use Rattle.connections.specs.Events.{connections, happening, gate_fault, Happens, Opening, Bringing, Closing};
+
+    /// A gateway over this desk, with no connection open.
+    pub fn new(alloc: Global, desk: Desk<'i>) -> Gateway<'i>
+        ensures office { result.office ≡ desk.entry }
+        ensures lines { result.lines ≡ replicate connections None }
+    {
+        Gateway {
+            desk,
+            connections: Connections::new(),
+            alloc,
+        }
+    }
+
+    /// Takes one event. One that is refused changes nothing. Running out of memory is no fault: a
+    /// line whose bytes were dropped is answered at its line feed.
+    pub fn event(&mut self, event: Event<'_>) -> Result<Out, GateFault>
+        ensures fault { MatchResult result (λ out. gate_fault self.old.lines (happening event.entry) ≡ None)
+            (λ fault. gate_fault self.old.lines (happening event.entry) ≡ Some fault) }
+        ensures refused { OnErr result (self.new ≡ self.old) }
+        ensures step { IfOk result (λ out. Happens self.old (happening event.entry) out.taken out.reply self.new) }
+        ensures count { length self.old.lines ≡ connections }
+    {
+        match event {
+            Event::Open(c) => self.open(c),
+            Event::Bytes(c, bytes) => self.take(c, bytes),
+            Event::Close(c) => self.close(c),
+        }
+    }
+
+    fn open(&mut self, c: u8) -> Result<Out, GateFault>
+        ensures fault { MatchResult result (λ out. gate_fault self.old.lines (Opening c) ≡ None)
+            (λ fault. gate_fault self.old.lines (Opening c) ≡ Some fault) }
+        ensures refused { OnErr result (self.new ≡ self.old) }
+        ensures step { IfOk result (λ out. Happens self.old (Opening c) out.taken out.reply self.new) }
+        ensures count { length self.old.lines ≡ connections }
+    {
+        if !self.connections.exists(c) {
+            return Err(GateFault::BadNumber);
+        }
+        if self.connections.is_open(c) {
+            return Err(GateFault::AlreadyOpen);
+        }
+        self.connections.put(c, Some(BegunLine::new(self.alloc)));
+        Ok(Out::nothing())
+    }
+
+    fn take(&mut self, c: u8, bytes: &[u8]) -> Result<Out, GateFault>
+        ensures fault { MatchResult result (λ out. gate_fault self.old.lines (Bringing c bytes.now) ≡ None)
+            (λ fault. gate_fault self.old.lines (Bringing c bytes.now) ≡ Some fault) }
+        ensures refused { OnErr result (self.new ≡ self.old) }
+        ensures step { IfOk result (λ out. Happens self.old (Bringing c bytes.now) out.taken out.reply self.new) }
+        ensures count { length self.old.lines ≡ connections }
+    {
+        if !self.connections.exists(c) {
+            return Err(GateFault::BadNumber);
+        }
+        let Some(mut line) = self.connections.take(c) else {
+            return Err(GateFault::NotOpen);
+        };
+        let (taken, reply) = line.take(&mut self.desk, self.alloc, bytes);
+        self.connections.put(c, Some(line));
+        Ok(Out { taken, reply })
+    }
+
+    fn close(&mut self, c: u8) -> Result<Out, GateFault>
+        ensures fault { MatchResult result (λ out. gate_fault self.old.lines (Closing c) ≡ None)
+            (λ fault. gate_fault self.old.lines (Closing c) ≡ Some fault) }
+        ensures refused { OnErr result (self.new ≡ self.old) }
+        ensures step { IfOk result (λ out. Happens self.old (Closing c) out.taken out.reply self.new) }
+        ensures count { length self.old.lines ≡ connections }
+    {
+        if !self.connections.exists(c) {
+            return Err(GateFault::BadNumber);
+        }
+        if !self.connections.is_open(c) {
+            return Err(GateFault::NotOpen);
+        }
+        self.connections.put(c, None);
+        Ok(Out::nothing())
+    }
+}

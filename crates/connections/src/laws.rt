@@ -1,0 +1,24 @@
+//! Laws of many connections, which every gateway meets, and laws that the crates above cite.
+ghost use Rattle.connections.specs.Clients.{LinesAreOwn, NoneIsBegun, RepliesAreOwn, RepliesInOrder};
+ghost use Rattle.connections.specs.CitedLaws.{LinesCut, EventTakesBytes};
+
+/// All replies together are those of one desk that takes the lines in the order of their line
+/// feeds, and each connection has the replies to its own lines, whatever comes on the others.
+pub fn replies_in_order()
+    ensures begin { NoneIsBegun }
+    ensures order { RepliesInOrder }
+    ensures lines { LinesAreOwn }
+    ensures replies { RepliesAreOwn }
+{}
+
+/// The laws by which bytes are cut at their line feeds, in two parts and at the first line feed; the
+/// call does nothing. They are for the crates above, which cut lines of their own.
+pub fn line_laws()
+    ensures { LinesCut }
+{}
+
+/// The laws by which an event of bytes takes no more than its bytes, some of them if there are any,
+/// and its connection stays open; the call does nothing. They are for the crates above.
+pub fn event_laws()
+    ensures { EventTakesBytes }
+{}

@@ -1,0 +1,13 @@
+//! Sixteen connections to one desk: bytes come in, lines are completed one at a time, and replies go
+//! out, each before the next line is decided.
+#![tactic(auto)]
+
+mod connection;
+mod gateway;
+mod laws;
+mod serve;
+
+pub use connection::{CONNECTIONS, line_end};
+pub use gateway::{Event, GateFault, Gateway, Out};
+pub use laws::{event_laws, line_laws, replies_in_order};
+pub use serve::{RunFault, bring, run};

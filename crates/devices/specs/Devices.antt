@@ -1,0 +1,31 @@
+-- What calls of a device do to its bytes and its numbers.
+use Rattle.std.specs.Prelude.{◌≡◌, ℕ, ◌+◌, ◌<◌, ◌==◌, ◌&&◌, nat_lt, List, ◌++◌, length, Option, Result, Ok, Err, if◌then◌else◌}
+use Rattle.std.specs.Io.KnownBytes.{Appends}
+use Rattle.devices.specs.declared.count.Count.{Count, fold-Count}
+use Rattle.devices.specs.declared.count.Count.TheOpen.{Count-F}
+
+-- ---- a count without a limit, which has no bytes
+
+abbrev once_more : Count-F ℕ → ℕ
+once_more Count-F.Never = 0
+once_more (Count-F.After before) = before.value + 1
+
+-- how often
+abbrev pub counted : Count → ℕ
+counted = fold-Count ℕ once_more
+
+-- ---- calls
+
+-- the number of failed calls, after one more call
+abbrev pub failures_after : {A E : Type 0} → Result A E → ℕ → ℕ
+failures_after (Ok x) n = n
+failures_after (Err e) n = n + 1
+
+-- The number of reads that reported the end, after one more read: it reported the end where it read no byte into a slice that has room.
+abbrev pub ends_after : {E : Type 0} → Result ℕ E → List ℕ → ℕ → ℕ
+ends_after (Ok n) room ends = if (n == 0) && nat_lt 0 (length room) then ends + 1 else ends
+ends_after (Err e) room ends = ends
+
+-- a front of the bytes was appended, and not all of them
+abbrev pub AppendsPart : Option (List ℕ) → Option (List ℕ) → List ℕ → Type 0
+AppendsPart old new bytes = (front rest : List ℕ) × (bytes ≡ front ++ rest) × (0 < length rest) × Appends old new front

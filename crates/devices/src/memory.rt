@@ -1,0 +1,100 @@
+//! Devices over memory.
+ghost use Rattle.std.specs.Prelude.{◌≡◌, Some, []};
+ghost use Rattle.devices.specs.Devices.{counted};
+
+use crate::count::Count;
+use crate::device::{Failed, Feed, Outlet};
+use std::alloc::Global;
+
+/// A slice to read from. It never fails.
+#[derive(Drop)]
+pub struct MemFeed<'a> {
+    rest: &'a [u8],
+    reads: Count,
+    ends: Count,
+}
+
+impl<'a> MemFeed<'a> {
+    /// The device from which these bytes are read, and then the end.
+    pub fn new(bytes: &'a [u8]) -> MemFeed<'a>
+        ensures left { ⟦<MemFeed<'a> as Feed>⟧.left result ≡ Some bytes.now }
+        ensures reads { ⟦<MemFeed<'a> as Feed>⟧.reads result ≡ 0 }
+        ensures ends { ⟦<MemFeed<'a> as Feed>⟧.ends result ≡ 0 }
+    {
+        MemFeed {
+            rest: bytes,
+            reads: Count::Never,
+            ends: Count::Never,
+        }
+    }
+}
+
+impl<'a> Feed for MemFeed<'a> {
+    ghost left = { λ d. Some d.rest.now };
+
+    ghost reads = { λ d. counted d.reads };
+
+    ghost ends = { λ d. counted d.ends };
+
+    ghost failures = { λ _. 0 };
+
+    fn read(&mut self, buf: &mut [u8]) -> Result<usize, Failed> {
+        self.reads.next();
+        let n = self.rest.len().min(buf.len());
+        if n == 0 && !buf.is_empty() {
+            self.ends.next();
+        }
+        buf[..n].copy_from_slice(&self.rest[..n]);
+        self.rest = &self.rest[n..];
+        Ok(n)
+    }
+}
+
+/// A buffer to write to. A write fails where memory runs out.
+#[derive(Drop)]
+pub struct MemOutlet {
+    contents: Vec<u8>,
+    writes: Count,
+    failures: Count,
+}
+
+impl MemOutlet {
+    /// An empty buffer.
+    pub fn new(alloc: Global) -> MemOutlet
+        ensures written { ⟦<MemOutlet as Outlet>⟧.written result ≡ Some [] }
+        ensures writes { ⟦<MemOutlet as Outlet>⟧.writes result ≡ 0 }
+        ensures failures { ⟦<MemOutlet as Outlet>⟧.failures result ≡ 0 }
+    {
+        MemOutlet {
+            contents: Vec::new(alloc),
+            writes: Count::Never,
+            failures: Count::Never,
+        }
+    }
+
+    /// What was written.
+    pub fn bytes(&self) -> &[u8]
+        ensures { ⟦<MemOutlet as Outlet>⟧.written self.now ≡ Some result.now }
+    {
+        &self.contents
+    }
+}
+
+impl Outlet for MemOutlet {
+    ghost written = { λ d. Some d.contents.items };
+
+    ghost writes = { λ d. counted d.writes };
+
+    ghost failures = { λ d. counted d.failures };
+
+    fn write(&mut self, buf: &[u8]) -> Result<usize, Failed> {
+        self.writes.next();
+        match self.contents.extend_from_slice(buf) {
+            Ok(()) => Ok(buf.len()),
+            Err(_) => {
+                self.failures.next();
+                Err(Failed)
+            }
+        }
+    }
+}

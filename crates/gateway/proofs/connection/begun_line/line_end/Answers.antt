@@ -1,5 +1,0 @@
-use Rattle.gateway.proofs.LineEnds.{first_line_end}
-use Rattle.gateway.proofs.connection.begun_line.line_end.Goals as goal
-
-pub returns : goal.returns
-returns c = first_line_end c.args.bytes.now c.memchr.result c.memchr.ensures

@@ -1,0 +1,168 @@
+//! Worked reply lines, computed on the definition and written.
+ghost use Rattle.std.specs.Prelude.{◌≡◌, ◌++◌, ◌∷◌, [], codes, Some, None};
+ghost use Rattle.enc_names.specs.declared.encoding.Encoding.TheVariants.{Iso2022Jp, Utf8};
+ghost use Rattle.line_protocol.specs.Replies.{reply_text, refusal_text};
+ghost use Rattle.desk.specs.declared.fault.Fault.TheVariants as fault;
+ghost use Rattle.desk.specs.declared.reply.Reply.TheVariants.{Edited, Changed, Closed, Text, Errors, Lines, Position, Offset, Stat, Refused};
+ghost use Rattle.desk.specs.declared.reply.Reply.TheVariants as replies;
+ghost use Rattle.line_protocol.specs.declared.request.field.Field.TheVariants as field;
+ghost use Rattle.line_protocol.specs.declared.request.refusal.Refusal.TheVariants as refusal;
+
+use desk::{Fault, Reply, ReplyText};
+use enc_names::{Encoding, Place};
+use line_protocol::{Field, Refusal, ReplyLine};
+use std::test::Fail;
+
+fn stored_session()
+    ensures open { reply_text 1 (Edited 0 Utf8 0)
+        ≡ codes "{\"bom\":0,\"encoding\":\"UTF-8\",\"id\":1,\"rev\":0}\n" }
+    ensures replaced { reply_text 2 (Text 0 (239 ∷ 191 ∷ 189 ∷ 65 ∷ []))
+        ≡ codes "{\"id\":2,\"rev\":0,\"text\":\"" ++ 239 ∷ 191 ∷ 189 ∷ codes "A\"}\n" }
+    ensures errors { reply_text 3 (Errors 0 1 (record { from = 0; to = 2 } ∷ []))
+        ≡ codes "{\"errors\":[[0,2]],\"id\":3,\"rev\":0,\"total\":1}\n" }
+    ensures splice { reply_text 4 (Edited 0 Utf8 1)
+        ≡ codes "{\"bom\":0,\"encoding\":\"UTF-8\",\"id\":4,\"rev\":1}\n" }
+    ensures whole { reply_text 5 (Text 1 (226 ∷ 130 ∷ 172 ∷ 65 ∷ []))
+        ≡ codes "{\"id\":5,\"rev\":1,\"text\":\"" ++ 226 ∷ 130 ∷ 172 ∷ codes "A\"}\n" }
+    ensures fault { reply_text 6 (Refused fault.OutOfRange)
+        ≡ codes "{\"fault\":\"OutOfRange\",\"id\":6}\n" }
+{}
+
+fn other_replies()
+    ensures closed { reply_text 7 (Closed 1) ≡ codes "{\"id\":7,\"rev\":1}\n" }
+    ensures stale { reply_text 1 (Refused (fault.Stale 1))
+        ≡ codes "{\"fault\":\"Stale\",\"id\":1,\"rev\":1}\n" }
+    ensures malformed { reply_text 1 (Refused (fault.Malformed (record { from = 0; to = 2 })))
+        ≡ codes "{\"fault\":\"Malformed\",\"id\":1,\"place\":[0,2]}\n" }
+    ensures memory { reply_text 1 (Refused fault.OutOfMemory)
+        ≡ codes "{\"fault\":\"OutOfMemory\"}\n" }
+    ensures escapes { reply_text 1 (Text 0 (34 ∷ 92 ∷ 8 ∷ 9 ∷ 10 ∷ 12 ∷ 13 ∷ 31 ∷ 127 ∷ []))
+        ≡ codes "{\"id\":1,\"rev\":0,\"text\":\"\\\"\\\\\\b\\t\\n\\f\\r\\u001f" ++ 127
+        ∷ codes "\"}\n" }
+{}
+
+fn replies_on_positions()
+    ensures stat { reply_text 1 (Stat 0 Utf8 Utf8 0 8 0 2 8 6 5)
+        ≡ codes "{\"bom\":0,\"bytes\":8,\"encoding\":\"UTF-8\",\"errors\":0,\"given\":\"UTF-8\",\"id\":1,\"lines\":2,\"rev\":0,\"utf16\":6,\"utf32\":5,\"utf8\":8}\n" }
+    ensures lines { reply_text 2 (Lines 0 2 (record { start = 0; end = 2 } ∷ record { start = 4; end = 5 } ∷ []))
+        ≡ codes "{\"count\":2,\"id\":2,\"lines\":[[0,2],[4,5]],\"rev\":0}\n" }
+    ensures position { reply_text 3 (Position 0 0 3) ≡ codes "{\"character\":3,\"id\":3,\"line\":0,\"rev\":0}\n" }
+    ensures offset { reply_text 6 (Offset 0 2) ≡ codes "{\"id\":6,\"offset\":2,\"rev\":0}\n" }
+    ensures place { reply_text 1 (replies.Place 0 (Some (record { from = 0; to = 2 })) 0 0 0)
+        ≡ codes "{\"id\":1,\"place\":[0,2],\"rev\":0,\"utf16\":0,\"utf32\":0,\"utf8\":0}\n" }
+    ensures end { reply_text 2 (replies.Place 0 None 4 2 2)
+        ≡ codes "{\"id\":2,\"place\":null,\"rev\":0,\"utf16\":2,\"utf32\":2,\"utf8\":4}\n" }
+    ensures splits { reply_text 4 (Refused fault.SplitsCharacter) ≡ codes "{\"fault\":\"SplitsCharacter\",\"id\":4}\n" }
+{}
+
+fn replies_to_changes()
+    ensures changed { reply_text 9 (Changed 1 0 4 Utf8 1 1)
+        ≡ codes "{\"at\":1,\"bom\":0,\"del\":4,\"encoding\":\"UTF-8\",\"id\":9,\"ins\":1,\"rev\":1}\n" }
+    ensures shifted { reply_text 2 (Changed 1 0 0 Iso2022Jp 5 1)
+        ≡ codes "{\"at\":1,\"bom\":0,\"del\":0,\"encoding\":\"ISO-2022-JP\",\"id\":2,\"ins\":5,\"rev\":1}\n" }
+    ensures splits { reply_text 4 (Refused fault.SplitsItem) ≡ codes "{\"fault\":\"SplitsItem\",\"id\":4}\n" }
+    ensures kept { reply_text 4 (Refused fault.NotKept) ≡ codes "{\"fault\":\"NotKept\",\"id\":4}\n" }
+    ensures encoder { reply_text 4 (Refused fault.NoEncoder) ≡ codes "{\"fault\":\"NoEncoder\",\"id\":4}\n" }
+    ensures unencodable { reply_text 4 (Refused (fault.Unencodable 12354 0))
+        ≡ codes "{\"code_point\":12354,\"fault\":\"Unencodable\",\"id\":4,\"index\":0}\n" }
+{}
+
+fn refused_lines()
+    ensures long { refusal_text refusal.LineTooLong ≡ codes "{\"fault\":\"LineTooLong\"}\n" }
+    ensures json { refusal_text refusal.BadJson ≡ codes "{\"fault\":\"BadJson\"}\n" }
+    ensures list { refusal_text (refusal.BadRequest None field.Object)
+        ≡ codes "{\"fault\":\"BadRequest\",\"field\":\"\"}\n" }
+    ensures field { refusal_text (refusal.BadRequest (Some 3) field.Mode)
+        ≡ codes "{\"fault\":\"BadRequest\",\"field\":\"mode\",\"id\":3}\n" }
+    ensures op { refusal_text (refusal.UnknownOp 1) ≡ codes "{\"fault\":\"UnknownOp\",\"id\":1}\n" }
+    ensures memory { refusal_text refusal.OutOfMemory ≡ codes "{\"fault\":\"OutOfMemory\"}\n" }
+{}
+
+#[test]
+fn replies_that_are_refusals(rt: HostRuntime) -> Result<(), Fail> {
+    stored_session();
+    other_replies();
+    replies_on_positions();
+    let place = Place { from: 0, to: 2 };
+    for (fault, text) in [
+        (
+            Fault::Stale { rev: 1 },
+            "{\"fault\":\"Stale\",\"id\":1,\"rev\":1}\n",
+        ),
+        (
+            Fault::Malformed { place },
+            "{\"fault\":\"Malformed\",\"id\":1,\"place\":[0,2]}\n",
+        ),
+        (
+            Fault::Unencodable {
+                code_point: 128_512,
+                index: 2,
+            },
+            "{\"code_point\":128512,\"fault\":\"Unencodable\",\"id\":1,\"index\":2}\n",
+        ),
+        (Fault::OutOfMemory, "{\"fault\":\"OutOfMemory\"}\n"),
+    ] {
+        let line = ReplyLine::of(rt.alloc(), 1, &Reply::Refused { fault })?;
+        assert_eq!(rt; line.bytes(), text.as_bytes());
+    }
+    Ok(())
+}
+
+#[test]
+fn replies_to_refused_lines(rt: HostRuntime) {
+    refused_lines();
+    let mode = Refusal::BadRequest {
+        id: Some(3),
+        field: Field::Mode,
+    };
+    for (refusal, text) in [
+        (Refusal::LineTooLong, "{\"fault\":\"LineTooLong\"}\n"),
+        (
+            mode,
+            "{\"fault\":\"BadRequest\",\"field\":\"mode\",\"id\":3}\n",
+        ),
+        (
+            Refusal::UnknownOp { id: 1 },
+            "{\"fault\":\"UnknownOp\",\"id\":1}\n",
+        ),
+        (Refusal::OutOfMemory, "{\"fault\":\"OutOfMemory\"}\n"),
+    ] {
+        let line = ReplyLine::refused(refusal);
+        assert_eq!(rt; line.bytes(), text.as_bytes());
+    }
+}
+
+#[test]
+fn text_is_escaped_in_the_shortest_way(rt: HostRuntime) -> Result<(), Fail> {
+    let alloc = rt.alloc();
+    let text = ReplyText::new(String::from_str(alloc, "\"\\\u{8}\t\n\u{c}\r\u{1f}\u{7f}")?);
+    let line = ReplyLine::of(alloc, 1, &Reply::Text { rev: 0, text })?;
+    let wanted = "{\"id\":1,\"rev\":0,\"text\":\"\\\"\\\\\\b\\t\\n\\f\\r\\u001f\u{7f}\"}\n";
+    assert_eq!(rt; line.bytes(), wanted.as_bytes());
+    Ok(())
+}
+
+#[test]
+fn replies_that_tell_of_changes(rt: HostRuntime) -> Result<(), Fail> {
+    replies_to_changes();
+    let done = Reply::Changed {
+        at: 1,
+        bom: 0,
+        del: 4,
+        encoding: Encoding::Utf8,
+        ins: 1,
+        rev: 1,
+    };
+    let line = ReplyLine::of(rt.alloc(), 9, &done)?;
+    let text =
+        "{\"at\":1,\"bom\":0,\"del\":4,\"encoding\":\"UTF-8\",\"id\":9,\"ins\":1,\"rev\":1}\n";
+    assert_eq!(rt; line.bytes(), text.as_bytes());
+    for (fault, text) in [
+        (Fault::SplitsItem, "{\"fault\":\"SplitsItem\",\"id\":4}\n"),
+        (Fault::NotKept, "{\"fault\":\"NotKept\",\"id\":4}\n"),
+    ] {
+        let line = ReplyLine::of(rt.alloc(), 4, &Reply::Refused { fault })?;
+        assert_eq!(rt; line.bytes(), text.as_bytes());
+    }
+    Ok(())
+}

@@ -1,0 +1,4 @@
+mod DroppedLines
+mod PlainText
+mod SentLines
+mod StepReplies

@@ -1,0 +1,31 @@
+-- Text that JSON writes as it is.
+use Rattle.std.proofs.Common.{◌≡◌, ℕ, ◌&&◌, Bool, true, false, List, [], ◌∷◌, ◌++◌, refl, ap, arith, append_assoc}
+use Rattle.std.proofs.lemmas.Bool.Decides.{nat_tests}
+use Rattle.json.specs.Print.{escape_byte, escape, quoted}
+use Rattle.line_protocol.specs.Writing.{is_plain, all_plain}
+
+pub left_true : (a b : Bool) → (a && b) ≡ true → a ≡ true
+left_true true b h = refl
+left_true false b h = h
+
+pub right_true : (a b : Bool) → (a && b) ≡ true → b ≡ true
+right_true true b h = h
+right_true false b h = absurd cc
+
+escape_byte-plain : (b : ℕ) → is_plain b ≡ true → escape_byte b ≡ b ∷ []
+unfolding escape_byte
+escape_byte-plain b h = grind (arith, nat_tests)
+
+pub escape-plain : (s : List ℕ) → all_plain s ≡ true → escape s ≡ s
+escape-plain [] h = refl
+escape-plain (b ∷ bs) h =
+    let first = escape_byte-plain b (left_true (is_plain b) (all_plain bs) h) in
+    let rest = escape-plain bs (right_true (is_plain b) (all_plain bs) h) in
+    rw (first, rest)
+
+pub quoted-plain : (s : List ℕ) → all_plain s ≡ true → quoted s ≡ 34 ∷ (s ++ 34 ∷ [])
+quoted-plain s h = ap (λ t. 34 ∷ (t ++ 34 ∷ [])) (escape-plain s h)
+
+-- a text between two quotes
+pub quoted-after : (old s : List ℕ) → all_plain s ≡ true → ((old ++ 34 ∷ []) ++ s) ++ 34 ∷ [] ≡ old ++ quoted s
+quoted-after old s h = rw (quoted-plain s h) (simp append_assoc)

@@ -1,0 +1,4 @@
+pub mod Replies
+pub mod Request
+pub mod Step
+pub mod Writing

@@ -1,0 +1,46 @@
+-- What one complete line does: its reply, and the desk after it.
+use Rattle.std.specs.Prelude.{◌≡◌, ℕ, nat_lt, List, length, Result, Ok, Err, MatchBool}
+use Rattle.std.specs.Str.{bytes_eq}
+use Rattle.desk.specs.Commands.{Asked}
+use Rattle.line_protocol.specs.Request.{request_of_line}
+use Rattle.line_protocol.specs.Replies.{reply_text, refusal_text, memory_text}
+use Rattle.desk.specs.Desk.{Office, Outcome, answer_of}
+use Rattle.line_protocol.specs.declared.request.refusal.Refusal.{Refusal}
+use Rattle.line_protocol.specs.declared.request.refusal.Refusal.TheVariants.{LineTooLong}
+
+-- the most bytes of a line, its line feed left out
+abbrev pub line_limit : ℕ
+line_limit = 4194304
+
+abbrev pub too_long_text : List ℕ
+too_long_text = refusal_text LineTooLong
+
+-- a reply's text, and the desk after it
+pub record Step : Type 0 where
+  pub text : List ℕ
+  pub office : Office
+
+-- the desk answered the request with this number
+abbrev pub answered : Office → ℕ → Outcome → Step
+answered o id outcome = record {
+  text = reply_text id outcome.reply;
+  office = record { indexes = o.indexes; labels = o.labels; documents = outcome.documents };
+}
+
+-- what a request does, or the refusal of its line
+abbrev pub step_by : Office → Result (ℕ × Asked) Refusal → Step
+step_by o (Ok request) = answered o request.0 (answer_of o request.1)
+step_by o (Err refusal) = record { text = refusal_text refusal; office = o }
+
+-- what a line does that is not too long
+abbrev pub step_of : Office → List ℕ → Step
+step_of o line = step_by o (request_of_line line)
+
+-- The reply and the desk after it are those of the step; or memory ran out, and nothing changed.
+abbrev pub IsStep : Office → Step → List ℕ → Office → Type 0
+IsStep old step text new = MatchBool (bytes_eq text memory_text) (new ≡ old) (step ≡ record { text = text; office = new })
+
+-- A reply to a line, and the desk after it. A line over the limit is always answered LineTooLong.
+unfoldable pub Replies : Office → List ℕ → List ℕ → Office → Type 0
+Replies old line text new =
+    MatchBool (nat_lt line_limit (length line)) ((text ≡ too_long_text) × (new ≡ old)) (IsStep old (step_of old line) text new)

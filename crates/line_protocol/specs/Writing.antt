@@ -1,0 +1,86 @@
+-- How the code writes a reply line. Nothing here has to be believed.
+use Rattle.std.specs.Prelude.{ℕ, ◌&&◌, ◌||◌, ◌==◌, Bool, true, not, nat_lt, List, [], ◌∷◌, ◌+◌, length, ◌≡◌, ◌++◌, Some}
+use denote.Ref.{Bor}
+use Rattle.serde_json.specs.Data.{Data, null, string, Members, no_members, member}
+use Rattle.line_protocol.specs.Replies.{whole, place_data}
+use Rattle.line_protocol.specs.declared.reply_line.members.Content.{Content}
+use Rattle.line_protocol.specs.declared.reply_line.members.Content.TheVariants.{Number, Text, At, Nothing}
+use Rattle.serde.specs.Event.{Log}
+use Rattle.serde_json.specs.Sent.{IsTextOf}
+use Rattle.line_protocol.specs.declared.reply_line.Storage.{Storage}
+use Rattle.line_protocol.specs.declared.reply_line.Storage.TheVariants.{Inline, Allocated}
+
+-- ---- text that stands in a string of JSON as it is
+
+abbrev pub is_plain : ℕ → Bool
+is_plain b = not (nat_lt b 32) && not ((b == 34) || (b == 92))
+
+abbrev pub all_plain : List ℕ → Bool
+all_plain [] = true
+all_plain (b ∷ bs) = is_plain b && all_plain bs
+
+-- ---- the members of an object that is written without memory
+
+abbrev pub MemberList : Type 0
+MemberList = List (Bor (List ℕ) × Content)
+
+abbrev pub content_data : Content → Data
+content_data (Number n) = whole n
+content_data (Text t) = string t.now
+content_data (At place) = place_data place
+content_data Nothing = null
+
+abbrev pub members_of : MemberList → Members
+members_of [] = no_members
+members_of (m ∷ ms) = member m.0.now (content_data m.1) (members_of ms)
+
+abbrev pub content_is_plain : Content → Bool
+content_is_plain (Number n) = true
+content_is_plain (Text t) = all_plain t.now
+content_is_plain (At place) = true
+content_is_plain Nothing = true
+
+abbrev pub are_plain : MemberList → Bool
+are_plain [] = true
+are_plain (m ∷ ms) = all_plain m.0.now && content_is_plain m.1 && are_plain ms
+
+-- the most bytes of a name, of a number, of a place, which is two numbers in brackets, and of `null`
+abbrev pub name_room : ℕ
+name_room = 20
+
+abbrev pub number_room : ℕ
+number_room = 20
+
+abbrev pub place_room : ℕ
+place_room = 43
+
+abbrev pub null_room : ℕ
+null_room = 4
+
+-- at most so many bytes
+abbrev pub content_room : Content → ℕ
+content_room (Number n) = number_room
+content_room (Text t) = length t.now + 2
+content_room (At place) = place_room
+content_room Nothing = null_room
+
+-- at most so many bytes, with a comma before each member and the closing bracket
+abbrev pub room_of : MemberList → ℕ
+room_of [] = 1
+room_of (m ∷ ms) = length m.0.now + 4 + content_room m.1 + room_of ms
+
+-- ---- a line that is written by the events of a value
+
+-- the text of the events that the value sends, and a line end
+pub record IsLineOf (writes : Log → Log → Type 0) (line : List ℕ) : Type 0 where
+  pub log : Log
+  pub text : List ℕ
+  pub sent : writes (Some []) log
+  pub written : IsTextOf log text
+  pub ends : line ≡ text ++ 10 ∷ []
+
+-- ---- the bytes of a reply line, however it is stored
+
+abbrev pub bytes_of : Storage → List ℕ
+bytes_of (Inline text) = text
+bytes_of (Allocated bytes) = bytes.items

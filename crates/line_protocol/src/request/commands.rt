@@ -1,0 +1,222 @@
+//! From a JSON value to a command.
+ghost use Rattle.std.specs.Prelude.{◌≡◌};
+ghost use Rattle.serde_json.specs.View.{view};
+ghost use Rattle.line_protocol.specs.Request.{open_command, close_command, splice_command, change_command, text_command, source_command, encode_command, errors_command, lines_command, position_command, offset_command, place_command, stat_command, request_of, command_asked, request_asked};
+ghost use Rattle.line_protocol.specs.declared.request.refusal.Refusal.TheVariants.{BadRequest};
+
+use crate::request::field::Field;
+use crate::request::fields::{self, MAX_NUMBER};
+use crate::request::refusal::Refusal;
+use desk::Command;
+use serde_json::Value;
+
+/// The most places of errors, or lines, that one request may ask for.
+const MAX_ENTRIES: u64 = 10_000;
+
+/// The number of a request and its command, which borrows the request's texts.
+///
+/// # Errors
+///
+/// `BadRequest` with the first faulty field in the order of the command's fields, `UnknownOp`.
+pub fn parse_request(value: &Value) -> Result<(u64, Command<'_>), Refusal>
+    ensures { request_asked result ≡ request_of (view value.now) }
+{
+    if !value.is_object() {
+        return Err(bad(None, Field::Object));
+    }
+    let id = fields::number(value, "id", MAX_NUMBER).ok_or(bad(None, Field::Id))?;
+    let op = fields::text(value, "op").ok_or(bad(Some(id), Field::Op))?;
+    let command = match op {
+        "open" => open(value),
+        "close" => close(value),
+        "splice" => splice(value),
+        "change" => change(value),
+        "text" => text(value),
+        "source" => source(value),
+        "encode" => encode(value),
+        "errors" => errors(value),
+        "lines" => lines(value),
+        "position" => position(value),
+        "offset" => offset(value),
+        "place" => place(value),
+        "stat" => stat(value),
+        _ => return Err(Refusal::UnknownOp { id }),
+    };
+    match command {
+        Ok(command) => Ok((id, command)),
+        Err(field) => Err(bad(Some(id), field)),
+    }
+}
+
+/// The refusal for a field.
+fn bad(id: Option<u64>, field: Field) -> Refusal
+    ensures { result ≡ BadRequest id field }
+{
+    Refusal::BadRequest { id, field }
+}
+
+/// The command `open`, or the first faulty field.
+fn open(value: &Value) -> Result<Command<'_>, Field>
+    ensures { command_asked result ≡ open_command (view value.now) }
+{
+    let doc = fields::name(value).ok_or(Field::Doc)?;
+    let label = fields::text(value, "label").ok_or(Field::Label)?;
+    let bytes = fields::text(value, "bytes").ok_or(Field::Bytes)?;
+    Ok(Command::Open { doc, label, bytes })
+}
+
+/// The command `close`, or the first faulty field.
+fn close(value: &Value) -> Result<Command<'_>, Field>
+    ensures { command_asked result ≡ close_command (view value.now) }
+{
+    let doc = fields::name(value).ok_or(Field::Doc)?;
+    Ok(Command::Close { doc })
+}
+
+/// The command `splice`, or the first faulty field.
+fn splice(value: &Value) -> Result<Command<'_>, Field>
+    ensures { command_asked result ≡ splice_command (view value.now) }
+{
+    let doc = fields::name(value).ok_or(Field::Doc)?;
+    let rev = fields::number(value, "rev", MAX_NUMBER).ok_or(Field::Rev)?;
+    let at = fields::number(value, "at", MAX_NUMBER).ok_or(Field::At)?;
+    let del = fields::number(value, "del", MAX_NUMBER).ok_or(Field::Del)?;
+    let bytes = fields::text(value, "bytes").ok_or(Field::Bytes)?;
+    Ok(Command::Splice {
+        doc,
+        rev,
+        at,
+        del,
+        bytes,
+    })
+}
+
+/// The command `change`, or the first faulty field.
+fn change(value: &Value) -> Result<Command<'_>, Field>
+    ensures { command_asked result ≡ change_command (view value.now) }
+{
+    let doc = fields::name(value).ok_or(Field::Doc)?;
+    let rev = fields::number(value, "rev", MAX_NUMBER).ok_or(Field::Rev)?;
+    let unit = fields::unit(value).ok_or(Field::Unit)?;
+    let range = fields::range(value).ok_or(Field::Range)?;
+    let text = fields::text(value, "text").ok_or(Field::Text)?;
+    Ok(Command::Change {
+        doc,
+        rev,
+        unit,
+        range,
+        text,
+    })
+}
+
+/// The command `text`, or the first faulty field.
+fn text(value: &Value) -> Result<Command<'_>, Field>
+    ensures { command_asked result ≡ text_command (view value.now) }
+{
+    let doc = fields::name(value).ok_or(Field::Doc)?;
+    let from = fields::number(value, "from", MAX_NUMBER).ok_or(Field::From)?;
+    let to = fields::number(value, "to", MAX_NUMBER).ok_or(Field::To)?;
+    let mode = fields::text_mode(value).ok_or(Field::Mode)?;
+    Ok(Command::Text {
+        doc,
+        from,
+        to,
+        mode,
+    })
+}
+
+/// The command `source`, or the first faulty field.
+fn source(value: &Value) -> Result<Command<'_>, Field>
+    ensures { command_asked result ≡ source_command (view value.now) }
+{
+    let doc = fields::name(value).ok_or(Field::Doc)?;
+    let at = fields::number(value, "at", MAX_NUMBER).ok_or(Field::At)?;
+    let len = fields::number(value, "len", MAX_NUMBER).ok_or(Field::Len)?;
+    Ok(Command::Source { doc, at, len })
+}
+
+/// The command `encode`, or the first faulty field.
+fn encode(value: &Value) -> Result<Command<'_>, Field>
+    ensures { command_asked result ≡ encode_command (view value.now) }
+{
+    let doc = fields::name(value).ok_or(Field::Doc)?;
+    let from = fields::number(value, "from", MAX_NUMBER).ok_or(Field::From)?;
+    let to = fields::number(value, "to", MAX_NUMBER).ok_or(Field::To)?;
+    let label = fields::text(value, "label").ok_or(Field::Label)?;
+    let mode = fields::encode_mode(value).ok_or(Field::Mode)?;
+    Ok(Command::Encode {
+        doc,
+        from,
+        to,
+        label,
+        mode,
+    })
+}
+
+/// The command `errors`, or the first faulty field.
+fn errors(value: &Value) -> Result<Command<'_>, Field>
+    ensures { command_asked result ≡ errors_command (view value.now) }
+{
+    let doc = fields::name(value).ok_or(Field::Doc)?;
+    let from = fields::number(value, "from", MAX_NUMBER).ok_or(Field::From)?;
+    let max = fields::number(value, "max", MAX_ENTRIES).ok_or(Field::Max)?;
+    Ok(Command::Errors { doc, from, max })
+}
+
+/// The command `lines`, or the first faulty field.
+fn lines(value: &Value) -> Result<Command<'_>, Field>
+    ensures { command_asked result ≡ lines_command (view value.now) }
+{
+    let doc = fields::name(value).ok_or(Field::Doc)?;
+    let from = fields::number(value, "from", MAX_NUMBER).ok_or(Field::From)?;
+    let max = fields::number(value, "max", MAX_ENTRIES).ok_or(Field::Max)?;
+    Ok(Command::Lines { doc, from, max })
+}
+
+/// The command `position`, or the first faulty field.
+fn position(value: &Value) -> Result<Command<'_>, Field>
+    ensures { command_asked result ≡ position_command (view value.now) }
+{
+    let doc = fields::name(value).ok_or(Field::Doc)?;
+    let offset = fields::number(value, "offset", MAX_NUMBER).ok_or(Field::Offset)?;
+    let unit = fields::unit(value).ok_or(Field::Unit)?;
+    Ok(Command::Position { doc, offset, unit })
+}
+
+/// The command `offset`, or the first faulty field.
+fn offset(value: &Value) -> Result<Command<'_>, Field>
+    ensures { command_asked result ≡ offset_command (view value.now) }
+{
+    let doc = fields::name(value).ok_or(Field::Doc)?;
+    let line = fields::number(value, "line", MAX_NUMBER).ok_or(Field::Line)?;
+    let character = fields::number(value, "character", MAX_NUMBER).ok_or(Field::Character)?;
+    let unit = fields::unit(value).ok_or(Field::Unit)?;
+    Ok(Command::Offset {
+        doc,
+        line,
+        character,
+        unit,
+    })
+}
+
+/// The command `place`, or the first faulty field.
+fn place(value: &Value) -> Result<Command<'_>, Field>
+    ensures { command_asked result ≡ place_command (view value.now) }
+{
+    let doc = fields::name(value).ok_or(Field::Doc)?;
+    let unit = fields::place_unit(value).ok_or(Field::Unit)?;
+    let named = fields::number(value, "value", MAX_NUMBER).ok_or(Field::Value)?;
+    Ok(Command::Place {
+        doc,
+        unit,
+        value: named,
+    })
+}
+
+/// The command `stat`, or the first faulty field.
+fn stat(value: &Value) -> Result<Command<'_>, Field>
+    ensures { command_asked result ≡ stat_command (view value.now) }
+{
+    let doc = fields::name(value).ok_or(Field::Doc)?;
+    Ok(Command::Stat { doc })
+}

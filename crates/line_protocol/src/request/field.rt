@@ -1,0 +1,28 @@
+//! The fields of a request.
+
+/// The field that a request is refused for: each variant is the field of that name.
+#[derive(Clone, Copy, PartialEq, Eq, Debug)]
+pub enum Field {
+    /// None of its own: the line is no object.
+    Object,
+    Id,
+    Op,
+    Doc,
+    Label,
+    Bytes,
+    Rev,
+    At,
+    Del,
+    Len,
+    From,
+    To,
+    Mode,
+    Max,
+    Offset,
+    Line,
+    Character,
+    Unit,
+    Value,
+    Range,
+    Text,
+}

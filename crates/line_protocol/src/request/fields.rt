@@ -1,0 +1,125 @@
+//! The fields of an object, each by its kind. An absent field and one of another kind are alike.
+ghost use Rattle.std.specs.Prelude.{◌≡◌, option_map};
+ghost use Rattle.serde_json.specs.View.{view};
+ghost use Rattle.line_protocol.specs.Request.{number_at, text_at, name_at, text_mode_at, encode_mode_at, as_unit, unit_at, place_unit_at, position_at, range_at};
+
+use desk::{PlaceUnit, Position, Range, TextMode, Unit};
+use encoders::EncodeMode;
+use serde_json::Value;
+
+/// The greatest number that a request may hold: 2^53 - 1.
+pub(super) const MAX_NUMBER: u64 = 9_007_199_254_740_991;
+
+/// The most bytes of a document's name.
+const MAX_NAME_LEN: usize = 64;
+
+/// A whole number up to `most`, written without fraction, exponent or minus sign.
+pub(super) fn number(value: &Value, name: &str, most: u64) -> Option<u64>
+    ensures { result ≡ number_at (view value.now) name.now most }
+{
+    let number = value.get(name).and_then(Value::as_u64)?;
+    if number <= most { Some(number) } else { None }
+}
+
+/// A text.
+pub(super) fn text<'a>(value: &'a Value, name: &str) -> Option<&'a str>
+    ensures { option_map (λ t. t.now) result ≡ text_at (view value.now) name.now }
+{
+    value.get(name).and_then(Value::as_str)
+}
+
+/// The name of a document: a text of 1 to 64 bytes.
+pub(super) fn name(value: &Value) -> Option<&str>
+    ensures { option_map (λ t. t.now) result ≡ name_at (view value.now) }
+{
+    let name = text(value, "doc")?;
+    if name.is_empty() || name.len() > MAX_NAME_LEN {
+        return None;
+    }
+    Some(name)
+}
+
+/// The mode of a text, which is replacement where it is absent.
+pub(super) fn text_mode(value: &Value) -> Option<TextMode>
+    ensures { result ≡ text_mode_at (view value.now) }
+{
+    let Some(mode) = value.get("mode") else {
+        return Some(TextMode::Replacement);
+    };
+    match mode.as_str()? {
+        "replacement" => Some(TextMode::Replacement),
+        "fatal" => Some(TextMode::Fatal),
+        _ => None,
+    }
+}
+
+/// The mode of an encoding, which is fatal where it is absent.
+pub(super) fn encode_mode(value: &Value) -> Option<EncodeMode>
+    ensures { result ≡ encode_mode_at (view value.now) }
+{
+    let Some(mode) = value.get("mode") else {
+        return Some(EncodeMode::Fatal);
+    };
+    match mode.as_str()? {
+        "fatal" => Some(EncodeMode::Fatal),
+        "html" => Some(EncodeMode::Html),
+        _ => None,
+    }
+}
+
+/// The unit of this name in LSP.
+fn named_unit(name: &str) -> Option<Unit>
+    ensures { result ≡ as_unit name.now }
+{
+    match name {
+        "utf-8" => Some(Unit::Utf8),
+        "utf-16" => Some(Unit::Utf16),
+        "utf-32" => Some(Unit::Utf32),
+        _ => None,
+    }
+}
+
+/// The unit of a position, which is UTF-16 where it is absent.
+pub(super) fn unit(value: &Value) -> Option<Unit>
+    ensures { result ≡ unit_at (view value.now) }
+{
+    let Some(unit) = value.get("unit") else {
+        return Some(Unit::Utf16);
+    };
+    named_unit(unit.as_str()?)
+}
+
+/// What a value counts: bytes of the document, or units of its text.
+pub(super) fn place_unit(value: &Value) -> Option<PlaceUnit>
+    ensures { result ≡ place_unit_at (view value.now) }
+{
+    match text(value, "unit")? {
+        "byte" => Some(PlaceUnit::Byte),
+        name => named_unit(name).map(PlaceUnit::Text),
+    }
+}
+
+/// A position: a line and a character, both whole numbers.
+fn position(value: &Value, name: &str) -> Option<Position>
+    ensures { result ≡ position_at (view value.now) name.now }
+{
+    let position = value.get(name)?;
+    let line = number(position, "line", MAX_NUMBER)?;
+    let character = number(position, "character", MAX_NUMBER)?;
+    Some(Position { line, character })
+}
+
+/// The range of a change. No range is the whole text, which is meant where it is absent or null.
+pub(super) fn range(value: &Value) -> Option<Option<Range>>
+    ensures { result ≡ range_at (view value.now) }
+{
+    let Some(range) = value.get("range") else {
+        return Some(None);
+    };
+    if range.is_null() {
+        return Some(None);
+    }
+    let start = position(range, "start")?;
+    let end = position(range, "end")?;
+    Some(Some(Range { start, end }))
+}

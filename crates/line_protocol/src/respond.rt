@@ -1,0 +1,56 @@
+//! One complete line: its request, and its reply.
+ghost use Rattle.std.specs.Prelude.{◌≡◌, ◌+◌, ℕ, List, length, min};
+ghost use Rattle.serde_json.specs.View.{view};
+ghost use Rattle.desk.specs.Desk.{Office};
+ghost use Rattle.line_protocol.specs.Request.{request_of};
+ghost use Rattle.line_protocol.specs.Step.{Replies, IsStep, line_limit, step_by};
+
+use crate::reply_line::ReplyLine;
+use crate::request::{Refusal, parse_request, read_json};
+use desk::Desk;
+use serde_json::Value;
+use std::alloc::Global;
+
+/// The most bytes of a line, its line feed left out.
+pub const LINE_LIMIT: usize = 4_194_304;
+
+/// Answers a complete line, given without its line feed.
+pub fn reply_to(desk: &mut Desk<'_>, alloc: Global, line: &[u8]) -> ReplyLine
+    ensures { Replies desk.old line.now result desk.new }
+{
+    if line.len() > LINE_LIMIT {
+        return ReplyLine::refused(Refusal::LineTooLong);
+    }
+    match read_json(alloc, line) {
+        Ok(value) => answer(desk, alloc, &value),
+        Err(refusal) => ReplyLine::refused(refusal),
+    }
+}
+
+/// Answers the request in a JSON value.
+fn answer(desk: &mut Desk<'_>, alloc: Global, value: &Value) -> ReplyLine
+    ensures { IsStep desk.old (step_by desk.old (request_of (view value.now))) result desk.new }
+{
+    match parse_request(value) {
+        Ok((id, command)) => {
+            let reply = desk.answer(&command);
+            match ReplyLine::of(alloc, id, &reply) {
+                Ok(line) => line,
+                Err(_) => ReplyLine::out_of_memory(),
+            }
+        }
+        Err(refusal) => ReplyLine::refused(refusal),
+    }
+}
+
+/// The reply to a line whose bytes were dropped. Of these only the number is known, counted up to the
+/// first that is too many.
+pub fn reply_to_dropped(count: usize) -> ReplyLine
+    ensures { (line : List ℕ) (office : Office) → count ≡ min (length line) (line_limit + 1) → Replies office line result office }
+{
+    if count > LINE_LIMIT {
+        ReplyLine::refused(Refusal::LineTooLong)
+    } else {
+        ReplyLine::out_of_memory()
+    }
+}
