@@ -25,7 +25,7 @@ TITLES = {
 def main():
     words = argparse.ArgumentParser(description=__doc__)
     words.add_argument("figures", nargs="+", help="what run.py printed, by time or by instructions")
-    words.add_argument("--codecs", nargs=2, metavar=("OURS", "THEIRS"), help="what codec_speed and codecs printed")
+    words.add_argument("--codecs", nargs=2, metavar=("OURS", "THEIRS"), help="what 'speed codecs' and codecs printed")
     given = words.parse_args()
     files = [rows_of(name) for name in given.figures]
     page = DOCS / "SPEED.md"

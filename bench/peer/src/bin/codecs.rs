@@ -1,4 +1,4 @@
-//! How fast encoding_rs decodes and encodes codec_speed's texts, as codec_speed prints it.
+//! How fast encoding_rs decodes and encodes the texts that `speed codecs` measures, as it prints it.
 
 use encoding_rs::{
     BIG5, EUC_JP, EUC_KR, Encoding, GB18030, GBK, ISO_2022_JP, SHIFT_JIS, UTF_16LE, UTF_8,
@@ -7,13 +7,13 @@ use encoding_rs::{
 use std::hint::black_box;
 use std::time::{Duration, Instant};
 
-#[path = "../../../../crates/codec_speed/src/texts/ascii.rt"]
+#[path = "../../../../crates/oracle/src/texts/ascii.rt"]
 mod ascii;
-#[path = "../../../../crates/codec_speed/src/texts/dense.rt"]
+#[path = "../../../../crates/oracle/src/texts/dense.rt"]
 mod dense;
-#[path = "../../../../crates/codec_speed/src/texts/markup.rt"]
+#[path = "../../../../crates/oracle/src/texts/markup.rt"]
 mod markup;
-#[path = "../../../../crates/codec_speed/src/texts/ordinary.rt"]
+#[path = "../../../../crates/oracle/src/texts/ordinary.rt"]
 mod ordinary;
 
 const MEGABYTE: usize = 1_048_576;

@@ -1,0 +1,39 @@
+//! The texts that are measured, as far as no index file is needed.
+
+use codec::decode_whole;
+use enc_names::Encoding;
+use index_loader::Indexes;
+use oracle::texts::ordinary::{GB18030, GBK, UTF_8, UTF_16LE};
+use std::test::Fail;
+
+#[test]
+fn the_japanese_minutes_are_one_text(rt: HostRuntime) -> Result<(), Fail> {
+    let indexes = Indexes::new();
+    let eight = decode_whole(rt.alloc(), &indexes, Encoding::Utf8, UTF_8)?;
+    let sixteen = decode_whole(rt.alloc(), &indexes, Encoding::Utf16Le, UTF_16LE)?;
+    assert!(rt; eight.errors.is_empty() && sixteen.errors.is_empty());
+    let lines = sixteen.text.replace(rt.alloc(), "\r\n", "\n")?;
+    assert!(rt; lines.as_str() == eight.text.as_str());
+    Ok(())
+}
+
+/// U+3400 in gb18030, which only its ranges have.
+const OF_FOUR_BYTES: &[u8] = b"\x81\x39\xee\x39";
+
+#[test]
+fn the_chinese_minutes_differ_in_a_character_of_four_bytes(rt: HostRuntime) -> Result<(), Fail> {
+    let mut without = Vec::new(rt.alloc());
+    for byte in GBK {
+        if *byte != b'\r' {
+            without.push(*byte)?;
+        }
+    }
+    let at = GB18030.windows(4).position(|four| four == OF_FOUR_BYTES);
+    let Some((before, behind)) = at.and_then(|at| without.split_at_checked(at)) else {
+        assert!(rt; false, "no such character");
+        return Ok(());
+    };
+    assert!(rt; GB18030.starts_with(before) && GB18030.ends_with(behind));
+    assert_eq!(rt; GB18030.len(), without.len() + OF_FOUR_BYTES.len());
+    Ok(())
+}

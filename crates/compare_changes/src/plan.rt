@@ -1,0 +1,91 @@
+//! Changes, planned plainly: from the bytes and the text of the whole document.
+
+use crate::change::Change;
+use crate::escapes::{first_escape, last_escape, put};
+use enc_names::Encoding;
+use encoders::{EncodeFault, EncodeMode, encode};
+use index_loader::Indexes;
+use oracle::{Plain, Text};
+use position_map::{ChangeFault, Plan, PlannedBytes, Position, Range, Unit};
+use std::alloc::Global;
+
+/// The offset of a position.
+fn offset(plain: &Plain, position: Position, unit: Unit) -> Result<usize, ChangeFault> {
+    match plain.to_offset(position, unit) {
+        Ok(offset) => Ok(offset as usize),
+        Err(_) => Err(ChangeFault::SplitsCharacter),
+    }
+}
+
+/// The code points between which a change replaces the text.
+fn ends(plain: &Plain, change: &Change) -> Result<(usize, usize), ChangeFault> {
+    let Some(Range { start, end }) = change.range else {
+        return Ok((0, plain.text.chars.len()));
+    };
+    if (start.line, start.character) > (end.line, end.character) {
+        return Err(ChangeFault::OutOfRange);
+    }
+    let from = offset(plain, start, change.unit)?;
+    Ok((from, offset(plain, end, change.unit)?))
+}
+
+/// The byte in front of code point `n`: the end of the item of the one before it, and at the start
+/// the end of the byte order mark; refused between two code points of one item.
+fn cut(text: &Text, n: usize) -> Result<usize, ChangeFault> {
+    let before = n.checked_sub(1).and_then(|last| text.places.get(last));
+    let Some(place) = before else {
+        return Ok(text.bom_len as usize);
+    };
+    if place.from < place.to && text.places.get(n) == Some(place) {
+        return Err(ChangeFault::SplitsItem);
+    }
+    Ok(place.to as usize)
+}
+
+/// The bytes of the new text in ISO-2022-JP, between the bytes in front and those behind it: from
+/// the escape in force there on, and back to the one in force at the end of what is replaced,
+/// unless an escape follows.
+fn put_iso(
+    alloc: Global,
+    indexes: &Indexes,
+    bytes: &[u8],
+    left: usize,
+    right: usize,
+    text: &[char],
+) -> Result<Vec<u8>, EncodeFault> {
+    let in_force = |at: usize| last_escape(bytes.get(..at).unwrap_or(bytes));
+    let mut ins = Vec::new(alloc);
+    let now = put(alloc, indexes, text, in_force(left), &mut ins)?;
+    let behind = bytes.get(right..).unwrap_or(&[]);
+    if now != in_force(right) && first_escape(behind).is_none() {
+        ins.extend_from_slice(&in_force(right))?;
+    }
+    Ok(ins)
+}
+
+/// The splice that makes a change of the document of these bytes and this text, or the first cause
+/// that refuses it.
+pub fn planned(
+    alloc: Global,
+    indexes: &Indexes,
+    bytes: &[u8],
+    plain: &Plain,
+    change: &Change,
+) -> Result<Plan, ChangeFault> {
+    let (i, j) = ends(plain, change)?;
+    let (left, right) = (cut(&plain.text, i)?, cut(&plain.text, j)?);
+    let ins = match plain.text.encoding {
+        Encoding::Iso2022Jp => put_iso(alloc, indexes, bytes, left, right, &change.text)?,
+        encoding => {
+            let text = change.string(alloc).ok_or(ChangeFault::OutOfMemory)?;
+            encode(alloc, encoding, indexes, EncodeMode::Fatal, &text)?
+        }
+    };
+    Ok(Plan {
+        at: left as u64,
+        del: right.saturating_sub(left) as u64,
+        ins: PlannedBytes::new(ins),
+        i: i as u64,
+        j: j as u64,
+    })
+}

@@ -1,0 +1,48 @@
+//! What events and replies were, as they are counted.
+ghost use Rattle.std.specs.Prelude.{◌≡◌, ◌≤◌, true, slice_index};
+
+/// What an event or a reply was.
+#[derive(Clone, Copy)]
+pub enum Kind {
+    /// An event that was refused.
+    Refused,
+    /// A line that was answered.
+    Line,
+    /// An open or a splice that was accepted.
+    Accepted,
+    /// A change of a range that was accepted.
+    Changed,
+    /// An edit that named another revision.
+    Stale,
+}
+
+/// How many there have to be of each kind.
+const LEAST: [u64; 5] = [100, 1000, 100, 100, 100];
+
+/// Counts of events and of replies.
+pub type Tally = oracle::Tally<5>;
+
+/// Counts a reply.
+pub fn count_reply(tally: &mut Tally, reply: &[u8]) {
+    tally.count(Kind::Line as usize);
+    if reply.starts_with(b"{\"bom\"") {
+        tally.count(Kind::Accepted as usize);
+    }
+    if reply.starts_with(b"{\"at\"") {
+        tally.count(Kind::Changed as usize);
+    }
+    if reply.starts_with(b"{\"fault\":\"Stale\"") {
+        tally.count(Kind::Stale as usize);
+    }
+}
+
+/// Whether there was enough of everything for the comparison to tell something.
+pub fn is_telling(tally: &Tally) -> bool
+    ensures refused { result ≡ true → 100 ≤ slice_index tally.now.seen 0 }
+    ensures lines { result ≡ true → 1000 ≤ slice_index tally.now.seen 1 }
+    ensures accepted { result ≡ true → 100 ≤ slice_index tally.now.seen 2 }
+    ensures changed { result ≡ true → 100 ≤ slice_index tally.now.seen 3 }
+    ensures stale { result ≡ true → 100 ≤ slice_index tally.now.seen 4 }
+{
+    tally.is_telling(&LEAST)
+}

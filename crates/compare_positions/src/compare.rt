@@ -1,0 +1,143 @@
+//! Each call on a document, compared with the plain computation.
+
+use crate::spots::Spots;
+use crate::tally::Tally;
+use oracle::{Plain, Text};
+use piece_rope::Doc;
+use position_map::{
+    PosFault, Position, Unit, byte_to_scalar, convert, line, line_count, scalar_to_place,
+    to_offset, to_position,
+};
+use rand::rngs::SmallRng;
+use std::alloc::Global;
+use sum_tree::visits;
+
+/// The units.
+const UNITS: [Unit; 3] = [Unit::Utf8, Unit::Utf16, Unit::Utf32];
+
+/// A document, what it has to answer, and what was compared so far.
+#[derive(Drop)]
+struct Comparison<'a> {
+    doc: &'a Doc<'a>,
+    plain: &'a Plain,
+    tally: &'a mut Tally,
+}
+
+/// Why nothing was found.
+fn none_found(found: bool) -> Option<PosFault> {
+    if found {
+        None
+    } else {
+        Some(PosFault::OutOfRange)
+    }
+}
+
+impl Comparison<'_> {
+    /// Each call at all these numbers, and the number of lines.
+    fn at_all(&mut self, numbers: &[u64]) {
+        self.line_count();
+        for n in numbers {
+            self.at(*n);
+        }
+    }
+
+    /// The number of lines.
+    fn line_count(&mut self) {
+        let same = line_count(self.doc) == self.plain.line_count();
+        self.tally.count(same, None, 0);
+    }
+
+    /// Each call at a number, taken for a line, a byte, a code point and a unit.
+    fn at(&mut self, n: u64) {
+        self.line(n);
+        self.place(n);
+        for unit in &UNITS {
+            self.position(n, *unit);
+            for to in &UNITS {
+                self.conversion(n, *unit, *to);
+            }
+        }
+    }
+
+    /// The line of this number.
+    fn line(&mut self, n: u64) {
+        let mut visits = visits();
+        let found = line(self.doc, n, &mut visits);
+        let same = found == self.plain.line(n);
+        let fault = none_found(found.is_some());
+        self.tally.count(same, fault, visits.visited());
+    }
+
+    /// Code points by bytes, and bytes by code points.
+    fn place(&mut self, n: u64) {
+        let mut seen = visits();
+        let found = byte_to_scalar(self.doc, n, &mut seen);
+        let same = found == self.plain.byte_to_scalar(n);
+        self.tally.count(same, found.err(), seen.visited());
+        let mut seen = visits();
+        let found = scalar_to_place(self.doc, n, &mut seen);
+        let same = found == self.plain.scalar_to_place(n);
+        let fault = none_found(found.is_some());
+        self.tally.count(same, fault, seen.visited());
+    }
+
+    /// The position of an offset, and the offsets of that position and of its neighbours.
+    fn position(&mut self, offset: u64, unit: Unit) {
+        let mut visits = visits();
+        let found = to_position(self.doc, offset, unit, &mut visits);
+        let same = found == self.plain.to_position(offset, unit);
+        self.tally.count(same, found.err(), visits.visited());
+        let Ok(Position { line, character }) = found else {
+            return;
+        };
+        for more in 0..3 {
+            let character = character.saturating_add(more);
+            self.offset(Position { line, character }, unit);
+        }
+        self.offset(
+            Position {
+                line: offset,
+                character,
+            },
+            unit,
+        );
+    }
+
+    /// The offset of a position.
+    fn offset(&mut self, position: Position, unit: Unit) {
+        let mut visits = visits();
+        let found = to_offset(self.doc, position, unit, &mut visits);
+        let same = found == self.plain.to_offset(position, unit);
+        self.tally.count(same, found.err(), visits.visited());
+    }
+
+    /// Units in another unit.
+    fn conversion(&mut self, value: u64, from: Unit, to: Unit) {
+        let mut visits = visits();
+        let found = convert(self.doc, value, from, to, &mut visits);
+        let same = found == self.plain.convert(value, from, to);
+        self.tally.count(same, found.err(), visits.visited());
+    }
+}
+
+/// Compares each call on a document of these bytes, near the borders of its pieces and at numbers
+/// drawn beside these; `None` where memory is refused.
+pub fn compare(
+    alloc: Global,
+    rng: &mut SmallRng,
+    doc: &Doc<'_>,
+    bytes: &[u8],
+    tally: &mut Tally,
+) -> Option<()> {
+    let text = Text::of(alloc, doc.indexes(), doc.given(), bytes)?;
+    let plain = Plain::of(alloc, text, bytes.len())?;
+    let spots = Spots::of(alloc, rng, doc)?;
+    tally.pass(spots.borders, spots.cut);
+    let mut comparison = Comparison {
+        doc,
+        plain: &plain,
+        tally,
+    };
+    comparison.at_all(&spots.numbers);
+    Some(())
+}

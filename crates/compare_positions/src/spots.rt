@@ -1,0 +1,86 @@
+//! Where calls are compared.
+
+use piece_rope::{Axis, Doc, Sum};
+use rand::RngExt;
+use rand::rngs::SmallRng;
+use std::alloc::Global;
+use sum_tree::visits;
+
+/// How many numbers are drawn for a document, beside those near its pieces' borders.
+const DRAWN: usize = 32;
+
+/// Numbers at which calls are compared, and what the pieces' borders cut.
+#[derive(Drop)]
+pub struct Spots {
+    /// The numbers.
+    pub numbers: Vec<u64>,
+    /// How many borders there are.
+    pub borders: usize,
+    /// How many of them stand between CR and LF.
+    pub cut: usize,
+}
+
+/// The numbers next to this one, up to two away.
+fn push_near(numbers: &mut Vec<u64>, number: u64) -> Option<()> {
+    for n in number.saturating_sub(2)..=number.saturating_add(2) {
+        numbers.push(n).ok()?;
+    }
+    Some(())
+}
+
+impl Spots {
+    /// Numbers drawn up to the document's end and a bit further, and one far behind it.
+    fn drawn(alloc: Global, rng: &mut SmallRng, doc: &Doc<'_>) -> Option<Spots> {
+        let lengths = doc.lengths();
+        let end = lengths.utf8.max(lengths.bytes).saturating_add(3);
+        let mut numbers = Vec::new(alloc);
+        for _ in 0..DRAWN {
+            numbers.push(rng.random_range(0..=end)).ok()?;
+        }
+        numbers.push(u64::MAX).ok()?;
+        Some(Spots {
+            numbers,
+            borders: 0,
+            cut: 0,
+        })
+    }
+
+    /// Takes the numbers near these sums.
+    fn push(&mut self, before: Sum) -> Option<()> {
+        push_near(&mut self.numbers, before.bytes)?;
+        push_near(&mut self.numbers, before.scalars)?;
+        push_near(&mut self.numbers, before.utf16)?;
+        push_near(&mut self.numbers, before.utf8)?;
+        push_near(&mut self.numbers, before.marks)
+    }
+
+    /// Counts the border between a part with these sums and a text that begins with LF or not.
+    fn count(&mut self, before: Sum, lf_first: bool) {
+        if before.bytes > 0 {
+            self.borders = self.borders.saturating_add(1);
+        }
+        if before.cr_last && lf_first {
+            self.cut = self.cut.saturating_add(1);
+        }
+    }
+
+    /// Numbers near every border of a piece, and others; `None` where memory is refused, or where the
+    /// pieces don't end with the document.
+    pub fn of(alloc: Global, rng: &mut SmallRng, doc: &Doc<'_>) -> Option<Spots> {
+        let mut spots = Spots::drawn(alloc, rng, doc)?;
+        let finder = doc.finder();
+        let mut at = 0;
+        // No document has more pieces than bytes.
+        for _ in 0..=doc.lengths().bytes {
+            let (before, found) = finder.find(&Axis::Byte, at, &mut visits());
+            spots.push(before)?;
+            let Some(piece) = found else {
+                return Some(spots);
+            };
+            let sum = piece.here().sum;
+            spots.count(before, sum.lf_first);
+            at = before.bytes.saturating_add(sum.bytes);
+        }
+        None
+    }
+}

@@ -1,0 +1,84 @@
+//! What was compared.
+ghost use Rattle.std.specs.Prelude.{◌≡◌, ◌≤◌, ◌+◌, ◌-◌, ◌^◌, true, min, max, slice_index, if◌then◌else◌};
+
+use position_map::PosFault;
+
+/// The most nodes that a call may visit in a document of any length.
+const MOST_VISITED: u64 = 60;
+
+/// What calls came to, as they are counted.
+#[derive(Clone, Copy)]
+enum Kind {
+    /// Calls of any kind.
+    Call,
+    /// Those that were past the end.
+    OutOfRange,
+    /// Those that were inside a code point.
+    Split,
+}
+
+/// How many there have to be of each kind.
+const LEAST: [u64; 3] = [1000, 100, 0];
+
+/// Counts of calls that were compared, and of the documents that they were made on.
+#[derive(Clone, Copy)]
+pub struct Tally {
+    /// The calls.
+    pub calls: oracle::Tally<3>,
+    /// The most nodes that one of them visited.
+    pub visited: u64,
+    /// The documents.
+    pub documents: u64,
+    /// Borders between pieces near which there were calls.
+    pub borders: usize,
+    /// Those between CR and LF.
+    pub cut: usize,
+}
+
+impl Tally {
+    /// Nothing yet.
+    pub fn new() -> Tally {
+        Tally {
+            calls: oracle::Tally::new(),
+            visited: 0,
+            documents: 0,
+            borders: 0,
+            cut: 0,
+        }
+    }
+
+    /// Counts a call that gave the same answer as the plain computation or not, was refused or not,
+    /// and visited so many nodes.
+    pub fn count(&mut self, same: bool, fault: Option<PosFault>, visited: u64)
+        ensures calls { slice_index self.new.calls.seen 0 ≡ min (slice_index self.old.calls.seen 0 + 1) (2 ^ 64 - 1) }
+        ensures different { self.new.calls.different ≡ (if same then self.old.calls.different else min (self.old.calls.different + 1) (2 ^ 64 - 1)) }
+        ensures visited { self.new.visited ≡ max self.old.visited visited }
+    {
+        self.calls.compare(same);
+        self.calls.count(Kind::Call as usize);
+        match fault {
+            Some(PosFault::OutOfRange) => self.calls.count(Kind::OutOfRange as usize),
+            Some(PosFault::SplitsCharacter) => self.calls.count(Kind::Split as usize),
+            None => {}
+        }
+        self.visited = self.visited.max(visited);
+    }
+
+    /// Counts a document with so many borders between pieces, so many of them between CR and LF.
+    pub fn pass(&mut self, borders: usize, cut: usize) {
+        self.documents = self.documents.saturating_add(1);
+        self.borders = self.borders.saturating_add(borders);
+        self.cut = self.cut.saturating_add(cut);
+    }
+
+    /// Whether every answer was that of the plain computation at few visits, and there was enough
+    /// of everything for the comparison to tell something.
+    pub fn is_telling(&self) -> bool
+        ensures same { result ≡ true → self.now.calls.different ≡ 0 }
+        ensures few { result ≡ true → self.now.visited ≤ 60 }
+        ensures calls { result ≡ true → 1000 ≤ slice_index self.now.calls.seen 0 }
+        ensures out_of_range { result ≡ true → 100 ≤ slice_index self.now.calls.seen 1 }
+    {
+        self.calls.is_telling(&LEAST) && self.visited <= MOST_VISITED
+    }
+}

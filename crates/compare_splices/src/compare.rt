@@ -1,0 +1,43 @@
+//! Documents, spliced one place after another.
+
+use decoder_core::meter;
+use enc_names::Encoding;
+use index_loader::Indexes;
+use oracle::{Splice, Tally, agrees, splice_of, spliced};
+use piece_rope::Doc;
+use rand::SeedableRng;
+use rand::rngs::SmallRng;
+use std::alloc::Global;
+
+/// How many splices each encoding has.
+pub const SPLICES: u64 = 800;
+
+/// The document behind the splice agrees with decoding the bytes behind it from scratch; `None`
+/// where a call is refused.
+fn agrees_behind(
+    alloc: Global,
+    doc: &mut Doc<'_>,
+    given: Encoding,
+    bytes: &[u8],
+    splice: &Splice,
+) -> Option<bool> {
+    let (at, del) = (splice.at as u64, splice.del as u64);
+    doc.splice(at, del, &splice.ins, &mut meter()).ok()?;
+    agrees(alloc, doc, given, bytes)
+}
+
+/// Splices of a document, one after another: how many there were, and how many of them left a
+/// document that differs from decoding from scratch; `None` where a call is refused.
+pub fn compare(alloc: Global, indexes: &Indexes, given: Encoding) -> Option<Tally<1>> {
+    let mut rng = SmallRng::seed_from_u64(1);
+    let mut bytes = Vec::new(alloc);
+    let mut doc = Doc::open(alloc, indexes, given, &bytes, &mut meter()).ok()?;
+    let mut tally = Tally::new();
+    for _ in 0..SPLICES {
+        let splice = splice_of(alloc, &mut rng, bytes.len())?;
+        bytes = spliced(alloc, &bytes, &splice)?;
+        tally.count(0);
+        tally.compare(agrees_behind(alloc, &mut doc, given, &bytes, &splice)?);
+    }
+    Some(tally)
+}

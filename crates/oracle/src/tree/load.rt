@@ -1,0 +1,81 @@
+//! Items of a weight, and the sums of lists of them.
+ghost use Rattle.std.specs.Prelude.{◌≡◌, ◌^◌, ◌<◌};
+ghost use Rattle.oracle.specs.Loads.{load, no_load, joined, IsSmall, number};
+ghost use Rattle.oracle.specs.LoadLaws.{load_laws, small_none, small_left, small_right, number_none, number_rises};
+
+use crate::tree::item::Item;
+use sum_tree::{Dimension, Summary, Summed};
+
+/// How many items there are, and their weight.
+#[derive(Clone, Copy, Debug, PartialEq, Eq)]
+pub struct Load {
+    /// The number of items.
+    pub count: u64,
+    /// The sum of their weights.
+    pub weight: u64,
+}
+
+impl Summary for Load {
+    ghost empty = { no_load };
+
+    ghost op = { joined };
+
+    ghost fits = { IsSmall };
+
+    fn unit() -> Load {
+        Load {
+            count: 0,
+            weight: 0,
+        }
+    }
+
+    fn join(self, other: Load) -> Load {
+        Load {
+            count: self.count + other.count,
+            weight: self.weight + other.weight,
+        }
+    }
+
+    ghost laws = { load_laws };
+
+    ghost empty_fits = { small_none };
+
+    ghost fits_left = { small_left };
+
+    ghost fits_right = { small_right };
+}
+
+impl Summed<Load> for Item {
+    ghost sum_of = { λ x. load 1 x.weight };
+
+    fn sum(&self) -> Load {
+        Load {
+            count: 1,
+            weight: self.weight,
+        }
+    }
+}
+
+/// What items are sought by.
+#[derive(Clone, Copy, Debug)]
+pub enum Axis {
+    /// Their number.
+    Count,
+    /// Their weight.
+    Weight,
+}
+
+impl Dimension<Load> for Axis {
+    ghost measure = { number };
+
+    fn of(&self, sum: &Load) -> u64 {
+        match self {
+            Axis::Count => sum.count,
+            Axis::Weight => sum.weight,
+        }
+    }
+
+    ghost zero = { number_none };
+
+    ghost monotone = { number_rises };
+}

@@ -1,0 +1,176 @@
+//! How fast each lane kernel is, beside a plain loop with the same answer.
+
+use crate::byte_kernels::{BYTE_KERNELS, ByteKernel};
+use crate::failure::Failure;
+use crate::fastest::Fastest;
+use crate::text_kernels::{Forms, TEXT_KERNELS, TextKernel};
+use oracle::megabytes_per_second;
+use std::time::{Duration, Instant};
+
+/// Who does the work.
+#[derive(Clone, Copy)]
+pub enum By {
+    /// The kernel.
+    Kernel,
+    /// The plain loop, over text the standard library.
+    Plain,
+}
+
+/// How many rounds there are, of which the fastest counts.
+const ROUNDS: u32 = 15;
+
+/// Text of lines, as it is in ASCII.
+const LINES: &[u8] = b"<p>Minutes of the council, third reading.</p>\r\n<ul>\n";
+
+/// The sizes of slice that are measured, in bytes.
+const SIZES: [usize; 4] = [64, 4_096, 65_536, 1_048_576];
+
+/// How many bytes a round passes over, or a few less.
+const ROUND: usize = 4_194_304;
+
+/// At how many places of the text a slice begins, in turns: at each alignment.
+const STARTS: usize = 64;
+
+/// Texts whose code points have one, two and three bytes, with spaces between the words.
+const TEXTS: [(&str, &str); 3] = [
+    ("English", "The minutes of the council, third reading. "),
+    ("Russian", "Протокол заседания совета, третье чтение. "),
+    ("Japanese", "評議会の議事録、第三回の朗読。新しい図書館の計画について。"),
+];
+
+/// The most bytes of a text that is measured.
+const TEXT_SIZE: usize = 65_536;
+
+/// How often a text is passed over in a round.
+const TURNS: u32 = 32;
+
+/// Prints the names of the kernels, and how to measure.
+pub fn list(rt: &HostRuntime) -> Result<(), Failure> {
+    for (name, _) in &BYTE_KERNELS {
+        println!(rt; "{name}")?;
+    }
+    for (name, _) in &TEXT_KERNELS {
+        println!(rt; "{name}")?;
+    }
+    println!(rt; "'speed lanes' measures them.")?;
+    Ok(())
+}
+
+/// Prints how fast each kernel is, a line a size or a text.
+pub fn measure(rt: &HostRuntime) -> Result<(), Failure> {
+    for (name, kernel) in &BYTE_KERNELS {
+        for size in &SIZES {
+            measure_size(rt, name, *kernel, *size)?;
+        }
+    }
+    for (name, kernel) in &TEXT_KERNELS {
+        for (language, sample) in &TEXTS {
+            measure_text(rt, name, *kernel, language, sample)?;
+        }
+    }
+    Ok(())
+}
+
+/// Prints how fast a kernel is over slices of a size.
+fn measure_size(
+    rt: &HostRuntime,
+    name: &str,
+    kernel: ByteKernel,
+    size: usize,
+) -> Result<(), Failure> {
+    let passed = turns(size).saturating_mul(size);
+    let plain = megabytes_per_second(passed, fastest_slices(rt, kernel, By::Plain, size)?);
+    let kernel = megabytes_per_second(passed, fastest_slices(rt, kernel, By::Kernel, size)?);
+    println!(rt; "{name:<17} {size:>8} bytes {kernel:>7} MB/s, plain {plain:>6} MB/s")?;
+    Ok(())
+}
+
+/// Prints how fast a kernel is over copies of a text, in bytes of the text's UTF-8.
+fn measure_text(
+    rt: &HostRuntime,
+    name: &str,
+    kernel: TextKernel,
+    language: &str,
+    sample: &str,
+) -> Result<(), Failure> {
+    let copies = TEXT_SIZE.checked_div(sample.len()).unwrap_or(0);
+    let text = sample.repeat(rt.alloc(), copies)?;
+    let plain = fastest_pass(rt, kernel, By::Plain, text.as_str())?;
+    let kernel = fastest_pass(rt, kernel, By::Kernel, text.as_str())?;
+    let plain = megabytes_per_second(text.len(), plain);
+    let kernel = megabytes_per_second(text.len(), kernel);
+    println!(rt; "{name:<20} {language:<9} {kernel:>7} MB/s, std {plain:>6} MB/s")?;
+    Ok(())
+}
+
+/// The time of the fastest of some rounds over slices of that size.
+fn fastest_slices(
+    rt: &HostRuntime,
+    kernel: ByteKernel,
+    by: By,
+    size: usize,
+) -> Result<Duration, Failure> {
+    let needed = size.saturating_add(STARTS);
+    let copies = needed.checked_div(LINES.len()).unwrap_or(0);
+    let mut bytes = LINES.repeat(rt.alloc(), copies.saturating_add(1))?;
+    let mut units = vec![in rt.alloc(); 0u16; size]?;
+    let mut best = Fastest::new();
+    for _ in 0..ROUNDS {
+        let start = Instant::now(rt)?;
+        let sum = round_of_slices(kernel, by, &mut bytes, &mut units, size);
+        best.take(rt, start, sum)?;
+    }
+    Ok(best.time)
+}
+
+/// Works on slices of that size that begin at one place after the other.
+#[inline(never)] // So that the whole round is between the two looks at the clock.
+fn round_of_slices(
+    kernel: ByteKernel,
+    by: By,
+    bytes: &mut [u8],
+    units: &mut [u16],
+    size: usize,
+) -> usize {
+    let mut sum: usize = 0;
+    for turn in 0..turns(size) {
+        if let Some(slice) = bytes.get_mut(turn % STARTS..) {
+            if let Some(slice) = slice.get_mut(..size) {
+                sum = sum.wrapping_add(kernel.run(by, slice, units));
+            }
+        }
+    }
+    sum
+}
+
+/// How many slices of a size make a round.
+fn turns(size: usize) -> usize {
+    ROUND.checked_div(size).unwrap_or(0)
+}
+
+/// The time of one pass over a text, in the fastest of some rounds.
+fn fastest_pass(
+    rt: &HostRuntime,
+    kernel: TextKernel,
+    by: By,
+    text: &str,
+) -> Result<Duration, Failure> {
+    let mut forms = Forms::of(rt.alloc(), text)?;
+    let mut best = Fastest::new();
+    for _ in 0..ROUNDS {
+        let start = Instant::now(rt)?;
+        let sum = round_of_passes(kernel, by, text, &mut forms);
+        best.take(rt, start, sum)?;
+    }
+    Ok(best.time.checked_div(TURNS).unwrap_or(best.time))
+}
+
+/// Works on the text again and again.
+#[inline(never)] // As the round of slices.
+fn round_of_passes(kernel: TextKernel, by: By, text: &str, forms: &mut Forms) -> usize {
+    let mut sum: usize = 0;
+    for _ in 0..TURNS {
+        sum = sum.wrapping_add(kernel.run(by, text, forms));
+    }
+    sum
+}

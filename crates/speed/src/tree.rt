@@ -1,0 +1,127 @@
+//! How many nodes a search visits in a tree of items, and how long edits and searches take.
+
+use crate::failure::Failure;
+use crate::fastest::Fastest;
+use oracle::tree::{Axis, Items, light, put, take};
+use rand::rngs::SmallRng;
+use rand::{RngExt, SeedableRng};
+use std::alloc::{AllocError, Global};
+use std::time::{Duration, Instant};
+use sum_tree::{SumTree, visits};
+
+/// The sizes that are looked at.
+const SIZES: [usize; 2] = [4097, 32769];
+
+/// How often each step is timed.
+const ROUNDS: usize = 20;
+
+/// How many edits or searches a step has.
+const STEPS: usize = 1000;
+
+/// Prints how many nodes a search visits, and how to measure.
+pub fn list(rt: &HostRuntime) -> Result<(), Failure> {
+    for count in &SIZES {
+        let items = grown(rt.alloc(), *count)?;
+        let (fewest, most) = visited(&items);
+        println!(rt; "{count:>6} items: a find visits {fewest} to {most} nodes")?;
+    }
+    println!(rt; "'speed tree' measures how long a step takes.")?;
+    Ok(())
+}
+
+/// Prints what each step costs.
+pub fn measure(rt: &HostRuntime) -> Result<(), Failure> {
+    for count in &SIZES {
+        let mut items = grown(rt.alloc(), *count)?;
+        measure_one(rt, &mut items)?;
+    }
+    Ok(())
+}
+
+/// Prints what each step costs in a list: the fastest of some rounds of a thousand finds, inserts
+/// and removes.
+fn measure_one(rt: &HostRuntime, items: &mut Items) -> Result<(), Failure> {
+    let count = items.len();
+    let mut rng = SmallRng::seed_from_u64(2);
+    let (mut find, mut insert, mut remove) = (Fastest::new(), Fastest::new(), Fastest::new());
+    for _ in 0..ROUNDS {
+        let targets = targets(&mut rng, items.len());
+        let start = Instant::now(rt)?;
+        let visited = search(items, &targets);
+        find.take(rt, start, visited)?;
+        let start = Instant::now(rt)?;
+        put_all(items, &targets);
+        insert.take(rt, start, items.len())?;
+        let start = Instant::now(rt)?;
+        take_all(items, &targets);
+        remove.take(rt, start, items.len())?;
+    }
+    let (insert, remove, find) = (each(insert.time), each(remove.time), each(find.time));
+    println!(rt; "{count:>6} items: insert {insert} ns, remove {remove} ns, find {find} ns")?;
+    Ok(())
+}
+
+/// Nanoseconds a step.
+fn each(time: Duration) -> u128 {
+    time.as_nanos() / STEPS as u128
+}
+
+/// A list of so many items, each put at a place that looks random, with places for more.
+fn grown(alloc: Global, count: usize) -> Result<Items, AllocError> {
+    let mut items = SumTree::new(alloc);
+    items.reserve(count.saturating_add(STEPS))?;
+    let mut rng = SmallRng::seed_from_u64(1);
+    for _ in 0..count {
+        let i = rng.random_range(0..=items.len());
+        let weight = rng.random_range(0..65536usize);
+        put(&mut items, i, light(weight));
+    }
+    Ok(items)
+}
+
+/// The fewest and the most nodes that a find of an item by its number visits.
+fn visited(items: &Items) -> (u64, u64) {
+    let finder = items.finder();
+    let mut fewest = u64::MAX;
+    let mut most = 0;
+    for i in 0..items.len() {
+        let mut count = visits();
+        let _ = finder.find(&Axis::Count, i as u64, &mut count);
+        fewest = fewest.min(count.visited());
+        most = most.max(count.visited());
+    }
+    (fewest, most)
+}
+
+/// Numbers of items of a list of this length.
+fn targets(rng: &mut SmallRng, len: usize) -> [usize; STEPS] {
+    let mut targets = [0; STEPS];
+    for target in &mut targets {
+        *target = rng.random_range(0..len.max(1));
+    }
+    targets
+}
+
+/// Finds each of these items by its number, and returns how many nodes it has visited.
+fn search(items: &Items, targets: &[usize]) -> usize {
+    let finder = items.finder();
+    let mut count = visits();
+    for target in targets {
+        let _ = finder.find(&Axis::Count, *target as u64, &mut count);
+    }
+    count.visited() as usize
+}
+
+/// Puts an item in front of each of these places.
+fn put_all(items: &mut Items, targets: &[usize]) {
+    for target in targets {
+        put(items, *target, light(*target));
+    }
+}
+
+/// Takes the items at these places out.
+fn take_all(items: &mut Items, targets: &[usize]) {
+    for target in targets {
+        take(items, *target);
+    }
+}

@@ -1,9 +1,0 @@
-use Rattle.std.proofs.Common.{arith, slice_set}
-use Rattle.std.proofs.lemmas.List.{length-set}
-use Rattle.tree_speed.proofs.Light.{all_fit}
-use Rattle.tree_speed.proofs.items.swap.Goals as goal
-
-pub replace-requires-clause-fit : goal.replace-requires-clause-fit
-replace-requires-clause-fit c =
-    let items = c.args.items.now.items in
-    c.sums_of_lists.ensures.runs (slice_set items c.args.i c.args.item) (all_fit (slice_set items c.args.i c.args.item) (omega (arith, length-set items c.args.i c.args.item)))
