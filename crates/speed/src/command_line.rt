@@ -40,7 +40,8 @@ pub fn job_of(alloc: Global, words: &[String]) -> Result<Job<'_>, Error> {
     Ok(Job::List)
 }
 
-/// The command line's form.
+/// The command line's form. Each part goes into the next call, so that none is left over where memory
+/// is refused: what is left over has to be dropped, and the drop of a command is long to prove.
 fn command<'a>(alloc: Global) -> Result<Command<'a>, Error> {
     let indexes = Arg::new(alloc, "indexes")
         .long("indexes")
@@ -50,16 +51,15 @@ fn command<'a>(alloc: Global) -> Result<Command<'a>, Error> {
     let codecs = Command::new(alloc, CODECS)
         .about("How fast a megabyte of text is decoded and encoded in each encoding")
         .arg(indexes)?;
+    let speed = Command::new(alloc, "speed")
+        .about("How fast the parts are. Without a command all that is measured is listed.")
+        .no_binary_name(true)
+        .subcommand(codecs)?;
     let lanes = Command::new(alloc, LANES).about(
         "How fast each lane kernel is, beside a plain loop",
     );
+    let speed = speed.subcommand(lanes)?;
     let tree = Command::new(alloc, TREE).about("How long a step in the tree of sums takes");
-    let speed = Command::new(alloc, "speed")
-        .bin_name("speed")?
-        .about("How fast the parts are. Without a command all that is measured is listed.")
-        .no_binary_name(true)
-        .subcommand(lanes)?
-        .subcommand(codecs)?
-        .subcommand(tree)?;
-    Ok(speed)
+    let speed = speed.subcommand(tree)?;
+    Ok(speed.bin_name("speed")?)
 }

@@ -21,20 +21,24 @@ impl Failure {
     /// Prints the failure, and returns the exit status: 0 for help, 2 for a mistake in the words or the
     /// files, and else 1.
     pub fn print(&self, rt: &HostRuntime) -> u8 {
-        let (printed, status) = match self {
-            Failure::Words(error) if error.use_stderr() => (error.print(rt), 2),
-            Failure::Words(error) => (error.print(rt), 0),
+        let _ = match self {
+            Failure::Words(error) => error.print(rt),
             Failure::Folder(FolderFault::CannotRead(name)) => {
-                (eprintln!(rt; "speed: cannot read {name}"), 2)
+                eprintln!(rt; "speed: cannot read {name}")
             }
-            Failure::Folder(FolderFault::Index(fault)) => (eprintln!(rt; "speed: {fault}"), 2),
-            Failure::Device(error) => (eprintln!(rt; "speed: {error}"), 1),
+            Failure::Folder(FolderFault::Index(fault)) => eprintln!(rt; "speed: {fault}"),
+            Failure::Device(error) => eprintln!(rt; "speed: {error}"),
             Failure::Folder(FolderFault::OutOfMemory) | Failure::OutOfMemory => {
-                (eprintln!(rt; "speed: out of memory"), 1)
+                eprintln!(rt; "speed: out of memory")
             }
         };
-        let _ = printed;
-        status
+        match self {
+            Failure::Words(error) if !error.use_stderr() => 0,
+            Failure::Words(_) => 2,
+            Failure::Folder(FolderFault::CannotRead(_) | FolderFault::Index(_)) => 2,
+            Failure::Folder(FolderFault::OutOfMemory) => 1,
+            Failure::Device(_) | Failure::OutOfMemory => 1,
+        }
     }
 }
 
