@@ -9,16 +9,22 @@ use std::test::Fail;
 use std::time::Duration;
 
 /// Lines with each kind of end, an escape and a byte that isn't ASCII.
-const LINES: [u8; 67] =
+const LINES: [u8; 66] =
     *b"line one\r\nline two\nand\rthe last line, with \x1B in it and \x80 behind\n\n.";
 
 #[test]
 fn plain_loops_answer_as_the_kernels(rt: HostRuntime) {
     assert_eq!(&rt; ascii_run(&LINES), byte_loops::ascii_run(&LINES));
     assert_eq!(&rt; plain_run_iso(&LINES), byte_loops::plain_run_iso(&LINES));
-    assert_eq!(&rt; count_line_ends(&LINES, false), byte_loops::count_line_ends(&LINES));
+    assert_eq!(&rt;
+        count_line_ends(&LINES, false),
+        byte_loops::count_line_ends(&LINES)
+    );
     for n in [0, 1, 2, 3, 4, 5, usize::MAX] {
-        assert_eq!(&rt; nth_line_end(&LINES, false, n), byte_loops::nth_line_end(&LINES, n));
+        assert_eq!(&rt;
+            nth_line_end(&LINES, false, n),
+            byte_loops::nth_line_end(&LINES, n)
+        );
     }
 }
 
@@ -48,7 +54,10 @@ fn the_standard_library_answers_as_the_kernels_over_text(rt: HostRuntime) -> Res
     let written = utf8_to_utf16(TEXT, &mut units).ok();
     assert_eq!(&rt; written, Some(text_loops::to_utf16(TEXT, &mut plain)));
     assert!(rt; units.as_slice() == plain.as_slice());
-    assert_eq!(&rt; first_lone_surrogate(&units), text_loops::first_lone_surrogate(&units));
+    assert_eq!(&rt;
+        first_lone_surrogate(&units),
+        text_loops::first_lone_surrogate(&units)
+    );
     Ok(())
 }
 

@@ -45,7 +45,7 @@ fn measure_one(rt: &HostRuntime, items: &mut Items) -> Result<(), Failure> {
     let mut rng = SmallRng::seed_from_u64(2);
     let (mut find, mut insert, mut remove) = (Fastest::new(), Fastest::new(), Fastest::new());
     for _ in 0..ROUNDS {
-        let targets = targets(&mut rng, items.len());
+        let targets = targets(rt.alloc(), &mut rng, items.len())?;
         let start = Instant::now(rt)?;
         let visited = search(items, &targets);
         find.take(rt, start, visited)?;
@@ -93,13 +93,13 @@ fn visited(items: &Items) -> (u64, u64) {
     (fewest, most)
 }
 
-/// Numbers of items of a list of this length.
-fn targets(rng: &mut SmallRng, len: usize) -> [usize; STEPS] {
-    let mut targets = [0; STEPS];
-    for target in &mut targets {
-        *target = rng.random_range(0..len.max(1));
+/// The numbers of so many items of a list of this length, drawn at random.
+fn targets(alloc: Global, rng: &mut SmallRng, len: usize) -> Result<Vec<usize>, AllocError> {
+    let mut targets = Vec::new(alloc);
+    for _ in 0..STEPS {
+        targets.push(rng.random_range(0..len.max(1)))?;
     }
-    targets
+    Ok(targets)
 }
 
 /// Finds each of these items by its number, and returns how many nodes it has visited.
