@@ -14,3 +14,5 @@ mod of_encoders;
 mod of_iso2022jp;
 #[cfg(test)]
 mod of_multibyte_decoders;
+#[cfg(test)]
+mod of_texts;

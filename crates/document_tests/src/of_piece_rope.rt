@@ -10,7 +10,6 @@ use std::process::Abort;
 use std::test::Fail;
 
 mod cases;
-mod compare;
 mod kept;
 mod marks;
 mod meters;

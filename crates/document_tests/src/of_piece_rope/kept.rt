@@ -1,9 +1,9 @@
 //! Splices that are to keep the text, alone and among 3,000 letters: each is made or refused, and a
 //! refused one changes nothing.
 
-use super::compare::agrees;
 use super::*;
 use crate::indexes::small_indexes;
+use oracle::agrees;
 
 /// A splice of some bytes, and the code points that it is to replace.
 #[derive(Clone, Copy)]

@@ -1,8 +1,8 @@
 //! Documents of several pieces: what a splice decodes, and line ends that pieces cut.
 
-use super::compare::pieces_are_sized;
 use super::*;
 use crate::indexes::small_indexes;
+use oracle::pieces_are_sized;
 
 /// How far the splice raises the meter.
 fn raised(doc: &mut Doc<'_>, at: u64, del: u64, ins: &[u8]) -> Result<u64, DocFault> {
