@@ -409,6 +409,8 @@ fn adoptions(
     rows: &[(&str, Encoding, &[u8], Result<(), Fault>)],
 ) {
     for (n, (name, given, bytes, answer)) in rows.iter().enumerate() {
+        // What the caller of `adopt` has to show.
+        assert!(rt; 1 <= name.len() && name.len() <= 64, "row {n}");
         assert_eq!(rt; desk.adopt(name, *given, bytes, 7), *answer, "row {n}");
     }
 }
