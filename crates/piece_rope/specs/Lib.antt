@@ -11,9 +11,11 @@ pub mod Examples
 pub mod Kept
 pub mod KeptExamples
 pub mod Made
+pub mod Outcomes
 pub mod Outputs
 pub mod Parts
 pub mod Resync
+pub mod Search
 pub mod Sizes
 pub mod Splice
 pub mod Window

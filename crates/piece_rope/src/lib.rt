@@ -30,5 +30,7 @@ pub use doc::Doc;
 pub use entered::Entered;
 pub use fault::DocFault;
 pub use lengths::Lengths;
-pub use state_memo::{Axis, Outcome, Sum, Text};
+pub use state_memo::{
+    Axis, Ended, Outcome, Sum, Text, begins_lf, count_marks, ends_cr, mark_laws, sum_laws,
+};
 pub use sum_tree::{Finder, Visits};

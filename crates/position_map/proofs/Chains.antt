@@ -3,13 +3,9 @@ use Rattle.std.proofs.Common.{◌≡◌, refl, sym, ap, subst, ◌∙◌, ℕ, z
 use Rattle.std.specs.Option.{option_map, unwrap_or}
 use Rattle.std.proofs.lemmas.Bool.Decides.{nat_tests}
 use Rattle.enc_names.specs.declared.place.Place.{Place}
-use Rattle.state_memo.specs.Decoding.{Ended as Turned, Item, One, Two, Error, Placed, places, item_code_points, code_points, Ascii, decode, run_in, in_force, mark_length}
-use Rattle.state_memo.specs.declared.axis.Axis.TheVariants.{Scalar}
-use Rattle.state_memo.specs.declared.ended.Ended.{Ended}
-use Rattle.state_memo.specs.declared.outcome.Outcome.{Outcome}
-use Rattle.state_memo.specs.declared.sum.Sum.{Sum}
-use Rattle.state_memo.specs.Fitting.{total_of}
-use Rattle.state_memo.specs.Items.{all_scalars, item_of}
+use Rattle.piece_rope.specs.Decode.{Ended as Turned, Item, One, Two, Error, Placed, places, item_code_points, code_points, Ascii, decode, run_in, in_force, mark_length}
+use Rattle.piece_rope.specs.Search.{Scalar}
+use Rattle.piece_rope.specs.Outcomes.{Ended, Outcome, Sum, total_of, all_scalars, item_of}
 use Rattle.piece_rope.specs.Document.{Document, decoded}
 use Rattle.position_map.specs.Found.{IsFoundOutcome}
 use Rattle.piece_rope.specs.Made.{IsEnded, AreEnded, AreMade, ends_at}

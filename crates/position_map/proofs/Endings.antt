@@ -1,7 +1,7 @@
 -- The line end that a text begins with, by its first code points.
 use Rattle.std.proofs.Common.{◌≡◌, sym, ap, ◌∙◌, ℕ, ◌<◌, Bool, true, false, cond, ◌==◌, List, [], ◌∷◌, ◌++◌, length, length-append, arith}
 use Rattle.lane_ascii.specs.Marks.{ends_cr}
-use Rattle.state_memo.specs.Lines.{begins_lf}
+use Rattle.piece_rope.specs.Outcomes.{begins_lf}
 use Rattle.position_map.specs.declared.ending.Ending.TheVariants.{Two, One, Open}
 use Rattle.position_map.specs.Cuts.{IsScalarCut}
 use Rattle.position_map.specs.LineEnds.{ending_of}

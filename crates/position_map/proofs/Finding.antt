@@ -1,14 +1,9 @@
 -- The pieces of a document and its tail, as outcomes in a row.
 use Rattle.std.proofs.Common.{◌≡◌, refl, sym, ap, subst, ◌∙◌, ℕ, ◌+◌, ◌*◌, ◌<◌, ◌≤◌, List, [], ◌∷◌, ◌++◌, length, length-append, map, take-append-drop, append_assoc, append-nil, arith, Option, Some, None, Bor, option_copied}
 use Rattle.std.specs.Option.{option_to_list, option_map, IfSome}
-use Rattle.sum_tree.specs.Reached.{IsFound}
-use Rattle.sum_tree.specs.Sums.{total}
-use Rattle.state_memo.specs.Decoding.{Placed}
-use Rattle.state_memo.specs.declared.axis.Axis.{Axis}
-use Rattle.state_memo.specs.declared.outcome.Outcome.{Outcome}
-use Rattle.state_memo.specs.declared.sum.Sum.{Sum}
-use Rattle.state_memo.specs.Fitting.{total_of}
-use Rattle.state_memo.specs.Sums.{no_sum, joined, measure}
+use Rattle.piece_rope.specs.Search.{IsFound, total, Axis, measure}
+use Rattle.piece_rope.specs.Decode.{Placed}
+use Rattle.piece_rope.specs.Outcomes.{Outcome, Sum, total_of, no_sum, joined}
 use Rattle.piece_rope.specs.Document.{Document, decoded}
 use Rattle.piece_rope.specs.Entry.{Entry, here_of, entry_sum}
 use Rattle.position_map.specs.Found.{sum_in_outcome, IsFoundOutcome}

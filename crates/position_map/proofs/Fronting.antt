@@ -5,9 +5,8 @@ use Rattle.std.specs.List.{slice_get}
 use Rattle.std.proofs.lemmas.List.{take_at}
 use Rattle.std.proofs.lemmas.Option.{slice_get_past}
 use Rattle.std.proofs.lemmas.Bool.Decides.{nat_tests}
-use Rattle.state_memo.specs.declared.axis.Axis.{Axis}
-use Rattle.state_memo.specs.declared.sum.Sum.{Sum}
-use Rattle.state_memo.specs.Sums.{measure}
+use Rattle.piece_rope.specs.Search.{Axis, measure}
+use Rattle.piece_rope.specs.Outcomes.{Sum}
 use Rattle.position_map.specs.declared.fault.PosFault.{PosFault}
 use Rattle.position_map.specs.declared.fault.PosFault.TheVariants.{OutOfRange, SplitsCharacter}
 use Rattle.position_map.specs.declared.point.Point.{Point}

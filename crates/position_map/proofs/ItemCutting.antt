@@ -3,12 +3,8 @@ use Rattle.std.proofs.Common.{◌≡◌, refl, sym, ap, subst, ◌∙◌, ℕ, s
 use Rattle.std.specs.Option.{option_eq, option_map}
 use Rattle.std.proofs.lemmas.Bool.Decides.{nat_tests}
 use Rattle.std.proofs.lemmas.List.Elements.{All-head, All-tail}
-use Rattle.state_memo.specs.Decoding.{Ended as Turned, Ascii, Placed, places, item_code_points, code_points, decode, run_in, in_force, mark_length}
-use Rattle.state_memo.specs.declared.ended.Ended.{Ended}
-use Rattle.state_memo.specs.declared.outcome.Outcome.{Outcome}
-use Rattle.state_memo.specs.declared.sum.Sum.{Sum}
-use Rattle.state_memo.specs.Fitting.{total_of}
-use Rattle.state_memo.specs.Items.{item_of}
+use Rattle.piece_rope.specs.Decode.{Ended as Turned, Ascii, Placed, places, item_code_points, code_points, decode, run_in, in_force, mark_length}
+use Rattle.piece_rope.specs.Outcomes.{Ended, Outcome, Sum, total_of, item_of}
 use Rattle.piece_rope.specs.Document.{Document, decoded, text_of}
 use Rattle.piece_rope.specs.Made.{AreEnded, AreMade, ends_at}
 use Rattle.piece_rope.specs.Outputs.{output_at, HasOutputs, HaveOutputs}

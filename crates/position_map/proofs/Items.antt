@@ -5,14 +5,9 @@ use Rattle.std.specs.Option.{unwrap_or, IfSome}
 use Rattle.std.proofs.lemmas.Bool.Decides.{nat_tests}
 use Rattle.std.proofs.lemmas.Int.{ints}
 use lib.Signed.{le_z}
-use Rattle.state_memo.specs.Decoding.{Placed, item_code_points, code_points}
-use Rattle.state_memo.specs.declared.axis.Axis.{Axis}
-use Rattle.state_memo.specs.declared.axis.Axis.TheVariants.{Byte}
-use Rattle.state_memo.specs.declared.ended.Ended.{Ended}
-use Rattle.state_memo.specs.declared.outcome.Outcome.{Outcome}
-use Rattle.state_memo.specs.declared.sum.Sum.{Sum}
-use Rattle.state_memo.specs.Fitting.{total_of}
-use Rattle.state_memo.specs.Items.{all_scalars, scalars_before}
+use Rattle.piece_rope.specs.Decode.{Placed, item_code_points, code_points}
+use Rattle.piece_rope.specs.Search.{Axis, Byte}
+use Rattle.piece_rope.specs.Outcomes.{Ended, Outcome, Sum, total_of, all_scalars, scalars_before}
 use Rattle.piece_rope.specs.Document.{decoded, text_of}
 use Rattle.position_map.specs.declared.fault.PosFault.TheVariants.{OutOfRange}
 use Rattle.position_map.specs.declared.point.Point.{Point}

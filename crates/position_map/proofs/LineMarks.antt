@@ -6,7 +6,7 @@ use Rattle.std.proofs.lemmas.Bool.Decides.{nat_tests}
 use Rattle.std.proofs.lemmas.List.Sums.{sum_by-cons}
 use Rattle.position_map.specs.Lines.{Line, lines_from, lines_of}
 use Rattle.lane_ascii.specs.Marks.{cr, lf, is_mark, one_if, marks, ends_cr}
-use Rattle.state_memo.specs.Lines.{begins_lf}
+use Rattle.piece_rope.specs.Outcomes.{begins_lf}
 use Rattle.position_map.specs.Marked.{IsMark, start_of, end_of}
 
 abbrev pub line : ℕ → ℕ → Line

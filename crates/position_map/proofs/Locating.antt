@@ -2,15 +2,9 @@
 use Rattle.std.proofs.Common.{◌≡◌, refl, sym, ap, subst, ◌∙◌, ℕ, ◌+◌, ◌<◌, inl, inr, List, [], ◌∷◌, ◌++◌, append_assoc, append-nil, arith, Option, Some, None, Bor, option_copied}
 use Rattle.std.specs.List.{flat_map}
 use Rattle.std.specs.Option.{unwrap_or}
-use Rattle.state_memo.specs.Decoding.{Placed, item_code_points, code_points}
-use Rattle.state_memo.specs.declared.axis.Axis.{Axis}
-use Rattle.state_memo.specs.declared.axis.Axis.TheVariants.{Byte, Scalar, Utf16 as by_utf16, Utf8 as by_utf8, Mark}
-use Rattle.state_memo.specs.declared.ended.Ended.{Ended}
-use Rattle.state_memo.specs.declared.outcome.Outcome.{Outcome}
-use Rattle.state_memo.specs.declared.sum.Sum.{Sum}
-use Rattle.state_memo.specs.Facts.{IsSumOf}
-use Rattle.state_memo.specs.Fitting.{total_of}
-use Rattle.state_memo.specs.Sums.{joined, measure}
+use Rattle.piece_rope.specs.Decode.{Placed, item_code_points, code_points}
+use Rattle.piece_rope.specs.Search.{Axis, Byte, Scalar, Utf16 as by_utf16, Utf8 as by_utf8, Mark, measure}
+use Rattle.piece_rope.specs.Outcomes.{Ended, Outcome, Sum, IsSumOf, total_of, joined}
 use Rattle.piece_rope.specs.Document.{Document, decoded, text_of}
 use Rattle.position_map.specs.Found.{IsFoundOutcome}
 use Rattle.position_map.specs.Located.{IsLocated, IsOfText, reach}

@@ -6,7 +6,7 @@ use Rattle.std.specs.Str.{chars}
 use Rattle.std.proofs.lemmas.List.{take_at, drop_at}
 use Rattle.std.proofs.lemmas.Bool.Decides.{nat_tests}
 use Rattle.lane_ascii.specs.Marks.{cr, lf, is_mark, one_if, marks, ends_cr}
-use Rattle.state_memo.specs.Lines.{begins_lf}
+use Rattle.piece_rope.specs.Outcomes.{begins_lf}
 use Rattle.position_map.specs.declared.mark.Mark.{Mark}
 use Rattle.position_map.specs.declared.next_line.NextLine.{NextLine}
 use Rattle.position_map.specs.declared.point.Point.{Point}

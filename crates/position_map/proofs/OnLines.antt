@@ -5,9 +5,8 @@ use Rattle.std.specs.List.{slice_get}
 use Rattle.std.proofs.lemmas.List.{take_at, drop_at}
 use Rattle.std.proofs.lemmas.Bool.Decides.{nat_tests}
 use Rattle.lane_ascii.specs.Marks.{cr, is_mark, one_if, marks, ends_cr}
-use Rattle.state_memo.specs.declared.axis.Axis.TheVariants.{Scalar}
-use Rattle.state_memo.specs.declared.sum.Sum.{Sum}
-use Rattle.state_memo.specs.Lines.{begins_lf}
+use Rattle.piece_rope.specs.Search.{Scalar}
+use Rattle.piece_rope.specs.Outcomes.{Sum, begins_lf}
 use Rattle.position_map.specs.declared.fault.PosFault.TheVariants.{OutOfRange}
 use Rattle.position_map.specs.declared.on_line.OnLine.{OnLine}
 use Rattle.position_map.specs.declared.point.Point.{Point}

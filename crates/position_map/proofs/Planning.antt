@@ -13,7 +13,7 @@ use Rattle.encoders.specs.declared.fault.EncodeFault.TheVariants.{NoIndex, NoEnc
 use Rattle.encoders.specs.declared.mode.EncodeMode.TheVariants.{Fatal}
 use Rattle.encoders.specs.Encode.{encoded, encoded_in, bytes_only, from_fault, IsEncoded}
 use Rattle.encoders.specs.Steps.{Put, escape_of, IsFrom}
-use Rattle.state_memo.specs.Decoding.{OutputState}
+use Rattle.piece_rope.specs.Decode.{OutputState}
 use Rattle.piece_rope.specs.Document.{Document, decoded, text_of}
 use Rattle.piece_rope.specs.Outputs.{output_at}
 use Rattle.position_map.specs.declared.change_fault.ChangeFault.{ChangeFault}

@@ -8,11 +8,8 @@ use Rattle.std.proofs.lemmas.List.{take_at, drop_at, drop-drop, drop_all, take_a
 use Rattle.std.proofs.lemmas.Option.{slice_get_past, slice_get_within}
 use Rattle.std.proofs.lemmas.Bool.Decides.{nat_tests}
 use Rattle.lane_ascii.specs.Marks.{cr, lf, is_mark, one_if, marks, ends_cr}
-use Rattle.state_memo.specs.declared.axis.Axis.TheVariants.{Scalar, Mark as by_mark}
-use Rattle.state_memo.specs.declared.ended.Ended.{Ended}
-use Rattle.state_memo.specs.declared.sum.Sum.{Sum}
-use Rattle.state_memo.specs.Facts.{IsSumOf}
-use Rattle.state_memo.specs.Lines.{begins_lf}
+use Rattle.piece_rope.specs.Search.{Scalar, Mark as by_mark}
+use Rattle.piece_rope.specs.Outcomes.{Ended, Sum, IsSumOf, begins_lf}
 use Rattle.position_map.specs.declared.ending.Ending.TheVariants.{Two, One, Open}
 use Rattle.position_map.specs.declared.mark.Mark.{Mark}
 use Rattle.position_map.specs.declared.point.Point.{Point}

@@ -1,10 +1,7 @@
 -- What a search by sums finds.
 use Rattle.std.specs.Prelude.{ℕ, List, Option}
-use Rattle.sum_tree.specs.Reached.{IsFound}
-use Rattle.state_memo.specs.declared.axis.Axis.{Axis}
-use Rattle.state_memo.specs.declared.outcome.Outcome.{Outcome}
-use Rattle.state_memo.specs.declared.sum.Sum.{Sum}
-use Rattle.state_memo.specs.Sums.{no_sum, joined, measure}
+use Rattle.piece_rope.specs.Search.{IsFound, Axis, measure}
+use Rattle.piece_rope.specs.Outcomes.{Outcome, Sum, no_sum, joined}
 
 abbrev pub sum_in_outcome : Outcome → Sum
 sum_in_outcome o = o.sum

@@ -1,8 +1,6 @@
 -- Fronts of a document's text.
 use Rattle.std.specs.Prelude.{◌≡◌, ℕ, ◌+◌, ◌<◌, ◌≤◌, List, ◌++◌, length, take, min, Some, slice_get}
-use Rattle.state_memo.specs.declared.ended.Ended.{Ended}
-use Rattle.state_memo.specs.declared.sum.Sum.{Sum}
-use Rattle.state_memo.specs.Facts.{IsSumOf}
+use Rattle.piece_rope.specs.Outcomes.{Ended, Sum, IsSumOf}
 use Rattle.position_map.specs.declared.on_line.OnLine.{OnLine}
 use Rattle.position_map.specs.declared.unit.Unit.{Unit as TextUnit}
 use Rattle.position_map.specs.Lines.{Line, lines_of}

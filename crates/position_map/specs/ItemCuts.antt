@@ -1,7 +1,7 @@
 -- Cuts between code points, as pieces remember the items.
 use Rattle.std.specs.Prelude.{ℕ, ◌-◌, ◌==◌, nat_lt, List, [], ◌∷◌, Option, Some, None, if◌then◌else◌}
 use Rattle.std.specs.Option.{option_map}
-use Rattle.state_memo.specs.declared.ended.Ended.{Ended}
+use Rattle.piece_rope.specs.Outcomes.{Ended}
 use Rattle.piece_rope.specs.Document.{Document}
 use Rattle.piece_rope.specs.Made.{ends_at}
 use Rattle.piece_rope.specs.Outputs.{output_at}

@@ -1,12 +1,8 @@
 -- Where a part of a document's text stands.
 use Rattle.std.specs.Prelude.{◌≡◌, ℕ, ◌<◌, ◌≤◌, ◌⊎◌, false, List, [], ◌++◌, length}
 use Rattle.lane_ascii.specs.Marks.{marks}
-use Rattle.state_memo.specs.declared.axis.Axis.{Axis}
-use Rattle.state_memo.specs.declared.axis.Axis.TheVariants.{Byte, Scalar, Utf16 as by_utf16, Utf8 as by_utf8, Mark}
-use Rattle.state_memo.specs.declared.ended.Ended.{Ended}
-use Rattle.state_memo.specs.declared.sum.Sum.{Sum}
-use Rattle.state_memo.specs.Facts.{IsSumOf}
-use Rattle.state_memo.specs.Sums.{measure}
+use Rattle.piece_rope.specs.Search.{Axis, Byte, Scalar, Utf16 as by_utf16, Utf8 as by_utf8, Mark, measure}
+use Rattle.piece_rope.specs.Outcomes.{Ended, Sum, IsSumOf}
 use Rattle.position_map.specs.declared.unit.Unit.{Unit as TextUnit}
 use Rattle.position_map.specs.declared.unit.Unit.TheVariants.{Utf8, Utf16, Utf32}
 use Rattle.position_map.specs.Widths.{width}

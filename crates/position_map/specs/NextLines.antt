@@ -3,7 +3,7 @@ use Rattle.std.specs.Prelude.{◌≡◌, ℕ, ◌≤◌, false, ◌&&◌, List, 
 use Rattle.std.specs.Option.{option_map}
 use Rattle.std.specs.Str.{chars}
 use Rattle.lane_ascii.specs.Marks.{marks, ends_cr}
-use Rattle.state_memo.specs.Lines.{begins_lf}
+use Rattle.piece_rope.specs.Outcomes.{begins_lf}
 use Rattle.piece_rope.specs.Document.{Document}
 use Rattle.position_map.specs.declared.next_line.NextLine.{NextLine}
 use Rattle.position_map.specs.declared.unit.Unit.TheVariants.{Utf8}

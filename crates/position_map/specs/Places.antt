@@ -2,7 +2,7 @@
 use Rattle.std.specs.Prelude.{ℕ, ◌-◌, List, [], ◌∷◌, length, nat_lt, nat_le, if◌then◌else◌, Option, Some, None, Result, Ok, Err}
 use Rattle.std.specs.List.{filter}
 use Rattle.enc_names.specs.declared.place.Place.{Place}
-use Rattle.state_memo.specs.Decoding.{Placed, item_code_points, code_points}
+use Rattle.piece_rope.specs.Decode.{Placed, item_code_points, code_points}
 use Rattle.position_map.specs.declared.fault.PosFault.{PosFault}
 use Rattle.position_map.specs.declared.fault.PosFault.TheVariants.{OutOfRange}
 

@@ -1,10 +1,7 @@
 -- Where items are among those of a document.
 use Rattle.std.specs.Prelude.{◌≡◌, ℕ, ◌+◌, ◌-◌, ◌<◌, ◌≤◌, ◌⊎◌, List, [], ◌∷◌, ◌++◌, length, get_or, Some}
-use Rattle.state_memo.specs.Decoding.{Placed}
-use Rattle.state_memo.specs.declared.ended.Ended.{Ended}
-use Rattle.state_memo.specs.declared.outcome.Outcome.{Outcome}
-use Rattle.state_memo.specs.declared.sum.Sum.{Sum}
-use Rattle.state_memo.specs.Fitting.{total_of}
+use Rattle.piece_rope.specs.Decode.{Placed}
+use Rattle.piece_rope.specs.Outcomes.{Ended, Outcome, Sum, total_of}
 use Rattle.piece_rope.specs.Document.{decoded}
 use Rattle.piece_rope.specs.Made.{IsEnded, ends_at}
 use Rattle.position_map.specs.Places.{place_of}

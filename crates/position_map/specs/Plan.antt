@@ -8,7 +8,7 @@ use Rattle.encoders.specs.declared.fault.EncodeFault.{EncodeFault}
 use Rattle.encoders.specs.declared.fault.EncodeFault.TheVariants.{Unencodable as unencodable, OutOfMemory as no_memory}
 use Rattle.encoders.specs.Encode.{encoded_in, bytes_only}
 use Rattle.encoders.specs.Steps.{Put, encoded_iso, escape_of}
-use Rattle.state_memo.specs.Decoding.{OutputState, Ascii, Roman, Katakana, Jis0208, Item, Placed, item_code_points}
+use Rattle.piece_rope.specs.Decode.{OutputState, Ascii, Roman, Katakana, Jis0208, Item, Placed, item_code_points}
 use Rattle.piece_rope.specs.Document.{Document, decoded, text_of}
 use Rattle.piece_rope.specs.Outputs.{output_at}
 use Rattle.position_map.specs.declared.change_fault.ChangeFault.{ChangeFault}

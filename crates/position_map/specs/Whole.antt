@@ -2,8 +2,7 @@
 use Rattle.std.specs.Prelude.{◌≡◌, ℕ, ◌+◌, ◌/◌, ◌<◌, ◌≤◌, false, List, [], ◌∷◌, ◌++◌, length}
 use Rattle.lane_ascii.specs.Marks.{marks}
 use Rattle.lane_utf.specs.Widths.{utf8_width, utf16_width, total_width}
-use Rattle.state_memo.specs.declared.outcome.Outcome.{Outcome}
-use Rattle.state_memo.specs.Fitting.{total_of}
+use Rattle.piece_rope.specs.Outcomes.{Outcome, total_of}
 use Rattle.piece_rope.specs.declared.lengths.Lengths.{Lengths}
 use Rattle.piece_rope.specs.Document.{Document, decoded, text_of}
 use Rattle.piece_rope.specs.Made.{AreMade}
@@ -15,7 +14,7 @@ pub record Pieced : Type 0 where
   pub pieces : List Outcome
   pub tail : Outcome
 
--- the most pieces that a document has
+-- no document has more pieces than this
 abbrev pub pieces_most : Document → ℕ
 pieces_most d = 1 + length d.bytes / 512
 

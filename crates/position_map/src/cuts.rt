@@ -2,7 +2,7 @@
 ghost use Rattle.std.specs.Prelude.{◌≡◌, ℕ, ◌<◌, ◌≤◌, ◌&&◌, length, MatchOption};
 ghost use Rattle.std.specs.Str.{chars};
 ghost use Rattle.lane_ascii.specs.Marks.{marks, ends_cr};
-ghost use Rattle.state_memo.specs.Lines.{begins_lf};
+ghost use Rattle.piece_rope.specs.Outcomes.{begins_lf};
 ghost use Rattle.position_map.specs.LineEnds.{ending_of};
 ghost use Rattle.position_map.specs.Marked.{IsMarkCut};
 ghost use Rattle.position_map.specs.Cuts.{IsScalarCut};
@@ -10,7 +10,7 @@ ghost use Rattle.position_map.specs.Cuts.{IsScalarCut};
 use crate::ending::Ending;
 use lane_ascii::nth_line_end;
 use lane_utf::nth_scalar;
-use state_memo::{begins_lf, ends_cr, mark_laws};
+use piece_rope::{begins_lf, ends_cr, mark_laws};
 
 // The text before line mark `n` and from it on, where there are so many.
 pub(crate) fn split_at_mark(text: &str, after_cr: bool, n: usize) -> Option<(&str, &str)>

@@ -2,7 +2,7 @@
 #![tactic(auto, unfolding(crate::specs::Lines::lines_of, crate::specs::Positions::offset_of, crate::specs::Positions::position_of, crate::specs::Positions::converted, crate::specs::Places::scalar_of_byte))]
 
 ghost use Rattle.std.specs.Prelude.{◌≡◌, [], ◌∷◌};
-ghost use Rattle.state_memo.specs.Decoding.{One, Two, Error};
+ghost use Rattle.piece_rope.specs.Decode.{One, Two, Error};
 ghost use Rattle.position_map.specs.declared.unit.Unit.TheVariants.{Utf8, Utf16, Utf32};
 ghost use Rattle.position_map.specs.declared.fault.PosFault.TheVariants.{OutOfRange, SplitsCharacter};
 ghost use Rattle.position_map.specs.Lines.{lines_of};

@@ -3,12 +3,10 @@ ghost use Rattle.std.specs.Prelude.{◌≡◌, ℕ, ◌+◌, ◌^◌, ◌<◌, �
 ghost use Rattle.piece_rope.specs.Document.{text_of};
 ghost use Rattle.piece_rope.specs.Made.{ends_at};
 ghost use Rattle.position_map.specs.ItemCuts.{cut_behind, cut_of};
-ghost use Rattle.position_map.specs.Whole.{pieces_most};
 
 use crate::parts::Parts;
 use iso2022jp::OutputState;
-use piece_rope::{Axis, Outcome, Visits};
-use state_memo::Ended;
+use piece_rope::{Axis, Ended, Outcome, Visits};
 
 /// A place in a document's bytes between two code points of its text.
 #[derive(Clone, Copy)]
@@ -23,7 +21,7 @@ pub struct Cut {
 pub(crate) fn cut_before(parts: &Parts<'_, '_>, n: u64, visits: &mut Visits) -> Option<Cut>
     requires { n ≤ length (text_of parts.now.doc) }
     ensures cut { result ≡ cut_of parts.now.doc n }
-    ensures most { (d : ℕ) → pieces_most parts.now.doc < 2 ^ d → visits.new ≤ visits.old + (d + 2) }
+    ensures most { (d : ℕ) → length parts.now.pieces < 2 ^ d → visits.new ≤ visits.old + (d + 2) }
     ensures kept { visits.old ≤ visits.new }
 {
     if n == 0 {

@@ -1,5 +1,5 @@
 //! Lines one after the other.
-ghost use Rattle.std.specs.Prelude.{◌≡◌, ℕ, ◌+◌, ◌*◌, ◌^◌, ◌<◌, ◌≤◌, false, None, Some, is_some, slice_get, MatchOption, if◌then◌else◌};
+ghost use Rattle.std.specs.Prelude.{◌≡◌, ℕ, ◌+◌, ◌*◌, ◌^◌, ◌<◌, ◌≤◌, false, None, Some, is_some, slice_get, MatchOption, if◌then◌else◌, length};
 ghost use Rattle.std.specs.Str.{chars};
 ghost use Rattle.lane_ascii.specs.Marks.{marks};
 ghost use Rattle.piece_rope.specs.Document.{text_of};
@@ -91,7 +91,7 @@ impl<'d, 'i> LineCursor<'d, 'i> {
 // Line `n`, where there is one.
 fn first_line<'d>(parts: &Parts<'d, '_>, n: u64, visits: &mut Visits) -> Option<NextLine<'d>>
     ensures next { IsAhead (text_of parts.now.doc) n result }
-    ensures most { (d : ℕ) → pieces_most parts.now.doc < 2 ^ d → visits.new ≤ visits.old + 2 * (d + 2) }
+    ensures most { (d : ℕ) → length parts.now.pieces < 2 ^ d → visits.new ≤ visits.old + 2 * (d + 2) }
     ensures kept { visits.old ≤ visits.new }
 {
     if n == 0 {
@@ -116,7 +116,7 @@ fn next_mark<'d>(
 ) -> Option<Mark<'d>>
     requires { IsNextLine (text_of parts.now.doc) n at }
     ensures place { MatchOption result (marks false (text_of parts.now.doc) ≤ n) (IsMarkAt Utf8 (text_of parts.now.doc) n) }
-    ensures most { (d : ℕ) → pieces_most parts.now.doc < 2 ^ d → visits.new ≤ visits.old + (d + 2) }
+    ensures most { (d : ℕ) → length parts.now.pieces < 2 ^ d → visits.new ≤ visits.old + (d + 2) }
     ensures kept { visits.old ≤ visits.new }
 {
     let _end = parts.end(Unit::Utf8);
@@ -134,7 +134,7 @@ fn next_mark<'d>(
 fn line_after<'d>(parts: &Parts<'d, '_>, n: u64, m: Mark<'d>, visits: &mut Visits) -> NextLine<'d>
     requires mark { IsMarkAt Utf8 (text_of parts.now.doc) n m }
     ensures next { IsNextLine (text_of parts.now.doc) (n + 1) result }
-    ensures most { (d : ℕ) → pieces_most parts.now.doc < 2 ^ d → visits.new ≤ visits.old + (d + 2) }
+    ensures most { (d : ℕ) → length parts.now.pieces < 2 ^ d → visits.new ≤ visits.old + (d + 2) }
     ensures kept { visits.old ≤ visits.new }
 {
     let start = line_behind(parts, Unit::Utf8, n, &m, visits);

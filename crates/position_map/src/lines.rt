@@ -44,7 +44,7 @@ pub(crate) fn line_start(
     visits: &mut Visits,
 ) -> Option<Point>
     ensures start { MatchOption result (length (lines_of (text_of parts.now.doc)) ≤ n) (IsLineStart unit (text_of parts.now.doc) n) }
-    ensures most { (d : ℕ) → pieces_most parts.now.doc < 2 ^ d → visits.new ≤ visits.old + 2 * (d + 2) }
+    ensures most { (d : ℕ) → length parts.now.pieces < 2 ^ d → visits.new ≤ visits.old + 2 * (d + 2) }
     ensures kept { visits.old ≤ visits.new }
 {
     if n == 0 {
@@ -62,7 +62,7 @@ pub(crate) fn line_start(
 // Where line `n` ends.
 pub(crate) fn line_end(parts: &Parts<'_, '_>, unit: Unit, n: u64, visits: &mut Visits) -> Point
     ensures end { n < length (lines_of (text_of parts.now.doc)) → IsLineEnd unit (text_of parts.now.doc) n result }
-    ensures most { (d : ℕ) → pieces_most parts.now.doc < 2 ^ d → visits.new ≤ visits.old + (d + 2) }
+    ensures most { (d : ℕ) → length parts.now.pieces < 2 ^ d → visits.new ≤ visits.old + (d + 2) }
     ensures kept { visits.old ≤ visits.new }
 {
     match mark(parts, unit, n, visits) {

@@ -1,14 +1,12 @@
 //! The piece in which a place of the text is.
-ghost use Rattle.std.specs.Prelude.{◌≡◌, ℕ, ◌+◌, ◌^◌, ◌<◌, ◌≤◌};
+ghost use Rattle.std.specs.Prelude.{◌≡◌, ℕ, ◌+◌, ◌^◌, ◌<◌, ◌≤◌, length};
 ghost use Rattle.std.specs.Str.{chars};
 ghost use Rattle.piece_rope.specs.Document.{text_of};
 ghost use Rattle.position_map.specs.Located.{IsLocated, IsOfText, axis_of, sum_in};
-ghost use Rattle.position_map.specs.Whole.{pieces_most};
 
 use crate::parts::Parts;
 use crate::unit::Unit;
-use piece_rope::{Axis, Sum, Visits};
-use state_memo::sum_laws;
+use piece_rope::{Axis, Sum, Visits, sum_laws};
 
 // The text of the piece behind which the axis is above the target, or else that of the tail, and the
 // numbers of the text in front of it.
@@ -20,7 +18,7 @@ pub(crate) fn locate<'d>(
 ) -> (Sum, &'d str)
     requires { IsOfText axis }
     ensures place { IsLocated axis target (text_of parts.now.doc) result.0 (chars result.1.now) }
-    ensures most { (d : ℕ) → pieces_most parts.now.doc < 2 ^ d → visits.new ≤ visits.old + (d + 2) }
+    ensures most { (d : ℕ) → length parts.now.pieces < 2 ^ d → visits.new ≤ visits.old + (d + 2) }
     ensures kept { visits.old ≤ visits.new }
 {
     sum_laws();

@@ -1,11 +1,10 @@
 //! Line marks of a document.
-ghost use Rattle.std.specs.Prelude.{◌≡◌, ℕ, ◌+◌, ◌^◌, ◌<◌, ◌≤◌, ◌==◌, ◌&&◌, ◌++◌, false, drop, MatchOption};
+ghost use Rattle.std.specs.Prelude.{◌≡◌, ℕ, ◌+◌, ◌^◌, ◌<◌, ◌≤◌, ◌==◌, ◌&&◌, ◌++◌, false, drop, MatchOption, length};
 ghost use Rattle.lane_ascii.specs.Marks.{cr, marks};
-ghost use Rattle.state_memo.specs.Lines.{begins_lf};
+ghost use Rattle.piece_rope.specs.Outcomes.{begins_lf};
 ghost use Rattle.piece_rope.specs.Document.{text_of};
 ghost use Rattle.position_map.specs.declared.unit.Unit.{Unit as TextUnit};
 ghost use Rattle.position_map.specs.Marked.{IsMarkAt, IsLineStart};
-ghost use Rattle.position_map.specs.Whole.{pieces_most};
 
 use crate::cuts::{ending_of, split_at_mark, split_at_scalar};
 use crate::ending::Ending;
@@ -14,8 +13,7 @@ use crate::mark::Mark;
 use crate::parts::Parts;
 use crate::point::{Point, point_behind};
 use crate::unit::Unit;
-use piece_rope::{Axis, Visits};
-use state_memo::begins_lf;
+use piece_rope::{Axis, Visits, begins_lf};
 
 // Line mark `n`, where there are more than `n`.
 pub(crate) fn mark<'d>(
@@ -25,7 +23,7 @@ pub(crate) fn mark<'d>(
     visits: &mut Visits,
 ) -> Option<Mark<'d>>
     ensures place { MatchOption result (marks false (text_of parts.now.doc) ≤ n) (IsMarkAt unit (text_of parts.now.doc) n) }
-    ensures most { (d : ℕ) → pieces_most parts.now.doc < 2 ^ d → visits.new ≤ visits.old + (d + 2) }
+    ensures most { (d : ℕ) → length parts.now.pieces < 2 ^ d → visits.new ≤ visits.old + (d + 2) }
     ensures kept { visits.old ≤ visits.new }
 {
     let _end = parts.end(unit);
@@ -42,7 +40,7 @@ pub(crate) fn mark<'d>(
 // Whether code point `n` is an LF.
 pub(crate) fn line_feed_at(parts: &Parts<'_, '_>, n: u64, visits: &mut Visits) -> bool
     ensures is { result ≡ begins_lf (drop n (text_of parts.now.doc)) }
-    ensures most { (d : ℕ) → pieces_most parts.now.doc < 2 ^ d → visits.new ≤ visits.old + (d + 2) }
+    ensures most { (d : ℕ) → length parts.now.pieces < 2 ^ d → visits.new ≤ visits.old + (d + 2) }
     ensures kept { visits.old ≤ visits.new }
 {
     let (before, here) = locate(parts, Axis::Scalar, n, visits);
@@ -56,7 +54,7 @@ pub(crate) fn line_feed_at(parts: &Parts<'_, '_>, n: u64, visits: &mut Visits) -
 fn is_cr_lf(parts: &Parts<'_, '_>, m: &Mark<'_>, visits: &mut Visits) -> bool
     requires room { m.now.at.scalars + 1 < 2 ^ 64 }
     ensures is { (unit : TextUnit) (n : ℕ) (h : IsMarkAt unit (text_of parts.now.doc) n m.now) → result ≡ ((h.c == cr) && begins_lf (h.near ++ h.far)) }
-    ensures most { (d : ℕ) → pieces_most parts.now.doc < 2 ^ d → visits.new ≤ visits.old + (d + 2) }
+    ensures most { (d : ℕ) → length parts.now.pieces < 2 ^ d → visits.new ≤ visits.old + (d + 2) }
     ensures kept { visits.old ≤ visits.new }
 {
     match ending_of(m.rest) {
@@ -76,7 +74,7 @@ pub(crate) fn line_behind(
 ) -> Point
     requires mark { IsMarkAt unit (text_of parts.now.doc) n m.now }
     ensures start { IsLineStart unit (text_of parts.now.doc) (n + 1) result }
-    ensures most { (d : ℕ) → pieces_most parts.now.doc < 2 ^ d → visits.new ≤ visits.old + (d + 2) }
+    ensures most { (d : ℕ) → length parts.now.pieces < 2 ^ d → visits.new ≤ visits.old + (d + 2) }
     ensures kept { visits.old ≤ visits.new }
 {
     let _end = parts.end(unit);

@@ -1,5 +1,5 @@
 //! Offsets of positions, and offsets in other units.
-ghost use Rattle.std.specs.Prelude.{◌≡◌, ℕ, ◌+◌, ◌*◌, ◌^◌, ◌<◌, ◌≤◌, None, MatchResult};
+ghost use Rattle.std.specs.Prelude.{◌≡◌, ℕ, ◌+◌, ◌*◌, ◌^◌, ◌<◌, ◌≤◌, None, MatchResult, length};
 ghost use Rattle.std.specs.Option.{ok_or};
 ghost use Rattle.std.specs.Str.{chars};
 ghost use Rattle.piece_rope.specs.Document.{text_of};
@@ -81,7 +81,7 @@ fn scalar_at(
 ) -> Result<u64, PosFault>
     requires { n ≤ width unit (text_of parts.now.doc) }
     ensures scalar { result ≡ ok_or (along unit (text_of parts.now.doc) n) SplitsCharacter }
-    ensures most { (d : ℕ) → pieces_most parts.now.doc < 2 ^ d → visits.new ≤ visits.old + (d + 2) }
+    ensures most { (d : ℕ) → length parts.now.pieces < 2 ^ d → visits.new ≤ visits.old + (d + 2) }
     ensures kept { visits.old ≤ visits.new }
 {
     let _end = parts.end(unit);
@@ -101,7 +101,7 @@ fn front_at<'d>(
 ) -> Result<(Sum, &'d str), PosFault>
     requires { n ≤ width unit (text_of parts.now.doc) }
     ensures front { MatchResult result (λ r. IsFrontOf unit (text_of parts.now.doc) n r.0 (chars r.1.now)) (λ e. (along unit (text_of parts.now.doc) n ≡ None) × (e ≡ SplitsCharacter)) }
-    ensures most { (d : ℕ) → pieces_most parts.now.doc < 2 ^ d → visits.new ≤ visits.old + (d + 2) }
+    ensures most { (d : ℕ) → length parts.now.pieces < 2 ^ d → visits.new ≤ visits.old + (d + 2) }
     ensures kept { visits.old ≤ visits.new }
 {
     let (before, here) = locate(parts, axis_of(unit), n, visits);

@@ -6,8 +6,7 @@ ghost use Rattle.position_map.specs.Found.{IsFoundOutcome};
 ghost use Rattle.position_map.specs.ItemCuts.{cut_of};
 ghost use Rattle.position_map.specs.Lines.{lines_of};
 ghost use Rattle.position_map.specs.Points.{IsEnd};
-ghost use Rattle.position_map.specs.Whole.{AreLengths, pieces_most};
-ghost use Rattle.position_map.specs.Whole.{IsWhole};
+ghost use Rattle.position_map.specs.Whole.{AreLengths, IsWhole};
 
 use crate::item_cuts::Cut;
 use crate::point::Point;
@@ -71,7 +70,8 @@ impl<'d, 'i> Parts<'d, 'i> {
 
     // The number of lines.
     pub(crate) fn line_count(&self) -> u64
-        ensures { result ≡ length (lines_of (text_of self.now.doc)) }
+        ensures lines { result ≡ length (lines_of (text_of self.now.doc)) }
+        ensures whole { IsWhole self.now.doc self.now.pieces self.now.tail }
     {
         self.lengths.lines
     }
@@ -117,7 +117,7 @@ impl<'d, 'i> Parts<'d, 'i> {
     ) -> (Sum, Option<&'d Outcome>)
         ensures place { IsFoundOutcome axis target self.now.pieces result.0 (option_copied result.1) }
         ensures small { IfSome result.1 (λ o. o.now.sum.bytes ≤ 2048) }
-        ensures most { (d : ℕ) → pieces_most self.now.doc < 2 ^ d → visits.new ≤ visits.old + (d + 2) }
+        ensures most { (d : ℕ) → length self.now.pieces < 2 ^ d → visits.new ≤ visits.old + (d + 2) }
         ensures kept { visits.old ≤ visits.new }
     {
         let (before, found) = self.finder.find(&axis, target, visits);

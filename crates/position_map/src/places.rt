@@ -1,11 +1,9 @@
 //! Places of code points in a document's bytes.
 ghost use Rattle.std.specs.Prelude.{◌≡◌, ℕ, ◌+◌, ◌*◌, ◌^◌, ◌<◌, ◌≤◌, ◌-◌, List, ◌∷◌, ◌++◌, [], length, get_or, Some};
-ghost use Rattle.state_memo.specs.Decoding.{Placed};
-ghost use Rattle.state_memo.specs.declared.ended.Ended.{Ended};
-ghost use Rattle.state_memo.specs.declared.outcome.Outcome.{Outcome};
-ghost use Rattle.state_memo.specs.Fitting.{total_of};
+ghost use Rattle.piece_rope.specs.Decode.{Placed};
+ghost use Rattle.piece_rope.specs.Outcomes.{Ended, Outcome, total_of};
 ghost use Rattle.piece_rope.specs.Document.{decoded};
-ghost use Rattle.state_memo.specs.declared.axis.Axis.TheVariants.{Byte};
+ghost use Rattle.piece_rope.specs.Search.{Byte};
 ghost use Rattle.position_map.specs.Found.{IsFoundOutcome};
 ghost use Rattle.piece_rope.specs.Made.{AreMade, ends_at};
 ghost use Rattle.position_map.specs.Places.{place_of, scalar_of_byte, scalars_until};
@@ -50,7 +48,7 @@ fn scalars_until(
     requires found { IsFoundOutcome Byte at parts.now.pieces before (Some here.now) }
     requires small { here.now.sum.bytes ≤ 2048 }
     ensures scalars { result ≡ scalars_until at (decoded parts.now.doc).items }
-    ensures most { (d : ℕ) → pieces_most parts.now.doc < 2 ^ d → visits.new ≤ visits.old + (d + 2) }
+    ensures most { (d : ℕ) → length parts.now.pieces < 2 ^ d → visits.new ≤ visits.old + (d + 2) }
     ensures kept { visits.old ≤ visits.new }
 {
     let _length = parts.bytes();
@@ -66,7 +64,7 @@ fn scalars_until(
 fn piece_from<'d>(parts: &Parts<'d, '_>, start: u64, visits: &mut Visits) -> &'d Outcome
     ensures piece { (front back : List Outcome) → parts.now.pieces ≡ front ++ back → (total_of front).bytes ≡ start
         → (rest : List Outcome) × (back ++ parts.now.tail ∷ [] ≡ result.now ∷ rest) }
-    ensures most { (d : ℕ) → pieces_most parts.now.doc < 2 ^ d → visits.new ≤ visits.old + (d + 2) }
+    ensures most { (d : ℕ) → length parts.now.pieces < 2 ^ d → visits.new ≤ visits.old + (d + 2) }
     ensures kept { visits.old ≤ visits.new }
 {
     let tail = parts.tail();
@@ -101,7 +99,7 @@ fn start_of(parts: &Parts<'_, '_>, before: Sum, here: &Outcome, k: u64, visits: 
     requires within { k < length here.now.items }
     ensures start { (front back : List Outcome) (left ps : List Placed) (n : ℕ) → parts.now.pieces ≡ front ++ back → before ≡ total_of front → AreMade 0 left front
         → (h : HasItem before.bytes ps here.now.items n k) → result ≡ last_to (bom_of parts.now) (left ++ h.front) }
-    ensures most { (d : ℕ) → pieces_most parts.now.doc < 2 ^ d → visits.new ≤ visits.old + (d + 2) }
+    ensures most { (d : ℕ) → length parts.now.pieces < 2 ^ d → visits.new ≤ visits.old + (d + 2) }
     ensures kept { visits.old ≤ visits.new }
 {
     if k == 0 {
@@ -114,7 +112,7 @@ fn start_of(parts: &Parts<'_, '_>, before: Sum, here: &Outcome, k: u64, visits: 
 fn last_end(parts: &Parts<'_, '_>, count: u64, visits: &mut Visits) -> u64
     ensures end { (front back : List Outcome) (ps : List Placed) → parts.now.pieces ≡ front ++ back → (total_of front).scalars ≡ count → AreMade 0 ps front
         → result ≡ last_to (bom_of parts.now) ps }
-    ensures most { (d : ℕ) → pieces_most parts.now.doc < 2 ^ d → visits.new ≤ visits.old + (d + 2) }
+    ensures most { (d : ℕ) → length parts.now.pieces < 2 ^ d → visits.new ≤ visits.old + (d + 2) }
     ensures kept { visits.old ≤ visits.new }
 {
     let bom = parts.bom();

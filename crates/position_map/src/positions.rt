@@ -14,8 +14,7 @@ use crate::parts::Parts;
 use crate::point::units_in;
 use crate::position::Position;
 use crate::unit::Unit;
-use piece_rope::{Axis, Doc, Visits};
-use state_memo::count_marks;
+use piece_rope::{Axis, Doc, Visits, count_marks};
 
 /// The position of an offset in code points (LSP 3.17, "Position"): the last line that starts at or
 /// before it, and the units from there to the offset or to the line's end, whichever comes first.
@@ -49,7 +48,7 @@ pub fn to_position(
 fn place_at(parts: &Parts<'_, '_>, unit: Unit, offset: u64, visits: &mut Visits) -> OnLine
     requires { offset ≤ length (text_of parts.now.doc) }
     ensures place { IsOnLine unit (text_of parts.now.doc) offset result }
-    ensures most { (d : ℕ) → pieces_most parts.now.doc < 2 ^ d → visits.new ≤ visits.old + (d + 2) }
+    ensures most { (d : ℕ) → length parts.now.pieces < 2 ^ d → visits.new ≤ visits.old + (d + 2) }
     ensures kept { visits.old ≤ visits.new }
 {
     let _end = parts.end(unit);

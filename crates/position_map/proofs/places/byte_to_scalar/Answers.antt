@@ -1,6 +1,6 @@
 use Rattle.std.proofs.Common.{◌≡◌, ◌<◌, ◌≤◌, subst, arith, length, Ok, Err}
 use Rattle.piece_rope.specs.Document.{decoded}
-use Rattle.state_memo.specs.declared.axis.Axis.TheVariants.{Byte}
+use Rattle.piece_rope.specs.Search.{Byte}
 use Rattle.position_map.specs.Places.{scalar_of_byte}
 use Rattle.position_map.specs.declared.fault.PosFault.TheVariants.{OutOfRange}
 use Rattle.position_map.proofs.Items.{within_bytes, scalar_at_end, scalar_past, found_here, small_here}

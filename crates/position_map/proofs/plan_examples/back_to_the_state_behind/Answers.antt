@@ -1,7 +1,6 @@
 use Rattle.std.proofs.Common.{refl}
 use Rattle.index_loader.specs.Kinds.{slot_of}
-use Rattle.state_memo.specs.Decoding.{decode, state_behind, run, turns, feed}
-use Rattle.state_memo.specs.Feeding.{feed_for}
+use Rattle.piece_rope.specs.Decode.{decode, state_behind, run, turns, feed, feed_for}
 use Rattle.piece_rope.specs.Document.{text_of}
 use Rattle.position_map.specs.Lines.{lines_of}
 use Rattle.position_map.specs.Positions.{offset_of}

@@ -1,7 +1,7 @@
 use Rattle.std.proofs.Common.{◌≡◌, refl, sym, ap, ◌∙◌, ℕ, zero, suc, ◌+◌, ◌⊎◌, inl, inr, false, List, [], ◌∷◌, arith, Option, Some, None, Result, Ok, Err}
 use Rattle.std.specs.Option.{option_map, ok_or}
 use Rattle.enc_names.specs.declared.encoding.Encoding.TheVariants.{Replacement}
-use Rattle.state_memo.specs.Decoding.{decode, run, turns}
+use Rattle.piece_rope.specs.Decode.{decode, run, turns}
 use Rattle.piece_rope.specs.Document.{Document, text_of}
 use Rattle.position_map.specs.declared.change_fault.ChangeFault.TheVariants.{NoEncoder}
 use Rattle.position_map.specs.declared.fault.PosFault.{PosFault}

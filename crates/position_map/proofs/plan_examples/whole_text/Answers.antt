@@ -1,7 +1,6 @@
 use Rattle.std.proofs.Common.{refl}
 use Rattle.std.proofs.Math.Utf8.{encode}
-use Rattle.state_memo.specs.Decoding.{decode, state_behind, run, turns, feed}
-use Rattle.state_memo.specs.Feeding.{feed_for}
+use Rattle.piece_rope.specs.Decode.{decode, state_behind, run, turns, feed, feed_for}
 use Rattle.piece_rope.specs.Document.{text_of}
 use Rattle.position_map.specs.Plan.{planned, replacing}
 use Rattle.position_map.proofs.plan_examples.whole_text.Goals as goal

@@ -1,5 +1,5 @@
 use Rattle.std.proofs.Common.{◌≡◌, ap, ◌∙◌, subst, Some}
-use Rattle.state_memo.specs.Decoding.{Ascii}
+use Rattle.piece_rope.specs.Decode.{Ascii}
 use Rattle.position_map.specs.ItemCuts.{cut_of}
 use Rattle.position_map.specs.Whole.{Pieced}
 use Rattle.position_map.proofs.ItemCutting.{first_is}

@@ -5,5 +5,5 @@ use Rattle.position_map.specs.Whole.{Pieced}
 use Rattle.position_map.proofs.LineMarks.{line_count}
 use Rattle.position_map.proofs.parts.Parts.line_count.Goals as goal
 
-pub returns : goal.returns
-returns c = c.self.invariant.1.lines ∙ sym (line_count _) ∙ ap (λ (p : Pieced). length (lines_of (text_of p.doc))) c.self.view_is
+pub returns-clause-lines : goal.returns-clause-lines
+returns-clause-lines c = c.self.invariant.1.lines ∙ sym (line_count _) ∙ ap (λ (p : Pieced). length (lines_of (text_of p.doc))) c.self.view_is
