@@ -1,8 +1,7 @@
-//! The look for a byte order mark, and the states behind it.
+//! The states of the look for a byte order mark, and those behind it.
 
-use super::{decodes, decodes_behind_mark, error, one};
 use crate::indexes::small_indexes;
-use codec::{AnyDecoder, AnyState, CodecFault, Prefix, Sniffed};
+use codec::{AnyDecoder, AnyState, CodecFault, Prefix};
 use decoder_core::{Decoder, decode_parts, meter};
 use enc_names::Encoding;
 use index_loader::Indexes;
@@ -16,97 +15,6 @@ fn state_behind(decoder: &AnyDecoder<'_>, bytes: &[u8]) -> AnyState {
         state = decoder.step(state, *byte).state;
     }
     state
-}
-
-#[test]
-fn beginnings_of_marks_are_read_again(rt: HostRuntime) -> Result<(), Fail> {
-    let alloc = rt.alloc();
-    let bad = [error(0, 1)];
-    decodes(&rt, alloc, Encoding::Utf8, &[0xEF], "\u{FFFD}", &bad)?;
-    decodes(&rt, alloc, Encoding::Utf16Be, &[0xFE], "\u{FFFD}", &bad)?;
-    decodes(&rt, alloc, Encoding::Utf16Le, &[0xFF], "\u{FFFD}", &bad)?;
-    decodes(&rt, alloc, Encoding::ShiftJis, &[0xFE], "\u{FFFD}", &bad)?;
-    decodes(&rt, alloc, Encoding::EucKr, &[0xFF], "\u{FFFD}", &bad)?;
-    decodes(&rt, alloc, Encoding::Gb18030, &[0xEF], "\u{FFFD}", &bad)?;
-    decodes(&rt, alloc, Encoding::Replacement, &[0xFE], "\u{FFFD}", &bad)?;
-    let private = [one(0, 1, '\u{F7EF}'), one(1, 2, '\u{F7BB}')];
-    let text = "\u{F7EF}\u{F7BB}";
-    decodes(
-        &rt,
-        alloc,
-        Encoding::XUserDefined,
-        &[0xEF, 0xBB],
-        text,
-        &private,
-    )
-}
-
-#[test]
-fn another_byte_behind_ef_bb(rt: HostRuntime) -> Result<(), Fail> {
-    let alloc = rt.alloc();
-    let bytes = [0xEF, 0xBB, 0x41];
-    let cut = [error(0, 2), one(2, 3, 'A')];
-    decodes(&rt, alloc, Encoding::Utf8, &bytes, "\u{FFFD}A", &cut)?;
-    let single = [error(0, 1), one(1, 2, '\u{BB}'), one(2, 3, 'A')];
-    decodes(
-        &rt,
-        alloc,
-        Encoding::Windows1252,
-        &bytes,
-        "\u{FFFD}\u{BB}A",
-        &single,
-    )?;
-    let unit = [one(0, 2, '\u{EFBB}'), error(2, 3)];
-    decodes(
-        &rt,
-        alloc,
-        Encoding::Utf16Be,
-        &bytes,
-        "\u{EFBB}\u{FFFD}",
-        &unit,
-    )
-}
-
-#[test]
-fn mark_without_its_first_byte(rt: HostRuntime) -> Result<(), Fail> {
-    let items = [one(0, 1, '\u{BB}'), one(1, 2, '\u{BF}'), one(2, 3, 'A')];
-    decodes(
-        &rt,
-        rt.alloc(),
-        Encoding::Windows1252,
-        &[0xBB, 0xBF, 0x41],
-        "\u{BB}\u{BF}A",
-        &items,
-    )
-}
-
-#[test]
-fn mark_behind_another_byte_is_text(rt: HostRuntime) -> Result<(), Fail> {
-    let items = [error(0, 1), one(1, 4, '\u{FEFF}')];
-    decodes(
-        &rt,
-        rt.alloc(),
-        Encoding::Utf8,
-        &[0xEF, 0xEF, 0xBB, 0xBF],
-        "\u{FFFD}\u{FEFF}",
-        &items,
-    )
-}
-
-#[test]
-fn second_mark_is_text(rt: HostRuntime) -> Result<(), Fail> {
-    decodes_behind_mark(
-        &rt,
-        rt.alloc(),
-        Encoding::Utf16Le,
-        &[0xFE, 0xFF, 0xFE, 0xFF, 0xFF, 0xFE],
-        Sniffed {
-            encoding: Encoding::Utf16Be,
-            bom_len: 2,
-        },
-        "\u{FEFF}\u{FFFE}",
-        &[one(2, 4, '\u{FEFF}'), one(4, 6, '\u{FFFE}')],
-    )
 }
 
 #[test]

@@ -1,0 +1,78 @@
+//! How encodings, states, bytes and texts are written in rows.
+
+use crate::failure::Failure;
+use enc_names::Encoding;
+use iso2022jp::OutputState;
+use std::alloc::{AllocError, Global};
+
+/// The encoding of this name.
+pub fn encoding(name: &str) -> Result<Encoding, Failure> {
+    for encoding in &Encoding::ALL {
+        if encoding.name() == name {
+            return Ok(*encoding);
+        }
+    }
+    Err(Failure::Row)
+}
+
+/// The output state of this name.
+pub fn output_state(name: &str) -> Result<OutputState, Failure> {
+    match name {
+        "Ascii" => Ok(OutputState::Ascii),
+        "Roman" => Ok(OutputState::Roman),
+        "Katakana" => Ok(OutputState::Katakana),
+        "Jis0208" => Ok(OutputState::Jis0208),
+        _ => Err(Failure::Row),
+    }
+}
+
+/// Which of two words it is.
+pub fn is_second(word: &str, first: &str, second: &str) -> Result<bool, Failure> {
+    if word == second {
+        return Ok(true);
+    }
+    if word == first {
+        Ok(false)
+    } else {
+        Err(Failure::Row)
+    }
+}
+
+/// The bytes of pairs of hexadecimal digits, parted by spaces.
+pub fn bytes(alloc: Global, field: &str) -> Result<Vec<u8>, Failure> {
+    let mut bytes = Vec::new(alloc);
+    for word in field.split_whitespace() {
+        let Ok(byte) = u8::from_str_radix(word, 16) else {
+            return Err(Failure::Row);
+        };
+        bytes.push(byte).map_err(AllocError::from)?;
+    }
+    Ok(bytes)
+}
+
+/// The code point of `U+` and hexadecimal digits.
+fn code_point(word: &str) -> Option<char> {
+    let number = u32::from_str_radix(word.strip_prefix("U+")?, 16).ok()?;
+    char::from_u32(number)
+}
+
+/// The text of code points, parted by spaces.
+pub fn text(alloc: Global, field: &str) -> Result<String, Failure> {
+    let mut text = String::new(alloc);
+    for word in field.split_whitespace() {
+        text.push(code_point(word).ok_or(Failure::Row)?)?;
+    }
+    Ok(text)
+}
+
+/// Bytes, as they are written in rows.
+pub fn hex_of(alloc: Global, bytes: &[u8]) -> Result<String, AllocError> {
+    let mut out = String::new(alloc);
+    for byte in bytes {
+        if !out.is_empty() {
+            out.push(' ')?;
+        }
+        out.push_str(format!(in alloc; "{byte:02X}")?.as_str())?;
+    }
+    Ok(out)
+}
