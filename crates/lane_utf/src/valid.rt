@@ -1,5 +1,5 @@
 //! The longest prefix that is UTF-8.
-ghost use Rattle.std.specs.Prelude.{◌≡◌, take};
+ghost use Rattle.std.specs.Prelude.{◌≡◌, ℕ, ◌<◌, ◌≤◌, length, take};
 ghost use Rattle.std.specs.Str.{IsUtf8};
 ghost use Rattle.std.specs.Str.Lossy.{utf8_valid_len};
 
@@ -10,6 +10,7 @@ use simdutf8::compat::from_utf8;
 pub fn valid_run(bytes: &[u8]) -> usize
     ensures longest { result ≡ utf8_valid_len bytes.now }
     ensures valid { IsUtf8 (take result bytes.now) }
+    ensures no_longer { (n : ℕ) → result < n → n ≤ length bytes.now → ¬ (IsUtf8 (take n bytes.now)) }
 {
     match from_utf8(bytes) {
         Ok(text) => text.len(),
