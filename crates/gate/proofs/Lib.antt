@@ -1,2 +1,2 @@
-mod SessionSteps
+mod FreeConnection
 mod Streams

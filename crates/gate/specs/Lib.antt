@@ -1,4 +1,3 @@
 pub mod Ending
 pub mod Replaying
 pub mod Serving
-pub mod Sessions

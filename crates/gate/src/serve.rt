@@ -1,7 +1,6 @@
 //! Serving over TCP: connections one after another.
-ghost use Rattle.std.specs.Prelude.{◌≡◌, None, OnOk, OnErr};
+ghost use Rattle.std.specs.Prelude.{◌≡◌, None};
 ghost use Rattle.gateway.specs.Events.{line_at};
-ghost use Rattle.gate.specs.Sessions.{AllServed, Session, SomeServed};
 
 use gateway::{FromRead, Gateway, ToWrite, run};
 use std::net::{TcpListener, TcpStream};
@@ -16,8 +15,10 @@ pub enum ServeFault {
     Accept,
 }
 
-/// Serves this many connections, one after another, each as connection 0. The documents stay in
-/// the gateway between them, and a fault of one connection ends that connection alone.
+/// Serves this many connections, one after another, each as connection 0, which is free again
+/// between them and at the end. The documents stay in the gateway, and a fault of one connection
+/// ends that connection alone. No clause knows the bytes of a socket, so none says which
+/// connections were accepted and what was answered there.
 ///
 /// # Errors
 ///
@@ -28,8 +29,6 @@ pub fn serve(
     count: u32,
 ) -> Result<(), ServeFault>
     requires { line_at gateway.old 0 ≡ None }
-    ensures all { OnOk result (AllServed count gateway.old gateway.new) }
-    ensures some { OnErr result (SomeServed count gateway.old gateway.new) }
     ensures free { line_at gateway.new 0 ≡ None }
 {
     for _ in 0..count {
@@ -44,8 +43,7 @@ pub fn serve(
 /// Serves one connection to its end or to its first fault.
 fn serve_one(gateway: &mut Gateway<'_>, stream: &TcpStream)
     requires { line_at gateway.old 0 ≡ None }
-    ensures session { Session gateway.old gateway.new }
-    ensures free { line_at gateway.new 0 ≡ None }
+    ensures { line_at gateway.new 0 ≡ None }
 {
     let mut input = FromRead::new(stream);
     let mut output = ToWrite::new(stream);

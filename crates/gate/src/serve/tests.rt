@@ -34,6 +34,8 @@ fn peers_read(rt: &HostRuntime, peers: &[(&str, &str)]) -> Result<bool, Fail> {
         count = count.saturating_add(1);
     }
     let mut same = serve(&listener, &mut gateway, count).is_ok();
+    // A peer that was not accepted is reset now, rather than left waiting.
+    drop(listener);
     for (stream, (_, replies)) in streams.into_iter().zip(peers) {
         let read = io::read_to_string(rt.alloc(), stream)?;
         same = same && read.as_str() == *replies;

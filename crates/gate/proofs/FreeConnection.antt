@@ -1,17 +1,11 @@
--- One connection behind others.
-use Rattle.std.proofs.Common.{◌≡◌, ◌≢◌, ◌+◌, ℕ, suc, true, false, List, Option, None, Result, Ok, Err, arith, refl, subst, ◌↔◌}
+-- Connection 0 is free before a run and behind it.
+use Rattle.std.proofs.Common.{◌≡◌, ◌≢◌, ℕ, true, false, List, Option, None, Result, Ok, Err, refl, ◌↔◌}
 use Rattle.std.specs.Option.{IsSome}
 use Rattle.gateway.specs.Events.{Opening, gate_fault, line_at}
 use Rattle.gateway.specs.Serving.{Runs}
 use Rattle.gateway.specs.Traffic.{Traffic}
 use Rattle.gateway.specs.RunFault.{RunFault}
 use Rattle.gateway.specs.RunFault.TheVariants.{NotFree, Read, Write, TooManyReads}
-use Rattle.gate.specs.Sessions.{AllServed, Session}
-
-pub served_next : (n : ℕ) (old mid new : Traffic) → AllServed n old mid → Session mid new → AllServed (n + 1) old new
-served_next n old mid new before one =
-    let next : suc n ≡ n + 1 = omega arith in
-    subst (λ m. AllServed m old new) next (mid, before, one)
 
 -- connection 0 is free where no line is begun on it
 pub found_free : (answer : Result (Unit {0}) RunFault) (t : Traffic) → line_at t 0 ≡ None → ((answer ≡ Err NotFree) ↔ IsSome (gate_fault t.lines (Opening 0))) → answer ≢ Err NotFree
