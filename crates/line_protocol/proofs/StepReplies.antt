@@ -13,7 +13,8 @@ use Rattle.line_protocol.specs.declared.request.refusal.Refusal.{Refusal}
 use Rattle.line_protocol.specs.declared.request.refusal.Refusal.TheVariants as refusal
 use Rattle.desk.specs.Commands.{Asked}
 use Rattle.line_protocol.specs.Request.{◌>>=◌, json_of_line, request_of, IsJsonOfLine}
-use Rattle.line_protocol.specs.Replies.{reply_text, refusal_text, memory_text, is_short}
+use Rattle.line_protocol.specs.Inline.{is_short}
+use Rattle.line_protocol.specs.Replies.{reply_text, refusal_text, memory_text}
 use Rattle.std.proofs.lemmas.Bool.{false_from_ne_true}
 use Rattle.desk.specs.Documents.{Names}
 use Rattle.desk.specs.Desk.{Office, Outcome, Answers, answer_of}

@@ -1,3 +1,4 @@
+pub mod Inline
 pub mod Replies
 pub mod Request
 pub mod Step

@@ -1,5 +1,5 @@
 -- The text of a reply: one line, an object of JSON with no space and its keys in ascending order.
-use Rattle.std.specs.Prelude.{◌≡◌, ◌≤◌, ℕ, length, List, [], ◌∷◌, ◌++◌, Bool, true, false, codes, Option, Some, None}
+use Rattle.std.specs.Prelude.{ℕ, List, [], ◌∷◌, ◌++◌, codes, Option, Some, None}
 use Rattle.serde_json.specs.Data.{Data, null, number, string, array, object, unsigned, Items, no_items, item, Members, no_members, member}
 use Rattle.serde_json.specs.Written.{compact_text}
 use Rattle.base64.specs.Engines.{standard}
@@ -206,14 +206,6 @@ refusal_data refusal.OutOfMemory = bare_data (codes "OutOfMemory")
 abbrev pub line_of : Data → List ℕ
 line_of d = compact_text d ++ 10 ∷ []
 
--- the most bytes of a line that is stored inline
-abbrev pub inline_limit : ℕ
-inline_limit = 328
-
--- the line of this object, which is short enough to be stored inline
-abbrev pub IsShortLine : Data → List ℕ → Type 0
-IsShortLine d line = (line ≡ line_of d) × (length line ≤ inline_limit)
-
 abbrev pub reply_text : ℕ → Reply → List ℕ
 reply_text id reply = line_of (reply_data id reply)
 
@@ -222,18 +214,3 @@ refusal_text r = line_of (refusal_data r)
 
 abbrev pub memory_text : List ℕ
 memory_text = line_of (bare_data (codes "OutOfMemory"))
-
--- The reply is stored inline: it holds no text and no list.
-abbrev pub is_short : Reply → Bool
-is_short (Edited bom encoding rev) = true
-is_short (Changed at bom del encoding ins rev) = true
-is_short (Closed rev) = true
-is_short (Text rev text) = false
-is_short (Bytes rev bytes) = false
-is_short (Errors rev total places) = false
-is_short (Lines rev count lines) = false
-is_short (Position rev line character) = true
-is_short (Offset rev offset) = true
-is_short (replies.Place rev place utf8 utf16 utf32) = true
-is_short (Stat rev given encoding bom bytes errors lines utf8 utf16 utf32) = true
-is_short (Refused f) = true

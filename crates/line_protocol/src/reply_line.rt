@@ -39,7 +39,8 @@ impl Model for ReplyLine {
 
 impl ReplyLine {
     ghost use Rattle.std.specs.Prelude.{◌≡◌, ◌≤◌, length, true, IfOk, IsOk};
-    ghost use Rattle.line_protocol.specs.Replies.{reply_text, refusal_text, memory_text, is_short, inline_limit};
+    ghost use Rattle.line_protocol.specs.Inline.{is_short, inline_limit};
+    ghost use Rattle.line_protocol.specs.Replies.{reply_text, refusal_text, memory_text};
 
     /// The bytes of the line, the line end included.
     pub fn bytes(&self) -> &[u8]

@@ -4,7 +4,8 @@ ghost use Rattle.serde_json.specs.Data.{object};
 ghost use Rattle.serde_json.specs.Written.{compact_text, comma_if};
 ghost use Rattle.json.specs.Print.{quoted};
 ghost use Rattle.line_protocol.specs.Writing.{all_plain, members_of, are_plain, room_of, content_data, content_is_plain, content_room, number_room, place_room};
-ghost use Rattle.line_protocol.specs.Replies.{IsShortLine, whole, place_data};
+ghost use Rattle.line_protocol.specs.Inline.{IsShortLine};
+ghost use Rattle.line_protocol.specs.Replies.{whole, place_data};
 
 use crate::reply_line::short_text::{CAPACITY, ShortText};
 use enc_names::Place;

@@ -2,7 +2,8 @@
 ghost use Rattle.std.specs.Prelude.{◌≡◌, ◌≤◌, length, codes, IsTrue};
 ghost use Rattle.enc_names.specs.Names.{name_of};
 ghost use Rattle.line_protocol.specs.Writing.{all_plain, name_room};
-ghost use Rattle.line_protocol.specs.Replies.{IsShortLine, edited_data, changed_data, closed_data, position_data, offset_data, found_place_data, stat_data, fault_data, refusal_data, bare_data, fault_with_id_data, unencodable_data, malformed_data, bad_request_data, fault_name, field_name};
+ghost use Rattle.line_protocol.specs.Inline.{IsShortLine};
+ghost use Rattle.line_protocol.specs.Replies.{edited_data, changed_data, closed_data, position_data, offset_data, found_place_data, stat_data, fault_data, refusal_data, bare_data, fault_with_id_data, unencodable_data, malformed_data, bad_request_data, fault_name, field_name};
 
 use crate::reply_line::members::{Content, line};
 use crate::reply_line::short_text::ShortText;

@@ -1,6 +1,6 @@
 use Rattle.std.proofs.Common.{◌≡◌, ◌≤◌, ◌+◌, ◌++◌, ◌∷◌, length, IsTrue, false, drop}
 use Rattle.serde_json.specs.Written.{members_text}
-use Rattle.line_protocol.specs.Replies.{inline_limit}
+use Rattle.line_protocol.specs.Inline.{inline_limit}
 use Rattle.line_protocol.specs.Writing.{members_of, are_plain, room_of}
 use Rattle.line_protocol.proofs.reply_line.members.line.Given as goal
 
