@@ -1,4 +1,4 @@
--- What the crates above cite of lines and events; a law call proves each. Nothing here has to be believed.
+-- What the crates above cite of lines and events; a law call proves each.
 use Rattle.std.specs.Prelude.{◌≡◌, ℕ, ◌+◌, ◌<◌, ◌≤◌, true, false, List, [], ◌∷◌, ◌++◌, length, take, Option}
 use Rattle.connections.specs.Lines.{complete, unfinished, has_end, before_end}
 use Rattle.connections.specs.Traffic.{Traffic}

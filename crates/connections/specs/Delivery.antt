@@ -1,4 +1,4 @@
--- What a run has done so far, on a connection that is open. Nothing here has to be believed.
+-- A connection that is open, and what a run has done so far on it; nothing of the latter has to be believed.
 use Rattle.std.specs.Prelude.{◌≡◌, ℕ, List, Option, Some, None, Result, Ok, Err, take}
 use Rattle.std.specs.Io.KnownBytes.{Consumes, Appends, IsAtEnd}
 use Rattle.connections.specs.declared.serve.Progress.{Progress}
