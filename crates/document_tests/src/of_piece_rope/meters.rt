@@ -1,4 +1,5 @@
-//! Documents of several pieces: what a splice decodes, and line ends that pieces cut.
+//! What a splice decodes, in documents of several pieces and where it is refused, and line ends that
+//! pieces cut.
 
 use super::*;
 use crate::indexes::small_indexes;
@@ -36,6 +37,18 @@ fn shift_taken_away_changes_all_behind_it(rt: HostRuntime) -> Result<(), Fail> {
     let raised = raised(&mut doc, 0, 3, &[])?;
     has_text(&rt, &doc, 5000, 5001, "\\")?;
     assert!(&rt; raised <= 13_193, "{raised} bytes decoded");
+    Ok(())
+}
+
+#[test]
+fn splice_far_past_the_end_decodes_nothing(rt: HostRuntime) -> Result<(), Fail> {
+    let indexes = Indexes::new();
+    let mut doc = Doc::open(rt.alloc(), &indexes, Encoding::Utf8, b"a", &mut meter())?;
+    let mut spent = meter();
+    let refused = doc.splice(u64::MAX, 1, &[], &mut spent).err();
+    assert_eq!(&rt; refused, Some(DocFault::OutOfRange));
+    assert_eq!(&rt; spent.decoded(), 0);
+    answers(&rt, &doc, "a", &[])?;
     Ok(())
 }
 
