@@ -1,25 +1,7 @@
-//! Devices of tests, which break off.
+//! A writer of tests, which takes a few bytes at a time and breaks off.
 
 use std::io;
-use std::io::{ErrorKind, Read, Write};
-
-/// Gives its bytes, and then fails.
-#[derive(Drop)]
-pub struct Failing<'a> {
-    pub rest: &'a [u8],
-}
-
-impl Read for Failing<'_> {
-    fn read(&mut self, buf: &mut [u8]) -> io::Result<usize> {
-        if self.rest.is_empty() {
-            return Err(io::Error::from(ErrorKind::BrokenPipe));
-        }
-        let n = self.rest.len().min(buf.len());
-        buf[..n].copy_from_slice(&self.rest[..n]);
-        self.rest = &self.rest[n..];
-        Ok(n)
-    }
-}
+use std::io::{ErrorKind, Write};
 
 /// Takes at most so many bytes a write, and fails where there is no room left.
 #[derive(Drop)]

@@ -103,6 +103,22 @@ fn line_cut_into_pieces(rt: HostRuntime) -> Result<(), Fail> {
     Ok(())
 }
 
+#[test]
+fn ids_that_are_no_whole_number_below_2_53(rt: HostRuntime) -> Result<(), Fail> {
+    let indexes = Indexes::new();
+    let mut gateway = new_gateway(rt.alloc(), &indexes)?;
+    expect_faults(&rt, &mut gateway, &[(Event::Open(0), None)]);
+    let refused = Some("{\"fault\":\"BadRequest\",\"field\":\"id\"}\n");
+    for line in [
+        "{\"id\":9007199254740992,\"op\":\"stat\"}\n",
+        "{\"id\":1.5,\"op\":\"stat\"}\n",
+        "{\"id\":\"1\",\"op\":\"stat\"}\n",
+    ] {
+        expect_event(&rt, &mut gateway, 0, line, line.len(), refused);
+    }
+    Ok(())
+}
+
 /// Lines of two connections that edit one document: the number of the connection, the bytes of an
 /// event, and the reply that the event has, if any.
 const TWO_EDITORS: [(u8, &str, Option<&str>); 7] = [

@@ -15,4 +15,8 @@ mod requests;
 #[cfg(test)]
 mod runs;
 #[cfg(test)]
+mod stopping;
+#[cfg(test)]
+mod stops;
+#[cfg(test)]
 mod traces;

@@ -1,7 +1,8 @@
 //! Runs over memory and over devices that break off.
 
-use crate::breaking::{Failing, Narrow};
+use crate::breaking::Narrow;
 use crate::events::{expect_event, new_gateway};
+use crate::stopping::StoppingFeed;
 use gateway::{
     Event, Feed, FromRead, GateFault, Gateway, MemFeed, MemOutlet, RunFault, ToWrite, run,
 };
@@ -14,7 +15,7 @@ use std::io::{ErrorKind, Read, Write};
 use std::process::Abort;
 use std::test::Fail;
 
-const SESSION: &str = "\
+pub(crate) const SESSION: &str = "\
 {\"id\":1,\"op\":\"open\",\"doc\":\"a\",\"label\":\"utf-8\",\"bytes\":\"4oJB\"}
 {\"id\":2,\"op\":\"text\",\"doc\":\"a\",\"from\":0,\"to\":2}
 {\"id\":3,\"op\":\"errors\",\"doc\":\"a\",\"from\":0,\"max\":10}
@@ -23,7 +24,7 @@ const SESSION: &str = "\
 {\"id\":6,\"op\":\"splice\",\"doc\":\"a\",\"rev\":1,\"at\":5,\"del\":0,\"bytes\":\"\"}
 ";
 
-const REPLIES: &str = "\
+pub(crate) const REPLIES: &str = "\
 {\"bom\":0,\"encoding\":\"UTF-8\",\"id\":1,\"rev\":0}
 {\"id\":2,\"rev\":0,\"text\":\"\u{fffd}A\"}
 {\"errors\":[[0,2]],\"id\":3,\"rev\":0,\"total\":1}
@@ -208,22 +209,16 @@ fn number_that_is_not_free(rt: HostRuntime) -> Result<(), Fail> {
 }
 
 #[test]
-fn reader_that_fails_in_mid_line(rt: HostRuntime) -> Result<(), Fail> {
+fn reader_that_fails_behind_two_lines_and_five_bytes(rt: HostRuntime) -> Result<(), Fail> {
     let indexes = Indexes::new();
     let mut gateway = new_gateway(rt.alloc(), &indexes)?;
-    let lines = "{\"id\":1,\"op\":\"zap\"}\n\n{\"id\"";
-    let mut reader = FromRead::new(Failing {
-        rest: lines.as_bytes(),
-    });
-    let replies = "{\"fault\":\"UnknownOp\",\"id\":1}\n{\"fault\":\"BadJson\"}\n";
-    expect_run(
-        &rt,
-        rt.alloc(),
-        &mut gateway,
-        &mut reader,
-        Err(RunFault::Read),
-        replies,
-    );
+    let mut reader = StoppingFeed::new(SESSION.as_bytes(), 114);
+    let replies = "\
+{\"bom\":0,\"encoding\":\"UTF-8\",\"id\":1,\"rev\":0}
+{\"id\":2,\"rev\":0,\"text\":\"\u{fffd}A\"}
+";
+    let read = Err(RunFault::Read);
+    expect_run(&rt, rt.alloc(), &mut gateway, &mut reader, read, replies);
     let object = "{\"fault\":\"BadRequest\",\"field\":\"\"}\n";
     expect_reply(&rt, &mut gateway, "[]\n", object);
     Ok(())

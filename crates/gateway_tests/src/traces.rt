@@ -3,9 +3,10 @@ ghost use Rattle.std.specs.Prelude.{◌≡◌, ◌∷◌, [], codes, true, false
 ghost use Rattle.connections.specs.Events.{Opening, Bringing, Closing};
 ghost use Rattle.gateway.specs.Trace.{event_on, is_skipped, parts, text_lines};
 
-use crate::breaking::{Failing, Narrow};
+use crate::breaking::Narrow;
 use crate::events::new_gateway;
-use gateway::{Feed, FromRead, Gateway, MemFeed, MemOutlet, ToWrite, TraceFault, trace};
+use crate::stopping::StoppingFeed;
+use gateway::{Feed, Gateway, MemFeed, MemOutlet, ToWrite, TraceFault, trace};
 use index_loader::Indexes;
 use std::alloc::Global;
 use std::process::Abort;
@@ -181,9 +182,8 @@ fn lines_of_a_trace_at_the_limit(rt: HostRuntime) -> Result<(), Fail> {
 
 #[test]
 fn reader_that_fails_in_mid_line_of_a_trace(rt: HostRuntime) -> Result<(), Fail> {
-    let mut reader = FromRead::new(Failing {
-        rest: b"open 16\nopen 17",
-    });
+    let text = b"open 16\nopen 17";
+    let mut reader = StoppingFeed::new(text, text.len());
     let read = Err(TraceFault::Read);
     expect_trace(&rt, rt.alloc(), &mut reader, read, "16 !BadNumber\n")
 }

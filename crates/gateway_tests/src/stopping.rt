@@ -1,0 +1,98 @@
+//! Devices of tests, which work for some bytes and then fail at every call.
+ghost use Rattle.std.specs.Prelude.{◌+◌};
+
+use gateway::{Failed, Feed, MemFeed, MemOutlet, Outlet};
+use std::alloc::Global;
+
+/// Gives the first `room` of its bytes, and then fails.
+#[derive(Drop)]
+pub struct StoppingFeed<'a> {
+    bytes: MemFeed<'a>,
+    room: usize,
+    /// Read once for each read that fails, so that contracts have their number.
+    failed: MemFeed<'a>,
+}
+
+impl<'a> StoppingFeed<'a> {
+    /// The device that gives so many of these bytes.
+    pub fn new(bytes: &'a [u8], room: usize) -> StoppingFeed<'a> {
+        StoppingFeed {
+            bytes: MemFeed::new(bytes),
+            room,
+            failed: MemFeed::new(&[]),
+        }
+    }
+}
+
+impl<'a> Feed for StoppingFeed<'a> {
+    ghost left = { λ d. ⟦<MemFeed<'a> as Feed>⟧.left d.bytes };
+
+    ghost reads = { λ d. ⟦<MemFeed<'a> as Feed>⟧.reads d.bytes + ⟦<MemFeed<'a> as Feed>⟧.reads d.failed };
+
+    ghost ends = { λ d. ⟦<MemFeed<'a> as Feed>⟧.ends d.bytes };
+
+    ghost failures = { λ d. ⟦<MemFeed<'a> as Feed>⟧.reads d.failed };
+
+    fn read(&mut self, buf: &mut [u8]) -> Result<usize, Failed> {
+        if self.room == 0 {
+            let _ = self.failed.read(&mut []);
+            return Err(Failed);
+        }
+        let most = self.room.min(buf.len());
+        match self.bytes.read(&mut buf[..most]) {
+            Ok(n) => {
+                self.room -= n;
+                Ok(n)
+            }
+            Err(Failed) => unreachable!(),
+        }
+    }
+}
+
+/// Takes `room` bytes, and then fails.
+#[derive(Drop)]
+pub struct StoppingOutlet {
+    taken: MemOutlet,
+    room: usize,
+    /// Written to once for each write that fails for want of room, so that contracts have their number.
+    failed: MemOutlet,
+}
+
+impl StoppingOutlet {
+    /// The device that takes so many bytes.
+    pub fn new(alloc: Global, room: usize) -> StoppingOutlet {
+        StoppingOutlet {
+            taken: MemOutlet::new(alloc),
+            room,
+            failed: MemOutlet::new(alloc),
+        }
+    }
+
+    /// What was written.
+    pub fn bytes(&self) -> &[u8] {
+        self.taken.bytes()
+    }
+}
+
+impl Outlet for StoppingOutlet {
+    ghost written = { λ d. ⟦<MemOutlet as Outlet>⟧.written d.taken };
+
+    ghost writes = { λ d. ⟦<MemOutlet as Outlet>⟧.writes d.taken + ⟦<MemOutlet as Outlet>⟧.writes d.failed };
+
+    ghost failures = { λ d. ⟦<MemOutlet as Outlet>⟧.failures d.taken + ⟦<MemOutlet as Outlet>⟧.writes d.failed };
+
+    fn write(&mut self, buf: &[u8]) -> Result<usize, Failed> {
+        if self.room == 0 {
+            let _ = self.failed.write(&[]);
+            return Err(Failed);
+        }
+        let most = self.room.min(buf.len());
+        match self.taken.write(&buf[..most]) {
+            Ok(n) => {
+                self.room -= n;
+                Ok(n)
+            }
+            Err(Failed) => Err(Failed),
+        }
+    }
+}
