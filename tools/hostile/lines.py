@@ -1,0 +1,128 @@
+"""Hostile lines, each between an open and a question about what it opened, over all three ways in."""
+import base64
+import json
+
+from program import Case, Ended
+
+MOST = 4194304  # bytes of a line
+LARGEST = 2097152  # bytes of a document
+
+OPEN = b'{"id":0,"op":"open","doc":"kept","label":"utf-8","bytes":"4oJB"}'
+OPENED = b'{"bom":0,"encoding":"UTF-8","id":0,"rev":0}'
+ASK = b'{"id":7,"op":"source","doc":"kept","at":0,"len":3}'
+KEPT = b'{"bytes":"4oJB","id":7,"rev":0}'
+
+BAD_JSON = b'{"fault":"BadJson"}'
+TOO_LONG = b'{"fault":"LineTooLong"}'
+STAT = b'"op":"stat","doc":"kept"'
+NONE = b'{"fault":"NoDocument","id":1}'
+OPENED_1 = b'{"bom":0,"encoding":"UTF-8","id":1,"rev":0}'
+BASE64 = b'{"fault":"BadBase64","id":1}'
+
+
+def stat(number=1):
+    return b'{"bom":0,"bytes":3,"encoding":"UTF-8","errors":1,"given":"UTF-8","id":%d,"lines":1,"rev":0,"utf16":2,"utf32":2,"utf8":4}' % number
+
+
+def bad(field, number=None):
+    return json.dumps({"fault": "BadRequest", "field": field, **({} if number is None else {"id": number})}, separators=(",", ":")).encode()
+
+
+def fault(name):
+    return b'{"fault":"%s","id":1}' % name
+
+
+def opens(content, name=b"new", label=b"utf-8"):
+    return b'{"id":1,"op":"open","doc":"%s","label":"%s","bytes":"%s"}' % (name, label, content)
+
+
+def levels(depth):
+    """A question whose JSON has so many levels."""
+    return b'{"id":1,%s,"x":' % STAT + b"[" * (depth - 1) + b"]" * (depth - 1) + b"}"
+
+
+def keys(count):
+    return b"{" + b"".join(b'"k%d":%d,' % (it, it) for it in range(count)) + b'"id":1,%s}' % STAT
+
+
+def splice(at, cut, rev=0):
+    return b'{"id":1,"op":"splice","doc":"kept","rev":%d,"at":%d,"del":%d,"bytes":""}' % (rev, at, cut)
+
+
+# What is sent, and the reply.
+LINES = [
+    ("an empty line", b"", BAD_JSON),
+    ("a line of CR alone", b"\r", BAD_JSON),
+    ("4 MiB of nothing but [", b"[" * MOST, BAD_JSON),
+    ("a line of 4,194,304 bytes", b'{"id":1,%s}' % STAT + b" " * (MOST - 33), stat()),
+    ("a line of 4,194,305 bytes", b'{"id":1,%s}' % STAT + b" " * (MOST - 32), TOO_LONG),
+    ("4,194,304 bytes and a CR", b'{"id":1,%s}' % STAT + b" " * (MOST - 33) + b"\r", TOO_LONG),
+    ("127 levels", levels(127), stat()),
+    ("128 levels", levels(128), BAD_JSON),
+    ("an array", b"[]", bad("")),
+    ("a byte 00", b"\0", BAD_JSON),
+    ("a byte 00 in a text", b'{"id":1,"op":"stat","doc":"\0"}', BAD_JSON),
+    ("bytes that aren't UTF-8", b'{"id":1,"op":"stat","doc":"\xff"}', BAD_JSON),
+    ("a surrogate in UTF-8's form", b'{"id":1,"op":"stat","doc":"\xed\xa0\x80"}', BAD_JSON),
+    ("a byte order mark", b"\xef\xbb\xbf{}", BAD_JSON),
+    (r"\u0000 as a name", b'{"id":1,"op":"stat","doc":"\\u0000"}', NONE),
+    (r"\u0000 as a key", b'{"\\u0000":0,"id":1,%s}' % STAT, stat()),
+    ("a lone lead surrogate", b'{"id":1,"op":"stat","doc":"\\ud800"}', BAD_JSON),
+    ("a lone trail surrogate", b'{"id":1,"op":"stat","doc":"\\udc00"}', BAD_JSON),
+    ("surrogates in the wrong order", b'{"id":1,"op":"stat","doc":"\\ude00\\ud83d"}', BAD_JSON),
+    ("a lone surrogate in a field that is ignored", b'{"id":1,%s,"x":"\\ud800"}' % STAT, BAD_JSON),
+    ("a surrogate pair", b'{"id":1,"op":"stat","doc":"\\ud83d\\ude00"}', NONE),
+    ("10,000 keys", keys(10000), stat()),
+    ("10,000 equal keys, of which the last counts", b"{" + b'"id":9,' * 9999 + b'"id":1,%s}' % STAT, stat()),
+    ("two equal keys, the first of another type", b'{"id":"x","id":2,%s}' % STAT, stat(2)),
+    ("two equal keys, the last of another type", b'{"id":2,"id":"x",%s}' % STAT, bad("id")),
+    ("an id of 400 digits", b'{"id":%s,%s}' % (b"1" * 400, STAT), BAD_JSON),
+    ("400 digits in a field that is ignored", b'{"id":1,%s,"x":%s}' % (STAT, b"1" * 400), BAD_JSON),
+    ("400 digits behind the point", b'{"id":1,%s,"x":0.%s}' % (STAT, b"1" * 400), stat()),
+    ("1e400", b'{"id":1,%s,"x":1e400}' % STAT, BAD_JSON),
+    ("1e-400", b'{"id":1,%s,"x":1e-400}' % STAT, stat()),
+    ("an id of 2^53 - 1", b'{"id":9007199254740991,%s}' % STAT, stat(9007199254740991)),
+    ("an id of 2^53", b'{"id":9007199254740992,%s}' % STAT, bad("id")),
+    ("an id of 1.5", b'{"id":1.5,%s}' % STAT, bad("id")),
+    ("an id of 1.0", b'{"id":1.0,%s}' % STAT, bad("id")),
+    ("an id of 1e0", b'{"id":1e0,%s}' % STAT, bad("id")),
+    ("an id of -0", b'{"id":-0,%s}' % STAT, bad("id")),
+    ("an id in quotes", b'{"id":"1",%s}' % STAT, bad("id")),
+    ("an id of null", b'{"id":null,%s}' % STAT, bad("id")),
+    ("a number with a leading zero", b'{"id":01,%s}' % STAT, BAD_JSON),
+    ("an op that is none", b'{"id":1,"op":"stat\\u0000"}', fault(b"UnknownOp")),
+    ("base64 with spare bits", opens(b"QR=="), BASE64),
+    ("base64 with white space in it", opens(b"Q Q=="), BASE64),
+    ("base64 with a line feed behind it", opens(b"QQ==\\n"), BASE64),
+    ("base64 without padding", opens(b"QQ"), BASE64),
+    ("base64 with too much padding", opens(b"QQ==="), BASE64),
+    ("base64 of URLs", opens(b"-_-_"), BASE64),
+    ("base64 with U+0000", opens(b"QQ==\\u0000"), BASE64),
+    ("a name of no byte", opens(b"", b""), bad("doc", 1)),
+    ("a name of 64 bytes", opens(b"", b"n" * 64), OPENED_1),
+    ("a name of 65 bytes", opens(b"", b"n" * 65), bad("doc", 1)),
+    ("a name of 16 code points in 64 bytes", opens(b"", "\U0001f600".encode() * 16), OPENED_1),
+    ("a name of 22 code points in 66 bytes", opens(b"", b"\\u3042" * 22), bad("doc", 1)),
+    ("a document of 2,097,152 bytes", opens(base64.b64encode(b"\0" * LARGEST)), OPENED_1),
+    ("a document of 2,097,153 bytes", opens(base64.b64encode(b"\0" * (LARGEST + 1))), fault(b"TooLarge")),
+    ("a label of a megabyte", opens(b"", label=b"x" * (1 << 20)), fault(b"UnknownLabel")),
+    ("a splice far past the end", splice(9007199254740991, 9007199254740991), fault(b"OutOfRange")),
+    ("a splice a byte past the end", splice(0, 4), fault(b"OutOfRange")),
+    ("a splice of another revision", splice(0, 3, 1), b'{"fault":"Stale","id":1,"rev":0}'),
+]
+
+
+def documents(count):
+    """Opens this many documents beside the one that is kept."""
+    return [opens(b"", b"n%d" % it) for it in range(count)]
+
+
+def cases(gate):
+    wanted = Ended(0, b"", b"")
+    for way, call in ("stdio", gate.over_stdio), ("trace", gate.over_trace), ("tcp", gate.over_tcp):
+        for name, line, reply in LINES:
+            data, replies = (b"".join(it + b"\n" for it in all_of) for all_of in ((OPEN, line, ASK), (OPENED, reply, KEPT)))
+            yield Case(f"{way}: {name}", lambda call=call, data=data: call(data), wanted._replace(output=replies))
+        data = b"\n".join([OPEN, *documents(64), ASK, b'{"id":1'])
+        replies = b"".join(it + b"\n" for it in [OPENED, *[OPENED_1] * 63, fault(b"TooManyDocuments"), KEPT])
+        yield Case(f"{way}: a 65th document, and half a line at the end", lambda call=call, data=data: call(data), wanted._replace(output=replies))
