@@ -11,6 +11,8 @@ import itertools
 import os
 import sys
 
+sys.dont_write_bytecode = True  # (the tables below leave nothing behind in the repository)
+
 import files
 import lines
 import peers

@@ -18,10 +18,14 @@ def closed(number):
     return lambda: os.close(number)
 
 
-def without(gate, words, number):
-    """The program without one of its standard streams."""
-    with gate.started(words, preexec_fn=closed(number)) as program:
+def without_input(gate, words):
+    with gate.started(words, preexec_fn=closed(0)) as program:
         return ending(program)
+
+
+def without(gate, words, data, number):
+    """The program without its output, or without its error stream."""
+    return gate.run(words, data, preexec_fn=closed(number))
 
 
 def fed(gate, words, data, path, mode):
@@ -44,9 +48,8 @@ def to_nobody(gate, words, data, pipe_signal):
     """The reader of its output is gone before the first reply."""
     reading, writing = os.pipe()
     os.close(reading)
-    restored = lambda: signal.signal(signal.SIGPIPE, pipe_signal)
     try:
-        return gate.run(words, data, stdout=writing, preexec_fn=restored)
+        return gate.run(words, data, stdout=writing, preexec_fn=lambda: signal.signal(signal.SIGPIPE, pipe_signal))
     finally:
         os.close(writing)
 
@@ -110,10 +113,11 @@ def cases(gate):
     files = ["--indexes", gate.empty]
     lines = OPEN + b"\n" + ASK + b"\n"
     for way, words, data in ("stdio", ["stdio", *files], lines), ("trace", ["trace", *files], b"open 16\n"):
-        yield Case(f"{way}: standard input closed", lambda words=words: without(gate, words, 0), READ)
+        yield Case(f"{way}: standard input closed", lambda words=words: without_input(gate, words), READ)
         yield Case(f"{way}: a folder as standard input", lambda words=words: from_a_folder(gate, words), READ)
         yield Case(f"{way}: standard input that can't be read", lambda words=words: fed(gate, words, b"", "/proc/self/mem", "rb"), READ)
         yield Case(f"{way}: no byte of input", lambda words=words: gate.run(words), Ended(0, b"", b""))
+        yield Case(f"{way}: standard output closed", lambda words=words, data=data: without(gate, words, data, 1), WRITE)
         yield Case(f"{way}: standard output full", lambda words=words, data=data: fed(gate, words, data, "/dev/full", "wb"), WRITE)
         for name, handler in ("as it is by default", signal.SIG_DFL), ("ignored", signal.SIG_IGN):
             yield Case(f"{way}: standard output without a reader, SIGPIPE {name}", lambda words=words, data=data, handler=handler: to_nobody(gate, words, data, handler), WRITE)
@@ -122,13 +126,10 @@ def cases(gate):
 
 
 def closed_cases(gate, lines):
-    output_closed = lambda words, data: gate.run(words, data, preexec_fn=closed(1))
-    error_closed = lambda words, data: gate.run(words, data, preexec_fn=closed(2))
-    yield Case("stdio: standard output closed", lambda: output_closed([], lines), WRITE)
-    yield Case("help: standard output closed", lambda: output_closed(["--help"], b""), WRITE)
+    yield Case("help: standard output closed", lambda: without(gate, ["--help"], b"", 1), WRITE)
     yield Case("help: standard output full", lambda: fed(gate, ["--help"], b"", "/dev/full", "wb"), WRITE)
-    yield Case("stdio: standard error closed, and nothing to tell", lambda: error_closed([], lines), Ended(0, OPENED + b"\n" + KEPT + b"\n", b""))
-    yield Case("stdio: standard error closed, and a text for it", lambda: error_closed(["stdio"], lines), Ended(2, b"", b""))
+    yield Case("stdio: standard error closed, and nothing to tell", lambda: without(gate, [], lines, 2), Ended(0, OPENED + b"\n" + KEPT + b"\n", b""))
+    yield Case("stdio: standard error closed, and a text for it", lambda: without(gate, ["stdio"], lines, 2), Ended(2, b"", b""))
 
 
 def slow_cases(gate):
