@@ -1,0 +1,263 @@
+"""A client of `gate`, which keeps documents in legacy encodings as bytes and edits them in place.
+
+    with Gate.start("gate", "stdio", "--indexes", "standard", "--labels", "standard/encodings.json") as gate:
+        letter = gate.open("letter", "shift_jis", pathlib.Path("letter.txt").read_bytes())
+        print(letter.text(), letter.errors())
+        edit = letter.change("東京", (0, 3), (0, 5))
+        letter.undo(edit)
+        pathlib.Path("letter.txt").write_bytes(letter.bytes)
+
+`Gate` sends commands and hands out replies, over a program that it starts or over TCP; `Document` is one document with
+its bytes beside it, so that an edit can be taken back to the byte. docs/PROTOCOL.md says what each command does."""
+import base64
+import contextlib
+import json
+import queue
+import socket
+import subprocess
+import threading
+import time
+
+# The most bytes of a document that one line has room for: 4 MiB of line, less its other fields, as base64.
+ROOM = 3_000_000
+# The most commands that wait for their reply. Whoever sends more waits for the oldest.
+WINDOW = 64
+# The most entries of a page of errors or of lines.
+PAGE = 10_000
+
+
+class Fault(Exception):
+    """A refusal: `name`, as "NotKept", and the refusal's further members in `members`."""
+
+    def __init__(self, reply):
+        self.name = reply["fault"]
+        self.members = {key: value for key, value in reply.items() if key not in ("fault", "id")}
+        super().__init__(" ".join([self.name, *(f"{key}={value}" for key, value in self.members.items())]))
+
+
+class Gone(Exception):
+    """`gate` ended, or the connection to it did, before it replied."""
+
+
+class Reply:
+    """The reply to a command that was sent."""
+
+    def __init__(self):
+        self._came = threading.Event()
+        self._members = None
+
+    def _put(self, members):
+        self._members = members
+        self._came.set()
+
+    def get(self):
+        """Waits for the reply, and returns its members. Raises `Fault` for a refusal."""
+        self._came.wait()
+        if self._members is None:
+            raise Gone()
+        if "fault" in self._members:
+            raise Fault(self._members)
+        return self._members
+
+
+class Gate:
+    """A connection to `gate`. Replies come in the order of the commands, so the oldest command that waits has the next
+    one; a thread reads them, so that sending never blocks for good."""
+
+    def __init__(self, reading, writing, end):
+        self._reading, self._writing, self._end = reading, writing, end
+        self._waiting = queue.Queue()
+        self._places = threading.BoundedSemaphore(WINDOW)
+        self._sending = threading.Lock()
+        self._next, self._over = 0, False
+        self._reader = threading.Thread(target=self._read, daemon=True)
+        self._reader.start()
+
+    @classmethod
+    def start(cls, *words):
+        """Starts the program with these words, and ends it with the connection."""
+        program = subprocess.Popen(words, stdin=subprocess.PIPE, stdout=subprocess.PIPE)
+
+        def end():
+            with contextlib.suppress(BrokenPipeError):
+                program.stdin.close()
+            program.wait()
+            program.stdout.close()
+
+        return cls(program.stdout, program.stdin, end)
+
+    @classmethod
+    def connect(cls, port=7117, host="127.0.0.1", patience=10.0):
+        """Connects to `gate tcp`, which prints nothing when it begins to listen: so it is tried until it does."""
+        until = time.monotonic() + patience
+        while True:
+            try:
+                connection = socket.create_connection((host, port))
+                break
+            except ConnectionRefusedError:
+                if time.monotonic() > until:
+                    raise
+                time.sleep(0.05)
+        reading, writing = connection.makefile("rb"), connection.makefile("wb")
+
+        def end():
+            with contextlib.suppress(OSError):
+                writing.close()
+                connection.shutdown(socket.SHUT_WR)
+            reading.close()
+            connection.close()
+
+        return cls(reading, writing, end)
+
+    def _read(self):
+        with contextlib.suppress(OSError):
+            for line in self._reading:
+                self._waiting.get()._put(json.loads(line))
+                self._places.release()
+        with self._sending:
+            self._over = True
+        while not self._waiting.empty():
+            self._waiting.get()._put(None)
+            self._places.release()
+
+    def send(self, op, **fields):
+        """Sends a command, and returns its `Reply` without waiting for it."""
+        self._places.acquire()
+        reply = Reply()
+        with self._sending:
+            if self._over:
+                self._places.release()
+                raise Gone()
+            line = json.dumps({"id": self._next, "op": op, **fields}).encode()
+            self._next += 1
+            self._waiting.put(reply)
+            # (where the other end is gone, the reader says so)
+            with contextlib.suppress(OSError):
+                self._writing.write(line + b"\n")
+                self._writing.flush()
+        return reply
+
+    def ask(self, op, **fields):
+        """Sends a command, and returns the members of its reply. Raises `Fault` for a refusal."""
+        return self.send(op, **fields).get()
+
+    def open(self, name, label, content):
+        """Opens a document of these bytes, one that is larger than a line has room for by parts."""
+        return Document(self, name, label, content)
+
+    def close(self):
+        """Ends the connection, and a program that was started for it."""
+        self._end()
+        self._reader.join()
+
+    def __enter__(self):
+        return self
+
+    def __exit__(self, *_):
+        self.close()
+
+
+class Edit:
+    """An accepted edit: at byte `at` the bytes `old` went out and `new` came in."""
+
+    def __init__(self, at, old, new):
+        self.at, self.old, self.new = at, old, new
+
+
+class Document:
+    """A document of `gate`: its bytes, revision, encoding in force and the length of its byte order mark as they are now."""
+
+    def __init__(self, gate, name, label, content, room=ROOM):
+        self._gate, self.name, self.bytes = gate, name, content
+        self._take(gate.ask("open", doc=name, label=label, bytes=_base64(content[:room])))
+        for at in range(room, len(content), room):
+            part = _base64(content[at : at + room])
+            self._take(gate.ask("splice", doc=name, rev=self.rev, at=at, bytes=part, **{"del": 0}))
+
+    def _take(self, reply):
+        self.rev, self.encoding, self.bom = reply["rev"], reply["encoding"], reply["bom"]
+        return reply
+
+    def _put(self, at, count, new):
+        edit = Edit(at, self.bytes[at : at + count], new)
+        self.bytes = self.bytes[:at] + new + self.bytes[at + count :]
+        return edit
+
+    def splice(self, at, count, new):
+        """Replaces `count` bytes from `at` on, and returns the edit."""
+        self._take(self._gate.ask("splice", doc=self.name, rev=self.rev, at=at, bytes=_base64(new), **{"del": count}))
+        return self._put(at, count, new)
+
+    def change(self, text, start=None, end=None, unit="utf-16"):
+        """Replaces the text from one position, a line and a character, to another; without positions the whole text.
+        Returns the edit. A change of the whole text encodes all of it anew, and so bytes that nobody meant: send the
+        smallest range that differs."""
+        where = {} if start is None else {"range": {"start": _position(start), "end": _position(start if end is None else end)}}
+        reply = self._take(self._gate.ask("change", doc=self.name, rev=self.rev, unit=unit, text=text, **where))
+        return self._put(reply["at"], reply["del"], self.source(reply["at"], reply["ins"]))
+
+    def undo(self, edit):
+        """Takes the last edit back, by the bytes that were there: their text, put in again, may have others."""
+        return self.splice(edit.at, len(edit.new), edit.old)
+
+    def stat(self):
+        """The document's lengths, as `gate` has them."""
+        return self._gate.ask("stat", doc=self.name)
+
+    def text(self, begin=0, end=None):
+        """The text from one code point to another, or to its end. An error is U+FFFD."""
+        end = self.stat()["utf32"] if end is None else end
+        return self._gate.ask("text", doc=self.name, **{"from": begin, "to": end})["text"]
+
+    def source(self, at=0, count=None):
+        """The bytes as `gate` has them."""
+        count = len(self.bytes) - at if count is None else count
+        return base64.b64decode(self._gate.ask("source", doc=self.name, at=at, len=count)["bytes"])
+
+    def encode(self, label, begin=0, end=None, mode="fatal"):
+        """The text from one code point to another, or to its end, in another encoding."""
+        end = self.stat()["utf32"] if end is None else end
+        reply = self._gate.ask("encode", doc=self.name, label=label, mode=mode, **{"from": begin, "to": end})
+        return base64.b64decode(reply["bytes"])
+
+    def errors(self):
+        """The places of all errors, each the first byte and the one behind the last."""
+        return [tuple(it) for it in self._pages("errors", "total")]
+
+    def lines(self):
+        """All lines, each the code points where it begins and ends, its line end not included."""
+        return [tuple(it) for it in self._pages("lines", "count")]
+
+    def _pages(self, op, total):
+        found = []
+        while True:
+            page = self._gate.ask(op, doc=self.name, max=PAGE, **{"from": len(found)})
+            found += page[op]
+            if len(found) >= page[total]:
+                return found
+
+    def position(self, offset, unit="utf-16"):
+        """The line and the character of an offset in code points."""
+        reply = self._gate.ask("position", doc=self.name, offset=offset, unit=unit)
+        return reply["line"], reply["character"]
+
+    def offset(self, position, unit="utf-16"):
+        """The offset in code points of a line and a character."""
+        return self._gate.ask("offset", doc=self.name, unit=unit, **_position(position))["offset"]
+
+    def place(self, value, unit="byte"):
+        """The offset that a value names, in each unit, and the place of the code point there, or None."""
+        return self._gate.ask("place", doc=self.name, unit=unit, value=value)
+
+    def close(self):
+        """Closes the document."""
+        self._gate.ask("close", doc=self.name)
+
+
+def _base64(content):
+    return base64.b64encode(content).decode()
+
+
+def _position(position):
+    line, character = position
+    return {"line": line, "character": character}

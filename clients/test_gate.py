@@ -1,0 +1,105 @@
+"""The client over the program as it was built: crates/gate/out/gate, or the one that the variable GATE names."""
+import os
+import pathlib
+import socket
+import subprocess
+import unittest
+
+from gate import Document, Fault, Gate, Gone, WINDOW
+
+TOP = pathlib.Path(__file__).resolve().parent.parent
+PROGRAM = os.environ.get("GATE", str(TOP / "crates" / "gate" / "out" / "gate"))
+INDEXES = str(TOP / "examples" / "indexes")
+
+BUILT = unittest.skipUnless(os.access(PROGRAM, os.X_OK), f"there is no program {PROGRAM}; rt ci builds it")
+
+
+@BUILT
+class Documents(unittest.TestCase):
+    def setUp(self):
+        self.gate = Gate.start(PROGRAM, "stdio", "--indexes", INDEXES)
+        self.addCleanup(self.gate.close)
+
+    def test_a_truncated_sequence_is_an_error(self):
+        document = self.gate.open("d", "utf-8", b"\xe2\x82A")
+        self.assertEqual(document.text(), "\ufffdA")
+        self.assertEqual(document.errors(), [(0, 2)])
+        document.splice(2, 0, b"\xac")
+        self.assertEqual((document.text(), document.errors(), document.rev), ("€A", [], 1))
+
+    def test_only_the_edited_bytes_differ(self):
+        content = b"A\x1b$B$\"\x1b(B"
+        document = self.gate.open("d", "iso-2022-jp", content)
+        edit = document.change("亜", (0, 1))
+        self.assertEqual((edit.at, edit.old, edit.new), (1, b"", b"\x1b$B0!"))
+        self.assertEqual(document.source(), b"A\x1b$B0!\x1b$B$\"\x1b(B")
+        self.assertEqual(document.bytes, document.source())
+
+    def test_undo_is_to_the_byte(self):
+        # The text of the damaged byte is U+FFFD, whose bytes are others.
+        document = self.gate.open("d", "utf-8", b"a\xffb")
+        edit = document.change("", (0, 0), (0, 3))
+        self.assertEqual(document.bytes, b"")
+        document.undo(edit)
+        self.assertEqual((document.bytes, document.source()), (b"a\xffb", b"a\xffb"))
+
+    def test_a_refusal_is_an_exception_with_its_members(self):
+        document = self.gate.open("d", "windows-1252", b"A")
+        with self.assertRaises(Fault) as refused:
+            document.change("あ", (0, 1))
+        self.assertEqual((refused.exception.name, refused.exception.members), ("Unencodable", {"code_point": 12354, "index": 0}))
+        self.assertEqual((document.rev, document.source()), (0, b"A"))
+
+    def test_parts_of_a_large_document_may_cut_characters(self):
+        content = "日本語".encode() * 50
+        document = Document(self.gate, "d", "utf-8", content, room=7)
+        self.assertEqual((document.text(), document.source(), document.errors()), (content.decode(), content, []))
+
+    def test_more_commands_than_the_window(self):
+        document = self.gate.open("d", "utf-8", b"a" * 1000)
+        replies = [self.gate.send("text", doc="d", **{"from": at, "to": 1000}) for at in range(4 * WINDOW)]
+        self.assertEqual([len(it.get()["text"]) for it in replies], [1000 - at for at in range(4 * WINDOW)])
+        document.close()
+
+    def test_guessed_revisions_behind_a_refusal_are_stale(self):
+        self.gate.open("d", "windows-1252", b"")
+        sent = [self.gate.send("change", doc="d", rev=rev, text=text) for rev, text in enumerate(["a", "あ", "b"])]
+        self.assertEqual(sent[0].get()["rev"], 1)
+        for reply, name in (sent[1], "Unencodable"), (sent[2], "Stale"):
+            with self.assertRaises(Fault) as refused:
+                reply.get()
+            self.assertEqual(refused.exception.name, name)
+
+    def test_lines_positions_and_places(self):
+        document = self.gate.open("d", "utf-8", "a😀\r\nb".encode())
+        self.assertEqual(document.lines(), [(0, 2), (4, 5)])
+        self.assertEqual((document.position(2), document.offset((0, 3))), ((0, 3), 2))
+        self.assertEqual(document.place(1)["place"], [1, 5])
+
+    def test_the_text_in_another_encoding(self):
+        document = self.gate.open("d", "shift_jis", b"\x82\xa0")
+        self.assertEqual(document.encode("utf-8"), "あ".encode())
+
+
+@BUILT
+class Connections(unittest.TestCase):
+    def test_two_clients_one_after_another(self):
+        with socket.socket() as free:
+            free.bind(("127.0.0.1", 0))
+            port = free.getsockname()[1]
+        program = subprocess.Popen([PROGRAM, "tcp", "--indexes", INDEXES, "--port", str(port), "--serve", "2"])
+        with Gate.connect(port) as first:
+            first.open("d", "utf-8", b"kept")
+        with Gate.connect(port) as second:
+            self.assertEqual(second.ask("text", doc="d", **{"from": 0, "to": 4})["text"], "kept")
+        self.assertEqual(program.wait(), 0)
+
+    def test_a_program_that_ends_is_told(self):
+        with Gate.start("false") as gate:
+            for _ in range(3):
+                with self.assertRaises(Gone):
+                    gate.ask("stat", doc="d")
+
+
+if __name__ == "__main__":
+    unittest.main()

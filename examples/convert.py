@@ -1,0 +1,28 @@
+#!/usr/bin/env python3
+"""Converts a file to another encoding, on standard output.
+
+    examples/convert.py INDEXES FROM TO FILE
+
+A file with an error, or with a character that the other encoding lacks, is refused with its place."""
+import pathlib
+import sys
+
+TOP = pathlib.Path(__file__).resolve().parent.parent
+sys.path.insert(0, str(TOP / "clients"))
+from gate import Fault, Gate
+
+
+def main(indexes, label, target, path):
+    with Gate.start(TOP / "gate", "stdio", "--indexes", indexes) as gate:
+        document = gate.open("file", label, pathlib.Path(path).read_bytes())
+        errors = document.errors()
+        if errors:
+            sys.exit(f"{path}: {len(errors)} errors, the first at bytes {errors[0][0]} to {errors[0][1]}")
+        try:
+            sys.stdout.buffer.write(document.encode(target))
+        except Fault as fault:
+            line, character = document.position(fault.members.get("index", 0), unit="utf-32")
+            sys.exit(f"{path}, line {line + 1}, character {character + 1}: {fault}")
+
+
+main(*sys.argv[1:])

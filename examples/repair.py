@@ -1,0 +1,29 @@
+#!/usr/bin/env python3
+"""Repairs a letter: replaces a damaged byte, and shows that no other byte changed.
+
+    examples/repair.py INDEXES LABEL FILE AT BYTE
+
+INDEXES is the folder of the Standard's files, AT the number of the byte, BYTE its two new hexadecimal digits. The file
+stays as it is; what would be saved goes to standard output's end as hexadecimal digits."""
+import pathlib
+import sys
+
+TOP = pathlib.Path(__file__).resolve().parent.parent
+sys.path.insert(0, str(TOP / "clients"))
+from gate import Gate
+
+
+def main(indexes, label, path, at, byte):
+    before = pathlib.Path(path).read_bytes()
+    with Gate.start(TOP / "gate", "stdio", "--indexes", indexes) as gate:
+        letter = gate.open("letter", label, before)
+        print(letter.text(), "errors:", letter.errors())
+        letter.splice(int(at), 1, bytes.fromhex(byte))
+        print(letter.text(), "errors:", letter.errors())
+        after = letter.source()
+    changed = [it for it in range(len(before)) if before[it] != after[it]]
+    print("changed bytes:", changed, "of", len(after))
+    print(after.hex(" "))
+
+
+main(*sys.argv[1:])
