@@ -1,0 +1,389 @@
+---A buffer that shows a document: it is read, each edit goes to the program, and it is written.
+local Document = require('legacy.document')
+local History = require('legacy.history')
+local config = require('legacy.config')
+local diagnostics = require('legacy.diagnostics')
+local diff = require('legacy.diff')
+local file = require('legacy.file')
+local messages = require('legacy.messages')
+local mirrors = require('legacy.mirror')
+
+local api = vim.api
+
+---@class legacy.Buffer
+---@field number integer
+---@field document legacy.Document
+---@field mirror legacy.Mirror the text that the document has
+---@field path string where it is written
+---@field refusals legacy.Refusal[] what the buffer has and the document can't
+---@field private history legacy.History
+---@field private settings legacy.Settings
+---@field private disk string|nil the file's bytes when it was last read or written
+---@field private window integer how many changes go out together
+---@field private dirty boolean whether the buffer was edited since the last look
+---@field private busy boolean
+---@field private planned boolean
+---@field closed boolean whether the buffer shows the document no more
+---@field private edits integer how often the damaged places were to be shown anew
+---@field private hint { row: integer, column: integer }|nil where the only edit since the last look began
+local Buffer = {}
+Buffer.__index = Buffer
+
+local MOST_IN_FLIGHT = 256
+
+---Opens a document, by the name that editors use where the label isn't known.
+local function opened(connect, label, bytes, settings)
+  local document, refusal = Document.open(connect, label, bytes, settings.part)
+  local alias = config.aliases[label:lower()]
+  if not document and refusal.fault == 'UnknownLabel' and alias then
+    document, refusal = Document.open(connect, alias, bytes, settings.part)
+  end
+  if not document then
+    error('legacy: ' .. messages.opening(refusal, label, #bytes, settings), 0)
+  end
+  return document
+end
+
+---Reads a file into a buffer.
+---@param number integer
+---@param label string
+---@param path string
+---@param connect fun(): legacy.Connection
+---@return legacy.Buffer
+function Buffer.read(number, label, path, connect)
+  local settings = config.get()
+  path = (vim.uv or vim.loop).fs_realpath(path) or path
+  local disk = file.read(path)
+  local document = opened(connect, label, disk or '', settings)
+  local self = setmetatable({
+    number = number,
+    document = document,
+    mirror = mirrors.new(document:text()),
+    path = path,
+    disk = disk,
+    settings = settings,
+    refusals = {},
+    window = MOST_IN_FLIGHT,
+    dirty = false,
+    busy = false,
+    planned = false,
+    closed = false,
+    edits = 0,
+  }, Buffer)
+  self:fill()
+  self:attach()
+  self:show()
+  return self
+end
+
+---Puts the text into the buffer, with no undo of what was there.
+---@private
+function Buffer:fill()
+  local options, lines, ended = vim.bo[self.number], self.mirror:display()
+  options.buftype, options.swapfile, options.undofile = 'acwrite', false, false
+  options.fileformat = self.mirror.line_end == '\r\n' and 'dos' or 'unix'
+  -- What is typed into an empty text gets a line end, as in a new file.
+  options.fixendofline, options.endofline = false, ended or #self.document.bytes == 0
+  local levels = options.undolevels
+  options.undolevels = -1
+  api.nvim_buf_set_lines(self.number, 0, -1, true, lines)
+  options.undolevels, options.modified = levels, false
+  self.history = History.new(self:undo_tree().seq_cur)
+end
+
+---@private
+function Buffer:undo_tree()
+  return api.nvim_buf_call(self.number, vim.fn.undotree)
+end
+
+---Looks at the buffer soon after each edit. Nothing can be changed while Neovim reports it.
+---@private
+function Buffer:attach()
+  api.nvim_buf_attach(self.number, false, {
+    on_bytes = function(_, _, _, row, column)
+      if self.closed then
+        return true
+      end
+      if not self.busy then
+        self.hint = not self.dirty and { row = row, column = column } or nil
+        self.dirty = true
+      end
+    end,
+    on_lines = function()
+      if self.closed then
+        return true
+      end
+      if not self.busy then
+        self.dirty = true
+        self:plan()
+      end
+    end,
+    on_detach = function()
+      self:close()
+    end,
+  })
+end
+
+---@private
+function Buffer:plan()
+  if not self.planned then
+    self.planned = true
+    vim.schedule(function()
+      self.planned = false
+      if not self.closed and api.nvim_buf_is_loaded(self.number) then
+        local done, why = pcall(self.sync, self)
+        if not done then
+          messages.warn(tostring(why):gsub('^legacy: ', ''))
+        end
+      end
+    end)
+  end
+end
+
+function Buffer:close()
+  if not self.closed then
+    self.closed = true
+    self.document:close()
+  end
+end
+
+---The buffer's text as lines, like those of a mirror. One empty line is an empty text where Neovim says so, or where
+---the text is empty already: after undo Neovim has forgotten it.
+---@private
+---@return string[]
+function Buffer:lines()
+  local lines = api.nvim_buf_get_lines(self.number, 0, -1, true)
+  local empty = #lines == 1
+    and lines[1] == ''
+    and (vim.deep_equal(self.mirror.lines, lines) or api.nvim_buf_call(self.number, vim.fn.wordcount).bytes == 0)
+  if vim.bo[self.number].endofline and not empty then
+    lines[#lines + 1] = ''
+  end
+  return lines
+end
+
+---Brings the document in step with the buffer. What is refused is taken back, or marked.
+function Buffer:sync()
+  if self.busy or not self.dirty then
+    return
+  end
+  self.busy, self.dirty = true, false
+  local hint = self.hint
+  self.hint = nil
+  local done, why = pcall(function()
+    self:keep_format()
+    self:follow_undo()
+    self:settle(self:send(hint))
+  end)
+  self.busy = false
+  if not done then
+    self.dirty = true
+    error(why, 0)
+  end
+  self:show_soon()
+end
+
+---The document's line ends are its own: a buffer with another 'fileformat' would hide what they are.
+---@private
+function Buffer:keep_format()
+  local own = self.mirror.line_end == '\r\n' and 'dos' or 'unix'
+  if vim.bo[self.number].fileformat ~= own then
+    vim.bo[self.number].fileformat = own
+    messages.warn("'fileformat' is set by the file's line ends; an edit changes them")
+  end
+end
+
+---Puts back the bytes of the state that an undo or redo led to.
+---@private
+function Buffer:follow_undo()
+  local history = self.history
+  local key = history:key(self:undo_tree())
+  if key == history.current then
+    return
+  end
+  local known = history:knows(key)
+  local steps, splices = history:go(known and key or history:base(key)), {}
+  for i, step in ipairs(steps) do
+    splices[i] = step.taken
+  end
+  self.document:splice(splices)
+  for _, step in ipairs(steps) do
+    self.mirror:replace(step.rows)
+  end
+  if not known then
+    history:begin(key)
+  end
+end
+
+---Sends what differs, in small pieces first and then, where one is refused, in larger ones: a step between can be what
+---the encoding can't keep, and the whole not.
+---@private
+---@param hint { row: integer, column: integer }|nil
+---@return legacy.Refusal[]
+function Buffer:send(hint)
+  local refusals = {}
+  for _, coarse in ipairs({ false, true }) do
+    local lines = self:lines()
+    refusals = self:send_edits(diff.edits(self.mirror.lines, lines, hint, coarse))
+    if #refusals == 0 then
+      break
+    end
+  end
+  return refusals
+end
+
+---An edit whose text is longer than a command takes becomes several at its end, that of the last part first.
+---@param edits legacy.Edit[]
+---@param most integer bytes of a text, which JSON may make six times as long
+---@return legacy.Edit[]
+local function in_parts(edits, most)
+  local list = {}
+  for _, edit in ipairs(edits) do
+    local text = edit.text
+    while #text > most do
+      local from = #text - most
+      while from > 0 and text:byte(from + 1) >= 128 and text:byte(from + 1) < 192 do
+        from = from - 1
+      end
+      list[#list + 1] = {
+        row = edit.end_row, column = edit.end_column,
+        end_row = edit.end_row, end_column = edit.end_column,
+        text = text:sub(from + 1),
+      }
+      text = text:sub(1, from)
+    end
+    list[#list + 1] = setmetatable({ text = text }, { __index = edit })
+  end
+  return list
+end
+
+---@private
+---@param edits legacy.Edit[] that of the last place first
+---@return legacy.Refusal[]
+function Buffer:send_edits(edits)
+  local refusals, first = {}, 1
+  edits = in_parts(edits, math.max(math.floor(self.settings.part / 6), 8))
+  while first <= #edits do
+    -- Where CRs end lines within rows, a place's line depends on the changes before it.
+    local window = self.mirror:plain() and self.window or 1
+    local changes = {}
+    for i = first, math.min(first + window - 1, #edits) do
+      changes[#changes + 1] = self.mirror:command(edits[i])
+    end
+    local decided = self.document:change(changes)
+    local all = true
+    for i, reply in ipairs(decided) do
+      local edit = edits[first + i - 1]
+      if reply.fault then
+        all = false
+        local reason = messages.refusal(reply, self.document.encoding)
+        table.insert(refusals, 1, { row = edit.row, reason = reason, fault = reply.fault })
+      else
+        local rows = self.mirror:rows(edit)
+        self.mirror:replace(rows)
+        self.history:record({ taken = reply, rows = rows })
+        self:warn_of_copy(edit.text)
+      end
+    end
+    self.window = all and math.min(self.window * 2, MOST_IN_FLIGHT) or 1
+    first = first + #decided
+  end
+  return refusals
+end
+
+---@private
+---@param text string
+function Buffer:warn_of_copy(text)
+  if text:find('\239\191\189', 1, true) then
+    messages.warn('U+FFFD is put in as a character; a damaged byte is not copied as text')
+  end
+end
+
+---@private
+---@param refusals legacy.Refusal[]
+function Buffer:settle(refusals)
+  self.refusals = refusals
+  if #refusals == 0 then
+    return
+  elseif self.settings.refused == 'mark' then
+    self.dirty = true
+    return
+  end
+  self.refusals = {}
+  self:take_back()
+  local more = #refusals > 1 and (' (and %d more)'):format(#refusals - 1) or ''
+  messages.warn('taken back: ' .. refusals[1].reason .. more)
+end
+
+---Makes the buffer's text the document's, in the same undo step.
+---@private
+function Buffer:take_back()
+  local lines, ended = self.mirror:display()
+  local edit = diff.span(api.nvim_buf_get_lines(self.number, 0, -1, true), lines)
+  if edit then
+    api.nvim_buf_call(self.number, function()
+      pcall(vim.cmd, 'silent! undojoin')
+    end)
+    local text = vim.split(edit.text, '\n', { plain = true })
+    local cursor = api.nvim_win_get_buf(0) == self.number and api.nvim_win_get_cursor(0)
+    api.nvim_buf_set_text(self.number, edit.row, edit.column, edit.end_row, edit.end_column, text)
+    if cursor and #text == 1 and cursor[1] == edit.end_row + 1 and cursor[2] >= edit.end_column then
+      local moved = edit.column + #text[1] - edit.end_column
+      api.nvim_win_set_cursor(0, { edit.row + 1, math.max(cursor[2] + moved, 0) })
+    end
+  end
+  if #self.document.bytes > 0 then
+    vim.bo[self.number].endofline = ended
+  end
+end
+
+---Shows the damaged places.
+function Buffer:show()
+  local places, total = self.document:damage(self.settings.marks)
+  vim.b[self.number].legacy_encoding = self.document.encoding
+  vim.b[self.number].legacy_damaged = total
+  diagnostics.set(self.number, places, self.mirror, self.document.encoding, self.refusals)
+end
+
+---Shows them once edits rest, since each costs the program a look.
+---@private
+function Buffer:show_soon()
+  self.edits = self.edits + 1
+  local edits = self.edits
+  vim.defer_fn(function()
+    if edits == self.edits and not self.closed and not self.dirty and api.nvim_buf_is_loaded(self.number) then
+      pcall(self.show, self)
+    end
+  end, 100)
+end
+
+---Writes the document's bytes to its file, or to another one.
+---@param path string|nil
+---@param forced boolean
+function Buffer:write(path, forced)
+  self:sync()
+  if #self.refusals > 0 and not forced then
+    error(('legacy: not written: %s (add ! to leave it out)'):format(self.refusals[1].reason), 0)
+  end
+  local own = not path or path == self.path
+  path = path or self.path
+  if not forced then
+    local there = file.read(path)
+    if own and there ~= self.disk then
+      error('legacy: not written: the file has changed since it was read (add ! to overwrite it)', 0)
+    elseif not own and there then
+      error('legacy: not written: the file exists (add ! to overwrite it)', 0)
+    end
+  end
+  local bytes = self.document:source()
+  if bytes ~= self.document.bytes then
+    error("legacy: not written: the program's bytes aren't those that were kept here", 0)
+  end
+  file.write(path, bytes)
+  if own then
+    self.disk = bytes
+    vim.bo[self.number].modified = #self.refusals > 0
+  end
+end
+
+return Buffer

@@ -1,0 +1,94 @@
+---The plugin's settings: those of `setup`, or else the global variables `g:legacy_NAME`, or else the defaults.
+local M = {}
+
+---@class legacy.Settings
+---@field gate string the program
+---@field indexes string|nil the folder of the index files
+---@field labels string|nil the label file; where it isn't given, `encodings.json` in `indexes`, if it is there
+---@field refused 'revert'|'mark' what becomes of text that the document can't have
+---@field timeout integer milliseconds to wait for a reply
+---@field part integer bytes of a document that one command carries
+---@field marks integer how many damaged places are shown
+
+---@type legacy.Settings
+local defaults = {
+  gate = 'gate',
+  indexes = nil,
+  labels = nil,
+  refused = 'revert',
+  timeout = 60000,
+  -- A command's line has room for 4,194,304 bytes, and base64 makes four of three.
+  part = 3000000,
+  marks = 1000,
+}
+
+local NAMES = { gate = 'string', indexes = 'string', labels = 'string', refused = 'string', timeout = 'number', part = 'number', marks = 'number' }
+
+---What `setup` was given.
+local given = {}
+
+---Names that editors use, and that are no labels of the Encoding Standard.
+M.aliases = {
+  cp932 = 'Shift_JIS',
+  cp936 = 'GBK',
+  cp949 = 'EUC-KR',
+  cp950 = 'Big5',
+  eucjp = 'EUC-JP',
+  euckr = 'EUC-KR',
+  ['euc-cn'] = 'GBK',
+  utf8 = 'UTF-8',
+  utf16 = 'UTF-16LE',
+}
+
+---@param settings table|nil
+function M.setup(settings)
+  for name, value in pairs(settings or {}) do
+    if type(value) ~= NAMES[name] then
+      error(("legacy: setup has no setting '%s' of type %s"):format(name, type(value)), 0)
+    end
+  end
+  if settings and settings.refused and settings.refused ~= 'revert' and settings.refused ~= 'mark' then
+    error("legacy: setting 'refused' is 'revert' or 'mark'", 0)
+  end
+  given = settings or {}
+end
+
+---@return legacy.Settings
+function M.get()
+  local found = {}
+  for name in pairs(NAMES) do
+    local value = given[name]
+    if value == nil then
+      value = vim.g['legacy_' .. name]
+    end
+    if value == nil then
+      value = defaults[name]
+    end
+    found[name] = value
+  end
+  if found.indexes then
+    found.indexes = vim.fn.expand(found.indexes)
+    local labels = found.indexes .. '/encodings.json'
+    if not found.labels and vim.fn.filereadable(labels) == 1 then
+      found.labels = labels
+    end
+  end
+  found.gate = vim.fn.expand(found.gate)
+  return found
+end
+
+---The words of the command line that the settings ask for.
+---@param settings legacy.Settings
+---@return string[]
+function M.words(settings)
+  if not settings.indexes then
+    return { settings.gate }
+  end
+  local words = { settings.gate, 'stdio', '--indexes', settings.indexes }
+  if settings.labels then
+    vim.list_extend(words, { '--labels', vim.fn.expand(settings.labels) })
+  end
+  return words
+end
+
+return M

@@ -1,0 +1,137 @@
+---What undo and redo lead back to, as bytes. Text is not enough: U+FFFD, or a character that has several sequences of
+---bytes, doesn't say which were there. Each state of Neovim's undo tree has the steps that made it from its parent.
+
+---One accepted change or splice, which can be made in both directions.
+---@class legacy.Step
+---@field taken legacy.Taken
+---@field rows legacy.Rows
+
+---@class legacy.State
+---@field parent integer|nil
+---@field steps legacy.Step[]
+
+---@class legacy.History
+---@field current integer
+---@field private root integer
+---@field private states table<integer, legacy.State>
+local History = {}
+History.__index = History
+
+---@param root integer the undo tree's state of the text as it was read
+---@return legacy.History
+function History.new(root)
+  return setmetatable({ root = root, current = root, states = { [root] = { steps = {} } } }, History)
+end
+
+---The state that an undo tree is in. Where all changes that it knows are undone it says 0, though older ones may have
+---been forgotten, so that the state is the one before the oldest that is left.
+---@param tree table what `undotree()` returns
+---@return integer
+function History:key(tree)
+  if tree.seq_cur > self.root then
+    return tree.seq_cur
+  end
+  local oldest = tree.entries[1] and self.states[tree.entries[1].seq]
+  return oldest and oldest.parent or self.root
+end
+
+---@param key integer
+---@return boolean
+function History:knows(key)
+  return self.states[key] ~= nil
+end
+
+---The known state from which one that isn't known is made: several may have passed since the last look.
+---@param key integer
+---@return integer
+function History:base(key)
+  if key > self.current then
+    return self.current
+  end
+  local best = self.root
+  for known in pairs(self.states) do
+    if known < key and known > best then
+      best = known
+    end
+  end
+  return best
+end
+
+---Begins a state that is made from the current one.
+---@param key integer
+function History:begin(key)
+  self.states[key] = { parent = self.current, steps = {} }
+  self.current = key
+end
+
+---Whether a step lies in what the one before it put in, within a line: as each letter of a word that is typed.
+---@param last legacy.Step
+---@param step legacy.Step
+local function goes_on(last, step)
+  local from = step.taken.at - last.taken.at
+  return from >= 0
+    and from + #step.taken.gone <= #last.taken.put
+    and last.rows.row == step.rows.row
+    and #last.rows.lines_put == 1
+    and #step.rows.lines_gone == 1
+    and #step.rows.lines_put == 1
+end
+
+---Records a step that was made in the current state.
+---@param step legacy.Step
+function History:record(step)
+  local steps = self.states[self.current].steps
+  local last = steps[#steps]
+  if last and goes_on(last, step) then
+    local put, from = last.taken.put, step.taken.at - last.taken.at
+    last.taken.put = put:sub(1, from) .. step.taken.put .. put:sub(from + #step.taken.gone + 1)
+    last.rows.lines_put = step.rows.lines_put
+    return
+  end
+  local taken = { at = step.taken.at, gone = step.taken.gone, put = step.taken.put }
+  steps[#steps + 1] = { taken = taken, rows = step.rows }
+end
+
+---@param step legacy.Step
+---@return legacy.Step
+local function reversed(step)
+  local taken, rows = step.taken, step.rows
+  return {
+    taken = { at = taken.at, gone = taken.put, put = taken.gone },
+    rows = { row = rows.row, lines_gone = rows.lines_put, lines_put = rows.lines_gone },
+  }
+end
+
+---Goes to a known state, and returns the steps that lead there.
+---@param key integer
+---@return legacy.Step[]
+function History:go(key)
+  local above, behind = {}, {}
+  local at = key
+  while at do
+    above[at] = true
+    at = self.states[at].parent
+  end
+  local steps = {}
+  at = self.current
+  while not above[at] do
+    local state = self.states[at]
+    for i = #state.steps, 1, -1 do
+      steps[#steps + 1] = reversed(state.steps[i])
+    end
+    at = state.parent
+  end
+  local shared = at
+  at = key
+  while at ~= shared do
+    table.insert(behind, 1, at)
+    at = self.states[at].parent
+  end
+  for _, it in ipairs(behind) do
+    vim.list_extend(steps, self.states[it].steps)
+  end
+  self.current = key
+  return steps
+end
+
+return History

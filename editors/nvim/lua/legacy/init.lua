@@ -1,0 +1,146 @@
+---Edits files in legacy encodings through `gate`, so that no byte changes but those of the edits.
+local Buffer = require('legacy.buffer')
+local Connection = require('legacy.connection')
+local config = require('legacy.config')
+
+local M = {}
+
+M.setup = config.setup
+
+---@type legacy.Connection|nil
+local connection
+
+---@type table<integer, legacy.Buffer>
+local buffers = {}
+
+---The one connection for all buffers, made where there is none, or where the program ended or other words are set.
+---@return legacy.Connection
+local function connect()
+  local settings = config.get()
+  local words = config.words(settings)
+  if connection and not connection.ended and not vim.deep_equal(connection.words, words) then
+    connection:stop()
+  end
+  if not connection or connection.ended then
+    connection = Connection.start(words, settings.timeout)
+  end
+  return connection
+end
+
+---The encoding and the file of a buffer's name, `legacy://ENCODING/FILE`.
+---@param name string
+---@return string, string
+local function parts(name)
+  local label, path = name:match('^legacy://([^/]+)/(.+)$')
+  if not label then
+    error('legacy: a name is legacy://ENCODING/FILE', 0)
+  end
+  return label, vim.fn.fnamemodify(path, ':p')
+end
+
+---Calls, and returns the command that shows the error, if there was one.
+---@param call fun(): string|nil
+---@return string
+local function command_of(call)
+  local done, result = pcall(call)
+  if done then
+    return result or ''
+  end
+  return "echoerr '" .. tostring(result):gsub("'", "''"):gsub('\n', ' ') .. "'"
+end
+
+---The command that edits a file, from the arguments of `:LegacyEdit`.
+---@param arguments string
+---@param bang string
+---@return string
+function M.edit(arguments, bang)
+  return command_of(function()
+    local label, path = arguments:match('^(%S+)%s+(.+)$')
+    if not label then
+      error('legacy: :LegacyEdit takes an encoding and a file', 0)
+    end
+    local name = ('legacy://%s/%s'):format(label, vim.fn.fnamemodify(vim.fn.expand(path), ':p'))
+    return ('edit%s %s'):format(bang, vim.fn.fnameescape(name))
+  end)
+end
+
+---Reads the file of a name into a buffer.
+---@param number integer
+---@param name string
+---@return string
+function M.read(number, name)
+  if buffers[number] then
+    buffers[number]:close()
+    buffers[number] = nil
+  end
+  return command_of(function()
+    local label, path = parts(name)
+    buffers[number] = Buffer.read(number, label, path, connect)
+  end)
+end
+
+---Writes a buffer to the file of a name.
+---@param number integer
+---@param name string
+---@param bang integer 1 where the command had a !
+---@return string
+function M.write(number, name, bang)
+  return command_of(function()
+    local buffer = M.buffer(number)
+    local label, path = parts(name)
+    if name == vim.api.nvim_buf_get_name(number) then
+      path = nil
+    elseif label ~= parts(vim.api.nvim_buf_get_name(number)) then
+      error('legacy: not written: a document is written in its own encoding', 0)
+    end
+    buffer:write(path, bang == 1)
+  end)
+end
+
+---The document's side of a buffer; an error where it has none.
+---@param number integer
+---@return legacy.Buffer
+function M.buffer(number)
+  local buffer = buffers[number]
+  if not buffer or buffer.closed then
+    error('legacy: the buffer shows no document', 0)
+  end
+  return buffer
+end
+
+---The labels of the label file that begin with some letters.
+---@param lead string
+---@return string[]
+local function labels(lead)
+  local path = config.get().labels
+  if not path then
+    return {}
+  end
+  local read, groups = pcall(function()
+    return vim.json.decode(table.concat(vim.fn.readfile(path), '\n'))
+  end)
+  local found = {}
+  for _, group in ipairs(read and groups or {}) do
+    for _, encoding in ipairs(group.encodings) do
+      for _, label in ipairs(encoding.labels) do
+        if vim.startswith(label, lead:lower()) then
+          found[#found + 1] = label
+        end
+      end
+    end
+  end
+  return found
+end
+
+---What `:LegacyEdit` completes: an encoding, and then a file.
+---@param lead string
+---@param line string
+---@return string[]
+function M.complete(lead, line)
+  if line:find('LegacyEdit!?%s+%S*$') then
+    return labels(lead)
+  end
+  return vim.fn.getcompletion(lead, 'file')
+end
+
+return M

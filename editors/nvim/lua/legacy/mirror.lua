@@ -1,0 +1,132 @@
+---The text that the program has, as lines: a buffer's lines, and behind a last line end one more that is empty.
+local M = {}
+
+---A range of the text, in rows and bytes of UTF-8, both from 0, and what replaces it, with LF for each line end.
+---@class legacy.Edit
+---@field row integer
+---@field column integer
+---@field end_row integer
+---@field end_column integer
+---@field text string
+
+---Some lines in place of others.
+---@class legacy.Rows
+---@field row integer
+---@field lines_gone string[]
+---@field lines_put string[]
+
+---@class legacy.Mirror
+---@field lines string[]
+---@field line_end '\n'|'\r\n' what lies between two lines
+---@field private returns integer how many CRs are in the lines
+local Mirror = {}
+Mirror.__index = Mirror
+
+local function count(text, what)
+  return select(2, text:gsub(what, ''))
+end
+
+---CR LF is the line end where every CR has an LF and every LF a CR. Elsewhere LF is, and each CR is in its line.
+---@param text string
+---@return legacy.Mirror
+function M.new(text)
+  local returns, feeds, both = count(text, '\r'), count(text, '\n'), count(text, '\r\n')
+  local line_end = both > 0 and both == returns and both == feeds and '\r\n' or '\n'
+  return setmetatable({
+    lines = vim.split(text, line_end, { plain = true }),
+    line_end = line_end,
+    returns = line_end == '\n' and returns or 0,
+  }, Mirror)
+end
+
+---Whether a place's row is the program's line too, whatever comes before it.
+---@return boolean
+function Mirror:plain()
+  return self.returns == 0
+end
+
+---The buffer's lines, and whether the last of them has a line end.
+---@return string[], boolean
+function Mirror:display()
+  if #self.lines > 1 and self.lines[#self.lines] == '' then
+    return vim.list_slice(self.lines, 1, #self.lines - 1), true
+  end
+  return self.lines, false
+end
+
+---Whether a place lies between CR and LF, which the program takes for one line end.
+---@private
+function Mirror:inside_line_end(row, column)
+  local line = self.lines[row + 1]
+  return self.line_end == '\n' and row + 1 < #self.lines and column == #line and line:byte(-1) == 13
+end
+
+---The program's line and character of a place: for it a CR ends a line too.
+---@private
+function Mirror:position(row, column)
+  if self.returns == 0 then
+    return { line = row, character = column }
+  end
+  local line = row
+  for i = 1, row do
+    local it = self.lines[i]
+    if it:find('\r', 1, true) then
+      line = line + count(it, '\r') - (self.line_end == '\n' and it:byte(-1) == 13 and 1 or 0)
+    end
+  end
+  local head, start = self.lines[row + 1]:sub(1, column), 0
+  for behind in head:gmatch('\r()') do
+    line, start = line + 1, behind - 1
+  end
+  return { line = line, character = column - start }
+end
+
+---The command for an edit. No position lies between CR and LF, so where the edit begins or ends there both are taken
+---out, and the one that stays is put in again.
+---@param edit legacy.Edit
+---@return { range: table, text: string }
+function Mirror:command(edit)
+  local text = edit.text:gsub('\n', self.line_end)
+  local row, column, end_row, end_column = edit.row, edit.column, edit.end_row, edit.end_column
+  if self:inside_line_end(row, column) then
+    column, text = column - 1, '\r' .. text
+  end
+  if self:inside_line_end(end_row, end_column) then
+    end_row, end_column, text = end_row + 1, 0, text .. '\n'
+  end
+  local range = { start = self:position(row, column), ['end'] = self:position(end_row, end_column) }
+  return { range = range, text = text }
+end
+
+---The lines that an edit replaces, and those that it makes of them.
+---@param edit legacy.Edit
+---@return legacy.Rows
+function Mirror:rows(edit)
+  local gone = vim.list_slice(self.lines, edit.row + 1, edit.end_row + 1)
+  local put = vim.split(edit.text, '\n', { plain = true })
+  put[1] = gone[1]:sub(1, edit.column) .. put[1]
+  put[#put] = put[#put] .. gone[#gone]:sub(edit.end_column + 1)
+  return { row = edit.row, lines_gone = gone, lines_put = put }
+end
+
+---@param rows legacy.Rows
+function Mirror:replace(rows)
+  for _, line in ipairs(rows.lines_gone) do
+    self.returns = self.returns - count(line, '\r')
+  end
+  for _, line in ipairs(rows.lines_put) do
+    self.returns = self.returns + count(line, '\r')
+  end
+  local gone, put = #rows.lines_gone, #rows.lines_put
+  if gone == put then
+    for i = 1, put do
+      self.lines[rows.row + i] = rows.lines_put[i]
+    end
+    return
+  end
+  local lines = vim.list_slice(self.lines, 1, rows.row)
+  vim.list_extend(lines, rows.lines_put)
+  self.lines = vim.list_extend(lines, self.lines, rows.row + gone + 1)
+end
+
+return M

@@ -1,0 +1,30 @@
+-- :LegacyEdit ENCODING FILE, and buffers named legacy://ENCODING/FILE. The help page is legacy.txt.
+if vim.g.loaded_legacy then
+  return
+end
+vim.g.loaded_legacy = true
+
+-- Each of these calls returns a command, so that an error is one of Vim's and not a traceback of Lua.
+vim.api.nvim_create_user_command('LegacyEdit', "execute v:lua.require'legacy'.edit(<q-args>, <q-bang>)", {
+  nargs = '+',
+  bang = true,
+  desc = 'Edit a file in a legacy encoding',
+  complete = function(lead, line)
+    return require('legacy').complete(lead, line)
+  end,
+})
+
+local group = vim.api.nvim_create_augroup('legacy', { clear = true })
+
+vim.api.nvim_create_autocmd('BufReadCmd', {
+  group = group,
+  pattern = 'legacy://*',
+  nested = true,
+  command = "execute v:lua.require'legacy'.read(str2nr(expand('<abuf>')), expand('<amatch>'))",
+})
+
+vim.api.nvim_create_autocmd('BufWriteCmd', {
+  group = group,
+  pattern = 'legacy://*',
+  command = "execute v:lua.require'legacy'.write(str2nr(expand('<abuf>')), expand('<amatch>'), v:cmdbang)",
+})

@@ -1,0 +1,12 @@
+-- Runs all tests and ends Neovim, with a status that is 0 where none failed. An error outside a test would leave it
+-- waiting for keys.
+local harness = require('harness')
+local ran, why = xpcall(function()
+  for _, name in ipairs({ 'parts_alone', 'files', 'undo', 'line_ends', 'refusals', 'writing', 'program' }) do
+    require(name .. '_test')
+  end
+end, debug.traceback)
+if not ran then
+  io.stdout:write(why, '\n')
+end
+vim.cmd(harness.summary() and ran and 'qall!' or 'cquit!')
