@@ -61,6 +61,20 @@ it.test('a program that ended is started again', false, function()
   it.same(it.written(path), 'a\255\n')
 end)
 
+it.test('a program that ends within an undo', false, function()
+  local path = it.open('utf-8', '\255a\n')
+  it.keys('x')
+  local document = it.buffer().document
+  local splice = document.splice
+  document.splice = function()
+    error('legacy: the program ended', 0)
+  end
+  vim.cmd('silent undo')
+  it.same(pcall(it.sync), false)
+  document.splice = splice
+  it.same(it.written(path), '\255a\n')
+end)
+
 it.test('edits go to the program by themselves', false, function()
   it.open('utf-8', 'a\255\n')
   vim.api.nvim_feedkeys('rb', 'nx', false)

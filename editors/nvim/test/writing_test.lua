@@ -42,6 +42,15 @@ it.test('a new file', false, function()
   it.same(left_over(), {})
 end)
 
+it.test('a name with characters that Vim expands', false, function()
+  local path = it.work .. '/a b [1] %#*.txt'
+  it.write(path, 'a\255\n')
+  vim.cmd('LegacyEdit utf-8 ' .. path)
+  it.keys('rb')
+  it.same(it.written(path), 'b\255\n')
+  it.same(vim.fn.glob(it.work .. '/a b*', true, true), { path })
+end)
+
 it.test('another file', false, function()
   local path = it.open('utf-8', 'a\255\n')
   it.keys('rb')

@@ -202,7 +202,8 @@ function Buffer:follow_undo()
     return
   end
   local known = history:knows(key)
-  local steps, splices = history:go(known and key or history:base(key)), {}
+  local target = known and key or history:base(key)
+  local steps, splices = history:way(target), {}
   for i, step in ipairs(steps) do
     splices[i] = step.taken
   end
@@ -210,6 +211,7 @@ function Buffer:follow_undo()
   for _, step in ipairs(steps) do
     self.mirror:replace(step.rows)
   end
+  history.current = target
   if not known then
     history:begin(key)
   end
@@ -232,9 +234,9 @@ function Buffer:send(hint)
   return refusals
 end
 
----An edit whose text is longer than a command takes becomes several at its end, that of the last part first.
+---Edits whose text is longer than a command takes become several, each at their end, that of the last part first.
 ---@param edits legacy.Edit[]
----@param most integer bytes of a text, which JSON may make six times as long
+---@param most integer bytes of a text
 ---@return legacy.Edit[]
 local function in_parts(edits, most)
   local list = {}
@@ -245,14 +247,12 @@ local function in_parts(edits, most)
       while from > 0 and text:byte(from + 1) >= 128 and text:byte(from + 1) < 192 do
         from = from - 1
       end
-      list[#list + 1] = {
-        row = edit.end_row, column = edit.end_column,
-        end_row = edit.end_row, end_column = edit.end_column,
-        text = text:sub(from + 1),
-      }
+      local part = { row = edit.end_row, column = edit.end_column, end_row = edit.end_row, end_column = edit.end_column }
+      part.text = text:sub(from + 1)
+      list[#list + 1] = part
       text = text:sub(1, from)
     end
-    list[#list + 1] = setmetatable({ text = text }, { __index = edit })
+    list[#list + 1] = vim.tbl_extend('force', edit, { text = text })
   end
   return list
 end
@@ -262,6 +262,7 @@ end
 ---@return legacy.Refusal[]
 function Buffer:send_edits(edits)
   local refusals, first = {}, 1
+  -- JSON makes up to six bytes of one.
   edits = in_parts(edits, math.max(math.floor(self.settings.part / 6), 8))
   while first <= #edits do
     -- Where CRs end lines within rows, a place's line depends on the changes before it.
@@ -351,7 +352,7 @@ function Buffer:show_soon()
   self.edits = self.edits + 1
   local edits = self.edits
   vim.defer_fn(function()
-    if edits == self.edits and not self.closed and not self.dirty and api.nvim_buf_is_loaded(self.number) then
+    if edits == self.edits and not self.closed and api.nvim_buf_is_loaded(self.number) then
       pcall(self.show, self)
     end
   end, 100)

@@ -102,12 +102,11 @@ local function reversed(step)
   }
 end
 
----Goes to a known state, and returns the steps that lead there.
+---The steps from the current state to a known one.
 ---@param key integer
 ---@return legacy.Step[]
-function History:go(key)
-  local above, behind = {}, {}
-  local at = key
+function History:way(key)
+  local above, at = {}, key
   while at do
     above[at] = true
     at = self.states[at].parent
@@ -121,16 +120,15 @@ function History:go(key)
     end
     at = state.parent
   end
-  local shared = at
+  local shared, below = at, {}
   at = key
   while at ~= shared do
-    table.insert(behind, 1, at)
+    table.insert(below, 1, at)
     at = self.states[at].parent
   end
-  for _, it in ipairs(behind) do
+  for _, it in ipairs(below) do
     vim.list_extend(steps, self.states[it].steps)
   end
-  self.current = key
   return steps
 end
 

@@ -59,7 +59,10 @@ function M.edit(arguments, bang)
     if not label then
       error('legacy: :LegacyEdit takes an encoding and a file', 0)
     end
-    local name = ('legacy://%s/%s'):format(label, vim.fn.fnamemodify(vim.fn.expand(path), ':p'))
+    if vim.fn.filereadable(path) == 0 then
+      path = vim.fn.expand(path)
+    end
+    local name = ('legacy://%s/%s'):format(label, vim.fn.fnamemodify(path, ':p'))
     return ('edit%s %s'):format(bang, vim.fn.fnameescape(name))
   end)
 end
