@@ -2,6 +2,7 @@
 local base64 = require('legacy.base64')
 local diff = require('legacy.diff')
 local mirrors = require('legacy.mirror')
+local splicing = require('legacy.splices')
 local it = require('harness')
 
 -- RFC 4648, section 10, and bytes with all bits.
@@ -79,4 +80,27 @@ it.test('line ends of a text', false, function()
   it.same({ mirrors.new('a\n'):display() }, { { 'a' }, true })
   it.same({ mirrors.new('\n'):display() }, { { '' }, true })
   it.same({ mirrors.new(''):display() }, { { '' }, false })
+end)
+
+-- Many splices in one pass are what they are one by one, and those of the other direction lead back.
+it.test('splices made together', false, function()
+  math.randomseed(5)
+  for round = 1, 2000 do
+    local old = ('abcdefghij'):rep(math.random(3))
+    local bytes, splices, back = old, {}, {}
+    local at = round % 3 == 0 and #old or 0
+    for i = 1, math.random(6) do
+      -- Downwards, upwards or anywhere.
+      local low, high = round % 3 == 1 and at or 0, round % 3 == 0 and at or #bytes
+      local from = math.random(math.min(low, #bytes), high)
+      local gone = bytes:sub(from + 1, math.min(from + math.random(0, 2), round % 3 == 0 and at or #bytes))
+      local put = ('xyz'):sub(1, math.random(0, 3))
+      splices[i] = { at = from, gone = gone, put = put }
+      table.insert(back, 1, { at = from, gone = put, put = gone })
+      bytes = bytes:sub(1, from) .. put .. bytes:sub(from + #gone + 1)
+      at = round % 3 == 0 and from or from + #put
+    end
+    it.same(splicing.made(old, splices), bytes)
+    it.same(splicing.made(bytes, back), old)
+  end
 end)

@@ -2,12 +2,7 @@
 ---is undone has to be put back as the bytes that were there. The copy also opens the document again where the program
 ---has ended.
 local base64 = require('legacy.base64')
-
----What an accepted change did to the bytes.
----@class legacy.Taken
----@field at integer
----@field gone string the bytes taken out
----@field put string the bytes put in
+local splicing = require('legacy.splices')
 
 ---@class legacy.Document
 ---@field name string
@@ -119,7 +114,7 @@ end
 ---Asks for changes of the text, that of the last place first, all in flight with the revisions that they would have.
 ---Behind a refusal the revisions are wrong, and the changes there are left undecided.
 ---@param changes table[] each with `range` and `text`, in bytes of UTF-8
----@return (legacy.Taken|table)[] the decided ones: what was taken, or the reply that refuses
+---@return (legacy.Splice|table)[] the decided ones: what was taken, or the reply that refuses
 function Document:change(changes)
   local commands = {}
   for i, change in ipairs(changes) do
@@ -154,25 +149,19 @@ function Document:take(accepted)
     commands[#commands + 1] = { op = 'source', at = reply.at + moved, len = reply.ins }
     moved = moved + reply.ins - reply.del
   end
-  local sources = #commands > 0 and self:ask(commands) or {}
-  local pieces, from = {}, 0
-  for i, source in ipairs(sources) do
+  for i, source in ipairs(#commands > 0 and self:ask(commands) or {}) do
     local reply = accepted[#accepted + 1 - i]
     reply.gone = self.bytes:sub(reply.at + 1, reply.at + reply.del)
     reply.put = base64.decode(source.bytes)
-    pieces[#pieces + 1] = self.bytes:sub(from + 1, reply.at)
-    pieces[#pieces + 1] = reply.put
-    from = reply.at + reply.del
   end
-  self.bytes = table.concat(pieces) .. self.bytes:sub(from + 1)
+  self.bytes = splicing.made(self.bytes, accepted)
 end
 
 ---Replaces bytes by bytes, one splice after another, all in flight.
----@param splices legacy.Taken[]
+---@param splices legacy.Splice[]
 function Document:splice(splices)
-  local commands, bytes = {}, self.bytes
+  local commands = {}
   for _, splice in ipairs(splices) do
-    bytes = bytes:sub(1, splice.at) .. splice.put .. bytes:sub(splice.at + #splice.gone + 1)
     local from = 0
     repeat
       local put = splice.put:sub(from + 1, from + self.part)
@@ -192,7 +181,7 @@ function Document:splice(splices)
     end
     self.rev, self.encoding = reply.rev, reply.encoding
   end
-  self.bytes = bytes
+  self.bytes = splicing.made(self.bytes, splices)
 end
 
 ---A damaged place: its bytes, and where its U+FFFD is in the text, in bytes of UTF-8.

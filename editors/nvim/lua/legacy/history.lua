@@ -3,7 +3,7 @@
 
 ---One accepted change or splice, which can be made in both directions.
 ---@class legacy.Step
----@field taken legacy.Taken
+---@field taken legacy.Splice
 ---@field rows legacy.Rows
 
 ---@class legacy.State

@@ -109,6 +109,26 @@ function Mirror:rows(edit)
   return { row = edit.row, lines_gone = gone, lines_put = put }
 end
 
+---Makes room for lines, or takes it away, in place.
+---@param lines string[]
+---@param behind integer the number of lines in front of those that move
+---@param by integer
+local function move(lines, behind, by)
+  local count = #lines
+  if by > 0 then
+    for i = count, behind + 1, -1 do
+      lines[i + by] = lines[i]
+    end
+  elseif by < 0 then
+    for i = behind + 1, count do
+      lines[i + by] = lines[i]
+    end
+    for i = count, count + by + 1, -1 do
+      lines[i] = nil
+    end
+  end
+end
+
 ---@param rows legacy.Rows
 function Mirror:replace(rows)
   for _, line in ipairs(rows.lines_gone) do
@@ -117,16 +137,10 @@ function Mirror:replace(rows)
   for _, line in ipairs(rows.lines_put) do
     self.returns = self.returns + count(line, '\r')
   end
-  local gone, put = #rows.lines_gone, #rows.lines_put
-  if gone == put then
-    for i = 1, put do
-      self.lines[rows.row + i] = rows.lines_put[i]
-    end
-    return
+  move(self.lines, rows.row + #rows.lines_gone, #rows.lines_put - #rows.lines_gone)
+  for i, line in ipairs(rows.lines_put) do
+    self.lines[rows.row + i] = line
   end
-  local lines = vim.list_slice(self.lines, 1, rows.row)
-  vim.list_extend(lines, rows.lines_put)
-  self.lines = vim.list_extend(lines, self.lines, rows.row + gone + 1)
 end
 
 return M
