@@ -1,7 +1,7 @@
 //! The command line.
 
 use clap::error::ErrorKind;
-use clap::{Arg, ArgAction, ArgMatches, Command, Error};
+use clap::{Arg, ArgAction, ArgMatches, Command, Error, value_parser};
 use std::alloc::Global;
 
 /// The command that serves the standard streams with files.
@@ -12,15 +12,6 @@ const TRACE: &str = "trace";
 
 /// The command that serves connections over TCP.
 const TCP: &str = "tcp";
-
-/// The port where none is named.
-const PORT: u32 = 7117;
-
-/// The greatest port.
-const MAX_PORT: u32 = 65_535;
-
-/// The most connections that `--serve` may ask for.
-const MAX_CONNECTIONS: u32 = 1_000_000;
 
 /// What the program is to do.
 #[derive(Clone, Copy)]
@@ -57,25 +48,18 @@ pub struct Listening {
 pub fn job_of(alloc: Global, words: &[String]) -> Result<Job<'_>, Error> {
     let mut command = command(alloc)?;
     let matches = command.try_get_matches_from_mut(words)?;
-    if let Some(given) = matches.subcommand_matches(TCP) {
-        return match (sources_of(given), listening_of(given)) {
-            (Some(sources), Some(listening)) => Ok(Job::Tcp(sources, listening)),
-            _ => Err(command.error(
-                ErrorKind::ValueValidation,
-                "--port takes a number from 1 to 65535, and --serve one from 1 to 1000000",
-            )?),
-        };
-    }
     let job = if let Some(given) = matches.subcommand_matches(STDIO) {
         sources_of(given).map(Job::Stdio)
     } else if let Some(given) = matches.subcommand_matches(TRACE) {
         sources_of(given).map(Job::Trace)
+    } else if let Some(given) = matches.subcommand_matches(TCP) {
+        tcp_of(given)
     } else {
         Some(Job::Plain)
     };
     match job {
         Some(job) => Ok(job),
-        None => Err(command.error(ErrorKind::MissingRequiredArgument, "--indexes is missing")?),
+        None => Err(command.error(ErrorKind::MissingRequiredArgument, "an option has no value")?),
     }
 }
 
@@ -87,23 +71,14 @@ fn sources_of<'a>(given: &ArgMatches<'a>) -> Option<Sources<'a>> {
     })
 }
 
-/// Where to listen and how often, if the numbers are in their ranges.
-fn listening_of(given: &ArgMatches<'_>) -> Option<Listening> {
-    let port = number_in(given.get_str("port"), PORT, MAX_PORT)?;
-    let connections = number_in(given.get_str("serve"), 1, MAX_CONNECTIONS)?;
-    let port = u16::try_from(port).ok()?;
-    Some(Listening { port, connections })
-}
-
-/// A number from 1 to `most`, which is `absent` where there is no word for it.
-fn number_in(word: Option<&str>, absent: u32, most: u32) -> Option<u32> {
-    let Some(word) = word else {
-        return Some(absent);
+/// The job of the command that listens.
+fn tcp_of<'a>(given: &ArgMatches<'a>) -> Option<Job<'a>> {
+    let sources = sources_of(given)?;
+    let listening = Listening {
+        port: given.get_one::<u16>("port")?,
+        connections: given.get_one::<u32>("serve")?,
     };
-    match word.parse::<u32>() {
-        Ok(n) if n >= 1 && n <= most => Some(n),
-        _ => None,
-    }
+    Some(Job::Tcp(sources, listening))
 }
 
 /// A command that serves with files.
@@ -132,28 +107,46 @@ fn tcp<'a>(alloc: Global) -> Result<Command<'a>, Error> {
     let port = Arg::new(alloc, "port")
         .long("port")
         .value_name("N")
-        .help("The port on 127.0.0.1, from 1 to 65535; without it 7117")
+        .help("The port on 127.0.0.1, from 1 to 65535")
+        .value_parser(value_parser!(u16).range(1..))
+        .default_value("7117")
         .action(ArgAction::Set);
     let serve = Arg::new(alloc, "serve")
         .long("serve")
         .value_name("N")
-        .help("How many connections to serve, from 1 to 1000000; without it 1")
+        .help("How many connections to serve, from 1 to 1000000")
+        .value_parser(value_parser!(u32).range(1..=1_000_000))
+        .default_value("1")
         .action(ArgAction::Set);
     let about = "Serves connections on 127.0.0.1, one after another, with index files and labels";
-    Ok(with_sources(alloc, TCP, about)?.arg(port)?.arg(serve)?)
+    Ok(
+        with_sources(alloc, TCP, about)?
+            .after_help(
+                "Example: gate tcp --indexes standard --labels standard/encodings.json --port 7117 --serve 10",
+            )
+            .arg(port)?
+            .arg(serve)?,
+    )
 }
 
 /// The command line's form.
 fn command<'a>(alloc: Global) -> Result<Command<'a>, Error> {
     let about = "Serves standard input with index files and labels";
-    let stdio = with_sources(alloc, STDIO, about)?;
+    let stdio = with_sources(alloc, STDIO, about)?.after_help(
+        "Example: gate stdio --indexes standard --labels standard/encodings.json < session.jsonl",
+    );
     let about =
         "Plays the trace on standard input, the events of many connections, with index files and labels";
-    let trace = with_sources(alloc, TRACE, about)?;
+    let trace = with_sources(alloc, TRACE, about)?.after_help(
+        "Example: gate trace --indexes standard < two-connections.trace",
+    );
     let gate = Command::new(alloc, "gate")
         .bin_name("gate")?
         .about(
             "A live transcoding gateway for edited legacy documents: JSON lines in, replies out. Without a command it serves standard input with no index file.",
+        )
+        .after_help(
+            "Example: gate < session.jsonl\n\nCommands, replies, limits and statuses: docs/PROTOCOL.md in the program's repository",
         )
         .no_binary_name(true)
         .subcommand(stdio)?

@@ -439,6 +439,7 @@ fn help_goes_to_the_output(rt: HostRuntime) -> Result<(), Fail> {
     ] {
         let done = performed(&rt, words, OPEN)?;
         assert!(rt; done.output.contains("Usage: gate"));
+        assert!(rt; done.output.contains("\nExample: gate"));
         assert!(rt; done.output.ends_with("\n"));
         assert!(rt; !done.output.contains("UTF-8"));
         assert_eq!(rt; done.error.as_str(), "");
@@ -476,6 +477,27 @@ fn bad_words_are_refused_before_any_file_is_read(rt: HostRuntime) -> Result<(), 
     assert!(rt; are_refused(&rt, &["stdio", "--indexes", at, "--port", "1"])?);
     assert!(rt; are_refused(&rt, &["--indexes", at])?);
     folder.remove(&rt)
+}
+
+#[test]
+fn what_is_wrong_with_the_words_is_named(rt: HostRuntime) -> Result<(), Fail> {
+    for (words, told) in [
+        (
+            ["stdio"].as_slice(),
+            "error: the following required arguments were not provided:\n  --indexes <DIR>\n\nUsage: gate stdio --indexes <DIR>\n\nFor more information, try '--help'.\n",
+        ),
+        (
+            &["tcp", "--indexes", "none", "--port", "65536"],
+            "error: invalid value '65536' for '--port <N>': 65536 is not in 1..=65535\n\nFor more information, try '--help'.\n",
+        ),
+        (
+            &["tcp", "--indexes", "none", "--serve", "0"],
+            "error: invalid value '0' for '--serve <N>': 0 is not in 1..=1000000\n\nFor more information, try '--help'.\n",
+        ),
+    ] {
+        assert!(rt; ends(&rt, words, 2, told)?);
+    }
+    Ok(())
 }
 
 #[test]

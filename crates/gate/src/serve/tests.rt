@@ -57,3 +57,18 @@ fn peer_that_closes_in_the_middle_of_a_line(rt: HostRuntime) -> Result<(), Fail>
     assert!(rt; peers_read(&rt, &peers)?);
     Ok(())
 }
+
+#[test]
+fn peer_that_is_gone_before_its_replies(rt: HostRuntime) -> Result<(), Fail> {
+    let indexes = Indexes::new();
+    let mut gateway = beginning(rt.alloc(), &indexes, Labels::names(rt.alloc())?);
+    let listener = TcpListener::bind(&rt, "127.0.0.1:0")?;
+    let address = listener.local_addr()?;
+    let lines = format!(in rt.alloc(); "{OPEN}{TEXT}{TEXT}{TEXT}")?;
+    drop(peer(&rt, address, lines.as_str())?);
+    let next = peer(&rt, address, TEXT)?;
+    assert!(rt; serve(&listener, &mut gateway, 2).is_ok());
+    let read = io::read_to_string(rt.alloc(), next)?;
+    assert_eq!(rt; read.as_str(), TEXT_REPLY);
+    Ok(())
+}
