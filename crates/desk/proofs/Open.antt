@@ -13,7 +13,8 @@ use Rattle.piece_rope.specs.Edits.{document_limit, open_fault}
 use Rattle.desk.specs.Changes.{is_accepted}
 use Rattle.desk.specs.Commands.{asked_of, Opens}
 use Rattle.desk.specs.Desk.{Office, Outcome, Answers, Adopts, IsOutcome, outcome, has_place}
-use Rattle.desk.specs.Documents.{Entry, Names, Shelf, edit_reply}
+use Rattle.desk.specs.Documents.{Entry, Names, edit_reply}
+use Rattle.desk.specs.Shelf.{Shelf}
 use Rattle.desk.specs.Effects.{base64_bytes, with_bytes, put}
 use Rattle.desk.specs.Lives.{done}
 use Rattle.desk.specs.Open.{admitted, opened}

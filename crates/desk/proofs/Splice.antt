@@ -10,7 +10,8 @@ use Rattle.piece_rope.specs.declared.fault.DocFault.{DocFault}
 use Rattle.piece_rope.specs.Edits.{splice_fault, spliced}
 use Rattle.desk.specs.Commands.{asked_of, Splices}
 use Rattle.desk.specs.Desk.{Office, Answers, IsOutcome, outcome}
-use Rattle.desk.specs.Documents.{Entry, Shelf, edit_reply, unless}
+use Rattle.desk.specs.Documents.{Entry, edit_reply, unless}
+use Rattle.desk.specs.Shelf.{Shelf}
 use Rattle.desk.specs.Edits.{Splice}
 use Rattle.desk.specs.Effects.{base64_bytes, with_bytes, of_document}
 use Rattle.desk.specs.Lives.{with_spliced}

@@ -7,7 +7,8 @@ use Rattle.enc_names.specs.declared.encoding.Encoding.{Encoding}
 use Rattle.enc_names.specs.Labels.{LabelTable}
 use Rattle.index_loader.specs.Files.{Files}
 use Rattle.index_loader.specs.Pairs.{Pairs}
-use Rattle.desk.specs.Documents.{Entry, Names, Shelf}
+use Rattle.desk.specs.Documents.{Entry, Names}
+use Rattle.desk.specs.Shelf.{Shelf}
 use Rattle.desk.specs.Desk.{Office}
 
 abbrev pub entry_code : Coded Entry

@@ -28,11 +28,6 @@ entry given bytes revision = record { given = given; bytes = bytes; revision = r
 abbrev pub Names : Type 0
 Names = FinMap (slice_cmp nat_cmp) Entry
 
--- the documents, beside the loaded index files
-pub record Shelf : Type 0 where
-  pub indexes : Files
-  pub named : Names
-
 -- the greatest revision, 2^53 - 1
 abbrev pub max_revision : ℕ
 max_revision = 9007199254740991

@@ -19,6 +19,7 @@ pub mod OpenDocuments
 pub mod Places
 pub mod Positions
 pub mod Replacing
+pub mod Shelf
 pub mod Source
 pub mod Splice
 pub mod Text

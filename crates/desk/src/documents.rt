@@ -35,7 +35,7 @@ pub struct Documents<'i> {
 }
 
 impl<'i> Model for Documents<'i> {
-    ghost use Rattle.desk.specs.Documents.{Shelf};
+    ghost use Rattle.desk.specs.Shelf.{Shelf};
     ghost use Rattle.desk.specs.Codes.{shelf_code};
 
     ghost Value = { Shelf };

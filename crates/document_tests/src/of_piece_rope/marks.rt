@@ -26,13 +26,14 @@ fn splice_takes_a_byte_order_mark_away(rt: HostRuntime) -> Result<(), Fail> {
 /// The bytes EF BB read in this encoding have this text and these error places; once BF is spliced
 /// in behind them, they are a byte order mark and no text.
 fn is_completed(
-    rt: &HostRuntime,
+    rt: &impl Abort,
+    alloc: Global,
     given: Encoding,
     text: &str,
     errors: &[(u64, u64)],
 ) -> Result<(), DocFault> {
     let indexes = Indexes::new();
-    let mut doc = Doc::open(rt.alloc(), &indexes, given, &[0xEF, 0xBB], &mut meter())?;
+    let mut doc = Doc::open(alloc, &indexes, given, &[0xEF, 0xBB], &mut meter())?;
     is_in_force(rt, &doc, given, 0);
     answers(rt, &doc, text, errors)?;
     doc.splice(2, 0, &[0xBF], &mut meter())?;
@@ -42,7 +43,7 @@ fn is_completed(
 
 #[test]
 fn splice_completes_a_byte_order_mark(rt: HostRuntime) -> Result<(), Fail> {
-    is_completed(&rt, Encoding::Utf8, "\u{FFFD}", &[(0, 2)])?;
-    is_completed(&rt, Encoding::Utf16Be, "\u{EFBB}", &[])?;
+    is_completed(&rt, rt.alloc(), Encoding::Utf8, "\u{FFFD}", &[(0, 2)])?;
+    is_completed(&rt, rt.alloc(), Encoding::Utf16Be, "\u{EFBB}", &[])?;
     Ok(())
 }

@@ -1,5 +1,6 @@
 use Rattle.std.proofs.Common.{sym, ap, ◌∙◌, string_bytes}
-use Rattle.desk.specs.Documents.{Names, Shelf}
+use Rattle.desk.specs.Documents.{Names}
+use Rattle.desk.specs.Shelf.{Shelf}
 use Rattle.desk.proofs.Names.{names_updated, opened_insert}
 use Rattle.desk.proofs.documents.Documents.insert.Goals as goal
 
