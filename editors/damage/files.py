@@ -66,7 +66,8 @@ def chinese():
                text * 3 + b"first ABCD\n" + b"price \x80 12 \xa3\xa0|\n" + "é ĉ 𠀀 😀\n".encode("gb18030") + text
                + b"second ABCD\n" + b"\x84\x31\xa4\x37 and \xfe\x50\n" + text * 2)
     yield File("gbk-damaged", "gbk", "3 bad places", True, "图书馆",
-               text * 3 + b"first ABCD\nprice \x80 12\nbad \xff \x81\x30 \x81\x30\x81x\n" + text + b"second ABCD\n" + text)
+               text * 3 + b"first ABCD\nprice \x80 12\nbad \xff \x81\x30 \x81\x30\x81x\n" + text
+               + b"second ABCD\n" + text)
 
 
 def others():

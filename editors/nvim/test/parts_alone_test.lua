@@ -46,7 +46,7 @@ it.test('the smallest edits', false, function()
   end
   it.same(edits({ 'abcdef' }, { 'axcdyf' }, nil, true), { { 0, 1, 0, 5, 'xcdy' } }, 'coarse')
   it.same(edits({ 'aaa' }, { 'aa' }, { row = 0, column = 1 }), { { 0, 1, 0, 2, '' } }, 'the second of equal letters')
-  it.same(edits({ 'a', 'a', 'a' }, { 'a', 'a' }, { row = 1, column = 0 }), { { 1, 0, 2, 0, '' } }, 'the second of equal lines')
+  it.same(edits({ 'a', 'a', 'a' }, { 'a', 'a' }, { row = 1, column = 0 }), { { 1, 0, 2, 0, '' } }, 'of equal lines')
 end)
 
 -- Any two lists of lines: the edits, made in their order, lead from one to the other.

@@ -1,5 +1,4 @@
 ---The program: what isn't there, what ends, what is too much, and edits that go to it by themselves.
-local uv = vim.uv or vim.loop
 local it = require('harness')
 
 local function refusal(settings, label)
@@ -78,12 +77,12 @@ end)
 it.test('edits go to the program by themselves', false, function()
   it.open('utf-8', 'a\255\n')
   vim.api.nvim_feedkeys('rb', 'nx', false)
-  local arrived = vim.wait(5000, function()
+  local arrived = vim.wait(20000, function()
     return it.buffer().document.bytes == 'b\255\n'
   end, 10)
   it.same(arrived, true)
   vim.api.nvim_feedkeys('$rc', 'nx', false)
-  local shown = vim.wait(5000, function()
+  local shown = vim.wait(20000, function()
     return #vim.diagnostic.get(0) == 0
   end, 10)
   it.same(shown, true, 'the diagnostic is gone')

@@ -247,14 +247,20 @@ local function in_parts(edits, most)
       while from > 0 and text:byte(from + 1) >= 128 and text:byte(from + 1) < 192 do
         from = from - 1
       end
-      local part = { row = edit.end_row, column = edit.end_column, end_row = edit.end_row, end_column = edit.end_column }
-      part.text = text:sub(from + 1)
-      list[#list + 1] = part
+      local row, column = edit.end_row, edit.end_column
+      list[#list + 1] = { row = row, column = column, end_row = row, end_column = column, text = text:sub(from + 1) }
       text = text:sub(1, from)
     end
     list[#list + 1] = vim.tbl_extend('force', edit, { text = text })
   end
   return list
+end
+
+---@param text string
+local function warn_of_copy(text)
+  if text:find('\239\191\189', 1, true) then
+    messages.warn('U+FFFD is put in as a character; a damaged byte is not copied as text')
+  end
 end
 
 ---@private
@@ -283,21 +289,13 @@ function Buffer:send_edits(edits)
         local rows = self.mirror:rows(edit)
         self.mirror:replace(rows)
         self.history:record({ taken = reply, rows = rows })
-        self:warn_of_copy(edit.text)
+        warn_of_copy(edit.text)
       end
     end
     self.window = all and math.min(self.window * 2, MOST_IN_FLIGHT) or 1
     first = first + #decided
   end
   return refusals
-end
-
----@private
----@param text string
-function Buffer:warn_of_copy(text)
-  if text:find('\239\191\189', 1, true) then
-    messages.warn('U+FFFD is put in as a character; a damaged byte is not copied as text')
-  end
 end
 
 ---@private

@@ -22,7 +22,15 @@ local defaults = {
   marks = 1000,
 }
 
-local NAMES = { gate = 'string', indexes = 'string', labels = 'string', refused = 'string', timeout = 'number', part = 'number', marks = 'number' }
+local TYPES = {
+  gate = 'string',
+  indexes = 'string',
+  labels = 'string',
+  refused = 'string',
+  timeout = 'number',
+  part = 'number',
+  marks = 'number',
+}
 
 ---What `setup` was given.
 local given = {}
@@ -43,7 +51,7 @@ M.aliases = {
 ---@param settings table|nil
 function M.setup(settings)
   for name, value in pairs(settings or {}) do
-    if type(value) ~= NAMES[name] then
+    if type(value) ~= TYPES[name] then
       error(("legacy: setup has no setting '%s' of type %s"):format(name, type(value)), 0)
     end
   end
@@ -56,7 +64,7 @@ end
 ---@return legacy.Settings
 function M.get()
   local found = {}
-  for name in pairs(NAMES) do
+  for name in pairs(TYPES) do
     local value = given[name]
     if value == nil then
       value = vim.g['legacy_' .. name]

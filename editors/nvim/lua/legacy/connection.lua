@@ -31,34 +31,11 @@ function Connection:receive(data)
   end
 end
 
----Starts the program; an error says why it doesn't start.
----@param words string[]
----@param timeout integer
----@return legacy.Connection
-function Connection.start(words, timeout)
-  local self = setmetatable({
-    words = words,
-    timeout = timeout,
-    ended = false,
-    replies = {},
-    begun = {},
-    complaint = '',
-    sent = 0,
-    last = {},
-  }, Connection)
-  local stdin, stdout, stderr = uv.new_pipe(false), uv.new_pipe(false), uv.new_pipe(false)
-  local arguments = vim.list_slice(words, 2)
-  local process, why = uv.spawn(words[1], { args = arguments, stdio = { stdin, stdout, stderr } }, function()
-    self.ended = true
-    self.process:close()
-  end)
-  if not process then
-    for _, pipe in ipairs({ stdin, stdout, stderr }) do
-      pipe:close()
-    end
-    error(("legacy: the program '%s' can't be started (%s); the setting 'gate' names it"):format(words[1], why), 0)
-  end
-  self.process, self.stdin = process, stdin
+---Reads what the program writes.
+---@private
+---@param stdout table
+---@param stderr table
+function Connection:listen(stdout, stderr)
   stdout:read_start(function(_, data)
     if data then
       self:receive(data)
@@ -74,6 +51,29 @@ function Connection.start(words, timeout)
       stderr:close()
     end
   end)
+end
+
+---Starts the program; an error says why it doesn't start.
+---@param words string[]
+---@param timeout integer
+---@return legacy.Connection
+function Connection.start(words, timeout)
+  local self = setmetatable({ words = words, timeout = timeout, ended = false }, Connection)
+  self.replies, self.begun, self.complaint, self.sent, self.last = {}, {}, '', 0, {}
+  local stdin, stdout, stderr = uv.new_pipe(false), uv.new_pipe(false), uv.new_pipe(false)
+  local arguments = vim.list_slice(words, 2)
+  local process, why = uv.spawn(words[1], { args = arguments, stdio = { stdin, stdout, stderr } }, function()
+    self.ended = true
+    self.process:close()
+  end)
+  if not process then
+    for _, pipe in ipairs({ stdin, stdout, stderr }) do
+      pipe:close()
+    end
+    error(("legacy: the program '%s' can't be started (%s); the setting 'gate' names it"):format(words[1], why), 0)
+  end
+  self.process, self.stdin = process, stdin
+  self:listen(stdout, stderr)
   return self
 end
 

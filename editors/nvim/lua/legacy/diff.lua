@@ -59,7 +59,9 @@ local function hunks_of(old, new, hint)
     return { group }
   end
   local row = group.row
-  local hunks = compare(vim.list_slice(old, row + 1, row + group.count), vim.list_slice(new, row + 1, row + group.new_count))
+  local lines = vim.list_slice(old, row + 1, row + group.count)
+  local new_lines = vim.list_slice(new, row + 1, row + group.new_count)
+  local hunks = compare(lines, new_lines)
   for _, it in ipairs(hunks) do
     it.row, it.new_row = it.row + row, it.new_row + row
   end

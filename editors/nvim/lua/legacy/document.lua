@@ -38,12 +38,13 @@ function Document.open(connect, label, bytes, part)
   return self
 end
 
----Sends the bytes to a connection that has not got the document: an `open`, and `splice`s of what is longer than a line.
+---Sends the bytes to a connection that has not got the document: an `open`, and `splice`s of what no line has room for.
 ---@private
 ---@param connection legacy.Connection
 ---@return table|nil the first reply that is a refusal
 function Document:send(connection)
-  local commands = { { op = 'open', doc = self.name, label = self.label, bytes = base64.encode(self.bytes:sub(1, self.part)) } }
+  local start = base64.encode(self.bytes:sub(1, self.part))
+  local commands = { { op = 'open', doc = self.name, label = self.label, bytes = start } }
   for at = self.part, #self.bytes - 1, self.part do
     local bytes = base64.encode(self.bytes:sub(at + 1, at + self.part))
     commands[#commands + 1] = { op = 'splice', doc = self.name, rev = #commands - 1, at = at, del = 0, bytes = bytes }

@@ -13,7 +13,8 @@ function M.read(path)
     end
     error('legacy: ' .. why, 0)
   end
-  local pieces, bytes = {}, nil
+  local pieces = {}
+  local bytes
   repeat
     bytes, why = uv.fs_read(descriptor, 1048576, -1)
     pieces[#pieces + 1] = bytes

@@ -114,16 +114,16 @@ end
 ---@param behind integer the number of lines in front of those that move
 ---@param by integer
 local function move(lines, behind, by)
-  local count = #lines
+  local last = #lines
   if by > 0 then
-    for i = count, behind + 1, -1 do
+    for i = last, behind + 1, -1 do
       lines[i + by] = lines[i]
     end
   elseif by < 0 then
-    for i = behind + 1, count do
+    for i = behind + 1, last do
       lines[i + by] = lines[i]
     end
-    for i = count, count + by + 1, -1 do
+    for i = last, last + by + 1, -1 do
       lines[i] = nil
     end
   end

@@ -1,5 +1,5 @@
----Splices of bytes that are made one after another, as of a change in every line: a copy of the bytes for each would cost
----the document's length each time, so as many as possible are made in one pass.
+---Splices of bytes that are made one after another, as of a change in every line. A copy of the bytes for each would
+---cost the document's length each time, so as many as possible are made in one pass.
 local M = {}
 
 ---Bytes replaced by bytes, at a place of the bytes as the splices before it left them.
