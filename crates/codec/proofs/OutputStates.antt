@@ -33,26 +33,27 @@ use Rattle.codec.specs.Any.{any, output_of, standing, of_both, decoder_in}
 use Rattle.codec.specs.Behind.{state_in, state_behind}
 use Rattle.codec.specs.Coding.{looked_up}
 use Rattle.codec.specs.Mark.{Mark, mark_of, in_force, mark_length}
+use Rattle.codec.specs.Output.{output_in, output_behind}
 use Rattle.codec.specs.Sniffing.{spelt, prefix_of}
 
 -- ---- encodings without escapes
 
 abbrev IsPlain : Family → Type 0
-IsPlain family = (index : IndexKind → Option Loaded) (bytes : List ℕ) → output_of ((standing index family).state bytes) ≡ Ascii
+IsPlain family = (index : IndexKind → Option Loaded) (bytes : List ℕ) → (output_of ((standing index family).state bytes) ≡ Ascii) × (output_in index family bytes ≡ Ascii)
 
 by_family : (family : Family) → (family ≡ OfIso2022Jp) ⊎ IsPlain family
 by_family OfIso2022Jp = inl refl
-by_family OfUtf8 = inr (λ index bytes. refl)
-by_family (OfSingleByte kind) = inr (λ index bytes. refl)
-by_family OfGb18030 = inr (λ index bytes. refl)
-by_family OfBig5 = inr (λ index bytes. refl)
-by_family OfEucJp = inr (λ index bytes. refl)
-by_family OfShiftJis = inr (λ index bytes. refl)
-by_family OfEucKr = inr (λ index bytes. refl)
-by_family OfReplacement = inr (λ index bytes. refl)
-by_family OfUtf16Be = inr (λ index bytes. refl)
-by_family OfUtf16Le = inr (λ index bytes. refl)
-by_family OfXUserDefined = inr (λ index bytes. refl)
+by_family OfUtf8 = inr (λ index bytes. (refl, refl))
+by_family (OfSingleByte kind) = inr (λ index bytes. (refl, refl))
+by_family OfGb18030 = inr (λ index bytes. (refl, refl))
+by_family OfBig5 = inr (λ index bytes. (refl, refl))
+by_family OfEucJp = inr (λ index bytes. (refl, refl))
+by_family OfShiftJis = inr (λ index bytes. (refl, refl))
+by_family OfEucKr = inr (λ index bytes. (refl, refl))
+by_family OfReplacement = inr (λ index bytes. (refl, refl))
+by_family OfUtf16Be = inr (λ index bytes. (refl, refl))
+by_family OfUtf16Le = inr (λ index bytes. (refl, refl))
+by_family OfXUserDefined = inr (λ index bytes. (refl, refl))
 
 -- ---- byte order marks
 
@@ -136,7 +137,7 @@ module _ (files : Files) where
 
   plain_out : (given : Encoding) → IsPlain (family_of given) → (bytes : List ℕ) → Shape bytes → out given bytes ≡ Ascii
   plain_out given plain bytes (bare none) =
-      ap output_of (bare_state given bytes none) ∙ behind_prefix (prefix_of bytes) (state_in files given bytes) (plain (index_of files) bytes)
+      ap output_of (bare_state given bytes none) ∙ behind_prefix (prefix_of bytes) (state_in files given bytes) (plain (index_of files) bytes).0
   plain_out given plain bytes (utf8_mark r is) = whole_of given bytes is (utf8_marked given r)
   plain_out given plain bytes (be_mark r is) = whole_of given bytes is (be_marked given r)
   plain_out given plain bytes (le_mark r is) = whole_of given bytes is (le_marked given r)
@@ -183,6 +184,46 @@ prefix-is p q o bytes later = by_test (λ (x : Option Prefix). x ≡ Some p → 
 is_prefix : (bytes : List ℕ) (p : Prefix) → prefix_of bytes ≡ Some p → bytes ≡ spelt p
 is_prefix bytes p =
     prefix-is p Nothing _ bytes (prefix-is p Ef _ bytes (prefix-is p EfBb _ bytes (prefix-is p Fe _ bytes (prefix-is p Ff _ bytes (λ h. absurd (let x : None ≡ Some p = h in cc))))))
+
+-- ---- the output state by the decoder in force alone
+
+iso_prefix : (index : IndexKind → Option Loaded) (p : Prefix) → output_in index OfIso2022Jp (spelt p) ≡ Ascii
+unfolding feed feed_for
+iso_prefix index Nothing = refl
+iso_prefix index Ef = refl
+iso_prefix index EfBb = refl
+iso_prefix index Fe = refl
+iso_prefix index Ff = refl
+
+prefix_output : (index : IndexKind → Option Loaded) (family : Family) (p : Prefix) → (family ≡ OfIso2022Jp) ⊎ IsPlain family → output_in index family (spelt p) ≡ Ascii
+prefix_output index family p (inl is) = subst (λ (f : Family). output_in index f (spelt p) ≡ Ascii) (sym is) (iso_prefix index p)
+prefix_output index family p (inr plain) = (plain index (spelt p)).1
+
+state_output : (index : IndexKind → Option Loaded) (family : Family) (bytes : List ℕ) → (family ≡ OfIso2022Jp) ⊎ IsPlain family
+    → output_of ((standing index family).state bytes) ≡ output_in index family bytes
+state_output index family bytes (inl is) = subst (λ (f : Family). output_of ((standing index f).state bytes) ≡ output_in index f bytes) (sym is) refl
+state_output index family bytes (inr plain) = (plain index bytes).0 ∙ sym (plain index bytes).1
+
+module _ (files : Files) (given : Encoding) where
+  looked : (bytes : List ℕ) (o : Option Prefix) → prefix_of bytes ≡ o → output_of (unwrap_or (option_map in_sniffing o) (state_in files given bytes)) ≡ output_in (index_of files) (family_of given) bytes
+  looked bytes (Some p) is =
+      sym (ap (output_in (index_of files) (family_of given)) (is_prefix bytes p is) ∙ prefix_output (index_of files) (family_of given) p (by_family (family_of given)))
+  looked bytes None is = state_output (index_of files) (family_of given) bytes (by_family (family_of given))
+
+  unmarked : (bytes : List ℕ) → mark_of bytes ≡ None → output_behind files given bytes ≡ output_in (index_of files) (family_of given) bytes
+  unfolding output_behind
+  unmarked bytes none =
+      ap (λ (m : Option Mark). output_in (index_of files) (family_of (unwrap_or (option_map (λ (m : Mark). m.encoding) m) given)) (drop (unwrap_or (option_map (λ (m : Mark). m.len) m) 0) bytes)) none
+
+  by_shape : (bytes : List ℕ) → Shape bytes → out files given bytes ≡ output_behind files given bytes
+  unfolding output_behind
+  by_shape bytes (bare none) = ap output_of (bare_state files given bytes none) ∙ looked bytes (prefix_of bytes) refl ∙ sym (unmarked bytes none)
+  by_shape bytes (utf8_mark r is) = whole_of files given bytes is (utf8_marked files given r) ∙ sym (ap (output_behind files given) is)
+  by_shape bytes (be_mark r is) = whole_of files given bytes is (be_marked files given r) ∙ sym (ap (output_behind files given) is)
+  by_shape bytes (le_mark r is) = whole_of files given bytes is (le_marked files given r) ∙ sym (ap (output_behind files given) is)
+
+pub output_of_state : (files : Files) (given : Encoding) (bytes : List ℕ) → output_of (state_behind files given bytes) ≡ output_behind files given bytes
+output_of_state files given bytes = by_shape files given bytes (shape bytes)
 
 module _ (jis0208 : ℕ → Option ℕ)
     (stays : (p : List ℕ) (b : ℕ) → iso_2022_jp_bytes (feed (iso_2022_jp jis0208) iso_2022_jp_start p).state ≤ 1

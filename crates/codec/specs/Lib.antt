@@ -10,6 +10,7 @@ pub mod Lifted
 pub mod LiftedLaws
 pub mod Mark
 pub mod Near
+pub mod Output
 pub mod Refused
 pub mod Sniffed
 pub mod SniffedLaws

@@ -8,6 +8,7 @@ ghost use Rattle.codec.specs.declared.state.AnyState.{AnyState};
 ghost use Rattle.codec.specs.Any.{any, any_start, decoder_in, output_of};
 ghost use Rattle.codec.specs.Behind.{state_behind};
 ghost use Rattle.codec.specs.Mark.{in_force, mark_length};
+ghost use Rattle.codec.specs.Output.{output_behind};
 ghost use Rattle.iso2022jp.specs.declared.output.OutputState.TheVariants.{Ascii};
 
 use crate::decoder::AnyDecoder;
@@ -17,6 +18,7 @@ use iso2022jp::Iso2022JpDecoder;
 
 /// The laws of the output states behind a document's bytes, taken literally; the call does nothing.
 ///
+/// That of the state behind the bytes is the one that the definition names (`state`).
 /// Behind the byte that gives an item (`byte`), and behind the end (`end`), the output state is that
 /// behind the item's end, also where bytes were restored and the item ends before that byte. Behind
 /// a byte order mark it is ASCII (`mark`), and a mark is no longer than the bytes (`mark_fits`). The
@@ -24,6 +26,7 @@ use iso2022jp::Iso2022JpDecoder;
 /// encoding in force (`in_force`). The state behind the bytes is reached from the start (`behind`),
 /// one part after another (`parts`).
 pub fn output_at_the_end()
+    ensures state { (files : Files) (given : Encoding) (bytes : List ℕ) → output_of (state_behind files given bytes) ≡ output_behind files given bytes }
     ensures mark { (files : Files) (given : Encoding) (bytes : List ℕ) → output_of (state_behind files given (take (mark_length bytes) bytes)) ≡ Ascii }
     ensures mark_fits { (bytes : List ℕ) → mark_length bytes ≤ length bytes }
     ensures there { (files : Files) (given : Encoding) → is_some (decoder_in files given) ≡ has_files files given }

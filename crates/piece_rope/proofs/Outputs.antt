@@ -7,7 +7,7 @@ use Rattle.std.proofs.lemmas.List.{take-append-le}
 use Rattle.std.proofs.lemmas.List.Elements.{All-map, All-append, All-nil}
 use Rattle.enc_names.specs.declared.encoding.Encoding.{Encoding}
 use Rattle.index_loader.specs.Files.{Files, has_files}
-use Rattle.state_memo.specs.Decoding.{Ended as EndedItem, OwnDecoder, AnyState, any, any_start, feed, run, decoder_in, output_of, state_behind, Shown, shown_from}
+use Rattle.state_memo.specs.Decoding.{Ended as EndedItem, OwnDecoder, AnyState, any, any_start, feed, run, decoder_in, output_of, output_behind, state_behind, Shown, shown_from}
 use Rattle.state_memo.specs.declared.ended.Ended.{Ended}
 use Rattle.state_memo.specs.declared.outcome.Outcome.{Outcome}
 use Rattle.state_memo.specs.Items.{kept_item}
@@ -24,6 +24,7 @@ use Rattle.piece_rope.proofs.Counting.{here-contents}
 -- what is said of one decoder's states
 pub record StateLaws (files : Files) (given : Encoding) (d : OwnDecoder) : Type 0 where
   pub behind : (bytes : List ℕ) → (feed (any d) (any_start d) bytes).state ≡ state_behind files given bytes
+  pub output : (bytes : List ℕ) → output_of (state_behind files given bytes) ≡ output_behind files given bytes
   pub parts : (s : AnyState) (p q : List ℕ) → (feed (any d) s (p ++ q)).state ≡ (feed (any d) (feed (any d) s p).state q).state
   pub byte : (p : List ℕ) (b : ℕ) → All (λ (e : EndedItem). output_of (state_behind files given (take (length p + 1 - e.back) (p ++ b ∷ []))) ≡ output_of (state_behind files given (p ++ b ∷ []))) (feed (any d) (state_behind files given p) (b ∷ [])).items
   pub end : (p : List ℕ) → All (λ (e : EndedItem). output_of (state_behind files given (take (length p - e.back) p)) ≡ output_of (state_behind files given p)) (run (any d) (state_behind files given p) [])
@@ -62,7 +63,7 @@ module _ (doc : Document) (d : OwnDecoder) (laws : StateLaws doc.indexes doc.giv
           let place : ends_at base (pos read -ℤ pos back) ≡ length p + 1 - back = ends base read back fits ∙ omega (arith, size) in
           let front : take (length p + 1 - back) doc.bytes ≡ take (length p + 1 - back) (p ++ b ∷ []) =
           ap (take (length p + 1 - back)) whole ∙ take-append-le (length p + 1 - back) (p ++ b ∷ []) rest (omega (arith, length-append p (b ∷ []))) in
-          ap output_of is ∙ sym same ∙ ap (λ (q : List ℕ). output_of (state q)) (sym front) ∙ ap (output_at doc) (sym place)
+          ap output_of is ∙ sym same ∙ ap (λ (q : List ℕ). output_of (state q)) (sym front) ∙ laws.output (take (length p + 1 - back) doc.bytes) ∙ ap (output_at doc) (sym place)
 
   -- of more bytes
   items-append : (xs ys : List (Shown AnyState)) → items_of_shown (xs ++ ys) ≡ items_of_shown xs ++ items_of_shown ys
@@ -129,4 +130,4 @@ module _ (doc : Document) (d : OwnDecoder) (laws : StateLaws doc.indexes doc.giv
       at_item back same =
           let exit : tail.exit ≡ state doc.bytes = rope.end_is ∙ laws.behind (bytes_of ps) ∙ ap state (sym whole) in
           let place : ends_at (length doc.bytes) (pos 0 -ℤ pos back) ≡ length doc.bytes - back = ends (length doc.bytes) 0 back (omega (arith, bound)) ∙ omega arith in
-          ap output_of exit ∙ sym same ∙ ap (output_at doc) (sym place)
+          ap output_of exit ∙ sym same ∙ laws.output (take (length doc.bytes - back) doc.bytes) ∙ ap (output_at doc) (sym place)

@@ -15,6 +15,7 @@ unfoldable pub use Rattle.codec.specs.Behind.{state_behind}
 pub use Rattle.codec.specs.Decode.{Decoded, fatal_of, run_in}
 unfoldable pub use Rattle.codec.specs.Decode.{decode}
 pub use Rattle.codec.specs.Mark.{mark_of, in_force, mark_length}
+unfoldable pub use Rattle.codec.specs.Output.{output_behind}
 pub use Rattle.iso2022jp.specs.declared.output.OutputState.{OutputState}
 pub use Rattle.iso2022jp.specs.declared.output.OutputState.TheVariants.{Ascii, Roman, Katakana, Jis0208}
 pub use Rattle.codec.specs.Texts.{replaced}

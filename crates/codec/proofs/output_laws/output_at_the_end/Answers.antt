@@ -11,7 +11,7 @@ use Rattle.codec.specs.Any.{standing_of, decoder_in}
 use Rattle.codec.specs.Behind.{state_in}
 use Rattle.codec.specs.Decode.{run_in}
 use Rattle.codec.proofs.Choosing.{Is, chosen, behind}
-use Rattle.codec.proofs.OutputStates.{IsoLaws, output_at_mark, mark_fits, decoded_in_force, output_at_byte, output_at_last}
+use Rattle.codec.proofs.OutputStates.{IsoLaws, output_of_state, output_at_mark, mark_fits, decoded_in_force, output_at_byte, output_at_last}
 use Rattle.codec.proofs.output_laws.output_at_the_end.Goals as goal
 
 does_there : (files : Files) (encoding : Encoding) (d : OwnDecoder) → decoder_in files encoding ≡ Some d → Is (run_in files encoding) (state_in files encoding) (standing_of d)
@@ -30,6 +30,7 @@ returns c =
       feeds = λ d lift. among.feeds jis0208 d in_iso_2022_jp lift;
     } in
     record {
+      state = output_of_state;
       mark = output_at_mark;
       mark_fits = mark_fits;
       there = λ files given. (chosen files given).0;

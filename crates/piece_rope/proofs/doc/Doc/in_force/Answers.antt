@@ -1,6 +1,6 @@
-use Rattle.std.proofs.Common.{◌≡◌, subst, true}
+use Rattle.std.proofs.Common.{◌≡◌, ◌∙◌, subst, sym, take, true}
 use Rattle.index_loader.specs.Files.{has_files}
-use Rattle.state_memo.specs.Decoding.{decode}
+use Rattle.state_memo.specs.Decoding.{decode, mark_length}
 use Rattle.piece_rope.specs.Chain.{bytes_of}
 use Rattle.piece_rope.specs.Document.{Document, decoded}
 use Rattle.piece_rope.proofs.doc.Doc.in_force.Goals as goal
@@ -18,4 +18,7 @@ returns-clause-within c = c.output_at_the_end.ensures.mark_fits c.args.self.now.
 
 pub returns-clause-output : goal.returns-clause-output
 unfolding decode
-returns-clause-output c = c.output_at_the_end.ensures.mark c.args.self.now.indexes c.args.self.now.given c.args.self.now.bytes
+returns-clause-output c =
+    let doc = c.args.self.now in
+    let laws = c.output_at_the_end.ensures in
+    sym (laws.state doc.indexes doc.given (take (mark_length doc.bytes) doc.bytes)) ∙ laws.mark doc.indexes doc.given doc.bytes

@@ -16,6 +16,7 @@ returns-clause-outputs c =
     let d = there.decoder in
     let laws : StateLaws files given d = record {
       behind = λ bytes. law.behind files given d bytes there.chosen;
+      output = law.state files given;
       parts = law.parts d;
       byte = λ p b. law.byte files given d p b there.chosen;
       end = λ p. law.end files given d p there.chosen;
