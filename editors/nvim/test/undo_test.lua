@@ -23,7 +23,10 @@ for _, file in ipairs(it.files()) do
       states[vim.fn.undotree().seq_cur] = it.buffer().document.bytes
     end
     local last = vim.fn.undotree().seq_cur
+    local undone = 0
     while vim.fn.undotree().seq_cur > 0 do
+      undone = undone + 1
+      it.same(undone <= last, true, 'each undo leads back')
       it.undo()
       it.agree('undo')
       it.same(it.buffer().document.bytes, states[vim.fn.undotree().seq_cur], 'undone to ' .. vim.fn.undotree().seq_cur)
