@@ -1,7 +1,8 @@
 """The sessions of README.md and docs/PROTOCOL.md: each command has the reply that the page shows, to the byte.
 
-A session is a fenced block whose lines are commands, each followed by its reply. It is played by a program of its own,
-over the small index files of examples/indexes."""
+A session is a fenced block whose lines are commands, each followed by its reply; a trace is one that begins with an
+event, and the block behind it what the trace prints. Each is played by a program of its own, over the small index files
+of examples/indexes."""
 import json
 import os
 import pathlib
@@ -23,17 +24,34 @@ def sessions(page):
             yield text.count("\n", 0, block.start(1)) + 1, lines
 
 
+def traces(page):
+    """The traces of a page, each with what it prints."""
+    text = (TOP / page).read_text(encoding="utf-8")
+    return [it.groups() for it in re.finditer(r"^```\n(open \d.*?)^```\n+```\n(.*?)^```$", text, re.MULTILINE | re.DOTALL)]
+
+
+def play(act, lines):
+    """What the program prints."""
+    words = [PROGRAM, act, "--indexes", str(TOP / "examples" / "indexes")]
+    return subprocess.run(words, input=lines.encode(), stdout=subprocess.PIPE).stdout.decode()
+
+
 @unittest.skipUnless(os.access(PROGRAM, os.X_OK), f"there is no program {PROGRAM}; rt ci builds it")
 class Pages(unittest.TestCase):
     def test_each_session(self):
-        words = [PROGRAM, "stdio", "--indexes", str(TOP / "examples" / "indexes")]
         for page in PAGES:
             found = list(sessions(page))
             self.assertTrue(found, f"{page} has no session")
             for number, lines in found:
                 with self.subTest(page=page, line=number):
-                    ran = subprocess.run(words, input="\n".join(lines[::2]) + "\n", stdout=subprocess.PIPE, encoding="utf-8")
-                    self.assertEqual(ran.stdout.splitlines(), lines[1::2])
+                    printed = play("stdio", "".join(it + "\n" for it in lines[::2]))
+                    self.assertEqual(printed.split("\n"), lines[1::2] + [""])
+
+    def test_each_trace(self):
+        found = traces("docs/PROTOCOL.md")
+        self.assertTrue(found, "docs/PROTOCOL.md has no trace")
+        for trace, printed in found:
+            self.assertEqual(play("trace", trace), printed)
 
 
 if __name__ == "__main__":

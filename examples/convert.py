@@ -4,16 +4,18 @@
     examples/convert.py INDEXES FROM TO FILE
 
 A file with an error, or with a character that the other encoding lacks, is refused with its place."""
+import os
 import pathlib
 import sys
 
 TOP = pathlib.Path(__file__).resolve().parent.parent
+PROGRAM = os.environ.get("GATE", str(TOP / "gate"))
 sys.path.insert(0, str(TOP / "clients"))
 from gate import Fault, Gate
 
 
 def main(indexes, label, target, path):
-    with Gate.start(TOP / "gate", "stdio", "--indexes", indexes) as gate:
+    with Gate.start(PROGRAM, "stdio", "--indexes", indexes) as gate:
         document = gate.open("file", label, pathlib.Path(path).read_bytes())
         errors = document.errors()
         if errors:
@@ -21,7 +23,9 @@ def main(indexes, label, target, path):
         try:
             sys.stdout.buffer.write(document.encode(target))
         except Fault as fault:
-            line, character = document.position(fault.members.get("index", 0), unit="utf-32")
+            if fault.name != "Unencodable":
+                sys.exit(f"{path}: {fault}")
+            line, character = document.position(fault.members["index"], unit="utf-32")
             sys.exit(f"{path}, line {line + 1}, character {character + 1}: {fault}")
 
 
