@@ -47,6 +47,10 @@ class Pages(unittest.TestCase):
                     printed = play("stdio", "".join(it + "\n" for it in lines[::2]))
                     self.assertEqual(printed.split("\n"), lines[1::2] + [""])
 
+    def test_the_first_session_is_the_file_that_readme_names(self):
+        _, lines = next(sessions("README.md"))
+        self.assertEqual((TOP / "examples" / "change.jsonl").read_text().splitlines(), lines[::2])
+
     def test_each_trace(self):
         found = traces("docs/PROTOCOL.md")
         self.assertTrue(found, "docs/PROTOCOL.md has no trace")

@@ -34,7 +34,7 @@ def matches(document, expression):
     for match in filter(lambda it: it[0], re.finditer(expression, document.text())):
         line, character = document.position(match.start(), unit="utf-32")
         begin = document.place(match.start(), unit="utf-32")["place"][0]
-        # The end is that of its last character: the next one may begin with an escape.
+        # The end is that of its last character, since behind the text's last one there is no place.
         end = document.place(match.end() - 1, unit="utf-32")["place"][1]
         yield line + 1, character + 1, begin, end, match[0]
 
