@@ -172,7 +172,8 @@ class Edit:
 
 
 class Document:
-    """A document of `gate`: its bytes, revision, encoding in force and the length of its byte order mark as they are now."""
+    """A document of `gate`: its bytes, revision, encoding in force and the length of its byte order mark, as they are
+    now."""
 
     def __init__(self, gate: Gate, name: str, label: str, content: bytes, room: int = ROOM):
         self._gate, self.name, self.bytes = gate, name, content
@@ -199,13 +200,13 @@ class Document:
         """Replaces the text from one position, a line and a character, to another; without positions the whole text.
         Returns the edit. A change of the whole text encodes all of it anew, and so bytes that nobody meant: send the
         smallest range that differs."""
-        where = {} if start is None else {"range": {"start": _position(start), "end": _position(start if end is None else end)}}
+        where = {} if start is None else {"range": {"start": _position(start), "end": _position(end or start)}}
         reply = self._take(self._gate.ask("change", doc=self.name, rev=self.rev, unit=unit, text=text, **where))
         return self._put(reply["at"], reply["del"], self.source(reply["at"], reply["ins"]))
 
     def undo(self, edit: Edit) -> Edit:
-        """Takes the last edit back, by the bytes that were there: their text, put in again, may have others. Returns the
-        edit that this is, whose undoing is the redo."""
+        """Takes the last edit back, by the bytes that were there: their text, put in again, may have others. Returns
+        the edit that this is, whose undoing is the redo."""
         return self.splice(edit.at, len(edit.new), edit.old)
 
     def stat(self) -> Members:
