@@ -12,9 +12,6 @@ use gateway::{Feed, Outlet, TraceFault, trace};
 use index_loader::Indexes;
 use std::alloc::Global;
 
-#[cfg(test)]
-mod tests;
-
 /// Plays the trace that is read, and prints its replies and refusals. The gateway begins with these
 /// index files and labels, with no document and with no connection open.
 ///

@@ -1,0 +1,282 @@
+"""The program as it was built, by its words and files: crates/gate/out/gate, or the one that the variable GATE names.
+
+What it does with hostile ones is in tools/hostile; that it does the same over devices which fail, in crates/gate."""
+import base64
+import contextlib
+import json
+import os
+import pathlib
+import socket
+import subprocess
+import tempfile
+import unittest
+
+TOP = pathlib.Path(__file__).resolve().parent.parent
+PROGRAM = os.environ.get("GATE", str(TOP / "crates" / "gate" / "out" / "gate"))
+
+OPEN = '{"id":1,"op":"open","doc":"a","label":"utf-8","bytes":"4oJB"}\n'
+
+# The single-byte encodings that have a file of their own; ISO-8859-8-I has that of ISO-8859-8.
+SINGLE_BYTE = (
+    "IBM866 ISO-8859-2 ISO-8859-3 ISO-8859-4 ISO-8859-5 ISO-8859-6 ISO-8859-7 ISO-8859-8 ISO-8859-10 ISO-8859-13 ISO-8859-14 "
+    "ISO-8859-15 ISO-8859-16 KOI8-R KOI8-U macintosh windows-874 windows-1250 windows-1251 windows-1252 windows-1253 "
+    "windows-1254 windows-1255 windows-1256 windows-1257 windows-1258 x-mac-cyrillic"
+).split()
+
+# The other index files, in the order in which they are added, each with its rows and with how many of the documents
+# below can be opened from then on.
+MULTIBYTE_FILES = [
+    ("jis0208", "283\t0x3042\n", 1),
+    ("jis0212", "1410\t0x4E02\n", 2),
+    ("iso-2022-jp-katakana", "0\t0x3002\n", 3),
+    ("euc-kr", "9026\t0xAC00\n", 4),
+    ("big5", "5495\t0x4E00\n", 5),
+    ("gb18030", "9026\t0x554A\n", 5),
+    ("gb18030-ranges", "0\t0x0080\n189000\t0x10000\n", 7),
+]
+
+# Documents of one character. That of EUC-JP is in jis0212, that of gb18030 in its index, that of GBK in the ranges.
+MULTIBYTE = [
+    ("Shift_JIS", b"\x82\xa0", "\u3042"),
+    ("EUC-JP", b"\x8f\xb0\xa1", "\u4e02"),
+    ("ISO-2022-JP", b"\x1b$B$\"", "\u3042"),
+    ("EUC-KR", b"\xb0\xa1", "\uac00"),
+    ("Big5", b"\xa4\x40", "\u4e00"),
+    ("gb18030", b"\xb0\xa1", "\u554a"),
+    ("GBK", b"\x81\x30\x81\x30", "\x80"),
+]
+
+# With the first row the bytes 81 41 are one character in Shift_JIS.
+JIS0208 = "1\t0x3001\n283\t0x3042\n1410\t0x4E9C\n"
+
+# U+3042 and U+1F600 in ISO-2022-JP, each command with its reply.
+ENCODED = [
+    '{"id":0,"op":"open","doc":"d","label":"utf-8","bytes":"44GC8J+YgA=="}',
+    '{"bom":0,"encoding":"UTF-8","id":0,"rev":0}',
+    '{"id":1,"op":"encode","doc":"d","from":0,"to":2,"label":"iso-2022-jp","mode":"html"}',
+    '{"bytes":"GyRCJCIbKEImIzEyODUxMjs=","id":1,"rev":0}',
+    '{"id":2,"op":"encode","doc":"d","from":0,"to":2,"label":"iso-2022-jp"}',
+    '{"code_point":128512,"fault":"Unencodable","id":2,"index":1}',
+    '{"id":3,"op":"source","doc":"d","at":0,"len":3}',
+    '{"bytes":"44GC","id":3,"rev":0}',
+]
+
+# A position between two code points of one pair of bytes, a letter behind the lead byte that would swallow it, a code
+# point whose byte is read as another, and a character in front of a shift.
+CHANGES = [
+    '{"id":0,"op":"open","doc":"b","label":"big5","bytes":"iGI="}',
+    '{"bom":0,"encoding":"Big5","id":0,"rev":0}',
+    '{"id":1,"op":"change","doc":"b","rev":0,"range":{"start":{"line":0,"character":1},"end":{"line":0,"character":1}},"text":""}',
+    '{"fault":"SplitsItem","id":1}',
+    '{"id":0,"op":"open","doc":"s","label":"shift_jis","bytes":"gQ=="}',
+    '{"bom":0,"encoding":"Shift_JIS","id":0,"rev":0}',
+    '{"id":2,"op":"change","doc":"s","rev":0,"range":{"start":{"line":0,"character":1},"end":{"line":0,"character":1}},"text":"A"}',
+    '{"fault":"NotKept","id":2}',
+    '{"id":3,"op":"source","doc":"s","at":0,"len":1}',
+    '{"bytes":"gQ==","id":3,"rev":0}',
+    '{"id":4,"op":"change","doc":"s","rev":0,"text":"\\u00a5"}',
+    '{"fault":"NotKept","id":4}',
+    '{"id":0,"op":"open","doc":"i","label":"iso-2022-jp","bytes":"QRskQiQiGyhC"}',
+    '{"bom":0,"encoding":"ISO-2022-JP","id":0,"rev":0}',
+    '{"id":5,"op":"change","doc":"i","rev":0,"range":{"start":{"line":0,"character":1},"end":{"line":0,"character":1}},"text":"\\u4e9c"}',
+    '{"at":1,"bom":0,"del":0,"encoding":"ISO-2022-JP","id":5,"ins":5,"rev":1}',
+    '{"id":6,"op":"source","doc":"i","at":0,"len":14}',
+    '{"bytes":"QRskQjAhGyRCJCIbKEI=","id":6,"rev":1}',
+]
+
+# Words that are none of the program's, each refused before any file is read.
+BAD_WORDS = [
+    ["stdio"],
+    ["trace"],
+    ["trace", "--indexes", "DIR", "--serve", "1"],
+    ["replay", "--indexes", "DIR"],
+    ["tcp"],
+    *(["tcp", "--indexes", "DIR", "--port", port] for port in ("0", "65536", "-1", "http", "")),
+    *(["tcp", "--indexes", "DIR", "--serve", count] for count in ("0", "1000001")),
+    ["stdio", "--indexes"],
+    ["stdio", "--indexes", "DIR", "--labels"],
+    ["stdio", "--indexes", "DIR", "more"],
+    ["stdio", "--indexes", "DIR", "--port", "1"],
+    ["--indexes", "DIR"],
+]
+
+# What is said of words that lack something, or have a number past its range.
+TOLD = [
+    (["stdio"], "error: the following required arguments were not provided:\n  --indexes <DIR>\n\nUsage: gate stdio --indexes <DIR>\n"),
+    (["tcp", "--indexes", "none", "--port", "65536"], "error: invalid value '65536' for '--port <N>': 65536 is not in 1..=65535\n"),
+    (["tcp", "--indexes", "none", "--serve", "0"], "error: invalid value '0' for '--serve <N>': 0 is not in 1..=1000000\n"),
+]
+
+# Index files, each put beside those before it and in front of them in the program's order, and what is then said.
+FAULTY = [
+    ("gb18030-ranges", "0\t0x80\n", "line 0: BadRanges"),
+    ("jis0208", "# comment\n11280\t0x41\n", "line 2: PointerTooLarge"),
+    ("windows-1252", "0\t0x20AC\n0\t0x81\n", "line 2: DuplicatePointer"),
+    ("koi8-r", "0\t0xD800\n", "line 1: BadCodePoint"),
+    ("ibm866", "x\t0x41\n", "line 1: BadPointer"),
+]
+
+
+def asked(label, content):
+    """The lines that open a document and ask for its one character."""
+    fields = {"doc": label, "label": label, "bytes": base64.b64encode(content).decode()}
+    return json.dumps({"id": 1, "op": "open", **fields}) + "\n" + json.dumps({"id": 2, "op": "text", "doc": label, "from": 0, "to": 1}) + "\n"
+
+
+def opened(encoding, text):
+    """The replies to these lines."""
+    text = json.dumps(text, ensure_ascii=False)
+    return f'{{"bom":0,"encoding":"{encoding}","id":1,"rev":0}}\n{{"id":2,"rev":0,"text":{text}}}\n'
+
+
+def sent(connection, text):
+    """The trace line of an event that brings this text."""
+    return f"bytes {connection} {base64.b64encode(text.encode()).decode()}"
+
+
+# Traces with their ends: the lines, the status, what is printed, and what is said. In the first a splice on connection 2
+# is begun before one of connection 1 is complete, and complete behind it.
+TRACES = [
+    (
+        [
+            "open 1",
+            "open 2",
+            "# open d, and the first half of a splice on each connection",
+            sent(1, '{"id":1,"op":"open","doc":"d","label":"utf-8","bytes":"YQ=="}\n'),
+            sent(1, '{"id":2,"op":"splice","doc":"d","rev":0,"at":1,'),
+            sent(2, '{"id":1,"op":"splice","doc":"d","rev":0,"at":0,"del":0,"bytes":"Yg=="}'),
+            "",
+            sent(1, '"del":0,"bytes":"Yw=="}\n'),
+            sent(2, "\n"),
+            sent(2, '{"id":2,"op":"text","doc":"d","from":0,"to":2}\n'),
+            sent(2, '{"id":3,'),
+            "close 2",
+        ],
+        0,
+        [
+            '1 {"bom":0,"encoding":"UTF-8","id":1,"rev":0}',
+            '1 {"bom":0,"encoding":"UTF-8","id":2,"rev":1}',
+            '2 {"fault":"Stale","id":1,"rev":1}',
+            '2 {"id":2,"rev":1,"text":"ac"}',
+        ],
+        "",
+    ),
+    (
+        ["open 0", *(sent(0, line + "\n") for line in asked("windows-1252", b"\x80").splitlines())],
+        0,
+        [f"0 {line}" for line in opened("windows-1252", "\u20ac").splitlines()],
+        "",
+    ),
+    (["open 3", "open 3", sent(3, "{}\n"), "close 3"], 0, ["3 !AlreadyOpen", '3 {"fault":"BadRequest","field":"id"}'], ""),
+    (["bytes 3"], 2, [], "gate: trace line 1\n"),
+    (["# note", "", "open 16", "bytes 3"], 2, ["16 !BadNumber"], "gate: trace line 4\n"),
+    ([], 0, [], ""),
+]
+
+
+NOT_OPENED = '{"fault":"NoIndex","id":1}\n{"fault":"NoDocument","id":2}\n'
+
+
+@unittest.skipUnless(os.access(PROGRAM, os.X_OK), f"there is no program {PROGRAM}; rt ci builds it")
+class Program(unittest.TestCase):
+    def setUp(self):
+        folder = tempfile.TemporaryDirectory()
+        self.addCleanup(folder.cleanup)
+        self.folder = pathlib.Path(folder.name)
+
+    def put(self, name, rows):
+        (self.folder / f"index-{name}.txt").write_bytes(rows.encode())
+
+    def runs(self, *words, lines="", status=0, output="", error=""):
+        """The program with these words over these lines ends with this status, and writes this."""
+        ran = subprocess.run([PROGRAM, *words], input=lines.encode(), stdout=subprocess.PIPE, stderr=subprocess.PIPE)
+        self.assertEqual((ran.returncode, ran.stdout.decode(), ran.stderr.decode()), (status, output, error))
+
+    def serves(self, lines, output, *words):
+        self.runs("stdio", "--indexes", str(self.folder), *words, lines=lines, output=output)
+
+    def test_files_and_labels(self):
+        self.put("windows-1252", "0\t0x20AC\n59\t0xBB\n63\t0xBF\n")
+        labels = self.folder / "labels.json"
+        labels.write_text('[{"encodings":[{"name":"UTF-8","labels":["utf-8","unicode-1-1-utf-8"]}]}]')
+        line = OPEN.replace("utf-8", "Unicode-1-1-UTF-8")
+        self.serves(line, '{"bom":0,"encoding":"UTF-8","id":1,"rev":0}\n', "--labels", str(labels))
+        self.serves(line, '{"fault":"UnknownLabel","id":1}\n')
+        self.serves(asked(" Windows-1252 ", b"\x80"), opened("windows-1252", "\u20ac"))
+        self.runs(lines=asked("windows-1252", b"\x80"), output=NOT_OPENED)
+
+    def test_ranges_and_changes_over_index_files(self):
+        for name, rows in ("big5", "5495\t0x4E00\n"), ("jis0208", JIS0208), ("iso-2022-jp-katakana", "0\t0x3002\n"):
+            self.put(name, rows)
+        for session in ENCODED, CHANGES:
+            self.serves("".join(line + "\n" for line in session[::2]), "".join(reply + "\n" for reply in session[1::2]))
+
+    def test_each_single_byte_encoding_reads_its_own_file(self):
+        lines = replies = ""
+        for code, encoding in enumerate(SINGLE_BYTE, 0x2600):
+            self.put(encoding.lower(), f"0\t0x{code:04X}\n")
+            lines, replies = lines + asked(encoding, b"\x80"), replies + opened(encoding, chr(code))
+        sign = chr(0x2600 + SINGLE_BYTE.index("ISO-8859-8"))
+        self.serves(lines + asked("ISO-8859-8-I", b"\x80"), replies + opened("ISO-8859-8-I", sign))
+
+    def test_each_other_encoding_needs_its_own_files(self):
+        lines = "".join(asked(label, content) for label, content, _ in MULTIBYTE)
+        for name, rows, count in MULTIBYTE_FILES:
+            self.put(name, rows)
+            there = "".join(opened(label, text) for label, _, text in MULTIBYTE[:count])
+            with self.subTest(name):
+                self.serves(lines, there + NOT_OPENED * (len(MULTIBYTE) - count))
+
+    def test_traces(self):
+        self.put("windows-1252", "0\t0x20AC\n")
+        for lines, status, printed, told in TRACES:
+            with self.subTest(lines[:3]):
+                text = "\n".join(lines) + ("\n" if status == 0 else "")
+                output = "".join(line + "\n" for line in printed)
+                self.runs("trace", "--indexes", str(self.folder), lines=text, status=status, output=output, error=told)
+
+    def test_help_goes_to_the_output(self):
+        for words in ["--help"], ["-h"], ["help"], ["stdio", "--help"], ["trace", "--help"], ["tcp", "--help"]:
+            with self.subTest(words):
+                ran = subprocess.run([PROGRAM, *words], input=OPEN.encode(), stdout=subprocess.PIPE, stderr=subprocess.PIPE)
+                self.assertEqual((ran.returncode, ran.stderr), (0, b""))
+                for part in b"Usage: gate", b"\nExample: gate":
+                    self.assertIn(part, ran.stdout)
+                self.assertNotIn(b"UTF-8", ran.stdout)
+                self.assertTrue(ran.stdout.endswith(b"\n"))
+
+    def test_bad_words_are_refused_before_any_file_is_read(self):
+        self.put("ibm866", "x\t0x41\n")
+        for words in BAD_WORDS:
+            with self.subTest(words):
+                words = [str(self.folder) if it == "DIR" else it for it in words]
+                ran = subprocess.run([PROGRAM, *words], input=OPEN.encode(), stdout=subprocess.PIPE, stderr=subprocess.PIPE)
+                self.assertEqual((ran.returncode, ran.stdout), (2, b""))
+                self.assertTrue(ran.stderr.startswith(b"error: ") and ran.stderr.endswith(b"\n"), ran.stderr)
+
+    def test_what_is_wrong_with_the_words_is_named(self):
+        for words, told in TOLD:
+            with self.subTest(words):
+                self.runs(*words, status=2, error=told + "\nFor more information, try '--help'.\n")
+
+    def test_files_are_read_before_the_port_is_listened_on(self):
+        with contextlib.closing(socket.create_server(("127.0.0.1", 0))) as taken:
+            words = ["tcp", "--indexes", str(self.folder), "--port", str(taken.getsockname()[1])]
+            self.runs(*words, status=1, error=f"gate: cannot listen on port {words[-1]}\n")
+            self.put("ibm866", "x\t0x41\n")
+            self.runs(*words, status=2, error="gate: index file index-ibm866.txt, line 1: BadPointer\n")
+
+    def test_the_first_faulty_file_ends_the_program(self):
+        labels = self.folder / "labels.json"
+        words = ["stdio", "--indexes", str(self.folder), "--labels", str(labels)]
+        self.runs(*words, status=2, error=f"gate: cannot read {labels}\n")
+        for text, cause in ("{}", "BadShape"), ("[", "NotJson"):
+            labels.write_text(text)
+            self.runs(*words, status=2, error=f"gate: label file: {cause}\n")
+        for name, rows, told in FAULTY:
+            self.put(name, rows)
+            self.runs(*words, status=2, error=f"gate: index file index-{name}.txt, {told}\n")
+
+
+if __name__ == "__main__":
+    unittest.main()
