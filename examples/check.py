@@ -46,4 +46,7 @@ def main(mends, indexes, label, *files):
 
 
 words = sys.argv[1:]
-main("--mend" in words, *(it for it in words if it != "--mend"))
+rest = [it for it in words if it != "--mend"]
+if len(rest) < 3:
+    sys.exit(__doc__)
+main("--mend" in words, *rest)

@@ -29,4 +29,6 @@ def main(indexes, label, target, path):
             sys.exit(f"{path}, line {line + 1}, character {character + 1}: {fault}")
 
 
+if len(sys.argv) != 5:
+    sys.exit(__doc__)
 main(*sys.argv[1:])

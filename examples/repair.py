@@ -28,4 +28,6 @@ def main(indexes, label, path, at, byte):
     print(after.hex(" "))
 
 
+if len(sys.argv) != 6:
+    sys.exit(__doc__)
 main(*sys.argv[1:])
