@@ -1,9 +1,10 @@
 -- The decoder of an encoding is there exactly where the encoding can be decoded, and does what that encoding's own decoder does.
-use Rattle.std.proofs.Common.{◌≡◌, refl, ap, ℕ, eqb, Bool, ◌&&◌, true, false, if◌then◌else◌, List, [], ◌∷◌, length, drop, Option, Some, None}
+use Rattle.std.proofs.Common.{◌≡◌, ◌∙◌, refl, ap, ℕ, eqb, Bool, ◌&&◌, true, false, if◌then◌else◌, List, [], ◌∷◌, length, drop, Option, Some, None}
 use Rattle.std.specs.List.{list_all, starts_with}
 use Rattle.std.specs.Option.{is_some, IfSome, option_map, unwrap_or}
 use Rattle.enc_names.specs.declared.encoding.Encoding.{Encoding}
 use Rattle.enc_names.specs.declared.encoding.Encoding.TheVariants.{Utf8, Utf16Be, Utf16Le}
+use Rattle.enc_names.specs.declared.setting.Setting.{Setting}
 use Rattle.index_loader.specs.Families.{Family, OfUtf8, OfSingleByte, OfGb18030, OfBig5, OfEucJp, OfIso2022Jp, OfShiftJis, OfEucKr, OfReplacement, OfUtf16Be, OfUtf16Le, OfXUserDefined, family_of}
 use Rattle.index_loader.specs.declared.kind.IndexKind.{IndexKind}
 use Rattle.index_loader.specs.declared.kind.IndexKind.TheVariants.{Jis0208, Jis0212, Big5, EucKr, Gb18030, Gb18030Ranges, Katakana}
@@ -17,12 +18,12 @@ use Rattle.decoder_core.specs.Placed.{places}
 use Rattle.codec.specs.declared.own.OwnDecoder.{OwnDecoder}
 use Rattle.codec.specs.declared.state.AnyState.{AnyState}
 use Rattle.codec.specs.declared.state.AnyState.TheVariants.{Sniffing}
-use Rattle.codec.specs.Any.{Standing, in_force_of, run_behind, standing, standing_of, stands_behind}
+use Rattle.codec.specs.Any.{AnyDecoding, Standing, decoder_in, in_force_of, own_in, run_behind, standing, standing_of, stands_behind, under}
 use Rattle.codec.specs.Behind.{state_in, state_behind}
 use Rattle.codec.specs.Coding.{coding, coding_run}
 use Rattle.codec.specs.Decode.{decode, run_in}
-use Rattle.codec.specs.Mark.{Mark, mark_of, in_force, mark_length}
-use Rattle.codec.specs.Sniffing.{prefix_of}
+use Rattle.codec.specs.Mark.{Mark, mark_of, mark_under, in_force, mark_length}
+use Rattle.codec.specs.Sniffing.{prefix_under}
 
 -- a decoder does what is wanted of it
 abbrev pub Is : (List ℕ → List Ended) → (List ℕ → AnyState) → Standing → Type 0
@@ -81,9 +82,24 @@ module _ (files : Files) where
       by_two OfIso2022Jp is_katakana Jis0208 Katakana (λ a b. (refl, (refl, refl)))
       (λ o. (refl, tt)) (λ i. (refl, tt)) (pairs_of files Jis0208) (pairs_of files Katakana)
 
-  pub chosen : (encoding : Encoding) → IsChosen (has_files files encoding) (index_of files) (family_of encoding)
+  own-chosen : (encoding : Encoding) → IsChosen (has_files files encoding) (index_of files) (family_of encoding)
   unfolding has_files
-  chosen encoding = chosen_by (family_of encoding)
+  own-chosen encoding = chosen_by (family_of encoding)
+
+-- the one decoder reads by the setting, and the encoding's own decoder in it does what is wanted of it
+pub record IsUnder (files : Files) (setting : Setting) (d : AnyDecoding) : Type 0 where
+  pub own : Is (run_in files setting.given) (state_in files setting.given) (standing_of d.own)
+  pub setting_is : d.setting ≡ setting
+
+chosen_under : (files : Files) (setting : Setting) (there : Bool) (o : Option OwnDecoder)
+    → (is_some o ≡ there) × IfSome o (λ d. Is (run_in files setting.given) (state_in files setting.given) (standing_of d))
+    → (is_some (option_map (under setting) o) ≡ there) × IfSome (option_map (under setting) o) (IsUnder files setting)
+chosen_under files setting there (Some own) h = (h.0, record { own = h.1; setting_is = refl })
+chosen_under files setting there None h = (h.0, tt)
+
+pub chosen : (files : Files) (setting : Setting)
+    → (is_some (decoder_in files setting) ≡ has_files files setting.given) × IfSome (decoder_in files setting) (IsUnder files setting)
+chosen files setting = chosen_under files setting (has_files files setting.given) (own_in files setting.given) (own-chosen files setting.given)
 
 -- ---- behind a byte order mark
 
@@ -93,18 +109,21 @@ by_mark P bytes utf8 utf16_be utf16_le none =
     by_if P (starts_with eqb bytes (0xEF ∷ 0xBB ∷ 0xBF ∷ [])) utf8
     (by_if P (starts_with eqb bytes (0xFE ∷ 0xFF ∷ [])) utf16_be (by_if P (starts_with eqb bytes (0xFF ∷ 0xFE ∷ [])) utf16_le none))
 
-module _ (files : Files) (encoding : Encoding) (d : OwnDecoder) (does : Is (run_in files encoding) (state_in files encoding) (standing_of d)) where
+module _ (files : Files) (setting : Setting) (d : AnyDecoding) (does : IsUnder files setting d) where
   -- the decoder in force is that of the encoding in force
-  forced : (bytes : List ℕ) → let e = in_force encoding bytes in Is (run_in files e) (state_in files e) (in_force_of d (mark_of bytes))
+  forced : (bytes : List ℕ) → let e = in_force setting bytes in Is (run_in files e) (state_in files e) (in_force_of d (mark_under setting bytes))
   forced bytes =
-      by_mark (λ mark. let e = unwrap_or (option_map (λ (m : Mark). m.encoding) mark) encoding in Is (run_in files e) (state_in files e) (in_force_of d mark)) bytes
-      (refl, refl) (refl, refl) (refl, refl) does
+      by_mark (λ mark. let e = unwrap_or (option_map (λ (m : Mark). m.encoding) mark) setting.given in Is (run_in files e) (state_in files e) (in_force_of d mark)) bytes
+      (refl, refl) (refl, refl) (refl, refl) does.own
 
-  pub decodes : (bytes : List ℕ) → places (length bytes) (mark_length bytes) (run_behind d bytes (mark_of bytes)) ≡ (decode files encoding bytes).items
+  pub decodes : (bytes : List ℕ) → places (length bytes) (mark_length setting bytes) (run_behind d bytes (mark_under d.setting bytes)) ≡ (decode files setting bytes).items
   unfolding decode
-  decodes bytes = ap (λ (runs : List ℕ → List Ended). places (length bytes) (mark_length bytes) (runs (drop (mark_length bytes) bytes))) (forced bytes).0
+  decodes bytes =
+      ap (λ (s : Setting). places (length bytes) (mark_length setting bytes) (run_behind d bytes (mark_under s bytes))) does.setting_is
+      ∙ ap (λ (runs : List ℕ → List Ended). places (length bytes) (mark_length setting bytes) (runs (drop (mark_length setting bytes) bytes))) (forced bytes).0
 
-  pub behind : (bytes : List ℕ) → stands_behind d bytes (prefix_of bytes) (mark_of bytes) ≡ state_behind files encoding bytes
+  pub behind : (bytes : List ℕ) → stands_behind d bytes (prefix_under d.setting bytes) (mark_under d.setting bytes) ≡ state_behind files setting bytes
   unfolding state_behind
   behind bytes =
-      ap (λ (states : List ℕ → AnyState). unwrap_or (option_map Sniffing (prefix_of bytes)) (states (drop (mark_length bytes) bytes))) (forced bytes).1
+      ap (λ (s : Setting). stands_behind d bytes (prefix_under s bytes) (mark_under s bytes)) does.setting_is
+      ∙ ap (λ (states : List ℕ → AnyState). unwrap_or (option_map Sniffing (prefix_under setting bytes)) (states (drop (mark_length setting bytes) bytes))) (forced bytes).1

@@ -5,8 +5,7 @@ use Rattle.decoder_core.specs.declared.handler.Answer.{Answer}
 use Rattle.decoder_core.specs.declared.handler.Answer.TheVariants.{Nothing, Gives, Finished}
 use Rattle.decoder_core.specs.Queue.{Table, turn_at, queue_after, told, turns, run}
 use Rattle.decoder_core.specs.Counts.{Counts, cost}
-use Rattle.codec.specs.declared.own.OwnDecoder.{OwnDecoder}
-use Rattle.codec.specs.Any.{any}
+use Rattle.codec.specs.Any.{AnyDecoding, any}
 use Rattle.codec.specs.AnyLaws.{any_counts}
 use Rattle.codec.specs.Near.{AreNear}
 
@@ -32,5 +31,5 @@ module _ {S : Type 0} (table : Table S) (c : Counts table) where
   unfolding run
   near-run s q room l = near-turns (8 * length q + 32) s q room l
 
-pub near-any : (d : OwnDecoder) (s : _) (q : List ℕ) → AreNear (length q + 7) (run (any d) s q)
+pub near-any : (d : AnyDecoding) (s : _) (q : List ℕ) → AreNear (length q + 7) (run (any d) s q)
 near-any d s q = near-run (any d) (any_counts d) s q (length q + 7) (Prim.omega (arith, (any_counts d).few s))

@@ -8,8 +8,8 @@ use Rattle.std.proofs.lemmas.List.{take_all, take-append-drop, take-append-le, l
 use Rattle.std.proofs.lemmas.Bool.{cases_lt}
 use Rattle.std.proofs.lemmas.Bool.Decides.{Decides-eqb}
 use Rattle.std.proofs.lemmas.Slice.Eq.{bytes_eq-Decides, starts_is}
-use Rattle.enc_names.specs.declared.encoding.Encoding.{Encoding}
 use Rattle.enc_names.specs.declared.encoding.Encoding.TheVariants.{Utf8, Utf16Be, Utf16Le}
+use Rattle.enc_names.specs.declared.setting.Setting.{Setting}
 use Rattle.index_loader.specs.Families.{Family, OfUtf8, OfSingleByte, OfGb18030, OfBig5, OfEucJp, OfIso2022Jp, OfShiftJis, OfEucKr, OfReplacement, OfUtf16Be, OfUtf16Le, OfXUserDefined, family_of}
 use Rattle.index_loader.specs.declared.kind.IndexKind.{IndexKind}
 use Rattle.index_loader.specs.declared.kind.IndexKind.TheVariants.{Jis0208, Katakana}
@@ -23,13 +23,12 @@ use Rattle.iso2022jp.specs.declared.output.OutputState.{OutputState}
 use Rattle.iso2022jp.specs.declared.output.OutputState.TheVariants.{Ascii}
 use Rattle.iso2022jp.specs.Iso2022Jp.{Iso2022Jp as Values, iso_2022_jp, iso_2022_jp_start}
 use Rattle.iso2022jp.specs.Iso2022JpLaws.{iso_2022_jp_bytes}
-use Rattle.codec.specs.declared.own.OwnDecoder.{OwnDecoder}
 use Rattle.codec.specs.declared.own.OwnDecoder.TheVariants as by
 use Rattle.codec.specs.declared.prefix.Prefix.{Prefix}
 use Rattle.codec.specs.declared.prefix.Prefix.TheVariants.{Nothing, Ef, EfBb, Fe, Ff}
 use Rattle.codec.specs.declared.state.AnyState.{AnyState}
 use Rattle.codec.specs.declared.state.AnyState.TheVariants.{Sniffing as in_sniffing, Iso2022Jp as in_iso_2022_jp}
-use Rattle.codec.specs.Any.{any, output_of, standing, of_both, decoder_in}
+use Rattle.codec.specs.Any.{AnyDecoding, any, output_of, standing, of_both, decoder_in, under}
 use Rattle.codec.specs.Behind.{state_in, state_behind}
 use Rattle.codec.specs.Coding.{looked_up}
 use Rattle.codec.specs.Mark.{Mark, mark_of, in_force, mark_length}
@@ -95,85 +94,85 @@ bare-taken : (bytes : List ℕ) (n : ℕ) → mark_of bytes ≡ None → mark_of
 bare-taken bytes n none = bare-first (take n bytes) (drop n bytes) (rw (take-append-drop n bytes) none) (shape (take n bytes))
 
 module _ (files : Files) where
-  abbrev out : Encoding → List ℕ → OutputState
-  out given bytes = output_of (state_behind files given bytes)
+  abbrev out : Setting → List ℕ → OutputState
+  out setting bytes = output_of (state_behind files setting bytes)
 
   behind_prefix : (o : Option Prefix) (s : AnyState) → output_of s ≡ Ascii → output_of (unwrap_or (option_map in_sniffing o) s) ≡ Ascii
   behind_prefix (Some p) s e = refl
   behind_prefix None s e = e
 
   -- from a mark on, and within it, the output state is ASCII
-  utf8_marked : (given : Encoding) (rest : List ℕ) (n : ℕ) → out given (take n (0xEF ∷ 0xBB ∷ 0xBF ∷ rest)) ≡ Ascii
+  utf8_marked : (setting : Setting) (rest : List ℕ) (n : ℕ) → out setting (take n (0xEF ∷ 0xBB ∷ 0xBF ∷ rest)) ≡ Ascii
   unfolding state_behind
-  utf8_marked given rest zero = refl
-  utf8_marked given rest (suc zero) = refl
-  utf8_marked given rest (suc (suc zero)) = refl
-  utf8_marked given rest (suc (suc (suc n))) = refl
+  utf8_marked setting rest zero = refl
+  utf8_marked setting rest (suc zero) = refl
+  utf8_marked setting rest (suc (suc zero)) = refl
+  utf8_marked setting rest (suc (suc (suc n))) = refl
 
-  be_marked : (given : Encoding) (rest : List ℕ) (n : ℕ) → out given (take n (0xFE ∷ 0xFF ∷ rest)) ≡ Ascii
+  be_marked : (setting : Setting) (rest : List ℕ) (n : ℕ) → out setting (take n (0xFE ∷ 0xFF ∷ rest)) ≡ Ascii
   unfolding state_behind
-  be_marked given rest zero = refl
-  be_marked given rest (suc zero) = refl
-  be_marked given rest (suc (suc n)) = refl
+  be_marked setting rest zero = refl
+  be_marked setting rest (suc zero) = refl
+  be_marked setting rest (suc (suc n)) = refl
 
-  le_marked : (given : Encoding) (rest : List ℕ) (n : ℕ) → out given (take n (0xFF ∷ 0xFE ∷ rest)) ≡ Ascii
+  le_marked : (setting : Setting) (rest : List ℕ) (n : ℕ) → out setting (take n (0xFF ∷ 0xFE ∷ rest)) ≡ Ascii
   unfolding state_behind
-  le_marked given rest zero = refl
-  le_marked given rest (suc zero) = refl
-  le_marked given rest (suc (suc n)) = refl
+  le_marked setting rest zero = refl
+  le_marked setting rest (suc zero) = refl
+  le_marked setting rest (suc (suc n)) = refl
 
   -- without a mark the state is that of the encoding given, behind the look
-  bare_state : (given : Encoding) (bytes : List ℕ) → mark_of bytes ≡ None
-      → state_behind files given bytes ≡ unwrap_or (option_map in_sniffing (prefix_of bytes)) (state_in files given bytes)
+  bare_state : (setting : Setting) (bytes : List ℕ) → mark_of bytes ≡ None
+      → state_behind files setting bytes ≡ unwrap_or (option_map in_sniffing (prefix_of bytes)) (state_in files setting.given bytes)
   unfolding state_behind
-  bare_state given bytes none =
-      ap (λ (m : Option Mark). unwrap_or (option_map in_sniffing (prefix_of bytes)) (state_in files (unwrap_or (option_map (λ (m : Mark). m.encoding) m) given) (drop (unwrap_or (option_map (λ (m : Mark). m.len) m) 0) bytes))) none
+  bare_state setting bytes none =
+      ap (λ (m : Option Mark). unwrap_or (option_map in_sniffing (prefix_of bytes)) (state_in files (unwrap_or (option_map (λ (m : Mark). m.encoding) m) setting.given) (drop (unwrap_or (option_map (λ (m : Mark). m.len) m) 0) bytes))) none
 
-  whole_of : (given : Encoding) (bytes : List ℕ) {marked : List ℕ} → bytes ≡ marked → ((n : ℕ) → out given (take n marked) ≡ Ascii) → out given bytes ≡ Ascii
-  whole_of given bytes {marked = marked} is h = ap (out given) (is ∙ sym (take-length marked)) ∙ h (length marked)
+  whole_of : (setting : Setting) (bytes : List ℕ) {marked : List ℕ} → bytes ≡ marked → ((n : ℕ) → out setting (take n marked) ≡ Ascii) → out setting bytes ≡ Ascii
+  whole_of setting bytes {marked = marked} is h = ap (out setting) (is ∙ sym (take-length marked)) ∙ h (length marked)
 
-  first_of : (given : Encoding) (bytes : List ℕ) {marked : List ℕ} (n : ℕ) → bytes ≡ marked → ((n : ℕ) → out given (take n marked) ≡ Ascii) → out given (take n bytes) ≡ Ascii
-  first_of given bytes n is h = ap (λ (x : List ℕ). out given (take n x)) is ∙ h n
+  first_of : (setting : Setting) (bytes : List ℕ) {marked : List ℕ} (n : ℕ) → bytes ≡ marked → ((n : ℕ) → out setting (take n marked) ≡ Ascii) → out setting (take n bytes) ≡ Ascii
+  first_of setting bytes n is h = ap (λ (x : List ℕ). out setting (take n x)) is ∙ h n
 
-  plain_out : (given : Encoding) → IsPlain (family_of given) → (bytes : List ℕ) → Shape bytes → out given bytes ≡ Ascii
-  plain_out given plain bytes (bare none) =
-      ap output_of (bare_state given bytes none) ∙ behind_prefix (prefix_of bytes) (state_in files given bytes) (plain (index_of files) bytes).0
-  plain_out given plain bytes (utf8_mark r is) = whole_of given bytes is (utf8_marked given r)
-  plain_out given plain bytes (be_mark r is) = whole_of given bytes is (be_marked given r)
-  plain_out given plain bytes (le_mark r is) = whole_of given bytes is (le_marked given r)
+  plain_out : (setting : Setting) → IsPlain (family_of setting.given) → (bytes : List ℕ) → Shape bytes → out setting bytes ≡ Ascii
+  plain_out setting plain bytes (bare none) =
+      ap output_of (bare_state setting bytes none) ∙ behind_prefix (prefix_of bytes) (state_in files setting.given bytes) (plain (index_of files) bytes).0
+  plain_out setting plain bytes (utf8_mark r is) = whole_of setting bytes is (utf8_marked setting r)
+  plain_out setting plain bytes (be_mark r is) = whole_of setting bytes is (be_marked setting r)
+  plain_out setting plain bytes (le_mark r is) = whole_of setting bytes is (le_marked setting r)
 
-  start_out : (given : Encoding) → out given [] ≡ Ascii
+  start_out : (setting : Setting) → out setting [] ≡ Ascii
   unfolding state_behind
-  start_out given = refl
+  start_out setting = refl
 
-  at_mark : (given : Encoding) (bytes : List ℕ) → Shape bytes → out given (take (mark_length bytes) bytes) ≡ Ascii
-  at_mark given bytes (bare none) = ap (λ (m : Option Mark). out given (take (unwrap_or (option_map (λ (m : Mark). m.len) m) 0) bytes)) none ∙ start_out given
-  at_mark given bytes (utf8_mark r is) = ap (λ (x : List ℕ). out given (take (mark_length x) x)) is ∙ utf8_marked given r 3
-  at_mark given bytes (be_mark r is) = ap (λ (x : List ℕ). out given (take (mark_length x) x)) is ∙ be_marked given r 2
-  at_mark given bytes (le_mark r is) = ap (λ (x : List ℕ). out given (take (mark_length x) x)) is ∙ le_marked given r 2
+  at_mark : (setting : Setting) (bytes : List ℕ) → Shape bytes → out setting (take (mark_length setting bytes) bytes) ≡ Ascii
+  at_mark setting bytes (bare none) = ap (λ (m : Option Mark). out setting (take (unwrap_or (option_map (λ (m : Mark). m.len) m) 0) bytes)) none ∙ start_out setting
+  at_mark setting bytes (utf8_mark r is) = ap (λ (x : List ℕ). out setting (take (mark_length setting x) x)) is ∙ utf8_marked setting r 3
+  at_mark setting bytes (be_mark r is) = ap (λ (x : List ℕ). out setting (take (mark_length setting x) x)) is ∙ be_marked setting r 2
+  at_mark setting bytes (le_mark r is) = ap (λ (x : List ℕ). out setting (take (mark_length setting x) x)) is ∙ le_marked setting r 2
 
-pub output_at_mark : (files : Files) (given : Encoding) (bytes : List ℕ) → output_of (state_behind files given (take (mark_length bytes) bytes)) ≡ Ascii
-output_at_mark files given bytes = at_mark files given bytes (shape bytes)
+pub output_at_mark : (files : Files) (setting : Setting) (bytes : List ℕ) → output_of (state_behind files setting (take (mark_length setting bytes) bytes)) ≡ Ascii
+output_at_mark files setting bytes = at_mark files setting bytes (shape bytes)
 
-mark-fits : (bytes : List ℕ) → Shape bytes → mark_length bytes ≤ length bytes
-mark-fits bytes (bare none) = subst (λ (m : Option Mark). unwrap_or (option_map (λ (m : Mark). m.len) m) 0 ≤ length bytes) (sym none) (omega arith)
-mark-fits bytes (utf8_mark r is) = subst (λ (x : List ℕ). mark_length x ≤ length x) (sym is) (omega arith)
-mark-fits bytes (be_mark r is) = subst (λ (x : List ℕ). mark_length x ≤ length x) (sym is) (omega arith)
-mark-fits bytes (le_mark r is) = subst (λ (x : List ℕ). mark_length x ≤ length x) (sym is) (omega arith)
+mark-fits : (setting : Setting) (bytes : List ℕ) → Shape bytes → mark_length setting bytes ≤ length bytes
+mark-fits setting bytes (bare none) = subst (λ (m : Option Mark). unwrap_or (option_map (λ (m : Mark). m.len) m) 0 ≤ length bytes) (sym none) (omega arith)
+mark-fits setting bytes (utf8_mark r is) = subst (λ (x : List ℕ). mark_length setting x ≤ length x) (sym is) (omega arith)
+mark-fits setting bytes (be_mark r is) = subst (λ (x : List ℕ). mark_length setting x ≤ length x) (sym is) (omega arith)
+mark-fits setting bytes (le_mark r is) = subst (λ (x : List ℕ). mark_length setting x ≤ length x) (sym is) (omega arith)
 
-pub mark_fits : (bytes : List ℕ) → mark_length bytes ≤ length bytes
-mark_fits bytes = mark-fits bytes (shape bytes)
+pub mark_fits : (setting : Setting) (bytes : List ℕ) → mark_length setting bytes ≤ length bytes
+mark_fits setting bytes = mark-fits setting bytes (shape bytes)
 
 -- a mark's encoding needs no file
-force : (files : Files) (given : Encoding) (bytes : List ℕ) → Shape bytes → has_files files given ≡ true → has_files files (in_force given bytes) ≡ true
+force : (files : Files) (setting : Setting) (bytes : List ℕ) → Shape bytes → has_files files setting.given ≡ true → has_files files (in_force setting bytes) ≡ true
 unfolding has_files
-force files given bytes (bare none) h = ap (λ (m : Option Mark). has_files files (unwrap_or (option_map (λ (m : Mark). m.encoding) m) given)) none ∙ h
-force files given bytes (utf8_mark r is) h = ap (λ (x : List ℕ). has_files files (in_force given x)) is
-force files given bytes (be_mark r is) h = ap (λ (x : List ℕ). has_files files (in_force given x)) is
-force files given bytes (le_mark r is) h = ap (λ (x : List ℕ). has_files files (in_force given x)) is
+force files setting bytes (bare none) h = ap (λ (m : Option Mark). has_files files (unwrap_or (option_map (λ (m : Mark). m.encoding) m) setting.given)) none ∙ h
+force files setting bytes (utf8_mark r is) h = ap (λ (x : List ℕ). has_files files (in_force setting x)) is
+force files setting bytes (be_mark r is) h = ap (λ (x : List ℕ). has_files files (in_force setting x)) is
+force files setting bytes (le_mark r is) h = ap (λ (x : List ℕ). has_files files (in_force setting x)) is
 
-pub decoded_in_force : (files : Files) (given : Encoding) (bytes : List ℕ) → has_files files given ≡ true → has_files files (in_force given bytes) ≡ true
-decoded_in_force files given bytes = force files given bytes (shape bytes)
+pub decoded_in_force : (files : Files) (setting : Setting) (bytes : List ℕ) → has_files files setting.given ≡ true → has_files files (in_force setting bytes) ≡ true
+decoded_in_force files setting bytes = force files setting bytes (shape bytes)
 
 -- the prefix is all of the bytes
 prefix-is : (p q : Prefix) (o : Option Prefix) (bytes : List ℕ) → (o ≡ Some p → bytes ≡ spelt p) → (if bytes_eq (spelt q) bytes then Some q else o) ≡ Some p → bytes ≡ spelt p
@@ -204,26 +203,26 @@ state_output : (index : IndexKind → Option Loaded) (family : Family) (bytes : 
 state_output index family bytes (inl is) = subst (λ (f : Family). output_of ((standing index f).state bytes) ≡ output_in index f bytes) (sym is) refl
 state_output index family bytes (inr plain) = (plain index bytes).0 ∙ sym (plain index bytes).1
 
-module _ (files : Files) (given : Encoding) where
-  looked : (bytes : List ℕ) (o : Option Prefix) → prefix_of bytes ≡ o → output_of (unwrap_or (option_map in_sniffing o) (state_in files given bytes)) ≡ output_in (index_of files) (family_of given) bytes
+module _ (files : Files) (setting : Setting) where
+  looked : (bytes : List ℕ) (o : Option Prefix) → prefix_of bytes ≡ o → output_of (unwrap_or (option_map in_sniffing o) (state_in files setting.given bytes)) ≡ output_in (index_of files) (family_of setting.given) bytes
   looked bytes (Some p) is =
-      sym (ap (output_in (index_of files) (family_of given)) (is_prefix bytes p is) ∙ prefix_output (index_of files) (family_of given) p (by_family (family_of given)))
-  looked bytes None is = state_output (index_of files) (family_of given) bytes (by_family (family_of given))
+      sym (ap (output_in (index_of files) (family_of setting.given)) (is_prefix bytes p is) ∙ prefix_output (index_of files) (family_of setting.given) p (by_family (family_of setting.given)))
+  looked bytes None is = state_output (index_of files) (family_of setting.given) bytes (by_family (family_of setting.given))
 
-  unmarked : (bytes : List ℕ) → mark_of bytes ≡ None → output_behind files given bytes ≡ output_in (index_of files) (family_of given) bytes
+  unmarked : (bytes : List ℕ) → mark_of bytes ≡ None → output_behind files setting bytes ≡ output_in (index_of files) (family_of setting.given) bytes
   unfolding output_behind
   unmarked bytes none =
-      ap (λ (m : Option Mark). output_in (index_of files) (family_of (unwrap_or (option_map (λ (m : Mark). m.encoding) m) given)) (drop (unwrap_or (option_map (λ (m : Mark). m.len) m) 0) bytes)) none
+      ap (λ (m : Option Mark). output_in (index_of files) (family_of (unwrap_or (option_map (λ (m : Mark). m.encoding) m) setting.given)) (drop (unwrap_or (option_map (λ (m : Mark). m.len) m) 0) bytes)) none
 
-  by_shape : (bytes : List ℕ) → Shape bytes → out files given bytes ≡ output_behind files given bytes
+  by_shape : (bytes : List ℕ) → Shape bytes → out files setting bytes ≡ output_behind files setting bytes
   unfolding output_behind
-  by_shape bytes (bare none) = ap output_of (bare_state files given bytes none) ∙ looked bytes (prefix_of bytes) refl ∙ sym (unmarked bytes none)
-  by_shape bytes (utf8_mark r is) = whole_of files given bytes is (utf8_marked files given r) ∙ sym (ap (output_behind files given) is)
-  by_shape bytes (be_mark r is) = whole_of files given bytes is (be_marked files given r) ∙ sym (ap (output_behind files given) is)
-  by_shape bytes (le_mark r is) = whole_of files given bytes is (le_marked files given r) ∙ sym (ap (output_behind files given) is)
+  by_shape bytes (bare none) = ap output_of (bare_state files setting bytes none) ∙ looked bytes (prefix_of bytes) refl ∙ sym (unmarked bytes none)
+  by_shape bytes (utf8_mark r is) = whole_of files setting bytes is (utf8_marked files setting r) ∙ sym (ap (output_behind files setting) is)
+  by_shape bytes (be_mark r is) = whole_of files setting bytes is (be_marked files setting r) ∙ sym (ap (output_behind files setting) is)
+  by_shape bytes (le_mark r is) = whole_of files setting bytes is (le_marked files setting r) ∙ sym (ap (output_behind files setting) is)
 
-pub output_of_state : (files : Files) (given : Encoding) (bytes : List ℕ) → output_of (state_behind files given bytes) ≡ output_behind files given bytes
-output_of_state files given bytes = by_shape files given bytes (shape bytes)
+pub output_of_state : (files : Files) (setting : Setting) (bytes : List ℕ) → output_of (state_behind files setting bytes) ≡ output_behind files setting bytes
+output_of_state files setting bytes = by_shape files setting bytes (shape bytes)
 
 module _ (jis0208 : ℕ → Option ℕ)
     (stays : (p : List ℕ) (b : ℕ) → iso_2022_jp_bytes (feed (iso_2022_jp jis0208) iso_2022_jp_start p).state ≤ 1
@@ -268,28 +267,28 @@ module _ (jis0208 : ℕ → Option ℕ)
       (cases_lt n (length (spelt p) + 1))
 
 -- the one decoder, where it is that of ISO-2022-JP
-pub record IsIso (files : Files) (given : Encoding) (d : OwnDecoder) : Type 0 where
+pub record IsIso (files : Files) (setting : Setting) (d : AnyDecoding) : Type 0 where
   pub jis0208 : Loaded
-  pub own : (bytes : List ℕ) → state_in files given bytes ≡ in_iso_2022_jp (feed (iso_2022_jp (code_point_of jis0208)) iso_2022_jp_start bytes).state
+  pub own : (bytes : List ℕ) → state_in files setting.given bytes ≡ in_iso_2022_jp (feed (iso_2022_jp (code_point_of jis0208)) iso_2022_jp_start bytes).state
   pub lift : IsLifted in_iso_2022_jp (iso_2022_jp (code_point_of jis0208)) (any d)
 
-iso_with : (files : Files) (given : Encoding) (d : OwnDecoder) (o p : Option Loaded) → family_of given ≡ OfIso2022Jp → index_of files Jis0208 ≡ o
-    → of_both (λ jis0208 katakana. by.Iso2022Jp jis0208) o p ≡ Some d → IsIso files given d
-iso_with files given d (Some i) (Some j) family file e =
-    let same : by.Iso2022Jp i ≡ d = cc in
+iso_with : (files : Files) (setting : Setting) (d : AnyDecoding) (o p : Option Loaded) → family_of setting.given ≡ OfIso2022Jp → index_of files Jis0208 ≡ o
+    → option_map (under setting) (of_both (λ jis0208 katakana. by.Iso2022Jp jis0208) o p) ≡ Some d → IsIso files setting d
+iso_with files setting d (Some i) (Some j) family file e =
+    let same : under setting (by.Iso2022Jp i) ≡ d = cc in
     record {
       jis0208 = i;
       own = λ bytes.
           ap (λ (f : Family). (standing (index_of files) f).state bytes) family
           ∙ ap (λ (o : Option Loaded). in_iso_2022_jp (feed (iso_2022_jp (looked_up o)) iso_2022_jp_start bytes).state) file;
-      lift = subst (λ (d : OwnDecoder). IsLifted in_iso_2022_jp (iso_2022_jp (code_point_of i)) (any d)) same (λ s o. refl);
+      lift = subst (λ (d : AnyDecoding). IsLifted in_iso_2022_jp (iso_2022_jp (code_point_of i)) (any d)) same (λ s o. refl);
     }
-iso_with files given d (Some i) None family file e = absurd (let x : None ≡ Some d = e in cc)
-iso_with files given d None p family file e = absurd (let x : None ≡ Some d = e in cc)
+iso_with files setting d (Some i) None family file e = absurd (let x : None ≡ Some d = e in cc)
+iso_with files setting d None p family file e = absurd (let x : None ≡ Some d = e in cc)
 
-is_iso : (files : Files) (given : Encoding) (d : OwnDecoder) → family_of given ≡ OfIso2022Jp → decoder_in files given ≡ Some d → IsIso files given d
-is_iso files given d family chosen =
-    iso_with files given d (index_of files Jis0208) (index_of files Katakana) family refl (ap (λ (f : Family). (standing (index_of files) f).decoder) (sym family) ∙ chosen)
+is_iso : (files : Files) (setting : Setting) (d : AnyDecoding) → family_of setting.given ≡ OfIso2022Jp → decoder_in files setting ≡ Some d → IsIso files setting d
+is_iso files setting d family chosen =
+    iso_with files setting d (index_of files Jis0208) (index_of files Katakana) family refl (ap (λ (f : Family). option_map (under setting) (standing (index_of files) f).decoder) (sym family) ∙ chosen)
 
 -- ---- ISO-2022-JP
 
@@ -303,37 +302,37 @@ pub record IsoLaws (jis0208 : Loaded) : Type 0 where
   pub end : (p : List ℕ) → let table = iso_2022_jp (code_point_of jis0208) in
       All (λ (e : Ended). (feed table iso_2022_jp_start (take (length p - e.back) p)).state.output ≡ (feed table iso_2022_jp_start p).state.output)
       (run table (feed table iso_2022_jp_start p).state [])
-  pub runs : (d : OwnDecoder) → IsLifted in_iso_2022_jp (iso_2022_jp (code_point_of jis0208)) (any d) → (s : Values) (q : List ℕ)
+  pub runs : (d : AnyDecoding) → IsLifted in_iso_2022_jp (iso_2022_jp (code_point_of jis0208)) (any d) → (s : Values) (q : List ℕ)
       → run (any d) (in_iso_2022_jp s) q ≡ run (iso_2022_jp (code_point_of jis0208)) s q
-  pub feeds : (d : OwnDecoder) → IsLifted in_iso_2022_jp (iso_2022_jp (code_point_of jis0208)) (any d) → (s : Values) (q : List ℕ)
+  pub feeds : (d : AnyDecoding) → IsLifted in_iso_2022_jp (iso_2022_jp (code_point_of jis0208)) (any d) → (s : Values) (q : List ℕ)
       → feed (any d) (in_iso_2022_jp s) q ≡ lift_fed in_iso_2022_jp (feed (iso_2022_jp (code_point_of jis0208)) s q)
 
-module _ (files : Files) (given : Encoding) (d : OwnDecoder) (iso : IsIso files given d) (laws : IsoLaws iso.jis0208) where
+module _ (files : Files) (setting : Setting) (d : AnyDecoding) (iso : IsIso files setting d) (laws : IsoLaws iso.jis0208) where
   abbrev lead : ℕ → Option ℕ
   lead = code_point_of iso.jis0208
 
   abbrev out_here : List ℕ → OutputState
-  out_here bytes = out files given bytes
+  out_here bytes = out files setting bytes
 
   abbrev iso_at : List ℕ → OutputState
   iso_at p = iso_out lead laws.stays p
 
-  at_option : (bytes : List ℕ) (o : Option Prefix) → prefix_of bytes ≡ o → output_of (unwrap_or (option_map in_sniffing o) (state_in files given bytes)) ≡ iso_at bytes
+  at_option : (bytes : List ℕ) (o : Option Prefix) → prefix_of bytes ≡ o → output_of (unwrap_or (option_map in_sniffing o) (state_in files setting.given bytes)) ≡ iso_at bytes
   at_option bytes (Some p) e = sym (ap iso_at (is_prefix bytes p e) ∙ prefix_out lead laws.stays p)
   at_option bytes None e = ap output_of (iso.own bytes)
 
   bare_iso : (bytes : List ℕ) → mark_of bytes ≡ None → out_here bytes ≡ iso_at bytes
-  bare_iso bytes none = ap output_of (bare_state files given bytes none) ∙ at_option bytes (prefix_of bytes) refl
+  bare_iso bytes none = ap output_of (bare_state files setting bytes none) ∙ at_option bytes (prefix_of bytes) refl
 
-  own_state : (bytes : List ℕ) → mark_of bytes ≡ None → prefix_of bytes ≡ None → state_behind files given bytes ≡ in_iso_2022_jp (feed (iso_2022_jp lead) iso_2022_jp_start bytes).state
+  own_state : (bytes : List ℕ) → mark_of bytes ≡ None → prefix_of bytes ≡ None → state_behind files setting bytes ≡ in_iso_2022_jp (feed (iso_2022_jp lead) iso_2022_jp_start bytes).state
   own_state bytes none long =
-      bare_state files given bytes none ∙ ap (λ (o : Option Prefix). unwrap_or (option_map in_sniffing o) (state_in files given bytes)) long ∙ iso.own bytes
+      bare_state files setting bytes none ∙ ap (λ (o : Option Prefix). unwrap_or (option_map in_sniffing o) (state_in files setting.given bytes)) long ∙ iso.own bytes
 
   same_iso : (bytes : List ℕ) (n : ℕ) → mark_of bytes ≡ None → iso_at (take n bytes) ≡ iso_at bytes → out_here (take n bytes) ≡ out_here bytes
   same_iso bytes n none h = bare_iso (take n bytes) (bare-taken bytes n none) ∙ h ∙ sym (bare_iso bytes none)
 
   marked_iso : (bytes : List ℕ) (n : ℕ) {marked : List ℕ} → bytes ≡ marked → ((n : ℕ) → out_here (take n marked) ≡ Ascii) → out_here (take n bytes) ≡ out_here bytes
-  marked_iso bytes n is h = first_of files given bytes n is h ∙ sym (whole_of files given bytes is h)
+  marked_iso bytes n is h = first_of files setting bytes n is h ∙ sym (whole_of files setting bytes is h)
 
   looks_byte : (p : List ℕ) (b : ℕ) (x : Prefix) → p ≡ spelt x → mark_of (p ++ b ∷ []) ≡ None → (n : ℕ) → out_here (take n (p ++ b ∷ [])) ≡ out_here (p ++ b ∷ [])
   looks_byte p b x is none n =
@@ -347,53 +346,53 @@ module _ (files : Files) (given : Encoding) (d : OwnDecoder) (iso : IsIso files 
       (ap (λ (q : List ℕ). iso_at (take n q)) is ∙ in_prefix lead laws.stays x n ∙ sym (ap (λ (q : List ℕ). iso_at q) is ∙ prefix_out lead laws.stays x))
 
   byte_own : (p : List ℕ) (b : ℕ) → mark_of (p ++ b ∷ []) ≡ None → mark_of p ≡ None → (o : Option Prefix) → prefix_of p ≡ o
-      → All (λ (e : Ended). out_here (take (length p + 1 - e.back) (p ++ b ∷ [])) ≡ out_here (p ++ b ∷ [])) (feed (any d) (state_behind files given p) (b ∷ [])).items
+      → All (λ (e : Ended). out_here (take (length p + 1 - e.back) (p ++ b ∷ [])) ≡ out_here (p ++ b ∷ [])) (feed (any d) (state_behind files setting p) (b ∷ [])).items
   byte_own p b none first (Some x) e = λ k c lt.
       looks_byte p b x (is_prefix p x e) none _
   byte_own p b none first None e =
       let s = (feed (iso_2022_jp lead) iso_2022_jp_start p).state in
-      let items : (feed (any d) (state_behind files given p) (b ∷ [])).items ≡ (feed (iso_2022_jp lead) s (b ∷ [])).items =
+      let items : (feed (any d) (state_behind files setting p) (b ∷ [])).items ≡ (feed (iso_2022_jp lead) s (b ∷ [])).items =
       ap (λ (t : AnyState). (feed (any d) t (b ∷ [])).items) (own_state p first e)
       ∙ ap (λ (f : Fed AnyState). f.items) (laws.feeds d iso.lift s (b ∷ [])) in
       subst (λ (es : List Ended). All (λ (e : Ended). out_here (take (length p + 1 - e.back) (p ++ b ∷ [])) ≡ out_here (p ++ b ∷ [])) es) (sym items)
       (λ k c lt. same_iso (p ++ b ∷ []) _ none (laws.byte p b k c lt))
 
   byte_iso : (p : List ℕ) (b : ℕ) → Shape (p ++ b ∷ [])
-      → All (λ (e : Ended). out_here (take (length p + 1 - e.back) (p ++ b ∷ [])) ≡ out_here (p ++ b ∷ [])) (feed (any d) (state_behind files given p) (b ∷ [])).items
+      → All (λ (e : Ended). out_here (take (length p + 1 - e.back) (p ++ b ∷ [])) ≡ out_here (p ++ b ∷ [])) (feed (any d) (state_behind files setting p) (b ∷ [])).items
   byte_iso p b (bare none) =
       byte_own p b none (rw (take-append_seam p (b ∷ [])) at (bare-taken (p ++ b ∷ []) (length p) none)) (prefix_of p) refl
-  byte_iso p b (utf8_mark r is) = λ k c lt. marked_iso (p ++ b ∷ []) _ is (utf8_marked files given r)
-  byte_iso p b (be_mark r is) = λ k c lt. marked_iso (p ++ b ∷ []) _ is (be_marked files given r)
-  byte_iso p b (le_mark r is) = λ k c lt. marked_iso (p ++ b ∷ []) _ is (le_marked files given r)
+  byte_iso p b (utf8_mark r is) = λ k c lt. marked_iso (p ++ b ∷ []) _ is (utf8_marked files setting r)
+  byte_iso p b (be_mark r is) = λ k c lt. marked_iso (p ++ b ∷ []) _ is (be_marked files setting r)
+  byte_iso p b (le_mark r is) = λ k c lt. marked_iso (p ++ b ∷ []) _ is (le_marked files setting r)
 
   end_own : (p : List ℕ) → mark_of p ≡ None → (o : Option Prefix) → prefix_of p ≡ o
-      → All (λ (e : Ended). out_here (take (length p - e.back) p) ≡ out_here p) (run (any d) (state_behind files given p) [])
+      → All (λ (e : Ended). out_here (take (length p - e.back) p) ≡ out_here p) (run (any d) (state_behind files setting p) [])
   end_own p none (Some x) e = λ k c lt.
       looks_end p x (is_prefix p x e) none _
   end_own p none None e =
       let s = (feed (iso_2022_jp lead) iso_2022_jp_start p).state in
-      let items : run (any d) (state_behind files given p) [] ≡ run (iso_2022_jp lead) s [] =
+      let items : run (any d) (state_behind files setting p) [] ≡ run (iso_2022_jp lead) s [] =
       ap (λ (t : AnyState). run (any d) t []) (own_state p none e) ∙ laws.runs d iso.lift s [] in
       subst (λ (es : List Ended). All (λ (e : Ended). out_here (take (length p - e.back) p) ≡ out_here p) es) (sym items)
       (λ k c lt. same_iso p _ none (laws.end p k c lt))
 
   end_iso : (p : List ℕ) → Shape p
-      → All (λ (e : Ended). out_here (take (length p - e.back) p) ≡ out_here p) (run (any d) (state_behind files given p) [])
+      → All (λ (e : Ended). out_here (take (length p - e.back) p) ≡ out_here p) (run (any d) (state_behind files setting p) [])
   end_iso p (bare none) = end_own p none (prefix_of p) refl
-  end_iso p (utf8_mark r is) = λ k c lt. marked_iso p _ is (utf8_marked files given r)
-  end_iso p (be_mark r is) = λ k c lt. marked_iso p _ is (be_marked files given r)
-  end_iso p (le_mark r is) = λ k c lt. marked_iso p _ is (le_marked files given r)
+  end_iso p (utf8_mark r is) = λ k c lt. marked_iso p _ is (utf8_marked files setting r)
+  end_iso p (be_mark r is) = λ k c lt. marked_iso p _ is (be_marked files setting r)
+  end_iso p (le_mark r is) = λ k c lt. marked_iso p _ is (le_marked files setting r)
 
-pub output_at_byte : (laws : (jis0208 : Loaded) → IsoLaws jis0208) (files : Files) (given : Encoding) (d : OwnDecoder) (p : List ℕ) (b : ℕ) → decoder_in files given ≡ Some d
-    → All (λ (e : Ended). out files given (take (length p + 1 - e.back) (p ++ b ∷ [])) ≡ out files given (p ++ b ∷ [])) (feed (any d) (state_behind files given p) (b ∷ [])).items
-output_at_byte laws files given d p b chosen = elim (by_family (family_of given)) [
-  | inr plain ↦ λ k c lt. plain_out files given plain _ (shape _) ∙ sym (plain_out files given plain (p ++ b ∷ []) (shape (p ++ b ∷ [])))
-  | inl family ↦ let iso = is_iso files given d family chosen in byte_iso files given d iso (laws iso.jis0208) p b (shape (p ++ b ∷ []))
+pub output_at_byte : (laws : (jis0208 : Loaded) → IsoLaws jis0208) (files : Files) (setting : Setting) (d : AnyDecoding) (p : List ℕ) (b : ℕ) → decoder_in files setting ≡ Some d
+    → All (λ (e : Ended). out files setting (take (length p + 1 - e.back) (p ++ b ∷ [])) ≡ out files setting (p ++ b ∷ [])) (feed (any d) (state_behind files setting p) (b ∷ [])).items
+output_at_byte laws files setting d p b chosen = elim (by_family (family_of setting.given)) [
+  | inr plain ↦ λ k c lt. plain_out files setting plain _ (shape _) ∙ sym (plain_out files setting plain (p ++ b ∷ []) (shape (p ++ b ∷ [])))
+  | inl family ↦ let iso = is_iso files setting d family chosen in byte_iso files setting d iso (laws iso.jis0208) p b (shape (p ++ b ∷ []))
 ]
 
-pub output_at_last : (laws : (jis0208 : Loaded) → IsoLaws jis0208) (files : Files) (given : Encoding) (d : OwnDecoder) (p : List ℕ) → decoder_in files given ≡ Some d
-    → All (λ (e : Ended). out files given (take (length p - e.back) p) ≡ out files given p) (run (any d) (state_behind files given p) [])
-output_at_last laws files given d p chosen = elim (by_family (family_of given)) [
-  | inr plain ↦ λ k c lt. plain_out files given plain _ (shape _) ∙ sym (plain_out files given plain p (shape p))
-  | inl family ↦ let iso = is_iso files given d family chosen in end_iso files given d iso (laws iso.jis0208) p (shape p)
+pub output_at_last : (laws : (jis0208 : Loaded) → IsoLaws jis0208) (files : Files) (setting : Setting) (d : AnyDecoding) (p : List ℕ) → decoder_in files setting ≡ Some d
+    → All (λ (e : Ended). out files setting (take (length p - e.back) p) ≡ out files setting p) (run (any d) (state_behind files setting p) [])
+output_at_last laws files setting d p chosen = elim (by_family (family_of setting.given)) [
+  | inr plain ↦ λ k c lt. plain_out files setting plain _ (shape _) ∙ sym (plain_out files setting plain p (shape p))
+  | inl family ↦ let iso = is_iso files setting d family chosen in end_iso files setting d iso (laws iso.jis0208) p (shape p)
 ]

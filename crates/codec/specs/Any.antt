@@ -3,6 +3,7 @@ use Rattle.std.specs.Prelude.{List, ℕ, drop, Option, Some, None, option_map, i
 use Rattle.std.specs.Option.{unwrap_or}
 use Rattle.enc_names.specs.declared.encoding.Encoding.{Encoding}
 use Rattle.enc_names.specs.declared.encoding.Encoding.TheVariants.{Utf16Be, Utf16Le}
+use Rattle.enc_names.specs.declared.setting.Setting.{Setting}
 use Rattle.index_loader.specs.Families.{Family, OfUtf8, OfSingleByte, OfGb18030, OfBig5, OfEucJp, OfIso2022Jp, OfShiftJis, OfEucKr, OfReplacement, OfUtf16Be, OfUtf16Le, OfXUserDefined, family_of}
 use Rattle.index_loader.specs.declared.kind.IndexKind.{IndexKind}
 use Rattle.index_loader.specs.declared.kind.IndexKind.TheVariants.{Jis0208, Jis0212, Big5, EucKr, Gb18030, Gb18030Ranges, Katakana}
@@ -69,8 +70,20 @@ standing index OfUtf16Le = stands (coding index OfUtf16Le) state.Utf16Le (λ s. 
 standing index OfXUserDefined = stands (coding index OfXUserDefined) state.XUserDefined (elim [ state.XUserDefined s ↦ Some s | _ ↦ None ]) (Some (by.XUserDefined (record {})))
 
 -- the decoder of an encoding over the loaded index files
-abbrev pub decoder_in : Files → Encoding → Option OwnDecoder
-decoder_in files encoding = (standing (index_of files) (family_of encoding)).decoder
+abbrev pub own_in : Files → Encoding → Option OwnDecoder
+own_in files encoding = (standing (index_of files) (family_of encoding)).decoder
+
+-- the one decoder: that of the encoding given, and the setting by which it reads
+pub record AnyDecoding : Type 0 where
+  pub own : OwnDecoder
+  pub setting : Setting
+
+abbrev pub under : Setting → OwnDecoder → AnyDecoding
+under setting own = record { own = own; setting = setting }
+
+-- the one decoder under a setting, over the loaded index files
+abbrev pub decoder_in : Files → Setting → Option AnyDecoding
+decoder_in files setting = option_map (under setting) (own_in files setting.given)
 
 -- a decoder's family, and the indexes that it borrows; for its family's files it has them
 pub record Source : Type 0 where
@@ -107,12 +120,15 @@ abbrev pub given_start : OwnDecoder → AnyState
 given_start d = (standing_of d).start
 
 -- the table of each decoder
-abbrev pub any : OwnDecoder → Table AnyState
-any d = sniffed (given_start d) (given d)
+abbrev pub any : AnyDecoding → Table AnyState
+any d = sniffed (given_start d.own) (given d.own)
 
--- the state before the first byte
-abbrev pub any_start : OwnDecoder → AnyState
-any_start d = state.Sniffing Nothing
+-- the state before the first byte under a setting, where `own` is the first one of the encoding given: each looks for a byte order mark
+abbrev pub start_under : Setting → AnyState → AnyState
+start_under setting own = state.Sniffing Nothing
+
+abbrev pub any_start : AnyDecoding → AnyState
+any_start d = start_under d.setting (given_start d.own)
 
 -- the decoder of a byte order mark's encoding, which needs no index file
 abbrev pub mark_family : Encoding → Family
@@ -124,14 +140,14 @@ abbrev pub marked : Mark → Standing
 marked mark = standing (λ kind. None) (mark_family mark.encoding)
 
 -- the decoder in force: that of the byte order mark, if there is one, or else that of the encoding given
-abbrev pub in_force_of : OwnDecoder → Option Mark → Standing
-in_force_of d mark = unwrap_or (option_map marked mark) (standing_of d)
+abbrev pub in_force_of : AnyDecoding → Option Mark → Standing
+in_force_of d mark = unwrap_or (option_map marked mark) (standing_of d.own)
 
 -- its run over the bytes behind the mark
-abbrev pub run_behind : OwnDecoder → List ℕ → Option Mark → List Ended
+abbrev pub run_behind : AnyDecoding → List ℕ → Option Mark → List Ended
 run_behind d bytes mark = (in_force_of d mark).run (drop (unwrap_or (option_map (λ (m : Mark). m.len) mark) 0) bytes)
 
 -- where it stands behind them, unless the bytes are a proper prefix of a mark
-abbrev pub stands_behind : OwnDecoder → List ℕ → Option Prefix → Option Mark → AnyState
+abbrev pub stands_behind : AnyDecoding → List ℕ → Option Prefix → Option Mark → AnyState
 stands_behind d bytes prefix mark =
     unwrap_or (option_map state.Sniffing prefix) ((in_force_of d mark).state (drop (unwrap_or (option_map (λ (m : Mark). m.len) mark) 0) bytes))

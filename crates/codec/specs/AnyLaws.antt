@@ -11,7 +11,7 @@ use Rattle.codec.specs.declared.own.OwnDecoder.{OwnDecoder}
 use Rattle.codec.specs.declared.own.OwnDecoder.TheVariants as by
 use Rattle.codec.specs.declared.state.AnyState.TheVariants as state
 use Rattle.codec.specs.SniffedLaws.{Lawful, lawful_lifted, lawful_holding, lawful_finished, falls_sniffed, counts_sniffed}
-use Rattle.codec.specs.Any.{any, given, given_start, source_of}
+use Rattle.codec.specs.Any.{AnyDecoding, any, given, given_start, source_of}
 use Rattle.codec.specs.Coding.{Coding, coding}
 
 abbrev coding_of : OwnDecoder → Coding
@@ -31,8 +31,8 @@ lawful (by.Replacement d) = lawful_lifted (coding_of (by.Replacement d)) state.R
 lawful by.Utf16Be = lawful_finished _ (lit≤ tt) (lit≤ tt)
 lawful by.Utf16Le = lawful_finished _ (lit≤ tt) (lit≤ tt)
 
-pub any_falls : (d : OwnDecoder) → Falls (any d)
-any_falls d = falls_sniffed (given_start d) (given d) (lawful d)
+pub any_falls : (d : AnyDecoding) → Falls (any d)
+any_falls d = falls_sniffed (given_start d.own) (given d.own) (lawful d.own)
 
-pub any_counts : (d : OwnDecoder) → Counts (any d)
-any_counts d = counts_sniffed (given_start d) (given d) (lawful d)
+pub any_counts : (d : AnyDecoding) → Counts (any d)
+any_counts d = counts_sniffed (given_start d.own) (given d.own) (lawful d.own)

@@ -2,13 +2,14 @@
 use Rattle.std.specs.Prelude.{ℕ, List, drop, option_map}
 use Rattle.std.specs.Option.{unwrap_or}
 use Rattle.enc_names.specs.declared.encoding.Encoding.{Encoding}
+use Rattle.enc_names.specs.declared.setting.Setting.{Setting}
 use Rattle.index_loader.specs.Families.{family_of}
 use Rattle.index_loader.specs.Files.{Files, index_of}
 use Rattle.codec.specs.declared.state.AnyState.{AnyState}
 use Rattle.codec.specs.declared.state.AnyState.TheVariants.{Sniffing}
 use Rattle.codec.specs.Any.{standing}
 use Rattle.codec.specs.Mark.{in_force, mark_length}
-use Rattle.codec.specs.Sniffing.{prefix_of}
+use Rattle.codec.specs.Sniffing.{prefix_under}
 
 -- the state of an encoding's decoder behind the bytes
 abbrev pub state_in : Files → Encoding → List ℕ → AnyState
@@ -16,6 +17,6 @@ state_in files encoding = (standing (index_of files) (family_of encoding)).state
 
 -- the bytes themselves while they are a proper prefix of a byte order mark, else the encoding in force with the state of its own decoder
 -- behind the mark
-unfoldable pub state_behind : Files → Encoding → List ℕ → AnyState
-state_behind files given bytes =
-    unwrap_or (option_map Sniffing (prefix_of bytes)) (state_in files (in_force given bytes) (drop (mark_length bytes) bytes))
+unfoldable pub state_behind : Files → Setting → List ℕ → AnyState
+state_behind files setting bytes =
+    unwrap_or (option_map Sniffing (prefix_under setting bytes)) (state_in files (in_force setting bytes) (drop (mark_length setting bytes) bytes))

@@ -1,6 +1,7 @@
 -- Decoding of bytes (Encoding Standard, "decode").
 use Rattle.std.specs.Prelude.{ℕ, List, length, drop, slice_get, Option}
 use Rattle.enc_names.specs.declared.encoding.Encoding.{Encoding}
+use Rattle.enc_names.specs.declared.setting.Setting.{Setting}
 use Rattle.enc_names.specs.declared.place.Place.{Place}
 use Rattle.index_loader.specs.Families.{family_of}
 use Rattle.index_loader.specs.Files.{Files, index_of}
@@ -22,11 +23,11 @@ abbrev pub run_in : Files → Encoding → List ℕ → List Ended
 run_in files encoding bytes = coding_run (coding (index_of files) (family_of encoding)) bytes
 
 -- a look at the first bytes, and then the run behind the mark
-unfoldable pub decode : Files → Encoding → List ℕ → Decoded
-decode files given bytes = record {
-  encoding = in_force given bytes;
-  bom = mark_length bytes;
-  items = places (length bytes) (mark_length bytes) (run_in files (in_force given bytes) (drop (mark_length bytes) bytes));
+unfoldable pub decode : Files → Setting → List ℕ → Decoded
+decode files setting bytes = record {
+  encoding = in_force setting bytes;
+  bom = mark_length setting bytes;
+  items = places (length bytes) (mark_length setting bytes) (run_in files (in_force setting bytes) (drop (mark_length setting bytes) bytes));
 }
 
 -- where error mode "fatal" stops: the place of the first error

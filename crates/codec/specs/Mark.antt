@@ -4,6 +4,7 @@ use Rattle.std.specs.List.{starts_with}
 use Rattle.std.specs.Option.{unwrap_or}
 use Rattle.enc_names.specs.declared.encoding.Encoding.{Encoding}
 use Rattle.enc_names.specs.declared.encoding.Encoding.TheVariants.{Utf8, Utf16Be, Utf16Le}
+use Rattle.enc_names.specs.declared.setting.Setting.{Setting}
 pub use Rattle.codec.specs.declared.mark.Mark.{Mark}
 
 -- the mark that the bytes start with
@@ -14,10 +15,14 @@ mark_of bytes =
     else if starts_with eqb bytes (0xFF ∷ 0xFE ∷ []) then Some (record { encoding = Utf16Le; len = 2 })
     else None
 
+-- the mark that counts under a setting: each looks for one
+abbrev pub mark_under : Setting → List ℕ → Option Mark
+mark_under setting bytes = mark_of bytes
+
 -- the encoding in force: that of the mark, or else the one given
-abbrev pub in_force : Encoding → List ℕ → Encoding
-in_force given bytes = unwrap_or (option_map (λ (m : Mark). m.encoding) (mark_of bytes)) given
+abbrev pub in_force : Setting → List ℕ → Encoding
+in_force setting bytes = unwrap_or (option_map (λ (m : Mark). m.encoding) (mark_under setting bytes)) setting.given
 
 -- the number of bytes that aren't part of the text
-abbrev pub mark_length : List ℕ → ℕ
-mark_length bytes = unwrap_or (option_map (λ (m : Mark). m.len) (mark_of bytes)) 0
+abbrev pub mark_length : Setting → List ℕ → ℕ
+mark_length setting bytes = unwrap_or (option_map (λ (m : Mark). m.len) (mark_under setting bytes)) 0

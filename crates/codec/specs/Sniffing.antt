@@ -2,6 +2,7 @@
 use Rattle.std.specs.Prelude.{ℕ, ◌==◌, List, [], ◌∷◌, Option, Some, None, if◌then◌else◌}
 use Rattle.std.specs.List.{find}
 use Rattle.std.specs.Str.{bytes_eq}
+use Rattle.enc_names.specs.declared.setting.Setting.{Setting}
 use Rattle.decoder_core.specs.declared.handler.Answer.TheVariants.{Nothing as no_item}
 use Rattle.decoder_core.specs.Forms.{holds}
 use Rattle.decoder_core.specs.Queue.{Turn}
@@ -23,6 +24,10 @@ spelt Ff = 0xFF ∷ []
 -- the proper prefix of a mark that the bytes are, all of them
 abbrev pub prefix_of : List ℕ → Option Prefix
 prefix_of bytes = find (λ p. bytes_eq (spelt p) bytes) (Nothing ∷ Ef ∷ EfBb ∷ Fe ∷ Ff ∷ [])
+
+-- the same where a mark counts under the setting
+abbrev pub prefix_under : Setting → List ℕ → Option Prefix
+prefix_under setting bytes = prefix_of bytes
 
 -- no mark: the bytes are read again, from the first state of the encoding given
 abbrev pub restarts : AnyState → List ℕ → Turn AnyState

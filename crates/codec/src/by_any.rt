@@ -25,8 +25,8 @@ pub fn decode_any(
     bytes: &[u8],
     meter: &mut Meter,
 ) -> Result<Decoding, OutOfMemory>
-    ensures ok { IfOk result (IsDecoding (places (length bytes.now) (mark_length bytes.now) (run (any decoder.now) (any_start decoder.now) bytes.now))) }
-    ensures meter { Counted meter.old meter.new (length bytes.now - mark_length bytes.now) result }
+    ensures ok { IfOk result (IsDecoding (places (length bytes.now) (mark_length decoder.now.setting bytes.now) (run (any decoder.now) (any_start decoder.now) bytes.now))) }
+    ensures meter { Counted meter.old meter.new (length bytes.now - mark_length decoder.now.setting bytes.now) result }
 {
     standing_laws();
     match Mark::of(bytes) {
@@ -68,7 +68,7 @@ fn decode_own(
     bytes: &[u8],
     meter: &mut Meter,
 ) -> Result<Decoding, OutOfMemory>
-    ensures ok { IfOk result (IsDecoding (places (length bytes.now) 0 ((standing_of decoder.now).run bytes.now))) }
+    ensures ok { IfOk result (IsDecoding (places (length bytes.now) 0 ((standing_of decoder.now.own).run bytes.now))) }
     ensures meter { Counted meter.old meter.new (length bytes.now) result }
 {
     by_own!(decoder.own(), decode_arm, alloc, bytes, meter)

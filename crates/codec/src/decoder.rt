@@ -1,5 +1,6 @@
 //! One decoder for all encodings.
 ghost use Rattle.std.specs.Prelude.{◌≡◌, List, ℕ, length, IfSome, is_some};
+ghost use Rattle.enc_names.specs.Settings.{setting_of};
 ghost use Rattle.index_loader.specs.Files.{has_files};
 ghost use Rattle.decoder_core.specs.Placed.{places};
 ghost use Rattle.decoder_core.specs.Queue.{run, feed};
@@ -16,7 +17,7 @@ use crate::sniffing::{UTF_16BE, UTF_16LE, sniffing_turn};
 use crate::standing_laws::standing_laws;
 use crate::state::AnyState;
 use decoder_core::{Handled, Handler, Utf8Decoder};
-use enc_names::Encoding;
+use enc_names::{Encoding, Setting};
 use index_loader::Indexes;
 use std::marker::Model;
 
@@ -24,18 +25,19 @@ use std::marker::Model;
 /// for a byte order mark: UTF-8 or UTF-16 is in force behind theirs, whatever encoding is given. It
 /// borrows the indexes that the encoding given needs. Each encoding's decoder does here in its own
 /// states what it does alone; in a state that none of these encodings has it is finished. Contracts
-/// see the decoder of the encoding given.
+/// see the decoder of the encoding given, and the setting.
 #[derive(Drop)]
 pub struct AnyDecoder<'i> {
     own: OwnDecoder<'i>,
+    setting: Setting,
 }
 
 impl<'i> Model for AnyDecoder<'i> {
-    ghost use Rattle.codec.specs.declared.own.OwnDecoder.{OwnDecoder};
+    ghost use Rattle.codec.specs.Any.{AnyDecoding};
 
-    ghost Value = { OwnDecoder };
+    ghost Value = { AnyDecoding };
 
-    ghost view = { λ d. d.own };
+    ghost view = { λ d. record { own = d.own; setting = d.setting } };
 }
 
 impl<'i> AnyDecoder<'i> {
@@ -45,29 +47,39 @@ impl<'i> AnyDecoder<'i> {
     /// Its state behind the first bytes of a document is those bytes while they may become a byte
     /// order mark, else the encoding in force with where its own decoder stands behind the mark.
     pub fn new(indexes: &'i Indexes, encoding: Encoding) -> Option<AnyDecoder<'i>>
-        ensures value { result ≡ decoder_in indexes.now encoding }
+        ensures value { result ≡ decoder_in indexes.now (setting_of encoding) }
         ensures variant { is_some result ≡ has_files indexes.now encoding }
-        ensures decode { IfSome result (λ d. (bytes : List ℕ) → places (length bytes) (mark_length bytes) (run (any d) (any_start d) bytes) ≡ (decode indexes.now encoding bytes).items) }
-        ensures behind { IfSome result (λ d. (bytes : List ℕ) → (feed (any d) (any_start d) bytes).state ≡ state_behind indexes.now encoding bytes) }
+        ensures decode { IfSome result (λ d. (bytes : List ℕ) → places (length bytes) (mark_length (setting_of encoding) bytes) (run (any d) (any_start d) bytes) ≡ (decode indexes.now (setting_of encoding) bytes).items) }
+        ensures behind { IfSome result (λ d. (bytes : List ℕ) → (feed (any d) (any_start d) bytes).state ≡ state_behind indexes.now (setting_of encoding) bytes) }
+    {
+        AnyDecoder::under(indexes, Setting::new(encoding))
+    }
+
+    /// The decoder under a setting; of its encoding as `new` says.
+    pub fn under(indexes: &'i Indexes, setting: Setting) -> Option<AnyDecoder<'i>>
+        ensures value { result ≡ decoder_in indexes.now setting }
+        ensures variant { is_some result ≡ has_files indexes.now setting.given }
+        ensures decode { IfSome result (λ d. (bytes : List ℕ) → places (length bytes) (mark_length setting bytes) (run (any d) (any_start d) bytes) ≡ (decode indexes.now setting bytes).items) }
+        ensures behind { IfSome result (λ d. (bytes : List ℕ) → (feed (any d) (any_start d) bytes).state ≡ state_behind indexes.now setting bytes) }
     {
         standing_laws();
-        choose(indexes, encoding)
+        choose(indexes, setting)
     }
 
     /// The decoder of the encoding given, for work over many bytes that asks once which it is.
     pub fn own(&self) -> &OwnDecoder<'i>
-        ensures { result.now ≡ self.now }
+        ensures { result.now ≡ self.now.own }
     {
         &self.own
     }
 }
 
-/// The decoder of an encoding over the indexes that it needs.
-fn choose<'i>(indexes: &'i Indexes, encoding: Encoding) -> Option<AnyDecoder<'i>>
-    ensures { result ≡ decoder_in indexes.now encoding }
+/// The decoder under a setting over the indexes that its encoding needs.
+fn choose<'i>(indexes: &'i Indexes, setting: Setting) -> Option<AnyDecoder<'i>>
+    ensures { result ≡ decoder_in indexes.now setting }
 {
-    match OwnDecoder::new(indexes, encoding) {
-        Some(own) => Some(AnyDecoder { own }),
+    match OwnDecoder::new(indexes, setting.given) {
+        Some(own) => Some(AnyDecoder { own, setting }),
         None => None,
     }
 }

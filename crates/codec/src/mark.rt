@@ -2,7 +2,7 @@
 ghost use Rattle.std.specs.Prelude.{◌≡◌, ◌≤◌, length, IfSome};
 ghost use Rattle.codec.specs.Mark.{mark_of, in_force, mark_length};
 
-use enc_names::Encoding;
+use enc_names::{Encoding, Setting};
 
 /// A byte order mark.
 #[derive(Clone, Copy)]
@@ -52,9 +52,9 @@ pub struct Sniffed {
 
 /// Looks for a byte order mark, whose encoding takes the place of the given one (Encoding
 /// Standard, "BOM sniff").
-pub fn sniff(given: Encoding, bytes: &[u8]) -> Sniffed
-    ensures encoding { result.encoding ≡ in_force given bytes.now }
-    ensures bom_len { result.bom_len ≡ mark_length bytes.now }
+pub fn sniff(setting: Setting, bytes: &[u8]) -> Sniffed
+    ensures encoding { result.encoding ≡ in_force setting bytes.now }
+    ensures bom_len { result.bom_len ≡ mark_length setting bytes.now }
 {
     match Mark::of(bytes) {
         Some(mark) => Sniffed {
@@ -62,7 +62,7 @@ pub fn sniff(given: Encoding, bytes: &[u8]) -> Sniffed
             bom_len: mark.len as u64,
         },
         None => Sniffed {
-            encoding: given,
+            encoding: setting.given,
             bom_len: 0,
         },
     }

@@ -1,11 +1,10 @@
 //! The laws of the one decoder's states and their output states.
 ghost use Rattle.std.specs.Prelude.{◌≡◌, ℕ, ◌+◌, ◌-◌, ◌≤◌, List, [], ◌∷◌, ◌++◌, length, take, Some, All, is_some, true};
 ghost use Rattle.decoder_core.specs.Queue.{feed, run};
-ghost use Rattle.enc_names.specs.declared.encoding.Encoding.{Encoding};
+ghost use Rattle.enc_names.specs.declared.setting.Setting.{Setting};
 ghost use Rattle.index_loader.specs.Files.{Files, has_files};
-ghost use Rattle.codec.specs.declared.own.OwnDecoder.{OwnDecoder};
 ghost use Rattle.codec.specs.declared.state.AnyState.{AnyState};
-ghost use Rattle.codec.specs.Any.{any, any_start, decoder_in, output_of};
+ghost use Rattle.codec.specs.Any.{AnyDecoding, any, any_start, decoder_in, output_of};
 ghost use Rattle.codec.specs.Behind.{state_behind};
 ghost use Rattle.codec.specs.Mark.{in_force, mark_length};
 ghost use Rattle.codec.specs.Output.{output_behind};
@@ -26,15 +25,15 @@ use iso2022jp::Iso2022JpDecoder;
 /// encoding in force (`in_force`). The state behind the bytes is reached from the start (`behind`),
 /// one part after another (`parts`).
 pub fn output_at_the_end()
-    ensures state { (files : Files) (given : Encoding) (bytes : List ℕ) → output_of (state_behind files given bytes) ≡ output_behind files given bytes }
-    ensures mark { (files : Files) (given : Encoding) (bytes : List ℕ) → output_of (state_behind files given (take (mark_length bytes) bytes)) ≡ Ascii }
-    ensures mark_fits { (bytes : List ℕ) → mark_length bytes ≤ length bytes }
-    ensures there { (files : Files) (given : Encoding) → is_some (decoder_in files given) ≡ has_files files given }
-    ensures in_force { (files : Files) (given : Encoding) (bytes : List ℕ) → has_files files given ≡ true → has_files files (in_force given bytes) ≡ true }
-    ensures behind { (files : Files) (given : Encoding) (d : OwnDecoder) (bytes : List ℕ) → decoder_in files given ≡ Some d → (feed (any d) (any_start d) bytes).state ≡ state_behind files given bytes }
-    ensures parts { (d : OwnDecoder) (s : AnyState) (p q : List ℕ) → (feed (any d) s (p ++ q)).state ≡ (feed (any d) (feed (any d) s p).state q).state }
-    ensures byte { (files : Files) (given : Encoding) (d : OwnDecoder) (p : List ℕ) (b : ℕ) → decoder_in files given ≡ Some d → All (λ e. output_of (state_behind files given (take (length p + 1 - e.back) (p ++ b ∷ []))) ≡ output_of (state_behind files given (p ++ b ∷ []))) (feed (any d) (state_behind files given p) (b ∷ [])).items }
-    ensures end { (files : Files) (given : Encoding) (d : OwnDecoder) (p : List ℕ) → decoder_in files given ≡ Some d → All (λ e. output_of (state_behind files given (take (length p - e.back) p)) ≡ output_of (state_behind files given p)) (run (any d) (state_behind files given p) []) }
+    ensures state { (files : Files) (setting : Setting) (bytes : List ℕ) → output_of (state_behind files setting bytes) ≡ output_behind files setting bytes }
+    ensures mark { (files : Files) (setting : Setting) (bytes : List ℕ) → output_of (state_behind files setting (take (mark_length setting bytes) bytes)) ≡ Ascii }
+    ensures mark_fits { (setting : Setting) (bytes : List ℕ) → mark_length setting bytes ≤ length bytes }
+    ensures there { (files : Files) (setting : Setting) → is_some (decoder_in files setting) ≡ has_files files setting.given }
+    ensures in_force { (files : Files) (setting : Setting) (bytes : List ℕ) → has_files files setting.given ≡ true → has_files files (in_force setting bytes) ≡ true }
+    ensures behind { (files : Files) (setting : Setting) (d : AnyDecoding) (bytes : List ℕ) → decoder_in files setting ≡ Some d → (feed (any d) (any_start d) bytes).state ≡ state_behind files setting bytes }
+    ensures parts { (d : AnyDecoding) (s : AnyState) (p q : List ℕ) → (feed (any d) s (p ++ q)).state ≡ (feed (any d) (feed (any d) s p).state q).state }
+    ensures byte { (files : Files) (setting : Setting) (d : AnyDecoding) (p : List ℕ) (b : ℕ) → decoder_in files setting ≡ Some d → All (λ e. output_of (state_behind files setting (take (length p + 1 - e.back) (p ++ b ∷ []))) ≡ output_of (state_behind files setting (p ++ b ∷ []))) (feed (any d) (state_behind files setting p) (b ∷ [])).items }
+    ensures end { (files : Files) (setting : Setting) (d : AnyDecoding) (p : List ℕ) → decoder_in files setting ≡ Some d → All (λ e. output_of (state_behind files setting (take (length p - e.back) p)) ≡ output_of (state_behind files setting p)) (run (any d) (state_behind files setting p) []) }
 {
     standing_laws();
     iso2022jp::output_at_the_end();

@@ -1,7 +1,7 @@
 //! The encodings' own decoders, and how the one decoder is made of them.
 ghost use Rattle.std.specs.Prelude.{◌≡◌};
 ghost use Rattle.decoder_core.specs.Steps.{bytes_of};
-ghost use Rattle.codec.specs.Any.{decoder_in, given, given_start};
+ghost use Rattle.codec.specs.Any.{given, given_start, own_in};
 
 use crate::sniffing::{UTF_16BE, UTF_16LE};
 use crate::state::AnyState;
@@ -102,7 +102,7 @@ macro_rules! own_turn {
 impl<'i> OwnDecoder<'i> {
     /// The decoder of an encoding over the indexes that it needs.
     pub(crate) fn new(indexes: &'i Indexes, encoding: Encoding) -> Option<OwnDecoder<'i>>
-        ensures { result ≡ decoder_in indexes.now encoding }
+        ensures { result ≡ own_in indexes.now encoding }
     {
         Some(match encoding {
             Encoding::Utf8 => OwnDecoder::Utf8(Utf8Decoder),

@@ -1,10 +1,9 @@
 //! The laws of the one decoder's runs.
 ghost use Rattle.std.specs.Prelude.{◌≡◌, ℕ, List};
 ghost use Rattle.decoder_core.specs.Queue.{feed, run};
-ghost use Rattle.codec.specs.declared.own.OwnDecoder.{OwnDecoder};
-ghost use Rattle.codec.specs.Any.{any, any_start, run_behind, stands_behind};
-ghost use Rattle.codec.specs.Mark.{mark_of};
-ghost use Rattle.codec.specs.Sniffing.{prefix_of};
+ghost use Rattle.codec.specs.Any.{AnyDecoding, any, any_start, run_behind, stands_behind};
+ghost use Rattle.codec.specs.Mark.{mark_under};
+ghost use Rattle.codec.specs.Sniffing.{prefix_under};
 
 use crate::decoder::AnyDecoder;
 use decoder_core::{
@@ -22,8 +21,8 @@ use multibyte_decoders::{
 /// the decoder in force does alone: it gives the items of its run (`run`) and stands where that one
 /// stands (`state`), unless the bytes are a proper prefix of a mark, which is its state then.
 pub(crate) fn standing_laws()
-    ensures run { (d : OwnDecoder) (bytes : List ℕ) → run (any d) (any_start d) bytes ≡ run_behind d bytes (mark_of bytes) }
-    ensures state { (d : OwnDecoder) (bytes : List ℕ) → (feed (any d) (any_start d) bytes).state ≡ stands_behind d bytes (prefix_of bytes) (mark_of bytes) }
+    ensures run { (d : AnyDecoding) (bytes : List ℕ) → run (any d) (any_start d) bytes ≡ run_behind d bytes (mark_under d.setting bytes) }
+    ensures state { (d : AnyDecoding) (bytes : List ℕ) → (feed (any d) (any_start d) bytes).state ≡ stands_behind d bytes (prefix_under d.setting bytes) (mark_under d.setting bytes) }
 {
     all_among::<Utf8Decoder, AnyDecoder<'_>>();
     all_among::<Gb18030Decoder<'_>, AnyDecoder<'_>>();

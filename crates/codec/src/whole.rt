@@ -1,6 +1,7 @@
 //! Decoding of bytes as a whole.
 ghost use Rattle.std.specs.Prelude.{◌≡◌, None, IfOk, string_bytes};
 ghost use Rattle.std.specs.Str.{chars};
+ghost use Rattle.enc_names.specs.Settings.{setting_of};
 ghost use Rattle.decoder_core.specs.Text.{code_points, error_places};
 ghost use Rattle.codec.specs.Decode.{decode, fatal_of};
 ghost use Rattle.codec.specs.Refused.{Refused};
@@ -11,7 +12,7 @@ use crate::decoding::Decoding;
 use crate::fault::CodecFault;
 use crate::mark::{Sniffed, sniff};
 use decoder_core::meter;
-use enc_names::{Encoding, Place};
+use enc_names::{Encoding, Place, Setting};
 use index_loader::Indexes;
 use std::alloc::Global;
 
@@ -41,15 +42,16 @@ pub fn decode_whole(
     encoding: Encoding,
     bytes: &[u8],
 ) -> Result<Decoded, CodecFault>
-    ensures encoding { IfOk result (λ d. d.encoding ≡ (decode indexes.now encoding bytes.now).encoding) }
-    ensures bom_len { IfOk result (λ d. d.bom_len ≡ (decode indexes.now encoding bytes.now).bom) }
-    ensures text { IfOk result (λ d. chars (string_bytes d.text) ≡ code_points (decode indexes.now encoding bytes.now).items) }
-    ensures errors { IfOk result (λ d. d.errors.items ≡ error_places (decode indexes.now encoding bytes.now).items) }
+    ensures encoding { IfOk result (λ d. d.encoding ≡ (decode indexes.now (setting_of encoding) bytes.now).encoding) }
+    ensures bom_len { IfOk result (λ d. d.bom_len ≡ (decode indexes.now (setting_of encoding) bytes.now).bom) }
+    ensures text { IfOk result (λ d. chars (string_bytes d.text) ≡ code_points (decode indexes.now (setting_of encoding) bytes.now).items) }
+    ensures errors { IfOk result (λ d. d.errors.items ≡ error_places (decode indexes.now (setting_of encoding) bytes.now).items) }
     ensures faults { Refused indexes.now encoding None result }
 {
-    let decoder = AnyDecoder::new(indexes, encoding).ok_or(CodecFault::NoIndex)?;
+    let setting = Setting::new(encoding);
+    let decoder = AnyDecoder::under(indexes, setting).ok_or(CodecFault::NoIndex)?;
     let Decoding { text, errors } = decode_any(alloc, &decoder, bytes, &mut meter())?;
-    let Sniffed { encoding, bom_len } = sniff(encoding, bytes);
+    let Sniffed { encoding, bom_len } = sniff(setting, bytes);
     Ok(Decoded {
         encoding,
         bom_len,
@@ -66,8 +68,8 @@ pub fn decode_fatal(
     encoding: Encoding,
     bytes: &[u8],
 ) -> Result<String, CodecFault>
-    ensures text { IfOk result (λ text. chars (string_bytes text) ≡ code_points (decode indexes.now encoding bytes.now).items) }
-    ensures faults { Refused indexes.now encoding (fatal_of (decode indexes.now encoding bytes.now).items) result }
+    ensures text { IfOk result (λ text. chars (string_bytes text) ≡ code_points (decode indexes.now (setting_of encoding) bytes.now).items) }
+    ensures faults { Refused indexes.now encoding (fatal_of (decode indexes.now (setting_of encoding) bytes.now).items) result }
 {
     let Decoded { text, errors, .. } = decode_whole(alloc, indexes, encoding, bytes)?;
     match errors.first() {

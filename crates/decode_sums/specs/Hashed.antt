@@ -2,6 +2,7 @@
 use Rattle.std.specs.Prelude.{ℕ, zero, suc, List, [], ◌∷◌, ◌++◌, fold, None, Err}
 use Rattle.std.specs.Str.{encode_utf8_all}
 use Rattle.enc_names.specs.declared.encoding.Encoding.{Encoding}
+use Rattle.enc_names.specs.Settings.{setting_of}
 use Rattle.index_loader.specs.Files.{Files}
 use Rattle.decoder_core.specs.Text.{code_points}
 use Rattle.codec.specs.Decode.{decode}
@@ -13,7 +14,7 @@ use Rattle.decode_sums.specs.Documents.{count_of, document_of}
 
 -- of one document: its text in UTF-8 and the byte FF, which no UTF-8 has
 abbrev pub hashed_of : Files → Encoding → List ℕ → List ℕ
-hashed_of files encoding document = encode_utf8_all (code_points (decode files encoding document).items) ++ 255 ∷ []
+hashed_of files encoding document = encode_utf8_all (code_points (decode files (setting_of encoding) document).items) ++ 255 ∷ []
 
 -- of the first n documents of a form
 abbrev pub hashed_below : Files → Encoding → Form → ℕ → List ℕ

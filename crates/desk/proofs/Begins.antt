@@ -11,6 +11,8 @@ use Rattle.std.specs.FinMap.{get}
 use Rattle.std.specs.Cmp.Lexicographic.{nat_list_cmp_total}
 use Rattle.std.specs.Str.{bytes_eq}
 use Rattle.enc_names.specs.declared.encoding.Encoding.{Encoding}
+use Rattle.enc_names.specs.declared.setting.Setting.{Setting}
+use Rattle.enc_names.specs.Settings.{setting_of}
 use Rattle.enc_names.specs.Labels.{lookup_in}
 use Rattle.index_loader.specs.Files.{Files, has_files}
 use Rattle.piece_rope.specs.declared.fault.DocFault.{DocFault}
@@ -54,10 +56,10 @@ admitted-unless : (fault : Option DocFault) (x k : Entry) → unless fault x ≡
 admitted-unless None x k e = let same = e in cc
 admitted-unless (Some f) x k e = cc
 
-admitted-ok : (indexes : Files) (place : Bool) (given : Encoding) (bytes : List ℕ) (rev : ℕ) (k : Entry) → admitted indexes place given bytes rev ≡ Ok k → entry given bytes rev ≡ k
-admitted-ok indexes place given bytes rev k e =
-    admitted-unless (open_fault indexes given bytes) (entry given bytes rev) k
-    (admitted-if place _ _ k (admitted-if (has_files indexes given) _ _ k e))
+admitted-ok : (indexes : Files) (place : Bool) (setting : Setting) (bytes : List ℕ) (rev : ℕ) (k : Entry) → admitted indexes place setting bytes rev ≡ Ok k → entry setting bytes rev ≡ k
+admitted-ok indexes place setting bytes rev k e =
+    admitted-unless (open_fault indexes setting.given bytes) (entry setting bytes rev) k
+    (admitted-if place _ _ k (admitted-if (has_files indexes setting.given) _ _ k e))
 
 -- ---- an open
 
@@ -68,9 +70,9 @@ record Opened (indexes : Files) (found : Option Entry) (read : Option (List ℕ)
   free : found ≡ None
   label : labelled ≡ Some given
   text : read ≡ Some bytes
-  begin : held_after found move ≡ Some (entry given bytes 0)
+  begin : held_after found move ≡ Some (entry (setting_of given) bytes 0)
 
-opened-put : (indexes : Files) (given : Encoding) (bytes : List ℕ) (r : Result Entry Fault) → ((k : Entry) → r ≡ Ok k → entry given bytes 0 ≡ k)
+opened-put : (indexes : Files) (given : Encoding) (bytes : List ℕ) (r : Result Entry Fault) → ((k : Entry) → r ≡ Ok k → entry (setting_of given) bytes 0 ≡ k)
     → is_accepted (put (edit_reply indexes) r).reply ≡ true → Opened indexes None (Some bytes) (Some given) (put (edit_reply indexes) r).move
 opened-put indexes given bytes (Ok k) is e = record { given = given; bytes = bytes; free = refl; label = refl; text = refl; begin = ap Some (sym (is k refl)) }
 opened-put indexes given bytes (Err f) is e = cc
@@ -80,7 +82,7 @@ opened-by : (indexes : Files) (place : Bool) (found : Option Entry) (read : Opti
 opened-by indexes place found None labelled = λ e. cc
 opened-by indexes place (Some h) (Some b) labelled = λ e. cc
 opened-by indexes place None (Some b) None = λ e. cc
-opened-by indexes place None (Some b) (Some given) = opened-put indexes given b (admitted indexes place given b 0) (admitted-ok indexes place given b 0)
+opened-by indexes place None (Some b) (Some given) = opened-put indexes given b (admitted indexes place (setting_of given) b 0) (admitted-ok indexes place (setting_of given) b 0)
 
 pub opens_begin : OpensBegin
 opens_begin o p doc label text reply answers e =
@@ -101,13 +103,13 @@ free-if None x k e = (refl, e)
 free-if (Some h) x k e = cc
 
 pub adoptions_begin : AdoptionsBegin
-adoptions_begin o p name given bytes rev adopts =
+adoptions_begin o p name setting bytes rev adopts =
     let k = adopts.step.0 in
     let free = free-if (get o.documents name) _ k adopts.step.1 in (
       free.0,
       ap (λ m. get m name) adopts.step.2 ∙ finite.get-insert nat_list_cmp_total o.documents name k name
           ∙ ap (λ b. cond b (Some k) (get o.documents name)) (test name name ∙ same_name name)
-          ∙ ap Some (sym (admitted-ok o.indexes (has_place o.documents) given bytes rev k free.1)),
+          ∙ ap Some (sym (admitted-ok o.indexes (has_place o.documents) setting bytes rev k free.1)),
     )
 
 -- ---- a close

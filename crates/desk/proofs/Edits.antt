@@ -131,12 +131,12 @@ module _ (h : Entry) (rev : ℕ) (reply : Splice → Entry → Reply) (reports :
 
   -- it is one more of the edits in the document's life
   module _ (indexes : Files) (ask : Ask) (asks : is_edit ask ≡ true) (named : named_by ask ≡ Some rev) (wanted : Result Splice Fault)
-      (leaves : (s : Splice) → wanted ≡ Ok s → edited_by indexes h.given h.bytes ask ≡ spliced h.bytes s.at s.del s.ins) where
+      (leaves : (s : Splice) → wanted ≡ Ok s → edited_by indexes h.setting h.bytes ask ≡ spliced h.bytes s.at s.del s.ins) where
     continues-put : (r : Result Splice Fault) → at_revision h rev wanted ≡ r → ContinuesBy indexes h ask (put_splice h reply r)
     continues-put (Ok s) e =
         let ok = at_revision-ok h rev wanted s e in (
           ap (λ b. b && is_accepted (reply s (left_by h s))) asks ∙ accepts (reply s (left_by h s)) (reports s (left_by h s)),
-          record { given = refl; revision = omega arith; named = (named ∙ ap Some ok.0, tt); bytes = sym (leaves s ok.1) },
+          record { setting = refl; revision = omega arith; named = (named ∙ ap Some ok.0, tt); bytes = sym (leaves s ok.1) },
         )
     continues-put (Err f) e = continues-refused indexes h ask f
 

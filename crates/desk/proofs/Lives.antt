@@ -8,7 +8,7 @@ use Rattle.std.specs.FinMap as finite
 use Rattle.std.specs.FinMap.{get}
 use Rattle.std.specs.Cmp.Lexicographic.{nat_list_cmp_total}
 use Rattle.std.specs.Str.{bytes_eq}
-use Rattle.enc_names.specs.declared.encoding.Encoding.{Encoding}
+use Rattle.enc_names.specs.declared.setting.Setting.{Setting}
 use Rattle.index_loader.specs.Files.{Files}
 use Rattle.desk.specs.Commands.{Ask, Asked}
 use Rattle.desk.specs.Desk.{Office, effect, effect_of, has_place, Answers, Adopts}
@@ -29,24 +29,24 @@ use Rattle.desk.proofs.Rows as rows
 -- ---- lives, one behind the other
 
 pub life-nil : (indexes : Files) (h : Entry) → IsLife indexes h [] h
-life-nil indexes h = record { given = refl; revision = omega arith; named = tt; bytes = refl }
+life-nil indexes h = record { setting = refl; revision = omega arith; named = tt; bytes = refl }
 
 names-append : (r : ℕ) (es fs : List Ask) → NameFrom r es → NameFrom (r + length es) fs → NameFrom r (es ++ fs)
 names-append r [] fs p q = subst (λ n. NameFrom n fs) (omega arith) q
 names-append r (e ∷ es) fs p q = (p.0, names-append (r + 1) es fs p.1 (subst (λ n. NameFrom n fs) (omega arith) q))
 
-edited-append : (indexes : Files) (given : Encoding) (bytes : List ℕ) (es fs : List Ask)
-    → edited_by_all indexes given bytes (es ++ fs) ≡ edited_by_all indexes given (edited_by_all indexes given bytes es) fs
-edited-append indexes given bytes [] fs = refl
-edited-append indexes given bytes (e ∷ es) fs = edited-append indexes given (edited_by indexes given bytes e) es fs
+edited-append : (indexes : Files) (setting : Setting) (bytes : List ℕ) (es fs : List Ask)
+    → edited_by_all indexes setting bytes (es ++ fs) ≡ edited_by_all indexes setting (edited_by_all indexes setting bytes es) fs
+edited-append indexes setting bytes [] fs = refl
+edited-append indexes setting bytes (e ∷ es) fs = edited-append indexes setting (edited_by indexes setting bytes e) es fs
 
 life-trans : (indexes : Files) (h k m : Entry) (es fs : List Ask) → IsLife indexes h es k → IsLife indexes k fs m → IsLife indexes h (es ++ fs) m
 life-trans indexes h k m es fs p q = record {
-  given = q.given ∙ p.given;
+  setting = q.setting ∙ p.setting;
   revision = let n = length-append es fs in omega (arith, q.revision, p.revision, n);
   named = names-append h.revision es fs p.named (subst (λ r. NameFrom r fs) p.revision q.named);
-  bytes = q.bytes ∙ ap (λ b. edited_by_all indexes k.given b fs) p.bytes ∙ ap (λ g. edited_by_all indexes g (edited_by_all indexes h.given h.bytes es) fs) p.given
-      ∙ sym (edited-append indexes h.given h.bytes es fs);
+  bytes = q.bytes ∙ ap (λ b. edited_by_all indexes k.setting b fs) p.bytes ∙ ap (λ s. edited_by_all indexes s (edited_by_all indexes h.setting h.bytes es) fs) p.setting
+      ∙ sym (edited-append indexes h.setting h.bytes es fs);
 }
 
 -- ---- one act
@@ -100,26 +100,26 @@ module _ (d : List ℕ) (o p : Office) (h : Entry) (found : get o.documents d �
     by_want (inl e) lasts = wanting e
     by_want (inr ne) lasts = decided ne (bytes_eq c.doc d) refl lasts
 
-  module _ (name : List ℕ) (given : Encoding) (bytes : List ℕ) (rev : ℕ) where
-    taken : bytes_eq name d ≡ true → adopted o.indexes (has_place o.documents) (get o.documents name) given bytes rev ≡ Err NameTaken
+  module _ (name : List ℕ) (setting : Setting) (bytes : List ℕ) (rev : ℕ) where
+    taken : bytes_eq name d ≡ true → adopted o.indexes (has_place o.documents) (get o.documents name) setting bytes rev ≡ Err NameTaken
     taken e = let at_it : is_some (get o.documents name) ≡ true = ap (λ n. is_some (get o.documents n)) (same_bytes name d e) ∙ ap is_some found in rw at_it refl
 
-    beside : (k : Entry) → adopted o.indexes (has_place o.documents) (get o.documents name) given bytes rev ≡ Ok k → (t : Bool) → bytes_eq name d ≡ t → get (finite.insert o.documents name k) d ≡ get o.documents d
+    beside : (k : Entry) → adopted o.indexes (has_place o.documents) (get o.documents name) setting bytes rev ≡ Ok k → (t : Bool) → bytes_eq name d ≡ t → get (finite.insert o.documents name k) d ≡ get o.documents d
     beside k ok true e = let no = sym (taken e) ∙ ok in cc
     beside k ok false e = finite.get-insert nat_list_cmp_total o.documents name k d ∙ ap (λ b. cond b (Some k) (get o.documents d)) (test name d ∙ e)
 
-    adopting : (answer : Result (Unit {0}) Fault) → Adopts o name given bytes rev answer p → get p.documents d ≡ get o.documents d
+    adopting : (answer : Result (Unit {0}) Fault) → Adopts o name setting bytes rev answer p → get p.documents d ≡ get o.documents d
     adopting (Ok x) a = ap (λ m. get m d) a.step.2 ∙ beside a.step.0 a.step.1 (bytes_eq name d) refl
     adopting (Err OutOfMemory) a = ap (λ m. get m d) a.step
     adopting (Err f) a = ap (λ m. get m d) a.step.1
 
   one_act : (a : Act) → Acts o a p → ends_life d a ≡ false → Goal (edit_in d a)
   one_act (Commanded c reply) answers lasts = by_want c reply answers (wants reply) lasts
-  one_act (Adopted name given bytes rev answer) adopts lasts = stays (adopting name given bytes rev answer adopts)
+  one_act (Adopted name setting bytes rev answer) adopts lasts = stays (adopting name setting bytes rev answer adopts)
 
 same_indexes : (o p : Office) (a : Act) → Acts o a p → p.indexes ≡ o.indexes
 same_indexes o p (Commanded c reply) a = a.indexes
-same_indexes o p (Adopted name given bytes rev answer) a = a.indexes
+same_indexes o p (Adopted name setting bytes rev answer) a = a.indexes
 
 pub lives : Lives
 lives d o p [] begin found acts lasts = (begin, ap (λ (x : Office). get x.documents d) acts ∙ found, life-nil o.indexes begin)

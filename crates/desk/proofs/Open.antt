@@ -7,6 +7,8 @@ use Rattle.std.specs.declared.result.Result.TheVariants.{Ok, Err}
 use Rattle.std.specs.FinMap as finite
 use Rattle.std.specs.Option.{is_some}
 use Rattle.enc_names.specs.declared.encoding.Encoding.{Encoding}
+use Rattle.enc_names.specs.declared.setting.Setting.{Setting}
+use Rattle.enc_names.specs.Settings.{setting_of}
 use Rattle.enc_names.specs.Labels.{LabelTable, lookup_in}
 use Rattle.index_loader.specs.Files.{Files, has_files}
 use Rattle.piece_rope.specs.Edits.{document_limit, open_fault}
@@ -24,14 +26,15 @@ use Rattle.desk.specs.declared.reply.Reply.TheVariants.{Refused}
 use Rattle.desk.proofs.Row.{IsRow, Keeps, Answered, ContinuesBy, Decided, IsOther, Caused, caused-if, decided-if, decided-unless, keeps-with_bytes, keeps-put, answered-with_bytes, answered-put}
 
 -- an open whose bytes are read, whose name is free and whose label names an encoding
-pub opened_answers : (o : Office) (after : Shelf) (doc label text bytes lent : List ℕ) (given : Encoding) (reply : Reply)
-    → base64_bytes text ≡ Some bytes → lent ≡ bytes → is_some (finite.get o.documents doc) ≡ false → lookup_in o.labels label ≡ Some given
-    → IsOutcome (outcome o.documents doc (put (edit_reply o.indexes) (admitted o.indexes (has_place o.documents) given lent 0))) reply o.documents after.named
+pub opened_answers : (o : Office) (after : Shelf) (doc label text bytes lent : List ℕ) (given : Encoding) (setting : Setting) (reply : Reply)
+    → base64_bytes text ≡ Some bytes → lent ≡ bytes → setting ≡ setting_of given → is_some (finite.get o.documents doc) ≡ false → lookup_in o.labels label ≡ Some given
+    → IsOutcome (outcome o.documents doc (put (edit_reply o.indexes) (admitted o.indexes (has_place o.documents) setting lent 0))) reply o.documents after.named
     → after.indexes ≡ o.indexes
     → Answers o (asked_of doc (Opens label text)) reply (record { indexes = after.indexes; labels = o.labels; documents = after.named })
-opened_answers o after doc label text bytes lent given reply read same free named step indexes = record {
+opened_answers o after doc label text bytes lent given setting reply read same setting_is free named step indexes = record {
   step = rw (read, free, named)
-      (subst (λ b. IsOutcome (outcome o.documents doc (put (edit_reply o.indexes) (admitted o.indexes (has_place o.documents) given b 0))) reply o.documents after.named) same step);
+      (subst (λ s. IsOutcome (outcome o.documents doc (put (edit_reply o.indexes) (admitted o.indexes (has_place o.documents) s bytes 0))) reply o.documents after.named) setting_is
+      (subst (λ b. IsOutcome (outcome o.documents doc (put (edit_reply o.indexes) (admitted o.indexes (has_place o.documents) setting b 0))) reply o.documents after.named) same step));
   indexes = indexes;
   labels = refl;
 }
@@ -49,12 +52,12 @@ admitted-ok indexes old new name (Err f) (Refused g) step is = cc
 admitted-ok indexes old new name (Err f) reply step is =
     let never : false ≡ true = ap (λ (x : Outcome). is_accepted x.reply) step ∙ is in cc
 
-pub adopted_answers : (o : Office) (after : Shelf) (name : List ℕ) (given : Encoding) (bytes : List ℕ) (rev : ℕ) (reply : Reply)
-    → is_some (finite.get o.documents name) ≡ false → Admits o.indexes o.documents after.named name (admitted o.indexes (has_place o.documents) given bytes rev) reply
+pub adopted_answers : (o : Office) (after : Shelf) (name : List ℕ) (made setting : Setting) (bytes : List ℕ) (rev : ℕ) (reply : Reply)
+    → made ≡ setting → is_some (finite.get o.documents name) ≡ false → Admits o.indexes o.documents after.named name (admitted o.indexes (has_place o.documents) made bytes rev) reply
     → is_accepted reply ≡ true → after.indexes ≡ o.indexes
-    → Adopts o name given bytes rev done (record { indexes = after.indexes; labels = o.labels; documents = after.named })
-adopted_answers o after name given bytes rev reply free step is indexes =
-    let ok = admitted-ok o.indexes o.documents after.named name (admitted o.indexes (has_place o.documents) given bytes rev) reply step is in record {
+    → Adopts o name setting bytes rev done (record { indexes = after.indexes; labels = o.labels; documents = after.named })
+adopted_answers o after name made setting bytes rev reply made_is free step is indexes =
+    let ok = admitted-ok o.indexes o.documents after.named name (admitted o.indexes (has_place o.documents) setting bytes rev) reply (rw made_is at step) is in record {
       step = (ok.0, rw free ok.1, ok.2);
       indexes = indexes;
       labels = refl;
@@ -67,22 +70,22 @@ unfolding open_fault
 caused-open indexes given bytes =
     caused-if (has_files indexes given) _ _ (caused-if (nat_le (length bytes) document_limit) _ _ (λ e. cc) (λ e. cc)) (λ e. cc)
 
-decided-admitted : (indexes : Files) (place : Bool) (given : Encoding) (bytes : List ℕ) → Decided (λ k. IsOther (edit_reply indexes k)) (admitted indexes place given bytes 0)
-decided-admitted indexes place given bytes =
+decided-admitted : (indexes : Files) (place : Bool) (setting : Setting) (bytes : List ℕ) → Decided (λ k. IsOther (edit_reply indexes k)) (admitted indexes place setting bytes 0)
+decided-admitted indexes place setting bytes =
     let P : Entry → Type 0 = λ k. IsOther (edit_reply indexes k) in
-    decided-if P (has_files indexes given) _ _
-    (decided-if P place _ _ (decided-unless P (open_fault indexes given bytes) _ (caused-open indexes given bytes) (λ e. cc)) tt)
+    decided-if P (has_files indexes setting.given) _ _
+    (decided-if P place _ _ (decided-unless P (open_fault indexes setting.given bytes) _ (caused-open indexes setting.given bytes) (λ e. cc)) tt)
     tt
 
 keeps-opened : (indexes : Files) (place : Bool) (found : Option Entry) (bytes : List ℕ) (given : Option Encoding) → Keeps (opened indexes place found bytes given)
 keeps-opened indexes place (Some h) bytes given = λ e. refl
 keeps-opened indexes place None bytes None = λ e. refl
-keeps-opened indexes place None bytes (Some given) = keeps-put (edit_reply indexes) (admitted indexes place given bytes 0) (λ k. refl)
+keeps-opened indexes place None bytes (Some given) = keeps-put (edit_reply indexes) (admitted indexes place (setting_of given) bytes 0) (λ k. refl)
 
 answered-opened : (indexes : Files) (place : Bool) (found : Option Entry) (bytes : List ℕ) (given : Option Encoding) → Answered (opened indexes place found bytes given)
 answered-opened indexes place (Some h) bytes given = λ e. cc
 answered-opened indexes place None bytes None = λ e. cc
-answered-opened indexes place None bytes (Some given) = answered-put (edit_reply indexes) (admitted indexes place given bytes 0) (decided-admitted indexes place given bytes)
+answered-opened indexes place None bytes (Some given) = answered-put (edit_reply indexes) (admitted indexes place (setting_of given) bytes 0) (decided-admitted indexes place (setting_of given) bytes)
 
 continues-opened : (indexes : Files) (place : Bool) (h : Entry) (label text : List ℕ) (bytes : Option (List ℕ)) (given : Option Encoding)
     → ContinuesBy indexes h (Opens label text) (with_bytes bytes (λ b. opened indexes place (Some h) b given))

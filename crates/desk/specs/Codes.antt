@@ -3,7 +3,8 @@ use Rattle.std.specs.Prelude.{ℕ, List, Option, refl}
 use Rattle.std.specs.Coded.{Coded, code_by, coded×, coded_ℕ, coded_list, coded_option}
 use Rattle.std.specs.FinMap as map
 use Rattle.enc_names.specs.contracts.encoding.Encoding.{the_row}
-use Rattle.enc_names.specs.declared.encoding.Encoding.{Encoding}
+use Rattle.enc_names.specs.contracts.setting.Setting.{the_row as setting_row}
+use Rattle.enc_names.specs.declared.setting.Setting.{Setting}
 use Rattle.enc_names.specs.Labels.{LabelTable}
 use Rattle.index_loader.specs.Files.{Files}
 use Rattle.index_loader.specs.Pairs.{Pairs}
@@ -13,8 +14,8 @@ use Rattle.desk.specs.Desk.{Office}
 
 abbrev pub entry_code : Coded Entry
 entry_code =
-    code_by (Encoding × (List ℕ × ℕ)) (coded× the_row.coded (coded× (coded_list coded_ℕ) coded_ℕ))
-    (λ h. (h.given, (h.bytes, h.revision))) (λ p. record { given = p.0; bytes = p.1.0; revision = p.1.1 }) (λ _. refl)
+    code_by (Setting × (List ℕ × ℕ)) (coded× setting_row.coded (coded× (coded_list coded_ℕ) coded_ℕ))
+    (λ h. (h.setting, (h.bytes, h.revision))) (λ p. record { setting = p.0; bytes = p.1.0; revision = p.1.1 }) (λ _. refl)
 
 abbrev pub names_code : Coded Names
 names_code = map.code (coded_list coded_ℕ) entry_code

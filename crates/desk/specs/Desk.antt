@@ -1,7 +1,7 @@
 -- The desk: named documents, and what one command answers and leaves.
 use Rattle.std.specs.Prelude.{◌≡◌, ℕ, nat_lt, List, Bool, Option, Result, Ok, Err}
 use Rattle.std.specs.FinMap.{get, insert, remove, len}
-use Rattle.enc_names.specs.declared.encoding.Encoding.{Encoding}
+use Rattle.enc_names.specs.declared.setting.Setting.{Setting}
 use Rattle.enc_names.specs.Labels.{LabelTable, lookup_in}
 use Rattle.index_loader.specs.Files.{Files}
 use Rattle.desk.specs.Commands.{Ask, Asked, Opens, Closes, Splices, ChangesText, Reads, ReadsBytes, Encodes, ListsErrors, ListsLines, FindsPosition, FindsOffset, FindsPlace, Measures}
@@ -99,7 +99,7 @@ IsAdopted wanted name (Err OutOfMemory) old new = new ≡ old
 IsAdopted wanted name (Err fault) old new = (wanted ≡ Err fault) × (new ≡ old)
 
 -- a document is adopted, or refused
-pub record Adopts (old : Office) (name : List ℕ) (given : Encoding) (bytes : List ℕ) (rev : ℕ) {A : Type 0} (answer : Result A Fault) (new : Office) : Type 0 where
-  pub step : IsAdopted (adopted old.indexes (has_place old.documents) (get old.documents name) given bytes rev) name answer old.documents new.documents
+pub record Adopts (old : Office) (name : List ℕ) (setting : Setting) (bytes : List ℕ) (rev : ℕ) {A : Type 0} (answer : Result A Fault) (new : Office) : Type 0 where
+  pub step : IsAdopted (adopted old.indexes (has_place old.documents) (get old.documents name) setting bytes rev) name answer old.documents new.documents
   pub indexes : new.indexes ≡ old.indexes
   pub labels : new.labels ≡ old.labels

@@ -3,11 +3,11 @@ use Rattle.std.specs.Prelude.{◌≡◌, ℕ, List, Option, Some, None, Result, 
 use Rattle.std.specs.Ordering.{nat_cmp}
 use Rattle.std.specs.Cmp.Lexicographic.{slice_cmp}
 use Rattle.std.specs.FinMap.{FinMap}
-use Rattle.enc_names.specs.declared.encoding.Encoding.{Encoding}
+use Rattle.enc_names.specs.declared.setting.Setting.{Setting}
 use Rattle.index_loader.specs.Files.{Files}
 use Rattle.piece_rope.specs.declared.fault.DocFault.{DocFault}
 use Rattle.piece_rope.specs.declared.fault.DocFault.TheVariants as cause
-use Rattle.piece_rope.specs.Document.{Document, decoded}
+use Rattle.piece_rope.specs.Document.{Document, decoded, document}
 use Rattle.position_map.specs.declared.fault.PosFault.{PosFault}
 use Rattle.position_map.specs.declared.fault.PosFault.TheVariants as position
 use Rattle.desk.specs.declared.fault.Fault.{Fault}
@@ -17,12 +17,12 @@ use Rattle.desk.specs.declared.reply.Reply.TheVariants.{Edited, Refused}
 
 -- what is held at a name: nothing derived
 pub record Entry : Type 0 where
-  pub given : Encoding
+  pub setting : Setting
   pub bytes : List ℕ
   pub revision : ℕ
 
-abbrev pub entry : Encoding → List ℕ → ℕ → Entry
-entry given bytes revision = record { given = given; bytes = bytes; revision = revision }
+abbrev pub entry : Setting → List ℕ → ℕ → Entry
+entry setting bytes revision = record { setting = setting; bytes = bytes; revision = revision }
 
 -- names, as UTF-8 bytes, with what is held at them
 abbrev pub Names : Type 0
@@ -34,7 +34,7 @@ max_revision = 9007199254740991
 
 -- what is held, decoded by the loaded index files
 abbrev pub document_of : Files → Entry → Document
-document_of indexes h = record { indexes = indexes; given = h.given; bytes = h.bytes }
+document_of indexes h = document indexes h.setting h.bytes
 
 -- the refusal for a document's fault
 abbrev pub fault_of : DocFault → Fault

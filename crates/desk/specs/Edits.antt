@@ -15,7 +15,7 @@ pub record Splice : Type 0 where
 
 -- what a splice leaves: its bytes, at the next revision
 abbrev pub left_by : Entry → Splice → Entry
-left_by h s = entry h.given (spliced h.bytes s.at s.del s.ins) (h.revision + 1)
+left_by h s = entry h.setting (spliced h.bytes s.at s.del s.ins) (h.revision + 1)
 
 -- an edit names the revision now, and the revision can be raised
 abbrev pub at_revision : {A : Type 0} → Entry → ℕ → Result A Fault → Result A Fault

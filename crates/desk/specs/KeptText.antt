@@ -23,7 +23,7 @@ pub record Replaces (o : Office) (doc : List ℕ) (unit : TextUnit) (range : Opt
   pub found : get o.documents doc ≡ Some before
   pub is_plan : planned (document_of o.indexes before) range unit (chars text) ≡ Ok plan
   pub held : get p.documents doc ≡ Some after
-  pub leaves : after ≡ entry before.given (spliced before.bytes plan.at plan.del plan.ins) (before.revision + 1)
+  pub leaves : after ≡ entry before.setting (spliced before.bytes plan.at plan.del plan.ins) (before.revision + 1)
   pub kept : text_of (document_of o.indexes after) ≡ replaced (text_of (document_of o.indexes before)) plan.i plan.j (chars text)
 
 abbrev pub ChangesKeepText : Type 0

@@ -15,4 +15,4 @@ abbrev pub stat_reply : Files → Entry → Reply
 stat_reply indexes h =
     let d = document_of indexes h in
     let text = text_of d in
-    Stat h.revision h.given (decoded d).encoding (decoded d).bom (length h.bytes) (length (errors_of d)) (length (lines_of text)) (width Utf8 text) (width Utf16 text) (width Utf32 text)
+    Stat h.revision h.setting.given (decoded d).encoding (decoded d).bom (length h.bytes) (length (errors_of d)) (length (lines_of text)) (width Utf8 text) (width Utf16 text) (width Utf32 text)

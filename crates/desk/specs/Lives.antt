@@ -3,6 +3,8 @@ use Rattle.std.specs.Prelude.{◌≡◌, ℕ, ◌+◌, ◌&&◌, Bool, true, fal
 use Rattle.std.specs.Str.{bytes_eq, chars}
 use Rattle.std.specs.FinMap.{get}
 use Rattle.enc_names.specs.declared.encoding.Encoding.{Encoding}
+use Rattle.enc_names.specs.declared.setting.Setting.{Setting}
+use Rattle.enc_names.specs.Settings.{setting_of}
 use Rattle.enc_names.specs.Labels.{lookup_in}
 use Rattle.index_loader.specs.Files.{Files}
 use Rattle.piece_rope.specs.Edits.{spliced}
@@ -22,12 +24,12 @@ use Rattle.desk.specs.declared.reply.Reply.{Reply}
 -- a command with its reply, or an adoption with its answer
 pub data Act : Type 0 where
   Commanded : Asked → Reply → Act
-  -- name given bytes rev
-  Adopted : List ℕ → Encoding → List ℕ → ℕ → Result (Unit {0}) Fault → Act
+  -- name setting bytes rev
+  Adopted : List ℕ → Setting → List ℕ → ℕ → Result (Unit {0}) Fault → Act
 
 abbrev pub Acts : Office → Act → Office → Type 0
 Acts o (Commanded c reply) p = Answers o c reply p
-Acts o (Adopted name given bytes rev answer) p = Adopts o name given bytes rev answer p
+Acts o (Adopted name setting bytes rev answer) p = Adopts o name setting bytes rev answer p
 
 -- one after another
 abbrev pub ActsAll : Office → List Act → Office → Type 0
@@ -49,7 +51,7 @@ is_close ask = false
 -- the accepted edits of the document d, in their order
 abbrev pub edit_in : List ℕ → Act → List Ask
 edit_in d (Commanded c reply) = if bytes_eq c.doc d && (is_edit c.ask && is_accepted reply) then c.ask ∷ [] else []
-edit_in d (Adopted name given bytes rev answer) = []
+edit_in d (Adopted name setting bytes rev answer) = []
 
 abbrev pub edits_of : List ℕ → List Act → List Ask
 edits_of d [] = []
@@ -58,7 +60,7 @@ edits_of d (a ∷ acts) = edit_in d a ++ edits_of d acts
 -- a close of the document d is accepted
 abbrev pub ends_life : List ℕ → Act → Bool
 ends_life d (Commanded c reply) = bytes_eq c.doc d && (is_close c.ask && is_accepted reply)
-ends_life d (Adopted name given bytes rev answer) = false
+ends_life d (Adopted name setting bytes rev answer) = false
 
 -- none is
 abbrev pub Lasts : List ℕ → List Act → Type 0
@@ -82,15 +84,15 @@ with_planned bytes (Err fault) = bytes
 with_planned bytes (Ok plan) = spliced bytes plan.at plan.del plan.ins
 
 -- the bytes that an edit leaves of these
-abbrev pub edited_by : Files → Encoding → List ℕ → Ask → List ℕ
-edited_by indexes given bytes (Splices rev at del text) = with_spliced bytes at del (base64_bytes text)
-edited_by indexes given bytes (ChangesText rev unit range text) =
-    with_planned bytes (planned (document_of indexes (entry given bytes rev)) range unit (chars text))
-edited_by indexes given bytes ask = bytes
+abbrev pub edited_by : Files → Setting → List ℕ → Ask → List ℕ
+edited_by indexes setting bytes (Splices rev at del text) = with_spliced bytes at del (base64_bytes text)
+edited_by indexes setting bytes (ChangesText rev unit range text) =
+    with_planned bytes (planned (document_of indexes (entry setting bytes rev)) range unit (chars text))
+edited_by indexes setting bytes ask = bytes
 
-abbrev pub edited_by_all : Files → Encoding → List ℕ → List Ask → List ℕ
-edited_by_all indexes given bytes [] = bytes
-edited_by_all indexes given bytes (e ∷ es) = edited_by_all indexes given (edited_by indexes given bytes e) es
+abbrev pub edited_by_all : Files → Setting → List ℕ → List Ask → List ℕ
+edited_by_all indexes setting bytes [] = bytes
+edited_by_all indexes setting bytes (e ∷ es) = edited_by_all indexes setting (edited_by indexes setting bytes e) es
 
 -- The first edit names this revision, and each further one the next.
 abbrev pub NameFrom : ℕ → List Ask → Type 0
@@ -99,10 +101,10 @@ NameFrom r (e ∷ es) = (named_by e ≡ Some r) × NameFrom (r + 1) es
 
 -- The entry is the one of the beginning with the edits applied in their order, each once, and each named the revision that it found.
 pub record IsLife (indexes : Files) (begin : Entry) (edits : List Ask) (now : Entry) : Type 0 where
-  pub given : now.given ≡ begin.given
+  pub setting : now.setting ≡ begin.setting
   pub revision : now.revision ≡ begin.revision + length edits
   pub named : NameFrom begin.revision edits
-  pub bytes : now.bytes ≡ edited_by_all indexes begin.given begin.bytes edits
+  pub bytes : now.bytes ≡ edited_by_all indexes begin.setting begin.bytes edits
 
 abbrev pub Lives : Type 0
 Lives = (d : List ℕ) (o p : Office) (acts : List Act) (begin : Entry) → get o.documents d ≡ Some begin → ActsAll o acts p → Lasts d acts
@@ -117,7 +119,7 @@ pub record Begins (o : Office) (doc label text : List ℕ) (p : Office) : Type 0
   pub free : get o.documents doc ≡ None
   pub labelled : lookup_in o.labels label ≡ Some given
   pub read : base64_bytes text ≡ Some bytes
-  pub begin : get p.documents doc ≡ Some (entry given bytes 0)
+  pub begin : get p.documents doc ≡ Some (entry (setting_of given) bytes 0)
 
 abbrev pub OpensBegin : Type 0
 OpensBegin = (o p : Office) (doc label text : List ℕ) (reply : Reply) → Answers o (asked_of doc (Opens label text)) reply p → is_accepted reply ≡ true
@@ -128,8 +130,8 @@ done = Ok tt
 
 -- An accepted adoption begins one at the stated revision.
 abbrev pub AdoptionsBegin : Type 0
-AdoptionsBegin = (o p : Office) (name : List ℕ) (given : Encoding) (bytes : List ℕ) (rev : ℕ) → Adopts o name given bytes rev done p
-    → (get o.documents name ≡ None) × (get p.documents name ≡ Some (entry given bytes rev))
+AdoptionsBegin = (o p : Office) (name : List ℕ) (setting : Setting) (bytes : List ℕ) (rev : ℕ) → Adopts o name setting bytes rev done p
+    → (get o.documents name ≡ None) × (get p.documents name ≡ Some (entry setting bytes rev))
 
 -- An accepted close ends one.
 abbrev pub ClosesEnd : Type 0

@@ -10,7 +10,7 @@ use Rattle.desk.specs.Documents.{Entry, Names}
 
 -- an open document, without its index files
 abbrev pub entry_of : OpenDocument → Entry
-entry_of k = record { given = k.document.given; bytes = k.document.bytes; revision = k.revision }
+entry_of k = record { setting = k.document.setting; bytes = k.document.bytes; revision = k.revision }
 
 -- the names with what is held at them
 abbrev pub names : List (String Global × OpenDocument) → Names

@@ -1,6 +1,7 @@
 //! The desk: what it holds, and the table of its ops, each of which has a file of its own here.
 ghost use Rattle.std.specs.Prelude.{◌≡◌, ◌≤◌, false, length, Ok};
 ghost use Rattle.std.specs.FinMap as map;
+ghost use Rattle.enc_names.specs.Settings.{setting_of};
 ghost use Rattle.desk.specs.Changes.{changes};
 ghost use Rattle.desk.specs.Commands.{asked};
 ghost use Rattle.desk.specs.Desk.{Answers, Adopts};
@@ -11,7 +12,7 @@ use crate::documents::Documents;
 use crate::fault::Fault;
 use crate::reply::Reply;
 use decoder_core::OutOfMemory;
-use enc_names::{Encoding, Labels};
+use enc_names::{Encoding, Labels, Setting};
 use index_loader::Indexes;
 use position_map::Position;
 use std::alloc::Global;
@@ -32,8 +33,8 @@ mod stat;
 mod text;
 
 /// Named documents, beside the labels and the index files by which they are opened. Contracts
-/// see a finite map from names to the encoding given, the bytes and the revision, beside labels
-/// and index files.
+/// see a finite map from names to the setting, the bytes and the revision, beside labels and index
+/// files.
 #[derive(Drop)]
 pub struct Desk<'i> {
     labels: Labels,
@@ -80,13 +81,13 @@ impl<'i> Desk<'i> {
     ) -> Result<(), Fault>
         requires name { (1 ≤ length name.now) × (length name.now ≤ 64) }
         requires revision { revision ≤ max_revision }
-        ensures { Adopts self.old name.now given bytes.now revision result self.new }
+        ensures { Adopts self.old name.now (setting_of given) bytes.now revision result self.new }
     {
         if self.documents.get(name).is_some() {
             return Err(Fault::NameTaken);
         }
         self.documents
-            .open(self.alloc, name, given, bytes, revision)?;
+            .open(self.alloc, name, Setting::new(given), bytes, revision)?;
         Ok(())
     }
 

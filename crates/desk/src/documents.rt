@@ -16,7 +16,7 @@ use crate::fault::Fault;
 use crate::open_document::OpenDocument;
 use crate::reply::Reply;
 use decoder_core::meter;
-use enc_names::Encoding;
+use enc_names::Setting;
 use index_loader::Indexes;
 use piece_rope::Doc;
 use std::alloc::{AllocError, Global};
@@ -74,24 +74,24 @@ impl<'i> Documents<'i> {
         &mut self,
         alloc: Global,
         name: &str,
-        given: Encoding,
+        setting: Setting,
         bytes: &[u8],
         revision: u64,
     ) -> Result<Reply, Fault>
         requires { map.get self.old.named name.now ≡ None }
         ensures step { IsOutcome
-            (outcome self.old.named name.now (put (edit_reply self.old.indexes) (admitted self.old.indexes (has_place self.old.named) given bytes.now revision)))
+            (outcome self.old.named name.now (put (edit_reply self.old.indexes) (admitted self.old.indexes (has_place self.old.named) setting bytes.now revision)))
             (reply_of result) self.old.named self.new.named }
         ensures accepted { IfOk result (λ reply. is_accepted reply ≡ true) }
         ensures indexes { self.new.indexes ≡ self.old.indexes }
     {
-        if !self.indexes.has(given) {
+        if !self.indexes.has(setting.given) {
             return Err(Fault::NoIndex);
         }
         if self.len() >= MAX_DOCUMENTS {
             return Err(Fault::TooManyDocuments);
         }
-        let document = Doc::open(alloc, self.indexes, given, bytes, &mut meter())?;
+        let document = Doc::open(alloc, self.indexes, setting.given, bytes, &mut meter())?;
         let opened = OpenDocument { document, revision };
         let reply = opened.edit_reply();
         let name = String::from_str(alloc, name)?;

@@ -9,6 +9,7 @@ use Rattle.std.specs.declared.result.Result.TheVariants.{Ok}
 use Rattle.base64.proofs.OnLiterals.{base64_on_literals}
 use Rattle.enc_names.specs.declared.encoding.Encoding.TheVariants.{Utf8}
 use Rattle.enc_names.specs.Labels.{name_labels}
+use Rattle.enc_names.specs.Settings.{setting_of}
 use Rattle.index_loader.specs.Files.{no_files, has_files}
 use Rattle.decoder_core.specs.Queue.{run, turns}
 use Rattle.piece_rope.specs.Decode.{decode}
@@ -17,7 +18,7 @@ use Rattle.piece_rope.specs.Edits.{open_fault, splice_fault, text_fault, errors_
 use Rattle.desk.specs.Close.{closed}
 use Rattle.desk.specs.Commands.{Asked, Opens, Closes, Splices, Reads, ListsErrors}
 use Rattle.desk.specs.Desk.{Office, Outcome, max_documents, outcome, answer_of, has_place}
-use Rattle.desk.specs.Documents.{Entry, Names, edit_reply}
+use Rattle.desk.specs.Documents.{Entry, Names, entry, edit_reply}
 use Rattle.desk.specs.Effects.{Puts, base64_bytes, with_bytes, replied, refused, put, of_document}
 use Rattle.desk.specs.Errors.{errors_reply}
 use Rattle.desk.specs.Open.{admitted, opened}
@@ -44,7 +45,7 @@ no_bytes = refl
 -- ---- what is held, and what it decodes to
 
 abbrev completed : Entry
-completed = record { given = Utf8; bytes = 0xE2 ∷ 0x82 ∷ 0xAC ∷ 0x41 ∷ []; revision = 1 }
+completed = entry (setting_of Utf8) (0xE2 ∷ 0x82 ∷ 0xAC ∷ 0x41 ∷ []) 1
 
 truncated_edit : edit_reply no_files truncated ≡ Edited 0 Utf8 0
 unfolding decode
@@ -71,7 +72,7 @@ unfolding splice_fault
 past_end = refl
 
 admitting : (n : ℕ) → n ≡ 0
-    → admitted no_files (nat_lt n max_documents) Utf8 truncated.bytes 0 ≡ Ok truncated
+    → admitted no_files (nat_lt n max_documents) (setting_of Utf8) truncated.bytes 0 ≡ Ok truncated
 unfolding has_files open_fault
 admitting n e = rw e refl
 

@@ -3,6 +3,7 @@ use Rattle.std.specs.Prelude.{List, [], ◌∷◌, codes}
 use Rattle.std.specs.FinMap.{empty}
 use Rattle.enc_names.specs.declared.encoding.Encoding.TheVariants.{Utf8}
 use Rattle.enc_names.specs.Labels.{name_labels}
+use Rattle.enc_names.specs.Settings.{setting_of}
 use Rattle.index_loader.specs.Files.{no_files}
 use Rattle.desk.specs.Commands.{Ask, Asked, asked_of, Opens, Closes, Splices, Reads, ListsErrors}
 use Rattle.desk.specs.Desk.{Office, answer_of}
@@ -14,11 +15,11 @@ use Rattle.desk.specs.declared.text_mode.TextMode.TheVariants.{Replacement}
 
 -- UTF-8 E2 82 41: an error of two bytes, and A
 abbrev pub truncated : Entry
-truncated = entry Utf8 (0xE2 ∷ 0x82 ∷ 0x41 ∷ []) 0
+truncated = entry (setting_of Utf8) (0xE2 ∷ 0x82 ∷ 0x41 ∷ []) 0
 
 -- UTF-8 a, U+1F600, CR, LF, b
 abbrev pub pair_and_cr_lf : Entry
-pair_and_cr_lf = entry Utf8 (0x61 ∷ 0xF0 ∷ 0x9F ∷ 0x98 ∷ 0x80 ∷ 0x0D ∷ 0x0A ∷ 0x62 ∷ []) 0
+pair_and_cr_lf = entry (setting_of Utf8) (0x61 ∷ 0xF0 ∷ 0x9F ∷ 0x98 ∷ 0x80 ∷ 0x0D ∷ 0x0A ∷ 0x62 ∷ []) 0
 
 -- the desk behind a command
 abbrev pub after : Office → Asked → Office

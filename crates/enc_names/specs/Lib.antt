@@ -4,3 +4,4 @@ pub mod LabelEntries
 pub mod LabelFile
 pub mod Labels
 pub mod Names
+pub mod Settings

@@ -1,4 +1,5 @@
-//! Names of encodings and their labels, Unicode scalar values, and places in a document's bytes.
+//! Names of encodings and their labels, how a document's bytes are to be read, Unicode scalar
+//! values, and places in a document's bytes.
 #![tactic(auto)]
 
 mod encoding;
@@ -6,9 +7,11 @@ mod json;
 mod labels;
 mod place;
 mod scalar;
+mod setting;
 
 pub use encoding::Encoding;
 pub use json::parse_json;
 pub use labels::{LabelFault, Labels};
 pub use place::Place;
 pub use scalar::Scalar;
+pub use setting::Setting;

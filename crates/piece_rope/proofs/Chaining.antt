@@ -3,7 +3,7 @@ use Rattle.std.proofs.Common.{◌≡◌, ◌≢◌, refl, sym, ap, ◌∙◌, su
 use Rattle.std.proofs.lemmas.Grind.{flat_map-append}
 use Rattle.std.proofs.lemmas.List.{length-take-le}
 use Rattle.std.proofs.lemmas.Option.{slice_get_within}
-use Rattle.state_memo.specs.Decoding.{feed, OwnDecoder, AnyState, any}
+use Rattle.state_memo.specs.Decoding.{feed, AnyDecoding, AnyState, any}
 use Rattle.state_memo.specs.declared.outcome.Outcome.{Outcome}
 use Rattle.state_memo.specs.Memo.{same_state, recalled}
 use Rattle.state_memo.specs.Outcome.{outcome_of}
@@ -13,7 +13,7 @@ use Rattle.piece_rope.specs.Resync.{LastDiffers, Passed}
 use Rattle.piece_rope.specs.Chain.{IsOwn, Chain, bytes_of, state_after, renew, renew_by, renewed}
 
 -- what is said of one decoder's runs
-pub record Laws (d : OwnDecoder) : Type 0 where
+pub record Laws (d : AnyDecoding) : Type 0 where
   pub none : (s : AnyState) → (feed (any d) s []).state ≡ s
   pub parts : (s : AnyState) (p q : List ℕ) → (feed (any d) s (p ++ q)).state ≡ (feed (any d) (feed (any d) s p).state q).state
   pub exact : (a b : AnyState) → same_state a b ≡ true → a ≡ b
@@ -21,7 +21,7 @@ pub record Laws (d : OwnDecoder) : Type 0 where
   pub exit : (s : AnyState) (bytes : List ℕ) → (outcome_of d s bytes).exit ≡ (feed (any d) s bytes).state
   pub bytes : (s : AnyState) (bytes : List ℕ) → (outcome_of d s bytes).sum.bytes ≡ length bytes
 
-pub laws_from : (d : OwnDecoder) → ((s : AnyState) → (feed (any d) s []).state ≡ s)
+pub laws_from : (d : AnyDecoding) → ((s : AnyState) → (feed (any d) s []).state ≡ s)
     → ((s : AnyState) (p q : List ℕ) → (feed (any d) s (p ++ q)).state ≡ (feed (any d) (feed (any d) s p).state q).state)
     → ((a b : AnyState) → same_state a b ≡ true → a ≡ b) → ((a : AnyState) → same_state a a ≡ true)
     → ((s : AnyState) (bytes : List ℕ) → (outcome_of d s bytes).exit ≡ (feed (any d) s bytes).state)
@@ -94,7 +94,7 @@ renewed-whole ps rs n e within =
     ap (λ (xs : List Entry). renewed xs rs) (sym (take-append-drop n ps))
     ∙ renewed-append (take n ps) (drop n ps) rs (e ∙ sym (length-take-le n ps within))
 
-module _ (d : OwnDecoder) (laws : Laws d) where
+module _ (d : AnyDecoding) (laws : Laws d) where
   pub state-append : (s : AnyState) (xs ys : List Entry) → state_after d s (xs ++ ys) ≡ state_after d (state_after d s xs) ys
   state-append s xs ys = ap (λ (bs : List ℕ). (feed (any d) s bs).state) (bytes-append xs ys) ∙ laws.parts s (bytes_of xs) (bytes_of ys)
 

@@ -1,6 +1,6 @@
 -- The sums of pieces count their bytes.
 use Rattle.std.proofs.Common.{◌≡◌, refl, ap, ◌∙◌, ℕ, zero, suc, ◌+◌, ◌<◌, ◌≤◌, List, [], ◌∷◌, take, length, Option, Some, None, option_map, arith, length-append, add-one}
-use Rattle.state_memo.specs.Decoding.{OwnDecoder, AnyState, feed, any}
+use Rattle.state_memo.specs.Decoding.{AnyDecoding, AnyState, feed, any}
 use Rattle.state_memo.specs.declared.axis.Axis.TheVariants.{Byte}
 use Rattle.state_memo.specs.declared.outcome.Outcome.{Outcome}
 use Rattle.state_memo.specs.Outcome.{Contents, contents_of, outcome_of}
@@ -30,7 +30,7 @@ pub here-contents : (s : AnyState) (o : Option Outcome) (c : Contents) → optio
 here-contents s None c e = absurd cc
 here-contents s (Some o) c e = cc
 
-pub chain-counted : (d : OwnDecoder) → Laws d → (s : AnyState) (ps : List Entry) → Chain d s ps → AreCounted ps
+pub chain-counted : (d : AnyDecoding) → Laws d → (s : AnyState) (ps : List Entry) → Chain d s ps → AreCounted ps
 chain-counted d laws s [] c = tt
 chain-counted d laws s (p ∷ ps) c =
     (ap (λ (x : Contents). x.sum.bytes) (here-contents p.entry (here p) (outcome_of d p.entry p.piece.bytes) c.1.here_is) ∙ laws.bytes p.entry p.piece.bytes, chain-counted d laws (feed (any d) s p.piece.bytes).state ps c.2)

@@ -2,7 +2,7 @@
 use Rattle.std.proofs.Common.{◌≡◌, refl, sym, ap, ◌∙◌, subst, ℕ, zero, suc, ◌+◌, ◌<◌, ◌≤◌, List, [], ◌∷◌, ◌++◌, take, drop, length, slice_get, Some, arith, append_assoc, append-nil, length-append, length-drop, min}
 use Rattle.std.proofs.lemmas.List.{length-take-le}
 use Rattle.std.specs.List.{remove}
-use Rattle.state_memo.specs.Decoding.{feed, OwnDecoder, AnyState, any}
+use Rattle.state_memo.specs.Decoding.{feed, AnyDecoding, AnyState, any}
 use Rattle.piece_rope.specs.Entry.{Entry}
 use Rattle.piece_rope.specs.declared.entered.Renewal.{Renewal}
 use Rattle.piece_rope.specs.Chain.{IsOwn, Chain, bytes_of, state_after, renew, renewed}
@@ -65,7 +65,7 @@ added-bytes made more p part later rest bytes more_is own cut all =
     ∙ ap (λ (bs : List ℕ). bytes_of made ++ bs) (sym cut)
     ∙ all
 
-module _ (d : OwnDecoder) (laws : Laws d) where
+module _ (d : AnyDecoding) (laws : Laws d) where
   pub added-chain : (entry state : AnyState) (made more : List Entry) (p : Entry) (part : List ℕ) → more ≡ made ++ p ∷ [] → p.piece.bytes ≡ part
       → Chain d entry made → state ≡ state_after d entry made → p.entry ≡ state → IsOwn d p → Chain d entry more
   added-chain entry state made more p part more_is own chain state_is entry_is own_is =

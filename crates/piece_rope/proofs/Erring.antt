@@ -41,7 +41,7 @@ places-follow total from (e ∷ es) = (refl, places-follow total (total - e.back
 
 doc-follow : (doc : Document) → Follow (decoded doc).bom (decoded doc).items
 unfolding decode
-doc-follow doc = places-follow (length doc.bytes) (mark_length doc.bytes) _
+doc-follow doc = places-follow (length doc.bytes) (mark_length doc.setting doc.bytes) _
 
 follow-front : (from : ℕ) (xs ys : List Placed) → Follow from (xs ++ ys) → Follow from xs
 follow-front from [] ys f = tt

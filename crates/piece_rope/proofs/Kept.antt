@@ -1,13 +1,13 @@
 -- The numbers that a document keeps are its own.
 use Rattle.std.proofs.Common.{◌≡◌, refl, sym, ap, ◌∙◌, ℕ, ◌+◌, ◌^◌, ◌<◌, ◌≤◌, false, List, [], ◌∷◌, ◌++◌, length, slice_get, Some, arith, append-nil}
-use Rattle.enc_names.specs.declared.encoding.Encoding.{Encoding}
+use Rattle.enc_names.specs.declared.setting.Setting.{Setting}
 use Rattle.index_loader.specs.Files.{Files}
 use Rattle.state_memo.specs.Decoding.{mark_of, marks, total_width, utf16_width, utf8_width}
 use Rattle.state_memo.specs.declared.outcome.Outcome.{Outcome}
 use Rattle.state_memo.specs.declared.sum.Sum.{Sum}
 use Rattle.state_memo.specs.Sums.{joined}
 use Rattle.piece_rope.specs.Chain.{bytes_of}
-use Rattle.piece_rope.specs.Document.{Document, text_of, errors_of}
+use Rattle.piece_rope.specs.Document.{Document, document, text_of, errors_of}
 use Rattle.piece_rope.specs.Entry.{Entry, sums_of}
 use Rattle.piece_rope.specs.Kept.{IsKept}
 use Rattle.piece_rope.specs.Sizes.{CanJoin, HasSizes}
@@ -15,8 +15,8 @@ use Rattle.piece_rope.proofs.Answering.{errors-whole, text-whole}
 use Rattle.piece_rope.proofs.Counting.{few-pieces, short-of, sums-bytes}
 use Rattle.piece_rope.proofs.Joining.{whole-marks}
 
-pub join-kept : (files : Files) (given : Encoding) (ps : List Entry) (tail : Outcome) → IsKept files given ps tail → CanJoin ps
-join-kept files given ps tail kept = record {
+pub join-kept : (files : Files) (setting : Setting) (ps : List Entry) (tail : Outcome) → IsKept files setting ps tail → CanJoin ps
+join-kept files setting ps tail kept = record {
   short = short-of 1 ps kept.sizes.small kept.counted;
   few = omega (arith, few-pieces 1 ps (omega arith) kept.sizes.small, kept.within);
 }
@@ -30,10 +30,10 @@ pub record HasLengths (d : Document) (s : Sum) : Type 0 where
   pub marks : s.marks ≡ marks false (text_of d)
   pub few : s.marks + 1 < 2 ^ 64
 
-pub kept-lengths : (files : Files) (given : Encoding) (ps : List Entry) (tail : Outcome) → IsKept files given ps tail
-    → HasLengths (record { indexes = files; given = given; bytes = bytes_of ps }) (joined (sums_of ps) tail.sum)
-kept-lengths files given ps tail kept =
-    let doc : Document = record { indexes = files; given = given; bytes = bytes_of ps } in
+pub kept-lengths : (files : Files) (setting : Setting) (ps : List Entry) (tail : Outcome) → IsKept files setting ps tail
+    → HasLengths (document files setting (bytes_of ps)) (joined (sums_of ps) tail.sum)
+kept-lengths files setting ps tail kept =
+    let doc : Document = document files setting (bytes_of ps) in
     let text = sym (text-whole doc ps tail kept.whole) in
     let n = kept.numbers in
     record {
@@ -43,7 +43,7 @@ kept-lengths files given ps tail kept =
       utf8 = n.utf8 ∙ ap (total_width utf8_width) text;
       errors = n.errors ∙ sym (errors-whole doc ps tail kept.whole);
       marks = n.marks ∙ ap (marks false) text;
-      few = whole-marks ps tail (join-kept files given ps tail kept) kept.no_bytes;
+      few = whole-marks ps tail (join-kept files setting ps tail kept) kept.no_bytes;
     }
 
 mark-front : (xs ys : List ℕ) → 3 ≤ length xs → mark_of (xs ++ ys) ≡ mark_of xs

@@ -4,15 +4,15 @@ use Rattle.std.specs.Bool.{one_answer}
 use Rattle.std.specs.Prelude.{Decides}
 use Rattle.std.proofs.lemmas.Slice.Eq.{bytes_eq-Decides}
 use Rattle.std.proofs.lemmas.Bool.{le-leb}
-use Rattle.enc_names.specs.declared.encoding.Encoding.{Encoding}
+use Rattle.enc_names.specs.declared.setting.Setting.{Setting}
 use Rattle.index_loader.specs.Files.{Files}
-use Rattle.state_memo.specs.Decoding.{OwnDecoder}
+use Rattle.state_memo.specs.Decoding.{AnyDecoding}
 use Rattle.state_memo.specs.Outcome.{Contents, contents_of, ending_of}
 use Rattle.state_memo.specs.declared.outcome.Outcome.{Outcome}
 use Rattle.piece_rope.specs.declared.edit.Edit.{Edit}
 use Rattle.piece_rope.specs.declared.fault.DocFault.{DocFault}
 use Rattle.piece_rope.specs.declared.fault.DocFault.TheVariants.{NoIndex, OutOfRange, TooLarge, NotKept, OutOfMemory}
-use Rattle.piece_rope.specs.Document.{Document, text_of}
+use Rattle.piece_rope.specs.Document.{Document, document, text_of}
 use Rattle.piece_rope.specs.Chain.{bytes_of}
 use Rattle.piece_rope.specs.Edit.{edited}
 use Rattle.piece_rope.specs.Edits.{document_limit, spliced, spliced_document, kept_fault, is_kept, text_fault, splice_fault, first_of, named, replaced, KeptAnswers}
@@ -70,19 +70,19 @@ kept-is d after at del ins i j r put old new is new_is old_is decides =
 
 -- the document with the bytes of a splice
 edited-doc : (doc self : Document) → doc ≡ self → (bytes ins : List ℕ) (at del : ℕ) → bytes ≡ spliced doc.bytes at del ins
-    → record { indexes = doc.indexes; given = doc.given; bytes = bytes } ≡ spliced_document self at del ins
+    → document doc.indexes doc.setting bytes ≡ spliced_document self at del ins
 edited-doc doc self same bytes ins at del own =
-    ap (λ (bs : List ℕ). record { indexes = doc.indexes; given = doc.given; bytes = bs }) own ∙ ap (λ (x : Document). spliced_document x at del ins) same
+    ap (λ (bs : List ℕ). document doc.indexes doc.setting bs) own ∙ ap (λ (x : Document). spliced_document x at del ins) same
 
 -- once a splice is ready no cause is left, and what was compared is what is asked
-pub kept-answer : (files : Files) (given : Encoding) (ps : List Entry) (tail : Outcome) (e : Edit) (self : Document) (at del : ℕ) (ins : List ℕ) (i j : ℕ) (r : Bool) (put : List ℕ)
-    → record { indexes = files; given = given; bytes = bytes_of ps } ≡ self → IsKept files given ps tail → IsReady files given ps at del ins e
+pub kept-answer : (files : Files) (setting : Setting) (ps : List Entry) (tail : Outcome) (e : Edit) (self : Document) (at del : ℕ) (ins : List ℕ) (i j : ℕ) (r : Bool) (put : List ℕ)
+    → document files setting (bytes_of ps) ≡ self → IsKept files setting ps tail → IsReady files setting ps at del ins e
     → splice_fault (bytes_of ps) at del ins ≡ None → i ≤ j → j ≤ length (text_of self)
     → Decides r (text_in (edited_parts ps e) ≡ replaced (text_in (parts_of ps tail)) i j put)
     → (kept_fault self at del ins i j ≡ None) × (r ≡ is_kept self at del ins i j put)
-kept-answer files given ps tail e self at del ins i j r put view kept ready fault order within decides =
-    let doc : Document = record { indexes = files; given = given; bytes = bytes_of ps } in
-    let after : Document = record { indexes = files; given = given; bytes = bytes_of (edited ps e) } in
+kept-answer files setting ps tail e self at del ins i j r put view kept ready fault order within decides =
+    let doc : Document = document files setting (bytes_of ps) in
+    let after : Document = document files setting (bytes_of (edited ps e)) in
     let text = parts-whole doc ps tail kept.whole ∙ ap text_of view in
     let is = edited-doc doc self view (bytes_of (edited ps e)) ins at del ready.bytes in
     let cut = ap (λ (x : Document). splice_fault x.bytes at del ins) (sym view) ∙ fault in (
@@ -91,5 +91,5 @@ kept-answer files given ps tail e self at del ins i j r put view kept ready faul
     )
 
 -- ends from one state give one text
-pub same-ends : (d : OwnDecoder) (new old : Outcome) → contents_of new ≡ ending_of d new.exit → contents_of old ≡ ending_of d old.exit → new.exit ≡ old.exit → new.text ≡ old.text
+pub same-ends : (d : AnyDecoding) (new old : Outcome) → contents_of new ≡ ending_of d new.exit → contents_of old ≡ ending_of d old.exit → new.exit ≡ old.exit → new.text ≡ old.text
 same-ends d new old new_is old_is same = ap (λ (o : Contents). o.text) (new_is ∙ ap (ending_of d) same ∙ sym old_is)

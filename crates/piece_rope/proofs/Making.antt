@@ -3,7 +3,7 @@ use Rattle.std.proofs.Common.{◌≡◌, refl, sym, ap, ◌∙◌, subst, ℕ, s
 use Rattle.std.specs.Prelude.{ℤ, pos, ◌-ℤ◌}
 use Rattle.std.proofs.lemmas.Int.{ints}
 use Rattle.std.proofs.Math.Seq.{take-append_seam, drop-append_seam}
-use Rattle.state_memo.specs.Decoding.{Item, One, Two, Error, Ended as EndedItem, Placed, places, OwnDecoder, AnyState, any, any_start, feed, run, further, Shown, shown_from, shown_items, ended_at, item_code_points, code_points, decoder_in, output_of, mark_length}
+use Rattle.state_memo.specs.Decoding.{Item, One, Two, Error, Ended as EndedItem, Placed, places, AnyDecoding, AnyState, any, any_start, feed, run, further, Shown, shown_from, shown_items, ended_at, item_code_points, code_points, decoder_in, output_of, mark_length}
 use Rattle.state_memo.specs.declared.ended.Ended.{Ended}
 use Rattle.state_memo.specs.declared.outcome.Outcome.{Outcome}
 use Rattle.state_memo.specs.Items.{scalar_count, is_an_error}
@@ -18,12 +18,12 @@ use Rattle.piece_rope.proofs.Counting.{here-contents}
 use Rattle.piece_rope.proofs.Chaining.{Laws}
 
 -- what is said of the items of one decoder's runs
-pub record ItemLaws (d : OwnDecoder) : Type 0 where
+pub record ItemLaws (d : AnyDecoding) : Type 0 where
   pub runs : (s : AnyState) (p q : List ℕ) → run (any d) s (p ++ q) ≡ further (length q) (feed (any d) s p).items ++ run (any d) (feed (any d) s p).state q
   pub shown : (s : AnyState) (q : List ℕ) → shown_items (shown_from (any d) 0 s q) ≡ ended_at (length q) (feed (any d) s q).items
   pub near : (s : AnyState) (q : List ℕ) → AreNear (length q + 7) (run (any d) s q)
 
-pub item_laws : (d : OwnDecoder) → ((s : AnyState) (p q : List ℕ) → run (any d) s (p ++ q) ≡ further (length q) (feed (any d) s p).items ++ run (any d) (feed (any d) s p).state q)
+pub item_laws : (d : AnyDecoding) → ((s : AnyState) (p q : List ℕ) → run (any d) s (p ++ q) ≡ further (length q) (feed (any d) s p).items ++ run (any d) (feed (any d) s p).state q)
     → ((s : AnyState) (q : List ℕ) → shown_items (shown_from (any d) 0 s q) ≡ ended_at (length q) (feed (any d) s q).items)
     → ((s : AnyState) (q : List ℕ) → AreNear (length q + 7) (run (any d) s q)) → ItemLaws d
 item_laws d runs shown near = record { runs = runs; shown = shown; near = near }
@@ -113,7 +113,7 @@ tail-within total from [] near = tt
 tail-within total from (e ∷ es) near = (omega arith, omega (arith, near.0), tail-within total (total - e.back) es near.1)
 
 -- the items of pieces and of the end, as they lie in the document
-record Parts (d : OwnDecoder) (base total from : ℕ) (s : AnyState) (ps : List Entry) (tail : Outcome) : Type 0 where
+record Parts (d : AnyDecoding) (base total from : ℕ) (s : AnyState) (ps : List Entry) (tail : Outcome) : Type 0 where
   body : List Placed
   rest : List Placed
   all : places total from (run (any d) s (bytes_of ps)) ≡ body ++ rest
@@ -121,7 +121,7 @@ record Parts (d : OwnDecoder) (base total from : ℕ) (s : AnyState) (ps : List 
   ended : IsMade total rest tail
   count : length rest ≡ length (run (any d) (state_after d s ps) [])
 
-module _ (d : OwnDecoder) (laws : Laws d) (items : ItemLaws d) where
+module _ (d : AnyDecoding) (laws : Laws d) (items : ItemLaws d) where
   piece-made : (base total n from : ℕ) (s : AnyState) (q : List ℕ) (o : Outcome) → contents_of o ≡ outcome_of d s q → total ≡ base + (length q + n) → total < 2 ^ 64
       → AreNear (length q + 7) (feed (any d) s q).items → IsMade base (places total from (further n (feed (any d) s q).items)) o
   unfolding outcome_of sum_of
@@ -198,17 +198,17 @@ module _ (d : OwnDecoder) (laws : Laws d) (items : ItemLaws d) where
   back-part : {X : Type 0} (xs ys : List X) (n : ℕ) → length ys ≡ n → drop (length (xs ++ ys) - n) (xs ++ ys) ≡ ys
   back-part xs ys n e = let k : length (xs ++ ys) - n ≡ length xs = omega (arith, length-append xs ys, e) in ap (λ (m : ℕ). drop m (xs ++ ys)) k ∙ drop-append_seam xs ys
 
-  pub whole : (doc : Document) (ps : List Entry) (tail : Outcome) → decoder_in doc.indexes doc.given ≡ Some d → doc.bytes ≡ bytes_of ps → Chain d (any_start d) ps
-      → places (length doc.bytes) (mark_length doc.bytes) (run (any d) (any_start d) doc.bytes) ≡ (decoded doc).items
+  pub whole : (doc : Document) (ps : List Entry) (tail : Outcome) → decoder_in doc.indexes doc.setting ≡ Some d → doc.bytes ≡ bytes_of ps → Chain d (any_start d) ps
+      → places (length doc.bytes) (mark_length doc.setting doc.bytes) (run (any d) (any_start d) doc.bytes) ≡ (decoded doc).items
       → length doc.bytes < 2 ^ 64 → contents_of tail ≡ ending_of d (state_after d (any_start d) ps) → IsWhole doc (map here_of ps) tail
   whole doc ps tail chosen bytes chain scratch bound own =
       let size = length doc.bytes in
-      let made = parts 0 size (mark_length doc.bytes) (any_start d) ps tail chain (ap length bytes ∙ omega arith) bound own in
-      let all : (decoded doc).items ≡ made.body ++ made.rest = sym scratch ∙ ap (λ (bs : List ℕ). places size (mark_length doc.bytes) (run (any d) (any_start d) bs)) bytes ∙ made.all in
-      let last : ended_by (decoder_in doc.indexes doc.given) doc.bytes ≡ length (run (any d) (state_after d (any_start d) ps) []) =
-      ap (λ (o : Option OwnDecoder). ended_by o doc.bytes) chosen ∙ ap (λ (bs : List ℕ). length (run (any d) (feed (any d) (any_start d) bs).state [])) bytes in
+      let made = parts 0 size (mark_length doc.setting doc.bytes) (any_start d) ps tail chain (ap length bytes ∙ omega arith) bound own in
+      let all : (decoded doc).items ≡ made.body ++ made.rest = sym scratch ∙ ap (λ (bs : List ℕ). places size (mark_length doc.setting doc.bytes) (run (any d) (any_start d) bs)) bytes ∙ made.all in
+      let last : ended_by (decoder_in doc.indexes doc.setting) doc.bytes ≡ length (run (any d) (state_after d (any_start d) ps) []) =
+      ap (λ (o : Option AnyDecoding). ended_by o doc.bytes) chosen ∙ ap (λ (bs : List ℕ). length (run (any d) (feed (any d) (any_start d) bs).state [])) bytes in
       let count = made.count ∙ sym last in
-      let k = ended_by (decoder_in doc.indexes doc.given) doc.bytes in
+      let k = ended_by (decoder_in doc.indexes doc.setting) doc.bytes in
       let body : body_of doc ≡ made.body = ap (λ (is : List Placed). take (length is - k) is) all ∙ front-part made.body made.rest k count in
       let rest : tail_of doc ≡ made.rest = ap (λ (is : List Placed). drop (length is - k) is) all ∙ back-part made.body made.rest k count in
       record {

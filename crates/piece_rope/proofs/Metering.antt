@@ -3,9 +3,9 @@ use Rattle.std.proofs.Common.{◌≡◌, refl, sym, ap, ◌∙◌, subst, ℕ, �
 use Rattle.std.proofs.lemmas.List.{length-take-le}
 use Rattle.std.proofs.Math.Seq.{take-append-add}
 use Rattle.std.specs.Option.{IfSome}
-use Rattle.state_memo.specs.Decoding.{feed, OwnDecoder, any, any_start, state_behind}
+use Rattle.state_memo.specs.Decoding.{feed, AnyDecoding, any, any_start, state_behind}
 use Rattle.piece_rope.specs.Kept.{Resyncs}
-use Rattle.piece_rope.specs.Document.{Document}
+use Rattle.piece_rope.specs.Document.{Document, document}
 use Rattle.piece_rope.specs.Edit.{Metered}
 use Rattle.piece_rope.specs.Edits.{spliced}
 use Rattle.piece_rope.proofs.Preparing.{take-add}
@@ -17,26 +17,26 @@ new-front bytes ins at to m l =
     ap (λ (k : ℕ). take k ((take at bytes ++ ins) ++ drop to bytes)) (sym long)
     ∙ take-append-add (take at bytes ++ ins) (drop to bytes) m
 
-metered-splice : (doc : Document) (d : OwnDecoder) (at del to old new : ℕ) (ins : List ℕ) (chosen : Option OwnDecoder) → chosen ≡ Some d
-    → IfSome chosen (λ (e : OwnDecoder). (bytes : List ℕ) → (feed (any e) (any_start e) bytes).state ≡ state_behind doc.indexes doc.given bytes)
+metered-splice : (doc : Document) (d : AnyDecoding) (at del to old new : ℕ) (ins : List ℕ) (chosen : Option AnyDecoding) → chosen ≡ Some d
+    → IfSome chosen (λ (e : AnyDecoding). (bytes : List ℕ) → (feed (any e) (any_start e) bytes).state ≡ state_behind doc.indexes doc.setting bytes)
     → at + del ≤ length doc.bytes → to ≡ at + del → Metered d doc.bytes at to ins old new
     → (m : ℕ) → Resyncs doc at del ins m → new ≤ old + (length ins + m + 4 * 2048)
 metered-splice doc d at del to old new ins chosen chosen_is behind within to_is metered m resyncs =
     let B = doc.bytes in
-    let same = subst (λ (o : Option OwnDecoder). IfSome o (λ (e : OwnDecoder). (bytes : List ℕ) → (feed (any e) (any_start e) bytes).state ≡ state_behind doc.indexes doc.given bytes)) chosen_is behind in
+    let same = subst (λ (o : Option AnyDecoding). IfSome o (λ (e : AnyDecoding). (bytes : List ℕ) → (feed (any e) (any_start e) bytes).state ≡ state_behind doc.indexes doc.setting bytes)) chosen_is behind in
     metered.most m
     (λ l.
     let cut : take (at + del + m) B ≡ take to B ++ take m (drop to B) = ap (λ (k : ℕ). take (k + m) B) (sym to_is) ∙ take-add to m B in
     let new_cut : take (at + length ins + m) (spliced B at del ins) ≡ (take at B ++ ins) ++ take m (drop to B) =
     ap (λ (k : ℕ). take (at + length ins + m) ((take at B ++ ins) ++ drop k B)) (sym to_is) ∙ new-front B ins at to m (omega (arith, within)) in
     same ((take at B ++ ins) ++ take m (drop to B))
-    ∙ ap (λ (bs : List ℕ). state_behind doc.indexes doc.given bs) (sym new_cut)
+    ∙ ap (λ (bs : List ℕ). state_behind doc.indexes doc.setting bs) (sym new_cut)
     ∙ resyncs (omega (arith, l, to_is))
-    ∙ ap (λ (bs : List ℕ). state_behind doc.indexes doc.given bs) cut
+    ∙ ap (λ (bs : List ℕ). state_behind doc.indexes doc.setting bs) cut
     ∙ sym (same (take to B ++ take m (drop to B))))
 
-pub metered-cut : (doc : Document) (d : OwnDecoder) (at del start to old new : ℕ) (ins : List ℕ) (chosen : Option OwnDecoder) → chosen ≡ Some d
-    → IfSome chosen (λ (e : OwnDecoder). (bytes : List ℕ) → (feed (any e) (any_start e) bytes).state ≡ state_behind doc.indexes doc.given bytes)
+pub metered-cut : (doc : Document) (d : AnyDecoding) (at del start to old new : ℕ) (ins : List ℕ) (chosen : Option AnyDecoding) → chosen ≡ Some d
+    → IfSome chosen (λ (e : AnyDecoding). (bytes : List ℕ) → (feed (any e) (any_start e) bytes).state ≡ state_behind doc.indexes doc.setting bytes)
     → at + del ≤ length doc.bytes → start ≡ at → to ≡ at + del → Metered d doc.bytes start to ins old new
     → (m : ℕ) → Resyncs doc at del ins m → new ≤ old + (length ins + m + 4 * 2048)
 metered-cut doc d at del start to old new ins chosen chosen_is behind within start_is to_is metered =

@@ -5,9 +5,9 @@ use Rattle.std.specs.Prelude.{pos, ◌-ℤ◌}
 use Rattle.std.proofs.lemmas.Int.{ints}
 use Rattle.std.proofs.lemmas.List.{take-append-le}
 use Rattle.std.proofs.lemmas.List.Elements.{All-map, All-append, All-nil}
-use Rattle.enc_names.specs.declared.encoding.Encoding.{Encoding}
+use Rattle.enc_names.specs.declared.setting.Setting.{Setting}
 use Rattle.index_loader.specs.Files.{Files, has_files}
-use Rattle.state_memo.specs.Decoding.{Ended as EndedItem, OwnDecoder, AnyState, any, any_start, feed, run, decoder_in, output_of, output_behind, state_behind, Shown, shown_from}
+use Rattle.state_memo.specs.Decoding.{Ended as EndedItem, AnyDecoding, AnyState, any, any_start, feed, run, decoder_in, output_of, output_behind, state_behind, Shown, shown_from}
 use Rattle.state_memo.specs.declared.ended.Ended.{Ended}
 use Rattle.state_memo.specs.declared.outcome.Outcome.{Outcome}
 use Rattle.state_memo.specs.Items.{kept_item}
@@ -22,31 +22,31 @@ use Rattle.piece_rope.specs.Outputs.{output_at, HasOutputs, HaveOutputs}
 use Rattle.piece_rope.proofs.Counting.{here-contents}
 
 -- what is said of one decoder's states
-pub record StateLaws (files : Files) (given : Encoding) (d : OwnDecoder) : Type 0 where
-  pub behind : (bytes : List ℕ) → (feed (any d) (any_start d) bytes).state ≡ state_behind files given bytes
-  pub output : (bytes : List ℕ) → output_of (state_behind files given bytes) ≡ output_behind files given bytes
+pub record StateLaws (files : Files) (setting : Setting) (d : AnyDecoding) : Type 0 where
+  pub behind : (bytes : List ℕ) → (feed (any d) (any_start d) bytes).state ≡ state_behind files setting bytes
+  pub output : (bytes : List ℕ) → output_of (state_behind files setting bytes) ≡ output_behind files setting bytes
   pub parts : (s : AnyState) (p q : List ℕ) → (feed (any d) s (p ++ q)).state ≡ (feed (any d) (feed (any d) s p).state q).state
-  pub byte : (p : List ℕ) (b : ℕ) → All (λ (e : EndedItem). output_of (state_behind files given (take (length p + 1 - e.back) (p ++ b ∷ []))) ≡ output_of (state_behind files given (p ++ b ∷ []))) (feed (any d) (state_behind files given p) (b ∷ [])).items
-  pub end : (p : List ℕ) → All (λ (e : EndedItem). output_of (state_behind files given (take (length p - e.back) p)) ≡ output_of (state_behind files given p)) (run (any d) (state_behind files given p) [])
+  pub byte : (p : List ℕ) (b : ℕ) → All (λ (e : EndedItem). output_of (state_behind files setting (take (length p + 1 - e.back) (p ++ b ∷ []))) ≡ output_of (state_behind files setting (p ++ b ∷ []))) (feed (any d) (state_behind files setting p) (b ∷ [])).items
+  pub end : (p : List ℕ) → All (λ (e : EndedItem). output_of (state_behind files setting (take (length p - e.back) p)) ≡ output_of (state_behind files setting p)) (run (any d) (state_behind files setting p) [])
 
 -- a decoder that is there
-pub record IsThere (files : Files) (given : Encoding) : Type 0 where
-  pub decoder : OwnDecoder
-  pub chosen : decoder_in files given ≡ Some decoder
+pub record IsThere (files : Files) (setting : Setting) : Type 0 where
+  pub decoder : AnyDecoding
+  pub chosen : decoder_in files setting ≡ Some decoder
 
-there-by : (files : Files) (given : Encoding) (o : Option OwnDecoder) → decoder_in files given ≡ o → is_some o ≡ true → IsThere files given
-there-by files given (Some d) is some = record { decoder = d; chosen = is }
-there-by files given None is some = absurd cc
+there-by : (files : Files) (setting : Setting) (o : Option AnyDecoding) → decoder_in files setting ≡ o → is_some o ≡ true → IsThere files setting
+there-by files setting (Some d) is some = record { decoder = d; chosen = is }
+there-by files setting None is some = absurd cc
 
-pub is_there : (files : Files) (given : Encoding) → is_some (decoder_in files given) ≡ has_files files given → has_files files given ≡ true → IsThere files given
-is_there files given same can = there-by files given (decoder_in files given) refl (same ∙ can)
+pub is_there : (files : Files) (setting : Setting) → is_some (decoder_in files setting) ≡ has_files files setting.given → has_files files setting.given ≡ true → IsThere files setting
+is_there files setting same can = there-by files setting (decoder_in files setting) refl (same ∙ can)
 
 ends : (base read back : ℕ) → base + read < 2 ^ 64 → ends_at base (pos read -ℤ pos back) ≡ base + read - back
 ends base read back bound = grind (arith, ints)
 
-module _ (doc : Document) (d : OwnDecoder) (laws : StateLaws doc.indexes doc.given d) (bound : length doc.bytes < 2 ^ 64) where
+module _ (doc : Document) (d : AnyDecoding) (laws : StateLaws doc.indexes doc.setting d) (bound : length doc.bytes < 2 ^ 64) where
   abbrev state : List ℕ → AnyState
-  state p = state_behind doc.indexes doc.given p
+  state p = state_behind doc.indexes doc.setting p
 
   next : (p q : List ℕ) → (feed (any d) (state p) q).state ≡ state (p ++ q)
   next p q = ap (λ (s : AnyState). (feed (any d) s q).state) (sym (laws.behind p)) ∙ sym (laws.parts (any_start d) p q) ∙ laws.behind (p ++ q)

@@ -2,7 +2,7 @@
 use Rattle.std.proofs.Common.{◌≡◌, refl, sym, ap, ◌∙◌, subst, ℕ, zero, suc, ◌+◌, ◌-◌, ◌*◌, ◌<◌, ◌≤◌, List, [], ◌∷◌, ◌++◌, take, drop, length, arith, append_assoc, append-nil, length-append, length-drop, take-append-drop, ◌⊎◌, inl, inr}
 use Rattle.std.proofs.lemmas.List.{length-take-le, length-take, drop-drop, take-append-le}
 use Rattle.std.proofs.Math.Seq.{take-append_seam, drop-append_seam}
-use Rattle.state_memo.specs.Decoding.{feed, OwnDecoder, AnyState, any, any_start}
+use Rattle.state_memo.specs.Decoding.{feed, AnyDecoding, AnyState, any, any_start}
 use Rattle.piece_rope.specs.Entry.{Entry}
 use Rattle.piece_rope.specs.declared.entered.Renewal.{Renewal}
 use Rattle.piece_rope.specs.declared.window.Window.{Window}
@@ -127,7 +127,7 @@ wide-back ps n wide sole = elim (low_or_high (length ps) 2) [
   | inr many ↦ sized-drop shortest n ps (wide many)
 ]
 
-module _ (d : OwnDecoder) (laws : Laws d) where
+module _ (d : AnyDecoding) (laws : Laws d) where
   -- bytes behind which states agree, m bytes behind an edit
   pub agree-on : (start : AnyState) (x y Q later : List ℕ) (m : ℕ) → m ≤ length Q
       → (feed (any d) start (x ++ take m (Q ++ later))).state ≡ (feed (any d) start (y ++ take m (Q ++ later))).state

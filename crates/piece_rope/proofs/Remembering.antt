@@ -1,6 +1,6 @@
 -- What a piece remembers stays its own.
 use Rattle.std.proofs.Common.{◌≡◌, ℕ, refl, sym, ap, ◌∙◌, subst, zero, suc, Bool, true, false, List, [], ◌∷◌, take, Option, Some, None, option_map, cond}
-use Rattle.state_memo.specs.Decoding.{feed, AnyState, OwnDecoder, any}
+use Rattle.state_memo.specs.Decoding.{feed, AnyState, AnyDecoding, any}
 use Rattle.state_memo.specs.declared.outcome.Outcome.{Outcome}
 use Rattle.state_memo.specs.declared.known.Known.{Known}
 use Rattle.state_memo.specs.Outcome.{Contents, contents_of, outcome_of, ending_of}
@@ -10,7 +10,7 @@ use Rattle.piece_rope.specs.Entry.{Entry}
 use Rattle.piece_rope.proofs.Chaining.{Laws}
 use Rattle.piece_rope.specs.Chain.{AreRight, IsOwn, renew, renew_by}
 
-module _ (d : OwnDecoder) (laws : Laws d) (bytes : List ℕ) where
+module _ (d : AnyDecoding) (laws : Laws d) (bytes : List ℕ) where
   right-pick : (b : Bool) (x y : List Known) → AreRight d bytes x → AreRight d bytes y → AreRight d bytes (cond b x y)
   right-pick true x y p q = p
   right-pick false x y p q = q
@@ -46,7 +46,7 @@ found-first : (b : Bool) (o : Outcome) (rest : Option Outcome) → b ≡ true �
 found-first true o rest e = refl
 found-first false o rest e = absurd cc
 
-module _ (d : OwnDecoder) (laws : Laws d) where
+module _ (d : AnyDecoding) (laws : Laws d) where
   pub own-installed : (bytes : List ℕ) (known : List Known) (s : AnyState) (o : Outcome) → AreRight d bytes known → contents_of o ≡ outcome_of d s bytes
       → IsOwn d (record { piece = record { bytes = bytes; known = installed known s o }; entry = s })
   own-installed bytes known s o right is = record {
@@ -70,13 +70,13 @@ module _ (d : OwnDecoder) (laws : Laws d) where
   pub entry-renewed : (p : Entry) (s : AnyState) (o : Outcome) → recalled p.piece.known s ≡ Some o → (renew p (record { entry = s; outcome = None })).entry ≡ s
   entry-renewed p s o found = subst (λ (x : Option Outcome). (renew_by p s None x).entry ≡ s) (sym found) refl
 
-pub ending-exit : (d : OwnDecoder) (s : AnyState) (o : Outcome) → contents_of o ≡ ending_of d s → o.exit ≡ s
+pub ending-exit : (d : AnyDecoding) (s : AnyState) (o : Outcome) → contents_of o ≡ ending_of d s → o.exit ≡ s
 unfolding ending_of
 ending-exit d s o e = ap (λ (c : Contents). c.exit) e
 
-pub ending-own : (d : OwnDecoder) (s : AnyState) (o : Outcome) → contents_of o ≡ ending_of d s → contents_of o ≡ ending_of d o.exit
+pub ending-own : (d : AnyDecoding) (s : AnyState) (o : Outcome) → contents_of o ≡ ending_of d s → contents_of o ≡ ending_of d o.exit
 ending-own d s o e = e ∙ ap (ending_of d) (sym (ending-exit d s o e))
 
-pub ending-bytes : (d : OwnDecoder) (s : AnyState) (o : Outcome) → contents_of o ≡ ending_of d s → o.sum.bytes ≡ 0
+pub ending-bytes : (d : AnyDecoding) (s : AnyState) (o : Outcome) → contents_of o ≡ ending_of d s → o.sum.bytes ≡ 0
 unfolding ending_of sum_of
 ending-bytes d s o e = ap (λ (c : Contents). c.sum.bytes) e

@@ -1,6 +1,6 @@
 -- Pieces in a row, each entered in the state behind those before it.
 use Rattle.std.specs.Prelude.{◌≡◌, ℕ, List, [], ◌∷◌, flat_map, Option, Some, None, option_map}
-use Rattle.state_memo.specs.Decoding.{feed, OwnDecoder, AnyState, any}
+use Rattle.state_memo.specs.Decoding.{feed, AnyDecoding, AnyState, any}
 use Rattle.state_memo.specs.declared.outcome.Outcome.{Outcome}
 use Rattle.state_memo.specs.declared.known.Known.{Known}
 use Rattle.state_memo.specs.Outcome.{contents_of, outcome_of}
@@ -13,22 +13,22 @@ abbrev pub bytes_of : List Entry → List ℕ
 bytes_of ps = flat_map (λ (p : Entry). p.piece.bytes) ps
 
 -- each remembered outcome is the piece's from its state
-abbrev pub AreRight : OwnDecoder → List ℕ → List Known → Type 0
+abbrev pub AreRight : AnyDecoding → List ℕ → List Known → Type 0
 AreRight d bytes [] = Unit {0}
 AreRight d bytes (k ∷ ks) = (contents_of k.outcome ≡ outcome_of d k.entry bytes) × AreRight d bytes ks
 
 -- the piece remembers its own outcomes alone, and among them that from the state in which it is entered
-pub record IsOwn (d : OwnDecoder) (p : Entry) : Type 0 where
+pub record IsOwn (d : AnyDecoding) (p : Entry) : Type 0 where
   pub right : AreRight d p.piece.bytes p.piece.known
   pub here_is : option_map contents_of (here p) ≡ Some (outcome_of d p.entry p.piece.bytes)
 
 -- each piece is entered in the state behind the one before, the first in `s`, and remembers its own outcomes
-abbrev pub Chain : OwnDecoder → AnyState → List Entry → Type 0
+abbrev pub Chain : AnyDecoding → AnyState → List Entry → Type 0
 Chain d s [] = Unit {0}
 Chain d s (p ∷ ps) = (p.entry ≡ s) × IsOwn d p × Chain d (feed (any d) s p.piece.bytes).state ps
 
 -- the state behind pieces
-abbrev pub state_after : OwnDecoder → AnyState → List Entry → AnyState
+abbrev pub state_after : AnyDecoding → AnyState → List Entry → AnyState
 state_after d s ps = (feed (any d) s (bytes_of ps)).state
 
 -- a piece entered in another state: by an outcome that was computed, or by a remembered one

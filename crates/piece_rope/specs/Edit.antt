@@ -1,13 +1,13 @@
 -- An edit that is made ready before anything changes.
 use Rattle.std.specs.Prelude.{◌≡◌, ℕ, ◌+◌, ◌*◌, ◌-◌, ◌<◌, ◌≤◌, List, ◌++◌, take, drop, length}
-use Rattle.state_memo.specs.Decoding.{feed, OwnDecoder, AnyState, any, any_start}
+use Rattle.state_memo.specs.Decoding.{feed, AnyDecoding, AnyState, any, any_start}
 use Rattle.piece_rope.specs.declared.edit.Edit.{Edit}
 use Rattle.piece_rope.specs.Entry.{Entry}
 use Rattle.piece_rope.specs.Chain.{Chain, state_after, renewed}
 use Rattle.piece_rope.specs.Sizes.{HasSizes}
 
 -- the pieces of a document
-pub record IsRope (d : OwnDecoder) (ps : List Entry) (end : AnyState) : Type 0 where
+pub record IsRope (d : AnyDecoding) (ps : List Entry) (end : AnyState) : Type 0 where
   pub chain : Chain d (any_start d) ps
   pub end_is : end ≡ state_after d (any_start d) ps
   pub sizes : HasSizes ps
@@ -21,11 +21,11 @@ abbrev pub exchanged : List ℕ → ℕ → ℕ → List ℕ → List ℕ
 exchanged bytes at to ins = take at bytes ++ (ins ++ drop to bytes)
 
 -- `m` bytes behind the edit the new state is the old one, or the bytes end
-abbrev pub AgreesAt : OwnDecoder → List ℕ → ℕ → ℕ → List ℕ → ℕ → Type 0
+abbrev pub AgreesAt : AnyDecoding → List ℕ → ℕ → ℕ → List ℕ → ℕ → Type 0
 AgreesAt d bytes at to ins m =
     m < length bytes - to
     → (feed (any d) (any_start d) ((take at bytes ++ ins) ++ take m (drop to bytes))).state ≡ (feed (any d) (any_start d) (take to bytes ++ take m (drop to bytes))).state
 
 -- how far the meter may go up from `old` to `new`
-pub record Metered (d : OwnDecoder) (bytes : List ℕ) (at to : ℕ) (ins : List ℕ) (old new : ℕ) : Type 0 where
+pub record Metered (d : AnyDecoding) (bytes : List ℕ) (at to : ℕ) (ins : List ℕ) (old new : ℕ) : Type 0 where
   pub most : (m : ℕ) → AgreesAt d bytes at to ins m → new ≤ old + (length ins + m + 4 * 2048)

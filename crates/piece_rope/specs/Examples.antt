@@ -1,13 +1,14 @@
 -- Documents of the worked examples.
 use Rattle.std.specs.Prelude.{ℕ, List}
 use Rattle.enc_names.specs.declared.encoding.Encoding.TheVariants.{Utf8}
+use Rattle.enc_names.specs.Settings.{setting_of}
 use Rattle.enc_names.specs.declared.place.Place.{Place}
 use Rattle.index_loader.specs.Files.{no_files}
-use Rattle.piece_rope.specs.Document.{Document}
+use Rattle.piece_rope.specs.Document.{Document, document}
 
 -- a document in UTF-8, with no index file
 abbrev pub in_utf8 : List ℕ → Document
-in_utf8 bytes = record { indexes = no_files; given = Utf8; bytes = bytes }
+in_utf8 bytes = document no_files (setting_of Utf8) bytes
 
 -- the bytes from one place to another
 abbrev pub at : ℕ → ℕ → Place

@@ -1,34 +1,34 @@
 -- What a document keeps, and how far the meter rises with an edit.
 use Rattle.std.specs.Prelude.{◌≡◌, ℕ, ◌+◌, ◌-◌, ◌<◌, ◌≤◌, true, List, map, take, length, ◌++◌, Some}
-use Rattle.enc_names.specs.declared.encoding.Encoding.{Encoding}
+use Rattle.enc_names.specs.declared.setting.Setting.{Setting}
 use Rattle.index_loader.specs.Files.{Files, has_files}
-use Rattle.state_memo.specs.Decoding.{OwnDecoder, decoder_in, state_behind}
+use Rattle.state_memo.specs.Decoding.{AnyDecoding, decoder_in, state_behind}
 use Rattle.state_memo.specs.declared.outcome.Outcome.{Outcome}
 use Rattle.state_memo.specs.Outcome.{contents_of, ending_of}
 use Rattle.piece_rope.specs.Entry.{Entry, here_of, texts_of, items_of, sums_of}
 use Rattle.state_memo.specs.Facts.{IsSumOf}
 use Rattle.state_memo.specs.Sums.{joined}
 use Rattle.piece_rope.specs.Chain.{bytes_of}
-use Rattle.piece_rope.specs.Document.{Document}
+use Rattle.piece_rope.specs.Document.{Document, document}
 use Rattle.piece_rope.specs.Edit.{IsRope}
 use Rattle.piece_rope.specs.Edits.{document_limit, spliced}
 use Rattle.piece_rope.specs.Made.{IsWhole}
 use Rattle.piece_rope.specs.Sizes.{AreCounted, HasSizes}
 
--- by the decoder of its encoding
-pub record IsKept (files : Files) (given : Encoding) (ps : List Entry) (tail : Outcome) : Type 0 where
-  pub can : has_files files given ≡ true
+-- by the decoder of its setting
+pub record IsKept (files : Files) (setting : Setting) (ps : List Entry) (tail : Outcome) : Type 0 where
+  pub can : has_files files setting.given ≡ true
   pub within : length (bytes_of ps) ≤ document_limit
   pub counted : AreCounted ps
   pub sizes : HasSizes ps
-  pub rope : (d : OwnDecoder) → decoder_in files given ≡ Some d → IsRope d ps tail.exit
-  pub whole : IsWhole (record { indexes = files; given = given; bytes = bytes_of ps }) (map here_of ps) tail
+  pub rope : (d : AnyDecoding) → decoder_in files setting ≡ Some d → IsRope d ps tail.exit
+  pub whole : IsWhole (document files setting (bytes_of ps)) (map here_of ps) tail
   pub numbers : IsSumOf (texts_of ps ++ tail.text) (items_of ps ++ tail.items) (joined (sums_of ps) tail.sum)
   pub no_bytes : tail.sum.bytes ≡ 0
-  pub tail_is : (d : OwnDecoder) → decoder_in files given ≡ Some d → contents_of tail ≡ ending_of d tail.exit
+  pub tail_is : (d : AnyDecoding) → decoder_in files setting ≡ Some d → contents_of tail ≡ ending_of d tail.exit
 
 -- `m` bytes behind the edit the new document is in the old one's state, or the bytes end there; the least such m is the resync distance
 abbrev pub Resyncs : Document → ℕ → ℕ → List ℕ → ℕ → Type 0
 Resyncs d at del ins m =
     m < length d.bytes - (at + del)
-    → state_behind d.indexes d.given (take (at + length ins + m) (spliced d.bytes at del ins)) ≡ state_behind d.indexes d.given (take (at + del + m) d.bytes)
+    → state_behind d.indexes d.setting (take (at + length ins + m) (spliced d.bytes at del ins)) ≡ state_behind d.indexes d.setting (take (at + del + m) d.bytes)

@@ -2,10 +2,11 @@
 use Rattle.std.specs.Prelude.{ℕ, List, [], ◌∷◌}
 use Rattle.enc_names.specs.declared.encoding.Encoding.{Encoding}
 use Rattle.enc_names.specs.declared.encoding.Encoding.TheVariants.{Big5, Iso2022Jp, ShiftJis}
+use Rattle.enc_names.specs.Settings.{setting_of}
 use Rattle.index_loader.specs.Files.{Files, no_files, with_index}
 use Rattle.index_loader.specs.Index.{Loaded}
 use Rattle.index_loader.specs.declared.kind.IndexKind.TheVariants as kinds
-use Rattle.piece_rope.specs.Document.{Document}
+use Rattle.piece_rope.specs.Document.{Document, document}
 
 abbrev pub jis0208 : Loaded
 jis0208 = record { kind = kinds.Jis0208; pairs = (1, 0x3001) ∷ (283, 0x3042) ∷ (1410, 0x4E9C) ∷ [] }
@@ -19,24 +20,24 @@ big5 = record { kind = kinds.Big5; pairs = (5495, 0x4E00) ∷ [] }
 abbrev pub few_files : Files
 few_files = with_index (with_index (with_index no_files jis0208) katakana) big5
 
-abbrev pub document : Encoding → List ℕ → Document
-document given bytes = record { indexes = few_files; given = given; bytes = bytes }
+abbrev pub in_encoding : Encoding → List ℕ → Document
+in_encoding given bytes = document few_files (setting_of given) bytes
 
 -- a lead byte with no trail
 abbrev pub lead : Document
-lead = document ShiftJis (0x81 ∷ [])
+lead = in_encoding ShiftJis (0x81 ∷ [])
 
 abbrev pub letter : Document
-letter = document ShiftJis (0x41 ∷ [])
+letter = in_encoding ShiftJis (0x41 ∷ [])
 
 -- two code points of one item
 abbrev pub accented : Document
-accented = document Big5 (0x88 ∷ 0x62 ∷ [])
+accented = in_encoding Big5 (0x88 ∷ 0x62 ∷ [])
 
 -- a letter, a kana between two switches
 abbrev pub shifted : Document
-shifted = document Iso2022Jp (0x41 ∷ 0x1B ∷ 0x24 ∷ 0x42 ∷ 0x24 ∷ 0x22 ∷ 0x1B ∷ 0x28 ∷ 0x42 ∷ [])
+shifted = in_encoding Iso2022Jp (0x41 ∷ 0x1B ∷ 0x24 ∷ 0x42 ∷ 0x24 ∷ 0x22 ∷ 0x1B ∷ 0x28 ∷ 0x42 ∷ [])
 
 -- a kana with no switch behind it
 abbrev pub unreturned : Document
-unreturned = document Iso2022Jp (0x1B ∷ 0x24 ∷ 0x42 ∷ 0x24 ∷ 0x22 ∷ [])
+unreturned = in_encoding Iso2022Jp (0x1B ∷ 0x24 ∷ 0x42 ∷ 0x24 ∷ 0x22 ∷ [])

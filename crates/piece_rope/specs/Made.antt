@@ -3,7 +3,7 @@ use Rattle.std.specs.Prelude.{◌≡◌, ℕ, ℤ, pos, ◌+ℤ◌, ◌+◌, ◌
 use Rattle.std.specs.Int.{saturate_unsigned, w64}
 use Rattle.state_memo.specs.declared.ended.Ended.{Ended}
 use Rattle.state_memo.specs.declared.outcome.Outcome.{Outcome}
-use Rattle.state_memo.specs.Decoding.{OwnDecoder, Placed, any, any_start, code_points, decoder_in, feed, item_code_points, run}
+use Rattle.state_memo.specs.Decoding.{AnyDecoding, Placed, any, any_start, code_points, decoder_in, feed, item_code_points, run}
 use Rattle.state_memo.specs.Items.{is_an_error}
 use Rattle.piece_rope.specs.Document.{Document, decoded}
 
@@ -45,13 +45,13 @@ AreAtLeast least [] = Unit {0}
 AreAtLeast least (o ∷ os) = (least ≤ o.sum.bytes) × AreAtLeast least os
 
 -- how many items the end of the bytes gives
-abbrev pub ended_by : Option OwnDecoder → List ℕ → ℕ
+abbrev pub ended_by : Option AnyDecoding → List ℕ → ℕ
 ended_by None bytes = 0
 ended_by (Some d) bytes = length (run (any d) (feed (any d) (any_start d) bytes).state [])
 
 -- the items that the bytes give, and then those that their end gives
 abbrev pub count_body : Document → ℕ
-count_body d = length (decoded d).items - ended_by (decoder_in d.indexes d.given) d.bytes
+count_body d = length (decoded d).items - ended_by (decoder_in d.indexes d.setting) d.bytes
 
 abbrev pub body_of : Document → List Placed
 body_of d = take (count_body d) (decoded d).items

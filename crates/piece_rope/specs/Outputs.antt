@@ -8,7 +8,7 @@ use Rattle.piece_rope.specs.Made.{ends_at}
 
 -- the output state of the decoder behind the first bytes of a document, taken literally
 abbrev pub output_at : Document → ℕ → OutputState
-output_at d at = output_behind d.indexes d.given (take at d.bytes)
+output_at d at = output_behind d.indexes d.setting (take at d.bytes)
 
 -- in a piece that begins at byte `base` each item remembers the output state behind its end
 abbrev pub HasOutputs : Document → ℕ → List Ended → Type 0

@@ -1,22 +1,22 @@
 -- Decoding over old pieces, until the new state is the one in which a piece was entered.
 use Rattle.std.specs.Prelude.{◌≡◌, ◌≢◌, ℕ, ◌+◌, ◌≤◌, suc, List, take, length, slice_get, Some}
-use Rattle.state_memo.specs.Decoding.{OwnDecoder, AnyState}
+use Rattle.state_memo.specs.Decoding.{AnyDecoding, AnyState}
 use Rattle.piece_rope.specs.Entry.{Entry}
 use Rattle.piece_rope.specs.Chain.{Chain, bytes_of, state_after}
 
 -- the piece before place `count` was entered in another state than the new one
-abbrev pub LastDiffers : OwnDecoder → AnyState → List Entry → ℕ → Type 0
+abbrev pub LastDiffers : AnyDecoding → AnyState → List Entry → ℕ → Type 0
 LastDiffers d entry ps count = (j : ℕ) (p : Entry) → suc j ≡ count → slice_get ps j ≡ Some p → p.entry ≢ state_after d entry (take j ps)
 
 -- `count` pieces were gone over, from the new state `entry`, while the meter went from `old` to `new`
-pub record Passed (d : OwnDecoder) (entry : AnyState) (ps : List Entry) (old new : ℕ) : Type 0 where
+pub record Passed (d : AnyDecoding) (entry : AnyState) (ps : List Entry) (old new : ℕ) : Type 0 where
   pub count : ℕ
   pub within : count ≤ length ps
   pub differs : LastDiffers d entry ps count
   pub most : new ≤ old + length (bytes_of (take count ps))
 
 -- the old pieces behind an edit, as they were entered, and the state behind them
-pub record Behind (d : OwnDecoder) (ps : List Entry) (end : AnyState) : Type 0 where
+pub record Behind (d : AnyDecoding) (ps : List Entry) (end : AnyState) : Type 0 where
   pub from : AnyState
   pub chain : Chain d from ps
   pub end_is : end ≡ state_after d from ps

@@ -1,8 +1,8 @@
 -- A splice that is ready to be made.
 use Rattle.std.specs.Prelude.{◌≡◌, ℕ, List, Some}
-use Rattle.enc_names.specs.declared.encoding.Encoding.{Encoding}
+use Rattle.enc_names.specs.declared.setting.Setting.{Setting}
 use Rattle.index_loader.specs.Files.{Files}
-use Rattle.state_memo.specs.Decoding.{OwnDecoder, decoder_in}
+use Rattle.state_memo.specs.Decoding.{AnyDecoding, decoder_in}
 use Rattle.piece_rope.specs.declared.edit.Edit.{Edit}
 use Rattle.piece_rope.specs.Chain.{bytes_of}
 use Rattle.piece_rope.specs.Edit.{edited}
@@ -13,11 +13,11 @@ use Rattle.piece_rope.specs.Parts.{IsPrepared}
 use Rattle.piece_rope.specs.Sizes.{CanJoin}
 
 -- its pieces are those of a document with the bytes spliced, and can be put in place
-pub record IsReady (files : Files) (given : Encoding) (ps : List Entry) (at del : ℕ) (ins : List ℕ) (e : Edit) : Type 0 where
+pub record IsReady (files : Files) (setting : Setting) (ps : List Entry) (at del : ℕ) (ins : List ℕ) (e : Edit) : Type 0 where
   pub prepared : IsPrepared ps e
   pub old : CanJoin ps
   pub new : CanJoin (edited ps e)
   pub bytes : bytes_of (edited ps e) ≡ spliced (bytes_of ps) at del ins
-  pub kept : IsKept files given (edited ps e) e.tail
-  pub decoder : OwnDecoder
-  pub chosen : decoder_in files given ≡ Some decoder
+  pub kept : IsKept files setting (edited ps e) e.tail
+  pub decoder : AnyDecoding
+  pub chosen : decoder_in files setting ≡ Some decoder

@@ -2,7 +2,7 @@
 ghost use Rattle.std.specs.Prelude.{◌≡◌, ◌≢◌, ℕ, ◌+◌, ◌-◌, ◌*◌, ◌^◌, ◌≤◌, false, true, min, length, map, take, drop, Some, None, IfOk, OnOk, OnErr, string_bytes};
 ghost use Rattle.std.specs.Str.{chars, encode_utf8_all};
 ghost use Rattle.index_loader.specs.Files.{has_files};
-ghost use Rattle.state_memo.specs.Decoding.{Ascii, OwnDecoder, any_start, decoder_in, marks, total_width, utf16_width, utf8_width};
+ghost use Rattle.state_memo.specs.Decoding.{Ascii, AnyDecoding, any_start, decoder_in, marks, total_width, utf16_width, utf8_width};
 ghost use Rattle.piece_rope.specs.Chain.{Chain, bytes_of};
 ghost use Rattle.piece_rope.specs.Entry.{here_of};
 ghost use Rattle.piece_rope.specs.Made.{AreMade, IsMade, body_of, tail_of};
@@ -22,7 +22,7 @@ use crate::limits::{DOCUMENT_LIMIT, checked_part};
 use crate::pieces::{Pieces, built, first_bytes};
 use crate::splice::prepare_splice;
 use crate::text::text_between;
-use enc_names::{Encoding, Place};
+use enc_names::{Encoding, Place, Setting};
 use index_loader::Indexes;
 use state_memo::{
     AnyDecoder, Meter, Outcome, Sum, finish_of, output_at_the_end, piece_laws, sniff, start_of,
@@ -31,14 +31,14 @@ use std::alloc::Global;
 use std::marker::Model;
 use sum_tree::Finder;
 
-/// A document: its bytes and the encoding given for them, beside the indexes that it was opened
-/// with. Whatever is asked of it is answered as decoding its bytes from scratch answers it
+/// A document: its bytes and the setting by which they are read, beside the indexes that it was
+/// opened with. Whatever is asked of it is answered as decoding its bytes from scratch answers it
 /// (Encoding Standard, "decode"), with a byte order mark looked for each time. Contracts see these
 /// three alone.
 #[derive(Drop)]
 pub struct Doc<'i> {
     indexes: &'i Indexes,
-    given: Encoding,
+    setting: Setting,
     pieces: Pieces,
     tail: Outcome,
     alloc: Global,
@@ -46,19 +46,20 @@ pub struct Doc<'i> {
 
 impl<'i> Model for Doc<'i> {
     ghost use Rattle.piece_rope.specs.Chain.{bytes_of};
-    ghost use Rattle.piece_rope.specs.Document.{Document};
+    ghost use Rattle.piece_rope.specs.Document.{Document, document};
     ghost use Rattle.piece_rope.specs.Kept.{IsKept};
 
     ghost Value = { Document };
 
-    ghost view = { λ d. record { indexes = d.indexes.now; given = d.given; bytes = bytes_of d.pieces.items } };
+    ghost view = { λ d. document d.indexes.now d.setting (bytes_of d.pieces.items) };
 
-    ghost invariant = { λ d. IsKept d.indexes.now d.given d.pieces.items d.tail };
+    ghost invariant = { λ d. IsKept d.indexes.now d.setting d.pieces.items d.tail };
 }
 
 impl<'i> Doc<'i> {
+    ghost use Rattle.enc_names.specs.Settings.{setting_of};
     ghost use Rattle.state_memo.specs.Decoding.{mark_length};
-    ghost use Rattle.piece_rope.specs.Document.{text_of, errors_of, first_error, decoded};
+    ghost use Rattle.piece_rope.specs.Document.{document, text_of, errors_of, first_error, decoded};
     ghost use Rattle.piece_rope.specs.Edits.{Faults, spliced_document, open_fault, splice_fault, source_fault, text_fault, errors_fault};
     ghost use Rattle.piece_rope.specs.Kept.{Resyncs};
 
@@ -74,14 +75,15 @@ impl<'i> Doc<'i> {
         bytes: &[u8],
         meter: &mut Meter,
     ) -> Result<Doc<'i>, DocFault>
-        ensures ok { IfOk result (λ doc. doc ≡ record { indexes = indexes.now; given = encoding; bytes = bytes.now }) }
+        ensures ok { IfOk result (λ doc. doc ≡ document indexes.now (setting_of encoding) bytes.now) }
         ensures faults { Faults (open_fault indexes.now encoding bytes.now) result }
-        ensures meter { OnOk result (min (meter.old + (length bytes.now - mark_length bytes.now)) (2 ^ 64 - 1) ≤ meter.new) }
+        ensures meter { OnOk result (min (meter.old + (length bytes.now - mark_length (setting_of encoding) bytes.now)) (2 ^ 64 - 1) ≤ meter.new) }
         ensures meter_least { meter.old ≤ meter.new }
         ensures meter_most { meter.new ≤ meter.old + length bytes.now }
         ensures meter_refused { open_fault indexes.now encoding bytes.now ≢ None → meter.new ≡ meter.old }
     {
-        let decoder = AnyDecoder::new(indexes, encoding).ok_or(DocFault::NoIndex)?;
+        let setting = Setting::new(encoding);
+        let decoder = AnyDecoder::under(indexes, setting).ok_or(DocFault::NoIndex)?;
         if bytes.len() > DOCUMENT_LIMIT {
             return Err(DocFault::TooLarge);
         }
@@ -92,7 +94,7 @@ impl<'i> Doc<'i> {
         let pieces = built(alloc, &mut pieces)?;
         Ok(Doc {
             indexes,
-            given: encoding,
+            setting,
             pieces,
             tail,
             alloc,
@@ -118,10 +120,10 @@ impl<'i> Doc<'i> {
         ensures meter_most { (m : ℕ) → Resyncs self.old at del ins.now m → meter.new ≤ meter.old + (length ins.now + m + 4 * 2048) }
         ensures meter_refused { splice_fault self.old.bytes at del ins.now ≢ None → meter.new ≡ meter.old }
     {
-        let (indexes, given) = (self.indexes, self.given);
+        let (indexes, setting) = (self.indexes, self.setting);
         let (pieces, tail) = (&self.pieces, &self.tail);
         let edit = prepare_splice(
-            self.alloc, indexes, given, pieces, tail, at, del, ins, meter,
+            self.alloc, indexes, setting, pieces, tail, at, del, ins, meter,
         )?;
         install_edit(&mut self.pieces, &mut self.tail, edit)?;
         Ok(())
@@ -187,9 +189,9 @@ impl<'i> Doc<'i> {
 
     /// The encoding given at the open.
     pub fn given(&self) -> Encoding
-        ensures { result ≡ self.now.given }
+        ensures { result ≡ self.now.setting.given }
     {
-        self.given
+        self.setting.given
     }
 
     /// The encoding in force: that of the byte order mark, or else the one given.
@@ -197,7 +199,7 @@ impl<'i> Doc<'i> {
     pub fn encoding(&self) -> Encoding
         ensures { result ≡ (decoded self.now).encoding }
     {
-        sniff(self.given, first_bytes(&self.pieces)).encoding
+        sniff(self.setting, first_bytes(&self.pieces)).encoding
     }
 
     /// The number of bytes of the byte order mark, 0 where there is none.
@@ -205,7 +207,7 @@ impl<'i> Doc<'i> {
     pub fn bom_len(&self) -> u64
         ensures { result ≡ (decoded self.now).bom }
     {
-        sniff(self.given, first_bytes(&self.pieces)).bom_len
+        sniff(self.setting, first_bytes(&self.pieces)).bom_len
     }
 
     /// How long the document and its text are.
@@ -231,7 +233,7 @@ impl<'i> Doc<'i> {
     /// The pieces in order, to be found by the sums in front of them.
     pub fn finder(&self) -> Finder<'_, Entered, Sum>
         ensures made { AreMade 0 (body_of self.now) (map here_of result) }
-        ensures chain { (d : OwnDecoder) → decoder_in self.now.indexes self.now.given ≡ Some d → Chain d (any_start d) result }
+        ensures chain { (d : AnyDecoding) → decoder_in self.now.indexes self.now.setting ≡ Some d → Chain d (any_start d) result }
         ensures bytes { bytes_of result ≡ self.now.bytes }
         ensures small { AreSized 1 result }
         ensures wide { 2 ≤ length result → AreSized shortest result }

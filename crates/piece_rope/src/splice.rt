@@ -1,6 +1,7 @@
 //! A splice of a document, checked and prepared before anything changes.
 ghost use Rattle.std.specs.Prelude.{◌≡◌, ◌≢◌, ℕ, ◌+◌, ◌*◌, ◌≤◌, length, None, IfOk};
 ghost use Rattle.piece_rope.specs.Chain.{bytes_of};
+ghost use Rattle.piece_rope.specs.Document.{document};
 ghost use Rattle.piece_rope.specs.Edits.{Faults, splice_fault};
 ghost use Rattle.piece_rope.specs.Kept.{IsKept, Resyncs};
 ghost use Rattle.piece_rope.specs.Splice.{IsReady};
@@ -9,7 +10,7 @@ use crate::edit::{Edit, prepare};
 use crate::fault::DocFault;
 use crate::limits::checked_cut;
 use crate::pieces::Pieces;
-use enc_names::Encoding;
+use enc_names::Setting;
 use index_loader::Indexes;
 use state_memo::{AnyDecoder, Meter, Outcome, piece_laws};
 use std::alloc::Global;
@@ -19,7 +20,7 @@ use std::alloc::Global;
 pub(crate) fn prepare_splice(
     alloc: Global,
     indexes: &Indexes,
-    given: Encoding,
+    setting: Setting,
     pieces: &Pieces,
     tail: &Outcome,
     at: u64,
@@ -27,16 +28,16 @@ pub(crate) fn prepare_splice(
     ins: &[u8],
     meter: &mut Meter,
 ) -> Result<Edit, DocFault>
-    requires { IsKept indexes.now given pieces.now.items tail.now }
-    ensures ready { IfOk result (IsReady indexes.now given pieces.now.items at del ins.now) }
+    requires { IsKept indexes.now setting pieces.now.items tail.now }
+    ensures ready { IfOk result (IsReady indexes.now setting pieces.now.items at del ins.now) }
     ensures faults { Faults (splice_fault (bytes_of pieces.now.items) at del ins.now) result }
     ensures meter_least { meter.old ≤ meter.new }
-    ensures meter_most { (m : ℕ) → Resyncs (record { indexes = indexes.now; given = given; bytes = bytes_of pieces.now.items }) at del ins.now m
+    ensures meter_most { (m : ℕ) → Resyncs (document indexes.now setting (bytes_of pieces.now.items)) at del ins.now m
         → meter.new ≤ meter.old + (length ins.now + m + 4 * 2048) }
     ensures meter_refused { splice_fault (bytes_of pieces.now.items) at del ins.now ≢ None → meter.new ≡ meter.old }
 {
     let (at, to) = checked_cut(pieces, at, del, ins)?;
-    let decoder = AnyDecoder::new(indexes, given).ok_or(DocFault::NoIndex)?;
+    let decoder = AnyDecoder::under(indexes, setting).ok_or(DocFault::NoIndex)?;
     piece_laws(&decoder);
     let end = tail.exit;
     let edit = prepare(alloc, &decoder, pieces, end, at, to, ins, meter)?;

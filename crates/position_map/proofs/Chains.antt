@@ -25,7 +25,7 @@ places-chained total from (e ∷ es) = (refl, places-chained total (total - e.ba
 -- each item begins where the one before ends, the first behind the byte order mark
 pub chained : (d : Document) → IsChained (decoded d).bom (decoded d).items
 unfolding decode
-chained d = places-chained (length d.bytes) (mark_length d.bytes) (run_in d.indexes (in_force d.given d.bytes) (drop (mark_length d.bytes) d.bytes))
+chained d = places-chained (length d.bytes) (mark_length d.setting d.bytes) (run_in d.indexes (in_force d.setting d.bytes) (drop (mark_length d.setting d.bytes) d.bytes))
 
 some_none : {x : ℕ} → Some x ≡ None → ⊥
 some_none h = cc

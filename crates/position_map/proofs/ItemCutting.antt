@@ -250,7 +250,7 @@ cut-fits total (e ∷ es) from at n x low h =
 
 place-fits : (d : Document) (n x : ℕ) → (decoded d).bom ≤ length d.bytes → cut d n ≡ Some x → x ≤ length d.bytes
 unfolding decode
-place-fits d n x low = cut-fits (length d.bytes) (run_in d.indexes (in_force d.given d.bytes) (drop (mark_length d.bytes) d.bytes)) (mark_length d.bytes) (mark_length d.bytes) n x low
+place-fits d n x low = cut-fits (length d.bytes) (run_in d.indexes (in_force d.setting d.bytes) (drop (mark_length d.setting d.bytes) d.bytes)) (mark_length d.setting d.bytes) (mark_length d.setting d.bytes) n x low
 
 some-of : (d : Document) (o : Option ℕ) (c : Cut) → with_output d o ≡ Some c → (o ≡ Some c.at) × (output_at d c.at ≡ c.output)
 some-of d (Some at) c e =

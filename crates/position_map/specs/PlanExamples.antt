@@ -3,11 +3,12 @@ use Rattle.std.specs.Prelude.{ℕ, List, [], ◌∷◌}
 use Rattle.enc_names.specs.declared.encoding.Encoding.{Encoding}
 use Rattle.enc_names.specs.declared.encoding.Encoding.TheVariants.{Windows1252}
 use Rattle.index_loader.specs.declared.kind.IndexKind.TheVariants.{SingleByte}
+use Rattle.enc_names.specs.Settings.{setting_of}
 use Rattle.index_loader.specs.Files.{Files, no_files, with_index}
 use Rattle.index_loader.specs.Index.{Loaded}
 use Rattle.iso2022jp.specs.EncoderExamples.{jis0208_pairs, katakana_pairs}
 use Rattle.encoders.specs.Examples.{big5}
-use Rattle.piece_rope.specs.Document.{Document}
+use Rattle.piece_rope.specs.Document.{Document, document}
 use Rattle.position_map.specs.declared.position.Range.{Range}
 
 abbrev pub windows_1252 : Loaded
@@ -16,8 +17,8 @@ windows_1252 = record { kind = SingleByte Windows1252; pairs = (0, 0x20AC) ∷ (
 abbrev pub few_files : Files
 few_files = with_index (with_index (with_index (with_index no_files jis0208_pairs) katakana_pairs) big5) windows_1252
 
-abbrev pub document : Encoding → List ℕ → Document
-document given bytes = record { indexes = few_files; given = given; bytes = bytes }
+abbrev pub in_encoding : Encoding → List ℕ → Document
+in_encoding given bytes = document few_files (setting_of given) bytes
 
 -- a range on the first line
 abbrev pub on_first_line : ℕ → ℕ → Range

@@ -7,90 +7,90 @@ ghost use Rattle.position_map.specs.declared.change_fault.ChangeFault.TheVariant
 ghost use Rattle.position_map.specs.declared.position.Range.{Range};
 ghost use Rattle.position_map.specs.declared.unit.Unit.TheVariants.{Utf8 as by_utf8, Utf16};
 ghost use Rattle.position_map.specs.Plan.{planned, is_behind};
-ghost use Rattle.position_map.specs.PlanExamples.{document, on_first_line};
+ghost use Rattle.position_map.specs.PlanExamples.{in_encoding, on_first_line};
 
 /// Big5 `88 62`: one item of two code points. Between them is no cut, whatever is put in; an end
 /// inside one of them is told first, as is a range that starts behind its end.
 fn inside_an_item()
-    ensures letter { planned (document Big5 (0x88 ∷ 0x62 ∷ [])) (Some (on_first_line 1 1)) Utf16 (0x41 ∷ []) ≡ Err SplitsItem }
-    ensures no_bytes { planned (document Big5 (0x88 ∷ 0x62 ∷ [])) (Some (on_first_line 1 1)) Utf16 (0x1F600 ∷ []) ≡ Err SplitsItem }
-    ensures right { planned (document Big5 (0x88 ∷ 0x62 ∷ [])) (Some (on_first_line 0 1)) Utf16 (0x1F600 ∷ []) ≡ Err SplitsItem }
-    ensures whole_item { planned (document Big5 (0x88 ∷ 0x62 ∷ [])) (Some (on_first_line 0 2)) Utf16 (0x1F600 ∷ []) ≡ Err (Unencodable (record { index = 0; code_point = 0x1F600 })) }
-    ensures character { planned (document Big5 (0x88 ∷ 0x62 ∷ [])) (Some (on_first_line 2 3)) by_utf8 (0x1F600 ∷ []) ≡ Err SplitsCharacter }
-    ensures order { planned (document Big5 (0x88 ∷ 0x62 ∷ [])) (Some (on_first_line 3 2)) by_utf8 (0x1F600 ∷ []) ≡ Err OutOfRange }
+    ensures letter { planned (in_encoding Big5 (0x88 ∷ 0x62 ∷ [])) (Some (on_first_line 1 1)) Utf16 (0x41 ∷ []) ≡ Err SplitsItem }
+    ensures no_bytes { planned (in_encoding Big5 (0x88 ∷ 0x62 ∷ [])) (Some (on_first_line 1 1)) Utf16 (0x1F600 ∷ []) ≡ Err SplitsItem }
+    ensures right { planned (in_encoding Big5 (0x88 ∷ 0x62 ∷ [])) (Some (on_first_line 0 1)) Utf16 (0x1F600 ∷ []) ≡ Err SplitsItem }
+    ensures whole_item { planned (in_encoding Big5 (0x88 ∷ 0x62 ∷ [])) (Some (on_first_line 0 2)) Utf16 (0x1F600 ∷ []) ≡ Err (Unencodable (record { index = 0; code_point = 0x1F600 })) }
+    ensures character { planned (in_encoding Big5 (0x88 ∷ 0x62 ∷ [])) (Some (on_first_line 2 3)) by_utf8 (0x1F600 ∷ []) ≡ Err SplitsCharacter }
+    ensures order { planned (in_encoding Big5 (0x88 ∷ 0x62 ∷ [])) (Some (on_first_line 3 2)) by_utf8 (0x1F600 ∷ []) ≡ Err OutOfRange }
 {}
 
 /// Shift_JIS: a letter behind a lead byte that would swallow it, and a yen sign, whose byte decodes
 /// to another character.
 fn shift_jis()
-    ensures behind_a_lead { planned (document ShiftJis (0x81 ∷ [])) (Some (on_first_line 1 1)) Utf16 (0x41 ∷ [])
+    ensures behind_a_lead { planned (in_encoding ShiftJis (0x81 ∷ [])) (Some (on_first_line 1 1)) Utf16 (0x41 ∷ [])
         ≡ Ok (record { at = 1; del = 0; ins = 0x41 ∷ []; i = 1; j = 1 }) }
-    ensures yen_sign { planned (document ShiftJis (0x41 ∷ [])) (Some (on_first_line 1 1)) Utf16 (0xA5 ∷ [])
+    ensures yen_sign { planned (in_encoding ShiftJis (0x41 ∷ [])) (Some (on_first_line 1 1)) Utf16 (0xA5 ∷ [])
         ≡ Ok (record { at = 1; del = 0; ins = 0x5C ∷ []; i = 1; j = 1 }) }
 {}
 
 /// ISO-2022-JP `41 1B 24 42 24 22 1B 28 42`: before the shift a kanji needs one of its own, and the
 /// escape behind it leads on; a deleted character leaves no escape but the one behind it.
 fn before_a_shift()
-    ensures inserted { planned (document Iso2022Jp (0x41 ∷ 0x1B ∷ 0x24 ∷ 0x42 ∷ 0x24 ∷ 0x22 ∷ 0x1B ∷ 0x28 ∷ 0x42 ∷ [])) (Some (on_first_line 1 1)) Utf16 (0x4E9C ∷ [])
+    ensures inserted { planned (in_encoding Iso2022Jp (0x41 ∷ 0x1B ∷ 0x24 ∷ 0x42 ∷ 0x24 ∷ 0x22 ∷ 0x1B ∷ 0x28 ∷ 0x42 ∷ [])) (Some (on_first_line 1 1)) Utf16 (0x4E9C ∷ [])
         ≡ Ok (record { at = 1; del = 0; ins = 0x1B ∷ 0x24 ∷ 0x42 ∷ 0x30 ∷ 0x21 ∷ []; i = 1; j = 1 }) }
-    ensures deleted { planned (document Iso2022Jp (0x41 ∷ 0x1B ∷ 0x24 ∷ 0x42 ∷ 0x24 ∷ 0x22 ∷ 0x1B ∷ 0x28 ∷ 0x42 ∷ [])) (Some (on_first_line 1 2)) Utf16 []
+    ensures deleted { planned (in_encoding Iso2022Jp (0x41 ∷ 0x1B ∷ 0x24 ∷ 0x42 ∷ 0x24 ∷ 0x22 ∷ 0x1B ∷ 0x28 ∷ 0x42 ∷ [])) (Some (on_first_line 1 2)) Utf16 []
         ≡ Ok (record { at = 1; del = 5; ins = []; i = 1; j = 2 }) }
 {}
 
 /// ISO-2022-JP `41 1B 24 40 24 22`: an escape of 1978 leads on too.
 fn before_a_shift_of_1978()
-    ensures { planned (document Iso2022Jp (0x41 ∷ 0x1B ∷ 0x24 ∷ 0x40 ∷ 0x24 ∷ 0x22 ∷ [])) (Some (on_first_line 1 1)) Utf16 (0x4E9C ∷ [])
+    ensures { planned (in_encoding Iso2022Jp (0x41 ∷ 0x1B ∷ 0x24 ∷ 0x40 ∷ 0x24 ∷ 0x22 ∷ [])) (Some (on_first_line 1 1)) Utf16 (0x4E9C ∷ [])
         ≡ Ok (record { at = 1; del = 0; ins = 0x1B ∷ 0x24 ∷ 0x42 ∷ 0x30 ∷ 0x21 ∷ []; i = 1; j = 1 }) }
 {}
 
 /// ISO-2022-JP `1B 24 42 24 22`: a letter behind it is put in ASCII, and the state leads back, as it
 /// does where nothing is put in; a kanji goes on in the state.
 fn back_to_the_state_behind()
-    ensures letter { planned (document Iso2022Jp (0x1B ∷ 0x24 ∷ 0x42 ∷ 0x24 ∷ 0x22 ∷ [])) (Some (on_first_line 1 1)) Utf16 (0x41 ∷ [])
+    ensures letter { planned (in_encoding Iso2022Jp (0x1B ∷ 0x24 ∷ 0x42 ∷ 0x24 ∷ 0x22 ∷ [])) (Some (on_first_line 1 1)) Utf16 (0x41 ∷ [])
         ≡ Ok (record { at = 5; del = 0; ins = 0x1B ∷ 0x28 ∷ 0x42 ∷ 0x41 ∷ 0x1B ∷ 0x24 ∷ 0x42 ∷ []; i = 1; j = 1 }) }
-    ensures nothing { planned (document Iso2022Jp (0x1B ∷ 0x24 ∷ 0x42 ∷ 0x24 ∷ 0x22 ∷ [])) (Some (on_first_line 0 1)) Utf16 []
+    ensures nothing { planned (in_encoding Iso2022Jp (0x1B ∷ 0x24 ∷ 0x42 ∷ 0x24 ∷ 0x22 ∷ [])) (Some (on_first_line 0 1)) Utf16 []
         ≡ Ok (record { at = 0; del = 5; ins = 0x1B ∷ 0x24 ∷ 0x42 ∷ []; i = 0; j = 1 }) }
-    ensures kanji { planned (document Iso2022Jp (0x1B ∷ 0x24 ∷ 0x42 ∷ 0x24 ∷ 0x22 ∷ [])) (Some (on_first_line 1 1)) Utf16 (0x4E9C ∷ [])
+    ensures kanji { planned (in_encoding Iso2022Jp (0x1B ∷ 0x24 ∷ 0x42 ∷ 0x24 ∷ 0x22 ∷ [])) (Some (on_first_line 1 1)) Utf16 (0x4E9C ∷ [])
         ≡ Ok (record { at = 5; del = 0; ins = 0x30 ∷ 0x21 ∷ []; i = 1; j = 1 }) }
 {}
 
 /// ISO-2022-JP `1B 28 49 41`: no letter is put in the state of katakana, and it is led back to; a
 /// yen sign is put in that of Roman, and nothing as nothing.
 fn behind_katakana()
-    ensures letter { planned (document Iso2022Jp (0x1B ∷ 0x28 ∷ 0x49 ∷ 0x41 ∷ [])) (Some (on_first_line 1 1)) Utf16 (0x41 ∷ [])
+    ensures letter { planned (in_encoding Iso2022Jp (0x1B ∷ 0x28 ∷ 0x49 ∷ 0x41 ∷ [])) (Some (on_first_line 1 1)) Utf16 (0x41 ∷ [])
         ≡ Ok (record { at = 4; del = 0; ins = 0x1B ∷ 0x28 ∷ 0x42 ∷ 0x41 ∷ 0x1B ∷ 0x28 ∷ 0x49 ∷ []; i = 1; j = 1 }) }
-    ensures yen_sign { planned (document Iso2022Jp (0x1B ∷ 0x28 ∷ 0x49 ∷ 0x41 ∷ [])) (Some (on_first_line 1 1)) Utf16 (0xA5 ∷ [])
+    ensures yen_sign { planned (in_encoding Iso2022Jp (0x1B ∷ 0x28 ∷ 0x49 ∷ 0x41 ∷ [])) (Some (on_first_line 1 1)) Utf16 (0xA5 ∷ [])
         ≡ Ok (record { at = 4; del = 0; ins = 0x1B ∷ 0x28 ∷ 0x4A ∷ 0x5C ∷ 0x1B ∷ 0x28 ∷ 0x49 ∷ []; i = 1; j = 1 }) }
-    ensures nothing { planned (document Iso2022Jp (0x1B ∷ 0x28 ∷ 0x49 ∷ 0x41 ∷ [])) (Some (on_first_line 1 1)) Utf16 []
+    ensures nothing { planned (in_encoding Iso2022Jp (0x1B ∷ 0x28 ∷ 0x49 ∷ 0x41 ∷ [])) (Some (on_first_line 1 1)) Utf16 []
         ≡ Ok (record { at = 4; del = 0; ins = []; i = 1; j = 1 }) }
 {}
 
 /// `a`, U+1F600, CR, LF, `b`: a pair of surrogates is one code point, and no end may be inside it.
 fn pair_of_surrogates()
-    ensures replaced { planned (document Utf8 (0x61 ∷ 0xF0 ∷ 0x9F ∷ 0x98 ∷ 0x80 ∷ 0x0D ∷ 0x0A ∷ 0x62 ∷ [])) (Some (on_first_line 1 3)) Utf16 (0x78 ∷ [])
+    ensures replaced { planned (in_encoding Utf8 (0x61 ∷ 0xF0 ∷ 0x9F ∷ 0x98 ∷ 0x80 ∷ 0x0D ∷ 0x0A ∷ 0x62 ∷ [])) (Some (on_first_line 1 3)) Utf16 (0x78 ∷ [])
         ≡ Ok (record { at = 1; del = 4; ins = 0x78 ∷ []; i = 1; j = 2 }) }
-    ensures inside { planned (document Utf8 (0x61 ∷ 0xF0 ∷ 0x9F ∷ 0x98 ∷ 0x80 ∷ 0x0D ∷ 0x0A ∷ 0x62 ∷ [])) (Some (on_first_line 2 3)) Utf16 (0x78 ∷ []) ≡ Err SplitsCharacter }
-    ensures start_behind_end { planned (document Utf8 (0x61 ∷ 0xF0 ∷ 0x9F ∷ 0x98 ∷ 0x80 ∷ 0x0D ∷ 0x0A ∷ 0x62 ∷ [])) (Some (on_first_line 3 2)) Utf16 (0x78 ∷ []) ≡ Err OutOfRange }
+    ensures inside { planned (in_encoding Utf8 (0x61 ∷ 0xF0 ∷ 0x9F ∷ 0x98 ∷ 0x80 ∷ 0x0D ∷ 0x0A ∷ 0x62 ∷ [])) (Some (on_first_line 2 3)) Utf16 (0x78 ∷ []) ≡ Err SplitsCharacter }
+    ensures start_behind_end { planned (in_encoding Utf8 (0x61 ∷ 0xF0 ∷ 0x9F ∷ 0x98 ∷ 0x80 ∷ 0x0D ∷ 0x0A ∷ 0x62 ∷ [])) (Some (on_first_line 3 2)) Utf16 (0x78 ∷ []) ≡ Err OutOfRange }
 {}
 
 /// replacement has no encoder: every change of `41` is refused so, whatever is put in, save a range
 /// that starts behind its end. In UTF-16 no end is inside the one code point that it decodes to.
 fn replacement()
-    ensures range { (range : Range) (text : List ℕ) → is_behind range.start range.end ≡ false → planned (document Replacement (0x41 ∷ [])) (Some range) Utf16 text ≡ Err NoEncoder }
-    ensures whole { (text : List ℕ) → planned (document Replacement (0x41 ∷ [])) None Utf16 text ≡ Err NoEncoder }
+    ensures range { (range : Range) (text : List ℕ) → is_behind range.start range.end ≡ false → planned (in_encoding Replacement (0x41 ∷ [])) (Some range) Utf16 text ≡ Err NoEncoder }
+    ensures whole { (text : List ℕ) → planned (in_encoding Replacement (0x41 ∷ [])) None Utf16 text ≡ Err NoEncoder }
 {}
 
 /// windows-1252 has no hiragana, and ISO-2022-JP has U+3042, but no U+1F600.
 fn no_bytes()
-    ensures hiragana { planned (document Windows1252 (0x41 ∷ [])) (Some (on_first_line 1 1)) Utf16 (0x3042 ∷ []) ≡ Err (Unencodable (record { index = 0; code_point = 0x3042 })) }
-    ensures second { planned (document Iso2022Jp (0x41 ∷ [])) (Some (on_first_line 1 1)) Utf16 (0x3042 ∷ 0x1F600 ∷ []) ≡ Err (Unencodable (record { index = 1; code_point = 0x1F600 })) }
+    ensures hiragana { planned (in_encoding Windows1252 (0x41 ∷ [])) (Some (on_first_line 1 1)) Utf16 (0x3042 ∷ []) ≡ Err (Unencodable (record { index = 0; code_point = 0x3042 })) }
+    ensures second { planned (in_encoding Iso2022Jp (0x41 ∷ [])) (Some (on_first_line 1 1)) Utf16 (0x3042 ∷ 0x1F600 ∷ []) ≡ Err (Unencodable (record { index = 1; code_point = 0x1F600 })) }
 {}
 
 /// Without a range the whole text is replaced, and the byte order mark stays.
 fn whole_text()
-    ensures unmarked { planned (document Utf8 (0x41 ∷ [])) None Utf16 (0xFEFF ∷ 0x78 ∷ [])
+    ensures unmarked { planned (in_encoding Utf8 (0x41 ∷ [])) None Utf16 (0xFEFF ∷ 0x78 ∷ [])
         ≡ Ok (record { at = 0; del = 1; ins = 0xEF ∷ 0xBB ∷ 0xBF ∷ 0x78 ∷ []; i = 0; j = 1 }) }
-    ensures marked { planned (document Utf8 (0xEF ∷ 0xBB ∷ 0xBF ∷ [])) None Utf16 (0xFEFF ∷ [])
+    ensures marked { planned (in_encoding Utf8 (0xEF ∷ 0xBB ∷ 0xBF ∷ [])) None Utf16 (0xFEFF ∷ [])
         ≡ Ok (record { at = 3; del = 0; ins = 0xEF ∷ 0xBB ∷ 0xBF ∷ []; i = 0; j = 0 }) }
 {}

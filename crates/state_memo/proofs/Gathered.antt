@@ -7,8 +7,7 @@ use Rattle.decoder_core.specs.Queue.{run, feed}
 use Rattle.decoder_core.specs.Text.{item_code_points}
 use Rattle.iso2022jp.specs.declared.output.OutputState.{OutputState}
 use Rattle.codec.specs.declared.state.AnyState.{AnyState}
-use Rattle.codec.specs.declared.own.OwnDecoder.{OwnDecoder}
-use Rattle.codec.specs.Any.{any, output_of}
+use Rattle.codec.specs.Any.{AnyDecoding, any, output_of}
 use Rattle.state_memo.specs.declared.ended.Ended.{Ended}
 use Rattle.state_memo.specs.declared.sum.Sum.{Sum}
 use Rattle.state_memo.specs.Facts.{IsSumOf, IsBounded, IsDone}
@@ -74,14 +73,14 @@ done-ending output es after few e = subst (IsDone 0) (sym e) (record {
   bounded = bounded-items (λ (x : EndedItem). x.item) (λ x. pos 0 -ℤ pos x.back) (λ x. output) 0 es few;
 })
 
-pub computed : (d : OwnDecoder) (entry exit : AnyState) (bytes : List ℕ) (after : Gathered) (c : Contents)
+pub computed : (d : AnyDecoding) (entry exit : AnyState) (bytes : List ℕ) (after : Gathered) (c : Contents)
     → after ≡ shown_all (shown_from (any d) 0 entry bytes) → exit ≡ (feed (any d) entry bytes).state
     → c ≡ contents_by (length bytes) after exit → c ≡ outcome_of d entry bytes
 unfolding outcome_of
 computed d entry exit bytes after c after_is exit_is c_is =
     c_is ∙ ap (λ (g : Gathered). contents_by (length bytes) g exit) after_is ∙ ap (λ (s : AnyState). contents_by (length bytes) (shown_all (shown_from (any d) 0 entry bytes)) s) exit_is
 
-pub ended : (d : OwnDecoder) (state : AnyState) (after : Gathered) (c : Contents)
+pub ended : (d : AnyDecoding) (state : AnyState) (after : Gathered) (c : Contents)
     → after ≡ ended_all (output_of state) (run (any d) state []) → c ≡ contents_by 0 after state → c ≡ ending_of d state
 unfolding ending_of
 ended d state after c after_is c_is = c_is ∙ ap (λ (g : Gathered). contents_by 0 g state) after_is

@@ -8,8 +8,7 @@ use Rattle.decoder_core.specs.Queue.{Table, Fed, feed}
 use Rattle.decoder_core.specs.Shown.{Shown, shown_at, shown_from}
 use Rattle.iso2022jp.specs.declared.output.OutputState.{OutputState}
 use Rattle.codec.specs.declared.state.AnyState.{AnyState}
-use Rattle.codec.specs.declared.own.OwnDecoder.{OwnDecoder}
-use Rattle.codec.specs.Any.{any, output_of}
+use Rattle.codec.specs.Any.{AnyDecoding, any, output_of}
 use Rattle.state_memo.specs.Facts.{IsDone}
 use Rattle.state_memo.specs.Gathering.{Gathered, no_item, with_shown}
 use Rattle.state_memo.specs.Outcome.{Contents, outcome_of}
@@ -42,7 +41,7 @@ fold-lift f output outputs (x ∷ xs) g =
     ap (λ (o : OutputState). fold (with_shown output) (with_shown (λ _. o) g x) xs) (outputs x.after)
     ∙ fold-lift f output outputs xs (with_shown output_of g (lifted_shown f x))
 
-module _ (d : OwnDecoder) {S : Type 0} (f : S → AnyState) (output : S → OutputState) (small : Table S) (feeds : FeedsAlike f small (any d)) (outputs : (s : S) → output s ≡ output_of (f s))
+module _ (d : AnyDecoding) {S : Type 0} (f : S → AnyState) (output : S → OutputState) (small : Table S) (feeds : FeedsAlike f small (any d)) (outputs : (s : S) → output s ≡ output_of (f s))
     (s : S) (bytes : List ℕ) (after : Gathered) (after_is : after ≡ fold (with_shown output) no_item (shown_from small 0 s bytes)) where
   -- what is gathered by an encoding's own decoder is what the one decoder shows
   gathered-lift : after ≡ shown_all (shown_from (any d) 0 (f s) bytes)

@@ -8,9 +8,8 @@ pub use Rattle.decoder_core.specs.Queue.{Table, Fed, further}
 unfoldable pub use Rattle.decoder_core.specs.Queue.{feed, run, turns}
 pub use Rattle.decoder_core.specs.Shown.{Shown, shown_from, shown_items, ended_at}
 pub use Rattle.decoder_core.specs.Text.{item_code_points, code_points, error_place, error_places}
-pub use Rattle.codec.specs.declared.own.OwnDecoder.{OwnDecoder}
 pub use Rattle.codec.specs.declared.state.AnyState.{AnyState}
-pub use Rattle.codec.specs.Any.{any, any_start, decoder_in, output_of}
+pub use Rattle.codec.specs.Any.{AnyDecoding, any, any_start, decoder_in, output_of}
 unfoldable pub use Rattle.codec.specs.Behind.{state_behind}
 pub use Rattle.codec.specs.Decode.{Decoded, fatal_of, run_in}
 unfoldable pub use Rattle.codec.specs.Decode.{decode}

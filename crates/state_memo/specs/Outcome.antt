@@ -6,8 +6,7 @@ use Rattle.decoder_core.specs.Shown.{Shown, shown_from}
 use Rattle.decoder_core.specs.Text.{item_code_points}
 use Rattle.iso2022jp.specs.declared.output.OutputState.{OutputState}
 use Rattle.codec.specs.declared.state.AnyState.{AnyState}
-use Rattle.codec.specs.declared.own.OwnDecoder.{OwnDecoder}
-use Rattle.codec.specs.Any.{any, output_of}
+use Rattle.codec.specs.Any.{AnyDecoding, any, output_of}
 use Rattle.state_memo.specs.declared.ended.Ended.{Ended}
 use Rattle.state_memo.specs.declared.outcome.Outcome.{Outcome}
 use Rattle.state_memo.specs.declared.sum.Sum.{Sum}
@@ -40,7 +39,7 @@ items_of_ended output es = map (λ (e : EndedItem). kept_item e.item (pos 0 -ℤ
 
 -- what steps over the bytes from a state give: code points, items with their ends from the first byte on and the output state behind the byte
 -- that gave each, the state behind the bytes, and the numbers of all that
-unfoldable pub outcome_of : OwnDecoder → AnyState → List ℕ → Contents
+unfoldable pub outcome_of : AnyDecoding → AnyState → List ℕ → Contents
 outcome_of d entry bytes = record {
   text = text_of_shown (shown_from (any d) 0 entry bytes);
   items = items_of_shown (shown_from (any d) 0 entry bytes);
@@ -49,7 +48,7 @@ outcome_of d entry bytes = record {
 }
 
 -- what the end gives in a state, which is left as it is
-unfoldable pub ending_of : OwnDecoder → AnyState → Contents
+unfoldable pub ending_of : AnyDecoding → AnyState → Contents
 ending_of d state = record {
   text = text_of_ended (run (any d) state []);
   items = items_of_ended (output_of state) (run (any d) state []);

@@ -7,6 +7,7 @@ use crate::base64_text::bytes_of;
 use crate::desk::Desk;
 use crate::fault::Fault;
 use crate::reply::Reply;
+use enc_names::Setting;
 
 impl Desk<'_> {
     /// Opens a document under a name that is free.
@@ -18,7 +19,10 @@ impl Desk<'_> {
             return Err(Fault::NameTaken);
         }
         match self.labels.lookup(label.as_bytes()) {
-            Some(given) => self.documents.open(self.alloc, doc, given, &bytes, 0),
+            Some(given) => {
+                let setting = Setting::new(given);
+                self.documents.open(self.alloc, doc, setting, &bytes, 0)
+            }
             None => Err(Fault::UnknownLabel),
         }
     }

@@ -39,10 +39,10 @@ impl<'i> Doc<'i> {
         if i > j || j > self.lengths().scalars {
             return Err(DocFault::OutOfRange);
         }
-        let (indexes, given) = (self.indexes, self.given);
+        let (indexes, setting) = (self.indexes, self.setting);
         let (pieces, tail) = (&self.pieces, &self.tail);
         let edit = prepare_splice(
-            self.alloc, indexes, given, pieces, tail, at, del, ins, meter,
+            self.alloc, indexes, setting, pieces, tail, at, del, ins, meter,
         )?;
         let edited = Edited {
             pieces,

@@ -1,21 +1,18 @@
 use Rattle.std.proofs.Common.{◌≡◌, ap, subst, ◌∙◌, Some, Option}
 use Rattle.std.specs.Option.{IfSome}
-use Rattle.enc_names.specs.declared.encoding.Encoding.{Encoding}
+use Rattle.enc_names.specs.declared.setting.Setting.{Setting}
 use Rattle.index_loader.specs.Files.{Files}
 use Rattle.index_loader.specs.Index.{Loaded}
 use Rattle.decoder_core.specs.Queue.{Fed}
-use Rattle.codec.specs.declared.own.OwnDecoder.{OwnDecoder}
 use Rattle.codec.specs.declared.state.AnyState.{AnyState}
 use Rattle.codec.specs.declared.state.AnyState.TheVariants.{Iso2022Jp as in_iso_2022_jp}
-use Rattle.codec.specs.Any.{standing_of, decoder_in}
-use Rattle.codec.specs.Behind.{state_in}
-use Rattle.codec.specs.Decode.{run_in}
-use Rattle.codec.proofs.Choosing.{Is, chosen, behind}
+use Rattle.codec.specs.Any.{AnyDecoding, decoder_in}
+use Rattle.codec.proofs.Choosing.{IsUnder, chosen, behind}
 use Rattle.codec.proofs.OutputStates.{IsoLaws, output_of_state, output_at_mark, mark_fits, decoded_in_force, output_at_byte, output_at_last}
 use Rattle.codec.proofs.output_laws.output_at_the_end.Goals as goal
 
-does_there : (files : Files) (encoding : Encoding) (d : OwnDecoder) → decoder_in files encoding ≡ Some d → Is (run_in files encoding) (state_in files encoding) (standing_of d)
-does_there files encoding d is = subst (λ (o : Option OwnDecoder). IfSome o (λ d. Is (run_in files encoding) (state_in files encoding) (standing_of d))) is (chosen files encoding).1
+does_there : (files : Files) (setting : Setting) (d : AnyDecoding) → decoder_in files setting ≡ Some d → IsUnder files setting d
+does_there files setting d is = subst (λ (o : Option AnyDecoding). IfSome o (IsUnder files setting)) is (chosen files setting).1
 
 pub returns : goal.returns
 returns c =
@@ -33,9 +30,9 @@ returns c =
       state = output_of_state;
       mark = output_at_mark;
       mark_fits = mark_fits;
-      there = λ files given. (chosen files given).0;
+      there = λ files setting. (chosen files setting).0;
       in_force = decoded_in_force;
-      behind = λ files given d bytes is. c.standing_laws.ensures.state d bytes ∙ behind files given d (does_there files given d is) bytes;
+      behind = λ files setting d bytes is. c.standing_laws.ensures.state d bytes ∙ behind files setting d (does_there files setting d is) bytes;
       parts = λ d s p q. ap (λ (f : Fed AnyState). f.state) (c.all_runs.ensures.feed_parts d s p q);
       byte = output_at_byte laws;
       end = output_at_last laws;

@@ -1,6 +1,6 @@
 use Rattle.std.proofs.Common.{ap, sym, ◌∙◌, ◌≤◌, length, arith}
 use Rattle.piece_rope.specs.Chain.{bytes_of}
-use Rattle.piece_rope.specs.Document.{Document}
+use Rattle.piece_rope.specs.Document.{Document, document}
 use Rattle.piece_rope.specs.Edit.{edited}
 use Rattle.piece_rope.specs.Edits.{document_limit}
 use Rattle.piece_rope.proofs.Chaining.{laws_from}
@@ -11,15 +11,15 @@ use Rattle.piece_rope.proofs.splice.prepare_splice.Goals as goal
 
 pub returns-in_err-edit-clause-meter_most : goal.returns-in_err-edit-clause-meter_most
 returns-in_err-edit-clause-meter_most c =
-    let doc : Document = record { indexes = c.args.indexes.now; given = c.args.given; bytes = bytes_of c.args.pieces.now.items } in
-    metered-cut doc c.in_ok-decoder.decoder c.args.at c.args.del c.in_ok-at.at c.in_ok-at.to c.args.meter.now c.prepare.new.meter c.args.ins.now c.new.result
-    c.in_ok-decoder.ensures.ok_part c.new.ensures.behind c.in_ok-at.ensures.within c.in_ok-at.ensures.ok.0 c.in_ok-at.ensures.ok.1 c.prepare.ensures.meter
+    let doc : Document = document c.args.indexes.now c.args.setting (bytes_of c.args.pieces.now.items) in
+    metered-cut doc c.in_ok-decoder.decoder c.args.at c.args.del c.in_ok-at.at c.in_ok-at.to c.args.meter.now c.prepare.new.meter c.args.ins.now c.under.result
+    c.in_ok-decoder.ensures.ok_part c.under.ensures.behind c.in_ok-at.ensures.within c.in_ok-at.ensures.ok.0 c.in_ok-at.ensures.ok.1 c.prepare.ensures.meter
 
 pub returns-clause-meter_most : goal.returns-clause-meter_most
 returns-clause-meter_most c =
-    let doc : Document = record { indexes = c.args.indexes.now; given = c.args.given; bytes = bytes_of c.args.pieces.now.items } in
-    metered-cut doc c.in_ok-decoder.decoder c.args.at c.args.del c.in_ok-at.at c.in_ok-at.to c.args.meter.now c.prepare.new.meter c.args.ins.now c.new.result
-    c.in_ok-decoder.ensures.ok_part c.new.ensures.behind c.in_ok-at.ensures.within c.in_ok-at.ensures.ok.0 c.in_ok-at.ensures.ok.1 c.prepare.ensures.meter
+    let doc : Document = document c.args.indexes.now c.args.setting (bytes_of c.args.pieces.now.items) in
+    metered-cut doc c.in_ok-decoder.decoder c.args.at c.args.del c.in_ok-at.at c.in_ok-at.to c.args.meter.now c.prepare.new.meter c.args.ins.now c.under.result
+    c.in_ok-decoder.ensures.ok_part c.under.ensures.behind c.in_ok-at.ensures.within c.in_ok-at.ensures.ok.0 c.in_ok-at.ensures.ok.1 c.prepare.ensures.meter
 
 pub returns-clause-ready : goal.returns-clause-ready
 returns-clause-ready c =
@@ -29,12 +29,12 @@ returns-clause-ready c =
     let old = c.args.pieces.now.items in
     let edit = c.in_ok-edit.edit in
     let new = edited old edit in
-    let chosen = sym c.new.ensures.value ∙ c.in_ok-decoder.ensures.ok_part in
+    let chosen = sym c.under.ensures.value ∙ c.in_ok-decoder.ensures.ok_part in
     let bytes = c.in_ok-edit.ensures.bytes ∙ exchanged-bytes (bytes_of old) c.args.ins.now c.args.at c.args.del c.in_ok-at.at c.in_ok-at.to c.in_ok-at.ensures.ok.0 c.in_ok-at.ensures.ok.1 in
     let within : length (bytes_of new) ≤ document_limit = omega (arith, ap length bytes, c.in_ok-at.ensures.small) in
     let old_joins = join-rope d laws old c.args.tail.now.exit (c.requires.rope d chosen) c.requires.within in
     let new_joins = join-rope d laws new edit.tail.exit c.in_ok-edit.ensures.rope within in
-    let scratch = decoder-known _ c.new.result c.in_ok-decoder.ensures.ok_part c.new.ensures.decode in
+    let scratch = decoder-known _ c.under.result c.in_ok-decoder.ensures.ok_part c.under.ensures.decode in
     record {
       prepared = record {
         order = c.in_ok-edit.ensures.order;
@@ -47,7 +47,7 @@ returns-clause-ready c =
       old = old_joins;
       new = new_joins;
       bytes = bytes;
-      kept = kept-rope c.args.indexes.now c.args.given d new edit.tail laws (item_laws d e.runs e.shown e.near) chosen c.requires.can within c.in_ok-edit.ensures.rope
+      kept = kept-rope c.args.indexes.now c.args.setting d new edit.tail laws (item_laws d e.runs e.shown e.near) chosen c.requires.can within c.in_ok-edit.ensures.rope
           c.in_ok-edit.ensures.tail scratch e.joined;
       decoder = d;
       chosen = chosen;

@@ -10,14 +10,14 @@ use Rattle.position_map.specs.declared.position.Range.{Range}
 use Rattle.position_map.specs.declared.unit.Unit.TheVariants.{Utf16}
 use Rattle.position_map.specs.Lines.{lines_of}
 use Rattle.position_map.specs.Plan.{is_behind, planned, replacing}
-use Rattle.position_map.specs.PlanExamples.{document}
+use Rattle.position_map.specs.PlanExamples.{in_encoding}
 use Rattle.position_map.specs.Positions.{along, offset_of}
 use Rattle.position_map.proofs.Alongs.{along_step}
 use Rattle.position_map.proofs.Planning.{over_ends}
 use Rattle.position_map.proofs.plan_examples.replacement.Goals as goal
 
 abbrev letter : Document
-letter = document Replacement (0x41 ∷ [])
+letter = in_encoding Replacement (0x41 ∷ [])
 
 -- its text is one code point of one unit, so an end is before or behind it
 end_at : (line character : ℕ) → (offset_of (text_of letter) Utf16 (record { line = line; character = character }) ≡ Ok 0) ⊎ (offset_of (text_of letter) Utf16 (record { line = line; character = character }) ≡ Ok 1)

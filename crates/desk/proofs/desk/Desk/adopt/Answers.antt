@@ -8,5 +8,5 @@ pub returns : goal.returns
 returns c =
     let free : is_some (get c.self.inside.documents.named c.args.name.now) ≡ false = search rules in
     rw (← c.self.view_is)
-    (adopted_answers _ c.open.new.self c.args.name.now c.args.given c.args.bytes.now c.args.revision _
-    free c.in_ok-open.ensures.step c.in_ok-open.ensures.accepted c.in_ok-open.ensures.indexes)
+    (adopted_answers _ c.open.new.self c.args.name.now c.new.result _ c.args.bytes.now c.args.revision _
+    c.new.ensures free c.in_ok-open.ensures.step c.in_ok-open.ensures.accepted c.in_ok-open.ensures.indexes)

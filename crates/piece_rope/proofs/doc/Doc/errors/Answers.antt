@@ -1,7 +1,7 @@
 use Rattle.std.proofs.Common.{◌≡◌, sym, ap, ◌∙◌, subst, ℕ, ◌-◌, ◌+◌, min, List, take, drop, length, length-drop, arith}
 use Rattle.enc_names.specs.declared.place.Place.{Place}
 use Rattle.piece_rope.specs.Chain.{bytes_of}
-use Rattle.piece_rope.specs.Document.{Document, decoded, errors_of}
+use Rattle.piece_rope.specs.Document.{Document, document, decoded, errors_of}
 use Rattle.piece_rope.specs.Errors.{all_errors}
 use Rattle.piece_rope.proofs.Counting.{sums-bytes}
 use Rattle.piece_rope.proofs.Erring.{errors-are}
@@ -14,7 +14,7 @@ errors_between-requires-clause-within c =
     let tail = c.self.inside.tail in
     let kept = c.self.invariant in
     let self = c.args.self.now in
-    let doc : Document = record { indexes = c.self.inside.indexes.now; given = c.self.inside.given; bytes = bytes_of ps } in
+    let doc : Document = document c.self.inside.indexes.now c.self.inside.setting (bytes_of ps) in
     let own : errors_of self ≡ all_errors (decoded self).bom ps tail =
     subst (λ (d : Document). errors_of d ≡ all_errors (decoded d).bom ps tail) c.self.view_is (errors-are doc ps tail kept.whole (sums-bytes ps kept.counted)) in
     let all : all_errors c.bom_len-bom.result ps tail ≡ errors_of self = ap (λ (bom : ℕ). all_errors bom ps tail) c.bom_len-bom.ensures ∙ sym own in
@@ -27,7 +27,7 @@ returns-clause-ok c =
     let tail = c.self.inside.tail in
     let kept = c.self.invariant in
     let self = c.args.self.now in
-    let doc : Document = record { indexes = c.self.inside.indexes.now; given = c.self.inside.given; bytes = bytes_of ps } in
+    let doc : Document = document c.self.inside.indexes.now c.self.inside.setting (bytes_of ps) in
     let own : errors_of self ≡ all_errors (decoded self).bom ps tail =
     subst (λ (d : Document). errors_of d ≡ all_errors (decoded d).bom ps tail) c.self.view_is (errors-are doc ps tail kept.whole (sums-bytes ps kept.counted)) in
     let all : all_errors c.bom_len-bom.result ps tail ≡ errors_of self = ap (λ (bom : ℕ). all_errors bom ps tail) c.bom_len-bom.ensures ∙ sym own in

@@ -3,7 +3,7 @@ use Rattle.std.specs.Bool.{⊤}
 use Rattle.std.specs.Str.{chars}
 use Rattle.std.proofs.lemmas.Result.{err_from_is_err_and}
 use Rattle.piece_rope.specs.Chain.{bytes_of}
-use Rattle.piece_rope.specs.Document.{Document, text_of}
+use Rattle.piece_rope.specs.Document.{Document, document, text_of}
 use Rattle.piece_rope.specs.Edits.{splice_fault, named}
 use Rattle.piece_rope.proofs.Kept.{join-kept}
 use Rattle.piece_rope.proofs.KeptAnswering.{cut-causes, cut-fails, kept-answer, same-ends, parts-whole, range-there}
@@ -25,24 +25,24 @@ pub invariant_of-self-2 : goal.invariant_of-self-2
 invariant_of-self-2 c = rw (c.in_ok-install_edit.ensures.pieces, c.in_ok-install_edit.ensures.tail) c.in_ok-edit.ensures.ready.kept
 
 pub keeps_text-kept-requires-clause-few : goal.keeps_text-kept-requires-clause-few
-keeps_text-kept-requires-clause-few c = join-kept c.self.inside.indexes.now c.self.inside.given c.self.inside.pieces.items c.self.inside.tail c.self.invariant
+keeps_text-kept-requires-clause-few c = join-kept c.self.inside.indexes.now c.self.inside.setting c.self.inside.pieces.items c.self.inside.tail c.self.invariant
 
 pub keeps_text-kept-requires-clause-within : goal.keeps_text-kept-requires-clause-within
 keeps_text-kept-requires-clause-within c =
-    let doc : Document = record { indexes = c.self.inside.indexes.now; given = c.self.inside.given; bytes = bytes_of c.self.inside.pieces.items } in
+    let doc : Document = document c.self.inside.indexes.now c.self.inside.setting (bytes_of c.self.inside.pieces.items) in
     let text = parts-whole doc c.self.inside.pieces.items c.self.inside.tail c.self.invariant.whole ∙ ap text_of c.self.view_is in
     omega (arith, ap length text, c.lengths.ensures.scalars, c.if-j-lengths.false)
 
 pub returns-then-not-kept-clause-faults : goal.returns-then-not-kept-clause-faults
 returns-then-not-kept-clause-faults c =
-    let answer = kept-answer c.self.inside.indexes.now c.self.inside.given c.self.inside.pieces.items c.self.inside.tail c.in_ok-edit.edit c.args.self.now c.args.at c.args.del c.args.ins.now c.args.i c.args.j
+    let answer = kept-answer c.self.inside.indexes.now c.self.inside.setting c.self.inside.pieces.items c.self.inside.tail c.in_ok-edit.edit c.args.self.now c.args.at c.args.del c.args.ins.now c.args.i c.args.j
     c.keeps_text-kept.result (chars c.args.text.now) c.self.view_is c.self.invariant c.in_ok-edit.ensures.ready c.in_ok-edit.ensures.faults (omega (arith, c.if-i-j.false))
     (omega (arith, c.if-j-lengths.false, c.lengths.ensures.scalars)) c.keeps_text-kept.ensures in
     (answer.0, sym answer.1 ∙ c.if-not-kept.true)
 
 pub returns-clause-faults : goal.returns-clause-faults
 returns-clause-faults c =
-    let answer = kept-answer c.self.inside.indexes.now c.self.inside.given c.self.inside.pieces.items c.self.inside.tail c.in_ok-edit.edit c.args.self.now c.args.at c.args.del c.args.ins.now c.args.i c.args.j
+    let answer = kept-answer c.self.inside.indexes.now c.self.inside.setting c.self.inside.pieces.items c.self.inside.tail c.in_ok-edit.edit c.args.self.now c.args.at c.args.del c.args.ins.now c.args.i c.args.j
     c.keeps_text-kept.result (chars c.args.text.now) c.self.view_is c.self.invariant c.in_ok-edit.ensures.ready c.in_ok-edit.ensures.faults (omega (arith, c.if-i-j.false))
     (omega (arith, c.if-j-lengths.false, c.lengths.ensures.scalars)) c.keeps_text-kept.ensures in
     (answer.0, sym answer.1 ∙ c.if-not-kept.false)

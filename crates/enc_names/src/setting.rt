@@ -1,0 +1,22 @@
+//! How a document's bytes are to be read.
+ghost use Rattle.std.specs.Prelude.{◌≡◌};
+ghost use Rattle.enc_names.specs.Settings.{setting_of};
+
+use crate::encoding::Encoding;
+
+/// How a document's bytes are to be read: all that decoding them takes beside the bytes and the
+/// index files. A document has one setting from its opening on.
+#[derive(Clone, Copy, PartialEq, Eq, Debug)]
+pub struct Setting {
+    /// The encoding given, which is in force where no byte order mark puts another in force.
+    pub given: Encoding,
+}
+
+impl Setting {
+    /// The setting with this encoding given.
+    pub fn new(given: Encoding) -> Setting
+        ensures { result ≡ setting_of given }
+    {
+        Setting { given }
+    }
+}
