@@ -1,18 +1,16 @@
-"""The program as it was built, by its words and files: crates/gate/out/gate, or the one that the variable GATE names.
+"""The program as it was built, by its words and files.
 
 What it does with hostile ones is in tools/hostile; that it does the same over devices which fail, in crates/gate."""
 import base64
 import contextlib
 import json
-import os
 import pathlib
 import socket
 import subprocess
 import tempfile
 import unittest
 
-TOP = pathlib.Path(__file__).resolve().parent.parent
-PROGRAM = os.environ.get("GATE", str(TOP / "crates" / "gate" / "out" / "gate"))
+from program import PROGRAM, built
 
 OPEN = '{"id":1,"op":"open","doc":"a","label":"utf-8","bytes":"4oJB"}\n'
 
@@ -177,7 +175,7 @@ TRACES = [
 NOT_OPENED = '{"fault":"NoIndex","id":1}\n{"fault":"NoDocument","id":2}\n'
 
 
-@unittest.skipUnless(os.access(PROGRAM, os.X_OK), f"there is no program {PROGRAM}; rt ci builds it")
+@built
 class Program(unittest.TestCase):
     def setUp(self):
         folder = tempfile.TemporaryDirectory()

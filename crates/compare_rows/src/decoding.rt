@@ -2,8 +2,8 @@
 //! force stands the length of the byte order mark. An item is its code points, or `error`, with its
 //! place.
 
-use crate::failure::Failure;
 use crate::fields;
+use crate::unplayed::Unplayed;
 use codec::{AnyDecoder, CodecFault, Decoded, decode_fatal, decode_whole};
 use decoder_core::{Item, Placed, decode_parts, meter};
 use enc_names::{Encoding, Place};
@@ -11,23 +11,48 @@ use index_loader::Indexes;
 use std::alloc::{AllocError, Global};
 
 /// What the bytes of a row decode to.
-pub fn outcome(alloc: Global, indexes: &Indexes, given: &str) -> Result<String, Failure> {
-    let (name, bytes) = given.split_once("; ").ok_or(Failure::Row)?;
+pub fn outcome(alloc: Global, indexes: &Indexes, given: &str) -> Result<String, Unplayed> {
+    let (name, bytes) = given.split_once("; ").ok_or(Unplayed::Malformed)?;
     let encoding = fields::encoding(name)?;
     let bytes = fields::bytes(alloc, bytes)?;
-    let Some(decoder) = AnyDecoder::new(indexes, encoding) else {
-        return Ok(without_decoder(alloc, indexes, encoding, &bytes)?);
-    };
-    let whole = decode_whole(alloc, indexes, encoding, &bytes)?;
-    let items = decode_parts(alloc, &decoder, &bytes, whole.bom_len, &[], &mut meter())?;
-    if let Some(cut) = first_other_cut(alloc, &decoder, &bytes, whole.bom_len, &items)? {
-        return Ok(format!(in alloc; "other items where the bytes are cut at {cut}")?);
+    match AnyDecoder::new(indexes, encoding) {
+        Some(decoder) => with_decoder(alloc, indexes, encoding, &decoder, &bytes),
+        None => Ok(without_decoder(alloc, indexes, encoding, &bytes)?),
     }
-    let fatal = decode_fatal(alloc, indexes, encoding, &bytes);
-    if !agree(alloc, &whole, fatal, &items)? {
-        return Ok(String::from_str(alloc, "another text, or other errors, than the items'")?);
+}
+
+/// What bytes in an encoding decode to that has this decoder.
+fn with_decoder(
+    alloc: Global,
+    indexes: &Indexes,
+    encoding: Encoding,
+    decoder: &AnyDecoder<'_>,
+    bytes: &[u8],
+) -> Result<String, Unplayed> {
+    let whole = decode_whole(alloc, indexes, encoding, bytes)?;
+    let items = decode_parts(alloc, decoder, bytes, whole.bom_len, &[], &mut meter())?;
+    let fatal = decode_fatal(alloc, indexes, encoding, bytes);
+    Ok(compared(alloc, decoder, bytes, &whole, &fatal, &items)?)
+}
+
+/// What is in force and the items, where these are the same in two parts, and the text, the errors
+/// and mode fatal are theirs.
+fn compared(
+    alloc: Global,
+    decoder: &AnyDecoder<'_>,
+    bytes: &[u8],
+    whole: &Decoded,
+    fatal: &Result<String, CodecFault>,
+    items: &[Placed],
+) -> Result<String, AllocError> {
+    if let Some(cut) = first_other_cut(alloc, decoder, bytes, whole.bom_len, items)? {
+        return format!(in alloc; "other items where the bytes are cut at {cut}");
     }
-    Ok(written(alloc, &whole, &items)?)
+    if agree(alloc, whole, fatal, items)? {
+        written(alloc, whole, items)
+    } else {
+        String::from_str(alloc, "another text, or other errors, than the items'")
+    }
 }
 
 /// What comes of bytes in an encoding that has no decoder: each call refuses them.
@@ -69,54 +94,71 @@ fn first_other_cut(
 fn agree(
     alloc: Global,
     whole: &Decoded,
-    fatal: Result<String, CodecFault>,
+    fatal: &Result<String, CodecFault>,
     items: &[Placed],
 ) -> Result<bool, AllocError> {
-    let mut text = String::new(alloc);
-    let mut errors = Vec::new(alloc);
-    for Placed { item, from, to } in items {
-        match item {
-            Item::One(c) => text.push(c.to_char())?,
-            Item::Two(first, second) => {
-                text.push(first.to_char())?;
-                text.push(second.to_char())?;
-            }
-            Item::Error => {
-                text.push('\u{FFFD}')?;
-                errors.push(Place {
-                    from: *from,
-                    to: *to,
-                })?;
-            }
-        }
-    }
-    let strict = match (&fatal, errors.first()) {
+    let text = text_of(alloc, items)?;
+    let errors = errors_of(alloc, items)?;
+    let strict = match (fatal, errors.first()) {
         (Ok(strict), None) => strict.as_str() == text.as_str(),
         (Err(CodecFault::Malformed(place)), Some(first)) => place == first,
         _ => false,
     };
-    Ok(
-        strict
-            && whole.text.as_str() == text.as_str()
-            && whole.errors.as_slice() == errors.as_slice(),
-    )
+    let same_text = whole.text.as_str() == text.as_str();
+    Ok(strict && same_text && whole.errors.as_slice() == errors.as_slice())
+}
+
+/// The text of items.
+fn text_of(alloc: Global, items: &[Placed]) -> Result<String, AllocError> {
+    let mut text = String::new(alloc);
+    for placed in items {
+        put_text(&mut text, placed.item)?;
+    }
+    Ok(text)
+}
+
+/// Puts the text of an item behind a text.
+fn put_text(text: &mut String, item: Item) -> Result<(), AllocError> {
+    match item {
+        Item::One(c) => text.push(c.to_char()),
+        Item::Two(first, second) => {
+            text.push(first.to_char())?;
+            text.push(second.to_char())
+        }
+        Item::Error => text.push('\u{FFFD}'),
+    }
+}
+
+/// The places of the errors among items.
+fn errors_of(alloc: Global, items: &[Placed]) -> Result<Vec<Place>, AllocError> {
+    let mut errors = Vec::new(alloc);
+    for Placed { item, from, to } in items {
+        if let Item::Error = item {
+            errors.push(Place {
+                from: *from,
+                to: *to,
+            })?;
+        }
+    }
+    Ok(errors)
 }
 
 /// What is in force, and the items.
 fn written(alloc: Global, whole: &Decoded, items: &[Placed]) -> Result<String, AllocError> {
     let mut out = format!(in alloc; "{} {};", whole.encoding.name(), whole.bom_len)?;
     for placed in items {
-        out.push_str(item_written(alloc, placed)?.as_str())?;
+        put_written(alloc, &mut out, placed)?;
     }
     Ok(out)
 }
 
-/// An item with its place, behind a space.
-fn item_written(alloc: Global, placed: &Placed) -> Result<String, AllocError> {
+/// Puts an item with its place, and a space in front of it, behind a text.
+fn put_written(alloc: Global, out: &mut String, placed: &Placed) -> Result<(), AllocError> {
     let Placed { item, from, to } = *placed;
-    match item {
-        Item::One(c) => format!(in alloc; " U+{:04X}[{from},{to})", c.get()),
-        Item::Two(a, b) => format!(in alloc; " U+{:04X}+U+{:04X}[{from},{to})", a.get(), b.get()),
-        Item::Error => format!(in alloc; " error[{from},{to})"),
-    }
+    let text = match item {
+        Item::One(c) => format!(in alloc; " U+{:04X}[{from},{to})", c.get())?,
+        Item::Two(a, b) => format!(in alloc; " U+{:04X}+U+{:04X}[{from},{to})", a.get(), b.get())?,
+        Item::Error => format!(in alloc; " error[{from},{to})")?,
+    };
+    out.push_str(text.as_str())
 }

@@ -2,18 +2,18 @@
 //! `STATE; MODE; END; TEXT -> BYTES; STATE`, where END says whether the text ends there. In the place
 //! of bytes stands the fault, with what it names.
 
-use crate::failure::Failure;
 use crate::fields;
+use crate::unplayed::Unplayed;
 use enc_names::Encoding;
 use encoders::{EncodeFault, EncodeMode, Unencodable, encode};
 use index_loader::Indexes;
-use iso2022jp::{FromFault, encode_from};
+use iso2022jp::{FromFault, OutputState, encode_from};
 use std::alloc::{AllocError, Global};
 
 /// What the text of a row is encoded to.
-pub fn outcome(alloc: Global, indexes: &Indexes, given: &str) -> Result<String, Failure> {
-    let (name, others) = given.split_once("; ").ok_or(Failure::Row)?;
-    let (mode, text) = others.split_once("; ").ok_or(Failure::Row)?;
+pub fn outcome(alloc: Global, indexes: &Indexes, given: &str) -> Result<String, Unplayed> {
+    let (name, others) = given.split_once("; ").ok_or(Unplayed::Malformed)?;
+    let (mode, text) = others.split_once("; ").ok_or(Unplayed::Malformed)?;
     let encoding = fields::encoding(name)?;
     let mode = if fields::is_second(mode, "fatal", "html")? {
         EncodeMode::Html
@@ -21,34 +21,57 @@ pub fn outcome(alloc: Global, indexes: &Indexes, given: &str) -> Result<String, 
         EncodeMode::Fatal
     };
     let text = fields::text(alloc, text)?;
-    match encode(alloc, encoding, indexes, mode, &text) {
-        Ok(bytes) => Ok(fields::hex_of(alloc, &bytes)?),
-        Err(EncodeFault::NoIndex) => Ok(String::from_str(alloc, "NoIndex")?),
-        Err(EncodeFault::NoEncoder) => Ok(String::from_str(alloc, "NoEncoder")?),
-        Err(EncodeFault::Unencodable(it)) => Ok(unencodable(alloc, it)?),
-        Err(EncodeFault::OutOfMemory) => Err(Failure::OutOfMemory),
+    Ok(encoded(alloc, indexes, encoding, mode, text.as_str())?)
+}
+
+/// What a text is encoded to.
+fn encoded(
+    alloc: Global,
+    indexes: &Indexes,
+    encoding: Encoding,
+    mode: EncodeMode,
+    text: &str,
+) -> Result<String, AllocError> {
+    match encode(alloc, encoding, indexes, mode, text) {
+        Ok(bytes) => fields::hex_of(alloc, &bytes),
+        Err(EncodeFault::NoIndex) => String::from_str(alloc, "NoIndex"),
+        Err(EncodeFault::NoEncoder) => String::from_str(alloc, "NoEncoder"),
+        Err(EncodeFault::Unencodable(it)) => unencodable(alloc, it),
+        Err(EncodeFault::OutOfMemory) => Err(AllocError),
     }
 }
 
 /// What the text of a row is encoded to in ISO-2022-JP, and the state behind it.
-pub fn outcome_from(alloc: Global, indexes: &Indexes, given: &str) -> Result<String, Failure> {
-    let (state, others) = given.split_once("; ").ok_or(Failure::Row)?;
-    let (mode, others) = others.split_once("; ").ok_or(Failure::Row)?;
-    let (end, text) = others.split_once("; ").ok_or(Failure::Row)?;
+pub fn outcome_from(alloc: Global, indexes: &Indexes, given: &str) -> Result<String, Unplayed> {
+    let (state, others) = given.split_once("; ").ok_or(Unplayed::Malformed)?;
+    let (mode, others) = others.split_once("; ").ok_or(Unplayed::Malformed)?;
+    let (end, text) = others.split_once("; ").ok_or(Unplayed::Malformed)?;
     let state = fields::output_state(state)?;
     let html = fields::is_second(mode, "fatal", "html")?;
     let end = fields::is_second(end, "goes on", "ends")?;
     let text = fields::text(alloc, text)?;
+    Ok(encoded_from(alloc, indexes, state, text.as_str(), html, end)?)
+}
+
+/// What a text is encoded to in ISO-2022-JP from a state, and the state behind it.
+fn encoded_from(
+    alloc: Global,
+    indexes: &Indexes,
+    state: OutputState,
+    text: &str,
+    html: bool,
+    end: bool,
+) -> Result<String, AllocError> {
     if !indexes.has(Encoding::Iso2022Jp) {
-        return Ok(String::from_str(alloc, "NoIndex")?);
+        return String::from_str(alloc, "NoIndex");
     }
-    match encode_from(alloc, indexes, state, &text, html, end) {
+    match encode_from(alloc, indexes, state, text, html, end) {
         Ok((bytes, after)) => {
             let bytes = fields::hex_of(alloc, &bytes)?;
-            Ok(format!(in alloc; "{bytes}; {after:?}")?)
+            format!(in alloc; "{bytes}; {after:?}")
         }
-        Err(FromFault::Unencodable(it)) => Ok(unencodable(alloc, it)?),
-        Err(FromFault::OutOfMemory) => Err(Failure::OutOfMemory),
+        Err(FromFault::Unencodable(it)) => unencodable(alloc, it),
+        Err(FromFault::OutOfMemory) => Err(AllocError),
     }
 }
 

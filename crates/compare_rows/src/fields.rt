@@ -1,51 +1,53 @@
 //! How encodings, states, bytes and texts are written in rows.
 
-use crate::failure::Failure;
+use crate::unplayed::Unplayed;
 use enc_names::Encoding;
 use iso2022jp::OutputState;
 use std::alloc::{AllocError, Global};
 
 /// The encoding of this name.
-pub fn encoding(name: &str) -> Result<Encoding, Failure> {
+pub fn encoding(name: &str) -> Result<Encoding, Unplayed> {
     for encoding in &Encoding::ALL {
         if encoding.name() == name {
             return Ok(*encoding);
         }
     }
-    Err(Failure::Row)
+    Err(Unplayed::Malformed)
 }
 
 /// The output state of this name.
-pub fn output_state(name: &str) -> Result<OutputState, Failure> {
+pub fn output_state(name: &str) -> Result<OutputState, Unplayed> {
     match name {
         "Ascii" => Ok(OutputState::Ascii),
         "Roman" => Ok(OutputState::Roman),
         "Katakana" => Ok(OutputState::Katakana),
         "Jis0208" => Ok(OutputState::Jis0208),
-        _ => Err(Failure::Row),
+        _ => Err(Unplayed::Malformed),
     }
 }
 
 /// Which of two words it is.
-pub fn is_second(word: &str, first: &str, second: &str) -> Result<bool, Failure> {
+pub fn is_second(word: &str, first: &str, second: &str) -> Result<bool, Unplayed> {
     if word == second {
         return Ok(true);
     }
     if word == first {
         Ok(false)
     } else {
-        Err(Failure::Row)
+        Err(Unplayed::Malformed)
     }
 }
 
+/// The byte of two hexadecimal digits.
+fn byte(word: &str) -> Result<u8, Unplayed> {
+    u8::from_str_radix(word, 16).map_err(|_| Unplayed::Malformed)
+}
+
 /// The bytes of pairs of hexadecimal digits, parted by spaces.
-pub fn bytes(alloc: Global, field: &str) -> Result<Vec<u8>, Failure> {
+pub fn bytes(alloc: Global, field: &str) -> Result<Vec<u8>, Unplayed> {
     let mut bytes = Vec::new(alloc);
     for word in field.split_whitespace() {
-        let Ok(byte) = u8::from_str_radix(word, 16) else {
-            return Err(Failure::Row);
-        };
-        bytes.push(byte).map_err(AllocError::from)?;
+        bytes.push(byte(word)?).map_err(AllocError::from)?;
     }
     Ok(bytes)
 }
@@ -57,10 +59,10 @@ fn code_point(word: &str) -> Option<char> {
 }
 
 /// The text of code points, parted by spaces.
-pub fn text(alloc: Global, field: &str) -> Result<String, Failure> {
+pub fn text(alloc: Global, field: &str) -> Result<String, Unplayed> {
     let mut text = String::new(alloc);
     for word in field.split_whitespace() {
-        text.push(code_point(word).ok_or(Failure::Row)?)?;
+        text.push(code_point(word).ok_or(Unplayed::Malformed)?)?;
     }
     Ok(text)
 }

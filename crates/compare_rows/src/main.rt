@@ -5,16 +5,17 @@
 
 mod decoding;
 mod encoding;
-mod failure;
 mod fields;
 mod rows;
+mod unplayed;
 
-use failure::Failure;
-use index_files::{bytes_of, indexes_in};
+use index_files::{Failure, Unread, bytes_of, indexes_in};
 use index_loader::Indexes;
-use rows::{Count, Kind, row_of};
+use oracle::Tally;
+use rows::{Kind, row_of};
 use std::path::Path;
 use std::process::ExitCode;
+use unplayed::Unplayed;
 
 /// The files of rows, and what their rows are of.
 const FILES: [(&str, Kind); 3] = [
@@ -23,37 +24,71 @@ const FILES: [(&str, Kind); 3] = [
     ("iso-2022-jp.txt", Kind::FromState),
 ];
 
-/// Plays a row, prints what came of it where that differs, and says whether it is as wanted.
+/// How many rows a file has at least.
+const LEAST: [u64; 1] = [1];
+
+/// Plays a row, prints what came of it where that differs, and counts both.
 fn play(
     rt: &HostRuntime,
     indexes: &Indexes,
     kind: Kind,
-    given: &str,
-    wanted: &str,
-) -> Result<bool, Failure> {
-    let came = kind.outcome(rt.alloc(), indexes, given)?;
+    (given, wanted): (&str, &str),
+    rows: &mut Tally<1>,
+) -> Result<(), Failure> {
+    let came = kind
+        .outcome(rt.alloc(), indexes, given)
+        .map_err(Unplayed::failure)?;
     let same = came.as_str() == wanted;
+    rows.count(0);
+    rows.compare(same);
     if !same {
         println!(rt; "{given} -> {came}")?;
     }
-    Ok(same)
+    Ok(())
 }
 
-/// Plays the rows of a file, and prints how many there are and how many differ.
-fn play_all(rt: &HostRuntime, indexes: &Indexes, name: &str, kind: Kind) -> Result<Count, Failure> {
-    let bytes = bytes_of(rt, rt.alloc(), Path::new(name))?.ok_or(Failure::File)?;
-    let Ok(text) = str::from_utf8(&bytes) else {
-        return Err(Failure::Row);
-    };
-    let mut count = Count::none();
+/// Plays the rows of a text, and counts them and those of which something else came.
+fn play_text(
+    rt: &HostRuntime,
+    indexes: &Indexes,
+    kind: Kind,
+    text: &str,
+) -> Result<Tally<1>, Failure> {
+    let mut rows = Tally::new();
     for line in text.split('\n') {
-        if let Some((given, wanted)) = row_of(line)? {
-            count.take(play(rt, indexes, kind, given, wanted)?);
+        if let Some(row) = row_of(line).map_err(Unplayed::failure)? {
+            play(rt, indexes, kind, row, &mut rows)?;
         }
     }
-    let Count { played, different } = count;
+    Ok(rows)
+}
+
+/// The bytes of a file of rows, which has to be there.
+fn bytes_in(rt: &HostRuntime, name: &'static str) -> Result<Vec<u8>, Failure> {
+    match bytes_of(rt, rt.alloc(), Path::new(name)) {
+        Ok(Some(bytes)) => Ok(bytes),
+        Ok(None) | Err(Unread::Failed) => Err(Failure::CannotRead(name)),
+        Err(Unread::OutOfMemory) => Err(Failure::OutOfMemory),
+    }
+}
+
+/// Plays the rows of a file, prints how many there are and how many differ, and says whether there
+/// were some and none differs.
+fn play_file(
+    rt: &HostRuntime,
+    indexes: &Indexes,
+    name: &'static str,
+    kind: Kind,
+) -> Result<bool, Failure> {
+    let bytes = bytes_in(rt, name)?;
+    let Ok(text) = str::from_utf8(&bytes) else {
+        return Err(Unplayed::Malformed.failure());
+    };
+    let rows = play_text(rt, indexes, kind, text)?;
+    let [played] = rows.seen;
+    let different = rows.different;
     println!(rt; "{name}: {played} rows, {different} differ")?;
-    Ok(count)
+    Ok(rows.is_telling(&LEAST))
 }
 
 /// Plays the rows of all files, and says whether there were some in each and none differs.
@@ -61,7 +96,7 @@ fn compare(rt: &HostRuntime) -> Result<bool, Failure> {
     let indexes = indexes_in(rt, rt.alloc(), ".")?;
     let mut fine = true;
     for (name, kind) in FILES {
-        fine &= play_all(rt, &indexes, name, kind)?.is_fine();
+        fine &= play_file(rt, &indexes, name, kind)?;
     }
     Ok(fine)
 }
@@ -72,7 +107,7 @@ fn main(rt: HostRuntime) -> ExitCode {
         Ok(false) => ExitCode::FAILURE,
         Err(failure) => {
             let _ = eprintln!(rt; "compare_rows: {failure}");
-            ExitCode::FAILURE
+            ExitCode::from(failure.status())
         }
     }
 }

@@ -1,3 +1,2 @@
 pub mod Documents
-pub mod Ending
 pub mod Hashed

@@ -1,19 +1,20 @@
 //! The program: a checksum for each encoding over the texts of all short documents.
 #![tactic(auto)]
 
-mod failure;
 mod form;
 mod sum;
 
 use codec::CodecFault;
 use enc_names::Encoding;
-use failure::Failure;
 use form::FORMS;
-use index_files::indexes_in;
+use index_files::{Failure, indexes_in};
 use index_loader::Indexes;
 use std::env;
 use std::process::ExitCode;
 use sum::sum_of;
+
+/// The words that it takes.
+const USAGE: &str = "usage: decode_sums [DIR], DIR having the index files";
 
 /// Prints the sum of each encoding.
 fn print_sums(rt: &HostRuntime, indexes: &Indexes) -> Result<(), Failure> {
@@ -39,7 +40,7 @@ fn attempt(rt: &HostRuntime) -> Result<(), Failure> {
     let indexes = match words.as_slice() {
         [] => Indexes::new(),
         [folder] => indexes_in(rt, rt.alloc(), folder.as_str())?,
-        _ => return Err(Failure::Words),
+        _ => return Err(Failure::Mistake(USAGE)),
     };
     print_sums(rt, &indexes)
 }

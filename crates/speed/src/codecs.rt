@@ -1,12 +1,11 @@
 //! How fast text is decoded and encoded, by encoding.
 
-use crate::failure::Failure;
 use crate::fastest::Fastest;
 use crate::samples::{Text, copies, document, samples};
 use codec::{CodecFault, decode_whole};
 use enc_names::Encoding;
 use encoders::{EncodeFault, EncodeMode, encode};
-use index_files::indexes_in;
+use index_files::{Failure, indexes_in};
 use index_loader::Indexes;
 use oracle::megabytes_per_second;
 use std::time::{Duration, Instant};

@@ -1,9 +1,9 @@
 //! How fast each lane kernel is, beside a plain loop with the same answer.
 
 use crate::byte_kernels::{BYTE_KERNELS, ByteKernel};
-use crate::failure::Failure;
 use crate::fastest::Fastest;
 use crate::text_kernels::{Forms, TEXT_KERNELS, TextKernel};
+use index_files::Failure;
 use oracle::megabytes_per_second;
 use std::time::{Duration, Instant};
 

@@ -5,7 +5,6 @@
 mod byte_kernels;
 mod codecs;
 mod command_line;
-mod failure;
 mod fastest;
 mod lanes;
 mod samples;
@@ -13,9 +12,9 @@ mod text_kernels;
 mod tree;
 
 use command_line::{Job, job_of};
-use failure::Failure;
-use std::env;
+use index_files::Failure;
 use std::process::ExitCode;
+use std::{env, io};
 
 /// Lists what is measured, and how to ask.
 fn list(rt: &HostRuntime) -> Result<(), Failure> {
@@ -24,10 +23,9 @@ fn list(rt: &HostRuntime) -> Result<(), Failure> {
     tree::list(rt)
 }
 
-/// Does what the words ask.
-fn attempt(rt: &HostRuntime) -> Result<(), Failure> {
-    let words: Vec<String> = env::args(rt)?.skip(1).collect(rt.alloc())?;
-    match job_of(rt.alloc(), &words)? {
+/// Does a job.
+fn perform(rt: &HostRuntime, job: Job<'_>) -> Result<(), Failure> {
+    match job {
         Job::List => list(rt),
         Job::Lanes => lanes::measure(rt),
         Job::Codecs(Some(folder)) => codecs::measure(rt, folder),
@@ -36,9 +34,44 @@ fn attempt(rt: &HostRuntime) -> Result<(), Failure> {
     }
 }
 
-fn main(rt: HostRuntime) -> ExitCode {
-    match attempt(&rt) {
-        Ok(()) => ExitCode::SUCCESS,
-        Err(failure) => ExitCode::from(failure.print(&rt)),
+/// Does a job, prints why it ends early where it does, and returns the exit status.
+fn performed(rt: &HostRuntime, job: Job<'_>) -> u8 {
+    match perform(rt, job) {
+        Ok(()) => 0,
+        Err(failure) => {
+            let _ = eprintln!(rt; "speed: {failure}");
+            failure.status()
+        }
     }
+}
+
+/// Prints help to the output, or what is wrong with the words to the error stream, and returns the
+/// exit status.
+fn told(rt: &HostRuntime, error: &clap::Error) -> u8 {
+    let _ = error.print(rt);
+    if error.use_stderr() { 2 } else { 0 }
+}
+
+/// The words of the command line, without the program's name.
+fn words(rt: &HostRuntime) -> io::Result<Vec<String>> {
+    Ok(env::args(rt)?.skip(1).collect(rt.alloc())?)
+}
+
+/// Does what the words ask, and returns the exit status.
+fn attempt(rt: &HostRuntime) -> u8 {
+    match words(rt) {
+        Ok(words) => match job_of(rt.alloc(), &words) {
+            Ok(job) => performed(rt, job),
+            Err(error) => told(rt, &error),
+        },
+        Err(error) => {
+            let failure = Failure::from(error);
+            let _ = eprintln!(rt; "speed: {failure}");
+            failure.status()
+        }
+    }
+}
+
+fn main(rt: HostRuntime) -> ExitCode {
+    ExitCode::from(attempt(&rt))
 }

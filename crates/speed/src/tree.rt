@@ -1,7 +1,7 @@
 //! How many nodes a search visits in a tree of items, and how long edits and searches take.
 
-use crate::failure::Failure;
 use crate::fastest::Fastest;
+use index_files::Failure;
 use oracle::tree::{Axis, Items, light, put, take};
 use rand::rngs::SmallRng;
 use rand::{RngExt, SeedableRng};

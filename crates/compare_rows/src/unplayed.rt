@@ -1,0 +1,40 @@
+//! Why a row can't be played.
+
+use codec::CodecFault;
+use index_files::Failure;
+use std::alloc::AllocError;
+
+/// Why a row can't be played. It is copied, so that nothing has to be dropped where it is passed on.
+#[derive(Clone, Copy)]
+pub enum Unplayed {
+    /// It isn't written as rows are.
+    Malformed,
+    /// Memory ran out.
+    OutOfMemory,
+}
+
+impl Unplayed {
+    /// The same as why the program ends.
+    pub fn failure(self) -> Failure {
+        match self {
+            Unplayed::Malformed => Failure::Mistake("a row that isn't written as rows are"),
+            Unplayed::OutOfMemory => Failure::OutOfMemory,
+        }
+    }
+}
+
+impl From<AllocError> for Unplayed {
+    fn from(_: AllocError) -> Unplayed {
+        Unplayed::OutOfMemory
+    }
+}
+
+impl From<CodecFault> for Unplayed {
+    fn from(fault: CodecFault) -> Unplayed {
+        match fault {
+            CodecFault::OutOfMemory => Unplayed::OutOfMemory,
+            // (a decoder was made, and mode fatal has its own way)
+            CodecFault::NoIndex | CodecFault::Malformed(_) => Unplayed::Malformed,
+        }
+    }
+}

@@ -1,0 +1,75 @@
+//! Why a program over index files ends early.
+ghost use Rattle.std.specs.Prelude.{◌≡◌};
+ghost use Rattle.index_files.specs.Ending.{of_folder, status_of};
+ghost use Rattle.index_files.specs.declared.failure.Failure.TheVariants as failure;
+
+use crate::fault::{FolderFault, IndexFileFault};
+use std::alloc::AllocError;
+use std::{fmt, io};
+
+/// Why a program over index files ends early. Displayed as a line of text without its line end.
+#[derive(Debug, Drop)]
+pub enum Failure {
+    /// The words or a file aren't as the program reads them: what is wrong.
+    Mistake(&'static str),
+    /// The file of this name can't be read.
+    CannotRead(&'static str),
+    /// An index file is faulty.
+    Index(IndexFileFault),
+    /// The words can't be read, or the clock or the output failed.
+    Device(io::Error),
+    /// Memory ran out.
+    OutOfMemory,
+}
+
+impl Failure {
+    /// The exit status: 2 for a mistake in the words or the files, and else 1.
+    pub fn status(&self) -> u8
+        ensures { result ≡ status_of self.now }
+    {
+        match self {
+            Failure::Mistake(_) | Failure::CannotRead(_) | Failure::Index(_) => 2,
+            Failure::Device(_) | Failure::OutOfMemory => 1,
+        }
+    }
+}
+
+impl fmt::Display for Failure {
+    fn fmt<W: fmt::Write>(&self, f: &mut fmt::Formatter<W>) -> fmt::Result {
+        match self {
+            Failure::Mistake(text) => f.write_str(text),
+            Failure::CannotRead(name) => write!(f, "cannot read {name}"),
+            Failure::Index(fault) => write!(f, "{fault}"),
+            Failure::Device(error) => write!(f, "{error}"),
+            Failure::OutOfMemory => f.write_str("out of memory"),
+        }
+    }
+}
+
+impl From<FolderFault> for Failure {
+    ghost from_gives = { λ fault it. it ≡ of_folder fault };
+
+    fn from(fault: FolderFault) -> Failure {
+        match fault {
+            FolderFault::CannotRead(name) => Failure::CannotRead(name),
+            FolderFault::Index(fault) => Failure::Index(fault),
+            FolderFault::OutOfMemory => Failure::OutOfMemory,
+        }
+    }
+}
+
+impl From<io::Error> for Failure {
+    ghost from_gives = { λ error it. it ≡ failure.Device error };
+
+    fn from(error: io::Error) -> Failure {
+        Failure::Device(error)
+    }
+}
+
+impl From<AllocError> for Failure {
+    ghost from_gives = { λ _ it. it ≡ failure.OutOfMemory };
+
+    fn from(_: AllocError) -> Failure {
+        Failure::OutOfMemory
+    }
+}

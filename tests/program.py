@@ -1,0 +1,34 @@
+"""The program as it was built, crates/gate/out/gate, or the one that the variable GATE names; and how the tests here play commands on it."""
+import os
+import pathlib
+import subprocess
+import unittest
+
+TOP = pathlib.Path(__file__).resolve().parent.parent
+PROGRAM = os.environ.get("GATE", str(TOP / "crates" / "gate" / "out" / "gate"))
+
+# The words by which the program serves the standard streams over small index files.
+SMALL = ("stdio", "--indexes", str(TOP / "examples" / "indexes"))
+
+built = unittest.skipUnless(os.access(PROGRAM, os.X_OK), f"there is no program {PROGRAM}; rt ci builds it")
+
+
+def cut(line):
+    """The line, or its ends where it is long."""
+    return line if len(line) <= 400 else f"{line[:200]} .. {line[-200:]}"
+
+
+class Played(unittest.TestCase):
+    """Tests by what the program replies."""
+
+    def plays(self, rows, *words):
+        """The program, started anew, answers the commands as listed, to the byte. A row is a command and its reply,
+        neither with its LF."""
+        lines = "".join(command + "\n" for command, _ in rows)
+        ran = subprocess.run([PROGRAM, *(words or SMALL)], input=lines.encode(), stdout=subprocess.PIPE, stderr=subprocess.PIPE)
+        self.assertEqual((ran.returncode, ran.stderr), (0, b""))
+        *replies, rest = ran.stdout.decode().split("\n")
+        for (command, wanted), reply in zip(rows, replies):
+            if reply != wanted:
+                self.fail(f"{cut(command)}\nis answered by {cut(reply)}\ninstead of     {cut(wanted)}")
+        self.assertEqual((len(replies), rest), (len(rows), ""))
