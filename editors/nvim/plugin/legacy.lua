@@ -5,7 +5,8 @@ end
 vim.g.loaded_legacy = true
 
 -- Each of these calls returns a command, so that an error is one of Vim's and not a traceback of Lua.
-vim.api.nvim_create_user_command('LegacyEdit', "execute v:lua.require'legacy'.edit(<q-args>, <q-bang>)", {
+local edit = "execute v:lua.require'legacy'.edit(<q-args>, <q-bang>) | execute v:lua.require'legacy'.failure()"
+vim.api.nvim_create_user_command('LegacyEdit', edit, {
   nargs = '+',
   bang = true,
   desc = 'Edit a file in a legacy encoding',

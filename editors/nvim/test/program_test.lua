@@ -14,6 +14,20 @@ it.test('a program that isn\'t there', false, function()
   it.same(it.failure('write'), 'legacy: the buffer shows no document')
 end)
 
+it.test('a failure in a script of Lua', false, function()
+  it.settings({ gate = it.work .. '/no-gate' })
+  local path = it.work .. '/program.txt'
+  it.write(path, 'a\n')
+  local done, why = pcall(vim.cmd, 'LegacyEdit! utf-8 ' .. path)
+  it.same({ done, why:find("can't be started", 1, true) ~= nil }, { false, true })
+  it.said("can't be started", function()
+    pcall(vim.cmd, 'edit! legacy://utf-8/' .. path)
+    vim.wait(1000, function()
+      return vim.fn.execute('messages'):find('legacy', 1, true) ~= nil
+    end, 10)
+  end)
+end)
+
 it.test('a program that ends', false, function()
   it.same(refusal({ gate = '/bin/false', indexes = it.work }, 'utf-8'),
     ("legacy: the program '/bin/false stdio --indexes %s' ended"):format(it.work))

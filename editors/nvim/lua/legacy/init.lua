@@ -2,6 +2,7 @@
 local Buffer = require('legacy.buffer')
 local Connection = require('legacy.connection')
 local config = require('legacy.config')
+local messages = require('legacy.messages')
 
 local M = {}
 
@@ -38,15 +39,36 @@ local function parts(name)
   return label, vim.fn.fnamemodify(path, ':p')
 end
 
----Calls, and returns the command that shows the error, if there was one.
----@param call fun(): string|nil
+---The command that shows an error, if there is one.
+---@param why string|nil
 ---@return string
+local function echoed(why)
+  return why and "echoerr '" .. why:gsub("'", "''") .. "'" or ''
+end
+
+---Calls, and returns the command that was made, or that shows the error.
+---@param call fun(): string|nil
+---@return string command
+---@return string|nil why
 local function command_of(call)
   local done, result = pcall(call)
   if done then
     return result or ''
   end
-  return "echoerr '" .. tostring(result):gsub("'", "''"):gsub('\n', ' ') .. "'"
+  local why = tostring(result):gsub('\n', ' ')
+  return echoed(why), why
+end
+
+---Why the last file wasn't read, until it is known to have been shown.
+---@type string|nil
+local unread
+
+---Takes what nobody has seen: Neovim drops an error of `BufReadCmd` where a script in Lua runs the command.
+---@return string|nil
+local function unseen()
+  local why = unread
+  unread = nil
+  return why and vim.v.errmsg ~= why and why or nil
 end
 
 ---The command that edits a file, from the arguments of `:LegacyEdit`.
@@ -54,7 +76,7 @@ end
 ---@param bang string
 ---@return string
 function M.edit(arguments, bang)
-  return command_of(function()
+  return (command_of(function()
     local label, path = arguments:match('^(%S+)%s+(.+)$')
     if not label then
       error('legacy: :LegacyEdit takes an encoding and a file', 0)
@@ -64,7 +86,7 @@ function M.edit(arguments, bang)
     end
     local name = ('legacy://%s/%s'):format(label, vim.fn.fnamemodify(path, ':p'))
     return ('edit%s %s'):format(bang, vim.fn.fnameescape(name))
-  end)
+  end))
 end
 
 ---Reads the file of a name into a buffer.
@@ -76,10 +98,26 @@ function M.read(number, name)
     buffers[number]:close()
     buffers[number] = nil
   end
-  return command_of(function()
+  local command, why = command_of(function()
     local label, path = parts(name)
     buffers[number] = Buffer.read(number, label, path, connect)
   end)
+  if why then
+    unread, vim.v.errmsg = why, ''
+    vim.schedule(function()
+      local text = unseen()
+      if text then
+        messages.warn((text:gsub('^legacy: ', '')))
+      end
+    end)
+  end
+  return command
+end
+
+---The command that shows why `:LegacyEdit` read nothing, where nobody has seen it.
+---@return string
+function M.failure()
+  return echoed(unseen())
 end
 
 ---Writes a buffer to the file of a name.
@@ -88,7 +126,7 @@ end
 ---@param bang integer 1 where the command had a !
 ---@return string
 function M.write(number, name, bang)
-  return command_of(function()
+  return (command_of(function()
     local buffer = M.buffer(number)
     local label, path = parts(name)
     if name == vim.api.nvim_buf_get_name(number) then
@@ -97,7 +135,7 @@ function M.write(number, name, bang)
       error('legacy: not written: a document is written in its own encoding', 0)
     end
     buffer:write(path, bang == 1)
-  end)
+  end))
 end
 
 ---The document's side of a buffer; an error where it has none.
