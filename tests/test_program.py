@@ -1,6 +1,4 @@
-"""The program as it was built, by its words and files.
-
-What it does with hostile ones is in tools/hostile; that it does the same over devices which fail, in crates/gate."""
+"""The program as it was built, by its words and files. What it does with hostile ones is in tools/hostile."""
 import base64
 import contextlib
 import json
@@ -127,51 +125,6 @@ def opened(encoding, text):
     return f'{{"bom":0,"encoding":"{encoding}","id":1,"rev":0}}\n{{"id":2,"rev":0,"text":{text}}}\n'
 
 
-def sent(connection, text):
-    """The trace line of an event that brings this text."""
-    return f"bytes {connection} {base64.b64encode(text.encode()).decode()}"
-
-
-# Traces with their ends: the lines, the status, what is printed, and what is said. In the first a splice on connection 2
-# is begun before one of connection 1 is complete, and complete behind it.
-TRACES = [
-    (
-        [
-            "open 1",
-            "open 2",
-            "# open d, and the first half of a splice on each connection",
-            sent(1, '{"id":1,"op":"open","doc":"d","label":"utf-8","bytes":"YQ=="}\n'),
-            sent(1, '{"id":2,"op":"splice","doc":"d","rev":0,"at":1,'),
-            sent(2, '{"id":1,"op":"splice","doc":"d","rev":0,"at":0,"del":0,"bytes":"Yg=="}'),
-            "",
-            sent(1, '"del":0,"bytes":"Yw=="}\n'),
-            sent(2, "\n"),
-            sent(2, '{"id":2,"op":"text","doc":"d","from":0,"to":2}\n'),
-            sent(2, '{"id":3,'),
-            "close 2",
-        ],
-        0,
-        [
-            '1 {"bom":0,"encoding":"UTF-8","id":1,"rev":0}',
-            '1 {"bom":0,"encoding":"UTF-8","id":2,"rev":1}',
-            '2 {"fault":"Stale","id":1,"rev":1}',
-            '2 {"id":2,"rev":1,"text":"ac"}',
-        ],
-        "",
-    ),
-    (
-        ["open 0", *(sent(0, line + "\n") for line in asked("windows-1252", b"\x80").splitlines())],
-        0,
-        [f"0 {line}" for line in opened("windows-1252", "\u20ac").splitlines()],
-        "",
-    ),
-    (["open 3", "open 3", sent(3, "{}\n"), "close 3"], 0, ["3 !AlreadyOpen", '3 {"fault":"BadRequest","field":"id"}'], ""),
-    (["bytes 3"], 2, [], "gate: trace line 1\n"),
-    (["# note", "", "open 16", "bytes 3"], 2, ["16 !BadNumber"], "gate: trace line 4\n"),
-    ([], 0, [], ""),
-]
-
-
 NOT_OPENED = '{"fault":"NoIndex","id":1}\n{"fault":"NoDocument","id":2}\n'
 
 
@@ -202,6 +155,7 @@ class Program(unittest.TestCase):
         self.serves(line, '{"fault":"UnknownLabel","id":1}\n')
         self.serves(asked(" Windows-1252 ", b"\x80"), opened("windows-1252", "\u20ac"))
         self.runs(lines=asked("windows-1252", b"\x80"), output=NOT_OPENED)
+        self.runs(lines=OPEN, output='{"bom":0,"encoding":"UTF-8","id":1,"rev":0}\n')
 
     def test_ranges_and_changes_over_index_files(self):
         for name, rows in ("big5", "5495\t0x4E00\n"), ("jis0208", JIS0208), ("iso-2022-jp-katakana", "0\t0x3002\n"):
@@ -224,14 +178,6 @@ class Program(unittest.TestCase):
             there = "".join(opened(label, text) for label, _, text in MULTIBYTE[:count])
             with self.subTest(name):
                 self.serves(lines, there + NOT_OPENED * (len(MULTIBYTE) - count))
-
-    def test_traces(self):
-        self.put("windows-1252", "0\t0x20AC\n")
-        for lines, status, printed, told in TRACES:
-            with self.subTest(lines[:3]):
-                text = "\n".join(lines) + ("\n" if status == 0 else "")
-                output = "".join(line + "\n" for line in printed)
-                self.runs("trace", "--indexes", str(self.folder), lines=text, status=status, output=output, error=told)
 
     def test_help_goes_to_the_output(self):
         for words in ["--help"], ["-h"], ["help"], ["stdio", "--help"], ["trace", "--help"], ["tcp", "--help"]:

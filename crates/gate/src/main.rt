@@ -9,8 +9,6 @@ mod perform;
 mod replay;
 mod serve;
 mod stdio;
-#[cfg(test)]
-mod tests;
 mod text;
 
 use failure::Failure;

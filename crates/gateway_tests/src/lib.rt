@@ -1,5 +1,7 @@
-//! Tests of the gateway, from the requests in lines to whole traces, and the worked examples of its
-//! definitions. They stand in a crate of their own, so that the crates below are proved once.
+//! Tests of the gateway over devices that fail or take few bytes, and the worked examples of its
+//! definitions. What the program answers to lines and traces is tried on it as it was built, by the
+//! sessions and tables of tests/. They stand in a crate of their own, so that the crates below are
+//! proved once.
 #![tactic(auto)]
 
 #[cfg(test)]
@@ -7,7 +9,7 @@ mod breaking;
 #[cfg(test)]
 mod events;
 #[cfg(test)]
-mod replies;
+mod plays;
 #[cfg(test)]
 mod reply_lines;
 #[cfg(test)]

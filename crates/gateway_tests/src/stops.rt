@@ -1,34 +1,15 @@
 //! Runs and traces whose reader or writer stops behind each byte, and works no more. What went out
 //! is whole replies and a part of the next one, the desk has taken exactly the lines of these
-//! replies, and a run's connection is closed.
+//! replies, and a run's connection is closed: opened anew, it begins with no byte of a line.
 
-use crate::events::{expect_event, new_gateway};
-use crate::runs::{REPLIES, SESSION};
+use crate::plays::{REPLIES, SESSION, Stop, Way, new_gateway, play};
 use crate::stopping::{StoppingFeed, StoppingOutlet};
 use base64::engine::general_purpose::STANDARD;
-use gateway::{
-    Event, Feed, GateFault, Gateway, MemFeed, MemOutlet, Outlet, RunFault, TraceFault, run, trace,
-};
+use gateway::{Event, Gateway};
 use index_loader::Indexes;
 use std::alloc::Global;
 use std::process::Abort;
 use std::test::Fail;
-
-/// Which device failed.
-#[derive(Clone, Copy, PartialEq, Eq, Debug)]
-enum Stop {
-    Reader,
-    Writer,
-}
-
-/// How lines come to the gateway.
-#[derive(Clone, Copy, PartialEq, Eq)]
-enum Way {
-    /// By `run`, on connection 0.
-    Run,
-    /// By `trace`, on connections 1 and 2.
-    Trace,
-}
 
 /// A question about a document, and its replies behind no line, behind one, and so on.
 #[derive(Clone, Copy)]
@@ -116,98 +97,106 @@ fn line_ends(bytes: &[u8]) -> usize {
     bytes.iter().filter(|byte| **byte == b'\n').count()
 }
 
-/// The first lines of a text.
-fn first_lines(alloc: Global, text: &str, count: usize) -> Result<String, Fail> {
-    let mut lines = String::new(alloc);
+/// The length of the first lines of a text.
+fn length_of_lines(text: &str, count: usize) -> usize {
+    let mut length: usize = 0;
     for line in text.split_inclusive('\n').take(count) {
-        lines.push_str(line)?;
+        length = length.saturating_add(line.len());
     }
-    Ok(lines)
+    length
 }
 
-/// Which device stopped this, if one did.
-fn stop_of<R: Feed, W: Outlet>(
-    rt: &impl Abort,
-    alloc: Global,
-    way: Way,
-    gateway: &mut Gateway<'_>,
-    reader: &mut R,
-    writer: &mut W,
-) -> Option<Stop> {
-    match way {
-        Way::Run => match run(gateway, 0, reader, writer) {
-            Ok(()) => None,
-            Err(RunFault::Read) => Some(Stop::Reader),
-            Err(RunFault::Write) => Some(Stop::Writer),
-            Err(fault) => panic!(rt; "{fault:?}"),
-        },
-        Way::Trace => match trace(alloc, gateway, reader, writer) {
-            Ok(()) => None,
-            Err(TraceFault::Read) => Some(Stop::Reader),
-            Err(TraceFault::Write) => Some(Stop::Writer),
-            Err(fault) => panic!(rt; "{fault:?}"),
-        },
+/// What went out where a play stopped behind `room` bytes of its input or its output, and how many
+/// lines the desk has taken: those in the bytes that were read, or those whose replies went out and
+/// the one in whose reply the writer failed.
+fn outcome<'a>(play: &Play<'a>, stop: Stop, room: usize) -> (&'a [u8], usize) {
+    let output = play.output.as_bytes();
+    if stop == Stop::Writer {
+        let sent = output.get(..room).unwrap_or(&[]);
+        return (sent, line_ends(sent).saturating_add(1));
     }
-}
-
-/// Asserts that a run has closed its connection, and that the desk has taken so many lines: on
-/// another connection it is asked.
-fn expect_taken(rt: &impl Abort, gateway: &mut Gateway<'_>, play: &Play<'_>, count: usize) {
-    if play.way == Way::Run {
-        let closed = gateway.event(Event::Close(0)).err();
-        assert_eq!(rt; closed, Some(GateFault::NotOpen));
-    }
-    assert!(rt; gateway.event(Event::Open(9)).is_ok());
-    for question in play.questions {
-        let reply = question.replies.split_inclusive('\n').nth(count);
-        let line = question.line;
-        expect_event(rt, gateway, 9, line, line.len(), reply);
-    }
-}
-
-/// The reader gives `room` bytes and fails: the replies to the lines in them go out.
-fn stop_reader(rt: &impl Abort, alloc: Global, play: &Play<'_>, room: usize) -> Result<(), Fail> {
-    let indexes = Indexes::new();
-    let mut gateway = new_gateway(alloc, &indexes)?;
-    let input = play.input.as_bytes();
-    let mut reader = StoppingFeed::new(input, room);
-    let mut writer = MemOutlet::new(alloc);
-    let stop = stop_of(rt, alloc, play.way, &mut gateway, &mut reader, &mut writer);
-    assert_eq!(rt; stop, Some(Stop::Reader), "behind byte {room}");
     let opens = match play.way {
         Way::Run => 0,
         Way::Trace => 2,
     };
-    let count = line_ends(input.get(..room).unwrap_or(&[])).saturating_sub(opens);
-    let replies = first_lines(alloc, play.output, count)?;
-    assert_eq!(rt; writer.bytes(), replies.as_bytes(), "behind byte {room}");
-    expect_taken(rt, &mut gateway, play, count);
-    Ok(())
+    let read = play.input.as_bytes().get(..room).unwrap_or(&[]);
+    let count = line_ends(read).saturating_sub(opens);
+    let sent = output
+        .get(..length_of_lines(play.output, count))
+        .unwrap_or(&[]);
+    (sent, count)
 }
 
-/// The writer takes `room` bytes and fails: they are what goes out, and the line is taken in whose
-/// reply it failed.
-fn stop_writer(rt: &impl Abort, alloc: Global, play: &Play<'_>, room: usize) -> Result<(), Fail> {
+/// Asserts that this line, the first on a connection, has this reply.
+fn expect_reply(
+    rt: &impl Abort,
+    gateway: &mut Gateway<'_>,
+    number: u8,
+    line: &str,
+    wanted: Option<&str>,
+) {
+    match gateway.event(Event::Bytes(number, line.as_bytes())) {
+        Ok(out) => {
+            let reply = out.reply.as_ref().map(|line| line.bytes());
+            assert_eq!(rt; reply, wanted.map(str::as_bytes), "to {line}");
+        }
+        Err(_) => panic!(rt; "refused: {line}"),
+    }
+}
+
+/// Asserts that the desk has taken so many lines: it is asked on the connection of a run, which is
+/// closed, or on another one than those of a trace.
+fn expect_taken(rt: &impl Abort, gateway: &mut Gateway<'_>, play: &Play<'_>, count: usize) {
+    let number = match play.way {
+        Way::Run => 0,
+        Way::Trace => 9,
+    };
+    assert!(rt; gateway.event(Event::Open(number)).is_ok());
+    for question in play.questions {
+        let reply = question.replies.split_inclusive('\n').nth(count);
+        expect_reply(rt, gateway, number, question.line, reply);
+    }
+}
+
+/// The device that stops gives or takes `room` bytes and then fails.
+fn stop_behind(
+    rt: &impl Abort,
+    alloc: Global,
+    it: &Play<'_>,
+    stop: Stop,
+    room: usize,
+) -> Result<(), Fail> {
     let indexes = Indexes::new();
     let mut gateway = new_gateway(alloc, &indexes)?;
-    let mut reader = MemFeed::new(play.input.as_bytes());
-    let mut writer = StoppingOutlet::new(alloc, room);
-    let stop = stop_of(rt, alloc, play.way, &mut gateway, &mut reader, &mut writer);
-    assert_eq!(rt; stop, Some(Stop::Writer), "behind byte {room}");
-    let replies = play.output.as_bytes().get(..room).unwrap_or(&[]);
-    assert_eq!(rt; writer.bytes(), replies, "behind byte {room}");
-    expect_taken(rt, &mut gateway, play, line_ends(replies).saturating_add(1));
+    let (read, written) = match stop {
+        Stop::Reader => (room, usize::MAX),
+        _ => (usize::MAX, room),
+    };
+    let mut reader = StoppingFeed::new(it.input.as_bytes(), read);
+    let mut writer = StoppingOutlet::new(alloc, written);
+    let stopped = play(alloc, it.way, &mut gateway, &mut reader, &mut writer);
+    assert_eq!(rt; stopped, Some(stop), "behind byte {room}");
+    let (sent, count) = outcome(it, stop, room);
+    assert_eq!(rt; writer.bytes(), sent, "behind byte {room}");
+    expect_taken(rt, &mut gateway, it, count);
     Ok(())
 }
 
 /// Stops the reader behind each byte of the input, and the writer in front of each of the output.
-fn stop_each(rt: &impl Abort, alloc: Global, play: &Play<'_>) -> Result<(), Fail> {
-    for room in 0..=play.input.len() {
-        stop_reader(rt, alloc, play, room)?;
+fn stop_each(rt: &impl Abort, alloc: Global, it: &Play<'_>) -> Result<(), Fail> {
+    for room in 0..=it.input.len() {
+        stop_behind(rt, alloc, it, Stop::Reader, room)?;
     }
-    for room in 0..play.output.len() {
-        stop_writer(rt, alloc, play, room)?;
+    for room in 0..it.output.len() {
+        stop_behind(rt, alloc, it, Stop::Writer, room)?;
     }
+    Ok(())
+}
+
+/// Puts the event that brings a line behind a trace.
+fn put_event(alloc: Global, text: &mut String, number: usize, line: &str) -> Result<(), Fail> {
+    let bytes = STANDARD.encode(alloc, line.as_bytes())?;
+    write!(text, "bytes {number} {bytes}\n")?;
     Ok(())
 }
 
@@ -215,8 +204,7 @@ fn stop_each(rt: &impl Abort, alloc: Global, play: &Play<'_>) -> Result<(), Fail
 fn traced(alloc: Global, lines: &str) -> Result<String, Fail> {
     let mut text = String::from_str(alloc, "open 1\nopen 2\n")?;
     for (n, line) in lines.split_inclusive('\n').enumerate() {
-        let bytes = STANDARD.encode(alloc, line.as_bytes())?;
-        write!(text, "bytes {} {bytes}\n", 1 + n % 2)?;
+        put_event(alloc, &mut text, 1 + n % 2, line)?;
     }
     Ok(text)
 }
@@ -230,40 +218,50 @@ fn printed(alloc: Global, replies: &str) -> Result<String, Fail> {
     Ok(text)
 }
 
-/// Stops a run of these lines and a trace of them.
-fn stop_each_way(
+/// Stops a run of these lines.
+fn stop_run(
     rt: &impl Abort,
     alloc: Global,
-    lines: &str,
-    replies: &str,
+    (input, output): (&str, &str),
     questions: &[Question<'_>],
 ) -> Result<(), Fail> {
-    let play = Play {
+    let it = Play {
         way: Way::Run,
-        input: lines,
-        output: replies,
+        input,
+        output,
         questions,
     };
-    stop_each(rt, alloc, &play)?;
+    stop_each(rt, alloc, &it)
+}
+
+/// Stops a trace of these lines.
+fn stop_trace(
+    rt: &impl Abort,
+    alloc: Global,
+    (lines, replies): (&str, &str),
+    questions: &[Question<'_>],
+) -> Result<(), Fail> {
     let input = traced(alloc, lines)?;
     let output = printed(alloc, replies)?;
-    let play = Play {
+    let it = Play {
         way: Way::Trace,
         input: input.as_str(),
         output: output.as_str(),
         questions,
     };
-    stop_each(rt, alloc, &play)
+    stop_each(rt, alloc, &it)
 }
 
 #[test]
 fn stored_session_stopped_at_each_byte(rt: HostRuntime) -> Result<(), Fail> {
     let questions = [BYTE_OF_SESSION];
-    stop_each_way(&rt, rt.alloc(), SESSION, REPLIES, &questions)
+    stop_run(&rt, rt.alloc(), (SESSION, REPLIES), &questions)?;
+    stop_trace(&rt, rt.alloc(), (SESSION, REPLIES), &questions)
 }
 
 #[test]
 fn two_clients_stopped_at_each_byte(rt: HostRuntime) -> Result<(), Fail> {
     let questions = [BYTE_OF_FIRST, BYTES_OF_SECOND];
-    stop_each_way(&rt, rt.alloc(), TWO_CLIENTS, TO_TWO_CLIENTS, &questions)
+    stop_run(&rt, rt.alloc(), (TWO_CLIENTS, TO_TWO_CLIENTS), &questions)?;
+    stop_trace(&rt, rt.alloc(), (TWO_CLIENTS, TO_TWO_CLIENTS), &questions)
 }
