@@ -1,5 +1,4 @@
-//! Documents at work: a table of documents in each family of encodings, byte order marks that
-//! appear and vanish, what a splice decodes, and which splices keep the text.
+//! What no op shows of a document: what a splice decodes, and which splices keep the text.
 
 use decoder_core::meter;
 use enc_names::Encoding;
@@ -9,9 +8,7 @@ use std::alloc::Global;
 use std::process::Abort;
 use std::test::Fail;
 
-mod cases;
 mod kept;
-mod marks;
 mod meters;
 
 /// So many bytes `a` and then these.
@@ -31,26 +28,4 @@ fn has_text(
 ) -> Result<(), DocFault> {
     assert_eq!(rt; doc.text(from, to)?.as_str(), text);
     Ok(())
-}
-
-/// The document has errors from here to there.
-fn has_errors(rt: &impl Abort, doc: &Doc<'_>, errors: &[(u64, u64)]) -> Result<(), DocFault> {
-    let places = doc.errors(0, doc.lengths().errors)?;
-    assert_eq!(rt; places.len(), errors.len());
-    for (place, (from, to)) in places.iter().zip(errors) {
-        assert_eq!(rt; (place.from, place.to), (*from, *to));
-    }
-    assert_eq!(rt; doc.fatal(), places.first().copied());
-    Ok(())
-}
-
-/// The document answers everything with this text, and with errors from here to there.
-fn answers(
-    rt: &impl Abort,
-    doc: &Doc<'_>,
-    text: &str,
-    errors: &[(u64, u64)],
-) -> Result<(), DocFault> {
-    has_text(rt, doc, 0, doc.lengths().scalars, text)?;
-    has_errors(rt, doc, errors)
 }

@@ -1,5 +1,4 @@
-//! What a splice decodes, in documents of several pieces and where it is refused, and line ends that
-//! pieces cut.
+//! What a splice decodes, in documents of several pieces and where it is refused.
 
 use super::*;
 use crate::indexes::small_indexes;
@@ -48,7 +47,8 @@ fn splice_far_past_the_end_decodes_nothing(rt: HostRuntime) -> Result<(), Fail> 
     let refused = doc.splice(u64::MAX, 1, &[], &mut spent).err();
     assert_eq!(&rt; refused, Some(DocFault::OutOfRange));
     assert_eq!(&rt; spent.decoded(), 0);
-    answers(&rt, &doc, "a", &[])?;
+    assert_eq!(&rt; doc.lengths().bytes, 1);
+    has_text(&rt, &doc, 0, 1, "a")?;
     Ok(())
 }
 
@@ -65,19 +65,5 @@ fn remembered_states(rt: HostRuntime) -> Result<(), Fail> {
     let raised = raised(&mut doc, 4, 1, &[])?;
     assert!(&rt; raised <= 8192, "{raised} bytes decoded");
     has_text(&rt, &doc, 32_766, 32_768, "AA")?;
-    Ok(())
-}
-
-#[test]
-fn line_end_wherever_it_is_cut(rt: HostRuntime) -> Result<(), Fail> {
-    let indexes = Indexes::new();
-    let bytes = behind_letters(rt.alloc(), 2047, b"\r\n")?;
-    for at in [0, 1, 512, 1024, 2046, 2047, 2048, 2049] {
-        let front = bytes.get(..at).unwrap_or(&[]);
-        let back = bytes.get(at..).unwrap_or(&[]);
-        let mut doc = Doc::open(rt.alloc(), &indexes, Encoding::Utf8, back, &mut meter())?;
-        doc.splice(0, 0, front, &mut meter())?;
-        assert_eq!(&rt; doc.lengths().lines, 2, "cut at {at}");
-    }
     Ok(())
 }
