@@ -9,6 +9,8 @@ mod perform;
 mod replay;
 mod serve;
 mod stdio;
+#[cfg(test)]
+mod tests;
 mod text;
 
 use failure::Failure;
