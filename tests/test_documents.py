@@ -201,6 +201,17 @@ CHANGED = [
 ]
 
 
+MARK = b"\xef\xbb\xbf"
+
+# A byte order mark is text where something stands in front of it, and in front of all else it is none, so that it can't be put there.
+CHANGED += [
+    ("a mark for the first letter", "UTF-8", b"A", 0, 1, "\ufeffx", {"fault": "NotKept"}, AROUND[::2]),
+    ("a mark for a letter behind others", "UTF-8", b"A", 0, 1, "\ufeffx", (0, 1, 4, MARK + b"x"), AROUND[1::2]),
+    ("a mark behind the first one", "UTF-8", MARK, 0, 0, "\ufeff", (3, 0, 3, MARK + MARK), AROUND[::2]),
+    ("a mark beside another, behind letters", "UTF-8", MARK, 0, 0, "\ufeff", (0, 0, 3, MARK + MARK), AROUND[1::2]),
+]
+
+
 def change(line, begin, end, new):
     bounds = {"start": {"line": line, "character": begin}, "end": {"line": line, "character": end}}
     return {"op": "change", "rev": 0, "range": bounds, "text": new}
@@ -346,6 +357,11 @@ class Documents(Played):
             with self.subTest(at):
                 edit = splices(0, 0, 0, content[:at]), opened("UTF-8", content, 1)
                 self.of_one(whole("UTF-8", content[at:]) + [edit, ({"op": "stat"}, stat)])
+
+    def test_a_text_of_many_blocks_encoded(self):
+        encoded = coded(b"\x1b$B" + b"$\"" * 3000 + b"\x1b(B")
+        command = {"op": "encode", "from": 0, "to": 3000, "label": "iso-2022-jp"}
+        self.of_one(whole("UTF-8", ("\u3042" * 3000).encode()) + [(command, {"bytes": encoded, "rev": 0})])
 
     def test_sixty_four_documents_and_one_more(self):
         self.answers(SIXTY_FOUR + ONE_MORE)

@@ -113,6 +113,34 @@ FAULTY = [
 ]
 
 
+# A line of an index file whose fields aren't bare, bytes of windows-1252 over it, and their text.
+LINES = [
+    ("00\t0x0000000000000041", b"\x80\x81", "A\ufffd"),
+    ("#\n  5 \t 0x2a \t0x2b\r\n", b"\x85", "*"),
+]
+
+# Label files, and the encodings that labels name over each, if they name one.
+LABELS = [
+    ("a known and an unknown encoding", """[{"encodings":[{"name":"Shift_JIS","labels":["sjis"]},{"name":"other","labels":["x"]}]}]""",
+     [("SJIS", "Shift_JIS"), ("x", None), ("shift_jis", None)]),
+    ("the first of equal labels", """[{"heading":"a","encodings":[{"labels":["l"],"name":"other"},{"labels":["m","L"],"name":"big5"}]},
+      {"encodings":[{"name":"EUC-KR","labels":["l","M","n", " o"]}]}, {"encodings":[]}]""",
+     [("l", "Big5"), (" m\n", "Big5"), ("N", "EUC-KR"), ("o", None), (" o", None)]),
+]
+
+# The same of the names alone, in whitespace and beside it.
+NAMES = [(" Shift_JIS\t", "Shift_JIS"), ("\t\n\x0c\r utf-8 \r\x0c\n\t", "UTF-8"), ("sjis", None), ("\x0butf-8", None), ("", None), ("utf-8\x00", None)]
+
+
+def labeled(rows):
+    """The lines that open a document by each of these labels and close it, and the replies to them."""
+    lines = replies = ""
+    for label, encoding in rows:
+        lines += json.dumps({"id": 1, "op": "open", "doc": "d", "label": label, "bytes": ""}) + "\n" + '{"id":2,"op":"close","doc":"d"}\n'
+        replies += f'{{"bom":0,"encoding":"{encoding}","id":1,"rev":0}}\n{{"id":2,"rev":0}}\n' if encoding else NOT_NAMED
+    return lines, replies
+
+
 def asked(label, content):
     """The lines that open a document and ask for its one character."""
     fields = {"doc": label, "label": label, "bytes": base64.b64encode(content).decode()}
@@ -125,7 +153,15 @@ def opened(encoding, text):
     return f'{{"bom":0,"encoding":"{encoding}","id":1,"rev":0}}\n{{"id":2,"rev":0,"text":{text}}}\n'
 
 
+# The want of a file comes before that of bytes for a code point. U+1F600 in the document `u`, and what it is encoded to.
+SIGN = '{"id":1,"op":"open","doc":"u","label":"utf-8","bytes":"8J+YgA=="}\n'
+SIGN_OPENED = '{"bom":0,"encoding":"UTF-8","id":1,"rev":0}\n'
+FOUR_BYTES = '{"bytes":"lDn8Ng==","id":2,"rev":0}\n'
+UNENCODABLE = '{"code_point":128512,"fault":"Unencodable","id":2,"index":0}\n'
+NO_INDEX = '{"fault":"NoIndex","id":2}\n'
+
 NOT_OPENED = '{"fault":"NoIndex","id":1}\n{"fault":"NoDocument","id":2}\n'
+NOT_NAMED = '{"fault":"UnknownLabel","id":1}\n{"fault":"NoDocument","id":2}\n'
 
 
 @built
@@ -157,6 +193,37 @@ class Program(unittest.TestCase):
         self.runs(lines=asked("windows-1252", b"\x80"), output=NOT_OPENED)
         self.runs(lines=OPEN, output='{"bom":0,"encoding":"UTF-8","id":1,"rev":0}\n')
 
+    def put_all(self):
+        """Index files of all encodings."""
+        for encoding in SINGLE_BYTE:
+            self.put(encoding.lower(), "0\t0x2600\n")
+        for name, rows, _ in MULTIBYTE_FILES:
+            self.put(name, rows)
+
+    def test_each_name_is_a_label_in_any_case(self):
+        self.put_all()
+        others = "UTF-8 UTF-16BE UTF-16LE x-user-defined replacement ISO-8859-8-I".split()
+        names = [*SINGLE_BYTE, *(label for label, _, _ in MULTIBYTE), *others]
+        self.assertEqual(len(names), 40)
+        self.serves(*labeled([(label, name) for name in names for label in (name, name.lower(), name.upper())]))
+        self.serves(*labeled(NAMES))
+
+    def test_labels_of_a_file(self):
+        self.put_all()
+        labels = self.folder / "labels.json"
+        for shows, text, rows in LABELS:
+            with self.subTest(shows):
+                labels.write_text(text)
+                self.serves(*labeled(rows), "--labels", str(labels))
+
+    def test_lines_of_an_index_file(self):
+        for rows, content, text in LINES:
+            with self.subTest(rows):
+                self.put("windows-1252", rows)
+                line = json.dumps({"id": 2, "op": "text", "doc": "d", "from": 0, "to": len(text)}) + "\n"
+                fields = {"doc": "d", "label": "windows-1252", "bytes": base64.b64encode(content).decode()}
+                self.serves(json.dumps({"id": 1, "op": "open", **fields}) + "\n" + line, opened("windows-1252", text))
+
     def test_ranges_and_changes_over_index_files(self):
         for name, rows in ("big5", "5495\t0x4E00\n"), ("jis0208", JIS0208), ("iso-2022-jp-katakana", "0\t0x3002\n"):
             self.put(name, rows)
@@ -173,11 +240,14 @@ class Program(unittest.TestCase):
 
     def test_each_other_encoding_needs_its_own_files(self):
         lines = "".join(asked(label, content) for label, content, _ in MULTIBYTE)
+        encodes = "".join(json.dumps({"id": 2, "op": "encode", "doc": "u", "from": 0, "to": 1, "label": label}) + "\n" for label, _, _ in MULTIBYTE)
         for name, rows, count in MULTIBYTE_FILES:
             self.put(name, rows)
             there = "".join(opened(label, text) for label, _, text in MULTIBYTE[:count])
             with self.subTest(name):
                 self.serves(lines, there + NOT_OPENED * (len(MULTIBYTE) - count))
+                encoded = "".join(FOUR_BYTES if label == "gb18030" else UNENCODABLE for label, _, _ in MULTIBYTE[:count])
+                self.serves(SIGN + encodes, SIGN_OPENED + encoded + NO_INDEX * (len(MULTIBYTE) - count))
 
     def test_help_goes_to_the_output(self):
         for words in ["--help"], ["-h"], ["help"], ["stdio", "--help"], ["trace", "--help"], ["tcp", "--help"]:

@@ -6,6 +6,7 @@ from program import Case, Ended, Folder
 MOST = 16777216  # bytes of a file
 
 IBM866 = "index-ibm866.txt"
+RANGES = "index-gb18030-ranges.txt"
 LABELS = "labels.json"
 
 ASK = b'{"id":1,"op":"open","doc":"d","label":"ibm866","bytes":""}\n'
@@ -57,11 +58,22 @@ INDEX_FILES = [
     ("a byte order mark", b"\xef\xbb\xbf0\t0x41\n", faulty(b"BadPointer")),
     ("a line of spaces", b"0\t0x41\n \n", faulty(b"BadPointer", 2)),
     ("a surrogate", b"0\t0xD800\n", faulty(b"BadCodePoint")),
+    ("the last surrogate", b"0\t0xDFFF\n", faulty(b"BadCodePoint")),
+    ("code points beside the surrogates, the first and the last", b"0\t0xD7FF\n1\t0xE000\n2\t0x0\n3\t0x10FFFF\n", THERE),
     ("a code point above 10FFFF", b"0\t0x110000\n", faulty(b"BadCodePoint")),
+    ("a code point of 32 bits", b"0\t0xFFFFFFFF\n", faulty(b"BadCodePoint")),
     ("a code point of 400 digits", b"0\t0x" + b"1" * 400 + b"\n", faulty(b"BadCodePoint")),
     ("400 leading zeros", b"0" * 400 + b"\t0x" + b"0" * 400 + b"41\n", THERE),
     ("a pointer of 400 digits", b"1" * 400 + b"\t0x41\n", faulty(b"PointerTooLarge")),
     ("the pointer behind the greatest", b"127\t0x41\n128\t0x42\n", faulty(b"PointerTooLarge", 2)),
+    ("a surrogate at a pointer that is too large", b"128\t0xD800\n", faulty(b"BadCodePoint")),
+    ("a negative pointer", b"-1\t0x41\n", faulty(b"BadPointer")),
+    ("a pointer of two words in front of no code point", b"1 2\tx\n", faulty(b"BadPointer")),
+    ("a code point without 0x", b"0\t20AC\n", faulty(b"BadCodePoint")),
+    ("a code point with 0X", b"0\t0X41\n", faulty(b"BadCodePoint")),
+    ("a letter among a code point's digits", b"0\t0x4G\n", faulty(b"BadCodePoint")),
+    ("the fifth line behind comments, empty lines and a third field", b"# a comment\r\n\r\n\n 5 \t 0x2a \tname\r\nx\n", faulty(b"BadPointer", 5)),
+    ("an empty line and a comment", b"\n#\n", THERE),
     ("a pointer twice", b"0\t0x41\n0\t0x42\n", faulty(b"DuplicatePointer", 2)),
     ("a folder in its place", os.mkdir, unread(IBM866)),
     ("a link to itself in its place", link_to_itself, unread(IBM866)),
@@ -69,7 +81,16 @@ INDEX_FILES = [
     ("a file whose reads fail", link_to("/proc/self/mem"), unread(IBM866)),
     ("a file without permissions", without_permissions, THERE if os.geteuid() == 0 else unread(IBM866)),
     ("two faulty files, of which the first counts", {"index-big5.txt": b"x", "index-gb18030-ranges.txt": b"", "index-koi8-u.txt": b"y"}, faulty(b"BadPointer", name="index-koi8-u.txt")),
-    ("ranges of gb18030 without their rows", {"index-gb18030-ranges.txt": b""}, faulty(b"BadRanges", 0, "index-gb18030-ranges.txt")),
+    *((f"ranges of gb18030 {name}", {RANGES: content}, faulty(cause, line, RANGES)) for name, content, cause, line in (
+        ("without their rows", b"", b"BadRanges", 0),
+        ("without their first row", b"0\t0x81\n189000\t0x10000\n", b"BadRanges", 0),
+        ("that begin in the gap", b"39420\t0x80\n", b"BadRanges", 1),
+        ("at a pointer of 20 digits", b"9" * 20 + b"\t0x80\n", b"BadRanges", 1),
+        ("with ASCII", b"1\t0x7F\n", b"BadRanges", 1),
+        ("that reach the second plane", b"1\t0x10000\n", b"BadRanges", 1),
+        ("with another last row", b"189000\t0x10001\n", b"BadRanges", 1),
+        ("with a pointer twice", b"0\t0x80\n0\t0x81\n189000\t0x10000\n", b"DuplicatePointer", 2),
+    )),
 ]
 
 NOT_JSON = b"gate: label file: NotJson\n"
@@ -91,6 +112,20 @@ LABEL_FILES = [
     ("bytes that aren't UTF-8", EMPTY % b'"\xff"', NOT_JSON),
     ("a lone surrogate", EMPTY % b'"\\ud800"', NOT_JSON),
     ("a number of 400 digits in another field", b'[{"encodings":[],"x":' + b"1" * 400 + b"}]", NOT_JSON),
+    ("two arrays", b"[] []", NOT_JSON),
+    ("a comma alone", b"[,]", NOT_JSON),
+    ("a number above all", b"[1e999]", NOT_JSON),
+    ("null", b"null", BAD_SHAPE),
+    ("a number in place of a group", b"[1]", BAD_SHAPE),
+    ("a group without encodings", b"[{}]", BAD_SHAPE),
+    ("an object of encodings", b'[{"encodings":{}}]', BAD_SHAPE),
+    ("a text in place of an encoding", b'[{"encodings":["UTF-8"]}]', BAD_SHAPE),
+    ("an unknown name without labels", b'[{"encodings":[{"name":"none"}]}]', BAD_SHAPE),
+    ("an unknown name with a text for labels", b'[{"encodings":[{"name":"none","labels":"x"}]}]', BAD_SHAPE),
+    ("an unknown name with a number among its labels", b'[{"encodings":[{"name":"none","labels":["x",1]}]}]', BAD_SHAPE),
+    ("a name that is null", b'[{"encodings":[{"name":null,"labels":[]}]}]', BAD_SHAPE),
+    ("labels without a name", b'[{"encodings":[{"labels":["x"]}]}]', BAD_SHAPE),
+    ("a second group without encodings", b'[{"encodings":[{"name":"UTF-8","labels":["x"]}]},{"encoding":[]}]', BAD_SHAPE),
     ("a label that is no text", EMPTY % b"1", BAD_SHAPE),
     ("an unknown name in another shape", b'[{"encodings":[{"name":"none","labels":1}]}]', BAD_SHAPE),
     ("10,000 labels", EMPTY % b",".join(b'"%d"' % it for it in range(10000)), b'{"fault":"UnknownLabel","id":1}\n'),

@@ -1,9 +1,10 @@
-//! What no clause says: worked rows, and each kernel as it is built beside its plain definition, at
-//! every length up to 257, with the byte that matters at each place, at each of 64 alignments.
+//! What no clause says: worked rows, and each kernel as it is built beside a plain loop, at every
+//! length up to 257, with the byte that matters at each place, at each of 64 alignments.
 
 use lane_ascii::{
     NeedsRoom, ascii_run, count_line_ends, nth_line_end, plain_run_iso, swap_pairs, widen,
 };
+use oracle::byte_loops;
 use std::ops::Fn;
 
 mod examples;
@@ -32,92 +33,70 @@ fn agrees_everywhere<F: Fn(&[u8]) -> bool>(odd: u8, rest: u8, agrees: F) -> bool
     true
 }
 
-/// The number of bytes in front of the first that isn't below 80.
-fn plain_ascii_run(bytes: &[u8]) -> usize {
-    bytes
-        .iter()
-        .position(|byte| *byte >= 0x80)
-        .unwrap_or(bytes.len())
-}
-
-/// The same where 0E, 0F and 1B end the run too.
-fn plain_iso_run(bytes: &[u8]) -> usize {
-    bytes
-        .iter()
-        .position(|byte| *byte >= 0x80 || *byte == 0x0E || *byte == 0x0F || *byte == 0x1B)
-        .unwrap_or(bytes.len())
-}
-
-/// Whether a line mark stands at an index.
-fn is_mark_at(bytes: &[u8], after_cr: bool, at: usize) -> bool {
-    let behind_cr = match at.checked_sub(1) {
-        Some(before) => bytes.get(before) == Some(&b'\r'),
-        None => after_cr,
-    };
-    match bytes.get(at) {
-        Some(byte) => *byte == b'\r' || *byte == b'\n' && !behind_cr,
-        None => false,
+/// What is behind an LF at the front, which where a CR stands before it is no mark.
+fn behind_lf(bytes: &[u8]) -> &[u8] {
+    match bytes {
+        [b'\n', rest @ ..] => rest,
+        _ => bytes,
     }
 }
 
-fn plain_count(bytes: &[u8], after_cr: bool) -> usize {
-    (0..bytes.len())
-        .filter(|at| is_mark_at(bytes, after_cr, *at))
-        .count()
-}
-
-fn plain_nth(bytes: &[u8], after_cr: bool, n: usize) -> Option<usize> {
-    (0..bytes.len())
-        .filter(|at| is_mark_at(bytes, after_cr, *at))
-        .nth(n)
-}
-
-/// Whether marks are counted as the definition does, with and without a CR in front.
+/// Whether marks are counted as the plain loop does, with and without a CR in front.
 fn counts_agree(bytes: &[u8]) -> bool {
-    count_line_ends(bytes, false) == plain_count(bytes, false)
-        && count_line_ends(bytes, true) == plain_count(bytes, true)
+    count_line_ends(bytes, false) == byte_loops::count_line_ends(bytes)
+        && count_line_ends(bytes, true) == byte_loops::count_line_ends(behind_lf(bytes))
 }
 
-/// Whether the mark of that number is found where the definition has it.
+/// Where the plain loop finds the mark of that number if a CR stands in front.
+fn plain_nth_behind_cr(bytes: &[u8], n: usize) -> Option<usize> {
+    let rest = behind_lf(bytes);
+    match byte_loops::nth_line_end(rest, n) {
+        Some(at) => bytes.len().saturating_sub(rest.len()).checked_add(at),
+        None => None,
+    }
+}
+
+/// Whether the mark of that number is found where the plain loop finds it.
 fn nth_agrees(bytes: &[u8], n: usize) -> bool {
-    nth_line_end(bytes, false, n) == plain_nth(bytes, false, n)
-        && nth_line_end(bytes, true, n) == plain_nth(bytes, true, n)
+    nth_line_end(bytes, false, n) == byte_loops::nth_line_end(bytes, n)
+        && nth_line_end(bytes, true, n) == plain_nth_behind_cr(bytes, n)
 }
 
-/// Whether each byte is where its neighbour was.
+/// Whether each byte is where the plain loop puts it.
 fn swaps_pairs(bytes: &[u8]) -> bool {
-    let mut room = [0; LONGEST];
-    let Some(copy) = room.get_mut(..bytes.len()) else {
+    let (mut swapped, mut plain) = ([0; LONGEST], [0; LONGEST]);
+    let length = bytes.len();
+    let (Some(swapped), Some(plain)) = (swapped.get_mut(..length), plain.get_mut(..length)) else {
         return false;
     };
-    copy.copy_from_slice(bytes);
-    swap_pairs(copy);
-    copy.iter().enumerate().all(|(at, byte)| {
-        let neighbour = bytes.get(at ^ 1).or(bytes.get(at));
-        neighbour == Some(byte)
-    })
+    swapped.copy_from_slice(bytes);
+    plain.copy_from_slice(bytes);
+    swap_pairs(swapped);
+    byte_loops::swap_pairs(plain);
+    *swapped == *plain
+}
+
+/// Whether a room too short by one is refused.
+fn is_too_short(bytes: &[u8], units: &mut [u16]) -> bool {
+    let Some(short) = bytes.len().checked_sub(1) else {
+        return true;
+    };
+    match units.get_mut(..short) {
+        Some(room) => widen(bytes, room) == Err(NeedsRoom(bytes.len())),
+        None => false,
+    }
 }
 
 /// Whether each byte is a unit and the unit behind them stays, and whether a room too short by one
 /// is refused and left alone.
 fn widens(bytes: &[u8]) -> bool {
-    let mut room = [0xFFFF; LONGEST + 1];
-    if let Some(short) = bytes.len().checked_sub(1) {
-        let Some(units) = room.get_mut(..short) else {
-            return false;
-        };
-        if widen(bytes, units) != Err(NeedsRoom(bytes.len())) {
-            return false;
-        }
-    }
-    if room.iter().any(|unit| *unit != 0xFFFF) {
+    let mut units = [0xFFFF; LONGEST + 1];
+    let mut plain = units;
+    if !is_too_short(bytes, &mut units) || units != plain {
         return false;
     }
-    widen(bytes, &mut room) == Ok(bytes.len())
-        && room.iter().enumerate().all(|(at, unit)| match bytes.get(at) {
-            Some(byte) => *unit == u16::from(*byte),
-            None => *unit == 0xFFFF,
-        })
+    byte_loops::widen(bytes, &mut plain);
+    widen(bytes, &mut units) == Ok(bytes.len()) && units == plain
 }
 
 #[test]
@@ -126,14 +105,14 @@ fn ascii_runs(rt: HostRuntime) {
         agrees_everywhere(
             0x80,
             b'a',
-            |bytes| ascii_run(bytes) == plain_ascii_run(bytes)
+            |bytes| ascii_run(bytes) == byte_loops::ascii_run(bytes)
         )
     );
     assert!(rt;
         agrees_everywhere(
             0xFF,
             0x7F,
-            |bytes| ascii_run(bytes) == plain_ascii_run(bytes)
+            |bytes| ascii_run(bytes) == byte_loops::ascii_run(bytes)
         )
     );
 }
@@ -141,7 +120,7 @@ fn ascii_runs(rt: HostRuntime) {
 #[test]
 fn runs_without_shifts_and_escapes(rt: HostRuntime) {
     for odd in [0x0E, 0x0F, 0x1B, 0x80] {
-        let agrees = |bytes: &[u8]| plain_run_iso(bytes) == plain_iso_run(bytes);
+        let agrees = |bytes: &[u8]| plain_run_iso(bytes) == byte_loops::plain_run_iso(bytes);
         assert!(rt; agrees_everywhere(odd, 0x0D, agrees));
     }
 }
@@ -177,17 +156,23 @@ fn bytes_widened(rt: HostRuntime) {
 }
 
 #[test]
-fn worked_rows(rt: HostRuntime) {
+fn worked_runs_and_marks(rt: HostRuntime) {
     let mut letters = [b'a'; 65];
     letters[64] = 0x80;
-    assert_eq!(rt; ascii_run(&letters), 64);
-    assert_eq!(rt; plain_run_iso(b"\x41\x0E"), 1);
-    assert_eq!(rt; count_line_ends(b"\n\r\n\r", true), 2);
-    assert_eq!(rt; nth_line_end(b"\n\r\n\r", true, 1), Some(3));
+    assert!(rt; ascii_run(&letters) == 64 && plain_run_iso(b"\x41\x0E") == 1);
+    assert!(rt; count_line_ends(b"\n\r\n\r", true) == 2);
+    assert!(rt; nth_line_end(b"\n\r\n\r", true, 1) == Some(3));
+}
+
+#[test]
+fn odd_last_byte_stays(rt: HostRuntime) {
     let mut bytes = [1, 2, 3];
     swap_pairs(&mut bytes);
-    assert_eq!(rt; bytes, [2, 1, 3]);
+    assert!(rt; bytes == [2, 1, 3]);
+}
+
+#[test]
+fn room_that_is_too_short(rt: HostRuntime) {
     let mut units = [0x263A];
-    assert_eq!(rt; widen(b"AB", &mut units), Err(NeedsRoom(2)));
-    assert_eq!(rt; units, [0x263A]);
+    assert!(rt; widen(b"AB", &mut units) == Err(NeedsRoom(2)) && units == [0x263A]);
 }

@@ -1,10 +1,11 @@
-//! What no clause says: worked rows, and each kernel as it is built beside its plain definition, at
-//! every length up to 257, with what matters at each place, at each of 64 alignments.
+//! What no clause says: worked rows, and each kernel as it is built beside the standard library or a
+//! plain loop, at every length up to 257, with what matters at each place, at each of 64 alignments.
 
 use lane_utf::{
     NeedsRoom, Select, ToUtf8Fault, count_scalars, count_utf16, first_lone_surrogate, nth_scalar,
     nth_utf16, utf8_to_utf16, utf16_to_utf8, valid_run,
 };
+use oracle::{byte_loops, text_loops};
 use std::ops::Fn;
 
 mod examples;
@@ -37,36 +38,26 @@ fn agrees_on_bytes<F: Fn(&[u8]) -> bool>(odd: &[u8], agrees: F) -> bool
     true
 }
 
-/// The same where the slice is a text, and of those alone.
-fn agrees_on_texts<F: Fn(&str) -> bool>(odd: &str, agrees: F) -> bool
-    requires { F.IsAlwaysCallable agrees }
-{
-    agrees_on_bytes(
-        odd.as_bytes(),
-        |bytes|
-            requires { F.IsAlwaysCallable agrees }
-        {
-            match str::from_utf8(bytes) {
-                Ok(text) => agrees(text),
-                Err(_) => true,
-            }
-        },
-    )
+/// Units `even` and `uneven` in turn.
+fn in_turn(even: u16, uneven: u16) -> [u16; LONGEST + ALIGNMENTS] {
+    let mut units = [even; LONGEST + ALIGNMENTS];
+    for at in 0..(LONGEST + ALIGNMENTS) / 2 {
+        units[2 * at + 1] = uneven;
+    }
+    units
 }
 
-/// Whether a kernel agrees on every slice of units `even` and `uneven` in turn, with `odd` at one
-/// place.
-fn agrees_on_units<F: Fn(&[u16]) -> bool>(even: u16, uneven: u16, odd: u16, agrees: F) -> bool
+/// Whether a kernel agrees on every slice of these units with `odd` at one place.
+fn agrees_on_units<F: Fn(&[u16]) -> bool>(
+    units: [u16; LONGEST + ALIGNMENTS],
+    odd: u16,
+    agrees: F,
+) -> bool
     requires { F.IsAlwaysCallable agrees }
 {
     for start in 0..ALIGNMENTS / 2 {
         for place in 0..LONGEST {
-            let mut room = [even; LONGEST + ALIGNMENTS];
-            for (at, unit) in room.iter_mut().enumerate() {
-                if at % 2 == 1 {
-                    *unit = uneven;
-                }
-            }
+            let mut room = units;
             room[start + place] = odd;
             for length in place..=LONGEST {
                 if !agrees(&room[start..start + length]) {
@@ -78,8 +69,13 @@ fn agrees_on_units<F: Fn(&[u16]) -> bool>(even: u16, uneven: u16, odd: u16, agre
     true
 }
 
-fn counts_agree(text: &str) -> bool {
-    count_scalars(text) == text.chars().count() && count_utf16(text) == text.encode_utf16().count()
+/// Whether a text has the lengths that the standard library gives, as what is no text has.
+fn counts_agree(bytes: &[u8]) -> bool {
+    let Ok(text) = str::from_utf8(bytes) else {
+        return true;
+    };
+    count_scalars(text) == text_loops::count_scalars(text)
+        && count_utf16(text) == text_loops::count_utf16(text)
 }
 
 fn plain_nth_scalar(text: &str, n: usize) -> Option<usize> {
@@ -111,121 +107,116 @@ fn plain_nth_utf16(text: &str, n: usize) -> Select {
     }
 }
 
-/// Whether places agree before and behind the first character that isn't a letter, and at the end.
-fn places_agree(text: &str) -> bool {
-    let odd = text
-        .as_bytes()
-        .iter()
-        .position(|byte| *byte >= 0x80)
-        .unwrap_or(0);
-    let units = text.encode_utf16().count();
-    [odd, odd.saturating_add(1), units].iter().all(|n| {
-        nth_scalar(text, *n) == plain_nth_scalar(text, *n)
-            && nth_utf16(text, *n) == plain_nth_utf16(text, *n)
-    })
+/// Whether both places of a number agree.
+fn place_agrees(text: &str, n: usize) -> bool {
+    nth_scalar(text, n) == plain_nth_scalar(text, n)
+        && nth_utf16(text, n) == plain_nth_utf16(text, n)
+}
+
+/// Whether places of a text agree before and behind the first character that isn't a letter, and at
+/// the end.
+fn places_agree(bytes: &[u8]) -> bool {
+    let Ok(text) = str::from_utf8(bytes) else {
+        return true;
+    };
+    let odd = byte_loops::ascii_run(bytes);
+    place_agrees(text, odd)
+        && place_agrees(text, odd.saturating_add(1))
+        && place_agrees(text, text_loops::count_utf16(text))
+}
+
+/// Whether a room for the units of a text that is too short by one is refused.
+fn has_no_units(text: &str, needed: usize, units: &mut [u16]) -> bool {
+    let Some(short) = needed.checked_sub(1) else {
+        return true;
+    };
+    match units.get_mut(..short) {
+        Some(room) => utf8_to_utf16(text, room) == Err(NeedsRoom(needed)),
+        None => false,
+    }
+}
+
+/// The same for the bytes of units.
+fn has_no_bytes(units: &[u16], needed: usize, bytes: &mut [u8]) -> bool {
+    let Some(short) = needed.checked_sub(1) else {
+        return true;
+    };
+    match bytes.get_mut(..short) {
+        Some(room) => utf16_to_utf8(units, room) == Err(ToUtf8Fault::NeedsRoom(needed)),
+        None => false,
+    }
 }
 
 /// Whether a text is converted to its units and back, what stands behind stays, and a room too
 /// short by one is refused and left alone.
-fn converts(text: &str) -> bool {
-    let needed = text.encode_utf16().count();
-    let mut room = [0xFFFF; LONGEST + 1];
-    if let Some(short) = needed.checked_sub(1) {
-        let Some(units) = room.get_mut(..short) else {
-            return false;
-        };
-        if utf8_to_utf16(text, units) != Err(NeedsRoom(needed)) {
-            return false;
-        }
-    }
-    if room.iter().any(|unit| *unit != 0xFFFF) || utf8_to_utf16(text, &mut room) != Ok(needed) {
-        return false;
-    }
-    for (at, unit) in text.encode_utf16().enumerate() {
-        if room.get(at) != Some(&unit) {
-            return false;
-        }
-    }
-    let (Some(units), Some(behind)) = (room.get(..needed), room.get(needed..)) else {
-        return false;
+fn converts(bytes: &[u8]) -> bool {
+    let Ok(text) = str::from_utf8(bytes) else {
+        return true;
     };
-    behind.iter().all(|unit| *unit == 0xFFFF) && converts_back(units, text)
-}
-
-fn converts_back(units: &[u16], text: &str) -> bool {
-    let mut room = [0xFF; LONGEST + 1];
-    if let Some(short) = text.len().checked_sub(1) {
-        let Some(bytes) = room.get_mut(..short) else {
-            return false;
-        };
-        if utf16_to_utf8(units, bytes) != Err(ToUtf8Fault::NeedsRoom(text.len())) {
-            return false;
-        }
-    }
-    if room.iter().any(|byte| *byte != 0xFF) || utf16_to_utf8(units, &mut room) != Ok(text.len()) {
+    let mut units = [0xFFFF; LONGEST + 1];
+    let mut plain = units;
+    let needed = text_loops::count_utf16(text);
+    if !has_no_units(text, needed, &mut units) || units != plain {
         return false;
     }
-    room.get(..text.len()) == Some(text.as_bytes())
-        && room
-            .iter()
-            .enumerate()
-            .all(|(at, byte)| at < text.len() || *byte == 0xFF)
+    text_loops::to_utf16(text, &mut plain);
+    if utf8_to_utf16(text, &mut units) != Ok(needed) || units != plain {
+        return false;
+    }
+    match units.get(..needed) {
+        Some(units) => converts_back(units, bytes),
+        None => false,
+    }
 }
 
-fn is_lead(unit: Option<&u16>) -> bool {
-    unit.is_some_and(|unit| (0xD800..0xDC00).contains(unit))
+fn converts_back(units: &[u16], wanted: &[u8]) -> bool {
+    let mut bytes = [0xFF; LONGEST + 1];
+    let mut plain = bytes;
+    let needed = wanted.len();
+    if !has_no_bytes(units, needed, &mut bytes) || bytes != plain {
+        return false;
+    }
+    text_loops::to_utf8(units, &mut plain);
+    utf16_to_utf8(units, &mut bytes) == Ok(needed)
+        && bytes == plain
+        && bytes.get(..needed) == Some(wanted)
 }
 
-fn is_trail(unit: Option<&u16>) -> bool {
-    unit.is_some_and(|unit| (0xDC00..0xE000).contains(unit))
-}
-
-/// Whether the first lone surrogate is where the definition has it.
+/// Whether the first lone surrogate is where the standard library finds it.
 fn lone_agrees(units: &[u16]) -> bool {
-    let first = (0..units.len()).find(|at| {
-        let unit = units.get(*at);
-        let before = match at.checked_sub(1) {
-            Some(before) => units.get(before),
-            None => None,
-        };
-        let behind = units.get(at.saturating_add(1));
-        is_lead(unit) && !is_trail(behind) || is_trail(unit) && !is_lead(before)
-    });
-    first_lone_surrogate(units) == first
+    first_lone_surrogate(units) == text_loops::first_lone_surrogate(units)
 }
 
 fn run_agrees(bytes: &[u8]) -> bool {
-    let run = match str::from_utf8(bytes) {
-        Ok(text) => text.len(),
-        Err(fault) => fault.valid_up_to(),
-    };
-    valid_run(bytes) == run
+    valid_run(bytes) == text_loops::valid_run(bytes)
 }
 
 #[test]
 fn texts_counted(rt: HostRuntime) {
     for odd in ["\u{E9}", "\u{6F22}", "\u{1F600}"] {
-        assert!(rt; agrees_on_texts(odd, counts_agree));
+        assert!(rt; agrees_on_bytes(odd.as_bytes(), counts_agree));
     }
 }
 
 #[test]
 fn places_found(rt: HostRuntime) {
-    assert!(rt; agrees_on_texts("\u{6F22}\u{1F600}", places_agree));
+    assert!(rt; agrees_on_bytes("\u{6F22}\u{1F600}".as_bytes(), places_agree));
 }
 
 #[test]
 fn texts_converted(rt: HostRuntime) {
-    assert!(rt; agrees_on_texts("\u{E9}\u{10FFFF}", converts));
+    assert!(rt; agrees_on_bytes("\u{E9}\u{10FFFF}".as_bytes(), converts));
 }
 
 #[test]
 fn lone_surrogates_found(rt: HostRuntime) {
+    let letters = in_turn(0x61, 0xE000);
     for odd in [0xD800, 0xDBFF, 0xDC00, 0xDFFF] {
-        assert!(rt; agrees_on_units(0x61, 0xE000, odd, lone_agrees));
+        assert!(rt; agrees_on_units(letters, odd, lone_agrees));
     }
+    let pairs = in_turn(0xD83D, 0xDE00);
     for odd in [0x61, 0xD83D, 0xDE00] {
-        assert!(rt; agrees_on_units(0xD83D, 0xDE00, odd, lone_agrees));
+        assert!(rt; agrees_on_units(pairs, odd, lone_agrees));
     }
 }
 
@@ -242,25 +233,40 @@ fn valid_runs(rt: HostRuntime) {
     }
 }
 
+/// A letter and a character that is a pair of surrogates.
+const A_AND_A_PAIR: &str = "a\u{1F600}";
+
 #[test]
-fn worked_rows(rt: HostRuntime) {
-    let text = "a\u{1F600}";
+fn places_inside_a_pair(rt: HostRuntime) {
+    for (n, place) in [(2, Select::Inside), (3, Select::At(5)), (4, Select::Past)] {
+        assert!(rt; nth_utf16(A_AND_A_PAIR, n) == place);
+    }
+    for (n, place) in [(2, Some(5)), (3, None)] {
+        assert!(rt; nth_scalar(A_AND_A_PAIR, n) == place);
+    }
+}
+
+#[test]
+fn room_for_units_that_is_too_short(rt: HostRuntime) {
     let mut units = [0x263A; 3];
-    assert_eq!(rt; utf8_to_utf16(text, &mut units[..2]), Err(NeedsRoom(3)));
-    assert_eq!(rt; units, [0x263A; 3]);
-    assert_eq!(rt; utf8_to_utf16(text, &mut units), Ok(3));
-    assert_eq!(rt; units, [0x0061, 0xD83D, 0xDE00]);
+    assert!(rt; utf8_to_utf16(A_AND_A_PAIR, &mut units[..2]) == Err(NeedsRoom(3)));
+    assert!(rt; units == [0x263A; 3]);
+    assert!(rt; utf8_to_utf16(A_AND_A_PAIR, &mut units) == Ok(3));
+    assert!(rt; units == [0x0061, 0xD83D, 0xDE00]);
+}
+
+#[test]
+fn units_that_are_refused(rt: HostRuntime) {
     let mut bytes = [0x7E; 3];
     let lone = utf16_to_utf8(&[0xD800, 0x0061], &mut bytes);
-    assert_eq!(rt; lone, Err(ToUtf8Fault::LoneSurrogate(0)));
+    assert!(rt; lone == Err(ToUtf8Fault::LoneSurrogate(0)));
     let short = utf16_to_utf8(&[0xD83D, 0xDE00], &mut bytes);
-    assert_eq!(rt; short, Err(ToUtf8Fault::NeedsRoom(4)));
-    assert_eq!(rt; bytes, [0x7E; 3]);
-    assert_eq!(rt; nth_utf16(text, 2), Select::Inside);
-    assert_eq!(rt; nth_utf16(text, 3), Select::At(5));
-    assert_eq!(rt; nth_utf16(text, 4), Select::Past);
-    assert_eq!(rt; nth_scalar(text, 2), Some(5));
-    assert_eq!(rt; nth_scalar(text, 3), None);
-    assert_eq!(rt; valid_run(&[0x61, 0xE2, 0x82]), 1);
-    assert_eq!(rt; first_lone_surrogate(&[0xD83D, 0xDE00, 0xDE00]), Some(2));
+    assert!(rt; short == Err(ToUtf8Fault::NeedsRoom(4)));
+    assert!(rt; bytes == [0x7E; 3]);
+}
+
+#[test]
+fn runs_that_end(rt: HostRuntime) {
+    assert!(rt; valid_run(&[0x61, 0xE2, 0x82]) == 1);
+    assert!(rt; first_lone_surrogate(&[0xD83D, 0xDE00, 0xDE00]) == Some(2));
 }

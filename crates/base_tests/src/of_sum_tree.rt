@@ -8,6 +8,14 @@ use std::process::Abort;
 use std::test::Fail;
 use sum_tree::{SumTree, visits};
 
+/// The sum with one more item.
+fn with(sum: Load, item: &Item) -> Load {
+    Load {
+        count: sum.count.saturating_add(1),
+        weight: sum.weight.saturating_add(item.weight),
+    }
+}
+
 /// The sum of these items.
 fn load_of(items: &[Item]) -> Load {
     let mut load = Load {
@@ -15,61 +23,89 @@ fn load_of(items: &[Item]) -> Load {
         weight: 0,
     };
     for item in items {
-        load.count = load.count.saturating_add(1);
-        load.weight = load.weight.saturating_add(item.weight);
+        load = with(load, item);
     }
     load
 }
 
+/// The first item behind which the weight is above the target, its place and the sum in front of it;
+/// the end where there is none.
+fn plain_find(items: &[Item], target: u64) -> (usize, Load, Option<Item>) {
+    let mut before = load_of(&[]);
+    for (i, item) in items.iter().enumerate() {
+        let behind = with(before, item);
+        if behind.weight > target {
+            return (i, before, Some(*item));
+        }
+        before = behind;
+    }
+    (items.len(), before, None)
+}
+
+/// Whether this item has this place, and this sum in front of it.
+fn is_at(items: &Items, i: usize, item: &Item, before: Load) -> bool {
+    i < items.len() && items.get(i) == item && items.prefix(i, &mut visits()) == before
+}
+
+/// Whether a search by weight finds what it should.
+fn finds(items: &Items, target: u64, (i, before, item): (usize, Load, Option<Item>)) -> bool {
+    let (sum, element) = items.finder().find(&Axis::Weight, target, &mut visits());
+    sum == before
+        && element.copied() == item
+        && items.seek(&Axis::Weight, target, &mut visits()) == (i, before)
+}
+
 /// The tree has these items, their sums and their places.
 fn same(rt: &impl Abort, items: &Items, wanted: &[Item], target: u64) {
-    assert_eq!(rt; items.len(), wanted.len());
-    assert_eq!(rt; items.total(), load_of(wanted));
-    let mut before = Load {
-        count: 0,
-        weight: 0,
-    };
-    let mut found = None;
+    assert!(rt; items.len() == wanted.len() && items.total() == load_of(wanted));
+    let mut before = load_of(&[]);
     for (i, item) in wanted.iter().enumerate() {
-        if i < items.len() {
-            assert_eq!(rt; items.get(i), item);
-            assert_eq!(rt; items.prefix(i, &mut visits()), before);
-        }
-        let behind = before.weight.saturating_add(item.weight);
-        if found.is_none() && behind > target {
-            found = Some((i, before, *item));
-        }
-        before.count = before.count.saturating_add(1);
-        before.weight = behind;
+        assert!(rt; is_at(items, i, item, before), "item {i}");
+        before = with(before, item);
     }
-    let (place, sum) = items.seek(&Axis::Weight, target, &mut visits());
-    let (same_sum, element) = items.finder().find(&Axis::Weight, target, &mut visits());
-    assert_eq!(rt; same_sum, sum);
-    match found {
-        Some((i, before, item)) => {
-            assert_eq!(rt; (place, sum), (i, before));
-            assert_eq!(rt; element.copied(), Some(item));
-        }
-        None => {
-            assert_eq!(rt; (place, sum), (wanted.len(), before));
-            assert!(rt; element.is_none());
-        }
-    }
+    assert!(rt; finds(items, target, plain_find(wanted, target)));
 }
 
 #[test]
 fn two_inserts_at_the_front(rt: HostRuntime) -> Result<(), Fail> {
     let mut items: Items = SumTree::new(rt.alloc());
     items.reserve(2)?;
-    assert_eq!(&rt; items.spare(), 2);
+    assert!(&rt; items.spare() == 2);
     assert!(&rt; put(&mut items, 0, light(1)));
     assert!(&rt; put(&mut items, 0, light(2)));
     same(&rt, &items, &[light(2), light(1)], 2);
-    assert_eq!(&rt; items.spare(), 0);
+    assert!(&rt; items.spare() == 0);
     Ok(())
 }
 
-/// Thousands of inserts, removes and replaces at places that look random.
+/// Makes an insert, a remove or a replace at a place that looks random, both in the tree and in the
+/// vector; the greater `most` is, the more removes there are.
+fn edit_both(
+    rt: &impl Abort,
+    rng: &mut SmallRng,
+    items: &mut Items,
+    wanted: &mut Vec<Item>,
+    most: u32,
+) -> Result<(), Fail> {
+    let item = light(rng.random_range(0..65536usize));
+    let i = rng.random_range(0..=wanted.len());
+    match rng.random_range(0..=most) {
+        0 if i < wanted.len() => {
+            assert!(rt; swap(items, i, item) == Some(wanted[i]));
+            wanted[i] = item;
+        }
+        1 | 4 | 5 if i < wanted.len() => {
+            assert!(rt; take(items, i) == Some(wanted.remove(i)));
+        }
+        _ => {
+            assert!(rt; put(items, i, item));
+            wanted.insert(i, item)?;
+        }
+    }
+    Ok(())
+}
+
+/// Thousands of edits.
 #[test]
 fn edits_against_a_vector(rt: HostRuntime) -> Result<(), Fail> {
     let mut rng = SmallRng::seed_from_u64(3);
@@ -77,22 +113,8 @@ fn edits_against_a_vector(rt: HostRuntime) -> Result<(), Fail> {
     let mut wanted: Vec<Item> = Vec::new(rt.alloc());
     items.reserve(4000)?;
     for round in 0..6000 {
-        let item = light(rng.random_range(0..65536usize));
-        let i = rng.random_range(0..=wanted.len());
-        let most: u32 = if round < 3000 { 3 } else { 5 };
-        match rng.random_range(0..=most) {
-            0 if i < wanted.len() => {
-                assert_eq!(&rt; swap(&mut items, i, item), Some(wanted[i]));
-                wanted[i] = item;
-            }
-            1 | 4 | 5 if i < wanted.len() => {
-                assert_eq!(&rt; take(&mut items, i), Some(wanted.remove(i)));
-            }
-            _ => {
-                assert!(&rt; put(&mut items, i, item));
-                wanted.insert(i, item)?;
-            }
-        }
+        let most = if round < 3000 { 3 } else { 5 };
+        edit_both(&rt, &mut rng, &mut items, &mut wanted, most)?;
         if round % 500 == 0 {
             same(&rt, &items, &wanted, rng.random_range(0..100_000_000));
         }
@@ -128,10 +150,8 @@ fn inserts_without_memory(rt: HostRuntime) -> Result<(), Fail> {
         all = put(&mut items, i / 2, light(i)) && all;
     }
     drop(taken);
-    assert!(&rt; refused);
-    assert!(&rt; all);
-    assert_eq!(&rt; items.len(), 2000);
-    assert_eq!(&rt; items.spare(), 0);
+    assert!(&rt; refused && all);
+    assert!(&rt; items.len() == 2000 && items.spare() == 0);
     Ok(())
 }
 

@@ -1,17 +1,18 @@
 -- The decoder of an encoding is there exactly where the encoding can be decoded, and does what that encoding's own decoder does.
-use Rattle.std.proofs.Common.{◌≡◌, ◌∙◌, refl, ap, ℕ, eqb, Bool, ◌&&◌, true, false, if◌then◌else◌, List, [], ◌∷◌, length, drop, Option, Some, None}
+use Rattle.std.proofs.Common.{◌≡◌, ◌∙◌, refl, sym, ap, ℕ, eqb, Bool, ◌&&◌, true, false, List, [], ◌∷◌, length, drop, Option, Some, None}
 use Rattle.std.specs.List.{list_all, starts_with}
 use Rattle.std.specs.Option.{is_some, IfSome, option_map, unwrap_or}
 use Rattle.enc_names.specs.declared.encoding.Encoding.{Encoding}
 use Rattle.enc_names.specs.declared.encoding.Encoding.TheVariants.{Utf8, Utf16Be, Utf16Le}
 use Rattle.enc_names.specs.declared.setting.Setting.{Setting}
-use Rattle.index_loader.specs.Families.{Family, OfUtf8, OfSingleByte, OfGb18030, OfBig5, OfEucJp, OfIso2022Jp, OfShiftJis, OfEucKr, OfReplacement, OfUtf16Be, OfUtf16Le, OfXUserDefined, family_of}
+use Rattle.index_loader.specs.declared.family.Family.{Family}
+use Rattle.index_loader.specs.Families.{family_map, family_of, needed}
+use Rattle.index_loader.specs.declared.family.Family.TheVariants as of
 use Rattle.index_loader.specs.declared.kind.IndexKind.{IndexKind}
-use Rattle.index_loader.specs.declared.kind.IndexKind.TheVariants.{Jis0208, Jis0212, Big5, EucKr, Gb18030, Gb18030Ranges, Katakana}
-use Rattle.index_loader.specs.Index.{Loaded, is_ranges}
+use Rattle.index_loader.specs.Index.{Loaded}
 use Rattle.index_loader.specs.Kinds.{home_of}
 use Rattle.index_loader.specs.Pairs.{Pairs}
-use Rattle.index_loader.specs.Files.{Files, pairs_of, index_of, files_of, has_files}
+use Rattle.index_loader.specs.Files.{Files, pairs_of, index_of, indexes_of, has_files}
 use Rattle.decoder_core.specs.declared.item.Ended.{Ended}
 use Rattle.decoder_core.specs.ByCases.{by_if}
 use Rattle.decoder_core.specs.Placed.{places}
@@ -30,59 +31,46 @@ abbrev pub Is : (List ℕ → List Ended) → (List ℕ → AnyState) → Standi
 Is runs states s = (s.run ≡ runs) × (s.state ≡ states)
 
 -- the decoder of a family is there where it is wanted, and does then what is wanted of it
-abbrev pub IsChosen : Bool → (IndexKind → Option Loaded) → Family → Type 0
-IsChosen there index family =
-    let s = standing index family in (is_some s.decoder ≡ there) × IfSome s.decoder (λ d. Is (coding_run (coding index family)) s.state (standing_of d))
+abbrev pub IsChosen : Bool → Family (Option Loaded) → Type 0
+IsChosen there family =
+    let s = standing family in (is_some s.decoder ≡ there) × IfSome s.decoder (λ d. Is (coding_run (coding family)) s.state (standing_of d))
 
 abbrev found : IndexKind → Option Pairs → Option Loaded
 found kind o = option_map (λ pairs. record { kind = home_of kind; pairs = pairs }) o
 
-by_one : (family : Family) (kind : IndexKind) → ((i : Loaded) → IsChosen true (λ _. Some i) family) → IsChosen false (λ _. None) family
-    → (o : Option Pairs) → IsChosen (is_some o && true) (λ _. found kind o) family
-by_one family kind some none (Some p) = some (record { kind = home_of kind; pairs = p })
-by_one family kind some none None = none
+by_one : (over : Option Loaded → Family (Option Loaded)) (kind : IndexKind) → ((i : Loaded) → IsChosen true (over (Some i))) → IsChosen false (over None)
+    → (o : Option Pairs) → IsChosen (is_some o && true) (over (found kind o))
+by_one over kind some none (Some p) = some (record { kind = home_of kind; pairs = p })
+by_one over kind some none None = none
 
--- the second of two index files is one of these kinds
-abbrev both : (IndexKind → Bool) → Option Loaded → Option Loaded → IndexKind → Option Loaded
-both second o p kind = if second kind then p else o
-
-abbrev is_jis0212 : IndexKind → Bool
-is_jis0212 = elim [ Jis0212 ↦ true | _ ↦ false ]
-
-abbrev is_katakana : IndexKind → Bool
-is_katakana = elim [ Katakana ↦ true | _ ↦ false ]
-
-by_two : (family : Family) (second : IndexKind → Bool) (first other : IndexKind)
-    → ((i j : Loaded) → IsChosen true (both second (Some i) (Some j)) family)
-    → ((o : Option Loaded) → IsChosen false (both second None o) family)
-    → ((i : Loaded) → IsChosen false (both second (Some i) None) family)
-    → (o p : Option Pairs) → IsChosen (is_some o && (is_some p && true)) (both second (found first o) (found other p)) family
-by_two family second first other some no_first no_other (Some p) (Some q) = some (record { kind = home_of first; pairs = p }) (record { kind = home_of other; pairs = q })
-by_two family second first other some no_first no_other (Some p) None = no_other (record { kind = home_of first; pairs = p })
-by_two family second first other some no_first no_other None q = no_first (found other q)
+by_two : (over : Option Loaded → Option Loaded → Family (Option Loaded)) (first second : IndexKind)
+    → ((i j : Loaded) → IsChosen true (over (Some i) (Some j)))
+    → ((o : Option Loaded) → IsChosen false (over None o))
+    → ((i : Loaded) → IsChosen false (over (Some i) None))
+    → (o p : Option Pairs) → IsChosen (is_some o && (is_some p && true)) (over (found first o) (found second p))
+by_two over first second some no_first no_second (Some p) (Some q) = some (record { kind = home_of first; pairs = p }) (record { kind = home_of second; pairs = q })
+by_two over first second some no_first no_second (Some p) None = no_second (record { kind = home_of first; pairs = p })
+by_two over first second some no_first no_second None q = no_first (found second q)
 
 module _ (files : Files) where
-  chosen_by : (family : Family) → IsChosen (list_all (λ kind. is_some (pairs_of files kind)) (files_of family)) (index_of files) family
-  chosen_by OfUtf8 = (refl, (refl, refl))
-  chosen_by OfReplacement = (refl, (refl, refl))
-  chosen_by OfXUserDefined = (refl, (refl, refl))
-  chosen_by OfUtf16Be = (refl, (refl, refl))
-  chosen_by OfUtf16Le = (refl, (refl, refl))
-  chosen_by (OfSingleByte kind) = by_one (OfSingleByte kind) kind (λ i. (refl, (refl, refl))) (refl, tt) (pairs_of files kind)
-  chosen_by OfBig5 = by_one OfBig5 Big5 (λ i. (refl, (refl, refl))) (refl, tt) (pairs_of files Big5)
-  chosen_by OfShiftJis = by_one OfShiftJis Jis0208 (λ i. (refl, (refl, refl))) (refl, tt) (pairs_of files Jis0208)
-  chosen_by OfEucKr = by_one OfEucKr EucKr (λ i. (refl, (refl, refl))) (refl, tt) (pairs_of files EucKr)
-  chosen_by OfGb18030 =
-      by_two OfGb18030 is_ranges Gb18030 Gb18030Ranges (λ i r. (refl, (refl, refl)))
-      (λ o. (refl, tt)) (λ i. (refl, tt)) (pairs_of files Gb18030) (pairs_of files Gb18030Ranges)
-  chosen_by OfEucJp =
-      by_two OfEucJp is_jis0212 Jis0208 Jis0212 (λ a b. (refl, (refl, refl)))
-      (λ o. (refl, tt)) (λ i. (refl, tt)) (pairs_of files Jis0208) (pairs_of files Jis0212)
-  chosen_by OfIso2022Jp =
-      by_two OfIso2022Jp is_katakana Jis0208 Katakana (λ a b. (refl, (refl, refl)))
-      (λ o. (refl, tt)) (λ i. (refl, tt)) (pairs_of files Jis0208) (pairs_of files Katakana)
+  chosen_by : (family : Family IndexKind) → IsChosen (list_all (λ kind. is_some (pairs_of files kind)) (needed family)) (family_map (index_of files) family)
+  chosen_by of.Utf8 = (refl, (refl, refl))
+  chosen_by of.Replacement = (refl, (refl, refl))
+  chosen_by of.XUserDefined = (refl, (refl, refl))
+  chosen_by of.Utf16Be = (refl, (refl, refl))
+  chosen_by of.Utf16Le = (refl, (refl, refl))
+  chosen_by (of.SingleByte kind) = by_one of.SingleByte kind (λ i. (refl, (refl, refl))) (refl, tt) (pairs_of files kind)
+  chosen_by (of.Big5 kind) = by_one of.Big5 kind (λ i. (refl, (refl, refl))) (refl, tt) (pairs_of files kind)
+  chosen_by (of.ShiftJis kind) = by_one of.ShiftJis kind (λ i. (refl, (refl, refl))) (refl, tt) (pairs_of files kind)
+  chosen_by (of.EucKr kind) = by_one of.EucKr kind (λ i. (refl, (refl, refl))) (refl, tt) (pairs_of files kind)
+  chosen_by (of.Gb18030 first second) =
+      by_two of.Gb18030 first second (λ i j. (refl, (refl, refl))) (λ o. (refl, tt)) (λ i. (refl, tt)) (pairs_of files first) (pairs_of files second)
+  chosen_by (of.EucJp first second) =
+      by_two of.EucJp first second (λ i j. (refl, (refl, refl))) (λ o. (refl, tt)) (λ i. (refl, tt)) (pairs_of files first) (pairs_of files second)
+  chosen_by (of.Iso2022Jp first second) =
+      by_two of.Iso2022Jp first second (λ i j. (refl, (refl, refl))) (λ o. (refl, tt)) (λ i. (refl, tt)) (pairs_of files first) (pairs_of files second)
 
-  own-chosen : (encoding : Encoding) → IsChosen (has_files files encoding) (index_of files) (family_of encoding)
+  own-chosen : (encoding : Encoding) → IsChosen (has_files files encoding) (indexes_of files encoding)
   unfolding has_files
   own-chosen encoding = chosen_by (family_of encoding)
 
@@ -100,6 +88,13 @@ chosen_under files setting there None h = (h.0, tt)
 pub chosen : (files : Files) (setting : Setting)
     → (is_some (decoder_in files setting) ≡ has_files files setting.given) × IfSome (decoder_in files setting) (IsUnder files setting)
 chosen files setting = chosen_under files setting (has_files files setting.given) (own_in files setting.given) (own-chosen files setting.given)
+
+none : {A : Type 0} (o : Option A) → is_some o ≡ false → None ≡ o
+none None e = refl
+none (Some a) e = absurd (cc)
+
+pub absent : (files : Files) (setting : Setting) → false ≡ has_files files setting.given → None ≡ decoder_in files setting
+absent files setting there = none (decoder_in files setting) ((chosen files setting).0 ∙ sym there)
 
 -- ---- behind a byte order mark
 

@@ -38,6 +38,11 @@ module _ {S : Type 0} (table : Table S) (c : Counts table) where
       few-told (turn_at table s q).answer (length (queue_after table s q)) (length (queue_after table s q)) (length q + c.bytes s) (turn_at table s q).state
       (turns table n (turn_at table s q).state (queue_after table s q)) (c.costs s q) (few-turns n (turn_at table s q).state (queue_after table s q))
 
+  -- a run from a state that holds nothing
+  pub few-run_from : (s : S) (q : List ℕ) → c.bytes s ≡ 0 → length (run table s q) ≤ length q
+  unfolding run
+  few-run_from s q none = Prim.omega (arith, few-turns (8 * length q + 32) s q, none)
+
   pub few-run : (s : S) → length (run table s []) ≤ 7
   unfolding run
   few-run s = Prim.omega (arith, few-turns 32 s [], c.few s)

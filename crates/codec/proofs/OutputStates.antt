@@ -10,11 +10,10 @@ use Rattle.std.proofs.lemmas.Bool.Decides.{Decides-eqb}
 use Rattle.std.proofs.lemmas.Slice.Eq.{bytes_eq-Decides, starts_is}
 use Rattle.enc_names.specs.declared.encoding.Encoding.TheVariants.{Utf8, Utf16Be, Utf16Le}
 use Rattle.enc_names.specs.declared.setting.Setting.{Setting}
-use Rattle.index_loader.specs.Families.{Family, OfUtf8, OfSingleByte, OfGb18030, OfBig5, OfEucJp, OfIso2022Jp, OfShiftJis, OfEucKr, OfReplacement, OfUtf16Be, OfUtf16Le, OfXUserDefined, family_of}
-use Rattle.index_loader.specs.declared.kind.IndexKind.{IndexKind}
-use Rattle.index_loader.specs.declared.kind.IndexKind.TheVariants.{Jis0208, Katakana}
+use Rattle.index_loader.specs.declared.family.Family.{Family}
+use Rattle.index_loader.specs.declared.family.Family.TheVariants as of
 use Rattle.index_loader.specs.Index.{Loaded, code_point_of}
-use Rattle.index_loader.specs.Files.{Files, index_of, has_files}
+use Rattle.index_loader.specs.Files.{Files, indexes_of, has_files}
 use Rattle.decoder_core.specs.declared.item.Ended.{Ended}
 use Rattle.decoder_core.specs.ByCases.{by_test}
 use Rattle.decoder_core.specs.Lift.{IsLifted, lift_fed}
@@ -30,29 +29,34 @@ use Rattle.codec.specs.declared.state.AnyState.{AnyState}
 use Rattle.codec.specs.declared.state.AnyState.TheVariants.{Sniffing as in_sniffing, Iso2022Jp as in_iso_2022_jp}
 use Rattle.codec.specs.Any.{AnyDecoding, any, output_of, standing, of_both, decoder_in, under}
 use Rattle.codec.specs.Behind.{state_in, state_behind}
-use Rattle.codec.specs.Coding.{looked_up}
 use Rattle.codec.specs.Mark.{Mark, mark_of, in_force, mark_length}
 use Rattle.codec.specs.Output.{output_in, output_behind}
 use Rattle.codec.specs.Sniffing.{spelt, prefix_of}
 
 -- ---- encodings without escapes
 
-abbrev IsPlain : Family → Type 0
-IsPlain family = (index : IndexKind → Option Loaded) (bytes : List ℕ) → (output_of ((standing index family).state bytes) ≡ Ascii) × (output_in index family bytes ≡ Ascii)
+abbrev IsPlain : Family (Option Loaded) → Type 0
+IsPlain family = (bytes : List ℕ) → (output_of ((standing family).state bytes) ≡ Ascii) × (output_in family bytes ≡ Ascii)
 
-by_family : (family : Family) → (family ≡ OfIso2022Jp) ⊎ IsPlain family
-by_family OfIso2022Jp = inl refl
-by_family OfUtf8 = inr (λ index bytes. (refl, refl))
-by_family (OfSingleByte kind) = inr (λ index bytes. (refl, refl))
-by_family OfGb18030 = inr (λ index bytes. (refl, refl))
-by_family OfBig5 = inr (λ index bytes. (refl, refl))
-by_family OfEucJp = inr (λ index bytes. (refl, refl))
-by_family OfShiftJis = inr (λ index bytes. (refl, refl))
-by_family OfEucKr = inr (λ index bytes. (refl, refl))
-by_family OfReplacement = inr (λ index bytes. (refl, refl))
-by_family OfUtf16Be = inr (λ index bytes. (refl, refl))
-by_family OfUtf16Le = inr (λ index bytes. (refl, refl))
-by_family OfXUserDefined = inr (λ index bytes. (refl, refl))
+-- the one with escapes
+record HasEscapes (family : Family (Option Loaded)) : Type 0 where
+  jis0208 : Option Loaded
+  katakana : Option Loaded
+  is : family ≡ of.Iso2022Jp jis0208 katakana
+
+by_family : (family : Family (Option Loaded)) → HasEscapes family ⊎ IsPlain family
+by_family (of.Iso2022Jp jis0208 katakana) = inl (record { jis0208 = jis0208; katakana = katakana; is = refl })
+by_family of.Utf8 = inr (λ bytes. (refl, refl))
+by_family (of.SingleByte index) = inr (λ bytes. (refl, refl))
+by_family (of.Gb18030 index ranges) = inr (λ bytes. (refl, refl))
+by_family (of.Big5 index) = inr (λ bytes. (refl, refl))
+by_family (of.EucJp jis0208 jis0212) = inr (λ bytes. (refl, refl))
+by_family (of.ShiftJis index) = inr (λ bytes. (refl, refl))
+by_family (of.EucKr index) = inr (λ bytes. (refl, refl))
+by_family of.Replacement = inr (λ bytes. (refl, refl))
+by_family of.Utf16Be = inr (λ bytes. (refl, refl))
+by_family of.Utf16Le = inr (λ bytes. (refl, refl))
+by_family of.XUserDefined = inr (λ bytes. (refl, refl))
 
 -- ---- byte order marks
 
@@ -134,9 +138,9 @@ module _ (files : Files) where
   first_of : (setting : Setting) (bytes : List ℕ) {marked : List ℕ} (n : ℕ) → bytes ≡ marked → ((n : ℕ) → out setting (take n marked) ≡ Ascii) → out setting (take n bytes) ≡ Ascii
   first_of setting bytes n is h = ap (λ (x : List ℕ). out setting (take n x)) is ∙ h n
 
-  plain_out : (setting : Setting) → IsPlain (family_of setting.given) → (bytes : List ℕ) → Shape bytes → out setting bytes ≡ Ascii
+  plain_out : (setting : Setting) → IsPlain (indexes_of files setting.given) → (bytes : List ℕ) → Shape bytes → out setting bytes ≡ Ascii
   plain_out setting plain bytes (bare none) =
-      ap output_of (bare_state setting bytes none) ∙ behind_prefix (prefix_of bytes) (state_in files setting.given bytes) (plain (index_of files) bytes).0
+      ap output_of (bare_state setting bytes none) ∙ behind_prefix (prefix_of bytes) (state_in files setting.given bytes) (plain bytes).0
   plain_out setting plain bytes (utf8_mark r is) = whole_of setting bytes is (utf8_marked setting r)
   plain_out setting plain bytes (be_mark r is) = whole_of setting bytes is (be_marked setting r)
   plain_out setting plain bytes (le_mark r is) = whole_of setting bytes is (le_marked setting r)
@@ -186,33 +190,32 @@ is_prefix bytes p =
 
 -- ---- the output state by the decoder in force alone
 
-iso_prefix : (index : IndexKind → Option Loaded) (p : Prefix) → output_in index OfIso2022Jp (spelt p) ≡ Ascii
+iso_prefix : (jis0208 katakana : Option Loaded) (p : Prefix) → output_in (of.Iso2022Jp jis0208 katakana) (spelt p) ≡ Ascii
 unfolding feed feed_for
-iso_prefix index Nothing = refl
-iso_prefix index Ef = refl
-iso_prefix index EfBb = refl
-iso_prefix index Fe = refl
-iso_prefix index Ff = refl
+iso_prefix jis0208 katakana Nothing = refl
+iso_prefix jis0208 katakana Ef = refl
+iso_prefix jis0208 katakana EfBb = refl
+iso_prefix jis0208 katakana Fe = refl
+iso_prefix jis0208 katakana Ff = refl
 
-prefix_output : (index : IndexKind → Option Loaded) (family : Family) (p : Prefix) → (family ≡ OfIso2022Jp) ⊎ IsPlain family → output_in index family (spelt p) ≡ Ascii
-prefix_output index family p (inl is) = subst (λ (f : Family). output_in index f (spelt p) ≡ Ascii) (sym is) (iso_prefix index p)
-prefix_output index family p (inr plain) = (plain index (spelt p)).1
+prefix_output : (family : Family (Option Loaded)) (p : Prefix) → HasEscapes family ⊎ IsPlain family → output_in family (spelt p) ≡ Ascii
+prefix_output family p (inl iso) = subst (λ (f : Family (Option Loaded)). output_in f (spelt p) ≡ Ascii) (sym iso.is) (iso_prefix iso.jis0208 iso.katakana p)
+prefix_output family p (inr plain) = (plain (spelt p)).1
 
-state_output : (index : IndexKind → Option Loaded) (family : Family) (bytes : List ℕ) → (family ≡ OfIso2022Jp) ⊎ IsPlain family
-    → output_of ((standing index family).state bytes) ≡ output_in index family bytes
-state_output index family bytes (inl is) = subst (λ (f : Family). output_of ((standing index f).state bytes) ≡ output_in index f bytes) (sym is) refl
-state_output index family bytes (inr plain) = (plain index bytes).0 ∙ sym (plain index bytes).1
+state_output : (family : Family (Option Loaded)) (bytes : List ℕ) → HasEscapes family ⊎ IsPlain family → output_of ((standing family).state bytes) ≡ output_in family bytes
+state_output family bytes (inl iso) = subst (λ (f : Family (Option Loaded)). output_of ((standing f).state bytes) ≡ output_in f bytes) (sym iso.is) refl
+state_output family bytes (inr plain) = (plain bytes).0 ∙ sym (plain bytes).1
 
 module _ (files : Files) (setting : Setting) where
-  looked : (bytes : List ℕ) (o : Option Prefix) → prefix_of bytes ≡ o → output_of (unwrap_or (option_map in_sniffing o) (state_in files setting.given bytes)) ≡ output_in (index_of files) (family_of setting.given) bytes
+  looked : (bytes : List ℕ) (o : Option Prefix) → prefix_of bytes ≡ o → output_of (unwrap_or (option_map in_sniffing o) (state_in files setting.given bytes)) ≡ output_in (indexes_of files setting.given) bytes
   looked bytes (Some p) is =
-      sym (ap (output_in (index_of files) (family_of setting.given)) (is_prefix bytes p is) ∙ prefix_output (index_of files) (family_of setting.given) p (by_family (family_of setting.given)))
-  looked bytes None is = state_output (index_of files) (family_of setting.given) bytes (by_family (family_of setting.given))
+      sym (ap (output_in (indexes_of files setting.given)) (is_prefix bytes p is) ∙ prefix_output (indexes_of files setting.given) p (by_family (indexes_of files setting.given)))
+  looked bytes None is = state_output (indexes_of files setting.given) bytes (by_family (indexes_of files setting.given))
 
-  unmarked : (bytes : List ℕ) → mark_of bytes ≡ None → output_behind files setting bytes ≡ output_in (index_of files) (family_of setting.given) bytes
+  unmarked : (bytes : List ℕ) → mark_of bytes ≡ None → output_behind files setting bytes ≡ output_in (indexes_of files setting.given) bytes
   unfolding output_behind
   unmarked bytes none =
-      ap (λ (m : Option Mark). output_in (index_of files) (family_of (unwrap_or (option_map (λ (m : Mark). m.encoding) m) setting.given)) (drop (unwrap_or (option_map (λ (m : Mark). m.len) m) 0) bytes)) none
+      ap (λ (m : Option Mark). output_in (indexes_of files (unwrap_or (option_map (λ (m : Mark). m.encoding) m) setting.given)) (drop (unwrap_or (option_map (λ (m : Mark). m.len) m) 0) bytes)) none
 
   by_shape : (bytes : List ℕ) → Shape bytes → out files setting bytes ≡ output_behind files setting bytes
   unfolding output_behind
@@ -272,23 +275,21 @@ pub record IsIso (files : Files) (setting : Setting) (d : AnyDecoding) : Type 0 
   pub own : (bytes : List ℕ) → state_in files setting.given bytes ≡ in_iso_2022_jp (feed (iso_2022_jp (code_point_of jis0208)) iso_2022_jp_start bytes).state
   pub lift : IsLifted in_iso_2022_jp (iso_2022_jp (code_point_of jis0208)) (any d)
 
-iso_with : (files : Files) (setting : Setting) (d : AnyDecoding) (o p : Option Loaded) → family_of setting.given ≡ OfIso2022Jp → index_of files Jis0208 ≡ o
+iso_with : (files : Files) (setting : Setting) (d : AnyDecoding) (o p : Option Loaded) → indexes_of files setting.given ≡ of.Iso2022Jp o p
     → option_map (under setting) (of_both (λ jis0208 katakana. by.Iso2022Jp jis0208) o p) ≡ Some d → IsIso files setting d
-iso_with files setting d (Some i) (Some j) family file e =
+iso_with files setting d (Some i) (Some j) family e =
     let same : under setting (by.Iso2022Jp i) ≡ d = cc in
     record {
       jis0208 = i;
-      own = λ bytes.
-          ap (λ (f : Family). (standing (index_of files) f).state bytes) family
-          ∙ ap (λ (o : Option Loaded). in_iso_2022_jp (feed (iso_2022_jp (looked_up o)) iso_2022_jp_start bytes).state) file;
+      own = λ bytes. ap (λ (f : Family (Option Loaded)). (standing f).state bytes) family;
       lift = subst (λ (d : AnyDecoding). IsLifted in_iso_2022_jp (iso_2022_jp (code_point_of i)) (any d)) same (λ s o. refl);
     }
-iso_with files setting d (Some i) None family file e = absurd (let x : None ≡ Some d = e in cc)
-iso_with files setting d None p family file e = absurd (let x : None ≡ Some d = e in cc)
+iso_with files setting d (Some i) None family e = absurd (let x : None ≡ Some d = e in cc)
+iso_with files setting d None p family e = absurd (let x : None ≡ Some d = e in cc)
 
-is_iso : (files : Files) (setting : Setting) (d : AnyDecoding) → family_of setting.given ≡ OfIso2022Jp → decoder_in files setting ≡ Some d → IsIso files setting d
-is_iso files setting d family chosen =
-    iso_with files setting d (index_of files Jis0208) (index_of files Katakana) family refl (ap (λ (f : Family). option_map (under setting) (standing (index_of files) f).decoder) (sym family) ∙ chosen)
+is_iso : (files : Files) (setting : Setting) (d : AnyDecoding) → HasEscapes (indexes_of files setting.given) → decoder_in files setting ≡ Some d → IsIso files setting d
+is_iso files setting d iso chosen =
+    iso_with files setting d iso.jis0208 iso.katakana iso.is (ap (λ (f : Family (Option Loaded)). option_map (under setting) (standing f).decoder) (sym iso.is) ∙ chosen)
 
 -- ---- ISO-2022-JP
 
@@ -385,14 +386,14 @@ module _ (files : Files) (setting : Setting) (d : AnyDecoding) (iso : IsIso file
 
 pub output_at_byte : (laws : (jis0208 : Loaded) → IsoLaws jis0208) (files : Files) (setting : Setting) (d : AnyDecoding) (p : List ℕ) (b : ℕ) → decoder_in files setting ≡ Some d
     → All (λ (e : Ended). out files setting (take (length p + 1 - e.back) (p ++ b ∷ [])) ≡ out files setting (p ++ b ∷ [])) (feed (any d) (state_behind files setting p) (b ∷ [])).items
-output_at_byte laws files setting d p b chosen = elim (by_family (family_of setting.given)) [
+output_at_byte laws files setting d p b chosen = elim (by_family (indexes_of files setting.given)) [
   | inr plain ↦ λ k c lt. plain_out files setting plain _ (shape _) ∙ sym (plain_out files setting plain (p ++ b ∷ []) (shape (p ++ b ∷ [])))
-  | inl family ↦ let iso = is_iso files setting d family chosen in byte_iso files setting d iso (laws iso.jis0208) p b (shape (p ++ b ∷ []))
+  | inl escapes ↦ let iso = is_iso files setting d escapes chosen in byte_iso files setting d iso (laws iso.jis0208) p b (shape (p ++ b ∷ []))
 ]
 
 pub output_at_last : (laws : (jis0208 : Loaded) → IsoLaws jis0208) (files : Files) (setting : Setting) (d : AnyDecoding) (p : List ℕ) → decoder_in files setting ≡ Some d
     → All (λ (e : Ended). out files setting (take (length p - e.back) p) ≡ out files setting p) (run (any d) (state_behind files setting p) [])
-output_at_last laws files setting d p chosen = elim (by_family (family_of setting.given)) [
+output_at_last laws files setting d p chosen = elim (by_family (indexes_of files setting.given)) [
   | inr plain ↦ λ k c lt. plain_out files setting plain _ (shape _) ∙ sym (plain_out files setting plain p (shape p))
-  | inl family ↦ let iso = is_iso files setting d family chosen in end_iso files setting d iso (laws iso.jis0208) p (shape p)
+  | inl escapes ↦ let iso = is_iso files setting d escapes chosen in end_iso files setting d iso (laws iso.jis0208) p (shape p)
 ]

@@ -15,7 +15,7 @@ use Rattle.codec.specs.Any.{AnyDecoding, any, given, given_start, source_of}
 use Rattle.codec.specs.Coding.{Coding, coding}
 
 abbrev coding_of : OwnDecoder → Coding
-coding_of d = coding (source_of d).index (source_of d).family
+coding_of d = coding (source_of d)
 
 pub lawful : (d : OwnDecoder) → Lawful (given_start d) (given d)
 lawful (by.Utf8 d) = lawful_finished _ (lit≤ tt) (lit≤ tt)

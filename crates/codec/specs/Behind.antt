@@ -3,8 +3,7 @@ use Rattle.std.specs.Prelude.{ℕ, List, drop, option_map}
 use Rattle.std.specs.Option.{unwrap_or}
 use Rattle.enc_names.specs.declared.encoding.Encoding.{Encoding}
 use Rattle.enc_names.specs.declared.setting.Setting.{Setting}
-use Rattle.index_loader.specs.Families.{family_of}
-use Rattle.index_loader.specs.Files.{Files, index_of}
+use Rattle.index_loader.specs.Files.{Files, indexes_of}
 use Rattle.codec.specs.declared.state.AnyState.{AnyState}
 use Rattle.codec.specs.declared.state.AnyState.TheVariants.{Sniffing}
 use Rattle.codec.specs.Any.{standing}
@@ -13,7 +12,7 @@ use Rattle.codec.specs.Sniffing.{prefix_under}
 
 -- the state of an encoding's decoder behind the bytes
 abbrev pub state_in : Files → Encoding → List ℕ → AnyState
-state_in files encoding = (standing (index_of files) (family_of encoding)).state
+state_in files encoding = (standing (indexes_of files encoding)).state
 
 -- the bytes themselves while they are a proper prefix of a byte order mark, else the encoding in force with the state of its own decoder
 -- behind the mark

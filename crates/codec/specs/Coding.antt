@@ -1,8 +1,7 @@
 -- The decoder of each encoding (Encoding Standard, the decoder of each encoding).
 use Rattle.std.specs.Prelude.{ℕ, List, Option, Some, None}
-use Rattle.index_loader.specs.Families.{Family, OfUtf8, OfSingleByte, OfGb18030, OfBig5, OfEucJp, OfIso2022Jp, OfShiftJis, OfEucKr, OfReplacement, OfUtf16Be, OfUtf16Le, OfXUserDefined}
-use Rattle.index_loader.specs.declared.kind.IndexKind.{IndexKind}
-use Rattle.index_loader.specs.declared.kind.IndexKind.TheVariants.{Jis0208, Jis0212, Big5, EucKr, Gb18030, Gb18030Ranges}
+use Rattle.index_loader.specs.declared.family.Family.{Family}
+use Rattle.index_loader.specs.declared.family.Family.TheVariants as of
 use Rattle.index_loader.specs.Index.{Loaded, code_point_of}
 use Rattle.decoder_core.specs.declared.item.Ended.{Ended}
 use Rattle.decoder_core.specs.Queue.{Table, run, feed}
@@ -40,20 +39,20 @@ abbrev pub looked_up : Option Loaded → ℕ → Option ℕ
 looked_up (Some index) = code_point_of index
 looked_up None = λ pointer. None
 
--- the decoder of each family over the index files that are there
-abbrev pub coding : (IndexKind → Option Loaded) → Family → Coding
-coding index OfUtf8 = record { State = Utf8; table = utf8; start = utf8_start }
-coding index (OfSingleByte kind) = record { State = OneByteState; table = single_byte (looked_up (index kind)); start = one_byte_idle }
-coding index OfGb18030 = record { State = Gb18030State; table = gb18030 (looked_up (index Gb18030)) (looked_up (index Gb18030Ranges)); start = gb18030_idle }
-coding index OfBig5 = record { State = PairState; table = big5 (looked_up (index Big5)); start = Idle }
-coding index OfEucJp = record { State = EucJpState; table = euc_jp (looked_up (index Jis0208)) (looked_up (index Jis0212)); start = euc_jp_idle }
-coding index OfIso2022Jp = record { State = Iso2022Jp; table = iso_2022_jp (looked_up (index Jis0208)); start = iso_2022_jp_start }
-coding index OfShiftJis = record { State = PairState; table = shift_jis (looked_up (index Jis0208)); start = Idle }
-coding index OfEucKr = record { State = PairState; table = euc_kr (looked_up (index EucKr)); start = Idle }
-coding index OfReplacement = record { State = ReplacementState; table = replacement; start = Unread }
-coding index OfUtf16Be = record { State = Utf16; table = utf16 BigEndian; start = utf16_start }
-coding index OfUtf16Le = record { State = Utf16; table = utf16 LittleEndian; start = utf16_start }
-coding index OfXUserDefined = record { State = OneByteState; table = x_user_defined; start = one_byte_idle }
+-- the decoder of each family over the indexes that are there
+abbrev pub coding : Family (Option Loaded) → Coding
+coding of.Utf8 = record { State = Utf8; table = utf8; start = utf8_start }
+coding (of.SingleByte index) = record { State = OneByteState; table = single_byte (looked_up index); start = one_byte_idle }
+coding (of.Gb18030 index ranges) = record { State = Gb18030State; table = gb18030 (looked_up index) (looked_up ranges); start = gb18030_idle }
+coding (of.Big5 index) = record { State = PairState; table = big5 (looked_up index); start = Idle }
+coding (of.EucJp jis0208 jis0212) = record { State = EucJpState; table = euc_jp (looked_up jis0208) (looked_up jis0212); start = euc_jp_idle }
+coding (of.Iso2022Jp jis0208 katakana) = record { State = Iso2022Jp; table = iso_2022_jp (looked_up jis0208); start = iso_2022_jp_start }
+coding (of.ShiftJis index) = record { State = PairState; table = shift_jis (looked_up index); start = Idle }
+coding (of.EucKr index) = record { State = PairState; table = euc_kr (looked_up index); start = Idle }
+coding of.Replacement = record { State = ReplacementState; table = replacement; start = Unread }
+coding of.Utf16Be = record { State = Utf16; table = utf16 BigEndian; start = utf16_start }
+coding of.Utf16Le = record { State = Utf16; table = utf16 LittleEndian; start = utf16_start }
+coding of.XUserDefined = record { State = OneByteState; table = x_user_defined; start = one_byte_idle }
 
 -- the items of a decoder's run from its first state, and the state that it is in behind some bytes
 abbrev pub coding_run : Coding → List ℕ → List Ended

@@ -3,8 +3,7 @@ use Rattle.std.specs.Prelude.{ℕ, List, length, drop, slice_get, Option}
 use Rattle.enc_names.specs.declared.encoding.Encoding.{Encoding}
 use Rattle.enc_names.specs.declared.setting.Setting.{Setting}
 use Rattle.enc_names.specs.declared.place.Place.{Place}
-use Rattle.index_loader.specs.Families.{family_of}
-use Rattle.index_loader.specs.Files.{Files, index_of}
+use Rattle.index_loader.specs.Files.{Files, indexes_of}
 use Rattle.decoder_core.specs.declared.item.Ended.{Ended}
 use Rattle.decoder_core.specs.declared.placed.Placed.{Placed}
 use Rattle.decoder_core.specs.Placed.{places}
@@ -20,7 +19,7 @@ pub record Decoded : Type 0 where
 
 -- the run of an encoding's decoder over the bytes
 abbrev pub run_in : Files → Encoding → List ℕ → List Ended
-run_in files encoding bytes = coding_run (coding (index_of files) (family_of encoding)) bytes
+run_in files encoding bytes = coding_run (coding (indexes_of files encoding)) bytes
 
 -- a look at the first bytes, and then the run behind the mark
 unfoldable pub decode : Files → Setting → List ℕ → Decoded

@@ -10,9 +10,9 @@ ghost use Rattle.codec.specs.Mark.{mark_length};
 use crate::by_own;
 use crate::decoder::AnyDecoder;
 use crate::decoding::{Decoding, decode_by};
+use crate::law_standing::law_standing;
 use crate::mark::Mark;
 use crate::sniffing::{UTF_16BE, UTF_16LE};
-use crate::standing_laws::standing_laws;
 use decoder_core::{Meter, OutOfMemory, Utf8Decoder};
 use enc_names::Encoding;
 use std::alloc::Global;
@@ -28,7 +28,7 @@ pub fn decode_any(
     ensures ok { IfOk result (IsDecoding (places (length bytes.now) (mark_length decoder.now.setting bytes.now) (run (any decoder.now) (any_start decoder.now) bytes.now))) }
     ensures meter { Counted meter.old meter.new (length bytes.now - mark_length decoder.now.setting bytes.now) result }
 {
-    standing_laws();
+    law_standing();
     match Mark::of(bytes) {
         Some(mark) => decode_marked(alloc, mark, bytes, meter),
         None => decode_own(alloc, decoder, bytes, meter),

@@ -3,7 +3,7 @@ ghost use Rattle.std.specs.Prelude.{◌≡◌, ℕ, ◌+◌, ◌≤◌, List, �
 ghost use Rattle.decoder_core.specs.Queue.{feed};
 ghost use Rattle.codec.specs.Texts.{run_text, fed_text, replaced};
 
-use decoder_core::{Decoder, one_run};
+use decoder_core::{Decoder, law_one_run};
 
 /// The law of a change's window; the call does nothing.
 ///
@@ -11,9 +11,9 @@ use decoder_core::{Decoder, one_run};
 /// the new ones agree, the whole text is the old one with code points replaced exactly where that
 /// is so of the text between alone (`agreed`); and where they never agree, exactly where it is so
 /// of the text from there to the end (`to_end`).
-pub fn one_window<D: Decoder>(_decoder: &D)
+pub fn law_one_window<D: Decoder>(_decoder: &D)
     ensures agreed { (s : D.State) (front old new back put : List ℕ) (i j : ℕ) → let at = (feed (D.table _decoder.now) s front).state in i ≤ length (fed_text (D.table _decoder.now) at old) → j ≤ length (fed_text (D.table _decoder.now) at old) → (feed (D.table _decoder.now) at new).state ≡ (feed (D.table _decoder.now) at old).state → (run_text (D.table _decoder.now) s (front ++ (new ++ back)) ≡ replaced (run_text (D.table _decoder.now) s (front ++ (old ++ back))) (length (fed_text (D.table _decoder.now) s front) + i) (length (fed_text (D.table _decoder.now) s front) + j) put) ↔ (fed_text (D.table _decoder.now) at new ≡ replaced (fed_text (D.table _decoder.now) at old) i j put) }
     ensures to_end { (s : D.State) (front old new put : List ℕ) (i j : ℕ) → let at = (feed (D.table _decoder.now) s front).state in (run_text (D.table _decoder.now) s (front ++ new) ≡ replaced (run_text (D.table _decoder.now) s (front ++ old)) (length (fed_text (D.table _decoder.now) s front) + i) (length (fed_text (D.table _decoder.now) s front) + j) put) ↔ (run_text (D.table _decoder.now) at new ≡ replaced (run_text (D.table _decoder.now) at old) i j put) }
 {
-    one_run(_decoder);
+    law_one_run(_decoder);
 }

@@ -11,10 +11,10 @@ ghost use Rattle.codec.specs.Behind.{state_behind};
 ghost use Rattle.codec.specs.Decode.{decode};
 ghost use Rattle.codec.specs.Mark.{mark_length};
 
+use crate::law_standing::law_standing;
 use crate::own::{OwnDecoder, among, turn_among};
 use crate::prefix::Prefix;
 use crate::sniffing::{UTF_16BE, UTF_16LE, sniffing_turn};
-use crate::standing_laws::standing_laws;
 use crate::state::AnyState;
 use decoder_core::{Handled, Handler, Utf8Decoder};
 use enc_names::{Encoding, Setting};
@@ -62,7 +62,7 @@ impl<'i> AnyDecoder<'i> {
         ensures decode { IfSome result (λ d. (bytes : List ℕ) → places (length bytes) (mark_length setting bytes) (run (any d) (any_start d) bytes) ≡ (decode indexes.now setting bytes).items) }
         ensures behind { IfSome result (λ d. (bytes : List ℕ) → (feed (any d) (any_start d) bytes).state ≡ state_behind indexes.now setting bytes) }
     {
-        standing_laws();
+        law_standing();
         choose(indexes, setting)
     }
 
@@ -78,10 +78,8 @@ impl<'i> AnyDecoder<'i> {
 fn choose<'i>(indexes: &'i Indexes, setting: Setting) -> Option<AnyDecoder<'i>>
     ensures { result ≡ decoder_in indexes.now setting }
 {
-    match OwnDecoder::new(indexes, setting.given) {
-        Some(own) => Some(AnyDecoder { own, setting }),
-        None => None,
-    }
+    let own = OwnDecoder::new(indexes.of(setting.given)?);
+    Some(AnyDecoder { own, setting })
 }
 
 impl<'i> Handler for AnyDecoder<'i> {

@@ -6,7 +6,7 @@ ghost use Rattle.decoder_core.specs.Placed.{places};
 ghost use Rattle.codec.specs.Decoding.{IsDecoding};
 
 use crate::gathering::Gathering;
-use decoder_core::{Decoder, Meter, OutOfMemory, one_run, run_piece};
+use decoder_core::{Decoder, Meter, OutOfMemory, law_one_run, run_piece};
 use enc_names::Place;
 use std::alloc::Global;
 
@@ -38,6 +38,6 @@ pub fn decode_by<D: Decoder>(
     let last = decoder.finish(state);
     gathering.take_last(last.items.as_slice(), rest)?;
     // The laws by which the steps and the end are one run.
-    one_run(decoder);
+    law_one_run(decoder);
     gathering.finish()
 }

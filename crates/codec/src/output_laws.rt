@@ -11,8 +11,8 @@ ghost use Rattle.codec.specs.Output.{output_behind};
 ghost use Rattle.iso2022jp.specs.declared.output.OutputState.TheVariants.{Ascii};
 
 use crate::decoder::AnyDecoder;
-use crate::standing_laws::standing_laws;
-use decoder_core::{all_among, all_runs};
+use crate::law_standing::law_standing;
+use decoder_core::{law_all_among, law_all_runs};
 use iso2022jp::Iso2022JpDecoder;
 
 /// The laws of the output states behind a document's bytes, taken literally; the call does nothing.
@@ -24,7 +24,7 @@ use iso2022jp::Iso2022JpDecoder;
 /// decoder is there where the files of the encoding given are (`there`), and so are those of the
 /// encoding in force (`in_force`). The state behind the bytes is reached from the start (`behind`),
 /// one part after another (`parts`).
-pub fn output_at_the_end()
+pub fn law_output_at_the_end()
     ensures state { (files : Files) (setting : Setting) (bytes : List ℕ) → output_of (state_behind files setting bytes) ≡ output_behind files setting bytes }
     ensures mark { (files : Files) (setting : Setting) (bytes : List ℕ) → output_of (state_behind files setting (take (mark_length setting bytes) bytes)) ≡ Ascii }
     ensures mark_fits { (setting : Setting) (bytes : List ℕ) → mark_length setting bytes ≤ length bytes }
@@ -35,8 +35,8 @@ pub fn output_at_the_end()
     ensures byte { (files : Files) (setting : Setting) (d : AnyDecoding) (p : List ℕ) (b : ℕ) → decoder_in files setting ≡ Some d → All (λ e. output_of (state_behind files setting (take (length p + 1 - e.back) (p ++ b ∷ []))) ≡ output_of (state_behind files setting (p ++ b ∷ []))) (feed (any d) (state_behind files setting p) (b ∷ [])).items }
     ensures end { (files : Files) (setting : Setting) (d : AnyDecoding) (p : List ℕ) → decoder_in files setting ≡ Some d → All (λ e. output_of (state_behind files setting (take (length p - e.back) p)) ≡ output_of (state_behind files setting p)) (run (any d) (state_behind files setting p) []) }
 {
-    standing_laws();
-    iso2022jp::output_at_the_end();
-    all_runs::<AnyDecoder<'_>>();
-    all_among::<Iso2022JpDecoder<'_>, AnyDecoder<'_>>();
+    law_standing();
+    iso2022jp::law_output_at_the_end();
+    law_all_runs::<AnyDecoder<'_>>();
+    law_all_among::<Iso2022JpDecoder<'_>, AnyDecoder<'_>>();
 }

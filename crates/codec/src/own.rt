@@ -1,7 +1,8 @@
 //! The encodings' own decoders, and how the one decoder is made of them.
-ghost use Rattle.std.specs.Prelude.{◌≡◌};
+ghost use Rattle.std.specs.Prelude.{◌≡◌, Some};
+ghost use Rattle.index_loader.specs.Families.{family_map};
 ghost use Rattle.decoder_core.specs.Steps.{bytes_of};
-ghost use Rattle.codec.specs.Any.{given, given_start, own_in};
+ghost use Rattle.codec.specs.Any.{given, given_start, standing};
 
 use crate::sniffing::{UTF_16BE, UTF_16LE};
 use crate::state::AnyState;
@@ -9,8 +10,7 @@ use decoder_core::{
     Answer, Few, Handled, Handler, ReplacementDecoder, SingleByteDecoder, Utf8Decoder,
     XUserDefinedDecoder,
 };
-use enc_names::Encoding;
-use index_loader::{IndexKind, Indexes};
+use index_loader::{Family, Index};
 use iso2022jp::Iso2022JpDecoder;
 use multibyte_decoders::{
     Big5Decoder, EucJpDecoder, EucKrDecoder, Gb18030Decoder, ShiftJisDecoder,
@@ -100,40 +100,30 @@ macro_rules! own_turn {
 }
 
 impl<'i> OwnDecoder<'i> {
-    /// The decoder of an encoding over the indexes that it needs.
-    pub(crate) fn new(indexes: &'i Indexes, encoding: Encoding) -> Option<OwnDecoder<'i>>
-        ensures { result ≡ own_in indexes.now encoding }
+    /// The decoder of a family over the indexes that its encodings need.
+    pub(crate) fn new(family: Family<&'i Index>) -> OwnDecoder<'i>
+        ensures { Some result ≡ (standing (family_map (λ index. Some index.now) family.entry)).decoder }
     {
-        Some(match encoding {
-            Encoding::Utf8 => OwnDecoder::Utf8(Utf8Decoder),
-            Encoding::Gb18030 | Encoding::Gbk => OwnDecoder::Gb18030(Gb18030Decoder::new(
-                indexes.get(IndexKind::Gb18030)?,
-                indexes.get(IndexKind::Gb18030Ranges)?,
-            )),
-            Encoding::Big5 => OwnDecoder::Big5(Big5Decoder::new(indexes.get(IndexKind::Big5)?)),
-            Encoding::EucJp => OwnDecoder::EucJp(EucJpDecoder::new(
-                indexes.get(IndexKind::Jis0208)?,
-                indexes.get(IndexKind::Jis0212)?,
-            )),
-            Encoding::Iso2022Jp => {
-                let jis0208 = indexes.get(IndexKind::Jis0208)?;
-                // The encoder's: the encoding is served with both files or not at all.
-                indexes.get(IndexKind::Katakana)?;
+        match family {
+            Family::Utf8 => OwnDecoder::Utf8(Utf8Decoder),
+            Family::Gb18030 { index, ranges } => {
+                OwnDecoder::Gb18030(Gb18030Decoder::new(index, ranges))
+            }
+            Family::Big5(index) => OwnDecoder::Big5(Big5Decoder::new(index)),
+            Family::EucJp { jis0208, jis0212 } => {
+                OwnDecoder::EucJp(EucJpDecoder::new(jis0208, jis0212))
+            }
+            Family::Iso2022Jp { jis0208, .. } => {
                 OwnDecoder::Iso2022Jp(Iso2022JpDecoder::new(jis0208))
             }
-            Encoding::ShiftJis => {
-                OwnDecoder::ShiftJis(ShiftJisDecoder::new(indexes.get(IndexKind::Jis0208)?))
-            }
-            Encoding::EucKr => OwnDecoder::EucKr(EucKrDecoder::new(indexes.get(IndexKind::EucKr)?)),
-            Encoding::XUserDefined => OwnDecoder::XUserDefined(XUserDefinedDecoder),
-            Encoding::Replacement => OwnDecoder::Replacement(ReplacementDecoder),
-            Encoding::Utf16Be => OwnDecoder::Utf16Be,
-            Encoding::Utf16Le => OwnDecoder::Utf16Le,
-            _ => {
-                let index = indexes.get(IndexKind::SingleByte(encoding))?;
-                OwnDecoder::SingleByte(SingleByteDecoder::new(index))
-            }
-        })
+            Family::ShiftJis(index) => OwnDecoder::ShiftJis(ShiftJisDecoder::new(index)),
+            Family::EucKr(index) => OwnDecoder::EucKr(EucKrDecoder::new(index)),
+            Family::SingleByte(index) => OwnDecoder::SingleByte(SingleByteDecoder::new(index)),
+            Family::XUserDefined => OwnDecoder::XUserDefined(XUserDefinedDecoder),
+            Family::Replacement => OwnDecoder::Replacement(ReplacementDecoder),
+            Family::Utf16Be => OwnDecoder::Utf16Be,
+            Family::Utf16Le => OwnDecoder::Utf16Le,
+        }
     }
 
     /// The first state of the encoding, where no byte order mark stands before it.

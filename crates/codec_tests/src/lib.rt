@@ -3,6 +3,8 @@
 #![tactic(auto)]
 
 #[cfg(test)]
+mod in_turn;
+#[cfg(test)]
 mod indexes;
 #[cfg(test)]
 mod of_codec;

@@ -1,8 +1,8 @@
 //! Steps of the decoders, and runs whose sink refuses.
 use crate::indexes::WINDOWS_1252;
 use decoder_core::{
-    Decoder, Ended, Item, Items, OutOfMemory, SingleByteDecoder, Sink, Stride, Utf8Decoder, meter,
-    one_run, run_piece,
+    Decoder, Ended, Item, Items, OutOfMemory, SingleByteDecoder, Sink, Stride, Utf8Decoder,
+    law_one_run, meter, run_piece,
 };
 use enc_names::{Encoding, Scalar};
 use index_loader::{Index, IndexKind};
@@ -11,28 +11,27 @@ use std::test::Fail;
 
 mod bulk;
 mod examples;
-mod one_byte;
+
+/// Whether these are the items of a step.
+fn are(items: &Items, wanted: &[Ended]) -> bool {
+    items.as_slice() == wanted
+}
 
 #[test]
 fn a_step_gives_an_item_before_its_byte(rt: HostRuntime) {
+    law_one_run(&Utf8Decoder);
+    let error = |back: u8| Ended {
+        item: Item::Error,
+        back,
+    };
+    let a = Ended {
+        item: Item::One(Scalar::from('A')),
+        back: 0,
+    };
     let pending = Utf8Decoder.step(Utf8Decoder.start(), 0xE2).state;
     let step = Utf8Decoder.step(pending, 0x41);
-    assert!(rt; step.state == Utf8Decoder.start());
-    let items = step.items.as_slice();
-    let a = Item::One(Scalar::from('A'));
-    let wanted = [
-        Ended {
-            item: Item::Error,
-            back: 1,
-        },
-        Ended { item: a, back: 0 },
-    ];
-    assert!(rt; items.iter().eq(wanted.iter()));
-    assert!(rt;
-        Utf8Decoder.finish(pending).items.as_slice().len() == 1,
-        "one error"
-    );
-    one_run(&Utf8Decoder);
+    assert!(rt; step.state == Utf8Decoder.start() && are(&step.items, &[error(1), a]));
+    assert!(rt; are(&Utf8Decoder.finish(pending).items, &[error(0)]));
 }
 
 #[test]
@@ -91,9 +90,8 @@ fn a_refusing_sink_stops_the_run(rt: HostRuntime) -> Result<(), Fail> {
     };
     let mut count = meter();
     let outcome = run_piece(&decoder, decoder.start(), &[0x81; 4], &mut sink, &mut count);
-    assert!(rt; outcome.is_err());
-    assert_eq!(rt; sink.ends, [0, 0, 1, 2]);
-    assert_eq!(rt; count.decoded(), 4);
+    assert!(rt; outcome.is_err() && sink.ends == [0, 0, 1, 2]);
+    assert!(rt; count.decoded() == 4);
     Ok(())
 }
 
@@ -106,7 +104,6 @@ fn ends_are_counted_from_the_piece(rt: HostRuntime) {
     let mut count = meter();
     let pending = Utf8Decoder.step(Utf8Decoder.start(), 0xE2).state;
     let outcome = run_piece(&Utf8Decoder, pending, b"ab", &mut sink, &mut count);
-    assert!(rt; outcome.is_ok());
-    assert_eq!(rt; sink.ends, [0, 1, 2, 0]);
-    assert_eq!(rt; count.decoded(), 2);
+    assert!(rt; outcome.is_ok() && sink.ends == [0, 1, 2, 0]);
+    assert!(rt; count.decoded() == 2);
 }

@@ -1,5 +1,4 @@
-//! ISO-2022-JP, decoded and encoded.
+//! ISO-2022-JP: what its decoder takes in bulk, and worked examples of both ways.
 mod decoder;
 mod decoder_examples;
-mod encoder;
 mod encoder_examples;

@@ -55,7 +55,7 @@ pub const UNITS: [Unit; 3] = [Unit::Utf8, Unit::Utf16, Unit::Utf32];
 
 /// A range of a text, or the whole, and what is to replace it.
 #[derive(Drop)]
-pub struct Change {
+pub struct RangeChange {
     /// The range; `None` for the whole text.
     pub range: Option<Range>,
     /// The unit of the range.
@@ -126,9 +126,9 @@ fn range(rng: &mut SmallRng, plain: &Plain, unit: Unit) -> Option<Range> {
     Some(Range { start, end })
 }
 
-impl Change {
+impl RangeChange {
     /// A change of this text; `None` where memory is refused.
-    pub fn drawn(alloc: Global, rng: &mut SmallRng, plain: &Plain) -> Option<Change> {
+    pub fn drawn(alloc: Global, rng: &mut SmallRng, plain: &Plain) -> Option<RangeChange> {
         let unit = *UNITS.as_slice().choose(rng)?;
         let range = if rng.random_range(0..64usize) == 0 {
             None
@@ -136,7 +136,7 @@ impl Change {
             Some(range(rng, plain, unit)?)
         };
         let text = new_text(alloc, rng, &plain.text.chars)?;
-        Some(Change { range, unit, text })
+        Some(RangeChange { range, unit, text })
     }
 
     /// The new text as it is passed on; `None` where memory is refused.

@@ -1,9 +1,9 @@
 //! Documents that look random, changed.
 
-use crate::change::{Change, UNITS, new_text};
+use crate::change::{RangeChange, UNITS, new_text};
 use crate::kind::Tally;
-use crate::source::LARGEST;
-use crate::trial::Trial;
+use crate::mirrored_document::MirroredDocument;
+use crate::plain_document::LARGEST;
 use index_loader::Indexes;
 use oracle::{Plain, Sample, bytes_of, length};
 use position_map::{Position, Range, Unit};
@@ -57,7 +57,7 @@ fn every_range(
     let mut tally = Tally::new();
     let opened = |alloc| {
         let bytes = Vec::from_slice(alloc, bytes).ok()?;
-        Trial::open(alloc, indexes, sample.given, bytes)
+        MirroredDocument::open(alloc, indexes, sample.given, bytes)
     };
     let first = opened(alloc)?;
     let plain = first.plain();
@@ -69,7 +69,7 @@ fn every_range(
                 end: *end,
             });
             let text = new_text(alloc, rng, &plain.text.chars)?;
-            let change = Change { range, unit, text };
+            let change = RangeChange { range, unit, text };
             opened(alloc)?.change(alloc, &change, &mut tally)?;
         }
     }
@@ -104,9 +104,9 @@ fn one_document(
 ) -> Option<()> {
     let len = length(rng).saturating_mul(rng.random_range(1..=3));
     let bytes = bytes_of(alloc, rng, sample, len)?;
-    let mut trial = Trial::open(alloc, indexes, sample.given, bytes)?;
+    let mut trial = MirroredDocument::open(alloc, indexes, sample.given, bytes)?;
     for _ in 0..CHANGES {
-        let change = Change::drawn(alloc, rng, trial.plain())?;
+        let change = RangeChange::drawn(alloc, rng, trial.plain())?;
         trial.change(alloc, &change, tally)?;
     }
     Some(())
@@ -149,9 +149,9 @@ pub fn full_document(
     let mut tally = Tally::new();
     let mut bytes = bytes_of(alloc, rng, sample, LARGEST)?;
     bytes.truncate(LARGEST - SPARE);
-    let mut trial = Trial::open(alloc, indexes, sample.given, bytes)?;
+    let mut trial = MirroredDocument::open(alloc, indexes, sample.given, bytes)?;
     for _ in 0..CHANGES {
-        let mut change = Change::drawn(alloc, rng, trial.plain())?;
+        let mut change = RangeChange::drawn(alloc, rng, trial.plain())?;
         if let (Some(range), Some(_)) = (&mut change.range, change.text.first()) {
             range.end = range.start;
             trial.change(alloc, &change, &mut tally)?;

@@ -1,13 +1,13 @@
 //! What a change has to lead to, as it is counted.
 ghost use Rattle.std.specs.Prelude.{◌≡◌, ◌≤◌, true, slice_index};
 
-use crate::refusal::Refusal;
+use crate::refusal::ChangeRefusal;
 use piece_rope::DocFault;
 use position_map::ChangeFault;
 
 /// What a change has to lead to.
 #[derive(Clone, Copy)]
-pub enum Kind {
+pub enum ChangeKind {
     /// It is to be made.
     Made,
     /// Its range starts behind its end.
@@ -32,22 +32,22 @@ const LEAST: [u64; 8] = [1000, 100, 100, 100, 100, 100, 100, 100];
 /// Counts of changes, by what they had to lead to.
 pub type Tally = oracle::Tally<8>;
 
-impl Kind {
+impl ChangeKind {
     /// Of a change that is to be refused for this cause or to be made; `None` for want of memory.
-    pub fn of(refusal: Option<Refusal>) -> Option<Kind> {
+    pub fn of(refusal: Option<ChangeRefusal>) -> Option<ChangeKind> {
         Some(match refusal {
-            None => Kind::Made,
-            Some(Refusal::Unplanned(fault)) => match fault {
-                ChangeFault::OutOfRange => Kind::OutOfRange,
-                ChangeFault::SplitsCharacter => Kind::SplitsCharacter,
-                ChangeFault::SplitsItem => Kind::SplitsItem,
-                ChangeFault::NoEncoder => Kind::NoEncoder,
-                ChangeFault::Unencodable(_) => Kind::Unencodable,
+            None => ChangeKind::Made,
+            Some(ChangeRefusal::Unplanned(fault)) => match fault {
+                ChangeFault::OutOfRange => ChangeKind::OutOfRange,
+                ChangeFault::SplitsCharacter => ChangeKind::SplitsCharacter,
+                ChangeFault::SplitsItem => ChangeKind::SplitsItem,
+                ChangeFault::NoEncoder => ChangeKind::NoEncoder,
+                ChangeFault::Unencodable(_) => ChangeKind::Unencodable,
                 ChangeFault::OutOfMemory => return None,
             },
-            Some(Refusal::Unmade(DocFault::TooLarge)) => Kind::TooLarge,
-            Some(Refusal::Unmade(DocFault::NotKept)) => Kind::NotKept,
-            Some(Refusal::Unmade(_)) => return None,
+            Some(ChangeRefusal::Unmade(DocFault::TooLarge)) => ChangeKind::TooLarge,
+            Some(ChangeRefusal::Unmade(DocFault::NotKept)) => ChangeKind::NotKept,
+            Some(ChangeRefusal::Unmade(_)) => return None,
         })
     }
 }

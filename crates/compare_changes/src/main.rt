@@ -8,11 +8,11 @@ mod change;
 mod documents;
 mod escapes;
 mod kind;
+mod mirrored_document;
+mod plain_document;
 mod plan;
 mod refusal;
 mod resync;
-mod source;
-mod trial;
 
 use documents::{changes, full_document};
 use enc_names::Encoding;

@@ -1,6 +1,6 @@
 //! Changes, planned plainly: from the bytes and the text of the whole document.
 
-use crate::change::Change;
+use crate::change::RangeChange;
 use crate::escapes::{first_escape, last_escape, put};
 use enc_names::Encoding;
 use encoders::{EncodeFault, EncodeMode, encode};
@@ -18,7 +18,7 @@ fn offset(plain: &Plain, position: Position, unit: Unit) -> Result<usize, Change
 }
 
 /// The code points between which a change replaces the text.
-fn ends(plain: &Plain, change: &Change) -> Result<(usize, usize), ChangeFault> {
+fn ends(plain: &Plain, change: &RangeChange) -> Result<(usize, usize), ChangeFault> {
     let Some(Range { start, end }) = change.range else {
         return Ok((0, plain.text.chars.len()));
     };
@@ -70,7 +70,7 @@ pub fn planned(
     indexes: &Indexes,
     bytes: &[u8],
     plain: &Plain,
-    change: &Change,
+    change: &RangeChange,
 ) -> Result<Plan, ChangeFault> {
     let (i, j) = ends(plain, change)?;
     let (left, right) = (cut(&plain.text, i)?, cut(&plain.text, j)?);

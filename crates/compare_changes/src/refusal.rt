@@ -5,21 +5,21 @@ use position_map::ChangeFault;
 
 /// Why a change isn't made: because it isn't planned, or because its splice is refused.
 #[derive(Clone, Copy, PartialEq, Eq, Debug)]
-pub enum Refusal {
+pub enum ChangeRefusal {
     /// It isn't planned.
     Unplanned(ChangeFault),
     /// Its splice is refused.
     Unmade(DocFault),
 }
 
-impl From<ChangeFault> for Refusal {
-    fn from(fault: ChangeFault) -> Refusal {
-        Refusal::Unplanned(fault)
+impl From<ChangeFault> for ChangeRefusal {
+    fn from(fault: ChangeFault) -> ChangeRefusal {
+        ChangeRefusal::Unplanned(fault)
     }
 }
 
-impl From<DocFault> for Refusal {
-    fn from(fault: DocFault) -> Refusal {
-        Refusal::Unmade(fault)
+impl From<DocFault> for ChangeRefusal {
+    fn from(fault: DocFault) -> ChangeRefusal {
+        ChangeRefusal::Unmade(fault)
     }
 }

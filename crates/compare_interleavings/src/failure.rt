@@ -5,7 +5,7 @@ use std::alloc::AllocError;
 
 /// A difference, a trace that broke off, or the program's own want of memory.
 #[derive(Clone, Copy, PartialEq, Eq, Debug)]
-pub enum Failure {
+pub enum PlayFailure {
     /// A reply, a refusal or a number of bytes taken is another than wanted.
     Different,
     /// The trace broke off.
@@ -14,8 +14,8 @@ pub enum Failure {
     OutOfMemory,
 }
 
-impl From<AllocError> for Failure {
-    fn from(_: AllocError) -> Failure {
-        Failure::OutOfMemory
+impl From<AllocError> for PlayFailure {
+    fn from(_: AllocError) -> PlayFailure {
+        PlayFailure::OutOfMemory
     }
 }

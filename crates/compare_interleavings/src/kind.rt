@@ -3,7 +3,7 @@ ghost use Rattle.std.specs.Prelude.{◌≡◌, ◌≤◌, true, slice_index};
 
 /// What an event or a reply was.
 #[derive(Clone, Copy)]
-pub enum Kind {
+pub enum EventKind {
     /// An event that was refused.
     Refused,
     /// A line that was answered.
@@ -24,15 +24,15 @@ pub type Tally = oracle::Tally<5>;
 
 /// Counts a reply.
 pub fn count_reply(tally: &mut Tally, reply: &[u8]) {
-    tally.count(Kind::Line as usize);
+    tally.count(EventKind::Line as usize);
     if reply.starts_with(b"{\"bom\"") {
-        tally.count(Kind::Accepted as usize);
+        tally.count(EventKind::Accepted as usize);
     }
     if reply.starts_with(b"{\"at\"") {
-        tally.count(Kind::Changed as usize);
+        tally.count(EventKind::Changed as usize);
     }
     if reply.starts_with(b"{\"fault\":\"Stale\"") {
-        tally.count(Kind::Stale as usize);
+        tally.count(EventKind::Stale as usize);
     }
 }
 

@@ -7,15 +7,15 @@
 mod client;
 mod commands;
 mod failure;
+mod gateway_pair;
 mod kind;
-mod play;
 mod replay;
 
-use failure::Failure;
+use failure::PlayFailure;
 use gateway::{FromRead, ToWrite};
+use gateway_pair::GatewayPair;
 use index_loader::Indexes;
 use kind::is_telling;
-use play::Play;
 use rand::SeedableRng;
 use rand::rngs::SmallRng;
 use replay::replay;
@@ -26,12 +26,12 @@ use std::process::ExitCode;
 const EVENTS: u64 = 40_000;
 
 /// Plays the trace and then the events, and says whether these told something.
-fn compare(rt: &HostRuntime) -> Result<bool, Failure> {
+fn compare(rt: &HostRuntime) -> Result<bool, PlayFailure> {
     let mut input = FromRead::new(rt.reader());
     let mut output = ToWrite::new(io::writer(rt));
     replay(rt.alloc(), &mut input, &mut output)?;
     let indexes = Indexes::new();
-    let mut play = Play::new(rt.alloc(), &indexes)?;
+    let mut play = GatewayPair::new(rt.alloc(), &indexes)?;
     let mut rng = SmallRng::seed_from_u64(1);
     for id in 0..EVENTS {
         play.step(&mut rng, id)?;
@@ -40,11 +40,11 @@ fn compare(rt: &HostRuntime) -> Result<bool, Failure> {
 }
 
 /// Prints why the comparison ended early.
-fn print_failure(rt: &HostRuntime, failure: Failure) -> io::Result<()> {
+fn print_failure(rt: &HostRuntime, failure: PlayFailure) -> io::Result<()> {
     match failure {
-        Failure::Different => println!(rt; "a reply is another than that of one desk"),
-        Failure::Trace(_) => println!(rt; "the trace broke off"),
-        Failure::OutOfMemory => println!(rt; "out of memory"),
+        PlayFailure::Different => println!(rt; "a reply is another than that of one desk"),
+        PlayFailure::Trace(_) => println!(rt; "the trace broke off"),
+        PlayFailure::OutOfMemory => println!(rt; "out of memory"),
     }
 }
 

@@ -1,7 +1,7 @@
 //! A trace, played on a gateway of its own.
 
-use crate::failure::Failure;
-use crate::play::new_gateway;
+use crate::failure::PlayFailure;
+use crate::gateway_pair::new_gateway;
 use gateway::{Feed, Outlet, trace};
 use index_loader::Indexes;
 use std::alloc::Global;
@@ -11,8 +11,8 @@ pub fn replay<R: Feed, W: Outlet>(
     alloc: Global,
     reader: &mut R,
     writer: &mut W,
-) -> Result<(), Failure> {
+) -> Result<(), PlayFailure> {
     let indexes = Indexes::new();
     let mut gateway = new_gateway(alloc, &indexes)?;
-    trace(alloc, &mut gateway, reader, writer).map_err(Failure::Trace)
+    trace(alloc, &mut gateway, reader, writer).map_err(PlayFailure::Trace)
 }

@@ -1,7 +1,7 @@
 //! Each call on a document, compared with the plain computation.
 
 use crate::spots::Spots;
-use crate::tally::Tally;
+use crate::tally::CallTally;
 use oracle::{Plain, Text};
 use piece_rope::Doc;
 use position_map::{
@@ -20,7 +20,7 @@ const UNITS: [Unit; 3] = [Unit::Utf8, Unit::Utf16, Unit::Utf32];
 struct Comparison<'a> {
     doc: &'a Doc<'a>,
     plain: &'a Plain,
-    tally: &'a mut Tally,
+    tally: &'a mut CallTally,
 }
 
 /// Why nothing was found.
@@ -127,7 +127,7 @@ pub fn compare(
     rng: &mut SmallRng,
     doc: &Doc<'_>,
     bytes: &[u8],
-    tally: &mut Tally,
+    tally: &mut CallTally,
 ) -> Option<()> {
     let text = Text::of(alloc, doc.indexes(), doc.given(), bytes)?;
     let plain = Plain::of(alloc, text, bytes.len())?;

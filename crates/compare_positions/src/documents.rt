@@ -1,7 +1,7 @@
 //! Random documents in one encoding.
 
 use crate::compare::compare;
-use crate::tally::Tally;
+use crate::tally::CallTally;
 use decoder_core::meter;
 use index_loader::Indexes;
 use oracle::{Sample, bytes_of, length};
@@ -40,7 +40,7 @@ fn one_document(
     indexes: &Indexes,
     rng: &mut SmallRng,
     sample: &Sample,
-    tally: &mut Tally,
+    tally: &mut CallTally,
 ) -> Option<()> {
     let len = length(rng);
     let mut bytes = bytes_of(alloc, rng, sample, len)?;
@@ -57,8 +57,8 @@ pub fn random_documents(
     indexes: &Indexes,
     rng: &mut SmallRng,
     sample: &Sample,
-) -> Option<Tally> {
-    let mut tally = Tally::new();
+) -> Option<CallTally> {
+    let mut tally = CallTally::new();
     for _ in 0..DOCUMENTS {
         one_document(alloc, indexes, rng, sample, &mut tally)?;
     }
@@ -71,8 +71,8 @@ pub fn large_document(
     indexes: &Indexes,
     rng: &mut SmallRng,
     sample: &Sample,
-) -> Option<Tally> {
-    let mut tally = Tally::new();
+) -> Option<CallTally> {
+    let mut tally = CallTally::new();
     let mut bytes = bytes_of(alloc, rng, sample, LARGEST)?;
     bytes.truncate(LARGEST);
     let doc = Doc::open(alloc, indexes, sample.given, &bytes, &mut meter()).ok()?;

@@ -1,7 +1,7 @@
 //! CR LF at every place round the border of two pieces.
 
 use crate::compare::compare;
-use crate::tally::Tally;
+use crate::tally::CallTally;
 use decoder_core::meter;
 use enc_names::Encoding;
 use index_loader::Indexes;
@@ -72,7 +72,7 @@ fn one_document(
     case: &LineEnd,
     near: usize,
     len: usize,
-    tally: &mut Tally,
+    tally: &mut CallTally,
 ) -> Option<()> {
     let middle = (len / 2).checked_div(case.letter.len())?;
     let bytes = case.bytes(alloc, middle.saturating_sub(near), len)?;
@@ -83,8 +83,8 @@ fn one_document(
 
 /// The calls on documents with a line end at each place round the border of two pieces; `None`
 /// where a call is refused.
-pub fn line_ends(alloc: Global, rng: &mut SmallRng, case: &LineEnd) -> Option<Tally> {
-    let mut tally = Tally::new();
+pub fn line_ends(alloc: Global, rng: &mut SmallRng, case: &LineEnd) -> Option<CallTally> {
+    let mut tally = CallTally::new();
     for more in 0..LENGTHS {
         for near in 0..NEAR {
             one_document(alloc, rng, case, near, LEAST + more, &mut tally)?;

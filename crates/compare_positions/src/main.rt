@@ -17,13 +17,13 @@ use rand::SeedableRng;
 use rand::rngs::SmallRng;
 use std::io;
 use std::process::ExitCode;
-use tally::Tally;
+use tally::CallTally;
 
 /// How many of the encodings have a document of the greatest length.
 const LARGE: usize = 3;
 
 /// Prints what was compared in one encoding, and says whether it told something.
-fn print_tally(rt: &HostRuntime, given: Encoding, tally: Option<Tally>) -> io::Result<bool> {
+fn print_tally(rt: &HostRuntime, given: Encoding, tally: Option<CallTally>) -> io::Result<bool> {
     let name = given.name();
     let Some(tally) = tally else {
         println!(rt; "{name}: a call was refused")?;

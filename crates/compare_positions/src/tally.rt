@@ -8,7 +8,7 @@ const MOST_VISITED: u64 = 60;
 
 /// What calls came to, as they are counted.
 #[derive(Clone, Copy)]
-enum Kind {
+enum CallKind {
     /// Calls of any kind.
     Call,
     /// Those that were past the end.
@@ -22,7 +22,7 @@ const LEAST: [u64; 3] = [1000, 100, 0];
 
 /// Counts of calls that were compared, and of the documents that they were made on.
 #[derive(Clone, Copy)]
-pub struct Tally {
+pub struct CallTally {
     /// The calls.
     pub calls: oracle::Tally<3>,
     /// The most nodes that one of them visited.
@@ -35,10 +35,10 @@ pub struct Tally {
     pub cut: usize,
 }
 
-impl Tally {
+impl CallTally {
     /// Nothing yet.
-    pub fn new() -> Tally {
-        Tally {
+    pub fn new() -> CallTally {
+        CallTally {
             calls: oracle::Tally::new(),
             visited: 0,
             documents: 0,
@@ -55,10 +55,10 @@ impl Tally {
         ensures visited { self.new.visited ≡ max self.old.visited visited }
     {
         self.calls.compare(same);
-        self.calls.count(Kind::Call as usize);
+        self.calls.count(CallKind::Call as usize);
         match fault {
-            Some(PosFault::OutOfRange) => self.calls.count(Kind::OutOfRange as usize),
-            Some(PosFault::SplitsCharacter) => self.calls.count(Kind::Split as usize),
+            Some(PosFault::OutOfRange) => self.calls.count(CallKind::OutOfRange as usize),
+            Some(PosFault::SplitsCharacter) => self.calls.count(CallKind::Split as usize),
             None => {}
         }
         self.visited = self.visited.max(visited);

@@ -1,16 +1,19 @@
 //! What a document answers.
 
-use crate::outcome::Outcome;
 use enc_names::Place;
-use piece_rope::{Doc, DocFault, Lengths};
+use piece_rope::{Doc, Lengths};
 
 /// What a document answers, with memory.
 #[derive(Drop)]
 pub struct Answers {
-    lengths: Lengths,
-    text: String,
-    source: Vec<u8>,
-    errors: Vec<Place>,
+    /// `Doc::lengths`.
+    pub lengths: Lengths,
+    /// `Doc::text` of all of it.
+    pub text: String,
+    /// `Doc::source` of all of it.
+    pub source: Vec<u8>,
+    /// `Doc::errors`, all of them.
+    pub errors: Vec<Place>,
 }
 
 /// What a document answers; `None` where a call is refused.
@@ -27,39 +30,20 @@ pub fn answers_of(doc: &Doc<'_>) -> Option<Answers> {
     })
 }
 
-/// The outcome of a call that was refused, or answered something that is the same or not.
-fn outcome(same: Result<bool, DocFault>) -> Outcome {
-    match same {
-        Ok(true) => Outcome::Same,
-        Err(DocFault::OutOfMemory) => Outcome::Refused,
-        _ => Outcome::Wrong,
-    }
-}
-
 impl Answers {
-    /// How the document's `text` comes out beside these answers.
-    pub fn text_outcome(&self, doc: &Doc<'_>) -> Outcome {
-        let text = doc.text(0, self.lengths.scalars);
-        outcome(text.map(|text| text.as_str() == self.text.as_str()))
-    }
-
-    /// How the document's `source` comes out beside these answers.
-    pub fn source_outcome(&self, doc: &Doc<'_>) -> Outcome {
-        let source = doc.source(0, self.lengths.bytes);
-        outcome(source.map(|source| source.as_slice() == self.source.as_slice()))
-    }
-
-    /// How the document's `errors` come out beside these answers.
-    pub fn errors_outcome(&self, doc: &Doc<'_>) -> Outcome {
-        let errors = doc.errors(0, self.lengths.errors);
-        outcome(errors.map(|errors| errors.as_slice() == self.errors.as_slice()))
-    }
-
     /// Whether the document answers all this.
     pub fn are_of(&self, doc: &Doc<'_>) -> bool {
-        doc.lengths() == self.lengths
-            && self.text_outcome(doc) == Outcome::Same
-            && self.source_outcome(doc) == Outcome::Same
-            && self.errors_outcome(doc) == Outcome::Same
+        match answers_of(doc) {
+            Some(now) => self.are(&now),
+            None => false,
+        }
+    }
+
+    /// Whether these are the others.
+    fn are(&self, others: &Answers) -> bool {
+        self.lengths == others.lengths
+            && self.text.as_str() == others.text.as_str()
+            && self.source.as_slice() == others.source.as_slice()
+            && self.errors.as_slice() == others.errors.as_slice()
     }
 }

@@ -1,99 +1,174 @@
-//! The program: documents under budgets of memory, from none up to enough. Under each budget every
-//! call has to answer as with ample memory or to be refused for memory, and a call that is refused
-//! has to leave the document as it was and to answer once there is memory again. The program ends
-//! with status 1 where one does otherwise.
+//! The program: calls, sessions and lines under budgets of memory, each from none on until nothing
+//! is refused any more. Under each budget each has to answer as with ample memory or to be refused
+//! for memory, to leave what it was lent as it was where it is refused, and to answer once there is
+//! memory again. The program ends with status 1 where one does otherwise. With a word it also prints
+//! under how many budgets each was refused.
 #![tactic(auto)]
 
 mod answers;
+mod asked;
 mod budget;
+mod calls;
 mod cases;
+mod documents;
+mod lines;
 mod outcome;
-mod rounds;
+mod play;
+mod report;
+mod sessions;
 mod stack;
+mod tried;
 
-use budget::{Room, all_but};
-use cases::{Bytes, CASES, Case, made};
+use budget::{Room, all_but_room};
+use calls::{CALLS, CallTrial};
+use cases::{CASES, made, repeated};
+use documents::{DOCUMENT_CALLS, DocumentCall, DocumentTrial, Source, wanted_of};
 use index_loader::Indexes;
+use lines::{LINES, LineTrial};
 use oracle::small_indexes;
-use outcome::{Tally, is_telling};
-use rounds::{Tallies, tallies_of};
+use outcome::Tally;
+use play::StepTrial;
+use report::print_outcome;
+use sessions::{SESSIONS, Session};
 use stack::has_stack;
 use std::alloc::Global;
-use std::io;
 use std::process::ExitCode;
+use std::{env, io};
+use tried::{Budgets, tally_of};
 
 /// How many KiB of stack the calls have.
 const STACK: usize = 512;
 
-/// The memory that is left for the documents, in bytes.
-const ROOM: usize = 67_108_864;
-
-/// What the calls on a document of this kind answer; `None` where memory was refused that is to be
-/// there.
-fn played(alloc: Global, indexes: &Indexes, case: &Case) -> Option<Tallies> {
-    let Bytes { bytes, ins } = made(alloc, case)?;
-    tallies_of(alloc, indexes, case, &bytes, &ins)
-}
-
-/// How the outcomes of a call are named.
-fn name(tally: &Tally) -> &'static str {
-    if is_telling(tally) {
-        "refused or as with memory"
-    } else if tally.different > 0 {
-        "WRONG"
-    } else {
-        "never refused or never answered"
-    }
-}
-
-/// Prints how a call on a document of this kind came out, and says whether as it has to.
-fn report_call(rt: &HostRuntime, case: &Case, call: &str, tally: &Tally) -> io::Result<bool> {
-    let encoding = case.given.name();
-    println!(rt; "{encoding:<12} {call:<6} {}", name(tally))?;
-    Ok(is_telling(tally))
-}
-
-/// Prints how the calls on a document of this kind came out, and says whether all as they have to.
-fn report(rt: &HostRuntime, case: &Case, tallies: Option<Tallies>) -> io::Result<bool> {
-    let Some(tallies) = tallies else {
-        let encoding = case.given.name();
-        println!(rt; "{encoding:<12} out of memory")?;
-        return Ok(false);
-    };
-    let open = report_call(rt, case, "open", &tallies.open)?;
-    let splice = report_call(rt, case, "splice", &tallies.splice)?;
-    let text = report_call(rt, case, "text", &tallies.text)?;
-    let source = report_call(rt, case, "source", &tallies.source)?;
-    let errors = report_call(rt, case, "errors", &tallies.errors)?;
-    Ok(open && splice && text && source && errors)
-}
-
-/// Plays the documents, and says whether all calls came out as they have to.
-fn compare_all(rt: &HostRuntime) -> io::Result<bool> {
-    let (Some(indexes), Some(sample)) = (small_indexes(rt.alloc()), made(rt.alloc(), &CASES[0]))
-    else {
-        println!(rt; "out of memory")?;
-        return Ok(false);
-    };
-    if !sample.bytes.get(..STACK).is_some_and(has_stack) {
-        println!(rt; "out of stack")?;
-        return Ok(false);
-    }
-    let Some(Room { taken }) = all_but(rt.alloc(), ROOM) else {
-        println!(rt; "out of memory")?;
-        return Ok(false);
-    };
+/// Tries the calls, and says whether all came out as they have to.
+fn try_calls(rt: &HostRuntime, counts: bool, indexes: &Indexes) -> io::Result<bool> {
+    let alloc = rt.alloc();
     let mut all = true;
-    for case in &CASES {
-        let tallies = played(rt.alloc(), &indexes, case);
-        all = report(rt, case, tallies)? && all;
+    for (call, name, least) in &CALLS {
+        let call = *call;
+        let trial = CallTrial {
+            alloc,
+            indexes,
+            call,
+        };
+        let tally = tally_of(Budgets::Steps, &trial);
+        all = print_outcome(rt, counts, name, *least, tally)? && all;
     }
-    drop(taken);
     Ok(all)
 }
 
+/// A call on the document of each case.
+fn document_tally(alloc: Global, indexes: &Indexes, call: DocumentCall) -> Option<Tally> {
+    let mut total = Tally::new();
+    for case in &CASES {
+        let bytes = made(alloc, case)?;
+        let source = Source {
+            alloc,
+            indexes,
+            given: case.given,
+            bytes: &bytes,
+        };
+        let wanted = wanted_of(&source)?;
+        let trial = DocumentTrial {
+            source: &source,
+            wanted: &wanted,
+            call,
+        };
+        total.add(&tally_of(Budgets::Steps, &trial)?);
+    }
+    Some(total)
+}
+
+/// Tries the calls on documents of some pieces, and says whether all came out as they have to.
+fn try_documents(rt: &HostRuntime, counts: bool, indexes: &Indexes) -> io::Result<bool> {
+    let mut all = true;
+    for (call, name) in &DOCUMENT_CALLS {
+        let tally = document_tally(rt.alloc(), indexes, *call);
+        all = print_outcome(rt, counts, name, 1, tally)? && all;
+    }
+    Ok(all)
+}
+
+/// A session, each of its steps in turn.
+fn session_tally(alloc: Global, indexes: &Indexes, session: &Session) -> Option<Tally> {
+    let mut total = Tally::new();
+    let steps = session.steps;
+    for number in 0..steps.len() {
+        let trial = StepTrial {
+            alloc,
+            indexes,
+            steps,
+            number,
+        };
+        total.add(&tally_of(Budgets::Steps, &trial)?);
+    }
+    Some(total)
+}
+
+/// Tries the sessions, and says whether all came out as they have to.
+fn try_sessions(rt: &HostRuntime, counts: bool, indexes: &Indexes) -> io::Result<bool> {
+    let mut all = true;
+    for session in &SESSIONS {
+        let tally = session_tally(rt.alloc(), indexes, session);
+        all = print_outcome(rt, counts, session.name, 1, tally)? && all;
+    }
+    Ok(all)
+}
+
+/// Tries the lines, and says whether all came out as they have to.
+fn try_lines(rt: &HostRuntime, counts: bool, indexes: &Indexes) -> io::Result<bool> {
+    let alloc = rt.alloc();
+    let mut all = true;
+    for line in &LINES {
+        let trial = LineTrial {
+            alloc,
+            indexes,
+            line,
+        };
+        let tally = tally_of(line.budgets, &trial);
+        all = print_outcome(rt, counts, line.name, line.least, tally)? && all;
+    }
+    Ok(all)
+}
+
+/// Tries all once the stack that the calls need is there, and with no more memory than is left for them.
+fn try_all(rt: &HostRuntime, counts: bool) -> io::Result<bool> {
+    let (Some(indexes), Some(stack)) = (
+        small_indexes(rt.alloc()),
+        repeated(rt.alloc(), b"x", STACK),
+    ) else {
+        println!(rt; "out of memory")?;
+        return Ok(false);
+    };
+    if !has_stack(&stack) {
+        println!(rt; "out of stack")?;
+        return Ok(false);
+    }
+    let Some(Room { taken }) = all_but_room(rt.alloc()) else {
+        println!(rt; "out of memory")?;
+        return Ok(false);
+    };
+    let all = try_each(rt, counts, &indexes);
+    drop(taken);
+    all
+}
+
+/// Tries all.
+fn try_each(rt: &HostRuntime, counts: bool, indexes: &Indexes) -> io::Result<bool> {
+    let calls = try_calls(rt, counts, indexes)?;
+    let documents = try_documents(rt, counts, indexes)?;
+    let sessions = try_sessions(rt, counts, indexes)?;
+    let lines = try_lines(rt, counts, indexes)?;
+    Ok(calls && documents && sessions && lines)
+}
+
+/// Whether a word is given.
+fn is_counting(rt: &HostRuntime) -> io::Result<bool> {
+    Ok(env::args(rt)?.nth(1).is_some())
+}
+
 fn main(rt: HostRuntime) -> ExitCode {
-    match compare_all(&rt) {
+    let counts = is_counting(&rt).unwrap_or(false);
+    match try_all(&rt, counts) {
         Ok(true) => ExitCode::SUCCESS,
         _ => ExitCode::FAILURE,
     }

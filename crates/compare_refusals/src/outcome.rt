@@ -13,11 +13,17 @@ pub enum Outcome {
     Wrong,
 }
 
+/// The outcome of a call that answered as wanted or not.
+pub fn outcome_if(wanted: bool) -> Outcome {
+    if wanted {
+        Outcome::Same
+    } else {
+        Outcome::Wrong
+    }
+}
+
 /// Counts of outcomes: those that are wrong, and of the other two each.
 pub type Tally = oracle::Tally<2>;
-
-/// How often a call has to answer and to be refused: both have to be seen.
-const LEAST: [u64; 2] = [1, 1];
 
 /// Counts an outcome.
 pub fn count(tally: &mut Tally, outcome: Outcome)
@@ -32,11 +38,11 @@ pub fn count(tally: &mut Tally, outcome: Outcome)
     }
 }
 
-/// Whether a call was refused and also answered, and did nothing else.
-pub fn is_telling(tally: &Tally) -> bool
+/// Whether it came out right each time, answered, and was refused at least so often.
+pub fn is_telling(tally: &Tally, refused: u64) -> bool
     ensures same { result ≡ true → tally.now.different ≡ 0 }
-    ensures both { result ≡ true → (1 ≤ slice_index tally.now.seen 0) × (1 ≤ slice_index tally.now.seen 1) }
-    ensures only { tally.now.different ≡ 0 → 1 ≤ slice_index tally.now.seen 0 → 1 ≤ slice_index tally.now.seen 1 → result ≡ true }
+    ensures both { result ≡ true → (1 ≤ slice_index tally.now.seen 0) × (refused ≤ slice_index tally.now.seen 1) }
+    ensures only { tally.now.different ≡ 0 → 1 ≤ slice_index tally.now.seen 0 → refused ≤ slice_index tally.now.seen 1 → result ≡ true }
 {
-    tally.is_telling(&LEAST)
+    tally.is_telling(&[1, refused])
 }

@@ -12,16 +12,16 @@ mod unplayed;
 use index_files::{Failure, Unread, bytes_of, indexes_in};
 use index_loader::Indexes;
 use oracle::Tally;
-use rows::{Kind, row_of};
+use rows::{RowKind, row_of};
 use std::path::Path;
 use std::process::ExitCode;
 use unplayed::Unplayed;
 
 /// The files of rows, and what their rows are of.
-const FILES: [(&str, Kind); 3] = [
-    ("decoding.txt", Kind::Decoding),
-    ("encoding.txt", Kind::Encoding),
-    ("iso-2022-jp.txt", Kind::FromState),
+const FILES: [(&str, RowKind); 3] = [
+    ("decoding.txt", RowKind::Decoding),
+    ("encoding.txt", RowKind::Encoding),
+    ("iso-2022-jp.txt", RowKind::FromState),
 ];
 
 /// How many rows a file has at least.
@@ -31,7 +31,7 @@ const LEAST: [u64; 1] = [1];
 fn play(
     rt: &HostRuntime,
     indexes: &Indexes,
-    kind: Kind,
+    kind: RowKind,
     (given, wanted): (&str, &str),
     rows: &mut Tally<1>,
 ) -> Result<(), Failure> {
@@ -51,7 +51,7 @@ fn play(
 fn play_text(
     rt: &HostRuntime,
     indexes: &Indexes,
-    kind: Kind,
+    kind: RowKind,
     text: &str,
 ) -> Result<Tally<1>, Failure> {
     let mut rows = Tally::new();
@@ -78,7 +78,7 @@ fn play_file(
     rt: &HostRuntime,
     indexes: &Indexes,
     name: &'static str,
-    kind: Kind,
+    kind: RowKind,
 ) -> Result<bool, Failure> {
     let bytes = bytes_in(rt, name)?;
     let Ok(text) = str::from_utf8(&bytes) else {

@@ -7,7 +7,7 @@ use std::alloc::Global;
 
 /// What the rows of a file are of.
 #[derive(Clone, Copy)]
-pub enum Kind {
+pub enum RowKind {
     /// Bytes that are decoded.
     Decoding,
     /// Texts that are encoded.
@@ -16,7 +16,7 @@ pub enum Kind {
     FromState,
 }
 
-impl Kind {
+impl RowKind {
     /// What comes of what is given, in the form in which rows say it.
     pub fn outcome(
         self,
@@ -25,9 +25,9 @@ impl Kind {
         given: &str,
     ) -> Result<String, Unplayed> {
         match self {
-            Kind::Decoding => decoding::outcome(alloc, indexes, given),
-            Kind::Encoding => encoding::outcome(alloc, indexes, given),
-            Kind::FromState => encoding::outcome_from(alloc, indexes, given),
+            RowKind::Decoding => decoding::outcome(alloc, indexes, given),
+            RowKind::Encoding => encoding::outcome(alloc, indexes, given),
+            RowKind::FromState => encoding::outcome_from(alloc, indexes, given),
         }
     }
 }

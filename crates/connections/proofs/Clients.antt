@@ -123,11 +123,11 @@ serves-append : (o m n : Office) (xs ys a b : List Numbered) → ServesAll o xs 
 serves-append o m n [] ys a b p q = rw p.0 (subst (λ x. ServesAll x ys b n) p.1 q)
 serves-append o m n (x ∷ xs) ys a b p q = (p.0, p.1, p.2 ++ b, p.3, ap (λ l. l ++ b) p.4, serves-append p.0 m n xs ys p.2 b p.5 q)
 
-pub replies_in_order : RepliesInOrder
-replies_in_order t u w [] replies s o = ((o.0, ap (λ (x : Traffic). x.office) o.1), subst (λ x. StandFor x w) (sym o.1) s)
-replies_in_order t u w (e ∷ es) replies s o =
+pub law_replies_in_order : RepliesInOrder
+law_replies_in_order t u w [] replies s o = ((o.0, ap (λ (x : Traffic). x.office) o.1), subst (λ x. StandFor x w) (sym o.1) s)
+law_replies_in_order t u w (e ∷ es) replies s o =
     let one = one_event t o.0 w e o.1 s o.3 in
-    let rest = replies_in_order o.0 u (begun_after w e) es o.2 one.1 o.4 in
+    let rest = law_replies_in_order o.0 u (begun_after w e) es o.2 one.1 o.4 in
     (rw o.5 (serves-append t.office o.0.office u.office (lines_in w e) (lines_of (begun_after w e) es) o.1 o.2 one.0 rest.0), rest.1)
 
 -- ---- replies of one connection

@@ -1,8 +1,8 @@
 -- A connection that is open, and what a run has done so far on it; nothing of the latter has to be believed.
 use Rattle.std.specs.Prelude.{◌≡◌, ℕ, List, Option, Some, None, Result, Ok, Err, take}
-use Rattle.std.specs.Io.KnownBytes.{Consumes, Appends, IsAtEnd}
-use Rattle.connections.specs.declared.serve.Progress.{Progress}
-use Rattle.connections.specs.declared.serve.Progress.TheVariants.{More, End}
+use Rattle.std.specs.Io.KnownBytes.{Consumes, Appends}
+use Rattle.devices.specs.declared.reading.Progress.{Progress}
+use Rattle.devices.specs.declared.reading.Progress.TheVariants.{More, End}
 use Rattle.connections.specs.declared.serve.RunFault.{RunFault}
 use Rattle.connections.specs.declared.serve.RunFault.TheVariants.{NotFree, Read, Write, TooManyReads}
 use Rattle.devices.specs.Devices.{AppendsPart}
@@ -74,11 +74,6 @@ Pumps (Err NotFree) c old new left rest before after = ⊥
 Pumps (Err Read) c old new left rest before after = Pumped c old new left rest before after
 Pumps (Err Write) c old new left rest before after = PumpedUntil c old new left rest before after
 Pumps (Err TooManyReads) c old new left rest before after = Pumped c old new left rest before after
-
--- where a read reported the end, nothing is left
-abbrev pub EndsAt : Progress → Option (List ℕ) → Type 0
-EndsAt More left = Unit {0}
-EndsAt End left = IsAtEnd left
 
 abbrev pub progress_ends_of : Result Progress RunFault → ℕ
 progress_ends_of (Ok More) = 0

@@ -4,7 +4,7 @@ ghost use Rattle.connections.specs.CitedLaws.{LinesCut, EventTakesBytes};
 
 /// All replies together are those of one desk that takes the lines in the order of their line
 /// feeds, and each connection has the replies to its own lines, whatever comes on the others.
-pub fn replies_in_order()
+pub fn law_replies_in_order()
     ensures begin { NoneIsBegun }
     ensures order { RepliesInOrder }
     ensures lines { LinesAreOwn }
@@ -13,12 +13,12 @@ pub fn replies_in_order()
 
 /// The laws by which bytes are cut at their line feeds, in two parts and at the first line feed; the
 /// call does nothing. They are for the crates above, which cut lines of their own.
-pub fn line_laws()
+pub fn law_lines()
     ensures { LinesCut }
 {}
 
 /// The laws by which an event of bytes takes no more than its bytes, some of them if there are any,
 /// and its connection stays open; the call does nothing. They are for the crates above.
-pub fn event_laws()
+pub fn law_events()
     ensures { EventTakesBytes }
 {}

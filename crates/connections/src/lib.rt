@@ -9,5 +9,5 @@ mod serve;
 
 pub use connection::{CONNECTIONS, line_end};
 pub use gateway::{Event, GateFault, Gateway, Out};
-pub use laws::{event_laws, line_laws, replies_in_order};
+pub use laws::{law_events, law_lines, law_replies_in_order};
 pub use serve::{RunFault, bring, run};

@@ -2,20 +2,15 @@
 ghost use Rattle.std.specs.Prelude.{◌≡◌, ◌+◌, ◌<◌, ◌≤◌, ◌↔◌, ◌≢◌, None, Err, Some, [], IsSome, IfOk, IfErr, OnOk, OnErr, length};
 ghost use Rattle.std.specs.Io.KnownBytes.{IsAtEnd};
 ghost use Rattle.devices.specs.Devices.{failures_after};
+ghost use Rattle.devices.specs.Reading.{EndsAt};
 ghost use Rattle.connections.specs.Events.{connections, gate_fault, Opening, Bringing, Happens, with_line};
 ghost use Rattle.connections.specs.Traffic.{Received};
 ghost use Rattle.connections.specs.Serving.{Runs, ends_of, read_failures_of, write_failures_of, IsReadUp};
-ghost use Rattle.connections.specs.Delivery.{IsOpen, WritesReply, Delivers, DeliversFront, Pumps, EndsAt, progress_ends_of};
+ghost use Rattle.connections.specs.Delivery.{IsOpen, WritesReply, Delivers, DeliversFront, Pumps, progress_ends_of};
 
 use crate::gateway::{Event, Gateway, Out};
-use devices::{Failed, Feed, Outlet, slice_laws, write_all};
+use devices::{Failed, Feed, MOST_READS, Outlet, Progress, READ_BUFFER, law_slices, write_all};
 use line_protocol::ReplyLine;
-
-/// The most bytes of one read.
-const PIECE: usize = 4096;
-
-/// The most reads of one run.
-const MOST_READS: u64 = 1 << 32;
 
 /// Why a run ended before its reader did.
 #[derive(Clone, Copy, PartialEq, Eq, Debug)]
@@ -26,16 +21,8 @@ pub enum RunFault {
     Read,
     /// A write failed.
     Write,
-    /// The reader was read `MOST_READS` times, which is 2^32, without an end.
+    /// The reader was read 2^32 times without an end.
     TooManyReads,
-}
-
-/// Whether there is more to read.
-enum Progress {
-    /// Bytes were read, and there may be more.
-    More,
-    /// The end was reported.
-    End,
 }
 
 /// Opens connection `c`, delivers to it the bytes that are read, and writes the replies, each before
@@ -101,7 +88,7 @@ fn pump<R: Feed, W: Outlet>(
     ensures read_failures { R.failures reader.new ≡ R.failures reader.old + read_failures_of result }
     ensures write_failures { W.failures writer.new ≡ W.failures writer.old + write_failures_of result }
 {
-    let mut buffer = [0; PIECE];
+    let mut buffer = [0; READ_BUFFER];
     for _ in 0..MOST_READS {
         match read_once(gateway, c, reader, writer, &mut buffer) {
             Ok(Progress::More) => {}
@@ -154,7 +141,7 @@ fn deliver<W: Outlet>(
     ensures delivers { Delivers result c bytes.now gateway.old gateway.new (W.written writer.old) (W.written writer.new) }
     ensures failures { W.failures writer.new ≡ failures_after result (W.failures writer.old) }
 {
-    slice_laws();
+    law_slices();
     let mut done = 0;
     while done < bytes.len() {
         match deliver_line(gateway, c, &bytes[done..], writer) {

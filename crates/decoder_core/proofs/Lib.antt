@@ -10,3 +10,5 @@ pub mod Turning
 pub mod Utf8Runs
 pub mod ItemWidths
 pub mod Utf16Runs
+pub mod Encoding
+pub mod Filling

@@ -4,6 +4,9 @@ pub mod ByCases
 pub mod Collected
 pub mod Counted
 pub mod Counts
+pub mod EncoderOutput
+pub mod EncoderRuns
+pub mod EncoderSteps
 pub mod Forms
 pub mod Fronts
 pub mod Holding

@@ -15,7 +15,7 @@ use crate::decoder::Decoder;
 /// (`parts`, `feed_parts`). What a sink is shown step by step are the feed's items (`shown`,
 /// `shown_parts`). A decoder that is finished before the end stays in its state and gives nothing
 /// more (`finished`). States that the code finds equal are identical (`exact`).
-pub fn one_run<D: Decoder>(_decoder: &D)
+pub fn law_one_run<D: Decoder>(_decoder: &D)
     ensures exists { (s : D.State) (q : List ℕ) → Runs (D.table _decoder.now) s q (run (D.table _decoder.now) s q) }
     ensures only { (s : D.State) (q : List ℕ) (out : List Ended) → Runs (D.table _decoder.now) s q out → out ≡ run (D.table _decoder.now) s q }
     ensures turn { (s : D.State) (q : List ℕ) → let t = turn_at (D.table _decoder.now) s q in let left = queue_after (D.table _decoder.now) s q in run (D.table _decoder.now) s q ≡ told t.answer (length left) (run (D.table _decoder.now) t.state left) }
@@ -34,7 +34,7 @@ pub fn one_run<D: Decoder>(_decoder: &D)
 /// Where each state of the smaller decoder is seen by `f` as one of the larger, and the larger does
 /// there what the smaller does, the runs of the two are the same (`runs`), and what they do over
 /// bytes that are fed is the same but for `f` (`feeds`).
-pub fn among<D: Decoder, E: Decoder>(_small: &D, _big: &E)
+pub fn law_among<D: Decoder, E: Decoder>(_small: &D, _big: &E)
     ensures runs { (f : D.State → E.State) → IsLifted f (D.table _small.now) (E.table _big.now) → (s : D.State) (q : List ℕ) → run (E.table _big.now) (f s) q ≡ run (D.table _small.now) s q }
     ensures feeds { (f : D.State → E.State) → IsLifted f (D.table _small.now) (E.table _big.now) → (s : D.State) (q : List ℕ) → feed (E.table _big.now) (f s) q ≡ lift_fed f (feed (D.table _small.now) s q) }
 {}

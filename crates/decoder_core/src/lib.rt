@@ -1,16 +1,21 @@
 //! What every decoder of the Encoding Standard stands on: items with their ends, the trait of a
 //! decoder and the handler that makes one, and runs over a slice; and the decoders of UTF-8,
-//! UTF-16, the single-byte encodings, x-user-defined and replacement.
+//! UTF-16, the single-byte encodings, x-user-defined and replacement. And what every encoder stands
+//! on: the trait of an encoder's handler, and the call that takes it over a text.
 #![tactic(auto)]
 
 mod all_laws;
 mod ascii_runs;
 mod bulk;
+mod byte_blocks;
 mod byte_bulk;
 mod characters;
 mod collector;
 mod counts;
 mod decoder;
+mod driver;
+mod encoder;
+mod fault;
 mod few;
 pub mod forms;
 mod handler;
@@ -36,17 +41,20 @@ mod utf8_bulk;
 mod widths;
 mod x_user_defined;
 
-pub use all_laws::{all_among, all_runs};
+pub use all_laws::{law_all_among, law_all_runs};
 pub use ascii_runs::AsciiRuns;
 pub use bulk::{Bulk, NO_BULK, Stride};
 pub use characters::Characters;
 pub use counts::Meter;
 pub use decoder::{Decoder, Simple, Step};
+pub use driver::encode_by;
+pub use encoder::{Encoder, EncoderAnswer, EncoderTurn};
+pub use fault::{FromFault, Unencodable};
 pub use few::Few;
 pub use handler::{Answer, Handled, Handler};
 pub use item::{Ended, Item};
 pub use items::Items;
-pub use laws::{among, one_run};
+pub use laws::{law_among, law_one_run};
 pub use makers::meter;
 pub use memory::OutOfMemory;
 pub use one_byte::OneByteState;

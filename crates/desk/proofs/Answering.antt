@@ -1,18 +1,23 @@
 -- What the desk answers to a question, from what the document at the name answers.
-use Rattle.std.proofs.Common.{◌≡◌, ℕ, List, refl, sym, ap, ◌∙◌, subst}
+use Rattle.std.proofs.Common.{◌≡◌, ℕ, List, refl, sym, ap, subst}
 use Rattle.std.specs.declared.option.Option.{Option}
 use Rattle.std.specs.declared.option.Option.TheVariants.{None, Some}
 use Rattle.std.specs.declared.result.Result.{Result}
 use Rattle.std.specs.declared.result.Result.TheVariants.{Ok, Err}
 use Rattle.std.specs.FinMap.{get}
+use Rattle.std.specs.Map.{lookup}
+use Rattle.index_loader.specs.Files.{Files}
 use Rattle.desk.specs.Commands.{Ask, asked_of}
 use Rattle.desk.specs.Desk.{Office, Outcome, Answers, IsOutcome, effect, has_place, outcome}
 use Rattle.desk.specs.Documents.{Entry, Names, Gives, reply_of}
 use Rattle.desk.specs.Effects.{Effect, of_document, replied}
+use Rattle.desk.specs.OpenDocuments.{AllOpened, entry_of, names}
 use Rattle.desk.specs.declared.fault.Fault.{Fault}
 use Rattle.desk.specs.declared.fault.Fault.TheVariants.{NoDocument, OutOfMemory}
+use Rattle.desk.specs.declared.open_document.OpenDocument.{OpenDocument}
 use Rattle.desk.specs.declared.reply.Reply.{Reply}
 use Rattle.desk.specs.declared.reply.Reply.TheVariants.{Refused}
+use Rattle.desk.proofs.Names.{Entries, at_text, entry_none, entry_some, opened_found}
 
 is_outcome : (o : Outcome) (reply : Reply) (documents : Names) → o ≡ record { reply = reply; documents = documents } → IsOutcome o reply documents documents
 is_outcome o (Refused OutOfMemory) documents e = refl
@@ -24,21 +29,34 @@ replied_outcome documents doc wanted (Ok reply) gives = is_outcome _ reply docum
 replied_outcome documents doc wanted (Err OutOfMemory) gives = refl
 replied_outcome documents doc wanted (Err fault) gives = ap (λ w. outcome documents doc (replied w)) gives
 
-module _ (o : Office) (doc : List ℕ) (ask : Ask) (wanted : Entry → Result Reply Fault)
-    (asks : (found : Option Entry) → effect o.indexes o.labels (has_place o.documents) found ask ≡ of_document found (λ h. replied (wanted h))) where
-  at_name : (found : Option Entry) (reply : Reply) → get o.documents doc ≡ found
-      → IsOutcome (outcome o.documents doc (of_document found (λ h. replied (wanted h)))) reply o.documents o.documents → Answers o (asked_of doc ask) reply o
-  at_name found reply is step = record {
-    step = subst (λ (e : Effect). IsOutcome (outcome o.documents doc e) reply o.documents o.documents)
-        (sym (asks (get o.documents doc) ∙ ap (λ (f : Option Entry). of_document f (λ h. replied (wanted h))) is)) step;
-    indexes = refl;
-    labels = refl;
-  }
+-- what is asked at a name, where this is found
+abbrev Here : Names → List ℕ → (Entry → Result Reply Fault) → Option Entry → Reply → Type 0
+Here documents doc wanted found reply = IsOutcome (outcome documents doc (of_document found (λ h. replied (wanted h)))) reply documents documents
 
-  -- what an open document answers
-  pub of_found : (h : Entry) (answer : Result Reply Fault) → get o.documents doc ≡ Some h → Gives (wanted h) answer → Answers o (asked_of doc ask) (reply_of answer) o
-  of_found h answer is gives = at_name (Some h) (reply_of answer) is (replied_outcome o.documents doc (wanted h) answer gives)
+module _ (es : Entries) (doc : List ℕ) where
+  found_as : (wanted : Entry → Result Reply Fault) (found : Option Entry) (reply : Reply) → get (names es) doc ≡ found
+      → Here (names es) doc wanted found reply → Here (names es) doc wanted (get (names es) doc) reply
+  found_as wanted found reply is here = subst (λ (f : Option Entry). Here (names es) doc wanted f reply) (sym is) here
+
+  -- this document answers
+  pub asked_there : (indexes : Files) (answer : Files → Entry → Result Reply Fault) (k : OpenDocument) (result : Result Reply Fault)
+      → AllOpened indexes es → Some k ≡ lookup (at_text doc) es → Gives (answer k.document.indexes (entry_of k)) result
+      → Here (names es) doc (answer indexes) (get (names es) doc) (reply_of result)
+  asked_there indexes answer k result all some gives =
+      found_as (answer indexes) (Some (entry_of k)) (reply_of result) (entry_some doc es k some)
+      (replied_outcome (names es) doc (answer indexes (entry_of k)) result
+      (subst (λ (files : Files). Gives (answer files (entry_of k)) result) (opened_found indexes doc es k all some) gives))
 
   -- no document has the name
-  pub of_none : get o.documents doc ≡ None → Answers o (asked_of doc ask) (Refused NoDocument) o
-  of_none is = at_name None (Refused NoDocument) is refl
+  pub asked_nowhere : (wanted : Entry → Result Reply Fault) → None ≡ lookup (at_text doc) es → Here (names es) doc wanted (get (names es) doc) (Refused NoDocument)
+  asked_nowhere wanted none = found_as wanted None (Refused NoDocument) (entry_none doc es none) refl
+
+-- the answer is the desk's
+pub asked_answers : (o : Office) (doc : List ℕ) (ask : Ask) (wanted : Entry → Result Reply Fault) (reply : Reply)
+    → ((found : Option Entry) → effect o.indexes o.labels (has_place o.documents) found ask ≡ of_document found (λ h. replied (wanted h)))
+    → Here o.documents doc wanted (get o.documents doc) reply → Answers o (asked_of doc ask) reply o
+asked_answers o doc ask wanted reply asks here = record {
+  step = subst (λ (e : Effect). IsOutcome (outcome o.documents doc e) reply o.documents o.documents) (sym (asks (get o.documents doc))) here;
+  indexes = refl;
+  labels = refl;
+}

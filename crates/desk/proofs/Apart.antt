@@ -74,8 +74,8 @@ replayed d o p (e ∷ es) follows none =
     subst (λ b. (if bytes_eq e.command.doc d then e.reply ∷ [] else []) ++ replies_of d es
     ≡ replay o.indexes o.labels (get o.documents d) ((if bytes_eq e.command.doc d then (e.command.ask, place_at b e.command.ask) ∷ [] else []) ++ asks_of d es)) (sym follows.1) this
 
-pub documents_are_apart : DocumentsAreApart
-documents_are_apart d o o2 p p2 es fs indexes labels held left right none_left none_right asks =
+pub law_documents_are_apart : DocumentsAreApart
+law_documents_are_apart d o o2 p p2 es fs indexes labels held left right none_left none_right asks =
     replayed d o o2 es left none_left
     ∙ ap (λ i. replay i o.labels (get o.documents d) (asks_of d es)) indexes
     ∙ ap (λ l. replay p.indexes l (get o.documents d) (asks_of d es)) labels

@@ -15,12 +15,13 @@ use Rattle.std.specs.Ordering.{nat_cmp}
 use Rattle.std.specs.String.{string_cmp}
 use Rattle.std.proofs.lemmas.Map.Steps.{set_value_same}
 use Rattle.index_loader.specs.Files.{Files}
+use Rattle.piece_rope.specs.Document.{Document}
 use Rattle.piece_rope.specs.Edits.{document_limit, splice_fault, spliced}
 use Rattle.desk.specs.Changes.{is_accepted, changes}
 use Rattle.desk.specs.Commands.{Ask}
 use Rattle.desk.specs.Desk.{IsOutcome, outcome}
-use Rattle.desk.specs.Documents.{Entry, max_revision, reply_of}
-use Rattle.desk.specs.Edits.{Splice, left_by, at_revision, put_splice, edited, Makes}
+use Rattle.desk.specs.Documents.{Entry, document_of, max_revision, reply_of}
+use Rattle.desk.specs.Edits.{Applied, at_revision, put_applied, edited, Makes}
 use Rattle.desk.specs.Effects.{Effect, Puts, of_document}
 use Rattle.desk.specs.Lives.{is_edit, named_by, edited_by}
 use Rattle.desk.specs.OpenDocuments.{AllOpened, entry_of, names}
@@ -109,36 +110,41 @@ never-memory : (reply : Reply) → changes reply ≡ true → reply ≢ Refused 
 never-memory reply e is = let never : false ≡ true = ap changes (sym is) ∙ e in cc
 
 -- an edit of an entry, whose accepted reply reports a change
-module _ (h : Entry) (rev : ℕ) (reply : Splice → Entry → Reply) (reports : (s : Splice) (k : Entry) → changes (reply s k) ≡ true) where
-  keeps-put : (r : Result Splice Fault) → Keeps (put_splice h reply r)
-  keeps-put (Ok s) = λ e. let never : true ≡ false = sym (reports s (left_by h s)) ∙ e in cc
+module _ {A : Type 0} (indexes : Files) (h : Entry) (rev : ℕ) (reply : A → Document → ℕ → Reply) (reports : (x : A) (d : Document) (r : ℕ) → changes (reply x d r) ≡ true)
+    (apply : Document → Result (Applied A) Fault) where
+  keeps-put : (r : Result (Applied A) Fault) → Keeps (put_applied h reply r)
+  keeps-put (Ok x) = λ e. let never : true ≡ false = sym (reports x.done x.document (h.revision + 1)) ∙ e in cc
   keeps-put (Err f) = λ e. refl
 
-  pub keeps-edited : (wanted : Result Splice Fault) → Keeps (edited h rev reply wanted)
-  keeps-edited wanted = keeps-put (at_revision h rev wanted)
+  pub keeps-edited : Keeps (edited indexes rev apply reply h)
+  keeps-edited = keeps-put (at_revision h rev (apply (document_of indexes h)))
 
-  abbrev Possible : Result Splice Fault → Type 0
-  Possible r = Decided (λ s. Unit {0}) r
+  abbrev Possible : Result (Applied A) Fault → Type 0
+  Possible r = Decided (λ x. Unit {0}) r
 
-  answered-put : (r : Result Splice Fault) → Possible r → Answered (put_splice h reply r)
-  answered-put (Ok s) p = never-memory (reply s (left_by h s)) (reports s (left_by h s))
+  answered-put : (r : Result (Applied A) Fault) → Possible r → Answered (put_applied h reply r)
+  answered-put (Ok x) p = never-memory (reply x.done x.document (h.revision + 1)) (reports x.done x.document (h.revision + 1))
   answered-put (Err OutOfMemory) p = absurd p
   answered-put (Err f) p = λ e. cc
 
-  pub answered-edited : (wanted : Result Splice Fault) → Possible wanted → Answered (edited h rev reply wanted)
-  answered-edited wanted p =
-      answered-put (at_revision h rev wanted) (decided-if (λ s. Unit {0}) (rev == h.revision) _ _ (decided-if (λ s. Unit {0}) (nat_lt h.revision max_revision) _ _ p tt) tt)
+  pub answered-edited : Possible (apply (document_of indexes h)) → Answered (edited indexes rev apply reply h)
+  answered-edited p =
+      answered-put (at_revision h rev (apply (document_of indexes h)))
+      (decided-if (λ x. Unit {0}) (rev == h.revision) _ _ (decided-if (λ x. Unit {0}) (nat_lt h.revision max_revision) _ _ p tt) tt)
 
   -- it is one more of the edits in the document's life
-  module _ (indexes : Files) (ask : Ask) (asks : is_edit ask ≡ true) (named : named_by ask ≡ Some rev) (wanted : Result Splice Fault)
-      (leaves : (s : Splice) → wanted ≡ Ok s → edited_by indexes h.setting h.bytes ask ≡ spliced h.bytes s.at s.del s.ins) where
-    continues-put : (r : Result Splice Fault) → at_revision h rev wanted ≡ r → ContinuesBy indexes h ask (put_splice h reply r)
-    continues-put (Ok s) e =
-        let ok = at_revision-ok h rev wanted s e in (
-          ap (λ b. b && is_accepted (reply s (left_by h s))) asks ∙ accepts (reply s (left_by h s)) (reports s (left_by h s)),
-          record { setting = refl; revision = omega arith; named = (named ∙ ap Some ok.0, tt); bytes = sym (leaves s ok.1) },
+  module _ (ask : Ask) (asks : is_edit ask ≡ true) (named : named_by ask ≡ Some rev)
+      (leaves : (x : Applied A) → apply (document_of indexes h) ≡ Ok x → (x.document.setting ≡ h.setting) × (edited_by indexes h.setting h.bytes ask ≡ x.document.bytes)) where
+    continues-put : (r : Result (Applied A) Fault) → at_revision h rev (apply (document_of indexes h)) ≡ r → ContinuesBy indexes h ask (put_applied h reply r)
+    continues-put (Ok x) e =
+        let ok = at_revision-ok h rev (apply (document_of indexes h)) x e in
+        let left = leaves x ok.1 in
+        let answer = reply x.done x.document (h.revision + 1) in
+        let report = reports x.done x.document (h.revision + 1) in (
+          ap (λ b. b && is_accepted answer) asks ∙ accepts answer report,
+          record { setting = left.0; revision = omega arith; named = (named ∙ ap Some ok.0, tt); bytes = sym left.1 },
         )
     continues-put (Err f) e = continues-refused indexes h ask f
 
-    pub continues-edited : ContinuesBy indexes h ask (edited h rev reply wanted)
-    continues-edited = continues-put (at_revision h rev wanted) refl
+    pub continues-edited : ContinuesBy indexes h ask (edited indexes rev apply reply h)
+    continues-edited = continues-put (at_revision h rev (apply (document_of indexes h))) refl

@@ -8,7 +8,7 @@ use Rattle.std.specs.FinMap.{get}
 use Rattle.std.specs.Str.{chars}
 use Rattle.index_loader.specs.Files.{Files}
 use Rattle.piece_rope.specs.declared.fault.DocFault.{DocFault}
-use Rattle.piece_rope.specs.Document.{text_of}
+use Rattle.piece_rope.specs.Document.{Document, text_of}
 use Rattle.piece_rope.specs.Edits.{first_of, is_kept, kept_fault, replaced, spliced_document}
 use Rattle.position_map.specs.declared.plan.Plan.{Plan}
 use Rattle.position_map.specs.declared.position.Range.{Range}
@@ -16,16 +16,16 @@ use Rattle.position_map.specs.declared.unit.Unit.{Unit as TextUnit}
 use Rattle.desk.specs.Changes.{is_accepted}
 use Rattle.desk.specs.Commands.{asked_of, ChangesText}
 use Rattle.desk.specs.Documents.{Entry, document_of}
-use Rattle.desk.specs.Edits.{Splice, left_by, at_revision, put_splice}
+use Rattle.desk.specs.Edits.{Applied, at_revision, raised, put_applied}
 use Rattle.desk.specs.Effects.{Move, of_document}
 use Rattle.desk.specs.KeptText.{ChangesKeepText}
-use Rattle.desk.specs.Replacing.{splice_of, unless_kept, plan_fault, changed, change_reply, change_effect}
+use Rattle.desk.specs.Change.{unless_kept, plan_fault, made, changed, change_reply, change_effect}
 use Rattle.desk.specs.declared.fault.Fault.{Fault}
 use Rattle.desk.proofs.Apart.{same_bytes}
 use Rattle.desk.proofs.Begins.{held_here, accepted_here}
 use Rattle.desk.proofs.Edits.{at_revision-ok}
 use Rattle.desk.proofs.Moves.{held_after}
-use Rattle.desk.proofs.Replacing.{Made, changed-ok}
+use Rattle.desk.proofs.Change.{IsMade, changed-ok}
 
 -- no fault stands, and so the text is kept
 kept-ok : (fault : Option DocFault) (b : Bool) → first_of fault (unless_kept b) ≡ None → b ≡ true
@@ -33,29 +33,28 @@ kept-ok None true e = refl
 kept-ok None false e = cc
 kept-ok (Some f) b e = cc
 
-text-kept : (indexes : Files) (h : Entry) (text : List ℕ) (plan : Plan) → plan_fault indexes h text plan ≡ None
-    → text_of (document_of indexes (left_by h (splice_of plan))) ≡ replaced (text_of (document_of indexes h)) plan.i plan.j text
-text-kept indexes h text plan e =
-    let d = document_of indexes h in
+text-kept : (d : Document) (text : List ℕ) (plan : Plan) → plan_fault d text plan ≡ None
+    → text_of (made d plan).document ≡ replaced (text_of d) plan.i plan.j text
+text-kept d text plan e =
     same_bytes (text_of (spliced_document d plan.at plan.del plan.ins)) (replaced (text_of d) plan.i plan.j text)
     (kept-ok (kept_fault d plan.at plan.del plan.ins plan.i plan.j) (is_kept d plan.at plan.del plan.ins plan.i plan.j text) e)
 
 -- an accepted change, as it is decided
 record Decided (indexes : Files) (found : Option Entry) (unit : TextUnit) (range : Option Range) (text : List ℕ) (move : Move) : Type 0 where
   before : Entry
-  splice : Splice
+  applied : Applied Plan
   is_found : found ≡ Some before
-  made : Made indexes before unit range text splice
-  held : held_after found move ≡ Some (left_by before splice)
+  is_made : IsMade (document_of indexes before) unit range text applied
+  held : held_after found move ≡ Some (raised before applied.document)
 
-decided-put : (indexes : Files) (h : Entry) (rev : ℕ) (unit : TextUnit) (range : Option Range) (text : List ℕ) (r : Result Splice Fault)
-    → at_revision h rev (changed indexes h unit range text) ≡ r → is_accepted (put_splice h (change_reply indexes) r).reply ≡ true
-    → Decided indexes (Some h) unit range text (put_splice h (change_reply indexes) r).move
-decided-put indexes h rev unit range text (Ok s) e is = record {
+decided-put : (indexes : Files) (h : Entry) (rev : ℕ) (unit : TextUnit) (range : Option Range) (text : List ℕ) (r : Result (Applied Plan) Fault)
+    → at_revision h rev (changed unit range text (document_of indexes h)) ≡ r → is_accepted (put_applied h change_reply r).reply ≡ true
+    → Decided indexes (Some h) unit range text (put_applied h change_reply r).move
+decided-put indexes h rev unit range text (Ok x) e is = record {
   before = h;
-  splice = s;
+  applied = x;
   is_found = refl;
-  made = changed-ok indexes h unit range text s (at_revision-ok h rev _ s e).1;
+  is_made = changed-ok (document_of indexes h) unit range text x (at_revision-ok h rev _ x e).1;
   held = refl;
 }
 decided-put indexes h rev unit range text (Err f) e is = cc
@@ -65,16 +64,18 @@ decided-by : (indexes : Files) (found : Option Entry) (rev : ℕ) (unit : TextUn
 decided-by indexes None rev unit range text = λ is. cc
 decided-by indexes (Some h) rev unit range text = decided-put indexes h rev unit range text _ refl
 
-pub changes_keep_text : ChangesKeepText
-changes_keep_text o p doc rev unit range text reply answers e =
+pub law_changes_keep_text : ChangesKeepText
+law_changes_keep_text o p doc rev unit range text reply answers e =
     let c = asked_of doc (ChangesText rev unit range text) in
-    let by = decided-by o.indexes (get o.documents doc) rev unit range text (accepted_here o p c reply answers e) in record {
+    let by = decided-by o.indexes (get o.documents doc) rev unit range text (accepted_here o p c reply answers e) in
+    let d = document_of o.indexes by.before in
+    let plan = by.applied.done in record {
       before = by.before;
-      plan = by.made.plan;
-      after = left_by by.before (splice_of by.made.plan);
+      plan = plan;
+      after = raised by.before (made d plan).document;
       found = by.is_found;
-      is_plan = by.made.is_plan;
-      held = held_here o p c reply answers e ∙ by.held ∙ ap (λ s. Some (left_by by.before s)) (sym by.made.same);
+      is_plan = by.is_made.is_plan;
+      held = held_here o p c reply answers e ∙ by.held ∙ ap (λ (x : Applied Plan). Some (raised by.before x.document)) (sym by.is_made.left);
       leaves = refl;
-      kept = text-kept o.indexes by.before (chars text) by.made.plan by.made.faultless;
+      kept = text-kept d (chars text) plan by.is_made.faultless;
     }

@@ -3,7 +3,6 @@ use Rattle.std.proofs.Common.{◌≡◌, ℕ, ◌+◌, Bool, true, false, cond, 
 use Rattle.std.specs.declared.alloc.Global.{Global}
 use Rattle.std.specs.declared.option.Option.{Option}
 use Rattle.std.specs.declared.option.Option.TheVariants.{None, Some}
-use denote.Ref.{Bor}
 use Rattle.std.specs.Option.{option_map, is_some, IfSome}
 use Rattle.std.specs.BTreeMap as tree
 use Rattle.std.specs.BTreeMap.{BTreeMap, is_at}
@@ -107,15 +106,6 @@ entry_none bs es none = get_named bs es ∙ ap (option_map entry_of) (sym none)
 
 pub entry_some : (bs : List ℕ) (es : Entries) (k : OpenDocument) → Some k ≡ lookup (at_text bs) es → finite.get (names es) bs ≡ Some (entry_of k)
 entry_some bs es k some = get_named bs es ∙ ap (option_map entry_of) (sym some)
-
-shown : (o : Option (Bor OpenDocument)) → option_map (λ k. entry_of k.now) o ≡ option_map entry_of (option_map (λ k. k.now) o)
-shown None = refl
-shown (Some k) = refl
-
--- what a look-up lends is what is held
-pub entry_lent : (bs : List ℕ) (es : Entries) (o : Option (Bor OpenDocument)) → option_map (λ k. k.now) o ≡ lookup (at_text bs) es
-    → option_map (λ k. entry_of k.now) o ≡ finite.get (names es) bs
-entry_lent bs es o e = shown o ∙ ap (option_map entry_of) e ∙ sym (get_named bs es)
 
 -- what is found was opened with the same index files
 pub opened_found : (indexes : Files) (bs : List ℕ) (es : Entries) (k : OpenDocument) → AllOpened indexes es → Some k ≡ lookup (at_text bs) es

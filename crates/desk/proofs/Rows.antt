@@ -15,38 +15,38 @@ use Rattle.desk.proofs.Close as close
 use Rattle.desk.proofs.Encode as encode
 use Rattle.desk.proofs.Errors as errors
 use Rattle.desk.proofs.Lines as lines
-use Rattle.desk.proofs.Offsets as offsets
+use Rattle.desk.proofs.Offset as offset
 use Rattle.desk.proofs.Open as open_
-use Rattle.desk.proofs.Places as places
-use Rattle.desk.proofs.Positions as positions
-use Rattle.desk.proofs.Replacing as replacing
+use Rattle.desk.proofs.Place as place
+use Rattle.desk.proofs.Position as position
+use Rattle.desk.proofs.Change as change
 use Rattle.desk.proofs.Source as source
 use Rattle.desk.proofs.Splice as splice
-use Rattle.desk.proofs.Lengths as lengths
+use Rattle.desk.proofs.Stat as stat
 use Rattle.desk.proofs.Text as text
 
 pub row : (indexes : Files) (labels : LabelTable) (ask : Ask) → IsRow indexes labels ask
 row indexes labels (Opens label bytes) = open_.row indexes labels label bytes
 row indexes labels Closes = close.row indexes labels
 row indexes labels (Splices rev at del bytes) = splice.row indexes labels rev at del bytes
-row indexes labels (ChangesText rev unit range text) = replacing.row indexes labels rev unit range text
+row indexes labels (ChangesText rev unit range text) = change.row indexes labels rev unit range text
 row indexes labels (Reads from to mode) = text.row indexes labels from to mode
 row indexes labels (ReadsBytes at len) = source.row indexes labels at len
 row indexes labels (Encodes from to label mode) = encode.row indexes labels from to label mode
 row indexes labels (ListsErrors from max) = errors.row indexes labels from max
 row indexes labels (ListsLines from max) = lines.row indexes labels from max
-row indexes labels (FindsPosition offset unit) = positions.row indexes labels offset unit
-row indexes labels (FindsOffset line character unit) = offsets.row indexes labels line character unit
-row indexes labels (FindsPlace unit value) = places.row indexes labels unit value
-row indexes labels Measures = lengths.row indexes labels
+row indexes labels (FindsPosition offset unit) = position.row indexes labels offset unit
+row indexes labels (FindsOffset line character unit) = offset.row indexes labels line character unit
+row indexes labels (FindsPlace unit value) = place.row indexes labels unit value
+row indexes labels Measures = stat.row indexes labels
 
 -- ---- what changes nothing
 
 pub only_changes_change : OnlyChangesChange
 only_changes_change o c e = ap (moved o.documents c.doc) ((row o.indexes o.labels c.ask).keeps (has_place o.documents) (get o.documents c.doc) e)
 
-pub refusals_change_nothing : RefusalsChangeNothing
-refusals_change_nothing o c fault e = only_changes_change o c (ap changes e)
+pub law_refusals_change_nothing : RefusalsChangeNothing
+law_refusals_change_nothing o c fault e = only_changes_change o c (ap changes e)
 
 pub memory_is_never_wanted : MemoryIsNeverWanted
 memory_is_never_wanted o c = (row o.indexes o.labels c.ask).answered (has_place o.documents) (get o.documents c.doc)

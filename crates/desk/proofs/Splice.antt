@@ -1,5 +1,5 @@
 -- The row of the op `splice`.
-use Rattle.std.proofs.Common.{◌≡◌, ℕ, List, refl, ap, ◌∙◌, subst}
+use Rattle.std.proofs.Common.{◌≡◌, ℕ, List, refl, sym, ap, ◌∙◌, subst}
 use Rattle.std.specs.declared.option.Option.{Option}
 use Rattle.std.specs.declared.option.Option.TheVariants.{None, Some}
 use Rattle.std.specs.declared.result.Result.TheVariants.{Ok}
@@ -7,15 +7,16 @@ use Rattle.std.specs.FinMap as finite
 use Rattle.enc_names.specs.Labels.{LabelTable}
 use Rattle.index_loader.specs.Files.{Files}
 use Rattle.piece_rope.specs.declared.fault.DocFault.{DocFault}
-use Rattle.piece_rope.specs.Edits.{splice_fault, spliced}
+use Rattle.piece_rope.specs.Document.{Document}
+use Rattle.piece_rope.specs.Edits.{splice_fault}
 use Rattle.desk.specs.Commands.{asked_of, Splices}
 use Rattle.desk.specs.Desk.{Office, Answers, IsOutcome, outcome}
-use Rattle.desk.specs.Documents.{Entry, edit_reply, unless}
+use Rattle.desk.specs.Documents.{Entry, document_of, unless}
 use Rattle.desk.specs.Shelf.{Shelf}
-use Rattle.desk.specs.Edits.{Splice}
+use Rattle.desk.specs.Edits.{Applied}
 use Rattle.desk.specs.Effects.{base64_bytes, with_bytes, of_document}
-use Rattle.desk.specs.Lives.{with_spliced}
-use Rattle.desk.specs.Splice.{splice_effect}
+use Rattle.desk.specs.Lives.{edited_by, with_spliced}
+use Rattle.desk.specs.Splice.{spliced, splice_reply, splice_effect}
 use Rattle.desk.specs.declared.reply.Reply.{Reply}
 use Rattle.desk.proofs.Edits.{caused-splice, keeps-edited, answered-edited, continues-edited}
 use Rattle.desk.proofs.Row.{IsRow, ContinuesBy, decided-unless, keeps-with_bytes, keeps-of_document, answered-with_bytes, answered-of_document}
@@ -35,24 +36,31 @@ spliced_answers o after doc rev at del text ins lent reply read same step indexe
 
 -- ---- the row
 
-unless-ok : (fault : Option DocFault) (x s : Splice) → unless fault x ≡ Ok s → x ≡ s
-unless-ok None x s e = let same = e in cc
-unless-ok (Some f) x s e = cc
+-- what an accepted splice leaves
+left : (fault : Option DocFault) (x k : Applied (Unit {0})) → unless fault x ≡ Ok k → x.document ≡ k.document
+left None x k e = let same : x ≡ k = cc in ap (λ (y : Applied (Unit {0})). y.document) same
+left (Some f) x k e = cc
 
 module _ (indexes : Files) (labels : LabelTable) (rev at del : ℕ) (text : List ℕ) where
+  leaves : (h : Entry) (ins : List ℕ) → base64_bytes text ≡ Some ins → (x : Applied (Unit {0})) → spliced at del ins (document_of indexes h) ≡ Ok x
+      → (x.document.setting ≡ h.setting) × (edited_by indexes h.setting h.bytes (Splices rev at del text) ≡ x.document.bytes)
+  leaves h ins e x ok =
+      let is = left (splice_fault h.bytes at del ins) _ x ok in
+      (ap (λ (d : Document). d.setting) (sym is), ap (with_spliced h.bytes at del) e ∙ ap (λ (d : Document). d.bytes) is)
+
   continues : (h : Entry) (bytes : Option (List ℕ)) → base64_bytes text ≡ bytes
       → ContinuesBy indexes h (Splices rev at del text) (with_bytes bytes (λ ins. splice_effect indexes rev at del ins h))
   continues h None e = refl
   continues h (Some ins) e =
-      continues-edited h rev (λ s. edit_reply indexes) (λ s k. refl) indexes (Splices rev at del text) refl refl _
-      (λ s ok. ap (with_spliced h.bytes at del) e
-      ∙ ap (λ (x : Splice). spliced h.bytes x.at x.del x.ins) (unless-ok (splice_fault h.bytes at del ins) _ s ok))
+      continues-edited indexes h rev splice_reply (λ x d r. refl) (spliced at del ins) (Splices rev at del text) refl refl (leaves h ins e)
 
   pub row : IsRow indexes labels (Splices rev at del text)
   row = record {
-    keeps = λ place found. keeps-with_bytes (base64_bytes text) _ (λ ins. keeps-of_document found _ (λ h. keeps-edited h rev (λ s. edit_reply indexes) (λ s k. refl) _));
+    keeps = λ place found. keeps-with_bytes (base64_bytes text) _ (λ ins. keeps-of_document found _ (λ h.
+        keeps-edited indexes h rev splice_reply (λ x d r. refl) (spliced at del ins)));
     answered = λ place found. answered-with_bytes (base64_bytes text) _ (λ ins. answered-of_document found _ (λ h.
-        answered-edited h rev (λ s. edit_reply indexes) (λ s k. refl) _ (decided-unless (λ s. Unit {0}) (splice_fault h.bytes at del ins) _ (caused-splice h.bytes at del ins) tt)));
+        answered-edited indexes h rev splice_reply (λ x d r. refl) (spliced at del ins)
+        (decided-unless (λ x. Unit {0}) (splice_fault h.bytes at del ins) _ (caused-splice h.bytes at del ins) tt)));
     continues = λ place h. continues h (base64_bytes text) refl;
     placed = λ o found. refl;
   }

@@ -44,16 +44,16 @@ abbrev pub asked_of : List ℕ → Ask → Asked
 asked_of doc ask = record { doc = doc; ask = ask }
 
 abbrev pub asked : Command → Asked
-asked (Open doc label bytes) = asked_of doc.now (Opens label.now bytes.now)
-asked (Close doc) = asked_of doc.now Closes
-asked (Splice doc rev at del bytes) = asked_of doc.now (Splices rev at del bytes.now)
-asked (Change doc rev unit range text) = asked_of doc.now (ChangesText rev unit range text.now)
-asked (Text doc from to mode) = asked_of doc.now (Reads from to mode)
-asked (Source doc at len) = asked_of doc.now (ReadsBytes at len)
-asked (Encode doc from to label mode) = asked_of doc.now (Encodes from to label.now mode)
-asked (Errors doc from max) = asked_of doc.now (ListsErrors from max)
-asked (Lines doc from max) = asked_of doc.now (ListsLines from max)
-asked (Position doc offset unit) = asked_of doc.now (FindsPosition offset unit)
-asked (Offset doc line character unit) = asked_of doc.now (FindsOffset line character unit)
-asked (Place doc unit value) = asked_of doc.now (FindsPlace unit value)
-asked (Stat doc) = asked_of doc.now Measures
+asked (Open c) = asked_of c.doc.now (Opens c.label.now c.bytes.now)
+asked (Close c) = asked_of c.doc.now Closes
+asked (Splice c) = asked_of c.doc.now (Splices c.rev c.at c.del c.bytes.now)
+asked (Change c) = asked_of c.doc.now (ChangesText c.rev c.unit c.range c.text.now)
+asked (Text c) = asked_of c.doc.now (Reads c.from c.to c.mode)
+asked (Source c) = asked_of c.doc.now (ReadsBytes c.at c.len)
+asked (Encode c) = asked_of c.doc.now (Encodes c.from c.to c.label.now c.mode)
+asked (Errors c) = asked_of c.doc.now (ListsErrors c.from c.max)
+asked (Lines c) = asked_of c.doc.now (ListsLines c.from c.max)
+asked (Position c) = asked_of c.doc.now (FindsPosition c.offset c.unit)
+asked (Offset c) = asked_of c.doc.now (FindsOffset c.line c.character c.unit)
+asked (Place c) = asked_of c.doc.now (FindsPlace c.unit c.value)
+asked (Stat c) = asked_of c.doc.now Measures

@@ -10,16 +10,16 @@ use Rattle.desk.specs.Effects.{Move, Stays, Puts, Goes, Effect, replied, of_docu
 use Rattle.desk.specs.Open.{opened, adopted}
 use Rattle.desk.specs.Close.{closed}
 use Rattle.desk.specs.Splice.{splice_effect}
-use Rattle.desk.specs.Replacing.{change_effect}
+use Rattle.desk.specs.Change.{change_effect}
 use Rattle.desk.specs.Text.{text_reply}
 use Rattle.desk.specs.Source.{source_reply}
 use Rattle.desk.specs.Encode.{encode_reply_as}
 use Rattle.desk.specs.Errors.{errors_reply}
 use Rattle.desk.specs.Lines.{lines_reply}
-use Rattle.desk.specs.Positions.{position_reply}
-use Rattle.desk.specs.Offsets.{offset_reply}
-use Rattle.desk.specs.Places.{place_reply}
-use Rattle.desk.specs.Lengths.{stat_reply}
+use Rattle.desk.specs.Position.{position_reply}
+use Rattle.desk.specs.Offset.{offset_reply}
+use Rattle.desk.specs.Place.{place_reply}
+use Rattle.desk.specs.Stat.{stat_reply}
 use Rattle.desk.specs.declared.fault.Fault.{Fault}
 use Rattle.desk.specs.declared.fault.Fault.TheVariants.{OutOfMemory}
 use Rattle.desk.specs.declared.reply.Reply.{Reply}

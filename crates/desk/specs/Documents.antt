@@ -63,11 +63,13 @@ abbrev pub unless_position_fault : {A : Type 0} → (A → Reply) → Result A P
 unless_position_fault reply (Ok x) = Ok (reply x)
 unless_position_fault reply (Err fault) = Err (position_fault fault)
 
--- the reply to an open or an edit that left this entry
+-- the reply to an open or a splice that left this document, at this revision
+abbrev pub edited_reply : Document → ℕ → Reply
+edited_reply d rev = Edited (decoded d).bom (decoded d).encoding rev
+
+-- the reply to an open that left this entry
 abbrev pub edit_reply : Files → Entry → Reply
-edit_reply indexes h =
-    let d = decoded (document_of indexes h) in
-    Edited d.bom d.encoding h.revision
+edit_reply indexes h = edited_reply (document_of indexes h) h.revision
 
 -- ---- what the code answers
 

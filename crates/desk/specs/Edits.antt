@@ -1,21 +1,17 @@
--- What the edits of a document have in common: each names the revision now, and puts bytes in the place of bytes.
-use Rattle.std.specs.Prelude.{◌≡◌, ℕ, ◌+◌, ◌==◌, nat_lt, List, if◌then◌else◌, Result, Ok, Err}
-use Rattle.piece_rope.specs.Edits.{spliced}
-use Rattle.desk.specs.Documents.{Entry, entry, max_revision}
+-- What the edits of a document have in common: what each does to a document without a name, and under which revision it does so.
+use Rattle.std.specs.Prelude.{◌≡◌, ℕ, ◌+◌, ◌==◌, nat_lt, if◌then◌else◌, Result, Ok, Err}
+use Rattle.index_loader.specs.Files.{Files}
+use Rattle.piece_rope.specs.Document.{Document}
+use Rattle.desk.specs.Documents.{Entry, entry, document_of, max_revision}
 use Rattle.desk.specs.Effects.{Effect, Puts, refused}
 use Rattle.desk.specs.declared.fault.Fault.{Fault}
 use Rattle.desk.specs.declared.fault.Fault.TheVariants.{Stale, RevisionsSpent, OutOfMemory}
 use Rattle.desk.specs.declared.reply.Reply.{Reply}
 
--- bytes in place of `del` bytes from `at` on
-pub record Splice : Type 0 where
-  pub at : ℕ
-  pub del : ℕ
-  pub ins : List ℕ
-
--- what a splice leaves: its bytes, at the next revision
-abbrev pub left_by : Entry → Splice → Entry
-left_by h s = entry h.setting (spliced h.bytes s.at s.del s.ins) (h.revision + 1)
+-- the document that an edit leaves, and what the edit did
+pub record Applied (A : Type 0) : Type 0 where
+  pub document : Document
+  pub done : A
 
 -- an edit names the revision now, and the revision can be raised
 abbrev pub at_revision : {A : Type 0} → Entry → ℕ → Result A Fault → Result A Fault
@@ -24,16 +20,26 @@ at_revision h rev answer =
     then (if nat_lt h.revision max_revision then answer else Err RevisionsSpent)
     else Err (Stale h.revision)
 
--- what the splice leaves is put, with the reply to it, or the edit is refused
-abbrev pub put_splice : Entry → (Splice → Entry → Reply) → Result Splice Fault → Effect
-put_splice h reply (Ok s) = record { reply = reply s (left_by h s); move = Puts (left_by h s) }
-put_splice h reply (Err fault) = refused fault
+-- the document that an edit left, at the next revision
+abbrev pub raised : Entry → Document → Entry
+raised h d = entry d.setting d.bytes (h.revision + 1)
 
--- an edit that comes to this splice, or is refused
-abbrev pub edited : Entry → ℕ → (Splice → Entry → Reply) → Result Splice Fault → Effect
-edited h rev reply wanted = put_splice h reply (at_revision h rev wanted)
+-- it is put, with the reply to the edit, or the edit is refused
+abbrev pub put_applied : {A : Type 0} → Entry → (A → Document → ℕ → Reply) → Result (Applied A) Fault → Effect
+put_applied h reply (Ok x) = record { reply = reply x.done x.document (h.revision + 1); move = Puts (raised h x.document) }
+put_applied h reply (Err fault) = refused fault
+
+-- an edit that names this revision, by what it does to a document
+abbrev pub edited : {A : Type 0} → Files → ℕ → (Document → Result (Applied A) Fault) → (A → Document → ℕ → Reply) → Entry → Effect
+edited indexes rev apply reply h = put_applied h reply (at_revision h rev (apply (document_of indexes h)))
 
 -- ---- what the code answers
+
+-- The edit left this document and did this, or is refused; or memory ran out.
+abbrev pub Applies : {A : Type 0} → Result (Applied A) Fault → Result A Fault → Document → Type 0
+Applies applied (Ok done) d = applied ≡ Ok (record { document = d; done = done })
+Applies applied (Err OutOfMemory) d = Unit {0}
+Applies applied (Err fault) d = applied ≡ Err fault
 
 -- The effect is this entry with the reply, or a refusal; or memory ran out.
 abbrev pub Makes : Effect → Result Reply Fault → Entry → Type 0

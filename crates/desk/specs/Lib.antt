@@ -1,4 +1,5 @@
 pub mod Apart
+pub mod Change
 pub mod Changes
 pub mod Close
 pub mod Codes
@@ -10,16 +11,15 @@ pub mod Effects
 pub mod Encode
 pub mod Errors
 pub mod KeptText
-pub mod Lengths
 pub mod Lines
 pub mod Lives
-pub mod Offsets
+pub mod Offset
 pub mod Open
 pub mod OpenDocuments
-pub mod Places
-pub mod Positions
-pub mod Replacing
+pub mod Place
+pub mod Position
 pub mod Shelf
 pub mod Source
 pub mod Splice
+pub mod Stat
 pub mod Text

@@ -1,12 +1,20 @@
 -- Splicing a document.
-use Rattle.std.specs.Prelude.{ℕ, List}
+use Rattle.std.specs.Prelude.{ℕ, List, Result}
 use Rattle.index_loader.specs.Files.{Files}
-use Rattle.piece_rope.specs.Edits.{splice_fault}
-use Rattle.desk.specs.Documents.{Entry, edit_reply, unless}
-use Rattle.desk.specs.Edits.{edited}
+use Rattle.piece_rope.specs.Document.{Document}
+use Rattle.piece_rope.specs.Edits.{splice_fault, spliced_document}
+use Rattle.desk.specs.Documents.{Entry, edited_reply, unless}
+use Rattle.desk.specs.Edits.{Applied, edited}
 use Rattle.desk.specs.Effects.{Effect}
+use Rattle.desk.specs.declared.fault.Fault.{Fault}
+use Rattle.desk.specs.declared.reply.Reply.{Reply}
 
--- the bytes given, unless what they replace isn't there or the document would be too large
+-- the bytes given in the place of `del` bytes from `at` on, unless what they replace isn't there or the document would be too large
+abbrev pub spliced : ℕ → ℕ → List ℕ → Document → Result (Applied (Unit {0})) Fault
+spliced at del ins d = unless (splice_fault d.bytes at del ins) (record { document = spliced_document d at del ins; done = tt })
+
+abbrev pub splice_reply : Unit {0} → Document → ℕ → Reply
+splice_reply done d rev = edited_reply d rev
+
 abbrev pub splice_effect : Files → ℕ → ℕ → ℕ → List ℕ → Entry → Effect
-splice_effect indexes rev at del ins h =
-    edited h rev (λ s. edit_reply indexes) (unless (splice_fault h.bytes at del ins) (record { at = at; del = del; ins = ins }))
+splice_effect indexes rev at del ins = edited indexes rev (spliced at del ins) splice_reply

@@ -1,7 +1,7 @@
 //! Refusals whose cause a layer below reports.
 ghost use Rattle.std.specs.Prelude.{◌≡◌};
 ghost use Rattle.desk.specs.Documents.{fault_of, position_fault};
-ghost use Rattle.desk.specs.Replacing.{change_fault};
+ghost use Rattle.desk.specs.Change.{change_fault};
 ghost use Rattle.desk.specs.declared.fault.Fault.TheVariants.{OutOfMemory};
 
 use crate::fault::Fault;

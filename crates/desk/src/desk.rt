@@ -3,43 +3,29 @@ ghost use Rattle.std.specs.Prelude.{◌≡◌, ◌≤◌, false, length, Ok};
 ghost use Rattle.std.specs.FinMap as map;
 ghost use Rattle.enc_names.specs.Settings.{setting_of};
 ghost use Rattle.desk.specs.Changes.{changes};
-ghost use Rattle.desk.specs.Commands.{asked};
+ghost use Rattle.desk.specs.Commands.{asked, asked_of};
 ghost use Rattle.desk.specs.Desk.{Answers, Adopts};
 ghost use Rattle.desk.specs.Documents.{max_revision, reply_of};
 
 use crate::command::Command;
 use crate::documents::Documents;
 use crate::fault::Fault;
+use crate::question::Question;
 use crate::reply::Reply;
 use decoder_core::OutOfMemory;
 use enc_names::{Encoding, Labels, Setting};
 use index_loader::Indexes;
-use position_map::Position;
 use std::alloc::Global;
 use std::marker::Model;
-
-mod change;
-mod close;
-mod encode;
-mod errors;
-mod lines;
-mod offset;
-mod open;
-mod place;
-mod position;
-mod source;
-mod splice;
-mod stat;
-mod text;
 
 /// Named documents, beside the labels and the index files by which they are opened. Contracts
 /// see a finite map from names to the setting, the bytes and the revision, beside labels and index
 /// files.
 #[derive(Drop)]
 pub struct Desk<'i> {
-    labels: Labels,
-    documents: Documents<'i>,
-    alloc: Global,
+    pub(crate) labels: Labels,
+    pub(crate) documents: Documents<'i>,
+    pub(crate) alloc: Global,
 }
 
 impl<'i> Model for Desk<'i> {
@@ -83,7 +69,7 @@ impl<'i> Desk<'i> {
         requires revision { revision ≤ max_revision }
         ensures { Adopts self.old name.now (setting_of given) bytes.now revision result self.new }
     {
-        if self.documents.get(name).is_some() {
+        if self.documents.has(name) {
             return Err(Fault::NameTaken);
         }
         self.documents
@@ -106,48 +92,27 @@ impl<'i> Desk<'i> {
     fn decide(&mut self, command: &Command<'_>) -> Result<Reply, Fault>
         ensures { Answers self.old (asked command.now) (reply_of result) self.new }
     {
-        match *command {
-            Command::Open { doc, label, bytes } => self.open(doc, label, bytes),
-            Command::Close { doc } => self.close(doc),
-            Command::Splice {
-                doc,
-                rev,
-                at,
-                del,
-                bytes,
-            } => self.splice(doc, rev, at, del, bytes),
-            Command::Change {
-                doc,
-                rev,
-                unit,
-                range,
-                text,
-            } => self.change(doc, rev, unit, range, text),
-            Command::Text {
-                doc,
-                from,
-                to,
-                mode,
-            } => self.text(doc, from, to, mode),
-            Command::Source { doc, at, len } => self.source(doc, at, len),
-            Command::Encode {
-                doc,
-                from,
-                to,
-                label,
-                mode,
-            } => self.encode(doc, from, to, label, mode),
-            Command::Errors { doc, from, max } => self.errors(doc, from, max),
-            Command::Lines { doc, from, max } => self.lines(doc, from, max),
-            Command::Position { doc, offset, unit } => self.position(doc, offset, unit),
-            Command::Offset {
-                doc,
-                line,
-                character,
-                unit,
-            } => self.offset(doc, Position { line, character }, unit),
-            Command::Place { doc, unit, value } => self.place(doc, unit, value),
-            Command::Stat { doc } => self.stat(doc),
+        match command {
+            Command::Open(open) => self.open(open),
+            Command::Close(close) => self.documents.close(close.doc),
+            Command::Splice(splice) => self.splice(splice),
+            Command::Change(change) => self.change(change),
+            Command::Text(text) => self.ask(text.doc, text),
+            Command::Source(source) => self.ask(source.doc, source),
+            Command::Encode(encode) => self.ask(encode.doc, encode),
+            Command::Errors(errors) => self.ask(errors.doc, errors),
+            Command::Lines(lines) => self.ask(lines.doc, lines),
+            Command::Position(position) => self.ask(position.doc, position),
+            Command::Offset(offset) => self.ask(offset.doc, offset),
+            Command::Place(place) => self.ask(place.doc, place),
+            Command::Stat(stat) => self.ask(stat.doc, stat),
         }
+    }
+
+    /// The answer to a question about the document of this name.
+    fn ask<Q: Question>(&self, doc: &str, question: &Q) -> Result<Reply, Fault>
+        ensures { Answers self.now (asked_of doc.now (Q.asked question.now)) (reply_of result) self.now }
+    {
+        self.documents.ask(self.alloc, &self.labels, doc, question)
     }
 }

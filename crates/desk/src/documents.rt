@@ -1,12 +1,12 @@
 //! The open documents by their names.
-ghost use Rattle.std.specs.Prelude.{◌≡◌, true, IfOk, IfSome, OnOk, OnErr, string_bytes};
-ghost use Rattle.std.specs.Option.{option_map};
+ghost use Rattle.std.specs.Prelude.{◌≡◌, true, IfOk, OnOk, OnErr, is_some, string_bytes};
 ghost use Rattle.std.specs.FinMap as map;
 ghost use Rattle.desk.specs.Changes.{is_accepted};
 ghost use Rattle.desk.specs.Close.{closed};
 ghost use Rattle.desk.specs.Desk.{IsOutcome, has_place, outcome};
 ghost use Rattle.desk.specs.Documents.{edit_reply, reply_of};
-ghost use Rattle.desk.specs.Effects.{of_document, put};
+ghost use Rattle.desk.specs.Edits.{edited};
+ghost use Rattle.desk.specs.Effects.{of_document, put, replied};
 ghost use Rattle.desk.specs.Open.{admitted};
 ghost use Rattle.desk.specs.OpenDocuments.{AllOpened, entry_of, names};
 ghost use Rattle.index_loader.specs.Files.{Files};
@@ -14,9 +14,10 @@ ghost use Rattle.index_loader.specs.Files.{Files};
 use crate::edit::Edit;
 use crate::fault::Fault;
 use crate::open_document::OpenDocument;
+use crate::question::Question;
 use crate::reply::Reply;
 use decoder_core::meter;
-use enc_names::Setting;
+use enc_names::{Labels, Setting};
 use index_loader::Indexes;
 use piece_rope::Doc;
 use std::alloc::{AllocError, Global};
@@ -60,12 +61,29 @@ impl<'i> Documents<'i> {
         }
     }
 
-    /// The document of this name.
-    pub fn get(&self, name: &str) -> Option<&OpenDocument<'i>>
-        ensures entry { option_map (λ k. entry_of k.now) result ≡ map.get self.now.named name.now }
-        ensures indexes { IfSome result (λ k. k.now.document.indexes ≡ self.now.indexes) }
+    /// Whether a document has this name.
+    pub fn has(&self, name: &str) -> bool
+        ensures { result ≡ is_some (map.get self.now.named name.now) }
     {
-        self.named.get(name)
+        self.named.contains_key(name)
+    }
+
+    /// Asks a question of the document of this name.
+    pub fn ask<Q: Question>(
+        &self,
+        alloc: Global,
+        labels: &Labels,
+        name: &str,
+        question: &Q,
+    ) -> Result<Reply, Fault>
+        ensures { IsOutcome
+            (outcome self.now.named name.now (of_document (map.get self.now.named name.now) (λ h. replied (Q.answer question.now self.now.indexes labels.now h))))
+            (reply_of result) self.now.named self.now.named }
+    {
+        match self.named.get(name) {
+            Some(found) => question.ask(alloc, labels, found),
+            None => Err(Fault::NoDocument),
+        }
     }
 
     /// Puts a document at a revision under a name that is free.
@@ -93,23 +111,23 @@ impl<'i> Documents<'i> {
         }
         let document = Doc::open(alloc, self.indexes, setting.given, bytes, &mut meter())?;
         let opened = OpenDocument { document, revision };
-        let reply = opened.edit_reply();
+        let reply = opened.open_reply();
         let name = String::from_str(alloc, name)?;
         self.insert(name, opened)?;
         Ok(reply)
     }
 
     /// Makes an edit of the document of this name.
-    pub fn edit<E: Edit>(&mut self, name: &str, edit: &E) -> Result<Reply, Fault>
+    pub fn edit<E: Edit>(&mut self, alloc: Global, name: &str, edit: &E) -> Result<Reply, Fault>
         ensures step { IsOutcome
-            (outcome self.old.named name.now (of_document (map.get self.old.named name.now) (E.effect edit.now self.old.indexes)))
+            (outcome self.old.named name.now (of_document (map.get self.old.named name.now) (edited self.old.indexes (E.named edit.now) (E.applied edit.now) E.answer)))
             (reply_of result) self.old.named self.new.named }
         ensures indexes { self.new.indexes ≡ self.old.indexes }
     {
         let Some(found) = self.named.get_mut(name) else {
             return Err(Fault::NoDocument);
         };
-        edit.make(found)
+        found.edit(alloc, edit)
     }
 
     /// Removes the document of this name.

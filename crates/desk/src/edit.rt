@@ -1,24 +1,41 @@
-//! Edits of an open document: one form for all of them.
-ghost use Rattle.std.specs.Prelude.{◌≡◌, true, IfOk, OnErr};
-ghost use Rattle.index_loader.specs.Files.{Files};
+//! Edits of a document: one form for all of them.
+ghost use Rattle.std.specs.Prelude.{◌≡◌, ℕ, true, OnErr, Result};
+ghost use Rattle.piece_rope.specs.Document.{Document};
 ghost use Rattle.desk.specs.Changes.{is_accepted};
-ghost use Rattle.desk.specs.Documents.{Entry};
-ghost use Rattle.desk.specs.Edits.{Makes};
-ghost use Rattle.desk.specs.Effects.{Effect};
-ghost use Rattle.desk.specs.OpenDocuments.{entry_of};
+ghost use Rattle.desk.specs.Edits.{Applied, Applies};
+ghost use Rattle.desk.specs.declared.fault.Fault.{Fault};
+ghost use Rattle.desk.specs.declared.reply.Reply.{Reply};
 
 use crate::fault::Fault;
-use crate::open_document::OpenDocument;
 use crate::reply::Reply;
+use piece_rope::Doc;
+use std::alloc::Global;
 
-/// An edit. Contracts see its effect on what is held at a name.
+/// An edit. It knows a document and neither its name nor its revision, which `OpenDocument::edit`
+/// checks and raises. Contracts see the revision that it names, what it does to a document, and
+/// its reply.
 pub trait Edit {
-    ghost effect: { Self → Files → Entry → Effect };
+    /// What the edit did, as far as its reply says it.
+    type Done: Drop;
 
-    /// Makes the edit and raises the revision by one, or changes nothing.
-    fn make(&self, opened: &mut OpenDocument<'_>) -> Result<Reply, Fault>
-        ensures step { Makes (effect self.now opened.old.document.indexes (entry_of opened.old)) result (entry_of opened.new) }
-        ensures accepted { IfOk result (λ reply. is_accepted reply ≡ true) }
-        ensures indexes { opened.new.document.indexes ≡ opened.old.document.indexes }
-        ensures err { OnErr result (opened.new ≡ opened.old) };
+    ghost named: { Self → ℕ };
+
+    ghost applied: { Self → Document → Result (Applied Self.Done) Fault };
+
+    ghost answer: { Self.Done → Document → ℕ → Reply };
+
+    /// The revision that the edit names.
+    fn rev(&self) -> u64
+        ensures { result ≡ named self.now };
+
+    /// Changes a document, or leaves it as it is.
+    fn apply(&self, alloc: Global, document: &mut Doc<'_>) -> Result<Self::Done, Fault>
+        ensures step { Applies (applied self.now document.old) result document.new }
+        ensures indexes { document.new.indexes ≡ document.old.indexes }
+        ensures err { OnErr result (document.new ≡ document.old) };
+
+    /// The reply to the edit that left this document, at this revision.
+    fn reply(&self, done: &Self::Done, document: &Doc<'_>, rev: u64) -> Reply
+        ensures reply { result ≡ answer done.now document.now rev }
+        ensures accepted { is_accepted result ≡ true };
 }

@@ -5,7 +5,7 @@ ghost use Rattle.desk.specs.KeptText.{ChangesKeepText};
 ghost use Rattle.desk.specs.Lives.{OpensBegin, AdoptionsBegin, ClosesEnd, Lives};
 
 /// A refused command changes nothing; and the definition itself never refuses for lack of memory.
-pub fn refusals_change_nothing()
+pub fn law_refusals_change_nothing()
     ensures changes { OnlyChangesChange }
     ensures documents { RefusalsChangeNothing }
     ensures memory { MemoryIsNeverWanted }
@@ -13,7 +13,7 @@ pub fn refusals_change_nothing()
 
 /// From its open or adoption to its close a document has each accepted edit once and in order,
 /// and each was made to the revision that it named.
-pub fn lives_have_each_edit_once()
+pub fn law_lives_have_each_edit_once()
     ensures opens { OpensBegin }
     ensures adoptions { AdoptionsBegin }
     ensures closes { ClosesEnd }
@@ -22,12 +22,12 @@ pub fn lives_have_each_edit_once()
 
 /// An accepted change leaves the bytes of the splice planned for its range, whose text, decoded from
 /// scratch, is the old text with the code points of the range replaced.
-pub fn changes_keep_text()
+pub fn law_changes_keep_text()
     ensures { ChangesKeepText }
 {}
 
 /// What a desk answers for one document depends on no other, but for whether there is a place for
 /// one more.
-pub fn documents_are_apart()
+pub fn law_documents_are_apart()
     ensures { DocumentsAreApart }
 {}

@@ -11,7 +11,9 @@ mod fault;
 mod laws;
 mod line;
 mod open_document;
+pub mod ops;
 mod place_unit;
+mod question;
 mod reply;
 mod text_mode;
 
@@ -19,10 +21,10 @@ pub use command::Command;
 pub use desk::Desk;
 pub use fault::Fault;
 pub use laws::{
-    changes_keep_text, documents_are_apart, lives_have_each_edit_once, refusals_change_nothing,
+    law_changes_keep_text, law_documents_are_apart, law_lives_have_each_edit_once,
+    law_refusals_change_nothing,
 };
 pub use line::Line;
 pub use place_unit::PlaceUnit;
-pub use position_map::{Position, Range, Unit};
 pub use reply::{Reply, ReplyList, ReplyText};
 pub use text_mode::TextMode;

@@ -1,12 +1,15 @@
 //! One open document and its revision. What it answers to an op is in that op's file.
-ghost use Rattle.std.specs.Prelude.{◌≡◌, Ok};
-ghost use Rattle.desk.specs.Documents.{edit_reply};
-ghost use Rattle.desk.specs.Edits.{at_revision};
+ghost use Rattle.std.specs.Prelude.{◌≡◌, true, Ok, IfOk, OnErr};
+ghost use Rattle.desk.specs.Changes.{is_accepted};
+ghost use Rattle.desk.specs.Documents.{edit_reply, edited_reply};
+ghost use Rattle.desk.specs.Edits.{at_revision, edited, Makes};
 ghost use Rattle.desk.specs.OpenDocuments.{entry_of};
 
+use crate::edit::Edit;
 use crate::fault::Fault;
 use crate::reply::Reply;
 use piece_rope::Doc;
+use std::alloc::Global;
 
 /// The greatest revision, 2^53 - 1: the greatest whole number that a line may hold.
 const MAX_REVISION: u64 = 9_007_199_254_740_991;
@@ -21,8 +24,23 @@ pub struct OpenDocument<'i> {
 }
 
 impl OpenDocument<'_> {
+    /// Makes an edit and raises the revision by one, or changes nothing.
+    pub fn edit<E: Edit>(&mut self, alloc: Global, edit: &E) -> Result<Reply, Fault>
+        ensures step { Makes
+            (edited self.old.document.indexes (E.named edit.now) (E.applied edit.now) E.answer (entry_of self.old))
+            result (entry_of self.new) }
+        ensures accepted { IfOk result (λ reply. is_accepted reply ≡ true) }
+        ensures indexes { self.new.document.indexes ≡ self.old.document.indexes }
+        ensures err { OnErr result (self.new ≡ self.old) }
+    {
+        self.check_revision(edit.rev())?;
+        let done = edit.apply(alloc, &mut self.document)?;
+        self.revision += 1;
+        Ok(edit.reply(&done, &self.document, self.revision))
+    }
+
     /// Whether an edit may be made: it names the revision now, and that can be raised.
-    pub(crate) fn check_revision(&self, rev: u64) -> Result<(), Fault>
+    fn check_revision(&self, rev: u64) -> Result<(), Fault>
         ensures { result ≡ at_revision (entry_of self.now) rev (Ok tt) }
     {
         if rev != self.revision {
@@ -34,14 +52,21 @@ impl OpenDocument<'_> {
         Ok(())
     }
 
-    /// The reply to the open or the edit that led to this.
-    pub fn edit_reply(&self) -> Reply
+    /// The reply to the open that led to this.
+    pub fn open_reply(&self) -> Reply
         ensures { result ≡ edit_reply self.now.document.indexes (entry_of self.now) }
     {
-        Reply::Edited {
-            bom: self.document.bom_len(),
-            encoding: self.document.encoding(),
-            rev: self.revision,
-        }
+        edited_reply(&self.document, self.revision)
+    }
+}
+
+/// The reply to an open or a splice that left this document, at this revision.
+pub(crate) fn edited_reply(document: &Doc<'_>, rev: u64) -> Reply
+    ensures { result ≡ edited_reply document.now rev }
+{
+    Reply::Edited {
+        bom: document.bom_len(),
+        encoding: document.encoding(),
+        rev,
     }
 }

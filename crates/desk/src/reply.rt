@@ -162,7 +162,8 @@ pub enum Reply {
         /// The code points before it.
         utf32: u64,
     },
-    /// How long a document and its text are.
+    /// How long a document and its text are. What the bytes of a document can give fits in 32 bits
+    /// (`Doc::law_bounds`).
     Stat {
         /// The document's revision.
         rev: u64,
@@ -173,17 +174,17 @@ pub enum Reply {
         /// How many bytes of the document are its byte order mark.
         bom: u64,
         /// Bytes of the document.
-        bytes: u64,
+        bytes: u32,
         /// The errors in the document.
-        errors: u64,
+        errors: u32,
         /// The lines of the text.
-        lines: u64,
+        lines: u32,
         /// The text's bytes in UTF-8.
-        utf8: u64,
+        utf8: u32,
         /// Its code units in UTF-16.
-        utf16: u64,
+        utf16: u32,
         /// Its code points.
-        utf32: u64,
+        utf32: u32,
     },
     /// The command was refused, and changed nothing.
     Refused {

@@ -5,9 +5,11 @@ mod count;
 mod device;
 mod laws;
 mod memory;
+mod reading;
 mod stream;
 
 pub use device::{Failed, Feed, Outlet, write_all};
-pub use laws::slice_laws;
+pub use laws::law_slices;
 pub use memory::{MemFeed, MemOutlet};
+pub use reading::{MOST_READS, Progress, READ_BUFFER};
 pub use stream::{FromRead, ToWrite};

@@ -11,11 +11,11 @@ use Rattle.position_map.specs.Lines.{lines_of}
 use Rattle.position_map.specs.Places.{scalar_of_byte}
 use Rattle.position_map.specs.Positions.{offset_of, position_of, converted}
 use Rattle.position_map.specs.declared.unit.Unit.TheVariants.{Utf16}
-use Rattle.desk.specs.Lengths.{stat_reply}
+use Rattle.desk.specs.Stat.{stat_reply}
 use Rattle.desk.specs.Lines.{lines_reply}
-use Rattle.desk.specs.Offsets.{offset_reply}
-use Rattle.desk.specs.Places.{place_reply}
-use Rattle.desk.specs.Positions.{position_reply}
+use Rattle.desk.specs.Offset.{offset_reply}
+use Rattle.desk.specs.Place.{place_reply}
+use Rattle.desk.specs.Position.{position_reply}
 use Rattle.document_tests.specs.Session.{truncated, pair_and_cr_lf}
 use Rattle.desk.specs.declared.fault.Fault.TheVariants.{OutOfRange, SplitsCharacter}
 use Rattle.desk.specs.declared.place_unit.PlaceUnit.TheVariants.{Byte, Text}

@@ -3,9 +3,11 @@
 ghost use Rattle.std.specs.Prelude.{◌≡◌};
 ghost use Rattle.document_tests.specs.Session.{replies_to, office_without_files, session, session_replies};
 
-use desk::{Command, Desk, Fault, Position, Range, Reply, TextMode, Unit};
+use desk::ops::{Change, Close, Open, Splice, Text};
+use desk::{Command, Desk, Fault, Reply, TextMode};
 use enc_names::{Encoding, Labels};
 use index_loader::Indexes;
+use position_map::{Position, Range, Unit};
 use std::alloc::Global;
 use std::process::Abort;
 use std::test::Fail;
@@ -21,13 +23,13 @@ fn truncated_sequence_is_completed()
 const LAST: u64 = 9_007_199_254_740_991;
 
 fn splice(doc: &str, rev: u64, at: u64) -> Command<'_> {
-    Command::Splice {
+    Command::Splice(Splice {
         doc,
         rev,
         at,
         del: 0,
         bytes: "Yg==",
-    }
+    })
 }
 
 /// A change whose range ends before it starts.
@@ -40,13 +42,13 @@ fn change(doc: &str, rev: u64) -> Command<'_> {
         line: 0,
         character: 0,
     };
-    Command::Change {
+    Command::Change(Change {
         doc,
         rev,
         unit: Unit::Utf16,
         range: Some(Range { start, end }),
         text: "",
-    }
+    })
 }
 
 /// Whether the command is refused for this cause.
@@ -67,12 +69,12 @@ fn is_edited(desk: &mut Desk<'_>, command: &Command<'_>, revision: u64) -> bool 
 
 /// Whether the first two code points are these, at the revision.
 fn has_text(desk: &mut Desk<'_>, doc: &str, revision: u64, wanted: &str) -> bool {
-    let both = Command::Text {
+    let both = Command::Text(Text {
         doc,
         from: 0,
         to: 2,
         mode: TextMode::Replacement,
-    };
+    });
     match desk.answer(&both) {
         Reply::Text { rev, text } => rev == revision && text.as_str() == wanted,
         _ => false,
@@ -81,7 +83,7 @@ fn has_text(desk: &mut Desk<'_>, doc: &str, revision: u64, wanted: &str) -> bool
 
 /// Whether the document is closed, and had this revision.
 fn is_closed(desk: &mut Desk<'_>, doc: &str, revision: u64) -> bool {
-    match desk.answer(&Command::Close { doc }) {
+    match desk.answer(&Command::Close(Close { doc })) {
         Reply::Closed { rev } => rev == revision,
         _ => false,
     }
@@ -102,11 +104,11 @@ fn is_edited_once_more(rt: &impl Abort, desk: &mut Desk<'_>) {
 
 /// A document that is adopted at the last revision.
 fn is_never_edited(rt: &impl Abort, desk: &mut Desk<'_>) {
-    let open = Command::Open {
+    let open = Command::Open(Open {
         doc: "e",
         label: "utf-8",
         bytes: "",
-    };
+    });
     assert_eq!(rt; desk.adopt("e", Encoding::Utf8, b"\xE2\x82A", LAST), Ok(()));
     assert!(rt; is_refused(desk, &splice("e", LAST, 0), Fault::RevisionsSpent));
     assert!(rt; has_text(desk, "e", LAST, "\u{fffd}A"));

@@ -1,5 +1,5 @@
 -- The bytes of a text's units are those of its code points.
-use Rattle.std.proofs.Common.{◌≡◌, refl, subst, nat_le, ◌==◌, if◌then◌else◌, sym, ap, ◌∙◌, ℕ, zero, suc, ◌+◌, ◌-◌, ◌*◌, ◌/◌, ◌%◌, ◌<◌, ◌≤◌, Bool, true, false, cond, nat_lt, List, [], ◌∷◌, ◌++◌, Option, Some, Ok, Err, Result, length, length-append, take, drop, get_or, set, arith, append_assoc, append-nil, lit≤, ◌⊎◌, inl, inr}
+use Rattle.std.proofs.Common.{◌≡◌, refl, subst, nat_le, ◌==◌, if◌then◌else◌, sym, ap, ◌∙◌, ℕ, ◌+◌, ◌-◌, ◌*◌, ◌/◌, ◌%◌, ◌<◌, ◌≤◌, Bool, true, false, nat_lt, List, [], ◌∷◌, ◌++◌, Option, Some, Ok, Err, Result, length, length-append, take, drop, get_or, set, arith, append_assoc, append-nil, lit≤, ◌⊎◌, inl, inr}
 use Rattle.std.proofs.Math.Utf8.{encode}
 use Rattle.std.proofs.lemmas.Bool.{eqb-true, le-leb, lt-ltb, le-ltb, ltb-true, ltb-false}
 use Rattle.std.proofs.lemmas.List.{drop_more, drop_all, length-set, take-append-drop, take_more_set}
@@ -8,7 +8,9 @@ use Rattle.std.proofs.lemmas.Str.{chars-append, encodes-chars, IsCharBoundary-pa
 use Rattle.std.specs.Char.{len_utf8}
 use Rattle.std.specs.Prelude.{⊤}
 use Rattle.std.specs.Str.{chars, encode_utf8_all, IsCharBoundary, IsUtf8}
-use Rattle.iso2022jp.specs.declared.fault.Unencodable.{Unencodable}
+use Rattle.decoder_core.specs.declared.utf16.ByteOrder.{ByteOrder}
+use Rattle.decoder_core.specs.declared.utf16.ByteOrder.TheVariants.{BigEndian, LittleEndian}
+use Rattle.decoder_core.specs.declared.fault.Unencodable.{Unencodable}
 use Rattle.lane_ascii.specs.Pairs.{swapped}
 use Rattle.lane_ascii.specs.declared.room.NeedsRoom.{NeedsRoom}
 use Rattle.lane_utf.specs.Conversions.{over_front, utf16_answer}
@@ -27,28 +29,28 @@ order a b = order-by (nat_lt a b) a b refl
 
 -- ---- the bytes of a code point, and of all
 
-form_bytes : (big : Bool) (c : ℕ) → (c < 0x10000) ⊎ (0x10000 ≤ c) → utf16_bytes big c ≡ Some (units_bytes big (utf16_form c))
-form_bytes big c (inl low) = rw (lt-ltb c 0x10000 low) (ap Some (sym (append-nil (unit_bytes big c))))
-form_bytes big c (inr high) =
+form_bytes : (endian : ByteOrder) (c : ℕ) → (c < 0x10000) ⊎ (0x10000 ≤ c) → utf16_bytes endian c ≡ Some (units_bytes endian (utf16_form c))
+form_bytes endian c (inl low) = rw (lt-ltb c 0x10000 low) (ap Some (sym (append-nil (unit_bytes endian c))))
+form_bytes endian c (inr high) =
     rw (le-ltb c 0x10000 high)
-    (ap (λ (bs : List ℕ). Some (unit_bytes big (0xD800 + (c - 0x10000) / 0x400) ++ bs)) (sym (append-nil (unit_bytes big (0xDC00 + (c - 0x10000) % 0x400)))))
+    (ap (λ (bs : List ℕ). Some (unit_bytes endian (0xD800 + (c - 0x10000) / 0x400) ++ bs)) (sym (append-nil (unit_bytes endian (0xDC00 + (c - 0x10000) % 0x400)))))
 
-pub units-append : (big : Bool) (us vs : List ℕ) → units_bytes big (us ++ vs) ≡ units_bytes big us ++ units_bytes big vs
-units-append big [] vs = refl
-units-append big (u ∷ us) vs =
-    ap (λ (bs : List ℕ). unit_bytes big u ++ bs) (units-append big us vs) ∙ sym (append_assoc (unit_bytes big u) (units_bytes big us) (units_bytes big vs))
+pub units-append : (endian : ByteOrder) (us vs : List ℕ) → units_bytes endian (us ++ vs) ≡ units_bytes endian us ++ units_bytes endian vs
+units-append endian [] vs = refl
+units-append endian (u ∷ us) vs =
+    ap (λ (bs : List ℕ). unit_bytes endian u ++ bs) (units-append endian us vs) ∙ sym (append_assoc (unit_bytes endian u) (units_bytes endian us) (units_bytes endian vs))
 
-pub utf16_all : (big html : Bool) (index : ℕ) (cs : List ℕ)
-    → encoded_from (stateless (utf16_bytes big)) html index tt cs ≡ Ok (record { bytes = units_bytes big (utf16_forms cs); state = tt })
-utf16_all big html index [] = refl
-utf16_all big html index (c ∷ cs) =
+pub utf16_all : (endian : ByteOrder) (html : Bool) (index : ℕ) (cs : List ℕ)
+    → encoded_from (stateless (utf16_bytes endian)) html index tt cs ≡ Ok (record { bytes = units_bytes endian (utf16_forms cs); state = tt })
+utf16_all endian html index [] = refl
+utf16_all endian html index (c ∷ cs) =
     ap
     (λ (o : Option (List ℕ)). onward index
-    (answered html (bytes_turn c o).answer (bytes_turn c o).bytes (bytes_turn c o).state (λ (next : ⊤). taken (stateless (utf16_bytes big)) html 1 next c))
-    (λ (next : ⊤). encoded_from (stateless (utf16_bytes big)) html (index + 1) next cs))
-    (form_bytes big c (order c 0x10000))
-    ∙ ap (λ (r : Result (Put ⊤) Unencodable). behind (units_bytes big (utf16_form c)) r) (utf16_all big html (index + 1) cs)
-    ∙ ap (λ (bs : List ℕ). Ok (record { bytes = bs; state = tt })) (sym (units-append big (utf16_form c) (utf16_forms cs)))
+    (answered html (bytes_turn c o).answer (bytes_turn c o).bytes (bytes_turn c o).state (λ (next : ⊤). taken (stateless (utf16_bytes endian)) html 1 next c))
+    (λ (next : ⊤). encoded_from (stateless (utf16_bytes endian)) html (index + 1) next cs))
+    (form_bytes endian c (order c 0x10000))
+    ∙ ap (λ (r : Result (Put ⊤) Unencodable). behind (units_bytes endian (utf16_form c)) r) (utf16_all endian html (index + 1) cs)
+    ∙ ap (λ (bs : List ℕ). Ok (record { bytes = bs; state = tt })) (sym (units-append endian (utf16_form c) (utf16_forms cs)))
 
 -- ---- how many units there are
 
@@ -85,30 +87,30 @@ forms-width (c ∷ cs) =
 
 -- ---- units in a block
 
-units-swapped : (us : List ℕ) → swapped (units_bytes false us) ≡ units_bytes true us
+units-swapped : (us : List ℕ) → swapped (units_bytes LittleEndian us) ≡ units_bytes BigEndian us
 units-swapped [] = refl
 units-swapped (u ∷ us) = ap (λ (bs : List ℕ). u / 0x100 ∷ u % 0x100 ∷ bs) (units-swapped us)
 
-units-length : (big : Bool) (us : List ℕ) → length (units_bytes big us) ≡ 2 * length us
-units-length true [] = refl
-units-length false [] = refl
-units-length true (u ∷ us) = let rest = units-length true us in Prim.omega (arith, rest)
-units-length false (u ∷ us) = let rest = units-length false us in Prim.omega (arith, rest)
+units-length : (endian : ByteOrder) (us : List ℕ) → length (units_bytes endian us) ≡ 2 * length us
+units-length BigEndian [] = refl
+units-length LittleEndian [] = refl
+units-length BigEndian (u ∷ us) = let rest = units-length BigEndian us in Prim.omega (arith, rest)
+units-length LittleEndian (u ∷ us) = let rest = units-length LittleEndian us in Prim.omega (arith, rest)
 
-pub front-swapped : (big : Bool) (us bytes new tail : List ℕ) → big ≡ true → bytes ≡ units_bytes false us → new ≡ swapped bytes
-    → take (2 * length us) (new ++ tail) ≡ units_bytes big us
-front-swapped big us bytes new tail is bytes_are new_is =
-    let swaps : new ≡ units_bytes true us = new_is ∙ ap (λ (bs : List ℕ). swapped bs) bytes_are ∙ units-swapped us in
-    let long : length new ≡ 2 * length us = ap (λ (bs : List ℕ). length bs) swaps ∙ units-length true us in
-    ap (λ (k : ℕ). take k (new ++ tail)) (sym long) ∙ take-append_seam new tail ∙ swaps ∙ ap (λ (b : Bool). units_bytes b us) (sym is)
+pub front-swapped : (endian : ByteOrder) (us bytes new tail : List ℕ) → endian ≡ BigEndian → bytes ≡ units_bytes LittleEndian us → new ≡ swapped bytes
+    → take (2 * length us) (new ++ tail) ≡ units_bytes endian us
+front-swapped endian us bytes new tail is bytes_are new_is =
+    let swaps : new ≡ units_bytes BigEndian us = new_is ∙ ap (λ (bs : List ℕ). swapped bs) bytes_are ∙ units-swapped us in
+    let long : length new ≡ 2 * length us = ap (λ (bs : List ℕ). length bs) swaps ∙ units-length BigEndian us in
+    ap (λ (k : ℕ). take k (new ++ tail)) (sym long) ∙ take-append_seam new tail ∙ swaps ∙ ap (λ (b : ByteOrder). units_bytes b us) (sym is)
 
 pub unit-written : (at low high : ℕ) (us block : List ℕ) → at < length us → 2 * at + 1 < length block
     → low ≡ get_or us at 0 % 0x100 → high ≡ get_or us at 0 / 0x100
-    → units_bytes false us ≡ take (2 * at) block ++ units_bytes false (drop at us)
-    → units_bytes false us ≡ take (2 * (at + 1)) (set (set block (2 * at) low) (2 * at + 1) high) ++ units_bytes false (drop (at + 1) us)
+    → units_bytes LittleEndian us ≡ take (2 * at) block ++ units_bytes LittleEndian (drop at us)
+    → units_bytes LittleEndian us ≡ take (2 * (at + 1)) (set (set block (2 * at) low) (2 * at + 1) high) ++ units_bytes LittleEndian (drop (at + 1) us)
 unit-written at low high us block some room low_is high_is so_far =
     let u = get_or us at 0 in
-    let rest = units_bytes false (drop (at + 1) us) in
+    let rest = units_bytes LittleEndian (drop (at + 1) us) in
     let next : 2 * (at + 1) ≡ 2 * at + 1 + 1 = Prim.omega arith in
     let first : take (2 * at + 1) (set block (2 * at) low) ≡ take (2 * at) block ++ low ∷ [] = take_more_set block (2 * at) low (Prim.omega (arith, room)) in
     let second : take (2 * at + 1 + 1) (set (set block (2 * at) low) (2 * at + 1) high) ≡ take (2 * at + 1) (set block (2 * at) low) ++ high ∷ [] =
@@ -117,19 +119,19 @@ unit-written at low high us block some room low_is high_is so_far =
     ap (λ (k : ℕ). take k (set (set block (2 * at) low) (2 * at + 1) high)) next ∙ second
     ∙ ap (λ (xs : List ℕ). xs ++ high ∷ []) first ∙ append_assoc (take (2 * at) block) (low ∷ []) (high ∷ []) in
     so_far
-    ∙ ap (λ (vs : List ℕ). take (2 * at) block ++ units_bytes false vs) (drop_more us at 0 some)
+    ∙ ap (λ (vs : List ℕ). take (2 * at) block ++ units_bytes LittleEndian vs) (drop_more us at 0 some)
     ∙ ap (λ (b : ℕ). take (2 * at) block ++ b ∷ u / 0x100 ∷ rest) (sym low_is)
     ∙ ap (λ (b : ℕ). take (2 * at) block ++ low ∷ b ∷ rest) (sym high_is)
     ∙ sym (append_assoc (take (2 * at) block) (low ∷ high ∷ []) rest)
     ∙ ap (λ (xs : List ℕ). xs ++ rest) (sym both)
 
-pub units-written : (us block : List ℕ) (at : ℕ) → length us ≤ at → at ≤ length us → units_bytes false us ≡ take (2 * at) block ++ units_bytes false (drop at us)
-    → take (2 * length us) block ≡ units_bytes false us
+pub units-written : (us block : List ℕ) (at : ℕ) → length us ≤ at → at ≤ length us → units_bytes LittleEndian us ≡ take (2 * at) block ++ units_bytes LittleEndian (drop at us)
+    → take (2 * length us) block ≡ units_bytes LittleEndian us
 units-written us block at all inside so_far =
     let same : at ≡ length us = Prim.omega (arith, all, inside) in
     ap (λ (k : ℕ). take (2 * k) block) (sym same)
     ∙ sym (append-nil (take (2 * at) block))
-    ∙ ap (λ (vs : List ℕ). take (2 * at) block ++ units_bytes false vs) (sym (drop_all at us all))
+    ∙ ap (λ (vs : List ℕ). take (2 * at) block ++ units_bytes LittleEndian vs) (sym (drop_all at us all))
     ∙ sym so_far
 
 -- ---- a part's units, as they were converted
@@ -169,17 +171,17 @@ forms-append : (cs ds : List ℕ) → utf16_forms (cs ++ ds) ≡ utf16_forms cs 
 forms-append [] ds = refl
 forms-append (c ∷ cs) ds = ap (λ (k : List ℕ). utf16_form c ++ k) (forms-append cs ds) ∙ sym (append_assoc (utf16_form c) (utf16_forms cs) (utf16_forms ds))
 
-pub parts-go-on : (big : Bool) (rest part behind old new : List ℕ) (n : ℕ) → IsUtf8 part → part ≡ take n rest → behind ≡ drop n rest
-    → new ≡ old ++ units_bytes big (utf16_forms (chars part))
-    → old ++ units_bytes big (utf16_forms (chars rest)) ≡ new ++ units_bytes big (utf16_forms (chars behind))
-parts-go-on big rest part behind old new n spelt front back new_is =
+pub parts-go-on : (endian : ByteOrder) (rest part behind old new : List ℕ) (n : ℕ) → IsUtf8 part → part ≡ take n rest → behind ≡ drop n rest
+    → new ≡ old ++ units_bytes endian (utf16_forms (chars part))
+    → old ++ units_bytes endian (utf16_forms (chars rest)) ≡ new ++ units_bytes endian (utf16_forms (chars behind))
+parts-go-on endian rest part behind old new n spelt front back new_is =
     let whole : rest ≡ part ++ behind = sym (take-append-drop n rest) ∙ ap (λ (xs : List ℕ). xs ++ drop n rest) (sym front) ∙ ap (λ (xs : List ℕ). part ++ xs) (sym back) in
-    ap (λ (xs : List ℕ). old ++ units_bytes big (utf16_forms (chars xs))) whole
-    ∙ ap (λ (cs : List ℕ). old ++ units_bytes big (utf16_forms cs)) (chars-append part behind spelt)
-    ∙ ap (λ (us : List ℕ). old ++ units_bytes big us) (forms-append (chars part) (chars behind))
-    ∙ ap (λ (bs : List ℕ). old ++ bs) (units-append big (utf16_forms (chars part)) (utf16_forms (chars behind)))
-    ∙ sym (append_assoc old (units_bytes big (utf16_forms (chars part))) (units_bytes big (utf16_forms (chars behind))))
-    ∙ ap (λ (bs : List ℕ). bs ++ units_bytes big (utf16_forms (chars behind))) (sym new_is)
+    ap (λ (xs : List ℕ). old ++ units_bytes endian (utf16_forms (chars xs))) whole
+    ∙ ap (λ (cs : List ℕ). old ++ units_bytes endian (utf16_forms cs)) (chars-append part behind spelt)
+    ∙ ap (λ (us : List ℕ). old ++ units_bytes endian us) (forms-append (chars part) (chars behind))
+    ∙ ap (λ (bs : List ℕ). old ++ bs) (units-append endian (utf16_forms (chars part)) (utf16_forms (chars behind)))
+    ∙ sym (append_assoc old (units_bytes endian (utf16_forms (chars part))) (units_bytes endian (utf16_forms (chars behind))))
+    ∙ ap (λ (bs : List ℕ). bs ++ units_bytes endian (utf16_forms (chars behind))) (sym new_is)
 
 -- a part isn't empty: the first code point ends within it
 pub part-some : (text : List ℕ) (end : ℕ) → IsUtf8 text → 0 < length text → ((i : ℕ) → end < i → i ≤ 512 → IsCharBoundary text i → ⊥) → 0 < end
@@ -198,10 +200,10 @@ part-text text part n spelt here is = subst (λ (xs : List ℕ). IsUtf8 xs) (sym
 pub behind-text : (text behind : List ℕ) (n : ℕ) → IsUtf8 text → IsCharBoundary text n → behind ≡ drop n text → IsUtf8 behind
 behind-text text behind n spelt here is = subst (λ (xs : List ℕ). IsUtf8 xs) (sym is) (IsUtf8-drop text n spelt here)
 
-pub parts-end : (big : Bool) (rest bytes whole : List ℕ) → (length rest == 0) ≡ true → whole ≡ bytes ++ units_bytes big (utf16_forms (chars rest)) → bytes ≡ whole
+pub parts-end : (endian : ByteOrder) (rest bytes whole : List ℕ) → (length rest == 0) ≡ true → whole ≡ bytes ++ units_bytes endian (utf16_forms (chars rest)) → bytes ≡ whole
 unfolding chars
-parts-end big [] bytes whole none is = sym (is ∙ append-nil bytes)
-parts-end big (b ∷ rest) bytes whole none is = absurd (Prim.omega (arith, eqb-true (length (b ∷ rest)) 0 none))
+parts-end endian [] bytes whole none is = sym (is ∙ append-nil bytes)
+parts-end endian (b ∷ rest) bytes whole none is = absurd (Prim.omega (arith, eqb-true (length (b ∷ rest)) 0 none))
 
 pub some-left : (xs : List ℕ) → (length xs == 0) ≡ false → 0 < length xs
 some-left [] e = absurd Prim.cc

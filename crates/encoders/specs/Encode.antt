@@ -3,14 +3,14 @@ use Rattle.std.specs.Prelude.{◌≡◌, ⊤, ℕ, Bool, true, false, List, Opti
 use Rattle.std.specs.Char.{encode_utf8}
 use Rattle.std.specs.declared.alloc.Global.{Global}
 use Rattle.enc_names.specs.declared.encoding.Encoding.{Encoding}
-use Rattle.enc_names.specs.declared.encoding.Encoding.TheVariants.{Utf8, Gbk, Gb18030, Big5, EucJp, Iso2022Jp, ShiftJis, EucKr, Replacement, Utf16Be, Utf16Le, XUserDefined}
-use Rattle.index_loader.specs.declared.kind.IndexKind.{IndexKind}
-use Rattle.index_loader.specs.declared.kind.IndexKind.TheVariants.{SingleByte, Jis0208, Big5 as big5_kind, EucKr as euc_kr_kind, Gb18030 as gb18030_kind, Gb18030Ranges}
-use Rattle.index_loader.specs.Files.{Files, has_files, index_of}
+use Rattle.index_loader.specs.declared.family.Family.{Family}
+use Rattle.index_loader.specs.declared.family.Family.TheVariants as of
+use Rattle.index_loader.specs.Files.{Files, has_files, indexes_of}
 use Rattle.index_loader.specs.Index.{Loaded}
-use Rattle.iso2022jp.specs.declared.fault.FromFault.{FromFault}
-use Rattle.iso2022jp.specs.declared.fault.FromFault.TheVariants.{Unencodable as unencodable_from, OutOfMemory as no_memory_from}
-use Rattle.iso2022jp.specs.declared.fault.Unencodable.{Unencodable}
+use Rattle.decoder_core.specs.declared.utf16.ByteOrder.TheVariants.{BigEndian, LittleEndian}
+use Rattle.decoder_core.specs.declared.fault.FromFault.{FromFault}
+use Rattle.decoder_core.specs.declared.fault.FromFault.TheVariants.{Unencodable as unencodable_from, OutOfMemory as no_memory_from}
+use Rattle.decoder_core.specs.declared.fault.Unencodable.{Unencodable}
 use Rattle.iso2022jp.specs.declared.output.OutputState.TheVariants.{Ascii}
 use Rattle.encoders.specs.declared.fault.EncodeFault.{EncodeFault}
 use Rattle.encoders.specs.declared.fault.EncodeFault.TheVariants.{NoIndex, NoEncoder, Unencodable as unencodable, OutOfMemory}
@@ -19,7 +19,7 @@ use Rattle.encoders.specs.declared.mode.EncodeMode.TheVariants.{Fatal, Html}
 use Rattle.encoders.specs.Big5.{big5_bytes}
 use Rattle.encoders.specs.EucJp.{euc_jp_bytes}
 use Rattle.encoders.specs.EucKr.{euc_kr_bytes}
-use Rattle.encoders.specs.Gb18030.{gb18030_bytes, gbk_bytes}
+use Rattle.encoders.specs.Gb18030.{gb18030_bytes, is_gbk}
 use Rattle.encoders.specs.ShiftJis.{shift_jis_bytes}
 use Rattle.encoders.specs.SingleByte.{single_byte_bytes, x_user_defined_bytes}
 use Rattle.encoders.specs.Stateless.{stateless}
@@ -36,30 +36,33 @@ abbrev pub over : Option Loaded → (Loaded → ℕ → Option (List ℕ)) → �
 over (Some index) bytes = bytes index
 over None bytes = λ c. None
 
--- the bytes of a code point in an encoding whose encoder keeps no state
-abbrev pub bytes_in : Files → Encoding → ℕ → Option (List ℕ)
-bytes_in files Utf8 = λ c. Some (encode_utf8 c)
-bytes_in files Utf16Be = utf16_bytes true
-bytes_in files Utf16Le = utf16_bytes false
-bytes_in files XUserDefined = x_user_defined_bytes
-bytes_in files ShiftJis = over (index_of files Jis0208) shift_jis_bytes
-bytes_in files EucJp = over (index_of files Jis0208) euc_jp_bytes
-bytes_in files EucKr = over (index_of files euc_kr_kind) euc_kr_bytes
-bytes_in files Big5 = over (index_of files big5_kind) big5_bytes
-bytes_in files Gbk = over (index_of files gb18030_kind) gbk_bytes
-bytes_in files Gb18030 = over (index_of files gb18030_kind) (λ index. over (index_of files Gb18030Ranges) (gb18030_bytes index))
-bytes_in files encoding = over (index_of files (SingleByte encoding)) single_byte_bytes
+-- the bytes of a code point in a family whose encoder keeps no state; of gb18030's with its flag "is GBK"
+abbrev pub bytes_over : Bool → Family (Option Loaded) → ℕ → Option (List ℕ)
+bytes_over gbk of.Utf8 = λ c. Some (encode_utf8 c)
+bytes_over gbk of.Utf16Be = utf16_bytes BigEndian
+bytes_over gbk of.Utf16Le = utf16_bytes LittleEndian
+bytes_over gbk of.XUserDefined = x_user_defined_bytes
+bytes_over gbk (of.ShiftJis index) = over index shift_jis_bytes
+bytes_over gbk (of.EucJp jis0208 jis0212) = over jis0208 euc_jp_bytes
+bytes_over gbk (of.EucKr index) = over index euc_kr_bytes
+bytes_over gbk (of.Big5 index) = over index big5_bytes
+bytes_over gbk (of.Gb18030 index ranges) = over index (λ i. over ranges (gb18030_bytes gbk i))
+bytes_over gbk (of.SingleByte index) = over index single_byte_bytes
+bytes_over gbk family = λ c. None
 
 -- without the state behind the bytes
 abbrev pub bytes_only : {S : Type 0} → Result (Put S) Unencodable → Result (List ℕ) EncodeFault
 bytes_only (Ok put) = Ok put.bytes
 bytes_only (Err e) = Err (unencodable e)
 
--- with the encoding's files at hand, and to the end of the queue
+-- with the indexes of the encoding's family at hand, and to the end of the queue
+abbrev pub encoded_over : Bool → Files → Family (Option Loaded) → Bool → List ℕ → Result (List ℕ) EncodeFault
+encoded_over gbk files of.Replacement html cs = Err NoEncoder
+encoded_over gbk files (of.Iso2022Jp jis0208 katakana) html cs = bytes_only (encoded_iso files Ascii cs html true)
+encoded_over gbk files family html cs = bytes_only (encoded_from (stateless (bytes_over gbk family)) html 0 tt cs)
+
 abbrev pub encoded_in : Files → Encoding → Bool → List ℕ → Result (List ℕ) EncodeFault
-encoded_in files Replacement html cs = Err NoEncoder
-encoded_in files Iso2022Jp html cs = bytes_only (encoded_iso files Ascii cs html true)
-encoded_in files encoding html cs = bytes_only (encoded_from (stateless (bytes_in files encoding)) html 0 tt cs)
+encoded_in files encoding html cs = encoded_over (is_gbk encoding) files (indexes_of files encoding) html cs
 
 -- the bytes of code points, or the first cause that refuses it: NoIndex, NoEncoder, Unencodable
 unfoldable pub encoded : Files → Encoding → EncodeMode → List ℕ → Result (List ℕ) EncodeFault

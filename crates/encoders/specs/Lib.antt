@@ -3,7 +3,7 @@ pub mod Encode
 pub mod EucJp
 pub mod EucKr
 pub mod Examples
-pub mod Found
+pub mod Fit
 pub mod Gb18030
 pub mod ShiftJis
 pub mod SingleByte

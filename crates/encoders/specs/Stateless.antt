@@ -1,7 +1,7 @@
 -- Encoders that keep no state: the bytes of a code point are all that there is to say (Encoding Standard, "Encoders and decoders").
-use Rattle.std.specs.Prelude.{⊤, ℕ, Bool, List, [], ◌∷◌, Option, Some, None, if◌then◌else◌}
+use Rattle.std.specs.Prelude.{⊤, ℕ, List, [], ◌∷◌, Option, Some, None, if◌then◌else◌}
 use Rattle.decoder_core.specs.Forms.{is_ascii}
-use Rattle.iso2022jp.specs.declared.encoder.EncoderAnswer.TheVariants.{Puts, Fails}
+use Rattle.decoder_core.specs.declared.encoder.EncoderAnswer.TheVariants.{Puts, Fails}
 use Rattle.encoders.specs.Steps.{Turn, Table}
 
 -- a turn at a code point with these bytes; without bytes it is an error

@@ -7,7 +7,7 @@ ghost use Rattle.encoders.specs.Big5.{big5_bytes, big5_pair, big5_pointer, takes
 use crate::over_index::IndexRules;
 use decoder_core::Few;
 use enc_names::Scalar;
-use index_loader::{Index, pointer_exclusion};
+use index_loader::{Index, law_pointer_exclusion};
 
 /// The least pointer that is written: those below are the Hong Kong supplement's.
 const LEAST_POINTER: u32 = 5024;
@@ -30,7 +30,7 @@ fn big5_pointer(index: &Index, code_point: char) -> Option<u32>
     if !takes_last(code_point) {
         return index.pointer_from(Scalar::from(code_point), LEAST_POINTER);
     }
-    pointer_exclusion();
+    law_pointer_exclusion();
     let pointer = index.last_pointer(Scalar::from(code_point))?;
     if pointer < LEAST_POINTER {
         None

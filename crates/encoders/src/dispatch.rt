@@ -1,11 +1,12 @@
 //! One encoder for all encodings.
-ghost use Rattle.std.specs.Prelude.{◌≡◌, true};
+ghost use Rattle.std.specs.Prelude.{◌≡◌, Some, true};
 ghost use Rattle.std.specs.Str.{chars};
 ghost use Rattle.enc_names.specs.declared.encoding.Encoding.TheVariants.{Iso2022Jp};
+ghost use Rattle.index_loader.specs.Families.{family_map};
 ghost use Rattle.index_loader.specs.Files.{has_files};
 ghost use Rattle.iso2022jp.specs.declared.output.OutputState.TheVariants.{Ascii};
-ghost use Rattle.encoders.specs.Encode.{IsEncoded, bytes_only, encoded, is_html};
-ghost use Rattle.encoders.specs.Found.{IsOfKind};
+ghost use Rattle.encoders.specs.Encode.{IsEncoded, bytes_only, encoded, encoded_over, is_html};
+ghost use Rattle.encoders.specs.Fit.{IsFit};
 ghost use Rattle.encoders.specs.Stateless.{stateless};
 ghost use Rattle.encoders.specs.Steps.{encoded_from, encoded_iso};
 
@@ -13,7 +14,7 @@ use crate::big5::Big5;
 use crate::euc_jp::EucJp;
 use crate::euc_kr::EucKr;
 use crate::fault::EncodeFault;
-use crate::gb18030::{Gb18030Encoder, Gbk};
+use crate::gb18030::{Gb18030Encoder, is_gbk};
 use crate::mode::EncodeMode;
 use crate::over_index::IndexEncoder;
 use crate::shift_jis::ShiftJis;
@@ -21,15 +22,16 @@ use crate::single_byte::SingleByte;
 use crate::stateless::{ByBytes, Stateless};
 use crate::utf16::encode_utf16;
 use crate::x_user_defined::XUserDefinedEncoder;
+use decoder_core::{ByteOrder, Encoder, encode_by};
 use enc_names::Encoding;
-use index_loader::{Index, IndexKind, Indexes};
-use iso2022jp::{Encoder, OutputState, encode_by, encode_from};
+use index_loader::{Family, Index, Indexes};
+use iso2022jp::{OutputState, encode_from};
 use std::alloc::Global;
 
 /// Encodes a text (Encoding Standard, "encode"; to UTF-16 by Unicode, chapter 3, D91, without a byte
 /// order mark). Refused as `NoIndex` where an index file of the encoding isn't there, as `NoEncoder`
 /// for replacement, and in mode `Fatal` as `Unencodable` at the first code point without bytes.
-#[tactic(auto, unfolding(crate::specs::Encode::encoded, index_loader::specs::Files::has_files))]
+#[tactic(auto, unfolding(crate::specs::Encode::encoded))]
 pub fn encode(
     alloc: Global,
     encoding: Encoding,
@@ -39,57 +41,51 @@ pub fn encode(
 ) -> Result<Vec<u8>, EncodeFault>
     ensures { IsEncoded (encoded indexes.now encoding mode (chars text.now)) result }
 {
-    match encoding {
-        Encoding::Utf8 => Ok(Vec::from_slice(alloc, text.as_bytes())?),
-        Encoding::Replacement => Err(EncodeFault::NoEncoder),
-        Encoding::Utf16Be => Ok(encode_utf16(alloc, true, text)?),
-        Encoding::Utf16Le => Ok(encode_utf16(alloc, false, text)?),
-        Encoding::XUserDefined => encode_bytes(alloc, &XUserDefinedEncoder, mode, text),
-        Encoding::Iso2022Jp => {
-            if !indexes.has(encoding) {
-                return Err(EncodeFault::NoIndex);
-            }
-            encode_iso(alloc, indexes, mode, text)
-        }
-        Encoding::ShiftJis => {
-            let index = of_kind(indexes, IndexKind::Jis0208)?;
-            encode_bytes(alloc, &IndexEncoder::<ShiftJis>::new(index), mode, text)
-        }
-        Encoding::EucJp => {
-            let index = of_kind(indexes, IndexKind::Jis0208)?;
-            of_kind(indexes, IndexKind::Jis0212)?;
-            encode_bytes(alloc, &IndexEncoder::<EucJp>::new(index), mode, text)
-        }
-        Encoding::EucKr => {
-            let index = of_kind(indexes, IndexKind::EucKr)?;
-            encode_bytes(alloc, &IndexEncoder::<EucKr>::new(index), mode, text)
-        }
-        Encoding::Big5 => {
-            let index = of_kind(indexes, IndexKind::Big5)?;
-            encode_bytes(alloc, &IndexEncoder::<Big5>::new(index), mode, text)
-        }
-        Encoding::Gb18030 => {
-            let index = of_kind(indexes, IndexKind::Gb18030)?;
-            let ranges = of_kind(indexes, IndexKind::Gb18030Ranges)?;
-            encode_bytes(alloc, &Gb18030Encoder::new(index, ranges), mode, text)
-        }
-        Encoding::Gbk => {
-            let index = of_kind(indexes, IndexKind::Gb18030)?;
-            of_kind(indexes, IndexKind::Gb18030Ranges)?;
-            encode_bytes(alloc, &IndexEncoder::<Gbk>::new(index), mode, text)
-        }
-        _ => {
-            let index = of_kind(indexes, IndexKind::SingleByte(encoding))?;
-            encode_bytes(alloc, &IndexEncoder::<SingleByte>::new(index), mode, text)
-        }
+    match indexes.of(encoding) {
+        Some(family) => encode_over(alloc, is_gbk(encoding), indexes, family, mode, text),
+        None => Err(EncodeFault::NoIndex),
     }
 }
 
-/// The index of a kind.
-fn of_kind(indexes: &Indexes, kind: IndexKind) -> Result<&Index, EncodeFault>
-    ensures { IsOfKind indexes.now kind result }
+/// Encodes a text over the indexes of the encoding's family, which are lent by `indexes`.
+fn encode_over(
+    alloc: Global,
+    is_gbk: bool,
+    indexes: &Indexes,
+    family: Family<&Index>,
+    mode: EncodeMode,
+    text: &str,
+) -> Result<Vec<u8>, EncodeFault>
+    requires { IsFit indexes.now (family_map (λ index. Some index.now) family) }
+    ensures { IsEncoded (encoded_over is_gbk indexes.now (family_map (λ index. Some index.now) family.entry) (is_html mode) (chars text.now)) result }
 {
-    indexes.get(kind).ok_or(EncodeFault::NoIndex)
+    match family {
+        Family::Utf8 => Ok(Vec::from_slice(alloc, text.as_bytes())?),
+        Family::Replacement => Err(EncodeFault::NoEncoder),
+        Family::Utf16Be => Ok(encode_utf16(alloc, ByteOrder::BigEndian, text)?),
+        Family::Utf16Le => Ok(encode_utf16(alloc, ByteOrder::LittleEndian, text)?),
+        Family::XUserDefined => encode_bytes(alloc, &XUserDefinedEncoder, mode, text),
+        Family::Iso2022Jp { .. } => encode_iso(alloc, indexes, mode, text),
+        Family::ShiftJis(index) => {
+            encode_bytes(alloc, &IndexEncoder::<ShiftJis>::new(index), mode, text)
+        }
+        Family::EucJp { jis0208, .. } => {
+            encode_bytes(alloc, &IndexEncoder::<EucJp>::new(jis0208), mode, text)
+        }
+        Family::EucKr(index) => encode_bytes(alloc, &IndexEncoder::<EucKr>::new(index), mode, text),
+        Family::Big5(index) => encode_bytes(alloc, &IndexEncoder::<Big5>::new(index), mode, text),
+        Family::Gb18030 { index, ranges } => {
+            encode_bytes(
+                alloc,
+                &Gb18030Encoder::new(is_gbk, index, ranges),
+                mode,
+                text,
+            )
+        }
+        Family::SingleByte(index) => {
+            encode_bytes(alloc, &IndexEncoder::<SingleByte>::new(index), mode, text)
+        }
+    }
 }
 
 /// A text to ISO-2022-JP, from its first state and with the end.

@@ -1,5 +1,5 @@
 //! Why a text isn't encoded.
-use iso2022jp::{FromFault, Unencodable};
+use decoder_core::{FromFault, Unencodable};
 use std::alloc::AllocError;
 
 /// Why a text isn't encoded; where several stand, the first of them.

@@ -1,13 +1,12 @@
-//! The encoders of gb18030 and GBK.
+//! The encoder of gb18030 and GBK.
 ghost use Rattle.std.specs.Prelude.{◌≡◌, ◌≤◌};
 ghost use Rattle.decoder_core.specs.Steps.{bytes_of};
 ghost use Rattle.index_loader.specs.Table.{pointer_limit};
-ghost use Rattle.encoders.specs.Gb18030.{gb18030_bytes, gb18030_four, gb18030_pair, gbk_bytes};
+ghost use Rattle.encoders.specs.Gb18030.{gb18030_bytes, gb18030_four, gb18030_pair, is_gbk};
 
-use crate::over_index::IndexRules;
 use crate::stateless::Stateless;
 use decoder_core::Few;
-use enc_names::Scalar;
+use enc_names::{Encoding, Scalar};
 use index_loader::Index;
 use std::marker::Model;
 
@@ -35,79 +34,69 @@ fn gb18030_four(pointer: u32) -> Few
     )
 }
 
-/// The gb18030 encoder, which borrows its indexes. Contracts see these.
+/// Whether the encoding is GBK, which the gb18030 encoder's flag "is GBK" says.
+pub(crate) fn is_gbk(encoding: Encoding) -> bool
+    ensures { result ≡ is_gbk encoding }
+{
+    matches!(encoding, Encoding::Gbk)
+}
+
+/// The encoder of gb18030 and GBK, which borrows its indexes. Contracts see these and its flag.
 #[derive(Drop)]
 pub(crate) struct Gb18030Encoder<'i> {
     index: &'i Index,
     ranges: &'i Index,
+    is_gbk: bool,
 }
 
 impl<'i> Model for Gb18030Encoder<'i> {
     ghost use Rattle.std.specs.Prelude.{◌≡◌};
-    ghost use Rattle.index_loader.specs.Index.{Loaded};
     ghost use Rattle.index_loader.specs.Table.{pointer_limit};
+    ghost use Rattle.encoders.specs.Gb18030.{Gb18030};
 
-    ghost Value = { Loaded × Loaded };
+    ghost Value = { Gb18030 };
 
-    ghost view = { λ e. (e.index.now, e.ranges.now) };
+    ghost view = { λ e. record { gbk = e.is_gbk; index = e.index.now; ranges = e.ranges.now } };
 
     ghost invariant = { λ e. (pointer_limit e.index.now.kind ≡ 23939) × (pointer_limit e.ranges.now.kind ≡ 1303111) };
 }
 
 impl<'i> Gb18030Encoder<'i> {
-    /// The encoder over its indexes.
-    pub(crate) fn new(index: &'i Index, ranges: &'i Index) -> Gb18030Encoder<'i>
+    /// The encoder over its indexes, with the Standard's flag "is GBK".
+    pub(crate) fn new(is_gbk: bool, index: &'i Index, ranges: &'i Index) -> Gb18030Encoder<'i>
         requires index { pointer_limit index.now.kind ≡ 23939 }
         requires ranges { pointer_limit ranges.now.kind ≡ 1303111 }
-        ensures { result ≡ (index.now, ranges.now) }
+        ensures { result ≡ record { gbk = is_gbk; index = index.now; ranges = ranges.now } }
     {
-        Gb18030Encoder { index, ranges }
+        Gb18030Encoder {
+            index,
+            ranges,
+            is_gbk,
+        }
     }
 }
 
 impl<'i> Stateless for Gb18030Encoder<'i> {
     ghost use Rattle.encoders.specs.StatelessLaws.{by_ascii_or};
 
-    ghost encodes = { λ e. gb18030_bytes e.0 e.1 };
+    ghost encodes = { λ e. gb18030_bytes e.gbk e.index e.ranges };
 
     #[inline(always)]
     fn bytes(&self, code_point: char) -> Option<Few> {
         match u32::from(code_point) {
             0..=0x7F => return Some(Few::One(code_point as u8)),
             0xE5E5 => return None,
+            0x20AC if self.is_gbk => return Some(Few::One(0x80)),
             _ => {}
         }
         if let Some(pointer) = self.index.pointer(Scalar::from(code_point)) {
             return Some(gb18030_pair(pointer));
         }
+        if self.is_gbk {
+            return None;
+        }
         let pointer = self.ranges.pointer(Scalar::from(code_point))?;
         Some(gb18030_four(pointer))
-    }
-
-    ghost ascii = { λ e c is. by_ascii_or _ c is };
-}
-
-/// What the encoder of GBK writes (Encoding Standard).
-pub(crate) enum Gbk {}
-
-impl IndexRules for Gbk {
-    ghost use Rattle.encoders.specs.StatelessLaws.{by_ascii_or};
-
-    ghost limit = { 23939 };
-
-    ghost written = { gbk_bytes };
-
-    #[inline(always)]
-    fn bytes(index: &Index, code_point: char) -> Option<Few> {
-        match u32::from(code_point) {
-            0..=0x7F => Some(Few::One(code_point as u8)),
-            0xE5E5 => None,
-            0x20AC => Some(Few::One(0x80)),
-            _ => {
-                let pointer = index.pointer(Scalar::from(code_point))?;
-                Some(gb18030_pair(pointer))
-            }
-        }
     }
 
     ghost ascii = { λ e c is. by_ascii_or _ c is };

@@ -16,7 +16,7 @@ mod stateless;
 mod utf16;
 mod x_user_defined;
 
+pub use decoder_core::Unencodable;
 pub use dispatch::encode;
 pub use fault::EncodeFault;
-pub use iso2022jp::Unencodable;
 pub use mode::EncodeMode;

@@ -7,7 +7,7 @@ ghost use Rattle.encoders.specs.ShiftJis.{minus_folded, shift_jis_bytes, shift_j
 use crate::over_index::IndexRules;
 use decoder_core::Few;
 use enc_names::Scalar;
-use index_loader::{Index, pointer_exclusion};
+use index_loader::{Index, law_pointer_exclusion};
 
 /// The smallest pointer of a code point that isn't one of the duplicates 8272 to 8835 (Encoding
 /// Standard, "index Shift_JIS pointer").
@@ -15,7 +15,7 @@ fn shift_jis_pointer(index: &Index, code_point: char) -> Option<u32>
     ensures value { result ≡ shift_jis_pointer index.now code_point }
     ensures bound { IfSome result (λ p. p ≤ pointer_limit index.now.kind) }
 {
-    pointer_exclusion();
+    law_pointer_exclusion();
     match index.pointer(Scalar::from(code_point))? {
         8272..=8835 => index.pointer_from(Scalar::from(code_point), 8836),
         pointer => Some(pointer),

@@ -4,8 +4,7 @@ ghost use Rattle.decoder_core.specs.Steps.{bytes_of};
 ghost use Rattle.decoder_core.specs.Forms.{is_ascii};
 ghost use Rattle.encoders.specs.Stateless.{bytes_turn, stateless};
 
-use decoder_core::Few;
-use iso2022jp::{Encoder, EncoderAnswer, EncoderTurn};
+use decoder_core::{Encoder, EncoderAnswer, EncoderTurn, Few};
 use lane_ascii::ascii_run;
 
 /// An encoder that keeps no state and puts ASCII as it is: each code point has its bytes, or none.

@@ -1,9 +1,11 @@
 //! UTF-16BE and UTF-16LE.
-ghost use Rattle.std.specs.Prelude.{◌≡◌, ◌*◌, ◌≤◌, ◌++◌, false, length, take, IfOk, OnOk};
+ghost use Rattle.std.specs.Prelude.{◌≡◌, ◌*◌, ◌≤◌, ◌++◌, length, take, IfOk, OnOk};
 ghost use Rattle.std.specs.Str.{chars};
+ghost use Rattle.decoder_core.specs.declared.utf16.ByteOrder.TheVariants.{LittleEndian};
 ghost use Rattle.lane_utf.specs.Utf16.{utf16_forms};
 ghost use Rattle.encoders.specs.Utf16.{units_bytes};
 
+use decoder_core::ByteOrder;
 use lane_ascii::swap_pairs;
 use lane_utf::{count_utf16, utf8_to_utf16};
 use std::alloc::{AllocError, Global};
@@ -11,30 +13,34 @@ use std::alloc::{AllocError, Global};
 /// How many bytes of a text are converted at once; they have at most as many units.
 const PART: usize = 512;
 
-/// The UTF-16 form of a text (Unicode, chapter 3, D91), big-endian or not, without a byte order
-/// mark.
-pub(crate) fn encode_utf16(alloc: Global, big: bool, text: &str) -> Result<Vec<u8>, AllocError>
-    ensures { IfOk result (λ bytes. bytes.items ≡ units_bytes big (utf16_forms (chars text.now))) }
+/// The UTF-16 form of a text (Unicode, chapter 3, D91), in a byte order, without a byte
+/// order mark.
+pub(crate) fn encode_utf16(
+    alloc: Global,
+    order: ByteOrder,
+    text: &str,
+) -> Result<Vec<u8>, AllocError>
+    ensures { IfOk result (λ bytes. bytes.items ≡ units_bytes order (utf16_forms (chars text.now))) }
 {
     let mut bytes = Vec::with_capacity(alloc, count_utf16(text).saturating_mul(2))?;
     let mut rest = text;
     'parts: while !rest.is_empty() {
         let (part, behind) = rest.split_at(rest.floor_char_boundary(PART));
-        put_part(big, part, &mut bytes)?;
+        put_part(order, part, &mut bytes)?;
         rest = behind;
     }
     Ok(bytes)
 }
 
 /// Puts the bytes of a part.
-fn put_part(big: bool, part: &str, bytes: &mut Vec<u8>) -> Result<(), AllocError>
+fn put_part(order: ByteOrder, part: &str, bytes: &mut Vec<u8>) -> Result<(), AllocError>
     requires { length part.now ≤ 512 }
-    ensures { OnOk result (bytes.new.items ≡ bytes.old.items ++ units_bytes big (utf16_forms (chars part.now))) }
+    ensures { OnOk result (bytes.new.items ≡ bytes.old.items ++ units_bytes order (utf16_forms (chars part.now))) }
 {
     let mut units = [0; 512];
     let mut block = [0; 1024];
     let count = form_of(part, &mut units);
-    write_units(big, &units[..count], &mut block);
+    write_units(order, &units[..count], &mut block);
     bytes.extend_from_slice(&block[..2 * count])
 }
 
@@ -51,20 +57,21 @@ fn form_of(part: &str, units: &mut [u16; 512]) -> usize
 }
 
 /// Writes the bytes of the units.
-fn write_units(big: bool, units: &[u16], block: &mut [u8; 1024])
+fn write_units(order: ByteOrder, units: &[u16], block: &mut [u8; 1024])
     requires { length units.now ≤ 512 }
-    ensures { take (2 * length units.now) block.new ≡ units_bytes big units.now }
+    ensures { take (2 * length units.now) block.new ≡ units_bytes order units.now }
 {
     write_little(units, block);
-    if big {
-        swap_pairs(&mut block[..2 * units.len()]);
+    match order {
+        ByteOrder::BigEndian => swap_pairs(&mut block[..2 * units.len()]),
+        ByteOrder::LittleEndian => {}
     }
 }
 
 /// Writes the bytes of the units, the low byte of each first.
 fn write_little(units: &[u16], block: &mut [u8; 1024])
     requires { length units.now ≤ 512 }
-    ensures { take (2 * length units.now) block.new ≡ units_bytes false units.now }
+    ensures { take (2 * length units.now) block.new ≡ units_bytes LittleEndian units.now }
 {
     let mut at = 0;
     'units: while at < units.len() {

@@ -48,18 +48,23 @@ pub struct Listening {
 pub fn job_of(alloc: Global, words: &[String]) -> Result<Job<'_>, Error> {
     let mut command = command(alloc)?;
     let matches = command.try_get_matches_from_mut(words)?;
-    let job = if let Some(given) = matches.subcommand_matches(STDIO) {
-        sources_of(given).map(Job::Stdio)
-    } else if let Some(given) = matches.subcommand_matches(TRACE) {
-        sources_of(given).map(Job::Trace)
-    } else if let Some(given) = matches.subcommand_matches(TCP) {
-        tcp_of(given)
-    } else {
-        Some(Job::Plain)
-    };
-    match job {
+    match asked(&matches) {
         Some(job) => Ok(job),
         None => Err(command.error(ErrorKind::MissingRequiredArgument, "an option has no value")?),
+    }
+}
+
+/// The job of words that the command line takes, or `None` where an option that it needs has no value.
+fn asked<'a>(matches: &ArgMatches<'a>) -> Option<Job<'a>> {
+    if let Some(given) = matches.subcommand_matches(STDIO) {
+        return Some(Job::Stdio(sources_of(given)?));
+    }
+    if let Some(given) = matches.subcommand_matches(TRACE) {
+        return Some(Job::Trace(sources_of(given)?));
+    }
+    match matches.subcommand_matches(TCP) {
+        Some(given) => tcp_of(given),
+        None => Some(Job::Plain),
     }
 }
 
@@ -81,52 +86,62 @@ fn tcp_of<'a>(given: &ArgMatches<'a>) -> Option<Job<'a>> {
     Some(Job::Tcp(sources, listening))
 }
 
-/// A command that serves with files.
-fn with_sources<'a>(alloc: Global, name: &'a str, about: &'a str) -> Result<Command<'a>, Error> {
-    let indexes = Arg::new(alloc, "indexes")
+/// The folder of index files.
+fn indexes<'a>(alloc: Global) -> Arg<'a> {
+    Arg::new(alloc, "indexes")
         .long("indexes")
         .value_name("DIR")
         .help("The folder of the index files; a file that isn't there is an absent index")
         .required(true)
-        .action(ArgAction::Set);
-    let labels = Arg::new(alloc, "labels")
+        .action(ArgAction::Set)
+}
+
+/// The label file.
+fn labels<'a>(alloc: Global) -> Arg<'a> {
+    Arg::new(alloc, "labels")
         .long("labels")
         .value_name("FILE")
         .help("The label file; without one the 40 names are the labels")
-        .action(ArgAction::Set);
-    Ok(
-        Command::new(alloc, name)
-            .about(about)
-            .arg(indexes)?
-            .arg(labels)?,
-    )
+        .action(ArgAction::Set)
 }
 
-/// The command that listens.
-fn tcp<'a>(alloc: Global) -> Result<Command<'a>, Error> {
-    let port = Arg::new(alloc, "port")
+/// The port that is listened on.
+fn port<'a>(alloc: Global) -> Arg<'a> {
+    Arg::new(alloc, "port")
         .long("port")
         .value_name("N")
         .help("The port on 127.0.0.1, from 1 to 65535")
         .value_parser(value_parser!(u16).range(1..))
         .default_value("7117")
-        .action(ArgAction::Set);
-    let serve = Arg::new(alloc, "serve")
+        .action(ArgAction::Set)
+}
+
+/// How many connections are served.
+fn connections<'a>(alloc: Global) -> Arg<'a> {
+    Arg::new(alloc, "serve")
         .long("serve")
         .value_name("N")
         .help("How many connections to serve, from 1 to 1000000")
         .value_parser(value_parser!(u32).range(1..=1_000_000))
         .default_value("1")
-        .action(ArgAction::Set);
+        .action(ArgAction::Set)
+}
+
+/// A command that serves with files. Each argument goes into the command as soon as it is made, here
+/// as below, so that none is left over where memory is refused: its drop would be long to prove.
+fn with_sources<'a>(alloc: Global, name: &'a str, about: &'a str) -> Result<Command<'a>, Error> {
+    let command = Command::new(alloc, name).about(about).arg(indexes(alloc))?;
+    Ok(command.arg(labels(alloc))?)
+}
+
+/// The command that listens.
+fn tcp<'a>(alloc: Global) -> Result<Command<'a>, Error> {
     let about = "Serves connections on 127.0.0.1, one after another, with index files and labels";
-    Ok(
-        with_sources(alloc, TCP, about)?
-            .after_help(
-                "Example: gate tcp --indexes standard --labels standard/encodings.json --port 7117 --serve 10",
-            )
-            .arg(port)?
-            .arg(serve)?,
-    )
+    let command = with_sources(alloc, TCP, about)?.after_help(
+        "Example: gate tcp --indexes standard --labels standard/encodings.json --port 7117 --serve 10",
+    );
+    let command = command.arg(port(alloc))?;
+    Ok(command.arg(connections(alloc))?)
 }
 
 /// The command line's form.

@@ -2,7 +2,7 @@
 ghost use Rattle.std.specs.Prelude.{◌≡◌};
 ghost use Rattle.gate.specs.Ending.{status_of, label_fault_name};
 
-use crate::text::Text;
+use crate::text_outlet::TextOutlet;
 use enc_names::LabelFault;
 use gateway::Outlet;
 use index_files::{FolderFault, IndexFileFault};
@@ -61,7 +61,7 @@ impl Failure<'_> {
 
     /// Writes the failure's text; one that can't be written is left out.
     pub fn print<E: Outlet>(&self, error: &mut E) {
-        let _ = Text::new(error).put(self);
+        let _ = TextOutlet::new(error).put(self);
     }
 }
 

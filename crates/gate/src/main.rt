@@ -9,9 +9,7 @@ mod perform;
 mod replay;
 mod serve;
 mod stdio;
-#[cfg(test)]
-mod tests;
-mod text;
+mod text_outlet;
 
 use failure::Failure;
 use gateway::{FromRead, ToWrite};

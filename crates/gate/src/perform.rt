@@ -7,7 +7,7 @@ use crate::labels::{labels_in, names};
 use crate::replay::replay;
 use crate::serve::{ServeFault, serve};
 use crate::stdio::serve_stdio;
-use crate::text::Text;
+use crate::text_outlet::TextOutlet;
 use enc_names::Labels;
 use gateway::{Feed, Outlet};
 use index_files::indexes_in;
@@ -43,36 +43,38 @@ fn attempt<'a, T: Files + Net<Listener = TcpListener, Stream = TcpStream>, R: Fe
     output: &mut W,
 ) -> Result<(), Failure<'a>> {
     match job_of(alloc, words) {
-        Ok(Job::Plain) => serve_stdio(alloc, &Indexes::new(), names(alloc)?, input, output),
+        Ok(Job::Plain) => {
+            let labels = names(alloc)?;
+            serve_stdio(alloc, &Indexes::new(), labels, input, output)
+        }
         Ok(Job::Stdio(sources)) => {
-            let indexes = indexes_in(rt, alloc, sources.indexes)?;
-            let labels = labels_of(rt, alloc, sources)?;
+            let (indexes, labels) = files_of(rt, alloc, sources)?;
             serve_stdio(alloc, &indexes, labels, input, output)
         }
         Ok(Job::Trace(sources)) => {
-            let indexes = indexes_in(rt, alloc, sources.indexes)?;
-            let labels = labels_of(rt, alloc, sources)?;
+            let (indexes, labels) = files_of(rt, alloc, sources)?;
             replay(alloc, &indexes, labels, input, output)
         }
         Ok(Job::Tcp(sources, listening)) => {
-            let indexes = indexes_in(rt, alloc, sources.indexes)?;
-            let labels = labels_of(rt, alloc, sources)?;
+            let (indexes, labels) = files_of(rt, alloc, sources)?;
             listen(rt, alloc, &indexes, labels, listening)
         }
         Err(error) => refused(error, output),
     }
 }
 
-/// The labels of the label file, or the names where there is none.
-fn labels_of<'a, T: Files>(
+/// The index files, and then the labels of the label file, or the names where there is none.
+fn files_of<'a, T: Files>(
     rt: &T,
     alloc: Global,
     sources: Sources<'a>,
-) -> Result<Labels, Failure<'a>> {
-    let Some(name) = sources.labels else {
-        return names(alloc);
+) -> Result<(Indexes, Labels), Failure<'a>> {
+    let indexes = indexes_in(rt, alloc, sources.indexes)?;
+    let labels = match sources.labels {
+        Some(name) => labels_in(rt, alloc, name)?,
+        None => names(alloc)?,
     };
-    labels_in(rt, alloc, name)
+    Ok((indexes, labels))
 }
 
 /// Listens on a port of 127.0.0.1, and serves connections, from no document on.
@@ -101,5 +103,7 @@ fn refused<'a, W: Outlet>(error: clap::Error, output: &mut W) -> Result<(), Fail
     if error.use_stderr() {
         return Err(Failure::Words(error));
     }
-    Text::new(output).put(&error).map_err(|_| Failure::Write)
+    TextOutlet::new(output)
+        .put(&error)
+        .map_err(|_| Failure::Write)
 }

@@ -5,9 +5,6 @@ ghost use Rattle.gateway.specs.Events.{line_at};
 use gateway::{FromRead, Gateway, ToWrite, run};
 use std::net::{TcpListener, TcpStream};
 
-#[cfg(test)]
-mod tests;
-
 /// Why serving ended before all connections were served.
 #[derive(Clone, Copy, PartialEq, Eq, Debug)]
 pub enum ServeFault {

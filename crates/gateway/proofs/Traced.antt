@@ -71,8 +71,8 @@ traces_are_events t u (line ∷ lines) out p =
           (occur-append t p.0 u (line_events (is_skipped line) line) (events_on lines) (replies_among here.0) (replies_among later.0) here.2 later.2),
     )
 
-pub traces_in_order : RepliesInOrder → TracesInOrder
-traces_in_order replies_in_order t u w lines out s p =
+pub law_traces_in_order : RepliesInOrder → TracesInOrder
+law_traces_in_order law_replies_in_order t u w lines out s p =
     let all = traces_are_events t u lines out p in
-    let served = replies_in_order t u w (events_on lines) (replies_among all.0) s all.2 in
+    let served = law_replies_in_order t u w (events_on lines) (replies_among all.0) s all.2 in
     (all.0, all.1, served.0, served.1)

@@ -1,15 +1,15 @@
 -- What the code of a trace has done so far. Nothing here has to be believed.
 use Rattle.std.specs.Prelude.{◌≡◌, ℕ, ◌+◌, ◌<◌, List, [], ◌∷◌, ◌++◌, length, map, take, Option, Some, None, Vec, Result, Ok, Err}
 use Rattle.std.specs.declared.alloc.Global.{Global}
-use Rattle.std.specs.Io.KnownBytes.{Consumes, Appends, IsAtEnd}
+use Rattle.std.specs.Io.KnownBytes.{Consumes, Appends}
 use Rattle.gateway.specs.declared.traces.fault.TraceFault.{TraceFault}
 use Rattle.gateway.specs.declared.traces.fault.TraceFault.TheVariants as fault
 use Rattle.gateway.specs.declared.traces.begun_line.LineFault.{LineFault}
 use Rattle.gateway.specs.declared.traces.begun_line.LineFault.TheVariants.{Bad, Write, OutOfMemory}
 use Rattle.gateway.specs.declared.traces.event.TraceEvent.{TraceEvent}
 use Rattle.gateway.specs.declared.traces.event.TraceEvent.TheVariants.{Open, Bytes, Close}
-use Rattle.gateway.specs.declared.traces.reading.Progress.{Progress}
-use Rattle.gateway.specs.declared.traces.reading.Progress.TheVariants.{More, End}
+use Rattle.devices.specs.declared.reading.Progress.{Progress}
+use Rattle.devices.specs.declared.reading.Progress.TheVariants.{More, End}
 use Rattle.gateway.specs.declared.traces.feeding.TracePlace.{TracePlace}
 use Rattle.devices.specs.Devices.{AppendsPart}
 use Rattle.connections.specs.Delivery.{IsOpen}
@@ -138,11 +138,6 @@ ReadsBy (Ok x) old new left rest before after was is = ReadsOn old new left rest
 ReadsBy (Err fault.Read) old new left rest before after was is = ReadsOn old new left rest before after was is
 ReadsBy (Err fault.TooManyReads) old new left rest before after was is = ReadsOn old new left rest before after was is
 ReadsBy (Err f) old new left rest before after was is = ReadStops f old new left rest before after was
-
--- where a read reported the end, nothing is left
-abbrev pub EndsAt : Progress → Option (List ℕ) → Type 0
-EndsAt More left = Unit {0}
-EndsAt End left = IsAtEnd left
 
 -- how many of the reads reported the end: of one read, and of all
 abbrev pub read_ends : Result Progress TraceFault → ℕ

@@ -1,11 +1,11 @@
 -- The loaded index files and which of them an encoding needs (Encoding Standard, "Indexes").
-use Rattle.std.specs.Prelude.{Bool, List, [], ◌∷◌, replicate, set, Option, Some, None, is_some, option_and_then, option_map, slice_index_or}
+use Rattle.std.specs.Prelude.{Bool, List, replicate, set, Option, Some, None, is_some, option_and_then, option_map, slice_index_or}
 use Rattle.std.specs.List.{list_all}
 use Rattle.std.specs.Option.{option_map_or}
 use Rattle.enc_names.specs.declared.encoding.Encoding.{Encoding}
 use Rattle.index_loader.specs.declared.kind.IndexKind.{IndexKind}
-use Rattle.index_loader.specs.declared.kind.IndexKind.TheVariants.{Jis0208, Jis0212, Big5, EucKr, Gb18030, Gb18030Ranges, Katakana}
-use Rattle.index_loader.specs.Families.{Family, OfUtf8, OfSingleByte, OfGb18030, OfBig5, OfEucJp, OfIso2022Jp, OfShiftJis, OfEucKr, OfReplacement, OfUtf16Be, OfUtf16Le, OfXUserDefined, family_of}
+use Rattle.index_loader.specs.declared.family.Family.{Family}
+use Rattle.index_loader.specs.Families.{family_map, family_of, needed}
 use Rattle.index_loader.specs.Index.{Loaded}
 use Rattle.index_loader.specs.Kinds.{home_of, slot_of}
 pub use Rattle.index_loader.specs.Pairs.{Pairs}
@@ -30,25 +30,10 @@ index_of files kind = option_map (λ pairs. record { kind = home_of kind; pairs 
 abbrev pub with_index : Files → Loaded → Files
 with_index files index = option_map_or (λ slot. record { slots = set files.slots slot (Some index.pairs) }) (slot_of index.kind) files
 
--- the kinds of the files that a decoder needs; ISO-2022-JP is served with its encoder's file or not at all
-abbrev pub files_of : Family → List IndexKind
-files_of OfUtf8 = []
-files_of OfUtf16Be = []
-files_of OfUtf16Le = []
-files_of OfReplacement = []
-files_of OfXUserDefined = []
-files_of OfShiftJis = Jis0208 ∷ []
-files_of OfEucJp = Jis0208 ∷ Jis0212 ∷ []
-files_of OfIso2022Jp = Jis0208 ∷ Katakana ∷ []
-files_of OfEucKr = EucKr ∷ []
-files_of OfBig5 = Big5 ∷ []
-files_of OfGb18030 = Gb18030 ∷ Gb18030Ranges ∷ []
-files_of (OfSingleByte kind) = kind ∷ []
-
--- the kinds of the files that an encoding needs
-abbrev pub files_needed : Encoding → List IndexKind
-files_needed encoding = files_of (family_of encoding)
+-- the indexes that an encoding needs, each where its file is there
+abbrev pub indexes_of : Files → Encoding → Family (Option Loaded)
+indexes_of files encoding = family_map (index_of files) (family_of encoding)
 
 -- all files that an encoding needs are there, so that it is decoded and encoded
 unfoldable pub has_files : Files → Encoding → Bool
-has_files files encoding = list_all (λ kind. is_some (pairs_of files kind)) (files_needed encoding)
+has_files files encoding = list_all (λ kind. is_some (pairs_of files kind)) (needed (family_of encoding))

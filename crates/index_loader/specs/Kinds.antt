@@ -7,7 +7,9 @@ use Rattle.enc_names.specs.declared.encoding.Encoding.TheVariants.{Iso8859_8, Is
 use Rattle.enc_names.specs.Names.{encodings}
 use Rattle.index_loader.specs.declared.kind.IndexKind.{IndexKind}
 use Rattle.index_loader.specs.declared.kind.IndexKind.TheVariants.{SingleByte, Jis0208, Jis0212, Big5, EucKr, Gb18030, Gb18030Ranges, Katakana}
-use Rattle.index_loader.specs.Families.{Family, OfSingleByte, family_of}
+use Rattle.index_loader.specs.declared.family.Family.{Family}
+use Rattle.index_loader.specs.Families.{family_of}
+use Rattle.index_loader.specs.declared.family.Family.TheVariants as of
 
 -- both are one kind
 abbrev pub same_kind : IndexKind → IndexKind → Bool
@@ -27,8 +29,8 @@ home_of (SingleByte Iso8859_8I) = SingleByte Iso8859_8
 home_of kind = kind
 
 -- there are index files of this kind: of an encoding they are if its decoder is the single-byte one
-abbrev is_single_byte : Family → Bool
-is_single_byte (OfSingleByte _) = true
+abbrev is_single_byte : Family IndexKind → Bool
+is_single_byte (of.SingleByte _) = true
 is_single_byte _ = false
 
 abbrev pub has_files_of : IndexKind → Bool

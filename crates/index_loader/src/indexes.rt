@@ -1,7 +1,9 @@
 //! The loaded index files.
-ghost use Rattle.std.specs.Prelude.{◌≡◌, MatchOption, None, Some, is_some};
-ghost use Rattle.index_loader.specs.Files.{has_files, index_of, no_files, pairs_of, with_index};
+ghost use Rattle.std.specs.Prelude.{◌≡◌, IfSome, MatchOption, None, Some, is_some};
+ghost use Rattle.index_loader.specs.Families.{family_map};
+ghost use Rattle.index_loader.specs.Files.{has_files, index_of, indexes_of, no_files, with_index};
 
+use crate::family::Family;
 use crate::index::Index;
 use crate::kind::IndexKind;
 use enc_names::Encoding;
@@ -58,35 +60,42 @@ impl Indexes {
         self.slots[kind.slot()?].as_ref()
     }
 
-    /// Whether the file of this kind is there.
-    fn holds(&self, kind: IndexKind) -> bool
-        ensures { result ≡ is_some (pairs_of self.now kind) }
+    /// What an encoding needs of the index files, lent; `None` where one of them isn't there (Encoding
+    /// Standard, "Indexes"). Takes no memory.
+    #[tactic(auto, unfolding(crate::specs::Files::has_files))]
+    pub fn of(&self, encoding: Encoding) -> Option<Family<&Index>>
+        ensures there { is_some result ≡ has_files self.now encoding }
+        ensures lent { IfSome result (λ family. family_map (λ index. Some index.now) family ≡ indexes_of self.now encoding) }
     {
-        self.get(kind).is_some()
+        Some(match encoding {
+            Encoding::Utf8 => Family::Utf8,
+            Encoding::Gb18030 | Encoding::Gbk => Family::Gb18030 {
+                index: self.get(IndexKind::Gb18030)?,
+                ranges: self.get(IndexKind::Gb18030Ranges)?,
+            },
+            Encoding::Big5 => Family::Big5(self.get(IndexKind::Big5)?),
+            Encoding::EucJp => Family::EucJp {
+                jis0208: self.get(IndexKind::Jis0208)?,
+                jis0212: self.get(IndexKind::Jis0212)?,
+            },
+            Encoding::Iso2022Jp => Family::Iso2022Jp {
+                jis0208: self.get(IndexKind::Jis0208)?,
+                katakana: self.get(IndexKind::Katakana)?,
+            },
+            Encoding::ShiftJis => Family::ShiftJis(self.get(IndexKind::Jis0208)?),
+            Encoding::EucKr => Family::EucKr(self.get(IndexKind::EucKr)?),
+            Encoding::Replacement => Family::Replacement,
+            Encoding::Utf16Be => Family::Utf16Be,
+            Encoding::Utf16Le => Family::Utf16Le,
+            Encoding::XUserDefined => Family::XUserDefined,
+            _ => Family::SingleByte(self.get(IndexKind::SingleByte(encoding))?),
+        })
     }
 
-    /// Whether all files that the encoding needs are there (Encoding Standard, "Indexes").
-    #[tactic(auto, unfolding(crate::specs::Files::has_files))]
+    /// Whether all files that the encoding needs are there.
     pub fn has(&self, encoding: Encoding) -> bool
         ensures { result ≡ has_files self.now encoding }
     {
-        match encoding {
-            Encoding::Utf8
-            | Encoding::Utf16Be
-            | Encoding::Utf16Le
-            | Encoding::Replacement
-            | Encoding::XUserDefined => true,
-            Encoding::ShiftJis => self.holds(IndexKind::Jis0208),
-            Encoding::EucJp => self.holds(IndexKind::Jis0208) && self.holds(IndexKind::Jis0212),
-            Encoding::Iso2022Jp => {
-                self.holds(IndexKind::Jis0208) && self.holds(IndexKind::Katakana)
-            }
-            Encoding::EucKr => self.holds(IndexKind::EucKr),
-            Encoding::Big5 => self.holds(IndexKind::Big5),
-            Encoding::Gb18030 | Encoding::Gbk => {
-                self.holds(IndexKind::Gb18030) && self.holds(IndexKind::Gb18030Ranges)
-            }
-            _ => self.holds(IndexKind::SingleByte(encoding)),
-        }
+        self.of(encoding).is_some()
     }
 }

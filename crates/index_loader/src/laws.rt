@@ -6,7 +6,7 @@ ghost use Rattle.index_loader.specs.Pairs.{greatest, least};
 /// excludes some of them: if the smallest (greatest) isn't excluded, it stays; and the smallest
 /// behind an excluded range is the smallest outside it, unless one stands before. The call does
 /// nothing.
-pub fn pointer_exclusion()
+pub fn law_pointer_exclusion()
     ensures least_none { (test : ℕ → Bool) (ns : List ℕ) → None ≡ least ns → None ≡ least (filter test ns) }
     ensures least_kept { (test : ℕ → Bool) (ns : List ℕ) (n : ℕ) → Some n ≡ least ns → test n ≡ true → Some n ≡ least (filter test ns) }
     ensures least_behind { (low high : ℕ) (ns : List ℕ) (n : ℕ) → Some n ≡ least ns → low ≤ n → least (filter (nat_le (high + 1)) ns) ≡ least (filter (λ p. not (nat_le low p && nat_le p high)) ns) }

@@ -2,6 +2,7 @@
 #![tactic(auto)]
 
 mod by_code_point;
+mod family;
 mod fault;
 mod field;
 mod files;
@@ -16,9 +17,10 @@ mod reading;
 mod rows;
 mod table;
 
+pub use family::Family;
 pub use fault::{IndexCause, IndexFault};
 pub use files::INDEX_FILES;
 pub use index::Index;
 pub use indexes::Indexes;
 pub use kind::IndexKind;
-pub use laws::pointer_exclusion;
+pub use laws::law_pointer_exclusion;

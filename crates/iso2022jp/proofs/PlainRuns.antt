@@ -6,7 +6,7 @@ use Rattle.std.proofs.lemmas.List.{get_or-take}
 use Rattle.std.proofs.lemmas.List.Sums.{prefix_len_passes, prefix_len-le-length}
 use Rattle.lane_ascii.specs.Runs.{is_plain, plain_len}
 use Rattle.iso2022jp.specs.declared.output.OutputState.TheVariants.{Ascii}
-use Rattle.iso2022jp.specs.EncoderSteps.{PutsItself}
+use Rattle.decoder_core.specs.EncoderSteps.{PutsItself}
 use Rattle.iso2022jp.specs.Iso2022JpEncoder.{iso_2022_jp_encoder}
 
 itself : (pointer : ℕ → Option ℕ) (b : ℕ) → is_plain b ≡ true → PutsItself (iso_2022_jp_encoder pointer) Ascii b

@@ -5,11 +5,11 @@ use Rattle.decoder_core.specs.Forms.{within}
 use Rattle.index_loader.specs.Index.{Loaded, code_point_of}
 use Rattle.index_loader.specs.Files.{Files, index_of}
 use Rattle.index_loader.specs.declared.kind.IndexKind.TheVariants.{Jis0208 as jis0208_kind, Katakana as katakana_kind}
-use Rattle.iso2022jp.specs.declared.encoder.EncoderAnswer.TheVariants.{Puts, Restores, Fails}
-use Rattle.iso2022jp.specs.declared.fault.Unencodable.{Unencodable}
+use Rattle.decoder_core.specs.declared.encoder.EncoderAnswer.TheVariants.{Puts, Restores, Fails}
+use Rattle.decoder_core.specs.declared.fault.Unencodable.{Unencodable}
 use Rattle.iso2022jp.specs.declared.output.OutputState.{OutputState}
 use Rattle.iso2022jp.specs.declared.output.OutputState.TheVariants.{Ascii, Roman, Katakana, Jis0208}
-use Rattle.iso2022jp.specs.EncoderSteps.{Turn, Table, Put, encoded_from}
+use Rattle.decoder_core.specs.EncoderSteps.{Turn, Table, Put, encoded_from}
 use Rattle.iso2022jp.specs.JisPointer.{jis_pointer}
 
 -- the escape that switches to a state

@@ -1,9 +1,6 @@
 pub mod EncoderExamples
-pub mod EncoderOutput
-pub mod EncoderSteps
 pub mod Exact
 pub mod Iso2022Jp
 pub mod Iso2022JpEncoder
 pub mod Iso2022JpLaws
 pub mod JisPointer
-pub mod Plain

@@ -3,15 +3,14 @@ ghost use Rattle.std.specs.Prelude.{◌≡◌, ◌≢◌, ◌++◌, ℕ, Option,
 ghost use Rattle.std.specs.Str.{chars};
 ghost use Rattle.enc_names.specs.declared.encoding.Encoding.TheVariants.{Iso2022Jp};
 ghost use Rattle.index_loader.specs.Files.{has_files};
-ghost use Rattle.iso2022jp.specs.declared.encoder.EncoderAnswer.TheVariants.{Restores};
+ghost use Rattle.decoder_core.specs.declared.encoder.EncoderAnswer.TheVariants.{Restores};
 ghost use Rattle.iso2022jp.specs.declared.output.OutputState.{OutputState};
-ghost use Rattle.iso2022jp.specs.EncoderOutput.{IsFrom};
+ghost use Rattle.decoder_core.specs.EncoderOutput.{IsFrom};
 ghost use Rattle.iso2022jp.specs.Iso2022JpEncoder.{encoded_iso, end_bytes, end_state, iso_2022_jp_encoder};
 
-use crate::driver::encode_by;
-use crate::fault::FromFault;
 use crate::iso_encoder::{Iso2022JpEncoder, escape_of};
 use crate::output::OutputState;
+use decoder_core::{FromFault, encode_by};
 use index_loader::Indexes;
 use std::alloc::{AllocError, Global};
 
@@ -50,6 +49,6 @@ fn put_end(end: bool, state: OutputState, out: &mut Vec<u8>) -> Result<OutputSta
 
 /// The ISO-2022-JP encoder restores no code point twice, so two turns are all that one has. The
 /// call does nothing.
-pub fn no_second_restore()
+pub fn law_no_second_restore()
     ensures { (pointer : ℕ → Option ℕ) (s : OutputState) (c : ℕ) → let table = iso_2022_jp_encoder pointer in (table s c).answer ≡ Restores → (table (table s c).state c).answer ≢ Restores }
 {}

@@ -6,11 +6,11 @@ ghost use Rattle.index_loader.specs.Files.{has_files};
 ghost use Rattle.index_loader.specs.Index.{code_point_of};
 ghost use Rattle.iso2022jp.specs.Iso2022JpEncoder.{escape_of, fails, folded, iso_2022_jp_encoder, iso_pointer, jis0208_turn, other_turn, pointer_in, puts, switches};
 
-use crate::encoder::{Encoder, EncoderAnswer, EncoderTurn};
 use crate::jis_pointer::row_pointer;
 use crate::output::OutputState;
-use decoder_core::Few;
-use index_loader::{Index, IndexKind, Indexes};
+use decoder_core::{Encoder, EncoderAnswer, EncoderTurn, Few};
+use enc_names::Encoding;
+use index_loader::{Family, Index, Indexes};
 use lane_ascii::plain_run_iso;
 use std::marker::Model;
 
@@ -109,9 +109,9 @@ impl<'i> Iso2022JpEncoder<'i> {
         requires { has_files indexes.now Iso2022Jp ≡ true }
         ensures { pointer_in indexes.now ≡ iso_pointer result.0 result.1 }
     {
-        Iso2022JpEncoder {
-            jis0208: indexes.get(IndexKind::Jis0208).unwrap(),
-            katakana: indexes.get(IndexKind::Katakana).unwrap(),
+        match indexes.of(Encoding::Iso2022Jp) {
+            Some(Family::Iso2022Jp { jis0208, katakana }) => Iso2022JpEncoder { jis0208, katakana },
+            _ => unreachable!(),
         }
     }
 

@@ -1,4 +1,6 @@
 mod DroppedLines
+mod MemoryReplies
+pub mod Merging
 mod PlainText
 mod SentLines
 mod StepReplies

@@ -1,11 +1,9 @@
 -- How the reply to a line comes about.
-use Rattle.std.proofs.Common.{◌≡◌, ℕ, ◌≤◌, Bool, true, false, nat_lt, List, length, Ok, Err, refl, sym, ap, ◌∙◌, subst, rules}
-use Rattle.std.specs.Str.{bytes_eq}
-use Rattle.json.specs.Print.{escape_byte}
+use Rattle.std.proofs.Common.{◌≡◌, ℕ, ◌≤◌, true, false, nat_lt, List, length, Ok, Err, refl, sym, ap, ◌∙◌, subst, rules}
 use Rattle.serde_json.specs.Data.{Data}
 use Rattle.enc_names.specs.Labels.{LabelTable}
 use Rattle.index_loader.specs.Files.{Files}
-use Rattle.desk.specs.declared.fault.Fault.TheVariants.{BadBase64, NoDocument, NameTaken, UnknownLabel, NoIndex, TooManyDocuments, Stale, RevisionsSpent, OutOfRange, SplitsCharacter, SplitsItem, NoEncoder, Unencodable, TooLarge, NotKept, Malformed, OutOfMemory}
+use Rattle.desk.specs.declared.fault.Fault.TheVariants.{OutOfMemory}
 use Rattle.desk.specs.declared.reply.Reply.{Reply}
 use Rattle.desk.specs.declared.reply.Reply.TheVariants.{Edited, Changed, Closed, Text, Bytes, Errors, Lines, Position, Offset, Stat, Refused}
 use Rattle.desk.specs.declared.reply.Reply.TheVariants as replies
@@ -20,49 +18,7 @@ use Rattle.desk.specs.Documents.{Names}
 use Rattle.desk.specs.Desk.{Office, Outcome, Answers, answer_of}
 use Rattle.desk.specs.Changes.{changes}
 use Rattle.line_protocol.proofs.DroppedLines.{memory_answers}
-use Rattle.line_protocol.specs.Step.{Step, IsStep, Replies, answered, step_by, step_of, line_limit}
-
--- ---- the text that reports that memory ran out
-
-pub memory_same : bytes_eq memory_text memory_text ≡ true
-unfolding escape_byte
-memory_same = refl
-
--- of all replies only the one for memory has its text
-abbrev pub IsApart : ℕ → Reply → Type 0
-IsApart id (Refused OutOfMemory) = Unit {0}
-IsApart id reply = bytes_eq (reply_text id reply) memory_text ≡ false
-
-pub texts_apart : (id : ℕ) (reply : Reply) → IsApart id reply
-unfolding escape_byte
-texts_apart id (Edited bom encoding rev) = refl
-texts_apart id (Changed at bom del encoding ins rev) = refl
-texts_apart id (Closed rev) = refl
-texts_apart id (Text rev text) = refl
-texts_apart id (Bytes rev bytes) = refl
-texts_apart id (Errors rev total places) = refl
-texts_apart id (Lines rev count lines) = refl
-texts_apart id (Position rev line character) = refl
-texts_apart id (Offset rev offset) = refl
-texts_apart id (replies.Place rev place utf8 utf16 utf32) = refl
-texts_apart id (Stat rev given encoding bom bytes errors lines utf8 utf16 utf32) = refl
-texts_apart id (Refused OutOfMemory) = tt
-texts_apart id (Refused BadBase64) = refl
-texts_apart id (Refused NoDocument) = refl
-texts_apart id (Refused NameTaken) = refl
-texts_apart id (Refused UnknownLabel) = refl
-texts_apart id (Refused NoIndex) = refl
-texts_apart id (Refused TooManyDocuments) = refl
-texts_apart id (Refused (Stale rev)) = refl
-texts_apart id (Refused RevisionsSpent) = refl
-texts_apart id (Refused OutOfRange) = refl
-texts_apart id (Refused SplitsCharacter) = refl
-texts_apart id (Refused SplitsItem) = refl
-texts_apart id (Refused NoEncoder) = refl
-texts_apart id (Refused (Unencodable code_point index)) = refl
-texts_apart id (Refused TooLarge) = refl
-texts_apart id (Refused NotKept) = refl
-texts_apart id (Refused (Malformed place)) = refl
+use Rattle.line_protocol.specs.Step.{Step, IsStep, taken, ran_out, Replies, answered, step_by, step_of, line_limit}
 
 -- ---- the desk's answer
 
@@ -77,20 +33,11 @@ same_step old new id outcome reply text e o p q =
     let step : List ℕ → Files → LabelTable → Step = λ t i l. record { text = t; office = record { indexes = i; labels = l; documents = new.documents } } in
     ap (answered old id) o ∙ ap (λ t. step t old.indexes old.labels) (sym e) ∙ ap (λ i. step text i old.labels) (sym p) ∙ ap (λ l. step text new.indexes l) (sym q)
 
--- a step with another text
-other_step : (old new : Office) (step : Step) (text other : List ℕ) → text ≡ other → bytes_eq other memory_text ≡ false → step ≡ record { text = text; office = new } → IsStep old step text new
-other_step old new step text other e apart is = rw (e, apart) (rw e at is)
-
--- a step that memory didn't suffice for
-memory_step : (old new : Office) (step : Step) (text : List ℕ) → text ≡ memory_text → new ≡ old → IsStep old step text new
-memory_step old new step text e same = rw (e, memory_same) same
-
 -- the desk answered, and its reply was written
 pub desk_step : (old new : Office) (id : ℕ) (command : Asked) (reply : Reply) (text : List ℕ) → text ≡ reply_text id reply → Answers old command reply new
     → IsStep old (answered old id (answer_of old command)) text new
-desk_step old new id command (Refused OutOfMemory) text e a = memory_step old new _ text e (same_office old new a.indexes a.labels a.step)
-desk_step old new id command reply text e a =
-    other_step old new _ text _ e (texts_apart id reply) (same_step old new id _ reply text e a.step a.indexes a.labels)
+desk_step old new id command (Refused OutOfMemory) text e a = ran_out e (same_office old new a.indexes a.labels a.step)
+desk_step old new id command reply text e a = taken (same_step old new id _ reply text e a.step a.indexes a.labels)
 
 -- ---- replies that need memory
 
@@ -112,17 +59,13 @@ long_keeps (Stat rev given encoding bom bytes errors lines utf8 utf16 utf32) lon
 -- the desk answered, and memory didn't suffice to write its reply
 pub unwritten_reply_step : (old new : Office) (step : Step) (reply : Reply) (text : List ℕ) → text ≡ memory_text → (is_short reply ≡ true → ⊥) → (changes reply ≡ false → new ≡ old)
     → IsStep old step text new
-unwritten_reply_step old new step reply text e long kept = memory_step old new step text e (kept (long_keeps reply (false_from_ne_true _ long)))
+unwritten_reply_step old new step reply text e long kept = ran_out e (kept (long_keeps reply (false_from_ne_true _ long)))
 
 -- ---- refusals
 
-refused_by : (o : Office) (r : Refusal) (text : List ℕ) (t : Bool) → bytes_eq text memory_text ≡ t → text ≡ refusal_text r → IsStep o (step_by o (Err r)) text o
-refused_by o r text true b e = rw b refl
-refused_by o r text false b e = rw b (ap (λ x. let s : Step = record { text = x; office = o } in s) (sym e))
-
 -- a line is refused, and the desk stays
 pub refused_step : (o : Office) (r : Refusal) (text : List ℕ) → text ≡ refusal_text r → IsStep o (step_by o (Err r)) text o
-refused_step o r text e = refused_by o r text (bytes_eq text memory_text) refl e
+refused_step o r text e = taken (ap (λ x. let s : Step = record { text = x; office = o } in s) (sym e))
 
 -- ---- lines
 

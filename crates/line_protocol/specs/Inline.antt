@@ -8,7 +8,7 @@ use Rattle.line_protocol.specs.Replies.{line_of}
 
 -- the most bytes of a line that is stored inline
 abbrev pub inline_limit : ℕ
-inline_limit = 328
+inline_limit = 256
 
 -- the line of this object, which is short enough to be stored inline
 abbrev pub IsShortLine : Data → List ℕ → Type 0

@@ -1,5 +1,7 @@
 -- The text of a reply: one line, an object of JSON with no space and its keys in ascending order.
-use Rattle.std.specs.Prelude.{ℕ, List, [], ◌∷◌, ◌++◌, codes, Option, Some, None}
+use Rattle.std.specs.Prelude.{ℕ, Bool, List, [], ◌∷◌, ◌++◌, codes, Option, Some, None, if◌then◌else◌}
+use Rattle.std.specs.Cmp.Lexicographic.{slice_cmp}
+use Rattle.std.specs.Ordering.{nat_cmp, is_lt}
 use Rattle.serde_json.specs.Data.{Data, null, number, string, array, object, unsigned, Items, no_items, item, Members, no_members, member}
 use Rattle.serde_json.specs.Written.{compact_text}
 use Rattle.base64.specs.Engines.{standard}
@@ -19,25 +21,6 @@ use Rattle.line_protocol.specs.declared.request.refusal.Refusal.{Refusal}
 use Rattle.line_protocol.specs.declared.request.refusal.Refusal.TheVariants as refusal
 
 -- ---- names
-
-abbrev pub fault_name : Fault → List ℕ
-fault_name BadBase64 = codes "BadBase64"
-fault_name NoDocument = codes "NoDocument"
-fault_name NameTaken = codes "NameTaken"
-fault_name UnknownLabel = codes "UnknownLabel"
-fault_name NoIndex = codes "NoIndex"
-fault_name TooManyDocuments = codes "TooManyDocuments"
-fault_name (Stale rev) = codes "Stale"
-fault_name RevisionsSpent = codes "RevisionsSpent"
-fault_name OutOfRange = codes "OutOfRange"
-fault_name SplitsCharacter = codes "SplitsCharacter"
-fault_name SplitsItem = codes "SplitsItem"
-fault_name NoEncoder = codes "NoEncoder"
-fault_name (Unencodable code_point index) = codes "Unencodable"
-fault_name TooLarge = codes "TooLarge"
-fault_name NotKept = codes "NotKept"
-fault_name (Malformed place) = codes "Malformed"
-fault_name OutOfMemory = codes "OutOfMemory"
 
 abbrev pub field_name : Field → List ℕ
 field_name field.Object = []
@@ -142,32 +125,75 @@ stat_data id rev given encoding bom bytes errors lines utf8 utf16 utf32 =
     (member (codes "lines") (whole lines) (member (codes "rev") (whole rev) (member (codes "utf16") (whole utf16)
     (member (codes "utf32") (whole utf32) (member (codes "utf8") (whole utf8) no_members)))))))))))
 
--- a fault alone, and one that answers the request with this number
-abbrev pub bare_data : List ℕ → Data
-bare_data name = object (member (codes "fault") (string name) no_members)
+-- ---- refusals
 
-abbrev pub fault_with_id_data : List ℕ → ℕ → Data
-fault_with_id_data name id = object (member (codes "fault") (string name) (member (codes "id") (whole id) no_members))
+-- one key stands before another in the order of their bytes
+abbrev pub key_before : List ℕ → List ℕ → Bool
+key_before k l = is_lt (slice_cmp nat_cmp k l)
 
-abbrev pub stale_data : ℕ → ℕ → Data
-stale_data id rev = object (member (codes "fault") (string (codes "Stale")) (member (codes "id") (whole id) (member (codes "rev") (whole rev) no_members)))
+-- the members of two objects as those of one, each in the order of the keys
+abbrev pub merged : Members → Members → Members
+merged no_members ys = ys
+merged (member k x xs) no_members = member k x xs
+merged (member k x xs) (member l y ys) =
+    if key_before k l then member k x (merged xs (member l y ys)) else member l y (merged (member k x xs) ys)
 
-abbrev pub unencodable_data : ℕ → ℕ → ℕ → Data
-unencodable_data id code_point index =
-    object (member (codes "code_point") (whole code_point) (member (codes "fault") (string (codes "Unencodable"))
-    (member (codes "id") (whole id) (member (codes "index") (whole index) no_members))))
+-- why something is refused, as its line says it: a name, the number of the request where the line has it, and further members
+pub record Reason : Type 0 where
+  pub name : List ℕ
+  pub id : Option ℕ
+  pub more : Members
 
-abbrev pub malformed_data : ℕ → Place → Data
-malformed_data id place =
-    object (member (codes "fault") (string (codes "Malformed")) (member (codes "id") (whole id) (member (codes "place") (place_data place) no_members)))
+abbrev pub reason : List ℕ → Option ℕ → Members → Reason
+reason name id more = record { name = name; id = id; more = more }
+
+-- a further member, which is a whole number
+abbrev pub with_number : List ℕ → ℕ → Members → Members
+with_number key n more = member key (whole n) more
 
 -- That memory ran out is reported without a number.
-abbrev pub fault_data : ℕ → Fault → Data
-fault_data id (Stale rev) = stale_data id rev
-fault_data id (Unencodable code_point index) = unencodable_data id code_point index
-fault_data id (Malformed place) = malformed_data id place
-fault_data id OutOfMemory = bare_data (codes "OutOfMemory")
-fault_data id f = fault_with_id_data (fault_name f) id
+abbrev pub memory_reason : Reason
+memory_reason = reason (codes "OutOfMemory") None no_members
+
+-- why the desk refuses the request with this number
+abbrev pub fault_reason : ℕ → Fault → Reason
+fault_reason id BadBase64 = reason (codes "BadBase64") (Some id) no_members
+fault_reason id NoDocument = reason (codes "NoDocument") (Some id) no_members
+fault_reason id NameTaken = reason (codes "NameTaken") (Some id) no_members
+fault_reason id UnknownLabel = reason (codes "UnknownLabel") (Some id) no_members
+fault_reason id NoIndex = reason (codes "NoIndex") (Some id) no_members
+fault_reason id TooManyDocuments = reason (codes "TooManyDocuments") (Some id) no_members
+fault_reason id (Stale rev) = reason (codes "Stale") (Some id) (with_number (codes "rev") rev no_members)
+fault_reason id RevisionsSpent = reason (codes "RevisionsSpent") (Some id) no_members
+fault_reason id OutOfRange = reason (codes "OutOfRange") (Some id) no_members
+fault_reason id SplitsCharacter = reason (codes "SplitsCharacter") (Some id) no_members
+fault_reason id SplitsItem = reason (codes "SplitsItem") (Some id) no_members
+fault_reason id NoEncoder = reason (codes "NoEncoder") (Some id) no_members
+fault_reason id (Unencodable code_point index) =
+    reason (codes "Unencodable") (Some id) (with_number (codes "code_point") code_point (with_number (codes "index") index no_members))
+fault_reason id TooLarge = reason (codes "TooLarge") (Some id) no_members
+fault_reason id NotKept = reason (codes "NotKept") (Some id) no_members
+fault_reason id (Malformed place) = reason (codes "Malformed") (Some id) (member (codes "place") (place_data place) no_members)
+fault_reason id OutOfMemory = memory_reason
+
+-- why a line is refused before the desk sees it
+abbrev pub refusal_reason : Refusal → Reason
+refusal_reason refusal.LineTooLong = reason (codes "LineTooLong") None no_members
+refusal_reason refusal.BadJson = reason (codes "BadJson") None no_members
+refusal_reason (refusal.BadRequest id f) = reason (codes "BadRequest") id (member (codes "field") (string (field_name f)) no_members)
+refusal_reason (refusal.UnknownOp id) = reason (codes "UnknownOp") (Some id) no_members
+refusal_reason refusal.OutOfMemory = memory_reason
+
+-- the number of the request, where the line has it
+abbrev pub id_members : Option ℕ → Members
+id_members None = no_members
+id_members (Some id) = member (codes "id") (whole id) no_members
+
+-- the object that says why
+abbrev pub reason_data : Reason → Data
+reason_data r = object (merged (member (codes "fault") (string r.name) (id_members r.id)) r.more)
+
+-- ---- replies
 
 -- the object that answers the request with this number
 abbrev pub reply_data : ℕ → Reply → Data
@@ -182,23 +208,7 @@ reply_data id (Position rev line character) = position_data id rev line characte
 reply_data id (Offset rev offset) = offset_data id rev offset
 reply_data id (replies.Place rev place utf8 utf16 utf32) = found_place_data id rev place utf8 utf16 utf32
 reply_data id (Stat rev given encoding bom bytes errors lines utf8 utf16 utf32) = stat_data id rev given encoding bom bytes errors lines utf8 utf16 utf32
-reply_data id (Refused f) = fault_data id f
-
--- the number of the request, where it was read
-abbrev pub id_members : Option ℕ → Members
-id_members None = no_members
-id_members (Some id) = member (codes "id") (whole id) no_members
-
-abbrev pub bad_request_data : Option ℕ → Field → Data
-bad_request_data id f = object (member (codes "fault") (string (codes "BadRequest")) (member (codes "field") (string (field_name f)) (id_members id)))
-
--- the object that answers a line which is refused
-abbrev pub refusal_data : Refusal → Data
-refusal_data refusal.LineTooLong = bare_data (codes "LineTooLong")
-refusal_data refusal.BadJson = bare_data (codes "BadJson")
-refusal_data (refusal.BadRequest id f) = bad_request_data id f
-refusal_data (refusal.UnknownOp id) = fault_with_id_data (codes "UnknownOp") id
-refusal_data refusal.OutOfMemory = bare_data (codes "OutOfMemory")
+reply_data id (Refused f) = reason_data (fault_reason id f)
 
 -- ---- text
 
@@ -210,7 +220,7 @@ abbrev pub reply_text : ℕ → Reply → List ℕ
 reply_text id reply = line_of (reply_data id reply)
 
 abbrev pub refusal_text : Refusal → List ℕ
-refusal_text r = line_of (refusal_data r)
+refusal_text r = line_of (reason_data (refusal_reason r))
 
 abbrev pub memory_text : List ℕ
-memory_text = line_of (bare_data (codes "OutOfMemory"))
+memory_text = line_of (reason_data memory_reason)

@@ -1,6 +1,5 @@
 -- What one complete line does: its reply, and the desk after it.
 use Rattle.std.specs.Prelude.{◌≡◌, ℕ, nat_lt, List, length, Result, Ok, Err, MatchBool}
-use Rattle.std.specs.Str.{bytes_eq}
 use Rattle.desk.specs.Commands.{Asked}
 use Rattle.line_protocol.specs.Request.{request_of_line}
 use Rattle.line_protocol.specs.Replies.{reply_text, refusal_text, memory_text}
@@ -36,9 +35,10 @@ step_by o (Err refusal) = record { text = refusal_text refusal; office = o }
 abbrev pub step_of : Office → List ℕ → Step
 step_of o line = step_by o (request_of_line line)
 
--- The reply and the desk after it are those of the step; or memory ran out, and nothing changed.
-abbrev pub IsStep : Office → Step → List ℕ → Office → Type 0
-IsStep old step text new = MatchBool (bytes_eq text memory_text) (new ≡ old) (step ≡ record { text = text; office = new })
+-- How a reply and the desk after it came about: they are those of the step; or memory ran out, which the reply says, and nothing changed.
+pub data IsStep (old : Office) (step : Step) (text : List ℕ) (new : Office) : Type 0 where
+  taken : step ≡ record { text = text; office = new } → IsStep old step text new
+  ran_out : text ≡ memory_text → new ≡ old → IsStep old step text new
 
 -- A reply to a line, and the desk after it. A line over the limit is always answered LineTooLong.
 unfoldable pub Replies : Office → List ℕ → List ℕ → Office → Type 0

@@ -1,10 +1,13 @@
 -- How the code writes a reply line. Nothing here has to be believed.
-use Rattle.std.specs.Prelude.{ℕ, ◌&&◌, ◌||◌, ◌==◌, Bool, true, not, nat_lt, List, [], ◌∷◌, ◌+◌, length, ◌≡◌, ◌++◌, Some}
+use Rattle.std.specs.Prelude.{ℕ, suc, ◌&&◌, ◌||◌, ◌==◌, Bool, true, not, nat_lt, List, [], ◌∷◌, ◌+◌, length, ◌≡◌, ◌++◌, Some}
 use denote.Ref.{Bor}
 use Rattle.serde_json.specs.Data.{Data, null, string, Members, no_members, member}
-use Rattle.line_protocol.specs.Replies.{whole, place_data}
+use Rattle.line_protocol.specs.Replies.{whole, place_data, merged, Reason, reason}
+use Rattle.line_protocol.specs.declared.reply_line.reasons.Reason.{Reason as WrittenReason}
+use Rattle.line_protocol.specs.declared.reply_line.reasons.More.{More}
+use Rattle.line_protocol.specs.declared.reply_line.reasons.More.TheVariants.{NoMore, One, Two}
 use Rattle.line_protocol.specs.declared.reply_line.members.Content.{Content}
-use Rattle.line_protocol.specs.declared.reply_line.members.Content.TheVariants.{Number, Text, At, Nothing}
+use Rattle.line_protocol.specs.declared.reply_line.members.Content.TheVariants.{Number, Small, Text, At, Nothing}
 use Rattle.serde.specs.Event.{Log}
 use Rattle.serde_json.specs.Sent.{IsTextOf}
 use Rattle.line_protocol.specs.declared.reply_line.Storage.{Storage}
@@ -26,6 +29,7 @@ MemberList = List (Bor (List ℕ) × Content)
 
 abbrev pub content_data : Content → Data
 content_data (Number n) = whole n
+content_data (Small n) = whole n
 content_data (Text t) = string t.now
 content_data (At place) = place_data place
 content_data Nothing = null
@@ -36,6 +40,7 @@ members_of (m ∷ ms) = member m.0.now (content_data m.1) (members_of ms)
 
 abbrev pub content_is_plain : Content → Bool
 content_is_plain (Number n) = true
+content_is_plain (Small n) = true
 content_is_plain (Text t) = all_plain t.now
 content_is_plain (At place) = true
 content_is_plain Nothing = true
@@ -44,12 +49,19 @@ abbrev pub are_plain : MemberList → Bool
 are_plain [] = true
 are_plain (m ∷ ms) = all_plain m.0.now && content_is_plain m.1 && are_plain ms
 
--- the most bytes of a name, of a number, of a place, which is two numbers in brackets, and of `null`
+-- the most bytes of the name of a field and of that of an encoding; of a number of 64 bits and of 32, of a place, which is two numbers in
+-- brackets, and of `null`
 abbrev pub name_room : ℕ
 name_room = 20
 
+abbrev pub encoding_room : ℕ
+encoding_room = 14
+
 abbrev pub number_room : ℕ
 number_room = 20
+
+abbrev pub small_room : ℕ
+small_room = 10
 
 abbrev pub place_room : ℕ
 place_room = 43
@@ -60,6 +72,7 @@ null_room = 4
 -- at most so many bytes
 abbrev pub content_room : Content → ℕ
 content_room (Number n) = number_room
+content_room (Small n) = small_room
 content_room (Text t) = length t.now + 2
 content_room (At place) = place_room
 content_room Nothing = null_room
@@ -68,6 +81,27 @@ content_room Nothing = null_room
 abbrev pub room_of : MemberList → ℕ
 room_of [] = 1
 room_of (m ∷ ms) = length m.0.now + 4 + content_room m.1 + room_of ms
+
+-- the member that comes next in two lists, and what is left of them behind it
+pub record IsNext (first second : MemberList) (m : Bor (List ℕ) × Content) (rest other : MemberList) : Type 0 where
+  pub goes_on : merged (members_of first) (members_of second) ≡ member m.0.now (content_data m.1) (merged (members_of rest) (members_of other))
+  pub plain : (are_plain first && are_plain second) ≡ ((all_plain m.0.now && content_is_plain m.1) && (are_plain rest && are_plain other))
+  pub room : room_of first + room_of second ≡ length m.0.now + 4 + content_room m.1 + (room_of rest + room_of other)
+  pub fewer : length first + length second ≡ suc (length rest + length other)
+
+-- ---- a reason, as the code has it
+
+abbrev pub members_in : More → MemberList
+members_in NoMore = []
+members_in (One key content) = (key, content) ∷ []
+members_in (Two key content other behind) = (key, content) ∷ (other, behind) ∷ []
+
+abbrev pub reason_of : WrittenReason → Reason
+reason_of r = reason r.name.now r.id (members_of (members_in r.more))
+
+-- the most bytes of a name and the further members
+abbrev pub reason_room : ℕ
+reason_room = 100
 
 -- ---- a line that is written by the events of a value
 

@@ -2,9 +2,11 @@
 
 mod long;
 mod members;
+mod reasons;
 mod short;
 mod short_text;
 
+use crate::reply_line::reasons::Reason;
 use crate::reply_line::short::{Change, Measures};
 use crate::request::Refusal;
 use desk::Reply;
@@ -150,7 +152,7 @@ impl ReplyLine {
                 };
                 Ok(ReplyLine::inline(short::stat(id, &measured)))
             }
-            Reply::Refused { fault } => Ok(ReplyLine::inline(short::fault(id, *fault))),
+            Reply::Refused { fault } => Ok(ReplyLine::inline(Reason::of_fault(id, *fault).line())),
         }
     }
 
@@ -168,7 +170,7 @@ impl ReplyLine {
         ensures text { result ≡ refusal_text refusal }
         ensures inline { length result ≤ inline_limit }
     {
-        ReplyLine::inline(short::refusal(refusal))
+        ReplyLine::inline(Reason::of_line(refusal).line())
     }
 
     /// The line that reports that memory ran out, which names no request.
@@ -176,6 +178,6 @@ impl ReplyLine {
         ensures text { result ≡ memory_text }
         ensures inline { length result ≤ inline_limit }
     {
-        ReplyLine::inline(short::out_of_memory())
+        ReplyLine::inline(Reason::OUT_OF_MEMORY.line())
     }
 }

@@ -2,7 +2,7 @@
 
 use codec::decode_whole;
 use enc_names::Encoding;
-use piece_rope::{Axis, Doc};
+use piece_rope::{Axis, Doc, LONGEST_PIECE, SHORTEST_PIECE};
 use std::alloc::Global;
 use sum_tree::visits;
 
@@ -31,7 +31,7 @@ pub fn agrees(alloc: Global, doc: &Doc<'_>, given: Encoding, bytes: &[u8]) -> Op
     )
 }
 
-/// Each piece has at most 2,048 bytes, and where there are several 512 at least.
+/// No piece is too long, and where there are several none is too short.
 pub fn pieces_are_sized(doc: &Doc<'_>) -> bool {
     let finder = doc.finder();
     let total = doc.lengths().bytes;
@@ -43,12 +43,12 @@ pub fn pieces_are_sized(doc: &Doc<'_>) -> bool {
         let (before, found) = finder.find(&Axis::Byte, at, &mut visits());
         let Some(piece) = found else { break };
         let bytes = piece.here().sum.bytes;
-        if bytes > 2048 {
+        if bytes > LONGEST_PIECE as u64 {
             return false;
         }
         several = several || at > 0;
         least = least.min(bytes);
         at = before.bytes.saturating_add(bytes);
     }
-    at == total && (!several || least >= 512)
+    at == total && (!several || least >= SHORTEST_PIECE as u64)
 }

@@ -5,12 +5,11 @@ use Rattle.std.proofs.lemmas.List.{length-take-le}
 use Rattle.std.proofs.lemmas.Option.{slice_get_within}
 use Rattle.state_memo.specs.Decoding.{feed, AnyDecoding, AnyState, any}
 use Rattle.state_memo.specs.declared.outcome.Outcome.{Outcome}
-use Rattle.state_memo.specs.Memo.{same_state, recalled}
+use Rattle.state_memo.specs.Memo.{same_state}
 use Rattle.state_memo.specs.Outcome.{outcome_of}
 use Rattle.piece_rope.specs.Entry.{Entry}
-use Rattle.piece_rope.specs.declared.entered.Renewal.{Renewal}
 use Rattle.piece_rope.specs.Resync.{LastDiffers, Passed}
-use Rattle.piece_rope.specs.Chain.{IsOwn, Chain, bytes_of, state_after, renew, renew_by, renewed}
+use Rattle.piece_rope.specs.Chain.{IsOwn, IsRenewed, Chain, AreRenewed, bytes_of, state_after, renew, renewed}
 
 -- what is said of one decoder's runs
 pub record Laws (d : AnyDecoding) : Type 0 where
@@ -60,39 +59,50 @@ bytes-next ps n p at =
     ∙ length-append (bytes_of (take n ps)) (p.piece.bytes ++ [])
     ∙ ap (λ (bs : List ℕ). length (bytes_of (take n ps)) + length bs) (append-nil p.piece.bytes)
 
-renew_by-bytes : (p : Entry) (s : AnyState) (o found : Option Outcome) → (renew_by p s o found).piece.bytes ≡ p.piece.bytes
-renew_by-bytes p s (Some o) found = refl
-renew_by-bytes p s None (Some o) = refl
-renew_by-bytes p s None None = refl
-
-pub renew-bytes : (p : Entry) (r : Renewal) → (renew p r).piece.bytes ≡ p.piece.bytes
-renew-bytes p r = renew_by-bytes p r.entry r.outcome (recalled p.piece.known r.entry)
-
-pub renewed-bytes : (ps : List Entry) (rs : List Renewal) → bytes_of (renewed ps rs) ≡ bytes_of ps
+pub renewed-bytes : (ps : List Entry) (rs : List Entry) → bytes_of (renewed ps rs) ≡ bytes_of ps
 renewed-bytes [] [] = refl
 renewed-bytes (p ∷ ps) [] = refl
 renewed-bytes [] (r ∷ rs) = refl
 renewed-bytes (p ∷ ps) (r ∷ rs) =
-    ap (λ (bs : List ℕ). bs ++ bytes_of (renewed ps rs)) (renew-bytes p r) ∙ ap (λ (bs : List ℕ). p.piece.bytes ++ bs) (renewed-bytes ps rs)
+    ap (λ (bs : List ℕ). p.piece.bytes ++ bs) (renewed-bytes ps rs)
 
-pub renewed-append : (xs ys : List Entry) (rs : List Renewal) → length rs ≡ length xs → renewed (xs ++ ys) rs ≡ renewed xs rs ++ ys
+pub renewed-append : (xs ys : List Entry) (rs : List Entry) → length rs ≡ length xs → renewed (xs ++ ys) rs ≡ renewed xs rs ++ ys
 renewed-append [] [] [] e = refl
 renewed-append [] (y ∷ ys) [] e = refl
 renewed-append [] ys (r ∷ rs) e = absurd (omega (arith, e))
 renewed-append (x ∷ xs) ys [] e = absurd (omega (arith, e))
 renewed-append (x ∷ xs) ys (r ∷ rs) e = ap (λ (zs : List Entry). renew x r ∷ zs) (renewed-append xs ys rs (omega (arith, e)))
 
-pub renewed-more : (xs : List Entry) (p : Entry) (rs : List Renewal) (r : Renewal) → length rs ≡ length xs
+pub renewed-more : (xs : List Entry) (p : Entry) (rs : List Entry) (r : Entry) → length rs ≡ length xs
     → renewed (xs ++ p ∷ []) (rs ++ r ∷ []) ≡ renewed xs rs ++ renew p r ∷ []
 renewed-more [] p [] r e = refl
 renewed-more [] p (q ∷ rs) r e = absurd (omega (arith, e))
 renewed-more (x ∷ xs) p [] r e = absurd (omega (arith, e))
 renewed-more (x ∷ xs) p (q ∷ rs) r e = ap (λ (zs : List Entry). renew x q ∷ zs) (renewed-more xs p rs r (omega (arith, e)))
 
-pub renewed-whole : (ps : List Entry) (rs : List Renewal) (n : ℕ) → length rs ≡ n → n ≤ length ps → renewed ps rs ≡ renewed (take n ps) rs ++ drop n ps
+pub renewed-whole : (ps : List Entry) (rs : List Entry) (n : ℕ) → length rs ≡ n → n ≤ length ps → renewed ps rs ≡ renewed (take n ps) rs ++ drop n ps
 renewed-whole ps rs n e within =
     ap (λ (xs : List Entry). renewed xs rs) (sym (take-append-drop n ps))
     ∙ renewed-append (take n ps) (drop n ps) rs (e ∙ sym (length-take-le n ps within))
+
+-- a renewed piece with the same bytes is what the old one becomes
+pub renew-same : (p r : Entry) → r.piece.bytes ≡ p.piece.bytes → renew p r ≡ r
+renew-same p r e = ap (λ (bs : List ℕ). record { piece = record { bytes = bs; known = r.piece.known }; entry = r.entry }) (sym e)
+
+pub renewed-are : (ps rs : List Entry) → AreRenewed ps rs → renewed ps rs ≡ rs ++ drop (length rs) ps
+renewed-are [] [] h = refl
+renewed-are (p ∷ ps) [] h = refl
+renewed-are [] (r ∷ rs) h = absurd h
+renewed-are (p ∷ ps) (r ∷ rs) h = ap (λ (x : Entry). x ∷ renewed ps rs) (renew-same p r h.0.bytes) ∙ ap (λ (xs : List Entry). r ∷ xs) (renewed-are ps rs h.1)
+
+one-more : (ps rs : List Entry) (p r : Entry) → AreRenewed ps rs → slice_get ps (length rs) ≡ Some p → IsRenewed p r → AreRenewed ps (rs ++ r ∷ [])
+one-more [] [] p r h at e = absurd cc
+one-more (x ∷ ps) [] p r h at e = let f : p ≡ x = cc in (subst (λ (y : Entry). IsRenewed y r) f e, tt)
+one-more [] (q ∷ rs) p r h at e = absurd h
+one-more (x ∷ ps) (q ∷ rs) p r h at e = (h.0, one-more ps rs p r h.1 at e)
+
+pub renewed-on : (ps rs more : List Entry) (p r : Entry) → more ≡ rs ++ r ∷ [] → AreRenewed ps rs → slice_get ps (length rs) ≡ Some p → IsRenewed p r → AreRenewed ps more
+renewed-on ps rs more p r more_is h at e = subst (λ (xs : List Entry). AreRenewed ps xs) (sym more_is) (one-more ps rs p r h at e)
 
 module _ (d : AnyDecoding) (laws : Laws d) where
   pub state-append : (s : AnyState) (xs ys : List Entry) → state_after d s (xs ++ ys) ≡ state_after d (state_after d s xs) ys
@@ -132,7 +142,7 @@ module _ (d : AnyDecoding) (laws : Laws d) where
   rechain s (x ∷ ps) (suc n) p at c = rechain s ps n p at c
 
   -- one more piece gone over
-  pub gone-on : (entry state : AnyState) (ps : List Entry) (n : ℕ) (p : Entry) (rs : List Renewal) (r : Renewal)
+  pub gone-on : (entry state : AnyState) (ps : List Entry) (n : ℕ) (p : Entry) (rs : List Entry) (r : Entry)
       → slice_get ps n ≡ Some p → length rs ≡ n → n ≤ length ps → Chain d entry (renewed (take n ps) rs) → state ≡ state_after d entry (take n ps)
       → (renew p r).entry ≡ state → IsOwn d (renew p r)
       → Chain d entry (renewed (take (suc n) ps) (rs ++ r ∷ []))
@@ -152,14 +162,14 @@ module _ (d : AnyDecoding) (laws : Laws d) where
       ∙ sym (state-append entry (take n ps) (p ∷ []))
       ∙ ap (λ (xs : List Entry). state_after d entry xs) (sym (take-next ps n p at))
 
-  pub next-chain : (entry state : AnyState) (ps : List Entry) (p : Entry) (rs more : List Renewal) (r : Renewal)
+  pub next-chain : (entry state : AnyState) (ps : List Entry) (p : Entry) (rs more : List Entry) (r : Entry)
       → more ≡ rs ++ r ∷ [] → slice_get ps (length rs) ≡ Some p → Chain d entry (renewed (take (length rs) ps) rs) → state ≡ state_after d entry (take (length rs) ps)
-      → (renew p r).entry ≡ state → IsOwn d (renew p r)
+      → r.entry ≡ state → IsOwn d r → r.piece.bytes ≡ p.piece.bytes
       → Chain d entry (renewed (take (length more) ps) more)
-  next-chain entry state ps p rs more r more_is at chain state_is entry_is own =
+  next-chain entry state ps p rs more r more_is at chain state_is entry_is own same =
       let within = slice_get_within ps (length rs) p at in
       let long = length-snoc rs more r more_is in
-      rw (long, more_is) (gone-on entry state ps (length rs) p rs r at refl (omega (arith, within)) chain state_is entry_is own)
+      rw (long, more_is) (gone-on entry state ps (length rs) p rs r at refl (omega (arith, within)) chain state_is entry_is (subst (λ (q : Entry). IsOwn d q) (sym (renew-same p r same)) own))
 
   pub differs-here : (entry state : AnyState) (ps : List Entry) (n count : ℕ) (p : Entry) → count ≡ suc n → slice_get ps n ≡ Some p → state ≡ state_after d entry (take n ps)
       → p.entry ≢ state → LastDiffers d entry ps count
@@ -179,7 +189,7 @@ module _ (d : AnyDecoding) (laws : Laws d) where
   }
 
   -- the rest is as it was
-  pub rest-chains : (entry from : AnyState) (ps : List Entry) (n : ℕ) (p : Entry) (rs : List Renewal)
+  pub rest-chains : (entry from : AnyState) (ps : List Entry) (n : ℕ) (p : Entry) (rs : List Entry)
       → slice_get ps n ≡ Some p → length rs ≡ n → n ≤ length ps → Chain d from ps → Chain d entry (renewed (take n ps) rs)
       → p.entry ≡ state_after d entry (take n ps) → Chain d entry (renewed ps rs)
   rest-chains entry from ps n p rs at count within old chain same =

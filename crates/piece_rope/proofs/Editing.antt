@@ -1,39 +1,35 @@
 -- Lists of pieces, changed at a place.
 use Rattle.std.proofs.Common.{◌≡◌, refl, sym, ap, ◌∙◌, subst, ℕ, zero, suc, ◌+◌, ◌<◌, ◌≤◌, List, [], ◌∷◌, ◌++◌, take, drop, length, slice_get, Some, arith, append_assoc, append-nil, length-append, length-drop, min}
-use Rattle.std.proofs.lemmas.List.{length-take-le}
+use Rattle.std.proofs.lemmas.List.{length-take-le, drop-drop, take_at, drop_at}
 use Rattle.std.specs.List.{remove}
 use Rattle.state_memo.specs.Decoding.{feed, AnyDecoding, AnyState, any}
 use Rattle.piece_rope.specs.Entry.{Entry}
-use Rattle.piece_rope.specs.declared.entered.Renewal.{Renewal}
-use Rattle.piece_rope.specs.Chain.{IsOwn, Chain, bytes_of, state_after, renew, renewed}
+use Rattle.piece_rope.specs.Chain.{IsOwn, Chain, AreRenewed, bytes_of, renewed, state_after}
 use Rattle.piece_rope.specs.Sizes.{AreSized}
-use Rattle.piece_rope.proofs.Chaining.{Laws, bytes-append, chain-append, state-append}
+use Rattle.piece_rope.proofs.Chaining.{Laws, bytes-append, chain-append, state-append, renewed-are}
 
 pub element : {X : Type 0} (xs : List X) (k : ℕ) → k < length xs → (x : X) × (slice_get xs k ≡ Some x)
 element [] k less = absurd (omega (arith, less))
 element (x ∷ xs) zero less = (x, refl)
 element (x ∷ xs) (suc k) less = element xs k (omega (arith, less))
 
-pub length-changed : {X : Type 0} (xs : List X) (k : ℕ) (y : X) → k < length xs → length (take k xs ++ y ∷ drop (suc k) xs) ≡ length xs
-length-changed xs k y less = length-append (take k xs) (y ∷ drop (suc k) xs) ∙ omega (arith, length-take-le k xs (omega (arith, less)), length-drop (suc k) xs, less)
+-- a list put in where others were taken out
+pub put-in : {X : Type 0} (xs zs ys : List X) (first : ℕ) → first ≤ length xs
+    → take first (take first xs ++ ys) ++ (zs ++ drop first (take first xs ++ ys)) ≡ take first xs ++ (zs ++ ys)
+put-in xs zs ys first l =
+    let long = length-take-le first xs l in
+    ap (λ (f : List _). f ++ (zs ++ drop first (take first xs ++ ys))) (take_at (take first xs) ys first long)
+    ∙ ap (λ (b : List _). take first xs ++ (zs ++ b)) (drop_at (take first xs) ys first long)
 
-renewed-set : (xs : List Entry) (rs : List Renewal) (r : Renewal) (p : Entry) → slice_get xs (length rs) ≡ Some p
-    → renewed (take (length rs) xs ++ renew p r ∷ drop (suc (length rs)) xs) rs ≡ renewed xs (rs ++ r ∷ [])
-renewed-set [] [] r p at = absurd cc
-renewed-set [] (q ∷ rs) r p at = absurd cc
-renewed-set (x ∷ xs) [] r p at = let e : p ≡ x = cc in ap (λ (y : Entry). renew y r ∷ xs) e
-renewed-set (x ∷ xs) (q ∷ rs) r p at = ap (λ (ys : List Entry). renew x q ∷ ys) (renewed-set xs rs r p at)
-
-pub renewed-last : (xs : List Entry) (first place : ℕ) (rs : List Renewal) (r : Renewal) (p : Entry) → place ≡ first + length rs → slice_get xs place ≡ Some p
-    → take first (take place xs ++ renew p r ∷ drop (suc place) xs) ++ renewed (drop first (take place xs ++ renew p r ∷ drop (suc place) xs)) rs
-    ≡ take first xs ++ renewed (drop first xs) (rs ++ r ∷ [])
-renewed-last xs zero place rs r p e at =
-    let k : length rs ≡ place = omega (arith, e) in
-    subst (λ (n : ℕ). renewed (take n xs ++ renew p r ∷ drop (suc n) xs) rs ≡ renewed xs (rs ++ r ∷ [])) k (renewed-set xs rs r p (ap (λ (n : ℕ). slice_get xs n) k ∙ at))
-renewed-last [] (suc first) zero rs r p e at = absurd cc
-renewed-last [] (suc first) (suc place) rs r p e at = absurd cc
-renewed-last (x ∷ xs) (suc first) zero rs r p e at = absurd (omega (arith, e))
-renewed-last (x ∷ xs) (suc first) (suc place) rs r p e at = ap (λ (ys : List Entry). x ∷ ys) (renewed-last xs first place rs r p (omega (arith, e)) at)
+-- renewed pieces put in where the old ones were taken out
+pub renewed-in : (ps rs now : List Entry) (first last count : ℕ) → first ≤ last → last + length rs ≤ length ps → count ≡ length rs → AreRenewed (drop last ps) rs
+    → now ≡ take first ps ++ drop (last + count) ps → take first now ++ (rs ++ drop first now) ≡ take first ps ++ renewed (drop last ps) rs
+renewed-in ps rs now first last count order within count_is renewed_are now_is =
+    let behind : rs ++ drop (last + count) ps ≡ renewed (drop last ps) rs =
+    ap (λ (n : ℕ). rs ++ drop (last + n) ps) count_is ∙ ap (λ (xs : List Entry). rs ++ xs) (sym (drop-drop (length rs) last ps)) ∙ sym (renewed-are (drop last ps) rs renewed_are) in
+    ap (λ (xs : List Entry). take first xs ++ (rs ++ drop first xs)) now_is
+    ∙ put-in ps rs (drop (last + count) ps) first (omega (arith, order, within))
+    ∙ ap (λ (xs : List Entry). take first ps ++ xs) behind
 
 pub removed-range : {X : Type 0} (xs : List X) (first a : ℕ) → first < length xs → first ≤ a
     → take first (remove xs first) ++ drop a (remove xs first) ≡ take first xs ++ drop (suc a) xs

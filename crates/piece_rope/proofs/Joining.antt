@@ -7,11 +7,9 @@ use Rattle.state_memo.specs.declared.outcome.Outcome.{Outcome}
 use Rattle.state_memo.specs.declared.sum.Sum.{Sum}
 use Rattle.state_memo.specs.Sums.{joined, Fits}
 use Rattle.piece_rope.specs.Entry.{Entry, entry_sum, here_of}
-use Rattle.piece_rope.specs.declared.entered.Renewal.{Renewal}
-use Rattle.piece_rope.specs.Chain.{renew, renewed}
+use Rattle.piece_rope.specs.Chain.{renewed}
 use Rattle.piece_rope.specs.Sizes.{AreShort, CanJoin, longest}
 use Rattle.piece_rope.proofs.Counting.{sums}
-use Rattle.piece_rope.proofs.Editing.{renewed-last}
 
 record IsFew (n : ℕ) (s : Sum) : Type 0 where
   bytes : s.bytes ≤ n * 2048
@@ -68,26 +66,11 @@ short-at [] (suc n) x s at = absurd cc
 short-at (y ∷ xs) zero x s at = let e : y ≡ x = cc in subst (λ (z : Entry). (entry_sum z).bytes ≤ longest) e s.0
 short-at (y ∷ xs) (suc n) x s at = short-at xs n x s.1 at
 
--- the piece that the last renewal is for
-renewed-at : (xs : List Entry) (rs : List Renewal) (r : Renewal) (p : Entry) → slice_get xs (length rs) ≡ Some p → slice_get (renewed xs (rs ++ r ∷ [])) (length rs) ≡ Some (renew p r)
-renewed-at [] [] r p at = absurd cc
-renewed-at [] (q ∷ rs) r p at = absurd cc
-renewed-at (x ∷ xs) [] r p at = let e : x ≡ p = cc in ap (λ (y : Entry). Some (renew y r)) e
-renewed-at (x ∷ xs) (q ∷ rs) r p at = renewed-at xs rs r p at
-
-pub renewed-length : (xs : List Entry) (rs : List Renewal) → length rs ≤ length xs → length (renewed xs rs) ≡ length xs
+pub renewed-length : (xs : List Entry) (rs : List Entry) → length rs ≤ length xs → length (renewed xs rs) ≡ length xs
 renewed-length [] [] l = refl
 renewed-length (x ∷ xs) [] l = refl
 renewed-length [] (r ∷ rs) l = absurd (omega (arith, l))
 renewed-length (x ∷ xs) (r ∷ rs) l = omega (arith, renewed-length xs rs (omega (arith, l)))
-
-pub join-renewed : (xs : List Entry) (rs : List Renewal) (r : Renewal) (p : Entry) (first place : ℕ) → place ≡ first + length rs → slice_get (drop first xs) (length rs) ≡ Some p → place < length xs
-    → CanJoin xs → AreShort (renewed (drop first xs) (rs ++ r ∷ [])) → CanJoin (take place xs ++ renew p r ∷ drop (suc place) xs)
-join-renewed xs rs r p first place e at inside c new = record {
-  short = short-append (take place xs) (renew p r ∷ drop (suc place) xs) (short-take place xs c.short)
-      (short-at (renewed (drop first xs) (rs ++ r ∷ [])) (length rs) (renew p r) new (renewed-at (drop first xs) rs r p at), short-drop (suc place) xs c.short);
-  few = omega (arith, length-append (take place xs) (renew p r ∷ drop (suc place) xs), length-take-le place xs (omega (arith, inside)), length-drop (suc place) xs, inside, c.few);
-}
 
 pub join-inserted : (xs fresh : List Entry) (p : Entry) (first : ℕ) → CanJoin (take first xs ++ ((fresh ++ p ∷ []) ++ drop first xs)) → CanJoin (take first xs ++ p ∷ drop first xs)
 join-inserted xs fresh p first c =
@@ -98,24 +81,12 @@ join-inserted xs fresh p first c =
       few = omega (arith, c.few, length-append (take first xs) ((fresh ++ p ∷ []) ++ drop first xs), length-append (fresh ++ p ∷ []) (drop first xs), length-append fresh (p ∷ []), length-append (take first xs) (p ∷ drop first xs));
     }
 
-pub join-back : (xs fresh : List Entry) (rs : List Renewal) (first last : ℕ) → AreShort (take first xs ++ (fresh ++ renewed (drop last xs) rs)) → AreShort (renewed (drop last xs) rs)
-join-back xs fresh rs first last s = short-back fresh (renewed (drop last xs) rs) (short-back (take first xs) (fresh ++ renewed (drop last xs) rs) s)
-
-pub join-later : (xs : List Entry) (rs : List Renewal) (last : ℕ) → last + length rs ≤ length xs → CanJoin xs → AreShort (renewed (drop last xs) rs) → CanJoin (take last xs ++ renewed (drop last xs) rs)
-join-later xs rs last l c new = record {
-  short = short-append (take last xs) (renewed (drop last xs) rs) (short-take last xs c.short) new;
-  few =
-      let same = renewed-length (drop last xs) rs (omega (arith, l, length-drop last xs)) in
-      omega (arith, length-append (take last xs) (renewed (drop last xs) rs), same, length-drop last xs, length-take-le last xs (omega (arith, l)), l, c.few);
+-- pieces that are still to be put in aren't needed
+pub join-without : (xs fresh ys : List Entry) → CanJoin (xs ++ (fresh ++ ys)) → CanJoin (xs ++ ys)
+join-without xs fresh ys c = record {
+  short = short-append xs ys (short-front xs (fresh ++ ys) c.short) (short-back fresh ys (short-back xs (fresh ++ ys) c.short));
+  few = omega (arith, c.few, length-append xs (fresh ++ ys), length-append fresh ys, length-append xs ys);
 }
-
--- the pieces that are still to be renewed
-pub left-short : (xs : List Entry) (rs : List Renewal) (r : Renewal) (p : Entry) (first place : ℕ) → place ≡ first + length rs → slice_get xs place ≡ Some p
-    → CanJoin xs → AreShort (renewed (drop first xs) (rs ++ r ∷ [])) → AreShort (renewed (drop first (take place xs ++ renew p r ∷ drop (suc place) xs)) rs)
-left-short xs rs r p first place e at c new =
-    let now = take place xs ++ renew p r ∷ drop (suc place) xs in
-    short-back (take first now) (renewed (drop first now) rs)
-    (subst (λ (ys : List Entry). AreShort ys) (sym (renewed-last xs first place rs r p e at)) (short-append (take first xs) (renewed (drop first xs) (rs ++ r ∷ [])) (short-take first xs c.short) new))
 
 -- and with what the end gives
 pub whole-fits : (ps : List Entry) (o : Outcome) → CanJoin ps → o.sum.bytes ≡ 0 → Fits (joined (sums ps) o.sum)

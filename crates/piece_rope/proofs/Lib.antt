@@ -1,4 +1,5 @@
 pub mod Answering
+pub mod Bounding
 pub mod Chaining
 pub mod Comparing
 pub mod Counting

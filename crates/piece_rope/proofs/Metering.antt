@@ -8,6 +8,7 @@ use Rattle.piece_rope.specs.Kept.{Resyncs}
 use Rattle.piece_rope.specs.Document.{Document, document}
 use Rattle.piece_rope.specs.Edit.{Metered}
 use Rattle.piece_rope.specs.Edits.{spliced}
+use Rattle.piece_rope.specs.Sizes.{longest}
 use Rattle.piece_rope.proofs.Preparing.{take-add}
 
 -- the new bytes up to `m` behind the edit
@@ -20,7 +21,7 @@ new-front bytes ins at to m l =
 metered-splice : (doc : Document) (d : AnyDecoding) (at del to old new : ℕ) (ins : List ℕ) (chosen : Option AnyDecoding) → chosen ≡ Some d
     → IfSome chosen (λ (e : AnyDecoding). (bytes : List ℕ) → (feed (any e) (any_start e) bytes).state ≡ state_behind doc.indexes doc.setting bytes)
     → at + del ≤ length doc.bytes → to ≡ at + del → Metered d doc.bytes at to ins old new
-    → (m : ℕ) → Resyncs doc at del ins m → new ≤ old + (length ins + m + 4 * 2048)
+    → (m : ℕ) → Resyncs doc at del ins m → new ≤ old + (length ins + m + 4 * longest)
 metered-splice doc d at del to old new ins chosen chosen_is behind within to_is metered m resyncs =
     let B = doc.bytes in
     let same = subst (λ (o : Option AnyDecoding). IfSome o (λ (e : AnyDecoding). (bytes : List ℕ) → (feed (any e) (any_start e) bytes).state ≡ state_behind doc.indexes doc.setting bytes)) chosen_is behind in
@@ -38,11 +39,11 @@ metered-splice doc d at del to old new ins chosen chosen_is behind within to_is 
 pub metered-cut : (doc : Document) (d : AnyDecoding) (at del start to old new : ℕ) (ins : List ℕ) (chosen : Option AnyDecoding) → chosen ≡ Some d
     → IfSome chosen (λ (e : AnyDecoding). (bytes : List ℕ) → (feed (any e) (any_start e) bytes).state ≡ state_behind doc.indexes doc.setting bytes)
     → at + del ≤ length doc.bytes → start ≡ at → to ≡ at + del → Metered d doc.bytes start to ins old new
-    → (m : ℕ) → Resyncs doc at del ins m → new ≤ old + (length ins + m + 4 * 2048)
+    → (m : ℕ) → Resyncs doc at del ins m → new ≤ old + (length ins + m + 4 * longest)
 metered-cut doc d at del start to old new ins chosen chosen_is behind within start_is to_is metered =
     metered-splice doc d at del to old new ins chosen chosen_is behind within to_is (subst (λ (k : ℕ). Metered d doc.bytes k to ins old new) start_is metered)
 
 -- the same of the document that contracts see
-pub metered-as : (doc self : Document) → doc ≡ self → (at del old new : ℕ) (ins : List ℕ) → ((m : ℕ) → Resyncs doc at del ins m → new ≤ old + (length ins + m + 4 * 2048))
-    → (m : ℕ) → Resyncs self at del ins m → new ≤ old + (length ins + m + 4 * 2048)
-metered-as doc self same at del old new ins metered = subst (λ (x : Document). (m : ℕ) → Resyncs x at del ins m → new ≤ old + (length ins + m + 4 * 2048)) same metered
+pub metered-as : (doc self : Document) → doc ≡ self → (at del old new : ℕ) (ins : List ℕ) → ((m : ℕ) → Resyncs doc at del ins m → new ≤ old + (length ins + m + 4 * longest))
+    → (m : ℕ) → Resyncs self at del ins m → new ≤ old + (length ins + m + 4 * longest)
+metered-as doc self same at del old new ins metered = subst (λ (x : Document). (m : ℕ) → Resyncs x at del ins m → new ≤ old + (length ins + m + 4 * longest)) same metered

@@ -7,7 +7,6 @@ use Rattle.std.specs.Str.{encode_utf8_all, chars, IsUtf8}
 use Rattle.std.proofs.lemmas.Str.{encodes-append, encodes-chars}
 use Rattle.state_memo.specs.declared.outcome.Outcome.{Outcome}
 use Rattle.piece_rope.specs.declared.edit.Edit.{Edit}
-use Rattle.piece_rope.specs.declared.entered.Renewal.{Renewal}
 use Rattle.piece_rope.specs.Chain.{renew, renewed}
 use Rattle.piece_rope.specs.Edit.{edited}
 use Rattle.piece_rope.specs.Entry.{Entry, here_of, texts_of}
@@ -57,7 +56,7 @@ parts-from ps tail k n l =
     ∙ ap (λ (i : ℕ). slice_get (parts_of (take k ps ++ drop k ps) tail) (i + n)) (length-take-le k ps l)
     ∙ ap (λ (xs : List Entry). slice_get (parts_of xs tail) (k + n)) (take-append-drop k ps)
 
-pub renewed-get : (xs : List Entry) (rs : List Renewal) (n : ℕ) (p : Entry) (r : Renewal) → slice_get xs n ≡ Some p → slice_get rs n ≡ Some r
+pub renewed-get : (xs : List Entry) (rs : List Entry) (n : ℕ) (p : Entry) (r : Entry) → slice_get xs n ≡ Some p → slice_get rs n ≡ Some r
     → slice_get (renewed xs rs) n ≡ Some (renew p r)
 renewed-get [] rs zero p r at too = absurd cc
 renewed-get [] rs (suc n) p r at too = absurd cc
@@ -66,11 +65,11 @@ renewed-get (x ∷ xs) [] (suc n) p r at too = absurd cc
 renewed-get (x ∷ xs) (q ∷ rs) zero p r at too =
     let e : x ≡ p = cc in
     let f : q ≡ r = cc in
-    ap (λ (y : Entry). Some (renew y q)) e ∙ ap (λ (s : Renewal). Some (renew p s)) f
+    ap (λ (y : Entry). Some (renew y q)) e ∙ ap (λ (s : Entry). Some (renew p s)) f
 renewed-get (x ∷ xs) (q ∷ rs) (suc n) p r at too = renewed-get xs rs n p r at too
 
 -- behind the pieces that are renewed nothing changes
-pub renewed-past : (xs : List Entry) (rs : List Renewal) (tail : Outcome) (n : ℕ) → length rs ≤ n → length rs ≤ length xs
+pub renewed-past : (xs : List Entry) (rs : List Entry) (tail : Outcome) (n : ℕ) → length rs ≤ n → length rs ≤ length xs
     → slice_get (parts_of (renewed xs rs) tail) n ≡ slice_get (parts_of xs tail) n
 renewed-past [] [] tail n l w = refl
 renewed-past (x ∷ xs) [] tail n l w = refl
@@ -106,7 +105,7 @@ module _ (ps : List Entry) (e : Edit) (fits : IsPrepared ps e) where
   pub none-later : (n : ℕ) → length (drop e.last ps) < n → slice_get (later_parts ps e) n ≡ None
   none-later n past = slice_get_past (later_parts ps e) n (omega (arith, past, later-length))
 
-  pub renewed-part : (n : ℕ) (p : Entry) (r : Renewal) → slice_get (drop e.last ps) n ≡ Some p → slice_get e.renewals.items n ≡ Some r
+  pub renewed-part : (n : ℕ) (p : Entry) (r : Entry) → slice_get (drop e.last ps) n ≡ Some p → slice_get e.renewals.items n ≡ Some r
       → slice_get (later_parts ps e) n ≡ Some (here_of (renew p r))
   renewed-part n p r at too =
       parts-get (renewed (drop e.last ps) e.renewals.items) e.tail n (renew p r) (renewed-get (drop e.last ps) e.renewals.items n p r at too)

@@ -4,14 +4,13 @@ use Rattle.std.proofs.lemmas.List.{length-take-le, length-take, drop-drop, take-
 use Rattle.std.proofs.Math.Seq.{take-append_seam, drop-append_seam}
 use Rattle.state_memo.specs.Decoding.{feed, AnyDecoding, AnyState, any, any_start}
 use Rattle.piece_rope.specs.Entry.{Entry}
-use Rattle.piece_rope.specs.declared.entered.Renewal.{Renewal}
 use Rattle.piece_rope.specs.declared.window.Window.{Window}
 use Rattle.piece_rope.specs.Chain.{Chain, bytes_of, state_after, renewed}
 use Rattle.piece_rope.specs.Sizes.{AreSized, longest, shortest}
 use Rattle.piece_rope.specs.Edit.{IsRope, exchanged, AgreesAt, Metered}
 use Rattle.piece_rope.specs.Resync.{Passed, LastDiffers}
 use Rattle.piece_rope.specs.Window.{bytes_before, Spans, IsRoomy}
-use Rattle.piece_rope.proofs.Chaining.{Laws, bytes-append, chain-append, chain-front, chain-back, state-append, entry-at, renewed-bytes, renew-bytes}
+use Rattle.piece_rope.proofs.Chaining.{Laws, bytes-append, chain-append, chain-front, chain-back, state-append, entry-at, renewed-bytes}
 use Rattle.piece_rope.proofs.Editing.{element, sized-append}
 use Rattle.piece_rope.proofs.Measuring.{bytes-split, before-le, before-step, low_or_high}
 
@@ -47,7 +46,7 @@ pub bytes-rest : (ps : List Entry) (k : ℕ) → drop (bytes_before ps k) (bytes
 bytes-rest ps k = ap (λ (bs : List ℕ). drop (bytes_before ps k) bs) (bytes-split ps k) ∙ drop-append_seam (bytes_of (take k ps)) (bytes_of (drop k ps))
 
 -- what the new pieces and the renewed ones hold
-pub edited-bytes : (ps fresh : List Entry) (rs : List Renewal) (at to : ℕ) (ins : List ℕ) (w : Window) → Spans ps at to (2 * longest) w
+pub edited-bytes : (ps fresh : List Entry) (rs : List Entry) (at to : ℕ) (ins : List ℕ) (w : Window) → Spans ps at to (2 * longest) w
     → bytes_of fresh ≡ take (at - w.start) (drop w.start (bytes_of ps)) ++ (ins ++ take (w.end - to) (drop to (bytes_of ps)))
     → bytes_of (take w.first ps ++ (fresh ++ renewed (drop w.last ps) rs)) ≡ exchanged (bytes_of ps) at to ins
 edited-bytes ps fresh rs at to ins w spans own =
@@ -80,14 +79,14 @@ sized-drop least zero ps s = s
 sized-drop least (suc n) [] s = tt
 sized-drop least (suc n) (p ∷ ps) s = sized-drop least n ps s.2
 
-sized-renewed : (least : ℕ) (ps : List Entry) (rs : List Renewal) → AreSized least ps → AreSized least (renewed ps rs)
+sized-renewed : (least : ℕ) (ps : List Entry) (rs : List Entry) → AreSized least ps → AreSized least (renewed ps rs)
 sized-renewed least [] [] s = tt
 sized-renewed least (p ∷ ps) [] s = s
 sized-renewed least [] (r ∷ rs) s = tt
 sized-renewed least (p ∷ ps) (r ∷ rs) s =
-    (subst (λ (bs : List ℕ). least ≤ length bs) (sym (renew-bytes p r)) s.0, subst (λ (bs : List ℕ). length bs ≤ longest) (sym (renew-bytes p r)) s.1, sized-renewed least ps rs s.2)
+    (s.0, s.1, sized-renewed least ps rs s.2)
 
-renewed-none : (rs : List Renewal) → renewed [] rs ≡ []
+renewed-none : (rs : List Entry) → renewed [] rs ≡ []
 renewed-none [] = refl
 renewed-none (r ∷ rs) = refl
 
@@ -107,7 +106,7 @@ all-of n k l h = elim (low_or_high n k) [
   | inr more ↦ omega (arith, more, l)
 ]
 
-short-list : (first last : ℕ) (ps fresh : List Entry) (rs : List Renewal) → first ≡ 0 → last ≡ length ps
+short-list : (first last : ℕ) (ps fresh : List Entry) (rs : List Entry) → first ≡ 0 → last ≡ length ps
     → length (take first ps ++ (fresh ++ renewed (drop last ps) rs)) ≡ length fresh
 short-list first last ps fresh rs first_is last_is =
     ap (λ (n : ℕ). length (take n ps ++ (fresh ++ renewed (drop last ps) rs))) first_is
@@ -242,7 +241,7 @@ module _ (d : AnyDecoding) (laws : Laws d) where
       ∙ sym (laws.parts (any_start d) A (f ++ (ins ++ b)))
       ∙ ap (λ (bs : List ℕ). (feed (any d) (any_start d) bs).state) all
 
-  pub edited-rope : (entry behind end exit : AnyState) (ps fresh : List Entry) (rs : List Renewal) (at to : ℕ) (ins middle : List ℕ) (w : Window)
+  pub edited-rope : (entry behind end exit : AnyState) (ps fresh : List Entry) (rs : List Entry) (at to : ℕ) (ins middle : List ℕ) (w : Window)
       → IsRope d ps end → Spans ps at to (2 * longest) w → IsRoomy ps at to (length ins) w → at ≤ to → to ≤ length (bytes_of ps)
       → middle ≡ take (at - w.start) (drop w.start (bytes_of ps)) ++ (ins ++ take (w.end - to) (drop to (bytes_of ps)))
       → entry ≡ state_after d (any_start d) (take w.first ps) → bytes_of fresh ≡ middle → Chain d entry fresh → behind ≡ (feed (any d) entry middle).state

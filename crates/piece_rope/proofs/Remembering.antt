@@ -1,14 +1,14 @@
 -- What a piece remembers stays its own.
-use Rattle.std.proofs.Common.{◌≡◌, ℕ, refl, sym, ap, ◌∙◌, subst, zero, suc, Bool, true, false, List, [], ◌∷◌, take, Option, Some, None, option_map, cond}
+use Rattle.std.proofs.Common.{◌≡◌, ℕ, refl, sym, ap, ◌∙◌, subst, zero, suc, Bool, true, false, List, [], ◌∷◌, take, drop, Option, Some, None, option_map, cond}
 use Rattle.state_memo.specs.Decoding.{feed, AnyState, AnyDecoding, any}
 use Rattle.state_memo.specs.declared.outcome.Outcome.{Outcome}
 use Rattle.state_memo.specs.declared.known.Known.{Known}
 use Rattle.state_memo.specs.Outcome.{Contents, contents_of, outcome_of, ending_of}
 use Rattle.state_memo.specs.Sums.{sum_of}
-use Rattle.state_memo.specs.Memo.{same_state, recalled, without, installed, put_first}
+use Rattle.state_memo.specs.Memo.{Memo, same_state, recalled, without, installed, entered, put_first}
 use Rattle.piece_rope.specs.Entry.{Entry}
 use Rattle.piece_rope.proofs.Chaining.{Laws}
-use Rattle.piece_rope.specs.Chain.{AreRight, IsOwn, renew, renew_by}
+use Rattle.piece_rope.specs.Chain.{AreRight, IsOwn, IsRenewed}
 
 module _ (d : AnyDecoding) (laws : Laws d) (bytes : List ℕ) where
   right-pick : (b : Bool) (x y : List Known) → AreRight d bytes x → AreRight d bytes y → AreRight d bytes (cond b x y)
@@ -61,14 +61,38 @@ module _ (d : AnyDecoding) (laws : Laws d) where
     here_is = ap (option_map contents_of) (found-first (same_state s s) o (recalled (without p.piece.known s) s) (laws.same s)) ∙ ap Some (right-recalled d laws p.piece.bytes p.piece.known s o right found);
   }
 
-  pub own-renewed : (p : Entry) (s : AnyState) (o : Outcome) → IsOwn d p → recalled p.piece.known s ≡ Some o
-      → IsOwn d (renew p (record { entry = s; outcome = None }))
-  own-renewed p s o own found =
-      subst (λ (x : Option Outcome). IsOwn d (renew_by p s None x)) (sym found)
+  -- a piece entered in a state that it remembers
+  pub own-renewed : (p : Entry) (m : Memo) (s : AnyState) (o : Outcome) → IsOwn d p → recalled p.piece.known s ≡ Some o
+      → m ≡ record { bytes = p.piece.bytes; known = entered p.piece.known s } → IsOwn d (record { piece = m; entry = s })
+  own-renewed p m s o own found is =
+      subst (λ (x : Memo). IsOwn d (record { piece = x; entry = s })) (sym is)
       (subst (λ (x : Option Outcome). IsOwn d (record { piece = record { bytes = p.piece.bytes; known = put_first x p.piece.known s }; entry = s })) (sym found) (own-entered p s o own.right found))
 
-  pub entry-renewed : (p : Entry) (s : AnyState) (o : Outcome) → recalled p.piece.known s ≡ Some o → (renew p (record { entry = s; outcome = None })).entry ≡ s
-  entry-renewed p s o found = subst (λ (x : Option Outcome). (renew_by p s None x).entry ≡ s) (sym found) refl
+  -- and in one from which it was computed
+  pub own-computed : (p : Entry) (m : Memo) (s : AnyState) (o : Outcome) → IsOwn d p → contents_of o ≡ outcome_of d s p.piece.bytes
+      → m ≡ record { bytes = p.piece.bytes; known = installed p.piece.known s o } → IsOwn d (record { piece = m; entry = s })
+  own-computed p m s o own is m_is =
+      subst (λ (x : Memo). IsOwn d (record { piece = x; entry = s })) (sym m_is) (own-installed p.piece.bytes p.piece.known s o own.right is)
+
+take-twice : {X : Type 0} (n : ℕ) (xs : List X) → take n (take n xs) ≡ take n xs
+take-twice zero xs = refl
+take-twice (suc n) [] = refl
+take-twice (suc n) (x ∷ xs) = ap (λ (ys : List _). x ∷ ys) (take-twice n xs)
+
+-- what else the piece remembered is still there
+pub renewed-found : (p : Entry) (m : Memo) (s : AnyState) (o : Outcome) → recalled p.piece.known s ≡ Some o
+    → m ≡ record { bytes = p.piece.bytes; known = entered p.piece.known s } → IsRenewed p (record { piece = m; entry = s })
+renewed-found p m s o found is = record {
+  bytes = ap (λ (x : Memo). x.bytes) is;
+  others = ap (λ (x : Memo). take 3 (drop 1 x.known)) is ∙ ap (λ (x : Option Outcome). take 3 (drop 1 (put_first x p.piece.known s))) found;
+}
+
+pub renewed-computed : (p : Entry) (m : Memo) (s : AnyState) (o : Outcome) → m ≡ record { bytes = p.piece.bytes; known = installed p.piece.known s o }
+    → IsRenewed p (record { piece = m; entry = s })
+renewed-computed p m s o is = record {
+  bytes = ap (λ (x : Memo). x.bytes) is;
+  others = ap (λ (x : Memo). take 3 (drop 1 x.known)) is ∙ take-twice 3 (without p.piece.known s);
+}
 
 pub ending-exit : (d : AnyDecoding) (s : AnyState) (o : Outcome) → contents_of o ≡ ending_of d s → o.exit ≡ s
 unfolding ending_of

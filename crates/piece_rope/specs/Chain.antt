@@ -1,11 +1,9 @@
 -- Pieces in a row, each entered in the state behind those before it.
-use Rattle.std.specs.Prelude.{◌≡◌, ℕ, List, [], ◌∷◌, flat_map, Option, Some, None, option_map}
+use Rattle.std.specs.Prelude.{◌≡◌, ℕ, List, [], ◌∷◌, take, drop, flat_map, Some, option_map}
 use Rattle.state_memo.specs.Decoding.{feed, AnyDecoding, AnyState, any}
-use Rattle.state_memo.specs.declared.outcome.Outcome.{Outcome}
 use Rattle.state_memo.specs.declared.known.Known.{Known}
 use Rattle.state_memo.specs.Outcome.{contents_of, outcome_of}
-use Rattle.state_memo.specs.Memo.{recalled, installed, entered}
-use Rattle.piece_rope.specs.declared.entered.Renewal.{Renewal}
+use Rattle.state_memo.specs.Memo.{without}
 use Rattle.piece_rope.specs.Entry.{Entry, here}
 
 -- the bytes of pieces, in order
@@ -31,17 +29,23 @@ Chain d s (p ∷ ps) = (p.entry ≡ s) × IsOwn d p × Chain d (feed (any d) s p
 abbrev pub state_after : AnyDecoding → AnyState → List Entry → AnyState
 state_after d s ps = (feed (any d) s (bytes_of ps)).state
 
--- a piece entered in another state: by an outcome that was computed, or by a remembered one
-abbrev pub renew_by : Entry → AnyState → Option Outcome → Option Outcome → Entry
-renew_by p entry (Some outcome) found = record { piece = record { bytes = p.piece.bytes; known = installed p.piece.known entry outcome }; entry = entry }
-renew_by p entry None (Some outcome) = record { piece = record { bytes = p.piece.bytes; known = entered p.piece.known entry }; entry = entry }
-renew_by p entry None None = p
-
-abbrev pub renew : Entry → Renewal → Entry
-renew p r = renew_by p r.entry r.outcome (recalled p.piece.known r.entry)
+-- a piece entered in another state, with what it remembers then
+abbrev pub renew : Entry → Entry → Entry
+renew p r = record { piece = record { bytes = p.piece.bytes; known = r.piece.known }; entry = r.entry }
 
 -- the first pieces renewed, one by one
-abbrev pub renewed : List Entry → List Renewal → List Entry
+abbrev pub renewed : List Entry → List Entry → List Entry
 renewed ps [] = ps
 renewed [] (r ∷ rs) = []
 renewed (p ∷ ps) (r ∷ rs) = renew p r ∷ renewed ps rs
+
+-- it keeps its bytes, and what it remembers from other states, but for a fifth
+pub record IsRenewed (p r : Entry) : Type 0 where
+  pub bytes : r.piece.bytes ≡ p.piece.bytes
+  pub others : take 3 (drop 1 r.piece.known) ≡ take 3 (without p.piece.known r.entry)
+
+-- so does each of the first pieces
+abbrev pub AreRenewed : List Entry → List Entry → Type 0
+AreRenewed ps [] = Unit {0}
+AreRenewed [] (r ∷ rs) = ⊥
+AreRenewed (p ∷ ps) (r ∷ rs) = IsRenewed p r × AreRenewed ps rs

@@ -4,7 +4,7 @@ use Rattle.state_memo.specs.Decoding.{feed, AnyDecoding, AnyState, any, any_star
 use Rattle.piece_rope.specs.declared.edit.Edit.{Edit}
 use Rattle.piece_rope.specs.Entry.{Entry}
 use Rattle.piece_rope.specs.Chain.{Chain, state_after, renewed}
-use Rattle.piece_rope.specs.Sizes.{HasSizes}
+use Rattle.piece_rope.specs.Sizes.{HasSizes, longest}
 
 -- the pieces of a document
 pub record IsRope (d : AnyDecoding) (ps : List Entry) (end : AnyState) : Type 0 where
@@ -28,4 +28,4 @@ AgreesAt d bytes at to ins m =
 
 -- how far the meter may go up from `old` to `new`
 pub record Metered (d : AnyDecoding) (bytes : List ℕ) (at to : ℕ) (ins : List ℕ) (old new : ℕ) : Type 0 where
-  pub most : (m : ℕ) → AgreesAt d bytes at to ins m → new ≤ old + (length ins + m + 4 * 2048)
+  pub most : (m : ℕ) → AgreesAt d bytes at to ins m → new ≤ old + (length ins + m + 4 * longest)

@@ -1,3 +1,4 @@
+pub mod Bounds
 pub mod Chain
 pub mod Compare
 pub mod Decode

@@ -1,10 +1,10 @@
 -- A splice that is ready to be made.
-use Rattle.std.specs.Prelude.{◌≡◌, ℕ, List, Some}
+use Rattle.std.specs.Prelude.{◌≡◌, ℕ, List, drop, Some}
 use Rattle.enc_names.specs.declared.setting.Setting.{Setting}
 use Rattle.index_loader.specs.Files.{Files}
 use Rattle.state_memo.specs.Decoding.{AnyDecoding, decoder_in}
 use Rattle.piece_rope.specs.declared.edit.Edit.{Edit}
-use Rattle.piece_rope.specs.Chain.{bytes_of}
+use Rattle.piece_rope.specs.Chain.{AreRenewed, bytes_of}
 use Rattle.piece_rope.specs.Edit.{edited}
 use Rattle.piece_rope.specs.Edits.{spliced}
 use Rattle.piece_rope.specs.Entry.{Entry}
@@ -15,6 +15,7 @@ use Rattle.piece_rope.specs.Sizes.{CanJoin}
 -- its pieces are those of a document with the bytes spliced, and can be put in place
 pub record IsReady (files : Files) (setting : Setting) (ps : List Entry) (at del : ℕ) (ins : List ℕ) (e : Edit) : Type 0 where
   pub prepared : IsPrepared ps e
+  pub renewals : AreRenewed (drop e.last ps) e.renewals.items
   pub old : CanJoin ps
   pub new : CanJoin (edited ps e)
   pub bytes : bytes_of (edited ps e) ≡ spliced (bytes_of ps) at del ins

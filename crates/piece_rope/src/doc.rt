@@ -7,9 +7,10 @@ ghost use Rattle.piece_rope.specs.Chain.{Chain, bytes_of};
 ghost use Rattle.piece_rope.specs.Entry.{here_of};
 ghost use Rattle.piece_rope.specs.Made.{AreMade, IsMade, body_of, tail_of};
 ghost use Rattle.piece_rope.specs.Outputs.{HasOutputs, HaveOutputs, output_at};
-ghost use Rattle.piece_rope.specs.Sizes.{AreSized, AreCounted, shortest};
+ghost use Rattle.piece_rope.specs.Sizes.{AreSized, AreCounted, longest, shortest};
 
 mod kept;
+mod law_bounds;
 
 use crate::bytes::push_bytes;
 use crate::entered::Entered;
@@ -25,7 +26,8 @@ use crate::text::text_between;
 use enc_names::{Encoding, Place, Setting};
 use index_loader::Indexes;
 use state_memo::{
-    AnyDecoder, Meter, Outcome, Sum, finish_of, output_at_the_end, piece_laws, sniff, start_of,
+    AnyDecoder, Meter, OutOfMemory, Outcome, Sum, finish_of, law_output_at_the_end, law_pieces,
+    sniff, start_of,
 };
 use std::alloc::Global;
 use std::marker::Model;
@@ -65,7 +67,7 @@ impl<'i> Doc<'i> {
 
     /// A document of these bytes, in the encoding given where no byte order mark puts another in
     /// force. Refused with `NoIndex` where an index file of the encoding given isn't there, then
-    /// with `TooLarge` above 2,097,152 bytes. The meter counts the bytes decoded: those behind the
+    /// with `TooLarge` above `DOCUMENT_LIMIT` bytes. The meter counts the bytes decoded: those behind the
     /// byte order mark, and perhaps those of the mark.
     #[tactic(auto, unfolding(crate::specs::Edits::open_fault))]
     pub fn open(
@@ -87,7 +89,7 @@ impl<'i> Doc<'i> {
         if bytes.len() > DOCUMENT_LIMIT {
             return Err(DocFault::TooLarge);
         }
-        piece_laws(&decoder);
+        law_pieces(&decoder);
         let fresh = fresh_pieces(alloc, &decoder, start_of(&decoder), bytes, meter)?;
         let Fresh { mut pieces, exit } = fresh;
         let tail = finish_of(alloc, &decoder, exit)?;
@@ -101,11 +103,27 @@ impl<'i> Doc<'i> {
         })
     }
 
+    /// The same document once more. The two share what the pieces hold and remember: nothing is
+    /// decoded, and neither bytes nor text are copied. An edit of one leaves the other as it is.
+    pub fn copy(&self) -> Result<Doc<'i>, OutOfMemory>
+        ensures { IfOk result (λ doc. doc ≡ self.now) }
+    {
+        let pieces = self.pieces.copy(self.alloc)?;
+        let tail = self.tail.clone()?;
+        Ok(Doc {
+            indexes: self.indexes,
+            setting: self.setting,
+            pieces,
+            tail,
+            alloc: self.alloc,
+        })
+    }
+
     /// Takes `del` bytes out at `at` and puts `ins` in their place. Refused with `OutOfRange` where
     /// the bytes to take out aren't all there, then with `TooLarge` where there would be more than
-    /// 2,097,152 bytes. The meter counts the bytes decoded, also those of an edit that is refused
-    /// for memory: at most the bytes put in, those behind the edit until the decoder is in the
-    /// state in which it was there before, and 8,192 more.
+    /// `DOCUMENT_LIMIT` bytes. The meter counts the bytes decoded, also those of an edit that is
+    /// refused for memory: at most the bytes put in, those behind the edit until the decoder is in
+    /// the state in which it was there before, and as many more as four pieces have.
     pub fn splice(
         &mut self,
         at: u64,
@@ -117,7 +135,7 @@ impl<'i> Doc<'i> {
         ensures err { OnErr result (self.new ≡ self.old) }
         ensures faults { Faults (splice_fault self.old.bytes at del ins.now) result }
         ensures meter_least { meter.old ≤ meter.new }
-        ensures meter_most { (m : ℕ) → Resyncs self.old at del ins.now m → meter.new ≤ meter.old + (length ins.now + m + 4 * 2048) }
+        ensures meter_most { (m : ℕ) → Resyncs self.old at del ins.now m → meter.new ≤ meter.old + (length ins.now + m + 4 * longest) }
         ensures meter_refused { splice_fault self.old.bytes at del ins.now ≢ None → meter.new ≡ meter.old }
     {
         let (indexes, setting) = (self.indexes, self.setting);
@@ -240,7 +258,7 @@ impl<'i> Doc<'i> {
         ensures counted { AreCounted result }
         ensures outputs { HaveOutputs self.now 0 (map here_of result) }
     {
-        output_at_the_end();
+        law_output_at_the_end();
         self.pieces.finder()
     }
 
@@ -250,7 +268,7 @@ impl<'i> Doc<'i> {
         ensures bytes { result.now.sum.bytes ≡ 0 }
         ensures outputs { HasOutputs self.now (length self.now.bytes) result.now.items }
     {
-        output_at_the_end();
+        law_output_at_the_end();
         &self.tail
     }
 
@@ -258,12 +276,12 @@ impl<'i> Doc<'i> {
     ///
     /// Its index files are there (`files`). Its byte order mark is in the bytes (`within`), and the
     /// output state behind the mark is ASCII (`output`).
-    pub fn in_force(&self)
+    pub fn law_in_force(&self)
         ensures files { has_files self.now.indexes (decoded self.now).encoding ≡ true }
         ensures within { (decoded self.now).bom ≤ length self.now.bytes }
         ensures output { output_at self.now (decoded self.now).bom ≡ Ascii }
     {
         let _pieces = &self.pieces;
-        output_at_the_end();
+        law_output_at_the_end();
     }
 }

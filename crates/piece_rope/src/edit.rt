@@ -2,18 +2,18 @@
 ghost use Rattle.std.specs.Prelude.{◌≡◌, ◌+◌, ◌-◌, ◌*◌, ◌^◌, ◌≤◌, ◌<◌, ◌++◌, length, take, drop, IfOk};
 ghost use Rattle.state_memo.specs.Decoding.{any_start};
 ghost use Rattle.state_memo.specs.Outcome.{contents_of, ending_of};
-ghost use Rattle.piece_rope.specs.Chain.{bytes_of, state_after};
+ghost use Rattle.piece_rope.specs.Chain.{AreRenewed, bytes_of, state_after};
 ghost use Rattle.piece_rope.specs.Edit.{IsRope, edited, exchanged, Metered};
 ghost use Rattle.piece_rope.specs.Sizes.{AreCounted, longest};
 ghost use Rattle.piece_rope.specs.Window.{Spans};
 
 use crate::bytes::push_bytes;
-use crate::entered::{Entered, Renewal};
+use crate::entered::Entered;
 use crate::fresh::{Fresh, fresh_pieces};
 use crate::later::{Later, renewals_from};
 use crate::pieces::Pieces;
 use crate::window::{Window, window_of};
-use state_memo::{AnyDecoder, AnyState, Meter, OutOfMemory, Outcome, finish_of, piece_laws};
+use state_memo::{AnyDecoder, AnyState, Meter, OutOfMemory, Outcome, finish_of, law_pieces};
 use std::alloc::Global;
 
 /// New pieces for those at `first..last`, what the first of those behind become, and what the end
@@ -23,7 +23,7 @@ pub(crate) struct Edit {
     pub first: usize,
     pub last: usize,
     pub fresh: Vec<Entered>,
-    pub renewals: Vec<Renewal>,
+    pub renewals: Vec<Entered>,
     pub tail: Outcome,
 }
 
@@ -56,7 +56,7 @@ fn entry_of(decoder: &AnyDecoder<'_>, pieces: &Pieces, first: usize, end: AnySta
     requires rope { IsRope decoder.now pieces.now.items end }
     ensures { result ≡ state_after decoder.now (any_start decoder.now) (take first pieces.now.items) }
 {
-    piece_laws(decoder);
+    law_pieces(decoder);
     if first < pieces.len() {
         return pieces.get(first).entry();
     }
@@ -81,13 +81,14 @@ pub(crate) fn prepare(
     requires within { to ≤ length (bytes_of pieces.now.items) }
     ensures order { IfOk result (λ e. e.first ≤ e.last) }
     ensures within { IfOk result (λ e. e.last + length e.renewals.items ≤ length pieces.now.items) }
+    ensures kept { IfOk result (λ e. AreRenewed (drop e.last pieces.now.items) e.renewals.items) }
     ensures rope { IfOk result (λ e. IsRope decoder.now (edited pieces.now.items e) e.tail.exit) }
     ensures bytes { IfOk result (λ e. bytes_of (edited pieces.now.items e) ≡ exchanged (bytes_of pieces.now.items) at to ins.now) }
     ensures tail { IfOk result (λ e. contents_of e.tail ≡ ending_of decoder.now e.tail.exit) }
     ensures meter { Metered decoder.now (bytes_of pieces.now.items) at to ins.now meter.old meter.new }
     ensures meter_least { meter.old ≤ meter.new }
 {
-    piece_laws(decoder);
+    law_pieces(decoder);
     let (old_end, last_end) = (end, end);
     let window = window_of(pieces, at, to, ins.len());
     let middle = middle_bytes(alloc, pieces, &window, at, to, ins)?;

@@ -57,8 +57,7 @@ impl<'a> Edited<'a> {
         let (pieces, edit) = (self.pieces, self.edit);
         let count = pieces.len();
         if place < edit.renewals.len() {
-            let piece = pieces.get(edit.last + place);
-            return Some(piece.here_renewed(&edit.renewals[place]));
+            return Some(edit.renewals[place].here());
         }
         if place > count - edit.last {
             return None;

@@ -1,20 +1,21 @@
 //! Pieces with the states in which they are entered.
-ghost use Rattle.std.specs.Prelude.{◌≡◌, ◌+◌, ◌-◌, ◌^◌, ◌≤◌, true, min, length, IfOk, OnOk, Some};
+ghost use Rattle.std.specs.Prelude.{◌≡◌, ◌+◌, ◌-◌, ◌^◌, ◌≤◌, min, length, IfOk, OnOk};
 ghost use Rattle.state_memo.specs.Decoding.{feed, any, AnyState};
-ghost use Rattle.state_memo.specs.Memo.{same_state};
-ghost use Rattle.piece_rope.specs.Chain.{IsOwn, renew};
+ghost use Rattle.piece_rope.specs.Chain.{IsOwn, IsRenewed};
 ghost use Rattle.piece_rope.specs.Entry.{here_of};
 
-use state_memo::{AnyDecoder, AnyState, Meter, OutOfMemory, Outcome, Piece, Sum, piece_laws};
+use state_memo::{AnyDecoder, AnyState, Meter, OutOfMemory, Outcome, Piece, Sum, law_pieces};
 use std::alloc::Global;
 use std::marker::Model;
-use sum_tree::Summed;
+use std::rc::Rc;
+use sum_tree::{Summed, TryCopy};
 
 /// A piece of a document and the state in which it is entered, from where it remembers what it
-/// decodes to. Contracts see the piece and the state.
+/// decodes to. Contracts see the piece and the state. Copies of a document share its pieces, so a
+/// piece in a document never changes: an edit puts another one in its place.
 #[derive(Drop)]
 pub struct Entered {
-    piece: Box<Piece>,
+    piece: Rc<Piece>,
     entry: AnyState,
 }
 
@@ -26,16 +27,6 @@ impl Model for Entered {
     ghost view = { λ e. record { piece = e.piece.value; entry = e.entry } };
 
     ghost invariant = { λ e. IsKnown e.piece.value e.entry };
-}
-
-/// What a piece is to become: entered in another state, with an outcome that was computed from
-/// there, or (`None`) with one that it remembers.
-#[derive(Drop)]
-pub(crate) struct Renewal {
-    /// The state in which the piece is to be entered.
-    pub entry: AnyState,
-    /// What it decodes to from there, if that was computed.
-    pub outcome: Option<Outcome>,
 }
 
 impl Entered {
@@ -55,66 +46,47 @@ impl Entered {
         ensures meter_most { meter.new ≤ meter.old + length bytes.now }
         ensures meter_least { meter.old ≤ meter.new }
     {
-        piece_laws(decoder);
+        law_pieces(decoder);
         let mut piece = Piece::new(alloc, bytes)?;
         let (sought, first) = (entry, entry);
         let outcome = piece.compute(decoder, sought, meter)?;
         let exit = outcome.exit;
         piece.install(first, outcome);
-        let piece = Box::new(alloc, piece)?;
+        let piece = Rc::new(alloc, piece)?;
         Ok((Entered { piece, entry }, exit))
     }
 
-    /// What the piece becomes where it is entered in another state, and the state behind it then.
-    pub(crate) fn renewal(
+    /// The piece entered in another state, and the state behind it then. It is a piece of its own,
+    /// which shares bytes and remembered outcomes with this one; this one stays as it is.
+    pub(crate) fn renewed(
         &self,
+        alloc: Global,
         decoder: &AnyDecoder<'_>,
         entry: AnyState,
         meter: &mut Meter,
-    ) -> Result<(Renewal, AnyState), OutOfMemory>
+    ) -> Result<(Entered, AnyState), OutOfMemory>
         requires { IsOwn decoder.now self.now }
-        ensures entry { IfOk result (λ r. (renew self.now r.0).entry ≡ entry) }
-        ensures own { IfOk result (λ r. IsOwn decoder.now (renew self.now r.0)) }
+        ensures renewed { IfOk result (λ r. IsRenewed self.now r.0) }
+        ensures entry { IfOk result (λ r. r.0.entry ≡ entry) }
+        ensures own { IfOk result (λ r. IsOwn decoder.now r.0) }
         ensures exit { IfOk result (λ r. r.1 ≡ (feed (any decoder.now) entry self.now.piece.bytes).state) }
         ensures meter_most { meter.new ≤ meter.old + length self.now.piece.bytes }
         ensures meter_least { meter.old ≤ meter.new }
     {
-        piece_laws(decoder);
+        law_pieces(decoder);
+        let mut piece = self.piece.copy()?;
         let (sought, from, new) = (entry, entry, entry);
         if let Some(outcome) = self.piece.peek(sought) {
             let exit = outcome.exit;
-            let outcome = None;
-            return Ok((Renewal { entry, outcome }, exit));
+            piece.move_first(from);
+            let piece = Rc::new(alloc, piece)?;
+            return Ok((Entered { piece, entry }, exit));
         }
-        let outcome = self.piece.compute(decoder, from, meter)?;
+        let outcome = piece.compute(decoder, from, meter)?;
         let exit = outcome.exit;
-        let outcome = Some(outcome);
-        Ok((
-            Renewal {
-                entry: new,
-                outcome,
-            },
-            exit,
-        ))
-    }
-
-    /// Enters the piece in another state.
-    pub(crate) fn renew(&mut self, renewal: Renewal)
-        ensures { self.new ≡ renew self.old renewal }
-    {
-        let Renewal { entry, outcome } = renewal;
-        let state = entry;
-        match outcome {
-            Some(outcome) => {
-                self.piece.install(state, outcome);
-                self.entry = entry;
-            }
-            None => {
-                if self.piece.move_first(state) {
-                    self.entry = entry;
-                }
-            }
-        }
+        piece.install(new, outcome);
+        let piece = Rc::new(alloc, piece)?;
+        Ok((Entered { piece, entry }, exit))
     }
 
     /// What the piece decodes to from the state in which it is entered: its part of the document's
@@ -125,20 +97,6 @@ impl Entered {
         match self.piece.peek(self.entry) {
             Some(outcome) => outcome,
             None => unreachable!(),
-        }
-    }
-
-    /// What the piece decodes to once it is renewed.
-    pub(crate) fn here_renewed<'a>(&'a self, renewal: &'a Renewal) -> &'a Outcome
-        requires { (s : AnyState) → same_state s s ≡ true }
-        ensures { result.now ≡ here_of (renew self.now renewal.now) }
-    {
-        if let Some(outcome) = &renewal.outcome {
-            return outcome;
-        }
-        match self.piece.peek(renewal.entry) {
-            Some(outcome) => outcome,
-            None => self.here(),
         }
     }
 
@@ -164,5 +122,14 @@ impl Summed<Sum> for Entered {
 
     fn sum(&self) -> Sum {
         self.here().sum
+    }
+}
+
+impl TryCopy for Entered {
+    fn copy(&self) -> Result<Entered, OutOfMemory> {
+        Ok(Entered {
+            piece: self.piece.clone()?,
+            entry: self.entry,
+        })
     }
 }

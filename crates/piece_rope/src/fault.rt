@@ -9,7 +9,7 @@ pub enum DocFault {
     NoIndex,
     /// A place past the end, or a range whose start is after its end.
     OutOfRange,
-    /// The document would have more than 2,097,152 bytes.
+    /// The document would have more than `DOCUMENT_LIMIT` bytes.
     TooLarge,
     /// The new text wouldn't be the old text with the range replaced.
     NotKept,

@@ -5,7 +5,8 @@ ghost use Rattle.piece_rope.specs.Chain.{Chain, bytes_of};
 ghost use Rattle.piece_rope.specs.Sizes.{AreSized, longest, shortest};
 
 use crate::entered::Entered;
-use state_memo::{AnyDecoder, AnyState, Meter, OutOfMemory, piece_laws};
+use crate::limits::{LONGEST_PIECE, SHORTEST_PIECE};
+use state_memo::{AnyDecoder, AnyState, Meter, OutOfMemory, law_pieces};
 use std::alloc::{AllocError, Global};
 
 /// New pieces, and the state behind them.
@@ -24,12 +25,12 @@ fn part_of(len: usize) -> usize
     ensures rest { shortest ≤ len → result < len → shortest ≤ len - result }
     ensures whole { len ≤ longest → result ≡ len }
 {
-    if len <= 2048 {
+    if len <= LONGEST_PIECE {
         len
-    } else if len < 2560 {
+    } else if len < LONGEST_PIECE + SHORTEST_PIECE {
         len / 2
     } else {
-        2048
+        LONGEST_PIECE
     }
 }
 
@@ -51,7 +52,7 @@ pub(crate) fn fresh_pieces(
     ensures meter_most { meter.new ≤ meter.old + length bytes.now }
     ensures meter_least { meter.old ≤ meter.new }
 {
-    piece_laws(decoder);
+    law_pieces(decoder);
     let mut pieces = Vec::new(alloc);
     let mut state = entry;
     let mut rest = bytes;

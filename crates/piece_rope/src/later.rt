@@ -1,17 +1,17 @@
 //! What becomes of the pieces behind an edit.
 ghost use Rattle.std.specs.Prelude.{◌≡◌, ◌+◌, ◌≤◌, length, drop, IfOk};
-ghost use Rattle.piece_rope.specs.Chain.{Chain, renewed, state_after};
+ghost use Rattle.piece_rope.specs.Chain.{Chain, AreRenewed, renewed, state_after};
 ghost use Rattle.piece_rope.specs.Resync.{Passed, Behind};
 
-use crate::entered::Renewal;
+use crate::entered::Entered;
 use crate::pieces::Pieces;
-use state_memo::{AnyDecoder, AnyState, Meter, OutOfMemory, piece_laws};
+use state_memo::{AnyDecoder, AnyState, Meter, OutOfMemory, law_pieces};
 use std::alloc::{AllocError, Global};
 
 /// What the first of the pieces behind an edit become, and the state behind all of them then.
 #[derive(Drop)]
 pub(crate) struct Later {
-    pub renewals: Vec<Renewal>,
+    pub renewals: Vec<Entered>,
     pub exit: AnyState,
 }
 
@@ -30,12 +30,13 @@ pub(crate) fn renewals_from(
     requires within { first ≤ length pieces.now.items }
     requires behind { Behind decoder.now (drop first pieces.now.items) end }
     ensures within { IfOk result (λ l. length l.renewals.items ≤ length (drop first pieces.now.items)) }
+    ensures kept { IfOk result (λ l. AreRenewed (drop first pieces.now.items) l.renewals.items) }
     ensures chain { IfOk result (λ l. Chain decoder.now entry (renewed (drop first pieces.now.items) l.renewals.items)) }
     ensures exit { IfOk result (λ l. l.exit ≡ state_after decoder.now entry (drop first pieces.now.items)) }
     ensures meter { Passed decoder.now entry (drop first pieces.now.items) meter.old meter.new }
     ensures meter_least { meter.old ≤ meter.new }
 {
-    piece_laws(decoder);
+    law_pieces(decoder);
     let mut renewals = Vec::new(alloc);
     let mut state = entry;
     let mut index = first;
@@ -47,8 +48,8 @@ pub(crate) fn renewals_from(
                 exit: end,
             });
         }
-        let (renewal, exit) = piece.renewal(decoder, state, meter)?;
-        renewals.push(renewal).map_err(AllocError::from)?;
+        let (renewed, exit) = piece.renewed(alloc, decoder, state, meter)?;
+        renewals.push(renewed).map_err(AllocError::from)?;
         state = exit;
         index += 1;
     }

@@ -1,4 +1,4 @@
-//! What a document's bytes may be.
+//! What a document's bytes may be, and those of its pieces.
 ghost use Rattle.std.specs.Prelude.{◌≡◌, ◌+◌, ◌≤◌, length, IfOk, OnOk};
 ghost use Rattle.piece_rope.specs.Chain.{bytes_of};
 ghost use Rattle.piece_rope.specs.Edits.{Faults, document_limit, source_fault, splice_fault, spliced};
@@ -9,7 +9,13 @@ use crate::pieces::Pieces;
 use crate::window::count_bytes;
 
 /// The most bytes that a document has.
-pub(crate) const DOCUMENT_LIMIT: usize = 2_097_152;
+pub const DOCUMENT_LIMIT: usize = 2_097_152;
+
+/// The most bytes that a piece of a document has.
+pub const LONGEST_PIECE: usize = 2_048;
+
+/// The fewest bytes that a piece has in a document of several pieces.
+pub const SHORTEST_PIECE: usize = 512;
 
 /// Where a splice cuts the bytes, as sizes in memory: from and to. Refused with `OutOfRange` and
 /// then with `TooLarge`.

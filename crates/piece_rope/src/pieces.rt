@@ -8,7 +8,7 @@ ghost use Rattle.state_memo.specs.Decoding.{mark_of};
 use crate::entered::Entered;
 use state_memo::{OutOfMemory, Sum};
 use std::alloc::Global;
-use sum_tree::{SumTree, sums_of_lists};
+use sum_tree::{SumTree, law_sums_of_lists};
 
 /// Pieces in order, with the sums of what they decode to.
 pub(crate) type Pieces = SumTree<Entered, Sum>;
@@ -21,7 +21,7 @@ pub(crate) fn put_piece(pieces: &mut Pieces, place: usize, piece: Entered)
     ensures items { pieces.new.items ≡ insert pieces.old.items place piece }
     ensures spare { pieces.new.spare + 1 ≡ pieces.old.spare }
 {
-    sums_of_lists::<Entered, Sum>();
+    law_sums_of_lists::<Entered, Sum>();
     pieces.insert(place, piece);
 }
 
@@ -33,7 +33,7 @@ pub(crate) fn take_piece(pieces: &mut Pieces, place: usize) -> Entered
     ensures items { pieces.new.items ≡ remove pieces.old.items place }
     ensures spare { pieces.new.spare ≡ pieces.old.spare + 1 }
 {
-    sums_of_lists::<Entered, Sum>();
+    law_sums_of_lists::<Entered, Sum>();
     pieces.remove(place)
 }
 
@@ -42,7 +42,7 @@ pub(crate) fn built(alloc: Global, pieces: &mut Vec<Entered>) -> Result<Pieces, 
     requires { CanJoin pieces.old.items }
     ensures { IfOk result (λ tree. tree.items ≡ pieces.old.items) }
 {
-    sums_of_lists::<Entered, Sum>();
+    law_sums_of_lists::<Entered, Sum>();
     SumTree::build(alloc, pieces)
 }
 

@@ -4,6 +4,7 @@ ghost use Rattle.piece_rope.specs.Chain.{bytes_of};
 ghost use Rattle.piece_rope.specs.Document.{document};
 ghost use Rattle.piece_rope.specs.Edits.{Faults, splice_fault};
 ghost use Rattle.piece_rope.specs.Kept.{IsKept, Resyncs};
+ghost use Rattle.piece_rope.specs.Sizes.{longest};
 ghost use Rattle.piece_rope.specs.Splice.{IsReady};
 
 use crate::edit::{Edit, prepare};
@@ -12,7 +13,7 @@ use crate::limits::checked_cut;
 use crate::pieces::Pieces;
 use enc_names::Setting;
 use index_loader::Indexes;
-use state_memo::{AnyDecoder, Meter, Outcome, piece_laws};
+use state_memo::{AnyDecoder, Meter, Outcome, law_pieces};
 use std::alloc::Global;
 
 /// Prepares a splice of the document of these pieces. Refused with `OutOfRange` and then with
@@ -33,12 +34,12 @@ pub(crate) fn prepare_splice(
     ensures faults { Faults (splice_fault (bytes_of pieces.now.items) at del ins.now) result }
     ensures meter_least { meter.old ≤ meter.new }
     ensures meter_most { (m : ℕ) → Resyncs (document indexes.now setting (bytes_of pieces.now.items)) at del ins.now m
-        → meter.new ≤ meter.old + (length ins.now + m + 4 * 2048) }
+        → meter.new ≤ meter.old + (length ins.now + m + 4 * longest) }
     ensures meter_refused { splice_fault (bytes_of pieces.now.items) at del ins.now ≢ None → meter.new ≡ meter.old }
 {
     let (at, to) = checked_cut(pieces, at, del, ins)?;
     let decoder = AnyDecoder::under(indexes, setting).ok_or(DocFault::NoIndex)?;
-    piece_laws(&decoder);
+    law_pieces(&decoder);
     let end = tail.exit;
     let edit = prepare(alloc, &decoder, pieces, end, at, to, ins, meter)?;
     Ok(edit)

@@ -4,6 +4,7 @@ ghost use Rattle.piece_rope.specs.Chain.{bytes_of};
 ghost use Rattle.piece_rope.specs.Sizes.{AreCounted, longest};
 ghost use Rattle.piece_rope.specs.Window.{IsMeasured, IsPlace, IsEnd, Spans, IsRoomy};
 
+use crate::limits::SHORTEST_PIECE;
 use crate::pieces::Pieces;
 use state_memo::{Axis, Sum};
 use sum_tree::visits;
@@ -111,7 +112,7 @@ pub(crate) fn window_of(pieces: &Pieces, at: usize, to: usize, n: usize) -> Wind
         start,
         end,
     } = touched;
-    if n >= 512 || (at - start) + (end - to) >= 512 - n {
+    if n >= SHORTEST_PIECE || (at - start) + (end - to) >= SHORTEST_PIECE - n {
         return touched;
     }
     if first > 0 {

@@ -5,14 +5,11 @@ use Rattle.std.specs.declared.alloc.Global.{Global}
 use Rattle.enc_names.specs.declared.encoding.Encoding.{Encoding}
 use Rattle.enc_names.specs.declared.encoding.Encoding.TheVariants.{Utf8, Ibm866, Iso8859_2, Iso8859_3, Iso8859_4, Iso8859_5, Iso8859_6, Iso8859_7, Iso8859_8, Iso8859_8I, Iso8859_10, Iso8859_13, Iso8859_14, Iso8859_15, Iso8859_16, Koi8R, Koi8U, Macintosh, Windows874, Windows1250, Windows1251, Windows1252, Windows1253, Windows1254, Windows1255, Windows1256, Windows1257, Windows1258, XMacCyrillic, Gbk, Gb18030, Big5, EucJp, Iso2022Jp, ShiftJis, EucKr, Replacement, Utf16Be, Utf16Le, XUserDefined}
 use Rattle.index_loader.specs.Files.{Files, has_files}
-use Rattle.iso2022jp.specs.declared.fault.Unencodable.{Unencodable as NoBytes}
-use Rattle.iso2022jp.specs.declared.fault.FromFault.{FromFault}
-use Rattle.iso2022jp.specs.declared.fault.FromFault.TheVariants.{Unencodable as unencodable_from, OutOfMemory as no_memory_from}
 use Rattle.encoders.specs.declared.fault.EncodeFault.{EncodeFault}
 use Rattle.encoders.specs.declared.fault.EncodeFault.TheVariants.{NoIndex, NoEncoder, Unencodable as unencodable, OutOfMemory as no_memory}
 use Rattle.encoders.specs.declared.mode.EncodeMode.TheVariants.{Fatal}
 use Rattle.encoders.specs.Encode.{encoded, encoded_in, bytes_only, from_fault, IsEncoded}
-use Rattle.encoders.specs.Steps.{Put, escape_of, IsFrom}
+use Rattle.encoders.specs.Steps.{FromFault, unencodable_from, no_memory_from, Put, Unencodable as NoBytes, escape_of, IsFrom}
 use Rattle.piece_rope.specs.Decode.{OutputState}
 use Rattle.piece_rope.specs.Document.{Document, decoded, text_of}
 use Rattle.piece_rope.specs.Outputs.{output_at}

@@ -3,11 +3,10 @@ use Rattle.std.specs.Prelude.{◌≡◌, ⊤, ℕ, ◌+◌, ◌-◌, ◌≤◌, 
 use Rattle.std.specs.List.{starts_with}
 use Rattle.enc_names.specs.declared.encoding.Encoding.{Encoding}
 use Rattle.enc_names.specs.declared.encoding.Encoding.TheVariants.{Iso2022Jp}
-use Rattle.iso2022jp.specs.declared.fault.Unencodable.{Unencodable as NoBytes}
 use Rattle.encoders.specs.declared.fault.EncodeFault.{EncodeFault}
 use Rattle.encoders.specs.declared.fault.EncodeFault.TheVariants.{Unencodable as unencodable, OutOfMemory as no_memory}
 use Rattle.encoders.specs.Encode.{encoded_in, bytes_only}
-use Rattle.encoders.specs.Steps.{Put, encoded_iso, escape_of}
+use Rattle.encoders.specs.Steps.{Put, Unencodable as NoBytes, encoded_iso, escape_of}
 use Rattle.piece_rope.specs.Decode.{OutputState, Ascii, Roman, Katakana, Jis0208, Item, Placed, item_code_points}
 use Rattle.piece_rope.specs.Document.{Document, decoded, text_of}
 use Rattle.piece_rope.specs.Outputs.{output_at}

@@ -7,6 +7,7 @@ use Rattle.piece_rope.specs.declared.lengths.Lengths.{Lengths}
 use Rattle.piece_rope.specs.Document.{Document, decoded, text_of}
 use Rattle.piece_rope.specs.Made.{AreMade}
 use Rattle.piece_rope.specs.Outputs.{HaveOutputs}
+use Rattle.piece_rope.specs.Sizes.{longest, shortest}
 
 -- a document and what its pieces and the end of its bytes decode to
 pub record Pieced : Type 0 where
@@ -16,7 +17,7 @@ pub record Pieced : Type 0 where
 
 -- no document has more pieces than this
 abbrev pub pieces_most : Document → ℕ
-pieces_most d = 1 + length d.bytes / 512
+pieces_most d = 1 + length d.bytes / shortest
 
 -- each piece has so many bytes, or at most so many
 abbrev pub AreAtLeast : ℕ → List Outcome → Type 0
@@ -32,8 +33,8 @@ pub record IsWhole (d : Document) (os : List Outcome) (tail : Outcome) : Type 0 
   pub bytes : (total_of os).bytes ≡ length d.bytes
   pub no_bytes : tail.sum.bytes ≡ 0
   pub some : AreAtLeast 1 os
-  pub long : 1 < length os → AreAtLeast 512 os
-  pub short : AreAtMost 2048 os
+  pub long : 1 < length os → AreAtLeast shortest os
+  pub short : AreAtMost longest os
   pub few : length os ≤ pieces_most d
   pub outputs : HaveOutputs d 0 (os ++ tail ∷ [])
 

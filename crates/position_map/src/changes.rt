@@ -72,7 +72,7 @@ fn replace(
     ensures most { (d : ℕ) → pieces_most doc.now < 2 ^ d → visits.new ≤ visits.old + 2 * (d + 2) }
     ensures kept { visits.old ≤ visits.new }
 {
-    doc.in_force();
+    doc.law_in_force();
     let parts = Parts::of(doc);
     let Some(left) = cut_before(&parts, i, visits) else {
         return Err(ChangeFault::SplitsItem);

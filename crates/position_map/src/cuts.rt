@@ -10,14 +10,14 @@ ghost use Rattle.position_map.specs.Cuts.{IsScalarCut};
 use crate::ending::Ending;
 use lane_ascii::nth_line_end;
 use lane_utf::nth_scalar;
-use piece_rope::{begins_lf, ends_cr, mark_laws};
+use piece_rope::{begins_lf, ends_cr, law_marks};
 
 // The text before line mark `n` and from it on, where there are so many.
 pub(crate) fn split_at_mark(text: &str, after_cr: bool, n: usize) -> Option<(&str, &str)>
     ensures { MatchOption result (marks after_cr (chars text.now) ≤ n)
         (λ x. IsMarkCut after_cr (chars text.now) n (chars x.0.now) (chars x.1.now)) }
 {
-    mark_laws();
+    law_marks();
     match nth_line_end(text.as_bytes(), after_cr, n) {
         None => None,
         Some(at) => Some(text.split_at(at)),

@@ -1,6 +1,7 @@
 //! Lines of a document's text.
-ghost use Rattle.std.specs.Prelude.{◌≡◌, ℕ, ◌+◌, ◌*◌, ◌^◌, ◌<◌, ◌≤◌, length, Some, None, slice_get, MatchOption};
+ghost use Rattle.std.specs.Prelude.{◌≡◌, ℕ, ◌+◌, ◌*◌, ◌^◌, ◌<◌, ◌≤◌, false, length, Some, None, slice_get, MatchOption};
 ghost use Rattle.piece_rope.specs.Document.{text_of};
+ghost use Rattle.lane_ascii.specs.Marks.{marks};
 ghost use Rattle.position_map.specs.Lines.{lines_of};
 ghost use Rattle.position_map.specs.Marked.{IsLineStart, IsLineEnd};
 ghost use Rattle.position_map.specs.Whole.{pieces_most};
@@ -13,7 +14,8 @@ use piece_rope::{Doc, Visits};
 
 /// The number of lines (LSP 3.17, "Text Documents"): one more than there are line ends.
 pub fn line_count(doc: &Doc<'_>) -> u64
-    ensures { result ≡ length (lines_of (text_of doc.now)) }
+    ensures lines { result ≡ length (lines_of (text_of doc.now)) }
+    ensures ends { result ≡ marks false (text_of doc.now) + 1 }
 {
     doc.lengths().lines
 }

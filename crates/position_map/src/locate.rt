@@ -6,7 +6,7 @@ ghost use Rattle.position_map.specs.Located.{IsLocated, IsOfText, axis_of, sum_i
 
 use crate::parts::Parts;
 use crate::unit::Unit;
-use piece_rope::{Axis, Sum, Visits, sum_laws};
+use piece_rope::{Axis, Sum, Visits, law_sums};
 
 // The text of the piece behind which the axis is above the target, or else that of the tail, and the
 // numbers of the text in front of it.
@@ -21,7 +21,7 @@ pub(crate) fn locate<'d>(
     ensures most { (d : ℕ) → length parts.now.pieces < 2 ^ d → visits.new ≤ visits.old + (d + 2) }
     ensures kept { visits.old ≤ visits.new }
 {
-    sum_laws();
+    law_sums();
     let tail = parts.tail();
     let (before, found) = parts.find(axis, target, visits);
     let here = found.unwrap_or(tail);

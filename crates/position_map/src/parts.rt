@@ -2,6 +2,7 @@
 ghost use Rattle.std.specs.Prelude.{◌≡◌, ℕ, ◌+◌, ◌^◌, ◌<◌, ◌≤◌, length, map, option_copied, IfSome, Some};
 ghost use Rattle.piece_rope.specs.Document.{decoded, text_of};
 ghost use Rattle.piece_rope.specs.Entry.{here_of};
+ghost use Rattle.piece_rope.specs.Sizes.{longest};
 ghost use Rattle.position_map.specs.Found.{IsFoundOutcome};
 ghost use Rattle.position_map.specs.ItemCuts.{cut_of};
 ghost use Rattle.position_map.specs.Lines.{lines_of};
@@ -28,6 +29,7 @@ pub(crate) struct Parts<'d, 'i> {
 impl<'d, 'i> Model for Parts<'d, 'i> {
     ghost use Rattle.std.specs.Prelude.{map};
     ghost use Rattle.piece_rope.specs.Entry.{here_of};
+    ghost use Rattle.piece_rope.specs.Sizes.{longest};
     ghost use Rattle.position_map.specs.Whole.{AreLengths};
     ghost use Rattle.position_map.specs.Whole.{Pieced, IsWhole};
 
@@ -87,7 +89,7 @@ impl<'d, 'i> Parts<'d, 'i> {
     pub(crate) fn first_cut(&self) -> Cut
         ensures { Some result ≡ cut_of self.now.doc 0 }
     {
-        self.doc.in_force();
+        self.doc.law_in_force();
         Cut {
             at: self.doc.bom_len(),
             output: OutputState::Ascii,
@@ -116,7 +118,7 @@ impl<'d, 'i> Parts<'d, 'i> {
         visits: &mut Visits,
     ) -> (Sum, Option<&'d Outcome>)
         ensures place { IsFoundOutcome axis target self.now.pieces result.0 (option_copied result.1) }
-        ensures small { IfSome result.1 (λ o. o.now.sum.bytes ≤ 2048) }
+        ensures small { IfSome result.1 (λ o. o.now.sum.bytes ≤ longest) }
         ensures most { (d : ℕ) → length self.now.pieces < 2 ^ d → visits.new ≤ visits.old + (d + 2) }
         ensures kept { visits.old ≤ visits.new }
     {

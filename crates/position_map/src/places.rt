@@ -6,6 +6,7 @@ ghost use Rattle.piece_rope.specs.Document.{decoded};
 ghost use Rattle.piece_rope.specs.Search.{Byte};
 ghost use Rattle.position_map.specs.Found.{IsFoundOutcome};
 ghost use Rattle.piece_rope.specs.Made.{AreMade, ends_at};
+ghost use Rattle.piece_rope.specs.Sizes.{longest};
 ghost use Rattle.position_map.specs.Places.{place_of, scalar_of_byte, scalars_until};
 ghost use Rattle.position_map.specs.Placing.{bom_of, last_to, HasItem};
 ghost use Rattle.position_map.specs.Whole.{pieces_most};
@@ -46,7 +47,7 @@ fn scalars_until(
     visits: &mut Visits,
 ) -> u64
     requires found { IsFoundOutcome Byte at parts.now.pieces before (Some here.now) }
-    requires small { here.now.sum.bytes ≤ 2048 }
+    requires small { here.now.sum.bytes ≤ longest }
     ensures scalars { result ≡ scalars_until at (decoded parts.now.doc).items }
     ensures most { (d : ℕ) → length parts.now.pieces < 2 ^ d → visits.new ≤ visits.old + (d + 2) }
     ensures kept { visits.old ≤ visits.new }

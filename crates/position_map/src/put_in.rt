@@ -27,7 +27,7 @@ pub(crate) fn put_in(
     requires { right.at ≤ length doc.now.bytes }
     ensures { IsEncoded (put_in doc.now (decoded doc.now).encoding left.output right.output right.at (chars text.now)) result }
 {
-    doc.in_force();
+    doc.law_in_force();
     match doc.encoding() {
         Encoding::Iso2022Jp => put_iso(alloc, doc, left, right, text),
         encoding => encode(alloc, encoding, doc.indexes(), EncodeMode::Fatal, text),

@@ -15,7 +15,7 @@ const ROUNDS: u32 = 20;
 
 /// What decoding a document gave.
 #[derive(Drop)]
-struct Decoding {
+struct DecodedText {
     /// The time of the fastest round.
     time: Duration,
     /// The text.
@@ -61,7 +61,7 @@ fn measure_one(
     let bytes = document(rt.alloc(), text)?;
     match fastest_decoding(rt, indexes, encoding, &bytes)? {
         Some(
-            Decoding {
+            DecodedText {
                 time,
                 text,
                 errors: 0,
@@ -72,7 +72,7 @@ fn measure_one(
             let back = back.map_or(0, |time| megabytes_per_second(bytes.len(), time));
             println!(rt; "{name:<13} {kind:<9} {speed:>6} {back:>6} MB/s decoded, encoded")?;
         }
-        Some(Decoding { errors, .. }) => println!(rt; "{name:<13} {kind:<9} {errors} errors")?,
+        Some(DecodedText { errors, .. }) => println!(rt; "{name:<13} {kind:<9} {errors} errors")?,
         None => println!(rt; "{name:<13} {kind:<9} no index")?,
     }
     Ok(())
@@ -84,7 +84,7 @@ fn fastest_decoding(
     indexes: &Indexes,
     encoding: Encoding,
     document: &[u8],
-) -> Result<Option<Decoding>, Failure> {
+) -> Result<Option<DecodedText>, Failure> {
     let mut best = Fastest::new();
     let mut last = None;
     for _ in 0..ROUNDS {
@@ -101,7 +101,7 @@ fn fastest_decoding(
         last = Some((decoded.text, decoded.errors.len()));
     }
     let time = best.time;
-    Ok(last.map(|(text, errors)| Decoding { time, text, errors }))
+    Ok(last.map(|(text, errors)| DecodedText { time, text, errors }))
 }
 
 /// The time of the fastest of some encodings of a text, or `None` where the encoding lacks an index

@@ -14,7 +14,7 @@ const TREE: &str = "tree";
 
 /// What the program is to do.
 #[derive(Clone, Copy)]
-pub enum Job<'a> {
+pub enum Measure<'a> {
     /// List all that it measures.
     List,
     /// Measure the lane kernels.
@@ -26,18 +26,18 @@ pub enum Job<'a> {
 }
 
 /// The job of the words; the program's name isn't one of them.
-pub fn job_of(alloc: Global, words: &[String]) -> Result<Job<'_>, Error> {
+pub fn job_of(alloc: Global, words: &[String]) -> Result<Measure<'_>, Error> {
     let matches = command(alloc)?.try_get_matches_from(words)?;
     if let Some(given) = matches.subcommand_matches(CODECS) {
-        return Ok(Job::Codecs(given.get_str("indexes")));
+        return Ok(Measure::Codecs(given.get_str("indexes")));
     }
     if matches.subcommand_matches(LANES).is_some() {
-        return Ok(Job::Lanes);
+        return Ok(Measure::Lanes);
     }
     if matches.subcommand_matches(TREE).is_some() {
-        return Ok(Job::Tree);
+        return Ok(Measure::Tree);
     }
-    Ok(Job::List)
+    Ok(Measure::List)
 }
 
 /// The command line's form. Each part goes into the next call, so that none is left over where memory

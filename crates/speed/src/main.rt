@@ -11,7 +11,7 @@ mod samples;
 mod text_kernels;
 mod tree;
 
-use command_line::{Job, job_of};
+use command_line::{Measure, job_of};
 use index_files::Failure;
 use std::process::ExitCode;
 use std::{env, io};
@@ -24,18 +24,18 @@ fn list(rt: &HostRuntime) -> Result<(), Failure> {
 }
 
 /// Does a job.
-fn perform(rt: &HostRuntime, job: Job<'_>) -> Result<(), Failure> {
+fn perform(rt: &HostRuntime, job: Measure<'_>) -> Result<(), Failure> {
     match job {
-        Job::List => list(rt),
-        Job::Lanes => lanes::measure(rt),
-        Job::Codecs(Some(folder)) => codecs::measure(rt, folder),
-        Job::Codecs(None) => codecs::list(rt),
-        Job::Tree => tree::measure(rt),
+        Measure::List => list(rt),
+        Measure::Lanes => lanes::measure(rt),
+        Measure::Codecs(Some(folder)) => codecs::measure(rt, folder),
+        Measure::Codecs(None) => codecs::list(rt),
+        Measure::Tree => tree::measure(rt),
     }
 }
 
 /// Does a job, prints why it ends early where it does, and returns the exit status.
-fn performed(rt: &HostRuntime, job: Job<'_>) -> u8 {
+fn performed(rt: &HostRuntime, job: Measure<'_>) -> u8 {
     match perform(rt, job) {
         Ok(()) => 0,
         Err(failure) => {

@@ -11,7 +11,7 @@ const MEGABYTE: usize = 1_048_576;
 
 /// An encoding, and text in it of each kind.
 #[derive(Clone, Copy)]
-pub struct Sample {
+pub struct EncodingSample {
     /// The encoding.
     pub encoding: Encoding,
     /// English, which is ASCII alone.
@@ -27,7 +27,7 @@ pub struct Sample {
 /// A text's kind and the text.
 pub type Text = (&'static str, &'static [u8]);
 
-impl Sample {
+impl EncodingSample {
     /// The texts, each with its kind.
     pub fn texts(&self) -> [Text; 4] {
         [
@@ -42,7 +42,7 @@ impl Sample {
 /// A sample of an encoding that has ASCII as itself: the three texts of this name.
 macro_rules! sample {
     ($encoding:ident, $text:ident) => {
-        Sample {
+        EncodingSample {
             encoding: Encoding::$encoding,
             ascii: ENGLISH,
             markup: markup::$text,
@@ -53,10 +53,10 @@ macro_rules! sample {
 }
 
 /// Text in each encoding that is measured.
-pub fn samples() -> [Sample; 10] {
+pub fn samples() -> [EncodingSample; 10] {
     [
         sample!(Utf8, UTF_8),
-        Sample {
+        EncodingSample {
             encoding: Encoding::Utf16Le,
             ascii: ENGLISH_UTF_16LE,
             markup: markup::UTF_16LE,

@@ -135,8 +135,8 @@ assoc a b c =
     (first_flag a.scalars b.scalars a.lf_first b.lf_first c.lf_first)
     (last_flag b.scalars c.scalars a.cr_last b.cr_last c.cr_last)
 
-pub sum_laws : MonoidLaws no_sum joined
-sum_laws = record { left_unit = left_unit; right_unit = right_unit; assoc = assoc }
+pub law_sums : MonoidLaws no_sum joined
+law_sums = record { left_unit = left_unit; right_unit = right_unit; assoc = assoc }
 
 pub no_sum-fits : Fits no_sum
 no_sum-fits = record { bytes = Prim.omega arith; utf8 = Prim.omega arith; errors = Prim.omega arith }

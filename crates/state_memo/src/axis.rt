@@ -1,6 +1,6 @@
 //! Sums of parts of a document as sums of a tree.
 ghost use Rattle.state_memo.specs.Sums.{joined, no_sum, Fits, measure};
-ghost use Rattle.state_memo.specs.SumLaws.{sum_laws, no_sum-fits, fits-left, fits-right, measure-more, measure-zero};
+ghost use Rattle.state_memo.specs.SumLaws.{law_sums, no_sum-fits, fits-left, fits-right, measure-more, measure-zero};
 
 use crate::sum::Sum;
 use sum_tree::{Dimension, Summary};
@@ -62,7 +62,7 @@ impl Summary for Sum {
         }
     }
 
-    ghost laws = { sum_laws };
+    ghost laws = { law_sums };
 
     ghost empty_fits = { no_sum-fits };
 

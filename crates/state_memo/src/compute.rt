@@ -12,8 +12,8 @@ ghost use Rattle.state_memo.specs.Outcome.{contents_of, outcome_of, ending_of};
 use crate::gathering::Gathering;
 use crate::outcome::Outcome;
 use crate::outputs::Outputs;
-use codec::{AnyDecoder, AnyState, UTF_16BE, UTF_16LE, by_own, few_items};
-use decoder_core::{Decoder, Meter, OutOfMemory, Utf8Decoder, among, run_piece};
+use codec::{AnyDecoder, AnyState, UTF_16BE, UTF_16LE, by_own, law_few_items};
+use decoder_core::{Decoder, Meter, OutOfMemory, Utf8Decoder, law_among, run_piece};
 use std::alloc::Global;
 
 /// What a decoder gives over the bytes from a state, and the state behind them.
@@ -45,7 +45,7 @@ fn compute_any(
     ensures meter { Counted meter.old meter.new (length bytes.now) result }
 {
     // The items are few.
-    few_items(decoder);
+    law_few_items(decoder);
     let (gathering, exit) = gather(alloc, decoder, entry, bytes, meter)?;
     gathering.finish(bytes.len(), exit)
 }
@@ -67,8 +67,8 @@ fn compute_by<S: Outputs + Eq, D: Decoder<State = S>, N: FnOnce(S) -> AnyState>(
     ensures meter { Counted meter.old meter.new (length bytes.now) result }
 {
     // The items are few, and they are those of the one decoder.
-    few_items(decoder);
-    among(own, decoder);
+    law_few_items(decoder);
+    law_among(own, decoder);
     let (gathering, exit) = gather(alloc, own, state, bytes, meter)?;
     gathering.finish(bytes.len(), name(exit))
 }
@@ -173,7 +173,7 @@ pub fn finish_of(
 ) -> Result<Outcome, OutOfMemory>
     ensures { IfOk result (λ o. contents_of o ≡ ending_of decoder.now state) }
 {
-    few_items(decoder);
+    law_few_items(decoder);
     let mut gathering = Gathering::new(alloc);
     // A value of several words is used up by the call that takes it: each gets a copy of its own.
     let (seen, read) = (state, state);

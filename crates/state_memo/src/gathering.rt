@@ -100,12 +100,13 @@ impl Gathering {
         ensures { IfOk result (λ o. contents_of o ≡ record { text = self.text; items = self.items; exit = exit; sum = sum_of bytes self.text self.items }) }
     {
         let Gathering { text, items } = self;
-        let mut text = text.finish()?;
-        text.shrink_to_fit();
+        let mut written = text.finish()?;
+        written.shrink_to_fit();
+        let text = Text::new(*written.allocator(), written)?;
         let items = items.finish()?;
         let sum = sum_of(bytes, text.as_str(), &items);
         Ok(Outcome {
-            text: Text::new(text),
+            text,
             items,
             exit,
             sum,

@@ -7,6 +7,7 @@ use crate::ended::Ended;
 use crate::run::Run;
 use std::alloc::{AllocError, Global};
 use std::marker::Model;
+use std::rc::Rc;
 
 /// Items under way: the last run may still go on.
 #[derive(Drop)]
@@ -67,49 +68,52 @@ impl OpenRuns {
             runs.push(run).map_err(AllocError::from)?;
         }
         runs.shrink_to_fit();
-        Ok(ItemRuns { runs })
+        let runs = Rc::new(*runs.allocator(), runs)?;
+        Ok(ItemRuns { runs: Some(runs) })
     }
 }
 
 /// Items in order. Contracts see the list. Items of one kind that end at equal distances are kept
-/// as one run, and found in it by a division.
+/// as one run, and found in it by a division. Copies share the runs.
 #[derive(Drop)]
 pub struct ItemRuns {
-    runs: Vec<Run>,
+    runs: Option<Rc<Vec<Run>>>,
 }
 
 impl Model for ItemRuns {
-    ghost use Rattle.std.specs.Prelude.{List};
+    ghost use Rattle.std.specs.Prelude.{List, []};
+    ghost use Rattle.std.specs.Option.{option_map_or};
     ghost use Rattle.state_memo.specs.declared.ended.Ended.{Ended};
     ghost use Rattle.state_memo.specs.Runs.{items_of_runs};
 
     ghost Value = { List Ended };
 
-    ghost view = { λ t. items_of_runs t.runs.items };
+    ghost view = { λ t. option_map_or (λ rc. items_of_runs rc.value.items) t.runs [] };
 }
 
 impl ItemRuns {
-    /// No item.
-    pub(crate) fn new(alloc: Global) -> ItemRuns
+    /// No item, which takes no memory.
+    pub(crate) fn empty() -> ItemRuns
         ensures { result ≡ [] }
     {
-        ItemRuns {
-            runs: Vec::new(alloc),
-        }
+        ItemRuns { runs: None }
     }
 
     /// The runs.
     pub fn runs(&self) -> &[Run]
         ensures { items_of_runs result.now ≡ self.now }
     {
-        self.runs.as_slice()
+        match &self.runs {
+            Some(runs) => runs.as_slice(),
+            None => &[],
+        }
     }
 
     /// The last item.
     pub fn last(&self) -> Option<Ended>
         ensures { result ≡ slice_get self.now (length self.now - 1) }
     {
-        let run = self.runs.last()?;
+        let run = self.runs().last()?;
         Some(run.kind.at(i64::from(run.last)))
     }
 
@@ -117,7 +121,7 @@ impl ItemRuns {
     pub fn get(&self, k: u64) -> Option<Ended>
         ensures { result ≡ slice_get self.now k }
     {
-        let runs = self.runs.as_slice();
+        let runs = self.runs();
         let mut left = k;
         'runs: for run in runs {
             let count = run.count();
@@ -134,7 +138,7 @@ impl ItemRuns {
         requires { all_scalars self.now < 2 ^ 64 }
         ensures { result ≡ errors_in self.now }
     {
-        let runs = self.runs.as_slice();
+        let runs = self.runs();
         let mut count = 0;
         'runs: for run in runs {
             count += run.errors();
@@ -147,7 +151,7 @@ impl ItemRuns {
         requires { all_scalars self.now < 2 ^ 64 }
         ensures { result ≡ scalars_before limit self.now }
     {
-        let runs = self.runs.as_slice();
+        let runs = self.runs();
         let mut count = 0;
         'runs: for run in runs {
             count += run.scalars_before(limit);
@@ -160,7 +164,7 @@ impl ItemRuns {
         requires { all_scalars self.now < 2 ^ 64 }
         ensures { result ≡ item_of self.now n }
     {
-        let runs = self.runs.as_slice();
+        let runs = self.runs();
         let mut left = n;
         let mut before = 0;
         'runs: for run in runs {
@@ -171,5 +175,18 @@ impl ItemRuns {
             before += run.count();
         }
         None
+    }
+}
+
+impl Clone for ItemRuns {
+    ghost is_clone = { λ t copy. copy ≡ t };
+
+    fn clone(&self) -> Result<ItemRuns, AllocError> {
+        match &self.runs {
+            Some(runs) => Ok(ItemRuns {
+                runs: Some(runs.clone()?),
+            }),
+            None => Ok(ItemRuns::empty()),
+        }
     }
 }

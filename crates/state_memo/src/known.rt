@@ -1,9 +1,11 @@
 //! A remembered outcome.
+ghost use Rattle.std.specs.Prelude.{◌≡◌};
+
 use crate::items::ItemRuns;
 use crate::outcome::{Outcome, Text};
 use crate::sum::Sum;
 use codec::{AnyState, Prefix};
-use std::alloc::Global;
+use std::alloc::{AllocError, Global};
 use std::default::MadeWith;
 use sum_tree::Summary;
 
@@ -18,15 +20,26 @@ pub struct Known {
 
 // What stands in a piece's unused places.
 impl MadeWith<Global> for Known {
-    fn made_with(alloc: Global) -> Known {
+    fn made_with(_alloc: Global) -> Known {
         Known {
             entry: AnyState::Sniffing(Prefix::Nothing),
             outcome: Outcome {
-                text: Text::new(String::new(alloc)),
-                items: ItemRuns::new(alloc),
+                text: Text::empty(),
+                items: ItemRuns::empty(),
                 exit: AnyState::Sniffing(Prefix::Nothing),
                 sum: Sum::unit(),
             },
         }
+    }
+}
+
+impl Clone for Known {
+    ghost is_clone = { λ k copy. copy ≡ k };
+
+    fn clone(&self) -> Result<Known, AllocError> {
+        Ok(Known {
+            entry: self.entry,
+            outcome: self.outcome.clone()?,
+        })
     }
 }

@@ -16,8 +16,8 @@ ghost use Rattle.state_memo.specs.Memo.{same_state};
 ghost use Rattle.state_memo.specs.Outcome.{outcome_of};
 ghost use Rattle.state_memo.specs.Sums.{Fits, joined};
 
-use codec::{AnyDecoder, few_items};
-use decoder_core::one_run;
+use codec::{AnyDecoder, law_few_items};
+use decoder_core::law_one_run;
 
 /// The laws by which the outcomes of pieces in a row are those of a document; the call does
 /// nothing.
@@ -28,7 +28,7 @@ use decoder_core::one_run;
 /// to itself (`exact`, `same`). An outcome's exit and the bytes of its sum are those of the
 /// definition (`exit`, `bytes`). The numbers of two texts in a row are the join of theirs
 /// (`joined`), and the joins of the sums of outcomes fit where there are few bytes (`fit`).
-pub fn piece_laws(_decoder: &AnyDecoder<'_>)
+pub fn law_pieces(_decoder: &AnyDecoder<'_>)
     ensures none { (s : AnyState) → (feed (any _decoder.now) s []).state ≡ s }
     ensures parts { (s : AnyState) (p q : List ℕ) → (feed (any _decoder.now) s (p ++ q)).state ≡ (feed (any _decoder.now) (feed (any _decoder.now) s p).state q).state }
     ensures runs { (s : AnyState) (p q : List ℕ) → run (any _decoder.now) s (p ++ q) ≡ further (length q) (feed (any _decoder.now) s p).items ++ run (any _decoder.now) (feed (any _decoder.now) s p).state q }
@@ -42,19 +42,19 @@ pub fn piece_laws(_decoder: &AnyDecoder<'_>)
     ensures joined { (a b : List ℕ) (is js : List Ended) (s t : Sum) → IsSumOf a is s → IsSumOf b js t → IsSumOf (a ++ b) (is ++ js) (joined s t) }
     ensures fit { (os : List Outcome) → (total_of os).bytes + length os < 2 ^ 57 → Fits (total_of os) }
 {
-    one_run(_decoder);
-    few_items(_decoder);
+    law_one_run(_decoder);
+    law_few_items(_decoder);
 }
 
 /// The law by which the numbers of two texts in a row are the join of theirs, for those who have no
 /// decoder; the call does nothing.
-pub fn sum_laws()
+pub fn law_sums()
     ensures joined { (a b : List ℕ) (is js : List Ended) (s t : Sum) → IsSumOf a is s → IsSumOf b js t → IsSumOf (a ++ b) (is ++ js) (joined s t) }
 {}
 
 /// The laws by which the line marks of a text's bytes are those of its code points, and a CR stands
 /// last in both or in neither; the call does nothing.
-pub fn mark_laws()
+pub fn law_marks()
     ensures marks { (f : Bool) (bytes : List ℕ) → IsUtf8 bytes → marks f bytes ≡ marks f (chars bytes) }
     ensures ends { (f : Bool) (bytes : List ℕ) → IsUtf8 bytes → ends_cr f bytes ≡ ends_cr f (chars bytes) }
 {}

@@ -19,7 +19,9 @@ mod run;
 mod sum;
 
 pub use axis::Axis;
-pub use codec::{AnyDecoder, AnyState, Sniffed, output_at_the_end, sniff};
+pub use codec::{
+    AnyDecoder, AnyState, Sniffed, law_items_are_at_most_bytes, law_output_at_the_end, sniff,
+};
 pub use compute::{finish_of, start_of};
 pub use counting::{begins_lf, count_marks, ends_cr};
 pub use decoder_core::{Meter, OutOfMemory};
@@ -28,7 +30,7 @@ pub use iso2022jp::OutputState;
 pub use items::ItemRuns;
 pub use kind::ItemKind;
 pub use known::Known;
-pub use laws::{mark_laws, piece_laws, sum_laws};
+pub use laws::{law_marks, law_pieces, law_sums};
 pub use outcome::{Outcome, Text};
 pub use piece::Piece;
 pub use run::Run;

@@ -1,5 +1,5 @@
 //! What a piece decodes to.
-ghost use Rattle.std.specs.Prelude.{◌≡◌, string_bytes};
+ghost use Rattle.std.specs.Prelude.{◌≡◌, [], string_bytes, IfOk};
 ghost use Rattle.std.specs.Str.{chars};
 ghost use Rattle.state_memo.specs.Facts.{IsSumOf, IsBounded};
 ghost use Rattle.state_memo.specs.Items.{scalars_before, item_of};
@@ -7,36 +7,64 @@ ghost use Rattle.state_memo.specs.Items.{scalars_before, item_of};
 use crate::items::ItemRuns;
 use crate::sum::Sum;
 use codec::AnyState;
+use decoder_core::OutOfMemory;
+use std::alloc::{AllocError, Global};
 use std::marker::Model;
+use std::rc::Rc;
 
-/// Text. Contracts see its code points.
+/// Text. Contracts see its code points. Copies share the bytes; an empty one may have none.
 #[derive(Drop)]
 pub struct Text {
-    text: String,
+    text: Option<Rc<String>>,
 }
 
 impl Model for Text {
-    ghost use Rattle.std.specs.Prelude.{List, ℕ, string_bytes};
+    ghost use Rattle.std.specs.Prelude.{List, ℕ, [], string_bytes};
+    ghost use Rattle.std.specs.Option.{option_map_or};
     ghost use Rattle.std.specs.Str.{chars};
 
     ghost Value = { List ℕ };
 
-    ghost view = { λ t. chars (string_bytes t.text) };
+    ghost view = { λ t. option_map_or (λ rc. chars (string_bytes rc.value)) t.text [] };
 }
 
 impl Text {
-    /// The text as it is.
-    pub(crate) fn new(text: String) -> Text
-        ensures { result ≡ chars (string_bytes text) }
+    /// No text, which takes no memory.
+    pub(crate) fn empty() -> Text
+        ensures { result ≡ [] }
     {
-        Text { text }
+        Text { text: None }
+    }
+
+    /// The text as it is.
+    pub(crate) fn new(alloc: Global, text: String) -> Result<Text, OutOfMemory>
+        ensures { IfOk result (λ t. t ≡ chars (string_bytes text)) }
+    {
+        let text = Rc::new(alloc, text)?;
+        Ok(Text { text: Some(text) })
     }
 
     /// The text.
     pub fn as_str(&self) -> &str
         ensures { chars result.now ≡ self.now }
     {
-        self.text.as_str()
+        match &self.text {
+            Some(text) => text.as_str(),
+            None => "",
+        }
+    }
+}
+
+impl Clone for Text {
+    ghost is_clone = { λ t copy. copy ≡ t };
+
+    fn clone(&self) -> Result<Text, AllocError> {
+        match &self.text {
+            Some(text) => Ok(Text {
+                text: Some(text.clone()?),
+            }),
+            None => Ok(Text::empty()),
+        }
     }
 }
 
@@ -73,5 +101,18 @@ impl Outcome {
     {
         let _scalars = self.sum.scalars;
         self.items.item_of(n)
+    }
+}
+
+impl Clone for Outcome {
+    ghost is_clone = { λ o copy. copy ≡ o };
+
+    fn clone(&self) -> Result<Outcome, AllocError> {
+        Ok(Outcome {
+            text: self.text.clone()?,
+            items: self.items.clone()?,
+            exit: self.exit,
+            sum: self.sum,
+        })
     }
 }

@@ -11,12 +11,13 @@ use decoder_core::{Meter, OutOfMemory};
 use smallvec::SmallVec;
 use std::alloc::Global;
 use std::marker::Model;
+use std::rc::Rc;
 
 /// Some bytes of a document, and what they decode to from up to four states, the one entered last
 /// first. Contracts see the bytes and the list.
 #[derive(Drop)]
 pub struct Piece {
-    bytes: Vec<u8>,
+    bytes: Rc<Vec<u8>>,
     known: SmallVec<Known, 4>,
 }
 
@@ -26,7 +27,7 @@ impl Model for Piece {
 
     ghost Value = { Memo };
 
-    ghost view = { λ p. record { bytes = p.bytes.items; known = p.known.items } };
+    ghost view = { λ p. record { bytes = p.bytes.value.items; known = p.known.items } };
 
     ghost invariant = { λ p. (length p.known.items ≤ 4) × (4 ≤ p.known.capacity) };
 }
@@ -37,8 +38,19 @@ impl Piece {
         ensures { IfOk result (λ p. p ≡ record { bytes = bytes.now; known = [] }) }
     {
         Ok(Piece {
-            bytes: Vec::from_slice(alloc, bytes)?,
+            bytes: Rc::new(alloc, Vec::from_slice(alloc, bytes)?)?,
             known: SmallVec::new(alloc),
+        })
+    }
+
+    /// A piece of the same bytes that remembers the same. It shares with this one what never
+    /// changes: nothing is decoded, and neither bytes nor text nor items are copied.
+    pub fn copy(&self) -> Result<Piece, OutOfMemory>
+        ensures { IfOk result (λ p. p ≡ self.now) }
+    {
+        Ok(Piece {
+            bytes: self.bytes.clone()?,
+            known: self.known.clone()?,
         })
     }
 
@@ -101,7 +113,7 @@ impl Piece {
         ensures meter_least { meter.old ≤ meter.new }
         ensures meter_most { meter.new ≤ min (meter.old + length self.now.bytes) (2 ^ 64 - 1) }
     {
-        compute_bytes(*self.bytes.allocator(), decoder, entry, &self.bytes, meter)
+        compute_bytes(*self.bytes.allocator(), decoder, entry, self.bytes(), meter)
     }
 
     /// Remembers an outcome for a state, first. A fifth drops the last. Takes no memory.
@@ -122,7 +134,7 @@ impl Piece {
     {
         match self.place_of(state) {
             Some(place) => {
-                self.known.remove(place);
+                drop(self.known.remove(place));
             }
             None => self.known.truncate(3),
         }

@@ -6,7 +6,7 @@ use crate::summary::{Summary, Summed};
 
 /// The sum of two lists in a row is the join of their sums. All runs of a list fit where the whole
 /// list does; so they do in each part of a list whose runs fit. It does nothing.
-pub fn sums_of_lists<T: Summed<S>, S: Summary>()
+pub fn law_sums_of_lists<T: Summed<S>, S: Summary>()
     ensures joined { (xs ys : List T) → total S.empty S.op T.sum_of (xs ++ ys)
         ≡ S.op (total S.empty S.op T.sum_of xs) (total S.empty S.op T.sum_of ys) }
     ensures runs { (xs : List T) → S.fits (total S.empty S.op T.sum_of xs)

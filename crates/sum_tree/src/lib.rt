@@ -3,6 +3,7 @@
 #![tactic(auto)]
 
 mod build;
+mod copy;
 mod counter;
 mod finder;
 mod grown;
@@ -22,8 +23,8 @@ mod tree;
 
 pub use counter::Visits;
 pub use finder::Finder;
-pub use laws::sums_of_lists;
+pub use laws::law_sums_of_lists;
 pub use makers::visits;
 pub use memory::OutOfMemory;
-pub use summary::{Dimension, Summary, Summed};
+pub use summary::{Dimension, Summary, Summed, TryCopy};
 pub use tree::SumTree;

@@ -1,6 +1,8 @@
 //! What elements are summed by, and what sums are searched by.
-ghost use Rattle.std.specs.Prelude.{◌≡◌, ℕ, ◌≤◌};
+ghost use Rattle.std.specs.Prelude.{◌≡◌, ℕ, ◌≤◌, IfOk};
 ghost use Rattle.sum_tree.specs.Sums.{MonoidLaws};
+
+use crate::memory::OutOfMemory;
 
 /// A sum of elements. Joins are over unbounded numbers; a join can be computed where its result
 /// fits, so where each of its numbers is below 2^64.
@@ -36,6 +38,13 @@ pub trait Summed<S: Summary> {
     /// The element's sum.
     fn sum(&self) -> S
         ensures { result ≡ sum_of self.now };
+}
+
+/// An element that can be copied. A copy may take memory.
+pub trait TryCopy {
+    /// An element that is the same.
+    fn copy(&self) -> Result<Self, OutOfMemory>
+        ensures { IfOk result (λ x. x ≡ self.now) };
 }
 
 /// A number of a sum that elements are sought by. It is 0 of no element and never falls where

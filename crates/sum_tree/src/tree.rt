@@ -11,7 +11,7 @@ use crate::memory::OutOfMemory;
 use crate::node::Child;
 use crate::pool::{Pool, add_places};
 use crate::root::{inserted, removed, replaced, searched, summed};
-use crate::summary::{Dimension, Summary, Summed};
+use crate::summary::{Dimension, Summary, Summed, TryCopy};
 use std::alloc::{AllocError, Global};
 use std::marker::Model;
 
@@ -242,5 +242,28 @@ impl<T: Summed<S> + Drop, S: Summary> SumTree<T, S> {
             Some(root) => searched(root, dimension, target, visits),
             None => (0, S::unit(), None),
         }
+    }
+}
+
+impl<T: Summed<S> + TryCopy + Drop, S: Summary> SumTree<T, S> {
+    /// A list of copies of the elements, in time proportional to their number. Its memory comes
+    /// from `alloc`.
+    pub fn copy(&self, alloc: Global) -> Result<SumTree<T, S>, OutOfMemory>
+        ensures { IfOk result (λ tree. tree.items ≡ self.now.items) }
+    {
+        let Some(root) = &self.root else {
+            return Ok(SumTree::new(alloc));
+        };
+        let count = root.count();
+        let boxes = count.checked_mul(2).ok_or(AllocError)?;
+        let mut pool = Vec::with_capacity(alloc, boxes)?;
+        add_places(alloc, &mut pool, count)?;
+        let root = root.copy(&mut pool)?;
+        Ok(SumTree {
+            root: Some(root),
+            pool,
+            spare: 0,
+            alloc,
+        })
     }
 }

@@ -2,9 +2,8 @@
 
 use crate::indexes::small_indexes;
 use codec::{AnyDecoder, AnyState, CodecFault, Prefix};
-use decoder_core::{Decoder, decode_parts, meter};
+use decoder_core::Decoder;
 use enc_names::Encoding;
-use index_loader::Indexes;
 use iso2022jp::OutputState;
 use std::test::Fail;
 
@@ -17,48 +16,50 @@ fn state_behind(decoder: &AnyDecoder<'_>, bytes: &[u8]) -> AnyState {
     state
 }
 
-#[test]
-fn no_byte_at_all(rt: HostRuntime) -> Result<(), Fail> {
-    let alloc = rt.alloc();
-    let indexes = Indexes::new();
-    let decoder = AnyDecoder::new(&indexes, Encoding::Utf16Be).ok_or(CodecFault::NoIndex)?;
-    let items = decode_parts(alloc, &decoder, &[], 0, &[], &mut meter())?;
-    assert!(rt; items.is_empty());
-    Ok(())
+/// Whether the state behind the bytes is that of a mark which is begun.
+fn has_begun(decoder: &AnyDecoder<'_>, bytes: &[u8], prefix: Prefix) -> bool {
+    state_behind(decoder, bytes) == AnyState::Sniffing(prefix)
 }
+
+/// Bytes that are read as Shift_JIS, and as UTF-8, and whether the states behind them are the same.
+const BOTH: [(&[u8], &[u8], bool); 4] = [
+    (b"\xEF\xBB", b"\xEF\xBB", true),
+    (b"\xEF\xBB\xBF\xE3\x81", b"\xE3\x81", true),
+    (b"\xEF\xBB\xBF\xE3\x81", b"\xEF\xBB\xBF\xE3\x81", true),
+    (b"\xE3", b"\xE3", false),
+];
 
 #[test]
 fn states_behind_a_mark_are_those_of_its_encoding(rt: HostRuntime) -> Result<(), Fail> {
     let indexes = small_indexes(rt.alloc())?;
     let utf8 = AnyDecoder::new(&indexes, Encoding::Utf8).ok_or(CodecFault::NoIndex)?;
     let jis = AnyDecoder::new(&indexes, Encoding::ShiftJis).ok_or(CodecFault::NoIndex)?;
-    let ef_bb = AnyState::Sniffing(Prefix::EfBb);
-    assert_eq!(rt;
-        state_behind(&jis, &[]),
-        AnyState::Sniffing(Prefix::Nothing)
+    assert!(rt;
+        has_begun(&jis, b"", Prefix::Nothing) && has_begun(&jis, b"\xEF\xBB", Prefix::EfBb)
     );
-    assert_eq!(rt; state_behind(&jis, &[0xEF, 0xBB]), ef_bb);
-    assert_eq!(rt; state_behind(&utf8, &[0xEF, 0xBB]), ef_bb);
-    let behind_mark = state_behind(&jis, &[0xEF, 0xBB, 0xBF, 0xE3, 0x81]);
-    assert_eq!(rt; behind_mark, state_behind(&utf8, &[0xE3, 0x81]));
-    assert_eq!(rt;
-        behind_mark,
-        state_behind(&utf8, &[0xEF, 0xBB, 0xBF, 0xE3, 0x81])
-    );
-    assert!(rt; state_behind(&jis, &[0xE3]) != state_behind(&utf8, &[0xE3]));
+    for (left, right, same) in BOTH {
+        assert!(rt; (state_behind(&jis, left) == state_behind(&utf8, right)) == same);
+    }
     Ok(())
 }
+
+/// Bytes that are read as ISO-2022-JP, and the output state behind them.
+const OUTPUTS: [(&[u8], OutputState); 5] = [
+    (b"", OutputState::Ascii),
+    (b"\x1B", OutputState::Ascii),
+    (b"\x1B$", OutputState::Ascii),
+    (b"\x1B$B", OutputState::Jis0208),
+    (b"\x1B(J", OutputState::Roman),
+];
 
 #[test]
 fn output_state_behind_escapes(rt: HostRuntime) -> Result<(), Fail> {
     let indexes = small_indexes(rt.alloc())?;
     let jp = AnyDecoder::new(&indexes, Encoding::Iso2022Jp).ok_or(CodecFault::NoIndex)?;
+    for (bytes, output) in OUTPUTS {
+        assert!(rt; state_behind(&jp, bytes).output() == output);
+    }
     let utf8 = AnyDecoder::new(&indexes, Encoding::Utf8).ok_or(CodecFault::NoIndex)?;
-    assert_eq!(rt; state_behind(&jp, &[]).output(), OutputState::Ascii);
-    let pairs = state_behind(&jp, &[0x1B, 0x24, 0x42]);
-    assert_eq!(rt; pairs.output(), OutputState::Jis0208);
-    let roman = state_behind(&jp, &[0x1B, 0x28, 0x4A]);
-    assert_eq!(rt; roman.output(), OutputState::Roman);
-    assert_eq!(rt; state_behind(&utf8, b"A").output(), OutputState::Ascii);
+    assert!(rt; state_behind(&utf8, b"A").output() == OutputState::Ascii);
     Ok(())
 }

@@ -1,12 +1,13 @@
 //! Worked examples, as equations over the definitions that computing them proves.
 
 ghost use Rattle.std.specs.Prelude.{◌≡◌, [], ◌∷◌, None, Ok, Some, Err, false, true};
+ghost use Rattle.decoder_core.specs.declared.utf16.ByteOrder.TheVariants.{BigEndian};
 ghost use Rattle.codec_tests.specs.EncoderEntries.{big5_twice, euc_kr, gb18030, gb18030_ranges, jis0208, jis0208_duplicate_alone, jis0208_duplicates, private_use_reference};
 ghost use Rattle.encoders.specs.Big5.{big5_bytes};
 ghost use Rattle.encoders.specs.EucJp.{euc_jp_bytes};
 ghost use Rattle.encoders.specs.EucKr.{euc_kr_bytes};
 ghost use Rattle.encoders.specs.Examples.{big5};
-ghost use Rattle.encoders.specs.Gb18030.{gb18030_bytes, gbk_bytes};
+ghost use Rattle.encoders.specs.Gb18030.{gb18030_bytes};
 ghost use Rattle.encoders.specs.ShiftJis.{shift_jis_bytes};
 ghost use Rattle.encoders.specs.SingleByte.{x_user_defined_bytes};
 ghost use Rattle.encoders.specs.Stateless.{stateless};
@@ -47,16 +48,16 @@ fn big5_pointers()
 
 /// By the index, and by the ranges; U+E5E5 has no bytes.
 fn gb18030_encoder()
-    ensures pair { gb18030_bytes gb18030 gb18030_ranges 0x554A ≡ Some (0xB0 ∷ 0xA1 ∷ []) }
-    ensures euro { gb18030_bytes gb18030 gb18030_ranges 0x20AC ≡ Some (0x81 ∷ 0x36 ∷ 0xC4 ∷ 0x36 ∷ []) }
-    ensures private_use { gb18030_bytes gb18030 gb18030_ranges 0xE7C7 ≡ Some (0x81 ∷ 0x35 ∷ 0xF4 ∷ 0x37 ∷ []) }
-    ensures none { gb18030_bytes gb18030 gb18030_ranges 0xE5E5 ≡ None }
+    ensures pair { gb18030_bytes false gb18030 gb18030_ranges 0x554A ≡ Some (0xB0 ∷ 0xA1 ∷ []) }
+    ensures euro { gb18030_bytes false gb18030 gb18030_ranges 0x20AC ≡ Some (0x81 ∷ 0x36 ∷ 0xC4 ∷ 0x36 ∷ []) }
+    ensures private_use { gb18030_bytes false gb18030 gb18030_ranges 0xE7C7 ≡ Some (0x81 ∷ 0x35 ∷ 0xF4 ∷ 0x37 ∷ []) }
+    ensures none { gb18030_bytes false gb18030 gb18030_ranges 0xE5E5 ≡ None }
 {}
 
 /// GBK has a byte for U+20AC and no four bytes.
 fn gbk_encoder()
-    ensures euro { gbk_bytes gb18030 0x20AC ≡ Some (0x80 ∷ []) }
-    ensures html { encoded_from (stateless (gbk_bytes gb18030)) true 0 tt (0xE7C7 ∷ []) ≡ Ok (record { bytes = private_use_reference; state = tt }) }
+    ensures euro { gb18030_bytes true gb18030 gb18030_ranges 0x20AC ≡ Some (0x80 ∷ []) }
+    ensures html { encoded_from (stateless (gb18030_bytes true gb18030 gb18030_ranges)) true 0 tt (0xE7C7 ∷ []) ≡ Ok (record { bytes = private_use_reference; state = tt }) }
 {}
 
 /// The ends of the private use area of x-user-defined, and a surrogate pair.
@@ -64,5 +65,5 @@ fn without_an_index()
     ensures first { x_user_defined_bytes 0xF780 ≡ Some (0x80 ∷ []) }
     ensures last { x_user_defined_bytes 0xF7FF ≡ Some (0xFF ∷ []) }
     ensures behind { x_user_defined_bytes 0xF800 ≡ None }
-    ensures utf_16 { utf16_bytes true 0x1F600 ≡ Some (0xD8 ∷ 0x3D ∷ 0xDE ∷ 0x00 ∷ []) }
+    ensures utf_16 { utf16_bytes BigEndian 0x1F600 ≡ Some (0xD8 ∷ 0x3D ∷ 0xDE ∷ 0x00 ∷ []) }
 {}

@@ -1,21 +1,9 @@
-//! The decoder's output state, and what it takes in bulk.
+//! What the decoder takes in bulk.
 use crate::indexes::JIS0208;
 use decoder_core::Decoder;
 use index_loader::{Index, IndexKind};
-use iso2022jp::{Iso2022JpDecoder, OutputState};
+use iso2022jp::Iso2022JpDecoder;
 use std::test::Fail;
-
-#[test]
-fn output_state(rt: HostRuntime) -> Result<(), Fail> {
-    let jis0208 = Index::parse(rt.alloc(), IndexKind::Jis0208, JIS0208)?;
-    let decoder = Iso2022JpDecoder::new(&jis0208);
-    let started = decoder.step(decoder.start(), 0x1B).state;
-    let held = decoder.step(started, 0x24).state;
-    assert_eq!(rt; held.output(), OutputState::Ascii);
-    let escaped = decoder.step(held, 0x42).state;
-    assert_eq!(rt; escaped.output(), OutputState::Jis0208);
-    Ok(())
-}
 
 /// How many bytes of a line the decoder takes once it read some bytes.
 fn taken_behind(decoder: &Iso2022JpDecoder<'_>, bytes: &[u8]) -> usize {
@@ -45,7 +33,7 @@ fn bulk_in_the_state_ascii_alone(rt: HostRuntime) -> Result<(), Fail> {
         (b"\x1B", 0),
     ];
     for (bytes, taken) in rows {
-        assert_eq!(rt; taken_behind(&decoder, bytes), taken);
+        assert!(rt; taken_behind(&decoder, bytes) == taken);
     }
     Ok(())
 }

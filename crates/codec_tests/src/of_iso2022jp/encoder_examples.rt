@@ -4,7 +4,7 @@ ghost use Rattle.std.specs.Prelude.{◌≡◌, [], ◌∷◌, Ok, Err, false, tr
 ghost use Rattle.iso2022jp.specs.declared.output.OutputState.TheVariants.{Ascii, Roman, Katakana, Jis0208};
 ghost use Rattle.codec_tests.specs.EncoderEntries.{grinning_face_reference, replacement_reference};
 ghost use Rattle.iso2022jp.specs.EncoderExamples.{jis0208_pairs, katakana_pairs};
-ghost use Rattle.iso2022jp.specs.EncoderSteps.{encoded_from};
+ghost use Rattle.decoder_core.specs.EncoderSteps.{encoded_from};
 ghost use Rattle.iso2022jp.specs.Iso2022JpEncoder.{ended, iso_2022_jp_encoder, iso_pointer};
 
 /// A character reference is put in ASCII, so the state jis0208 is left before it.

@@ -3,11 +3,11 @@ ghost use Rattle.std.specs.Prelude.{◌≡◌, Ok, Err, Some, None, [], ◌∷�
 ghost use Rattle.enc_names.specs.declared.encoding.Encoding.TheVariants.{Utf8};
 ghost use Rattle.index_loader.specs.Files.{no_files};
 ghost use Rattle.position_map.specs.declared.unit.Unit.TheVariants.{Utf16};
-ghost use Rattle.desk.specs.Lengths.{stat_reply};
+ghost use Rattle.desk.specs.Stat.{stat_reply};
 ghost use Rattle.desk.specs.Lines.{lines_reply};
-ghost use Rattle.desk.specs.Offsets.{offset_reply};
-ghost use Rattle.desk.specs.Places.{place_reply};
-ghost use Rattle.desk.specs.Positions.{position_reply};
+ghost use Rattle.desk.specs.Offset.{offset_reply};
+ghost use Rattle.desk.specs.Place.{place_reply};
+ghost use Rattle.desk.specs.Position.{position_reply};
 ghost use Rattle.document_tests.specs.Session.{truncated, pair_and_cr_lf};
 ghost use Rattle.desk.specs.declared.fault.Fault.TheVariants.{OutOfRange, SplitsCharacter};
 ghost use Rattle.desk.specs.declared.place_unit.PlaceUnit.TheVariants.{Byte, Text};

@@ -6,8 +6,8 @@ ghost use Rattle.gateway.specs.Tracing.{FeedsFront, FeedsAll, numbered_fault};
 
 use crate::traces::begun_line::{BegunTraceLine, LineFault};
 use crate::traces::fault::TraceFault;
-use connections::{Gateway, line_end, line_laws};
-use devices::{Outlet, slice_laws};
+use connections::{Gateway, law_lines, line_end};
+use devices::{Outlet, law_slices};
 use std::alloc::Global;
 
 /// Where a trace is: the line that is begun, and its number, counted from 1. Lines that are skipped
@@ -54,8 +54,8 @@ pub(super) fn feed<W: Outlet>(
     ensures number { OnOk result (place.new.number ≤ place.old.number + length bytes.now) }
     ensures failures { W.failures writer.new ≡ W.failures writer.old + trace_write_failures result }
 {
-    line_laws();
-    slice_laws();
+    law_lines();
+    law_slices();
     let mut done = 0;
     while done < bytes.len() {
         match feed_line(alloc, gateway, place, &bytes[done..], writer) {
@@ -82,7 +82,7 @@ fn feed_line<W: Outlet>(
     ensures number { IfOk result (λ n. place.new.number ≤ place.old.number + n) }
     ensures failures { W.failures writer.new ≡ W.failures writer.old + trace_write_failures result }
 {
-    line_laws();
+    law_lines();
     let Some(end) = line_end(bytes) else {
         return match place.begun.extend(bytes) {
             Ok(()) => Ok(bytes.len()),

@@ -6,7 +6,7 @@ ghost use Rattle.connections.specs.Delivery.{IsOpen};
 ghost use Rattle.gateway.specs.Tracing.{Plays, PlaysRest};
 
 use crate::traces::print::{print_refusal, print_reply};
-use connections::{Event, Gateway, Out, bring, event_laws, line_laws};
+use connections::{Event, Gateway, Out, bring, law_events, law_lines};
 use devices::{Failed, Outlet};
 
 /// Plays one event, and prints its replies or its refusal.
@@ -57,8 +57,8 @@ fn play_bytes<W: Outlet>(
     ensures plays { Plays result (Bringing c bytes.now) gateway.old gateway.new (W.written writer.old) (W.written writer.new) }
     ensures failures { W.failures writer.new ≡ failures_after result (W.failures writer.old) }
 {
-    line_laws();
-    event_laws();
+    law_lines();
+    law_events();
     let Out { taken, reply } = match gateway.event(Event::Bytes(c, bytes)) {
         Ok(out) => out,
         Err(fault) => return print_refusal(writer, c, fault),
@@ -80,8 +80,8 @@ fn play_rest<W: Outlet>(
     ensures plays { PlaysRest result c bytes.now gateway.old gateway.new (W.written writer.old) (W.written writer.new) }
     ensures failures { W.failures writer.new ≡ failures_after result (W.failures writer.old) }
 {
-    line_laws();
-    event_laws();
+    law_lines();
+    law_events();
     let mut rest = bytes;
     while !rest.is_empty() {
         let Out { taken, reply } = bring(gateway, c, rest);

@@ -2,27 +2,14 @@
 ghost use Rattle.std.specs.Prelude.{◌≡◌, ◌+◌, ◌^◌, ◌<◌, ◌≤◌, ◌≢◌, Err, IfOk, OnOk, length};
 ghost use Rattle.std.specs.Io.KnownBytes.{IsAtEnd};
 ghost use Rattle.gateway.specs.Trace.{IsReadSoFar, trace_read_failures, trace_write_failures};
-ghost use Rattle.gateway.specs.Tracing.{ReadsBy, EndsAt, read_ends, all_read_ends};
+ghost use Rattle.devices.specs.Reading.{EndsAt};
+ghost use Rattle.gateway.specs.Tracing.{ReadsBy, read_ends, all_read_ends};
 
 use crate::traces::fault::TraceFault;
 use crate::traces::feeding::{TracePlace, feed};
-use connections::{Gateway, line_laws};
-use devices::{Failed, Feed, Outlet};
+use connections::{Gateway, law_lines};
+use devices::{Failed, Feed, MOST_READS, Outlet, Progress, READ_BUFFER};
 use std::alloc::Global;
-
-/// The most bytes of one read.
-const PIECE: usize = 4096;
-
-/// The most reads of one trace.
-const MOST_READS: u64 = 1 << 32;
-
-/// Whether there is more to read.
-enum Progress {
-    /// Bytes were read, and there may be more.
-    More,
-    /// The end was reported.
-    End,
-}
 
 /// Reads to the end, and plays each line at its line feed.
 pub(super) fn read_lines<R: Feed, W: Outlet>(
@@ -40,8 +27,8 @@ pub(super) fn read_lines<R: Feed, W: Outlet>(
     ensures read_failures { R.failures reader.new ≡ R.failures reader.old + trace_read_failures result }
     ensures write_failures { W.failures writer.new ≡ W.failures writer.old + trace_write_failures result }
 {
-    line_laws();
-    let mut buffer = [0; PIECE];
+    law_lines();
+    let mut buffer = [0; READ_BUFFER];
     for _ in 0..MOST_READS {
         match read_once(alloc, gateway, place, reader, writer, &mut buffer) {
             Ok(Progress::More) => {}

@@ -1,11 +1,11 @@
 //! An object of JSON on one line, put together without memory.
-ghost use Rattle.std.specs.Prelude.{◌≡◌, ◌≤◌, ◌+◌, ◌++◌, ◌∷◌, length, IsTrue};
+ghost use Rattle.std.specs.Prelude.{◌≡◌, ◌≤◌, ◌+◌, ◌++◌, ◌∷◌, ◌&&◌, [], None, IfSome, length, IsTrue};
 ghost use Rattle.serde_json.specs.Data.{object};
-ghost use Rattle.serde_json.specs.Written.{compact_text, comma_if};
+ghost use Rattle.serde_json.specs.Written.{compact_text, comma_if, members_text};
 ghost use Rattle.json.specs.Print.{quoted};
-ghost use Rattle.line_protocol.specs.Writing.{all_plain, members_of, are_plain, room_of, content_data, content_is_plain, content_room, number_room, place_room};
+ghost use Rattle.line_protocol.specs.Writing.{all_plain, members_of, are_plain, room_of, content_data, content_is_plain, content_room, number_room, place_room, small_room, IsNext};
 ghost use Rattle.line_protocol.specs.Inline.{IsShortLine};
-ghost use Rattle.line_protocol.specs.Replies.{whole, place_data};
+ghost use Rattle.line_protocol.specs.Replies.{whole, place_data, merged};
 
 use crate::reply_line::short_text::{CAPACITY, ShortText};
 use enc_names::Place;
@@ -16,6 +16,8 @@ use itoa::Buffer;
 pub(super) enum Content<'a> {
     /// A whole number.
     Number(u64),
+    /// A whole number of 32 bits.
+    Small(u32),
     /// A text with nothing that JSON escapes.
     Text(&'a str),
     /// The two ends of a place, as a list.
@@ -24,22 +26,69 @@ pub(super) enum Content<'a> {
     Nothing,
 }
 
+/// A member of an object: its key and its value.
+pub(super) type Member<'a> = (&'a str, Content<'a>);
+
 /// The line of an object with these members, in this order.
-pub(super) fn line(members: &[(&str, Content<'_>)]) -> ShortText
+#[tactic(auto, using(crate::proofs::Merging::merged_none))]
+pub(super) fn line(members: &[Member<'_>]) -> ShortText
     requires plain { IsTrue (are_plain members.now) }
     requires room { room_of members.now + 2 ≤ CAPACITY }
     ensures { IsShortLine (object (members_of members.now)) result }
 {
+    merged_line(members, &[])
+}
+
+/// The line of an object with the members of both lists, each in the order of its keys.
+pub(super) fn merged_line<'a>(first: &'a [Member<'a>], second: &'a [Member<'a>]) -> ShortText
+    requires plain { IsTrue (are_plain first.now && are_plain second.now) }
+    requires room { room_of first.now + room_of second.now + 1 ≤ CAPACITY }
+    ensures { IsShortLine (object (merged (members_of first.now) (members_of second.now))) result }
+{
     let mut line = ShortText::new();
     line.push(b'{');
-    let mut later = false;
-    for (key, content) in members {
-        put(&mut line, later, key, *content);
-        later = true;
-    }
-    line.push(b'}');
+    put_all(&mut line, false, first, second);
     line.push(b'\n');
     line
+}
+
+/// Appends the members of both lists, in the order of the keys, with a comma between them, and in front if these
+/// are later ones.
+fn put_all<'a>(line: &mut ShortText, later: bool, first: &'a [Member<'a>], second: &'a [Member<'a>])
+    requires plain { IsTrue (are_plain first.now && are_plain second.now) }
+    requires room { length line.old + room_of first.now + room_of second.now ≤ CAPACITY }
+    ensures text { line.new ≡ line.old ++ members_text later (merged (members_of first.now) (members_of second.now)) }
+    ensures room { length line.new + 1 ≤ length line.old + room_of first.now + room_of second.now }
+{
+    match next(first, second) {
+        Some((member, rest, other)) => {
+            put(line, later, member.0, member.1);
+            put_all(line, true, rest, other);
+        }
+        None => line.push(b'}'),
+    }
+}
+
+/// The member whose key comes first, and what is left of both lists behind it.
+fn next<'a>(
+    first: &'a [Member<'a>],
+    second: &'a [Member<'a>],
+) -> Option<(Member<'a>, &'a [Member<'a>], &'a [Member<'a>])>
+    ensures end { result ≡ None → (first.now ≡ []) × (second.now ≡ []) }
+    ensures next { IfSome result (λ r. IsNext first.now second.now r.0 r.1.now r.2.now) }
+{
+    match (first.split_first(), second.split_first()) {
+        (None, None) => None,
+        (Some((member, rest)), None) => Some((*member, rest, second)),
+        (None, Some((member, rest))) => Some((*member, first, rest)),
+        (Some((member, rest)), Some((other, behind))) => {
+            if member.0 < other.0 {
+                Some((*member, rest, second))
+            } else {
+                Some((*other, first, behind))
+            }
+        }
+    }
 }
 
 /// Appends a member, with a comma in front if it is a later one.
@@ -59,6 +108,7 @@ fn put(line: &mut ShortText, later: bool, key: &str, content: Content<'_>)
     line.push(b':');
     match content {
         Content::Number(number) => put_number(line, number),
+        Content::Small(number) => put_small(line, number),
         Content::Text(text) => line.quote(text),
         Content::At(place) => put_place(line, place),
         Content::Nothing => line.extend(b"null"),
@@ -70,6 +120,15 @@ fn put_number(line: &mut ShortText, number: u64)
     requires { length line.old + number_room ≤ CAPACITY }
     ensures text { line.new ≡ line.old ++ compact_text (whole number) }
     ensures room { length line.new ≤ length line.old + number_room }
+{
+    line.extend(Buffer::new().format(number).as_bytes());
+}
+
+/// Appends a number of 32 bits in decimal digits.
+fn put_small(line: &mut ShortText, number: u32)
+    requires { length line.old + small_room ≤ CAPACITY }
+    ensures text { line.new ≡ line.old ++ compact_text (whole number) }
+    ensures room { length line.new ≤ length line.old + small_room }
 {
     line.extend(Buffer::new().format(number).as_bytes());
 }

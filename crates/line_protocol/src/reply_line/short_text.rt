@@ -3,7 +3,7 @@
 use std::marker::Model;
 
 /// The most bytes of a short text.
-pub const CAPACITY: usize = 328;
+pub const CAPACITY: usize = 256;
 
 /// A text of at most `CAPACITY` bytes, stored inline. Contracts see its bytes. For the crates above,
 /// which print lines of their own without memory.

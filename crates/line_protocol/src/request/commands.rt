@@ -7,7 +7,7 @@ ghost use Rattle.line_protocol.specs.declared.request.refusal.Refusal.TheVariant
 use crate::request::field::Field;
 use crate::request::fields::{self, MAX_NUMBER};
 use crate::request::refusal::Refusal;
-use desk::Command;
+use desk::{Command, ops};
 use serde_json::Value;
 
 /// The most places of errors, or lines, that one request may ask for.
@@ -62,7 +62,7 @@ fn open(value: &Value) -> Result<Command<'_>, Field>
     let doc = fields::name(value).ok_or(Field::Doc)?;
     let label = fields::text(value, "label").ok_or(Field::Label)?;
     let bytes = fields::text(value, "bytes").ok_or(Field::Bytes)?;
-    Ok(Command::Open { doc, label, bytes })
+    Ok(Command::Open(ops::Open { doc, label, bytes }))
 }
 
 /// The command `close`, or the first faulty field.
@@ -70,7 +70,7 @@ fn close(value: &Value) -> Result<Command<'_>, Field>
     ensures { command_asked result ≡ close_command (view value.now) }
 {
     let doc = fields::name(value).ok_or(Field::Doc)?;
-    Ok(Command::Close { doc })
+    Ok(Command::Close(ops::Close { doc }))
 }
 
 /// The command `splice`, or the first faulty field.
@@ -82,13 +82,13 @@ fn splice(value: &Value) -> Result<Command<'_>, Field>
     let at = fields::number(value, "at", MAX_NUMBER).ok_or(Field::At)?;
     let del = fields::number(value, "del", MAX_NUMBER).ok_or(Field::Del)?;
     let bytes = fields::text(value, "bytes").ok_or(Field::Bytes)?;
-    Ok(Command::Splice {
+    Ok(Command::Splice(ops::Splice {
         doc,
         rev,
         at,
         del,
         bytes,
-    })
+    }))
 }
 
 /// The command `change`, or the first faulty field.
@@ -100,13 +100,13 @@ fn change(value: &Value) -> Result<Command<'_>, Field>
     let unit = fields::unit(value).ok_or(Field::Unit)?;
     let range = fields::range(value).ok_or(Field::Range)?;
     let text = fields::text(value, "text").ok_or(Field::Text)?;
-    Ok(Command::Change {
+    Ok(Command::Change(ops::Change {
         doc,
         rev,
         unit,
         range,
         text,
-    })
+    }))
 }
 
 /// The command `text`, or the first faulty field.
@@ -117,12 +117,12 @@ fn text(value: &Value) -> Result<Command<'_>, Field>
     let from = fields::number(value, "from", MAX_NUMBER).ok_or(Field::From)?;
     let to = fields::number(value, "to", MAX_NUMBER).ok_or(Field::To)?;
     let mode = fields::text_mode(value).ok_or(Field::Mode)?;
-    Ok(Command::Text {
+    Ok(Command::Text(ops::Text {
         doc,
         from,
         to,
         mode,
-    })
+    }))
 }
 
 /// The command `source`, or the first faulty field.
@@ -132,7 +132,7 @@ fn source(value: &Value) -> Result<Command<'_>, Field>
     let doc = fields::name(value).ok_or(Field::Doc)?;
     let at = fields::number(value, "at", MAX_NUMBER).ok_or(Field::At)?;
     let len = fields::number(value, "len", MAX_NUMBER).ok_or(Field::Len)?;
-    Ok(Command::Source { doc, at, len })
+    Ok(Command::Source(ops::Source { doc, at, len }))
 }
 
 /// The command `encode`, or the first faulty field.
@@ -144,13 +144,13 @@ fn encode(value: &Value) -> Result<Command<'_>, Field>
     let to = fields::number(value, "to", MAX_NUMBER).ok_or(Field::To)?;
     let label = fields::text(value, "label").ok_or(Field::Label)?;
     let mode = fields::encode_mode(value).ok_or(Field::Mode)?;
-    Ok(Command::Encode {
+    Ok(Command::Encode(ops::Encode {
         doc,
         from,
         to,
         label,
         mode,
-    })
+    }))
 }
 
 /// The command `errors`, or the first faulty field.
@@ -160,7 +160,7 @@ fn errors(value: &Value) -> Result<Command<'_>, Field>
     let doc = fields::name(value).ok_or(Field::Doc)?;
     let from = fields::number(value, "from", MAX_NUMBER).ok_or(Field::From)?;
     let max = fields::number(value, "max", MAX_ENTRIES).ok_or(Field::Max)?;
-    Ok(Command::Errors { doc, from, max })
+    Ok(Command::Errors(ops::Errors { doc, from, max }))
 }
 
 /// The command `lines`, or the first faulty field.
@@ -170,7 +170,7 @@ fn lines(value: &Value) -> Result<Command<'_>, Field>
     let doc = fields::name(value).ok_or(Field::Doc)?;
     let from = fields::number(value, "from", MAX_NUMBER).ok_or(Field::From)?;
     let max = fields::number(value, "max", MAX_ENTRIES).ok_or(Field::Max)?;
-    Ok(Command::Lines { doc, from, max })
+    Ok(Command::Lines(ops::Lines { doc, from, max }))
 }
 
 /// The command `position`, or the first faulty field.
@@ -180,7 +180,7 @@ fn position(value: &Value) -> Result<Command<'_>, Field>
     let doc = fields::name(value).ok_or(Field::Doc)?;
     let offset = fields::number(value, "offset", MAX_NUMBER).ok_or(Field::Offset)?;
     let unit = fields::unit(value).ok_or(Field::Unit)?;
-    Ok(Command::Position { doc, offset, unit })
+    Ok(Command::Position(ops::Position { doc, offset, unit }))
 }
 
 /// The command `offset`, or the first faulty field.
@@ -191,12 +191,12 @@ fn offset(value: &Value) -> Result<Command<'_>, Field>
     let line = fields::number(value, "line", MAX_NUMBER).ok_or(Field::Line)?;
     let character = fields::number(value, "character", MAX_NUMBER).ok_or(Field::Character)?;
     let unit = fields::unit(value).ok_or(Field::Unit)?;
-    Ok(Command::Offset {
+    Ok(Command::Offset(ops::Offset {
         doc,
         line,
         character,
         unit,
-    })
+    }))
 }
 
 /// The command `place`, or the first faulty field.
@@ -206,11 +206,11 @@ fn place(value: &Value) -> Result<Command<'_>, Field>
     let doc = fields::name(value).ok_or(Field::Doc)?;
     let unit = fields::place_unit(value).ok_or(Field::Unit)?;
     let named = fields::number(value, "value", MAX_NUMBER).ok_or(Field::Value)?;
-    Ok(Command::Place {
+    Ok(Command::Place(ops::Place {
         doc,
         unit,
         value: named,
-    })
+    }))
 }
 
 /// The command `stat`, or the first faulty field.
@@ -218,5 +218,5 @@ fn stat(value: &Value) -> Result<Command<'_>, Field>
     ensures { command_asked result ≡ stat_command (view value.now) }
 {
     let doc = fields::name(value).ok_or(Field::Doc)?;
-    Ok(Command::Stat { doc })
+    Ok(Command::Stat(ops::Stat { doc }))
 }

@@ -3,8 +3,9 @@ ghost use Rattle.std.specs.Prelude.{◌≡◌, option_map};
 ghost use Rattle.serde_json.specs.View.{view};
 ghost use Rattle.line_protocol.specs.Request.{number_at, text_at, name_at, text_mode_at, encode_mode_at, as_unit, unit_at, place_unit_at, position_at, range_at};
 
-use desk::{PlaceUnit, Position, Range, TextMode, Unit};
+use desk::{PlaceUnit, TextMode};
 use encoders::EncodeMode;
+use position_map::{Position, Range, Unit};
 use serde_json::Value;
 
 /// The greatest number that a request may hold: 2^53 - 1.

@@ -5,7 +5,7 @@ ghost use Rattle.std.specs.List.{insert, remove};
 use crate::tree::item::Item;
 use crate::tree::load::Load;
 use std::alloc::Global;
-use sum_tree::{OutOfMemory, SumTree, sums_of_lists};
+use sum_tree::{OutOfMemory, SumTree, law_sums_of_lists};
 
 /// A list of items with the loads of its prefixes.
 pub type Items = SumTree<Item, Load>;
@@ -20,7 +20,7 @@ pub fn put(items: &mut Items, i: usize, item: Item) -> bool
     if i > items.len() || items.spare() == 0 || items.len() >= LIMIT {
         return false;
     }
-    sums_of_lists::<Item, Load>();
+    law_sums_of_lists::<Item, Load>();
     items.insert(i, item);
     true
 }
@@ -32,7 +32,7 @@ pub fn take(items: &mut Items, i: usize) -> Option<Item>
     if i >= items.len() || items.len() >= LIMIT {
         return None;
     }
-    sums_of_lists::<Item, Load>();
+    law_sums_of_lists::<Item, Load>();
     Some(items.remove(i))
 }
 
@@ -43,7 +43,7 @@ pub fn swap(items: &mut Items, i: usize, item: Item) -> Option<Item>
     if i >= items.len() || items.len() >= LIMIT {
         return None;
     }
-    sums_of_lists::<Item, Load>();
+    law_sums_of_lists::<Item, Load>();
     Some(items.replace(i, item))
 }
 
@@ -54,6 +54,6 @@ pub fn built(alloc: Global, items: &mut Vec<Item>) -> Result<Option<Items>, OutO
     if items.len() >= LIMIT {
         return Ok(None);
     }
-    sums_of_lists::<Item, Load>();
+    law_sums_of_lists::<Item, Load>();
     Ok(Some(Items::build(alloc, items)?))
 }

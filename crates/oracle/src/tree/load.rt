@@ -4,7 +4,7 @@ ghost use Rattle.oracle.specs.Loads.{load, no_load, joined, IsSmall, number};
 ghost use Rattle.oracle.specs.LoadLaws.{load_laws, small_none, small_left, small_right, number_none, number_rises};
 
 use crate::tree::item::Item;
-use sum_tree::{Dimension, Summary, Summed};
+use sum_tree::{Dimension, OutOfMemory, Summary, Summed, TryCopy};
 
 /// How many items there are, and their weight.
 #[derive(Clone, Copy, Debug, PartialEq, Eq)]
@@ -53,6 +53,12 @@ impl Summed<Load> for Item {
             count: 1,
             weight: self.weight,
         }
+    }
+}
+
+impl TryCopy for Item {
+    fn copy(&self) -> Result<Item, OutOfMemory> {
+        Ok(*self)
     }
 }
 

@@ -13,6 +13,7 @@ use state_memo::Meter;
 impl<'i> Doc<'i> {
     ghost use Rattle.piece_rope.specs.Edits.{KeptAnswers, is_kept, kept_fault, spliced_document};
     ghost use Rattle.piece_rope.specs.Kept.{Resyncs};
+    ghost use Rattle.piece_rope.specs.Sizes.{longest};
 
     /// As `splice`, but refused with `NotKept` where the new text wouldn't be the old text with the
     /// code points `i..j` replaced by `text`. Refused with `OutOfRange` also where `i` is above `j`
@@ -33,7 +34,7 @@ impl<'i> Doc<'i> {
         ensures err { OnErr result (self.new ≡ self.old) }
         ensures faults { KeptAnswers (kept_fault self.old at del ins.now i j) (is_kept self.old at del ins.now i j (chars text.now)) result }
         ensures meter_least { meter.old ≤ meter.new }
-        ensures meter_most { (m : ℕ) → Resyncs self.old at del ins.now m → meter.new ≤ meter.old + (length ins.now + m + 4 * 2048) }
+        ensures meter_most { (m : ℕ) → Resyncs self.old at del ins.now m → meter.new ≤ meter.old + (length ins.now + m + 4 * longest) }
         ensures meter_refused { kept_fault self.old at del ins.now i j ≢ None → meter.new ≡ meter.old }
     {
         if i > j || j > self.lengths().scalars {

@@ -10,9 +10,9 @@ use Rattle.codec.proofs.decoding.decode_by.Given.{Over}
 
 laws_of : (g : Over) (c : goal.After-finish g) → Laws (g.D.Decoder.table c.args.decoder.now)
 laws_of g c = record {
-  none = λ s. ap (λ (f : Fed _). f.state) (c.one_run.ensures.feed_empty s);
-  runs = c.one_run.ensures.parts;
-  feeds = λ s p q. ap (λ (f : Fed _). f.state) (c.one_run.ensures.feed_parts s p q);
+  none = λ s. ap (λ (f : Fed _). f.state) (c.law_one_run.ensures.feed_empty s);
+  runs = c.law_one_run.ensures.parts;
+  feeds = λ s p q. ap (λ (f : Fed _). f.state) (c.law_one_run.ensures.feed_parts s p q);
 }
 
 IfOk-both : {A E : Type 0} (r : Result A E) {P Q R : A → Type 0} → IfOk r P → IfOk r Q → ((x : A) → P x → Q x → R x) → IfOk r R

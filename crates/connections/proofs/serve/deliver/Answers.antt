@@ -4,7 +4,7 @@ use Rattle.connections.proofs.serve.deliver.Goals as goal
 
 pub loop-done-preserved : goal.loop-done-preserved
 loop-done-preserved g c =
-    let slices = c.slice_laws.ensures in
+    let slices = c.law_slices.ensures in
     let small : c.in-Ok.taken ≤ length c.args.bytes.now - c.loop-done.done = slices.within c.args.bytes.now c.loop-done.done c.in-Ok.taken c.in-Ok.ensures.bound in record {
       within = omega arith;
       delivered = rw (← slices.more c.args.bytes.now c.loop-done.done c.in-Ok.taken small) (Delivered-trans _ _ _ _ _ _ _ _ _ c.loop-done.invariant.delivered c.in-Ok.ensures.delivers);
@@ -14,4 +14,4 @@ loop-done-preserved g c =
 pub returns-in-Err-clause-delivers : goal.returns-in-Err-clause-delivers
 returns-in-Err-clause-delivers g c =
     let whole = Delivered-DeliveredUntil _ _ _ _ _ _ _ _ _ c.loop-done.invariant.delivered c.in-Err.ensures.delivers in
-    rw (c.slice_laws.ensures.rest c.args.bytes.now c.loop-done.done) at whole
+    rw (c.law_slices.ensures.rest c.args.bytes.now c.loop-done.done) at whole

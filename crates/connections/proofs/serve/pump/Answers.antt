@@ -1,6 +1,6 @@
 use Rattle.std.proofs.Common.{Err, ap, arith, refl, add-zero, sym}
 use Rattle.connections.proofs.Chains.{Pumped-start, Pumped-trans, Pumped-Err, reads_before}
-use Rattle.connections.specs.declared.serve.Progress.{Progress}
+use Rattle.devices.specs.declared.reading.Progress.{Progress}
 use Rattle.connections.proofs.serve.pump.Goals as goal
 
 pub loop-init : goal.loop-init

@@ -1,6 +1,5 @@
-use Rattle.std.proofs.Common.{◌≡◌, Result, Err, Bool, true, sym, ap, ◌∙◌}
+use Rattle.std.proofs.Common.{Bool, true, ap}
 use Rattle.std.specs.Str.{chars}
-use Rattle.iso2022jp.specs.declared.fault.FromFault.{FromFault}
 use Rattle.iso2022jp.specs.declared.output.OutputState.TheVariants.{Ascii}
 use Rattle.encoders.specs.Encode.{bytes_only}
 use Rattle.encoders.specs.Steps.{encoded_iso}

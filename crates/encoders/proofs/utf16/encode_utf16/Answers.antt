@@ -18,9 +18,9 @@ parts-preserved c =
     let behind = c.split_at.result.1.now in
     let spelt = c.parts.invariant.0 in (
       behind-text rest behind end spelt here c.split_at.ensures.back,
-      c.parts.invariant.1 ∙ parts-go-on c.args.big rest part behind c.parts.bytes.items c.put_part.new.bytes.items end (part-text rest part end spelt here c.split_at.ensures.front)
+      c.parts.invariant.1 ∙ parts-go-on c.args.order rest part behind c.parts.bytes.items c.put_part.new.bytes.items end (part-text rest part end spelt here c.split_at.ensures.front)
           c.split_at.ensures.front c.split_at.ensures.back c.in_ok-put_part.ensures,
     )
 
 pub returns : goal.returns
-returns c = parts-end c.args.big c.parts.rest.now c.parts.bytes.items _ (sym c.is_empty.ensures ∙ c.parts-test.false) c.parts.invariant.1
+returns c = parts-end c.args.order c.parts.rest.now c.parts.bytes.items _ (sym c.is_empty.ensures ∙ c.parts-test.false) c.parts.invariant.1

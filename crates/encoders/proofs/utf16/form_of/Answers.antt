@@ -1,4 +1,4 @@
-use Rattle.std.proofs.Common.{rules, arith, length, ◌≡◌, ◌≤◌, ◌∙◌, sym, ap, subst}
+use Rattle.std.proofs.Common.{arith, length}
 use Rattle.encoders.proofs.Utf16Forms.{not-refused, form-taken}
 use Rattle.encoders.proofs.utf16.form_of.Goals as goal
 

@@ -11,21 +11,21 @@ use Rattle.piece_rope.proofs.edit.prepare.Goals as goal
 
 pub returns-in_err-middle-clause-meter : goal.returns-in_err-middle-clause-meter
 returns-in_err-middle-clause-meter c =
-    let e = c.piece_laws.ensures in
+    let e = c.law_pieces.ensures in
     let laws = laws_from c.args.decoder.now e.none e.parts e.exact e.same e.exit e.bytes in
     metered-early c.args.decoder.now laws c.args.pieces.now.items c.args.at c.args.to c.args.ins.now _ c.window_of-window.result c.args.meter.now c.args.meter.now
     c.window_of-window.ensures.spans refl (omega arith)
 
 pub returns-in_err-fresh-clause-meter : goal.returns-in_err-fresh-clause-meter
 returns-in_err-fresh-clause-meter c =
-    let e = c.piece_laws.ensures in
+    let e = c.law_pieces.ensures in
     let laws = laws_from c.args.decoder.now e.none e.parts e.exact e.same e.exit e.bytes in
     metered-early c.args.decoder.now laws c.args.pieces.now.items c.args.at c.args.to c.args.ins.now c.in_ok-middle.middle.items c.window_of-window.result c.args.meter.now c.fresh_pieces.new.meter
     c.window_of-window.ensures.spans c.in_ok-middle.ensures (omega (arith, c.in_err-fresh.ensures.meter_most, ap length c.deref.ensures.value))
 
 pub renewals_from-requires-clause-behind : goal.renewals_from-requires-clause-behind
 renewals_from-requires-clause-behind c =
-    let e = c.piece_laws.ensures in
+    let e = c.law_pieces.ensures in
     let laws = laws_from c.args.decoder.now e.none e.parts e.exact e.same e.exit e.bytes in
     let d = c.args.decoder.now in
     let ps = c.args.pieces.now.items in
@@ -38,7 +38,7 @@ renewals_from-requires-clause-behind c =
 
 pub returns-in_err-later-clause-meter : goal.returns-in_err-later-clause-meter
 returns-in_err-later-clause-meter c =
-    let e = c.piece_laws.ensures in
+    let e = c.law_pieces.ensures in
     let laws = laws_from c.args.decoder.now e.none e.parts e.exact e.same e.exit e.bytes in
     let d = c.args.decoder.now in
     let ps = c.args.pieces.now.items in
@@ -50,7 +50,7 @@ returns-in_err-later-clause-meter c =
 
 pub returns-in_err-tail-clause-meter : goal.returns-in_err-tail-clause-meter
 returns-in_err-tail-clause-meter c =
-    let e = c.piece_laws.ensures in
+    let e = c.law_pieces.ensures in
     let laws = laws_from c.args.decoder.now e.none e.parts e.exact e.same e.exit e.bytes in
     let d = c.args.decoder.now in
     let ps = c.args.pieces.now.items in
@@ -62,7 +62,7 @@ returns-in_err-tail-clause-meter c =
 
 pub returns-clause-meter : goal.returns-clause-meter
 returns-clause-meter c =
-    let e = c.piece_laws.ensures in
+    let e = c.law_pieces.ensures in
     let laws = laws_from c.args.decoder.now e.none e.parts e.exact e.same e.exit e.bytes in
     let d = c.args.decoder.now in
     let ps = c.args.pieces.now.items in
@@ -74,7 +74,7 @@ returns-clause-meter c =
 
 pub returns-clause-rope : goal.returns-clause-rope
 returns-clause-rope c =
-    let e = c.piece_laws.ensures in
+    let e = c.law_pieces.ensures in
     let laws = laws_from c.args.decoder.now e.none e.parts e.exact e.same e.exit e.bytes in
     let d = c.args.decoder.now in
     let ps = c.args.pieces.now.items in
@@ -88,7 +88,7 @@ returns-clause-rope c =
 
 pub returns-clause-bytes : goal.returns-clause-bytes
 returns-clause-bytes c =
-    let e = c.piece_laws.ensures in
+    let e = c.law_pieces.ensures in
     let laws = laws_from c.args.decoder.now e.none e.parts e.exact e.same e.exit e.bytes in
     edited-bytes c.args.pieces.now.items c.in_ok-fresh.fresh.pieces.items c.in_ok-later.later.renewals.items c.args.at c.args.to c.args.ins.now c.window_of-window.result c.window_of-window.ensures.spans
     (c.in_ok-fresh.ensures.bytes ∙ c.deref.ensures.value ∙ c.in_ok-middle.ensures)

@@ -10,7 +10,7 @@ pub rest-init : goal.rest-init
 rest-init c = rw c.new-pieces.ensures.items (record {
   bytes = refl;
   chain = tt;
-  state = sym (c.piece_laws.ensures.none c.args.entry);
+  state = sym (c.law_pieces.ensures.none c.args.entry);
   small = tt;
   wide = λ _. tt;
   room = λ h _. h;
@@ -23,7 +23,7 @@ rest-init c = rw c.new-pieces.ensures.items (record {
 pub rest-preserved : goal.rest-preserved
 rest-preserved c =
     let d = c.args.decoder.now in
-    let e = c.piece_laws.ensures in
+    let e = c.law_pieces.ensures in
     let laws = laws_from d e.none e.parts e.exact e.same e.exit e.bytes in
     let made = c.rest.pieces.items in
     let more = c.push.new.self.items in

@@ -1,4 +1,4 @@
-use Rattle.std.proofs.Common.{◌≡◌, ◌≤◌, ◌++◌, length, take, drop}
+use Rattle.std.proofs.Common.{◌≡◌, ◌+◌, ◌≤◌, ◌++◌, length, take, drop}
 use Rattle.piece_rope.specs.Sizes.{CanJoin}
 use Rattle.piece_rope.proofs.install.insert_all.Given as goal
 
@@ -7,6 +7,7 @@ invariant-fresh l = record {
   within : l.first ≤ length l.pieces.items;
   items : take l.first l.pieces.items ++ (l.fresh.items ++ drop l.first l.pieces.items) ≡ take l.first l.initial.pieces.items ++ (l.fn.fresh.items ++ drop l.first l.initial.pieces.items);
   room : length l.fresh.items ≤ l.pieces.spare;
+  spare : l.pieces.spare + length l.fn.fresh.items ≡ l.initial.pieces.spare + length l.fresh.items;
   join : CanJoin (take l.first l.pieces.items ++ (l.fresh.items ++ drop l.first l.pieces.items));
 }
 

@@ -1,4 +1,4 @@
-use Rattle.std.proofs.Common.{◌≡◌, ◌+◌, ◌≤◌, ◌++◌, length, take, drop}
+use Rattle.std.proofs.Common.{◌≡◌, ◌+◌, ◌-◌, ◌≤◌, ◌++◌, length, take, drop}
 use Rattle.piece_rope.specs.Sizes.{CanJoin}
 use Rattle.piece_rope.proofs.install.remove_range.Given as goal
 
@@ -6,7 +6,7 @@ abbrev pub invariant-range : goal.invariant-range
 invariant-range l = record {
   within : l.first + l.left ≤ length l.pieces.items;
   items : take l.first l.pieces.items ++ drop (l.first + l.left) l.pieces.items ≡ take l.first l.initial.pieces.items ++ drop l.last l.initial.pieces.items;
-  spare : l.initial.pieces.spare ≤ l.pieces.spare;
+  spare : l.pieces.spare + l.left ≡ l.initial.pieces.spare + (l.last - l.first);
   old : CanJoin l.pieces.items;
 }
 

@@ -1,5 +1,5 @@
 use Rattle.std.proofs.Common.{◌≡◌, ◌+◌, ◌-◌, ◌≤◌, length, take, drop}
-use Rattle.piece_rope.specs.Chain.{Chain, renewed, state_after, bytes_of}
+use Rattle.piece_rope.specs.Chain.{Chain, AreRenewed, renewed, state_after, bytes_of}
 use Rattle.piece_rope.specs.Resync.{LastDiffers}
 use Rattle.piece_rope.proofs.later.renewals_from.Given as goal
 
@@ -7,6 +7,7 @@ abbrev pub invariant-pieces : goal.invariant-pieces
 invariant-pieces l = record {
   at : l.index ≡ l.first + length l.renewals.items;
   within : l.index ≤ length l.pieces.items;
+  kept : AreRenewed (drop l.first l.pieces.items) l.renewals.items;
   chain : Chain l.decoder l.fn.entry (renewed (take (length l.renewals.items) (drop l.first l.pieces.items)) l.renewals.items);
   state : l.state ≡ state_after l.decoder l.fn.entry (take (length l.renewals.items) (drop l.first l.pieces.items));
   differs : LastDiffers l.decoder l.fn.entry (drop l.first l.pieces.items) (length l.renewals.items);

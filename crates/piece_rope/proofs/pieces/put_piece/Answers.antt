@@ -5,4 +5,4 @@ use Rattle.piece_rope.proofs.pieces.put_piece.Goals as goal
 pub insert-requires-clause-fit : goal.insert-requires-clause-fit
 insert-requires-clause-fit c =
     let items = insert c.args.pieces.now.items c.args.place c.args.piece in
-    c.sums_of_lists.ensures.runs items (can-fit items c.requires.join)
+    c.law_sums_of_lists.ensures.runs items (can-fit items c.requires.join)

@@ -24,7 +24,7 @@ returns-clause-meter_most c =
 pub returns-clause-ready : goal.returns-clause-ready
 returns-clause-ready c =
     let d = c.in_ok-decoder.decoder in
-    let e = c.piece_laws.ensures in
+    let e = c.law_pieces.ensures in
     let laws = laws_from d e.none e.parts e.exact e.same e.exit e.bytes in
     let old = c.args.pieces.now.items in
     let edit = c.in_ok-edit.edit in
@@ -44,6 +44,7 @@ returns-clause-ready c =
         same = e.same;
         exact = e.exact;
       };
+      renewals = c.in_ok-edit.ensures.kept;
       old = old_joins;
       new = new_joins;
       bytes = bytes;

@@ -21,7 +21,7 @@ returns-in_default-cut_before-clause-plan c =
 
 pub put_in-requires : goal.put_in-requires
 put_in-requires c =
-    cut_fits c.args.doc.now c.args.j c.in-Some-cut_before.right c.in_force.ensures.within (subst (λ (d : Document). Some c.in-Some-cut_before.right ≡ cut_of d c.args.j) c.of-parts.ensures.doc c.in-Some-cut_before.ensures.cut)
+    cut_fits c.args.doc.now c.args.j c.in-Some-cut_before.right c.law_in_force.ensures.within (subst (λ (d : Document). Some c.in-Some-cut_before.right ≡ cut_of d c.args.j) c.of-parts.ensures.doc c.in-Some-cut_before.ensures.cut)
 
 pub returns-in_err-put_in-clause-plan : goal.returns-in_err-put_in-clause-plan
 returns-in_err-put_in-clause-plan c =
@@ -50,6 +50,6 @@ pub returns-clause-fits : goal.returns-clause-fits
 returns-clause-fits c =
     let l = c.in-Some.left in
     let r = c.in-Some-cut_before.right in
-    let left = cut_fits c.args.doc.now c.args.i l c.in_force.ensures.within (subst (λ (d : Document). Some l ≡ cut_of d c.args.i) c.of-parts.ensures.doc c.in-Some.ensures.cut) in
-    let right = cut_fits c.args.doc.now c.args.j r c.in_force.ensures.within (subst (λ (d : Document). Some r ≡ cut_of d c.args.j) c.of-parts.ensures.doc c.in-Some-cut_before.ensures.cut) in
+    let left = cut_fits c.args.doc.now c.args.i l c.law_in_force.ensures.within (subst (λ (d : Document). Some l ≡ cut_of d c.args.i) c.of-parts.ensures.doc c.in-Some.ensures.cut) in
+    let right = cut_fits c.args.doc.now c.args.j r c.law_in_force.ensures.within (subst (λ (d : Document). Some r ≡ cut_of d c.args.j) c.of-parts.ensures.doc c.in-Some-cut_before.ensures.cut) in
     record { bytes = omega (arith, c.saturating_sub-del.ensures, left, right); order = c.requires.order; within = c.requires.within }

@@ -11,7 +11,7 @@ pub finish-requires : goal.finish-requires
 finish-requires c =
     let shown = shown_from (any c.args.decoder.now) 0 c.args.entry c.args.bytes.now in
     let ok = c.in_ok-gathering in
-    done (length c.args.bytes.now) shown ok.gathering (c.few_items.ensures.shown 0 c.args.entry c.args.bytes.now) (gathered-is shown no_item ok.gathering refl ok.ensures.items)
+    done (length c.args.bytes.now) shown ok.gathering (c.law_few_items.ensures.shown 0 c.args.entry c.args.bytes.now) (gathered-is shown no_item ok.gathering refl ok.ensures.items)
 
 pub returns-clause-outcome : goal.returns-clause-outcome
 returns-clause-outcome c =

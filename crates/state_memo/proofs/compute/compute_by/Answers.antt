@@ -10,7 +10,7 @@ pub finish-requires : goal.finish-requires
 finish-requires g c =
     let ok = c.in_ok-gathering in
     let among = c.requires.among in
-    arm-done c.args.decoder.now among.0 _ _ (c.among.ensures.feeds among.0 among.1.lifted) among.1.outputs c.args.state c.args.bytes.now ok.gathering ok.ensures.items (c.few_items.ensures.shown 0 (among.0 c.args.state) c.args.bytes.now)
+    arm-done c.args.decoder.now among.0 _ _ (c.law_among.ensures.feeds among.0 among.1.lifted) among.1.outputs c.args.state c.args.bytes.now ok.gathering ok.ensures.items (c.law_few_items.ensures.shown 0 (among.0 c.args.state) c.args.bytes.now)
 
 pub returns-clause-outcome : goal.returns-clause-outcome
 returns-clause-outcome g c = λ f among.
@@ -18,6 +18,6 @@ returns-clause-outcome g c = λ f among.
     let bytes = c.args.bytes.now in
     IfOk-weaker c.finish.result _ _
     (λ o e.
-    arm-outcome c.args.decoder.now f _ _ (c.among.ensures.feeds f among.lifted) among.outputs c.args.state bytes ok.gathering ok.ensures.items ok.exit ok.ensures.exit (contents_of o)
+    arm-outcome c.args.decoder.now f _ _ (c.law_among.ensures.feeds f among.lifted) among.outputs c.args.state bytes ok.gathering ok.ensures.items ok.exit ok.ensures.exit (contents_of o)
     (e ∙ ap (λ (x : AnyState). contents_by (length bytes) ok.gathering x) (among.names ok.exit c.name.result c.name.ensures)))
     c.finish.ensures

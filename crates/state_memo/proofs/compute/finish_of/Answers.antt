@@ -9,7 +9,7 @@ use Rattle.state_memo.proofs.compute.finish_of.Goals as goal
 
 pub finish-requires : goal.finish-requires
 finish-requires c =
-    done-ending (output_of c.args.state) (run (any c.args.decoder.now) c.args.state []) c.take_last.new.self (c.few_items.ensures.end c.args.state)
+    done-ending (output_of c.args.state) (run (any c.args.decoder.now) c.args.state []) c.take_last.new.self (c.law_few_items.ensures.end c.args.state)
     (ended-is c.output-output.result c.as_slice.result.now c.new-gathering.result c.take_last.new.self c.new-gathering.ensures c.in_ok-take_last.ensures
     ∙ ap (λ (out : OutputState). ended_all out c.as_slice.result.now) c.output-output.ensures ∙ ap (λ es. ended_all (output_of c.args.state) es) (c.as_slice.ensures ∙ c.finish-last.ensures.items))
 

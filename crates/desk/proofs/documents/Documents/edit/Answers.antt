@@ -1,4 +1,5 @@
 use Rattle.std.proofs.Common.{rules, ap, ◌∙◌}
+use Rattle.desk.specs.Edits.{edited}
 use Rattle.desk.proofs.Edits.{nowhere, edited_here}
 use Rattle.desk.proofs.Names.{opened_found, opened_set}
 use Rattle.desk.proofs.documents.Documents.edit.Goals as goal
@@ -10,11 +11,12 @@ returns-in_default-clause-step g c = rw (← c.self.view_is)
 pub invariant_of-self-2 : goal.invariant_of-self-2
 invariant_of-self-2 g c =
     let found = opened_found _ c.args.name.now c.self.inside.named.entries c.in-Some.found.now c.self.invariant c.in-Some.ensures.value in
-    rw (c.get_mut.follows.holds c.make.new.opened).0
-    (opened_set _ c.args.name.now c.make.new.opened c.self.inside.named.entries c.self.invariant (c.make.ensures.indexes ∙ found))
+    rw (c.get_mut.follows.holds c.edit.new.self).0
+    (opened_set _ c.args.name.now c.edit.new.self c.self.inside.named.entries c.self.invariant (c.edit.ensures.indexes ∙ found))
 
 pub returns-clause-step : goal.returns-clause-step
 returns-clause-step g c =
-    let holds = c.get_mut.follows.holds c.make.new.opened in rw (← c.self.view_is)
-    (edited_here c.self.inside.named (c.get_mut.follows.lender c.make.new.opened) c.args.name.now c.self.inside.indexes.now (g.E.Edit.effect c.args.edit.now)
-    c.in-Some.found.now c.make.new.opened c.in-Some.ensures.value c.self.invariant c.make.result c.make.ensures.step c.make.ensures.accepted c.make.ensures.err holds.0 (holds.3 (search rules)))
+    let holds = c.get_mut.follows.holds c.edit.new.self in rw (← c.self.view_is)
+    (edited_here c.self.inside.named (c.get_mut.follows.lender c.edit.new.self) c.args.name.now c.self.inside.indexes.now
+    (λ indexes. edited indexes (g.E.Edit.named c.args.edit.now) (g.E.Edit.applied c.args.edit.now) g.E.Edit.answer)
+    c.in-Some.found.now c.edit.new.self c.in-Some.ensures.value c.self.invariant c.edit.result c.edit.ensures.step c.edit.ensures.accepted c.edit.ensures.err holds.0 (holds.3 (search rules)))

@@ -4,21 +4,21 @@ use Rattle.gateway.proofs.Played.{played-on, played-until, rest_part}
 use Rattle.gateway.proofs.traces.play.play_rest.Goals as goal
 
 pub slice_bounds-rest-count : goal.slice_bounds-rest-count
-slice_bounds-rest-count g c = c.event_laws.ensures.within _ _ _ _ _ _ c.bring-taken.ensures.step
+slice_bounds-rest-count g c = c.law_events.ensures.within _ _ _ _ _ _ c.bring-taken.ensures.step
 
 pub slice_bounds-rest-start : goal.slice_bounds-rest-start
-slice_bounds-rest-start g c = c.event_laws.ensures.within _ _ _ _ _ _ c.bring-taken.ensures.step
+slice_bounds-rest-start g c = c.law_events.ensures.within _ _ _ _ _ _ c.bring-taken.ensures.step
 
 pub loop-rest-preserved : goal.loop-rest-preserved
 loop-rest-preserved g c = record {
   played = rw (rest_part c.loop-rest.rest.now c.bring-taken.result.taken)
-      (played-on c.line_laws.ensures c.args.c c.args.bytes.now c.loop-rest.rest.now _ _ _ _ _ _ c.bring-taken.result.taken c.bring-taken.result.reply c.loop-rest.invariant.played
+      (played-on c.law_lines.ensures c.args.c c.args.bytes.now c.loop-rest.rest.now _ _ _ _ _ _ c.bring-taken.result.taken c.bring-taken.result.reply c.loop-rest.invariant.played
       (search rules) c.bring-taken.ensures.step
-      (c.event_laws.ensures.stays_open _ _ _ _ _ _ c.bring-taken.ensures.step c.loop-rest.invariant.played.is_open c.bring-taken.ensures.count) c.in-Ok.ensures.prints);
+      (c.law_events.ensures.stays_open _ _ _ _ _ _ c.bring-taken.ensures.step c.loop-rest.invariant.played.is_open c.bring-taken.ensures.count) c.in-Ok.ensures.prints);
   fine = c.in-Ok.ensures.failures ∙ c.loop-rest.invariant.fine;
 }
 
 pub returns-in-Err-clause-plays : goal.returns-in-Err-clause-plays
 returns-in-Err-clause-plays g c =
-    played-until c.line_laws.ensures (Unit {0}) Failed c.in-Err.field-0 c.args.c c.args.bytes.now c.loop-rest.rest.now _ _ _ _ _ _ c.bring-taken.result.taken c.bring-taken.result.reply c.loop-rest.invariant.played
+    played-until c.law_lines.ensures (Unit {0}) Failed c.in-Err.field-0 c.args.c c.args.bytes.now c.loop-rest.rest.now _ _ _ _ _ _ c.bring-taken.result.taken c.bring-taken.result.reply c.loop-rest.invariant.played
     (search rules) c.bring-taken.ensures.step c.in-Err.ensures.prints

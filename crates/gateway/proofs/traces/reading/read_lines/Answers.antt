@@ -1,7 +1,7 @@
 use Rattle.std.proofs.Common.{Err, ap, arith, refl, add-zero, sym}
 use Rattle.std.proofs.KnownBytes.{Keeps-refl}
 use Rattle.gateway.proofs.Tracing.{reads-nil, reads-trans, reads-err, read_so_far}
-use Rattle.gateway.specs.declared.traces.reading.Progress.{Progress}
+use Rattle.devices.specs.declared.reading.Progress.{Progress}
 use Rattle.gateway.proofs.traces.reading.read_lines.Goals as goal
 
 pub loop-init : goal.loop-init
@@ -15,10 +15,10 @@ loop-init g c = record {
 }
 
 pub returns-in-Ok-End-clause-reads_by : goal.returns-in-Ok-End-clause-reads_by
-returns-in-Ok-End-clause-reads_by g c = reads-trans c.line_laws.ensures _ _ _ _ _ _ _ _ _ _ _ _ c.loop.invariant.on c.in-Ok-End.ensures.reads_by
+returns-in-Ok-End-clause-reads_by g c = reads-trans c.law_lines.ensures _ _ _ _ _ _ _ _ _ _ _ _ c.loop.invariant.on c.in-Ok-End.ensures.reads_by
 
 pub returns-in-Err-clause-reads_by : goal.returns-in-Err-clause-reads_by
-returns-in-Err-clause-reads_by g c = reads-err c.line_laws.ensures Progress (Unit {0}) c.in-Err.fault _ _ _ _ _ _ _ _ _ _ _ _ c.loop.invariant.on c.in-Err.ensures.reads_by
+returns-in-Err-clause-reads_by g c = reads-err c.law_lines.ensures Progress (Unit {0}) c.in-Err.fault _ _ _ _ _ _ _ _ _ _ _ _ c.loop.invariant.on c.in-Err.ensures.reads_by
 
 pub returns-in-Err-clause-reads : goal.returns-in-Err-clause-reads
 returns-in-Err-clause-reads g c =
@@ -28,7 +28,7 @@ pub loop-preserved : goal.loop-preserved
 loop-preserved g c =
     let more = rw c.in-Ok-More.field-0-is at c.in-Ok-More.ensures in
     record {
-      on = reads-trans c.line_laws.ensures _ _ _ _ _ _ _ _ _ _ _ _ c.loop.invariant.on c.in-Ok-More.ensures.reads_by;
+      on = reads-trans c.law_lines.ensures _ _ _ _ _ _ _ _ _ _ _ _ c.loop.invariant.on c.in-Ok-More.ensures.reads_by;
       number = omega (arith, c.loop.invariant.number, more.number);
       ends = omega (arith, more.ends, c.loop.invariant.ends);
       reads = omega (arith, more.reads, c.loop.invariant.reads);

@@ -5,4 +5,4 @@ use Rattle.oracle.proofs.tree.items.built.Goals as goal
 pub build-requires : goal.build-requires
 build-requires c =
     let items = c.args.items.now.items in
-    c.sums_of_lists.ensures.runs items (all_fit items (omega arith))
+    c.law_sums_of_lists.ensures.runs items (all_fit items (omega arith))

@@ -13,7 +13,7 @@ use Rattle.piece_rope.proofs.doc.Doc.open.Goals as goal
 pub built-requires : goal.built-requires
 built-requires c =
     let d = c.in_ok-decoder.decoder in
-    let e = c.piece_laws.ensures in
+    let e = c.law_pieces.ensures in
     let laws = laws_from d e.none e.parts e.exact e.same e.exit e.bytes in
     let f = c.in_ok-fresh.ensures in
     let ps = c.in_ok-fresh.fresh.pieces.items in
@@ -23,7 +23,7 @@ built-requires c =
 pub invariant_of-result : goal.invariant_of-result
 invariant_of-result c =
     let d = c.in_ok-decoder.decoder in
-    let e = c.piece_laws.ensures in
+    let e = c.law_pieces.ensures in
     let laws = laws_from d e.none e.parts e.exact e.same e.exit e.bytes in
     let f = c.in_ok-fresh.ensures in
     let ps = c.in_ok-fresh.fresh.pieces.items in

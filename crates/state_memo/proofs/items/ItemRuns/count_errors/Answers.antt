@@ -12,9 +12,9 @@ no_run = record { last = pos 0; more = 0; step = 0; kind = AsciiOne }
 
 pub overflow_add-count : goal.overflow_add-count
 overflow_add-count c =
-    let here = ap items_of_runs c.as_slice-runs.ensures.value ∙ c.self.view_is in
+    let here = c.runs-runs.ensures in
     let all = ap (λ (es : List Ended). all_scalars es) here in
-    omega (arith, errors-next c.as_slice-runs.result.now c.runs.run-index no_run c.runs-test.true, c.runs.invariant, c.errors-count.ensures, errors-few c.as_slice-runs.result.now, all, c.requires)
+    omega (arith, errors-next c.runs-runs.result.now c.runs.run-index no_run c.runs-test.true, c.runs.invariant, c.errors-count.ensures, errors-few c.runs-runs.result.now, all, c.requires)
 
 pub runs-preserved : goal.runs-preserved
-runs-preserved c = omega (arith, errors-next c.as_slice-runs.result.now c.runs.run-index no_run c.runs-test.true, c.runs.invariant, c.errors-count.ensures)
+runs-preserved c = omega (arith, errors-next c.runs-runs.result.now c.runs.run-index no_run c.runs-test.true, c.runs.invariant, c.errors-count.ensures)

@@ -11,14 +11,14 @@ no_run = record { last = pos 0; more = 0; step = 0; kind = AsciiOne }
 
 pub returns-then-left-count : goal.returns-then-left-count
 returns-then-left-count c =
-    let runs = c.as_slice-runs.result.now in
-    let here = ap items_of_runs c.as_slice-runs.ensures.value ∙ c.self.view_is in
+    let runs = c.runs-runs.result.now in
+    let here = c.runs-runs.ensures in
     let few : c.runs.left < (get_or runs c.runs.run-index no_run).more + 1 = omega (arith, c.if-left-count.true, c.count-count.ensures) in
     c.item.ensures ∙ get-here runs c.runs.run-index no_run c.runs.left c.runs-test.true few ∙ c.runs.invariant ∙ ap (λ (es : List Ended). slice_get es c.args.k) here
 
 pub runs-preserved : goal.runs-preserved
 runs-preserved c =
-    let runs = c.as_slice-runs.result.now in
+    let runs = c.runs-runs.result.now in
     let many : (get_or runs c.runs.run-index no_run).more + 1 ≤ c.runs.left = omega (arith, c.if-left-count.false, c.count-count.ensures) in
     ap (λ (n : ℕ). slice_get (items_of_runs (drop (c.runs.run-index + 1) runs)) (c.runs.left - n)) c.count-count.ensures
     ∙ get-next runs c.runs.run-index no_run c.runs.left c.runs-test.true many ∙ c.runs.invariant

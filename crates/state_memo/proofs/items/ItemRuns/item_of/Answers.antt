@@ -13,25 +13,25 @@ no_run = record { last = pos 0; more = 0; step = 0; kind = AsciiOne }
 
 pub overflow_add-result : goal.overflow_add-result
 overflow_add-result c =
-    let runs = c.as_slice-runs.result.now in
-    let all = ap (λ (es : List Ended). all_scalars es) (ap items_of_runs c.as_slice-runs.ensures.value ∙ c.self.view_is) in
+    let runs = c.runs-runs.result.now in
+    let all = ap (λ (es : List Ended). all_scalars es) (c.runs-runs.ensures) in
     omega (arith, length-next runs c.runs.run-index no_run c.runs-test.true, run-within runs c.runs.run-index no_run c.runs.left c.in-Some.k c.in-Some.ensures.some, c.runs.invariant.1, length-few runs, all, c.requires)
 
 pub returns-in-Some : goal.returns-in-Some
 returns-in-Some c =
-    let runs = c.as_slice-runs.result.now in
-    let here = ap items_of_runs c.as_slice-runs.ensures.value ∙ c.self.view_is in
+    let runs = c.runs-runs.result.now in
+    let here = c.runs-runs.ensures in
     sym (found-here runs c.runs.run-index no_run c.runs.left c.in-Some.k c.runs.before c.runs-test.true c.in-Some.ensures.some) ∙ c.runs.invariant.0 ∙ ap (λ (es : List Ended). item_of es c.args.n) here
 
 pub overflow_add-before : goal.overflow_add-before
 overflow_add-before c =
-    let runs = c.as_slice-runs.result.now in
-    let all = ap (λ (es : List Ended). all_scalars es) (ap items_of_runs c.as_slice-runs.ensures.value ∙ c.self.view_is) in
+    let runs = c.runs-runs.result.now in
+    let all = ap (λ (es : List Ended). all_scalars es) (c.runs-runs.ensures) in
     omega (arith, length-next runs c.runs.run-index no_run c.runs-test.true, c.count-before.ensures, c.runs.invariant.1, length-few runs, all, c.requires)
 
 pub runs-preserved : goal.runs-preserved
 runs-preserved c =
-    let runs = c.as_slice-runs.result.now in
+    let runs = c.runs-runs.result.now in
     let rest = items_of_runs (drop (c.runs.run-index + 1) runs) in (
       ap (λ (n : ℕ). option_map (λ k. k + (c.runs.before + n)) (item_of rest (c.runs.left - c.scalars-left.result))) c.count-before.ensures
           ∙ ap (λ (n : ℕ). option_map (λ k. k + (c.runs.before + ((get_or runs c.runs.run-index no_run).more + 1))) (item_of rest (c.runs.left - n))) c.scalars-left.ensures

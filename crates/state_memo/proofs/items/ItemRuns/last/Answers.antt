@@ -9,5 +9,5 @@ returns c =
     let run = c.in_ok-run.run'.now in
     let last : to_z w64 (of_z w64 c.from.result) ≡ run.last = search rules in
     ap Some (c.at.ensures ∙ ap (item_of_kind run.kind) last)
-    ∙ sym (last-item c.deref.result.now run (sym c.in_ok-run.ensures.value))
-    ∙ ap (λ (es : List Ended). slice_get es (length es - 1)) (ap items_of_runs c.deref.ensures.value ∙ c.self.view_is)
+    ∙ sym (last-item c.runs.result.now run (sym c.in_ok-run.ensures.value))
+    ∙ ap (λ (es : List Ended). slice_get es (length es - 1)) (c.runs.ensures)

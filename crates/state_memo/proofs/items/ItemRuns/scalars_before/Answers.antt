@@ -12,11 +12,11 @@ no_run = record { last = pos 0; more = 0; step = 0; kind = AsciiOne }
 
 pub overflow_add-count : goal.overflow_add-count
 overflow_add-count c =
-    let here = ap items_of_runs c.as_slice-runs.ensures.value ∙ c.self.view_is in
+    let here = c.runs-runs.ensures in
     let all = ap (λ (es : List Ended). all_scalars es) here in
     let limit = to_z w64 (of_z w64 c.args.limit) in
-    omega (arith, before-next limit c.as_slice-runs.result.now c.runs.run-index no_run c.runs-test.true, c.runs.invariant, c.scalars_before-count.ensures, before-few limit (items_of_runs c.as_slice-runs.result.now), all, c.requires)
+    omega (arith, before-next limit c.runs-runs.result.now c.runs.run-index no_run c.runs-test.true, c.runs.invariant, c.scalars_before-count.ensures, before-few limit (items_of_runs c.runs-runs.result.now), all, c.requires)
 
 pub runs-preserved : goal.runs-preserved
 runs-preserved c =
-    omega (arith, before-next (to_z w64 (of_z w64 c.args.limit)) c.as_slice-runs.result.now c.runs.run-index no_run c.runs-test.true, c.runs.invariant, c.scalars_before-count.ensures)
+    omega (arith, before-next (to_z w64 (of_z w64 c.args.limit)) c.runs-runs.result.now c.runs.run-index no_run c.runs-test.true, c.runs.invariant, c.scalars_before-count.ensures)

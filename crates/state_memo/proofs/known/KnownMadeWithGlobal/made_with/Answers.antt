@@ -1,6 +1,4 @@
-use Rattle.std.proofs.Common.{◌≡◌, refl, ap, ◌∙◌, ℕ, List, [], arith}
-use Rattle.std.specs.Str.{chars}
-use Rattle.std.proofs.lemmas.Str.{chars-nil}
+use Rattle.std.proofs.Common.{◌≡◌, refl, ℕ, List, [], arith}
 use Rattle.state_memo.specs.declared.sum.Sum.{Sum}
 use Rattle.state_memo.specs.declared.ended.Ended.{Ended}
 use Rattle.state_memo.specs.Facts.{IsSumOf, IsBounded}
@@ -15,6 +13,6 @@ nothing_bounded s c = rw c (record { utf8 = omega arith; errors = omega arith })
 
 pub invariant_of-result : goal.invariant_of-result
 invariant_of-result c = record {
-  summed = nothing_summed _ _ _ (c.new-2.ensures ∙ ap chars c.new.ensures.bytes ∙ chars-nil) c.new-3.ensures c.unit.ensures;
+  summed = nothing_summed _ _ _ c.empty.ensures c.empty-2.ensures c.unit.ensures;
   bounded = nothing_bounded _ c.unit.ensures;
 }

@@ -1,0 +1,95 @@
+use Rattle.std.proofs.Common.{◌≡◌, refl, sym, ap, ◌∙◌, ℕ, List, [], ◌∷◌, length, append-nil, Option, Some, None}
+use Rattle.enc_names.specs.declared.setting.Setting.{Setting}
+use Rattle.index_loader.specs.declared.family.Family.TheVariants as of
+use Rattle.decoder_core.specs.declared.handler.Answer.{Answer}
+use Rattle.decoder_core.specs.declared.item.Ended.{Ended}
+use Rattle.decoder_core.specs.declared.utf16.ByteOrder.TheVariants.{BigEndian, LittleEndian}
+use Rattle.decoder_core.specs.Lift.{IsLifted, lift_fed}
+use Rattle.decoder_core.specs.Queue.{Table, Fed, front, queue_after, told, run, fed_after, feed}
+use Rattle.codec.specs.declared.own.OwnDecoder.{OwnDecoder}
+use Rattle.codec.specs.declared.own.OwnDecoder.TheVariants as by
+use Rattle.codec.specs.declared.prefix.Prefix.{Prefix}
+use Rattle.codec.specs.declared.state.AnyState.{AnyState}
+use Rattle.codec.specs.declared.state.AnyState.TheVariants as state
+use Rattle.codec.specs.Any.{AnyDecoding, Standing, any, given_start, standing, standing_of, run_behind, stands_behind, under}
+use Rattle.codec.specs.Mark.{mark_of}
+use Rattle.codec.specs.Sniffing.{spelt, prefix_of, sniffing}
+use Rattle.codec.specs.SniffedLaws.{sniffing-answer}
+use Rattle.codec.proofs.Looking.{spelt-looks, looked}
+use Rattle.codec.proofs.law_standing.law_standing.Goals as goal
+
+-- the one decoder does from a state on what is wanted
+record Does (d : AnyDecoding) (start : AnyState) (runs : List ℕ → List Ended) (states : List ℕ → AnyState) : Type 0 where
+  run : (bytes : List ℕ) → run (any d) start bytes ≡ runs bytes
+  state : (bytes : List ℕ) → (feed (any d) start bytes).state ≡ states bytes
+
+-- from the first state of one of the decoders it does what that one does alone
+abbrev DoesAs : AnyDecoding → Standing → Type 0
+DoesAs d s = Does d s.start s.run s.state
+
+lifting : {S : Type 0} {small : Table S} {start : S}
+    → ((d : AnyDecoding) (put : S → AnyState) → IsLifted put small (any d) → (s : S) (q : List ℕ) → run (any d) (put s) q ≡ run small s q)
+    → ((d : AnyDecoding) (put : S → AnyState) → IsLifted put small (any d) → (s : S) (q : List ℕ) → feed (any d) (put s) q ≡ lift_fed put (feed small s q))
+    → (d : AnyDecoding) (put : S → AnyState) → IsLifted put small (any d) → Does d (put start) (run small start) (λ bytes. put (feed small start bytes).state)
+lifting {start = start} runs feeds d put same = record {
+  run = runs d put same start;
+  state = λ bytes. ap (λ (f : Fed AnyState). f.state) (feeds d put same start bytes);
+}
+
+utf8 : goal.After-law_all_runs → (d : AnyDecoding) → DoesAs d (standing of.Utf8)
+utf8 c d = let laws = c.law_all_among.ensures in lifting (laws.runs (record {})) (laws.feeds (record {})) d state.Utf8 (λ s o. refl)
+
+utf16_be : goal.After-law_all_runs → (d : AnyDecoding) → DoesAs d (standing of.Utf16Be)
+utf16_be c d =
+    let laws = c.law_all_among-11.ensures in lifting (laws.runs (record { order = BigEndian })) (laws.feeds (record { order = BigEndian })) d state.Utf16Be (λ s o. refl)
+
+utf16_le : goal.After-law_all_runs → (d : AnyDecoding) → DoesAs d (standing of.Utf16Le)
+utf16_le c d =
+    let laws = c.law_all_among-11.ensures in lifting (laws.runs (record { order = LittleEndian })) (laws.feeds (record { order = LittleEndian })) d state.Utf16Le (λ s o. refl)
+
+own_under : goal.After-law_all_runs → (setting : Setting) (own : OwnDecoder) → DoesAs (under setting own) (standing_of own)
+own_under c setting (by.Utf8 d) = utf8 c (under setting (by.Utf8 d))
+own_under c setting (by.Gb18030 d) = let laws = c.law_all_among-2.ensures in lifting (laws.runs d) (laws.feeds d) (under setting (by.Gb18030 d)) state.Gb18030 (λ s o. refl)
+own_under c setting (by.Big5 d) = let laws = c.law_all_among-3.ensures in lifting (laws.runs d) (laws.feeds d) (under setting (by.Big5 d)) state.Big5 (λ s o. refl)
+own_under c setting (by.EucJp d) = let laws = c.law_all_among-4.ensures in lifting (laws.runs d) (laws.feeds d) (under setting (by.EucJp d)) state.EucJp (λ s o. refl)
+own_under c setting (by.Iso2022Jp d) = let laws = c.law_all_among-5.ensures in lifting (laws.runs d) (laws.feeds d) (under setting (by.Iso2022Jp d)) state.Iso2022Jp (λ s o. refl)
+own_under c setting (by.ShiftJis d) = let laws = c.law_all_among-6.ensures in lifting (laws.runs d) (laws.feeds d) (under setting (by.ShiftJis d)) state.ShiftJis (λ s o. refl)
+own_under c setting (by.EucKr d) = let laws = c.law_all_among-7.ensures in lifting (laws.runs d) (laws.feeds d) (under setting (by.EucKr d)) state.EucKr (λ s o. refl)
+own_under c setting (by.SingleByte d) = let laws = c.law_all_among-8.ensures in lifting (laws.runs d) (laws.feeds d) (under setting (by.SingleByte d)) state.SingleByte (λ s o. refl)
+own_under c setting (by.XUserDefined d) = let laws = c.law_all_among-9.ensures in lifting (laws.runs d) (laws.feeds d) (under setting (by.XUserDefined d)) state.XUserDefined (λ s o. refl)
+own_under c setting (by.Replacement d) = let laws = c.law_all_among-10.ensures in lifting (laws.runs d) (laws.feeds d) (under setting (by.Replacement d)) state.Replacement (λ s o. refl)
+own_under c setting by.Utf16Be = utf16_be c (under setting by.Utf16Be)
+own_under c setting by.Utf16Le = utf16_le c (under setting by.Utf16Le)
+
+own : goal.After-law_all_runs → (d : AnyDecoding) → DoesAs d (standing_of d.own)
+own c d = own_under c d.setting d.own
+
+-- a turn of the look gives no item
+run-on : goal.After-law_all_runs → (d : AnyDecoding) (p : Prefix) (q : List ℕ)
+    → let t = sniffing (given_start d.own) p (front q) in let left = queue_after (any d) (state.Sniffing p) q in run (any d) (state.Sniffing p) q ≡ run (any d) t.state left
+run-on c d p q =
+    let left = queue_after (any d) (state.Sniffing p) q in
+    c.law_all_runs.ensures.turn d (state.Sniffing p) q
+    ∙ ap (λ (a : Answer). told a (length left) (run (any d) (sniffing (given_start d.own) p (front q)).state left)) (sniffing-answer (given_start d.own) p (front q))
+
+pub returns-clause-run : goal.returns-clause-run
+returns-clause-run c d =
+    let bare : (q : List ℕ) → mark_of q ≡ None → run (any d) (given_start d.own) q ≡ run_behind d q (mark_of q) =
+    λ q none. (own c d).run q ∙ ap (run_behind d q) (sym none) in
+    looked (given_start d.own) (run (any d)) (λ q. run_behind d q (mark_of q)) (λ p b q. run-on c d p (b ∷ q))
+    (λ p. run-on c d p [] ∙ ap (run (any d) (given_start d.own)) (append-nil (spelt p)) ∙ bare (spelt p) (spelt-looks p).1)
+    (utf8 c d).run (utf16_be c d).run (utf16_le c d).run (λ q _ none. bare q none)
+
+pub returns-clause-state : goal.returns-clause-state
+returns-clause-state c d =
+    looked (given_start d.own) (λ s q. (feed (any d) s q).state) (λ q. stands_behind d q (prefix_of q) (mark_of q))
+    (λ p b q.
+    let t = sniffing (given_start d.own) p (Some b) in
+    let left = queue_after (any d) (state.Sniffing p) (b ∷ q) in
+    ap (λ (f : Fed AnyState). f.state) (c.law_all_runs.ensures.feed_turn d (state.Sniffing p) b q)
+    ∙ ap (λ (a : Answer). (fed_after a (length left) t.state (feed (any d) t.state left)).state) (sniffing-answer (given_start d.own) p (Some b)))
+    (λ p.
+    ap (λ (f : Fed AnyState). f.state) (c.law_all_runs.ensures.feed_empty d (state.Sniffing p))
+    ∙ ap (λ (o : Option Prefix). stands_behind d (spelt p) o (mark_of (spelt p))) (sym (spelt-looks p).0))
+    (utf8 c d).state (utf16_be c d).state (utf16_le c d).state
+    (λ q no_prefix none. (own c d).state q ∙ ap (stands_behind d q None) (sym none) ∙ ap (λ (p : Option Prefix). stands_behind d q p (mark_of q)) (sym no_prefix))

@@ -1,0 +1,39 @@
+use Rattle.std.proofs.Common.{◌≡◌, ap, subst, ◌∙◌, Some, Option}
+use Rattle.std.specs.Option.{IfSome}
+use Rattle.enc_names.specs.declared.setting.Setting.{Setting}
+use Rattle.index_loader.specs.Files.{Files}
+use Rattle.index_loader.specs.Index.{Loaded}
+use Rattle.decoder_core.specs.Queue.{Fed}
+use Rattle.codec.specs.declared.state.AnyState.{AnyState}
+use Rattle.codec.specs.declared.state.AnyState.TheVariants.{Iso2022Jp as in_iso_2022_jp}
+use Rattle.codec.specs.Any.{AnyDecoding, decoder_in}
+use Rattle.codec.proofs.Choosing.{IsUnder, chosen, behind}
+use Rattle.codec.proofs.OutputStates.{IsoLaws, output_of_state, output_at_mark, mark_fits, decoded_in_force, output_at_byte, output_at_last}
+use Rattle.codec.proofs.output_laws.law_output_at_the_end.Goals as goal
+
+does_there : (files : Files) (setting : Setting) (d : AnyDecoding) → decoder_in files setting ≡ Some d → IsUnder files setting d
+does_there files setting d is = subst (λ (o : Option AnyDecoding). IfSome o (IsUnder files setting)) is (chosen files setting).1
+
+pub returns : goal.returns
+returns c =
+    let iso = c.law_output_at_the_end.ensures in
+    let among = c.law_all_among.ensures in
+    let laws : (jis0208 : Loaded) → IsoLaws jis0208 =
+    λ jis0208. record {
+      stays = iso.stays jis0208;
+      byte = iso.byte jis0208;
+      end = iso.end jis0208;
+      runs = λ d lift. among.runs jis0208 d in_iso_2022_jp lift;
+      feeds = λ d lift. among.feeds jis0208 d in_iso_2022_jp lift;
+    } in
+    record {
+      state = output_of_state;
+      mark = output_at_mark;
+      mark_fits = mark_fits;
+      there = λ files setting. (chosen files setting).0;
+      in_force = decoded_in_force;
+      behind = λ files setting d bytes is. c.law_standing.ensures.state d bytes ∙ behind files setting d (does_there files setting d is) bytes;
+      parts = λ d s p q. ap (λ (f : Fed AnyState). f.state) (c.law_all_runs.ensures.feed_parts d s p q);
+      byte = output_at_byte laws;
+      end = output_at_last laws;
+    }

@@ -1,0 +1,39 @@
+//! The laws of the one decoder's runs.
+ghost use Rattle.std.specs.Prelude.{◌≡◌, ℕ, List};
+ghost use Rattle.decoder_core.specs.Queue.{feed, run};
+ghost use Rattle.codec.specs.Any.{AnyDecoding, any, any_start, run_behind, stands_behind};
+ghost use Rattle.codec.specs.Mark.{mark_under};
+ghost use Rattle.codec.specs.Sniffing.{prefix_under};
+
+use crate::decoder::AnyDecoder;
+use decoder_core::{
+    ReplacementDecoder, SingleByteDecoder, Utf8Decoder, Utf16Decoder, XUserDefinedDecoder,
+    law_all_among, law_all_runs,
+};
+use iso2022jp::Iso2022JpDecoder;
+use multibyte_decoders::{
+    Big5Decoder, EucJpDecoder, EucKrDecoder, Gb18030Decoder, ShiftJisDecoder,
+};
+
+/// The laws of the one decoder's runs from the first byte; the call does nothing.
+///
+/// Behind the byte order mark, or from the first byte where there is none, the one decoder does what
+/// the decoder in force does alone: it gives the items of its run (`run`) and stands where that one
+/// stands (`state`), unless the bytes are a proper prefix of a mark, which is its state then.
+pub(crate) fn law_standing()
+    ensures run { (d : AnyDecoding) (bytes : List ℕ) → run (any d) (any_start d) bytes ≡ run_behind d bytes (mark_under d.setting bytes) }
+    ensures state { (d : AnyDecoding) (bytes : List ℕ) → (feed (any d) (any_start d) bytes).state ≡ stands_behind d bytes (prefix_under d.setting bytes) (mark_under d.setting bytes) }
+{
+    law_all_among::<Utf8Decoder, AnyDecoder<'_>>();
+    law_all_among::<Gb18030Decoder<'_>, AnyDecoder<'_>>();
+    law_all_among::<Big5Decoder<'_>, AnyDecoder<'_>>();
+    law_all_among::<EucJpDecoder<'_>, AnyDecoder<'_>>();
+    law_all_among::<Iso2022JpDecoder<'_>, AnyDecoder<'_>>();
+    law_all_among::<ShiftJisDecoder<'_>, AnyDecoder<'_>>();
+    law_all_among::<EucKrDecoder<'_>, AnyDecoder<'_>>();
+    law_all_among::<SingleByteDecoder<'_>, AnyDecoder<'_>>();
+    law_all_among::<XUserDefinedDecoder, AnyDecoder<'_>>();
+    law_all_among::<ReplacementDecoder, AnyDecoder<'_>>();
+    law_all_among::<Utf16Decoder, AnyDecoder<'_>>();
+    law_all_runs::<AnyDecoder<'_>>();
+}

@@ -1,0 +1,99 @@
+//! Documents, changed beside a plain computation.
+
+use crate::change::RangeChange;
+use crate::kind::{ChangeKind, Tally};
+use crate::plain_document::{After, PlainDocument};
+use crate::refusal::ChangeRefusal;
+use decoder_core::{Meter, meter};
+use enc_names::Encoding;
+use index_loader::Indexes;
+use oracle::Plain;
+use piece_rope::{Doc, DocFault};
+use position_map::{Plan, plan_change};
+use std::alloc::Global;
+use sum_tree::visits;
+
+/// A document, and beside it what its bytes and its text have to be.
+#[derive(Drop)]
+pub struct MirroredDocument<'i> {
+    doc: Doc<'i>,
+    source: PlainDocument<'i>,
+}
+
+/// Whether two plans are the same.
+fn is_same(one: &Plan, other: &Plan) -> bool {
+    (one.at, one.del, one.i, one.j) == (other.at, other.del, other.i, other.j)
+        && one.ins.as_slice() == other.ins.as_slice()
+}
+
+/// Whether a change led to what it had to, with no more bytes decoded than there may be: none where
+/// it is refused before its text is looked at.
+fn is_as_wanted(
+    found: &Result<Plan, ChangeRefusal>,
+    wanted: &Result<After, ChangeRefusal>,
+    decoded: u64,
+) -> bool {
+    match (found, wanted) {
+        (Ok(plan), Ok(after)) => is_same(plan, &after.plan) && decoded <= after.decoded,
+        (Err(refusal), Err(cause)) => {
+            let not_kept = *cause == ChangeRefusal::Unmade(DocFault::NotKept);
+            refusal == cause && (not_kept || decoded == 0)
+        }
+        _ => false,
+    }
+}
+
+/// What a change leads to.
+fn changed(
+    alloc: Global,
+    doc: &mut Doc<'_>,
+    change: &RangeChange,
+    meter: &mut Meter,
+) -> Result<Plan, ChangeRefusal> {
+    let text = change.string(alloc).ok_or(DocFault::OutOfMemory)?;
+    let plan = plan_change(alloc, doc, change.range, change.unit, &text, &mut visits())?;
+    let (at, del, ins) = (plan.at, plan.del, plan.ins.as_slice());
+    doc.splice_kept(at, del, ins, plan.i, plan.j, &text, meter)?;
+    Ok(plan)
+}
+
+impl<'i> MirroredDocument<'i> {
+    /// A document of these bytes; `None` where a call is refused.
+    pub fn open(
+        alloc: Global,
+        indexes: &'i Indexes,
+        given: Encoding,
+        bytes: Vec<u8>,
+    ) -> Option<MirroredDocument<'i>> {
+        let doc = Doc::open(alloc, indexes, given, &bytes, &mut meter()).ok()?;
+        let source = PlainDocument::of(alloc, indexes, given, bytes)?;
+        Some(MirroredDocument { doc, source })
+    }
+}
+
+impl MirroredDocument<'_> {
+    /// The text, with everything about it.
+    pub fn plain(&self) -> &Plain {
+        &self.source.plain
+    }
+
+    /// Makes a change, and counts whether it led to what it had to; `None` where memory is refused.
+    pub fn change(&mut self, alloc: Global, change: &RangeChange, tally: &mut Tally) -> Option<()> {
+        let wanted = self.source.changed(alloc, change);
+        let mut meter = meter();
+        let found = changed(alloc, &mut self.doc, change, &mut meter);
+        let as_wanted = is_as_wanted(&found, &wanted, meter.decoded());
+        let refusal = match wanted {
+            Ok(after) => {
+                self.source.take(alloc, after.bytes, after.text)?;
+                None
+            }
+            Err(refusal) => Some(refusal),
+        };
+        tally.compare(as_wanted && self.source.is_held(&self.doc)?);
+        if let Some(kind) = ChangeKind::of(refusal) {
+            tally.count(kind as usize);
+        }
+        Some(())
+    }
+}

@@ -1,0 +1,123 @@
+//! Documents as their bytes and their text, changed plainly.
+
+use crate::change::RangeChange;
+use crate::plan::planned;
+use crate::refusal::ChangeRefusal;
+use crate::resync::until_resync;
+use codec::AnyDecoder;
+use enc_names::Encoding;
+use index_loader::Indexes;
+use oracle::{Plain, Text};
+use piece_rope::{Doc, DocFault};
+use position_map::Plan;
+use std::alloc::Global;
+
+/// The most bytes of a document.
+pub const LARGEST: usize = 2_097_152;
+
+/// The bytes of a document and everything about its text.
+#[derive(Drop)]
+pub struct PlainDocument<'i> {
+    indexes: &'i Indexes,
+    given: Encoding,
+    bytes: Vec<u8>,
+    /// Everything about the text.
+    pub plain: Plain,
+}
+
+/// What a change leads to.
+#[derive(Drop)]
+pub struct After {
+    /// The splice.
+    pub plan: Plan,
+    /// The bytes.
+    pub bytes: Vec<u8>,
+    /// Their text.
+    pub text: Text,
+    /// The most bytes that may be decoded for it.
+    pub decoded: u64,
+}
+
+/// The old list with its part from `i` to `j` replaced; `None` where memory is refused.
+fn replaced<T: Copy>(alloc: Global, old: &[T], i: u64, j: u64, new: &[T]) -> Option<Vec<T>> {
+    let (front, back) = (old.get(..i as usize)?, old.get(j as usize..)?);
+    [front, new, back].concat(alloc).ok()
+}
+
+impl<'i> PlainDocument<'i> {
+    /// These bytes and their text; `None` where memory is refused.
+    pub fn of(
+        alloc: Global,
+        indexes: &'i Indexes,
+        given: Encoding,
+        bytes: Vec<u8>,
+    ) -> Option<PlainDocument<'i>> {
+        let text = Text::of(alloc, indexes, given, &bytes)?;
+        let plain = Plain::of(alloc, text, bytes.len())?;
+        Some(PlainDocument {
+            indexes,
+            given,
+            bytes,
+            plain,
+        })
+    }
+}
+
+impl PlainDocument<'_> {
+    /// The most bytes that may be decoded for a splice that leaves these: those put in, those
+    /// behind it until the decoder stands where it stood there before, and four pieces' more.
+    fn most_decoded(&self, plan: &Plan, new: &[u8]) -> Option<u64> {
+        let decoder = AnyDecoder::new(self.indexes, self.given)?;
+        let put_in = plan.ins.as_slice().len();
+        let end = plan.at.saturating_add(plan.del) as usize;
+        let (old, rest) = self.bytes.split_at_checked(end)?;
+        let new = new.get(..(plan.at as usize).saturating_add(put_in))?;
+        let behind = until_resync(&decoder, old, new, rest);
+        Some((put_in.saturating_add(behind) as u64).saturating_add(4 * 2048))
+    }
+
+    /// What a change has to lead to, computed from scratch.
+    pub fn changed(&self, alloc: Global, change: &RangeChange) -> Result<After, ChangeRefusal> {
+        let plan = planned(alloc, self.indexes, &self.bytes, &self.plain, change)?;
+        let end = plan.at.saturating_add(plan.del);
+        let bytes = replaced(alloc, &self.bytes, plan.at, end, plan.ins.as_slice()).ok_or(
+            DocFault::OutOfMemory,
+        )?;
+        if bytes.len() > LARGEST {
+            return Err(ChangeRefusal::Unmade(DocFault::TooLarge));
+        }
+        let text = Text::of(alloc, self.indexes, self.given, &bytes).ok_or(DocFault::OutOfMemory)?;
+        let chars = replaced(alloc, &self.plain.text.chars, plan.i, plan.j, &change.text).ok_or(
+            DocFault::OutOfMemory,
+        )?;
+        if text.chars != chars {
+            return Err(ChangeRefusal::Unmade(DocFault::NotKept));
+        }
+        let decoded = self
+            .most_decoded(&plan, &bytes)
+            .ok_or(DocFault::OutOfMemory)?;
+        Ok(After {
+            plan,
+            bytes,
+            text,
+            decoded,
+        })
+    }
+
+    /// Takes what a change led to; `None` where memory is refused.
+    pub fn take(&mut self, alloc: Global, bytes: Vec<u8>, text: Text) -> Option<()> {
+        self.plain = Plain::of(alloc, text, bytes.len())?;
+        self.bytes = bytes;
+        Some(())
+    }
+
+    /// Whether a document has these bytes and this text; `None` where memory is refused.
+    pub fn is_held(&self, doc: &Doc<'_>) -> Option<bool> {
+        let lengths = doc.lengths();
+        let bytes = doc.source(0, lengths.bytes).ok()?;
+        let text = doc.text(0, lengths.scalars).ok()?;
+        let same_text = text.chars().eq(self.plain.text.chars.iter().copied());
+        let same_encoding = doc.encoding() == self.plain.text.encoding;
+        Some(bytes == self.bytes && same_text && same_encoding)
+    }
+}

@@ -1,0 +1,143 @@
+//! Changes of a range.
+
+use crate::answers::{Answers, answers_of};
+use crate::budget::all_but;
+use crate::cases::repeated;
+use crate::outcome::Outcome;
+use decoder_core::{Meter, meter};
+use enc_names::Encoding;
+use index_loader::Indexes;
+use piece_rope::{Doc, DocFault};
+use position_map::{ChangeFault, Plan, Position, Range, Unit, plan_change};
+use std::alloc::Global;
+use sum_tree::visits;
+
+/// How many bytes the document has, at least: some pieces.
+const LENGTH: usize = 2300;
+
+/// What it repeats, in ISO-2022-JP.
+const PATTERN: &[u8] = b"A\x1B$B$\"$\"\x1B(B";
+
+/// The range: two code points and a half of each shift round them.
+const RANGE: Range = Range {
+    start: Position {
+        line: 0,
+        character: 301,
+    },
+    end: Position {
+        line: 0,
+        character: 305,
+    },
+};
+
+/// The text that is put in its place.
+const TEXT: &str = "\u{4E9C} text \u{3042}\u{3042} text \u{4E9C}\u{4E9C}";
+
+/// The document; `None` where memory is refused.
+fn opened<'i>(alloc: Global, indexes: &'i Indexes) -> Option<Doc<'i>> {
+    let bytes = repeated(alloc, PATTERN, LENGTH)?;
+    Doc::open(alloc, indexes, Encoding::Iso2022Jp, &bytes, &mut meter()).ok()
+}
+
+/// The plan.
+fn planned(alloc: Global, doc: &Doc<'_>) -> Result<Plan, ChangeFault> {
+    plan_change(alloc, doc, Some(RANGE), Unit::Utf16, TEXT, &mut visits())
+}
+
+/// Makes the planned change.
+fn make(doc: &mut Doc<'_>, plan: &Plan, meter: &mut Meter) -> Result<(), DocFault> {
+    let ins = plan.ins.as_slice();
+    doc.splice_kept(plan.at, plan.del, ins, plan.i, plan.j, TEXT, meter)
+}
+
+/// `plan_change`: the document is as before.
+pub fn plan(alloc: Global, indexes: &Indexes, budget: usize) -> Option<Outcome> {
+    let doc = opened(alloc, indexes)?;
+    let before = answers_of(&doc)?;
+    let outcome = planned_under(alloc, &doc, budget)?;
+    Some(if before.are_of(&doc) {
+        outcome
+    } else {
+        Outcome::Wrong
+    })
+}
+
+/// How the plan comes out under a budget.
+fn planned_under(alloc: Global, doc: &Doc<'_>, budget: usize) -> Option<Outcome> {
+    let room = all_but(alloc, budget)?;
+    let first = planned(alloc, doc);
+    drop(room);
+    let wanted = planned(alloc, doc).ok()?;
+    Some(match first {
+        Ok(plan) if is_same(&plan, &wanted) => Outcome::Same,
+        Err(ChangeFault::OutOfMemory) => Outcome::Refused,
+        _ => Outcome::Wrong,
+    })
+}
+
+/// Whether two plans are the same.
+fn is_same(plan: &Plan, wanted: &Plan) -> bool {
+    (plan.at, plan.del, plan.i, plan.j) == (wanted.at, wanted.del, wanted.i, wanted.j)
+        && plan.ins.as_slice() == wanted.ins.as_slice()
+}
+
+/// What the change leads to.
+#[derive(Drop)]
+struct Changed {
+    /// What the document then answers.
+    answers: Answers,
+    /// How many bytes it decodes.
+    decoded: u64,
+}
+
+/// What the change leads to, with memory.
+fn made_on_another(alloc: Global, indexes: &Indexes, plan: &Plan) -> Option<Changed> {
+    let mut doc = opened(alloc, indexes)?;
+    let mut meter = meter();
+    make(&mut doc, plan, &mut meter).ok()?;
+    Some(Changed {
+        answers: answers_of(&doc)?,
+        decoded: meter.decoded(),
+    })
+}
+
+/// `Doc::splice_kept`: where it is refused, the document is as before, and the same change with
+/// memory decodes no more than it would have.
+pub fn splice_kept(alloc: Global, indexes: &Indexes, budget: usize) -> Option<Outcome> {
+    let mut doc = opened(alloc, indexes)?;
+    let plan = planned(alloc, &doc).ok()?;
+    let wanted = made_on_another(alloc, indexes, &plan)?;
+    wanted.made_under(alloc, &mut doc, &plan, budget)
+}
+
+impl Changed {
+    /// How the change comes out under a budget.
+    fn made_under(
+        &self,
+        alloc: Global,
+        doc: &mut Doc<'_>,
+        plan: &Plan,
+        budget: usize,
+    ) -> Option<Outcome> {
+        let before = answers_of(doc)?;
+        let room = all_but(alloc, budget)?;
+        let made = make(doc, plan, &mut meter());
+        drop(room);
+        Some(match made {
+            Ok(()) if self.answers.are_of(doc) => Outcome::Same,
+            Err(DocFault::OutOfMemory) if before.are_of(doc) => self.later(doc, plan),
+            _ => Outcome::Wrong,
+        })
+    }
+
+    /// How the same change comes out with memory.
+    fn later(&self, doc: &mut Doc<'_>, plan: &Plan) -> Outcome {
+        let mut meter = meter();
+        let made = make(doc, plan, &mut meter);
+        if made.is_ok() && meter.decoded() == self.decoded && self.answers.are_of(doc) {
+            Outcome::Refused
+        } else {
+            Outcome::Wrong
+        }
+    }
+}

@@ -1,0 +1,93 @@
+//! Labels and index files.
+
+use crate::budget::all_but;
+use crate::outcome::Outcome;
+use enc_names::{Encoding, LabelFault, Labels, Scalar};
+use index_loader::{Index, IndexCause, IndexFault, IndexKind};
+use std::alloc::Global;
+
+/// A label file: a name with its labels, and one that no encoding has.
+const FILE: &[u8] =
+    b"[{\"encodings\":[{\"name\":\"Shift_JIS\",\"labels\":[\"sjis\",\"ms_kanji\"]},{\"name\":\"other\",\"labels\":[\"x\"]}]}]";
+
+/// An index file.
+const INDEX: &[u8] = b"# comment\n0\t0x20AC\n59\t0x00BB\n63\t0x00BF\n127\t0x00FF\n";
+
+/// `Labels::names`.
+pub fn names(alloc: Global, budget: usize) -> Option<Outcome> {
+    let room = all_but(alloc, budget)?;
+    let first = Labels::names(alloc);
+    drop(room);
+    let wanted = Labels::names(alloc).ok()?;
+    Some(labels_outcome(first, &wanted, b"Shift_JIS"))
+}
+
+/// `Labels::from_json`.
+pub fn from_json(alloc: Global, budget: usize) -> Option<Outcome> {
+    let room = all_but(alloc, budget)?;
+    let first = Labels::from_json(alloc, FILE);
+    drop(room);
+    let wanted = Labels::from_json(alloc, FILE).ok()?;
+    Some(labels_outcome(first, &wanted, b"sjis"))
+}
+
+/// How labels came out beside those with memory, by which Shift_JIS has this label.
+fn labels_outcome(labels: Result<Labels, LabelFault>, wanted: &Labels, label: &[u8]) -> Outcome {
+    match labels {
+        _ if wanted.lookup(label) != Some(Encoding::ShiftJis) => Outcome::Wrong,
+        Ok(labels) if is_same(&labels, wanted) => Outcome::Same,
+        Err(LabelFault::OutOfMemory) => Outcome::Refused,
+        _ => Outcome::Wrong,
+    }
+}
+
+/// Whether two lists of labels have the same encoding for each name and for some labels.
+fn is_same(labels: &Labels, wanted: &Labels) -> bool {
+    for encoding in &Encoding::ALL {
+        let name = encoding.name().as_bytes();
+        if labels.lookup(name) != wanted.lookup(name) {
+            return false;
+        }
+    }
+    for label in [&b"sjis"[..], b"ms_kanji", b"x"] {
+        if labels.lookup(label) != wanted.lookup(label) {
+            return false;
+        }
+    }
+    true
+}
+
+/// `Index::parse`.
+pub fn parse(alloc: Global, budget: usize) -> Option<Outcome> {
+    let kind = IndexKind::SingleByte(Encoding::Windows1252);
+    let room = all_but(alloc, budget)?;
+    let first = Index::parse(alloc, kind, INDEX);
+    drop(room);
+    let wanted = Index::parse(alloc, kind, INDEX).ok()?;
+    Some(match first {
+        Ok(index) if has_pairs(&index) && has_pairs(&wanted) => Outcome::Same,
+        Err(fault) if is_refusal(fault) && has_pairs(&wanted) => Outcome::Refused,
+        _ => Outcome::Wrong,
+    })
+}
+
+/// Whether memory was refused, which no line is to blame for.
+fn is_refusal(fault: IndexFault) -> bool {
+    fault.line == 0 && fault.cause == IndexCause::OutOfMemory
+}
+
+/// Whether the index has the file's pairs, in both directions, and no pair of another pointer.
+fn has_pairs(index: &Index) -> bool {
+    for (pointer, code_point) in [
+        (0, '\u{20AC}'),
+        (59, '\u{BB}'),
+        (63, '\u{BF}'),
+        (127, '\u{FF}'),
+    ] {
+        let scalar = Scalar::from(code_point);
+        if index.code_point(pointer) != Some(scalar) || index.pointer(scalar) != Some(pointer) {
+            return false;
+        }
+    }
+    index.code_point(1).is_none()
+}

@@ -1,0 +1,82 @@
+//! Traces.
+
+use crate::budget::all_but;
+use crate::outcome::Outcome;
+use desk::Desk;
+use enc_names::{Encoding, Labels};
+use gateway::{Event, Gateway, MemFeed, MemOutlet, TraceFault, trace};
+use index_loader::Indexes;
+use std::alloc::Global;
+
+/// A trace of two questions, for a text and for bytes.
+const TRACE: &[u8] = b"# questions\nopen 1\n\
+bytes 1 eyJpZCI6MSwib3AiOiJ0ZXh0IiwiZG9jIjoiZCIsImZyb20iOjAsInRvIjoyfQo=\n\
+bytes 1 eyJpZCI6Miwib3AiOiJzb3VyY2UiLCJkb2MiOiJkIiwiYXQiOjAsImxlbiI6M30K\n\
+close 1\n";
+
+/// What it prints with memory.
+const OUTPUT: &[u8] =
+    b"1 {\"id\":1,\"rev\":0,\"text\":\"\xEF\xBF\xBDA\"}\n1 {\"bytes\":\"4oJB\",\"id\":2,\"rev\":0}\n";
+
+/// What it prints where a question is refused.
+const REFUSED: [&[u8]; 3] = [
+    b"1 {\"fault\":\"OutOfMemory\"}\n1 {\"bytes\":\"4oJB\",\"id\":2,\"rev\":0}\n",
+    b"1 {\"id\":1,\"rev\":0,\"text\":\"\xEF\xBF\xBDA\"}\n1 {\"fault\":\"OutOfMemory\"}\n",
+    b"1 {\"fault\":\"OutOfMemory\"}\n1 {\"fault\":\"OutOfMemory\"}\n",
+];
+
+/// A gateway with a document; `None` where memory is refused.
+fn with_document<'i>(alloc: Global, indexes: &'i Indexes) -> Option<Gateway<'i>> {
+    let labels = Labels::names(alloc).ok()?;
+    let mut desk = Desk::new(alloc, indexes, labels).ok()?;
+    desk.adopt("d", Encoding::Utf8, b"\xE2\x82A", 0).ok()?;
+    Some(Gateway::new(alloc, desk))
+}
+
+/// Plays the trace.
+fn played(
+    alloc: Global,
+    gateway: &mut Gateway<'_>,
+    output: &mut MemOutlet,
+) -> Result<(), TraceFault> {
+    trace(alloc, gateway, &mut MemFeed::new(TRACE), output)
+}
+
+/// `trace`: where it breaks off, or a question is refused, what was printed is right so far, and the
+/// same trace is played to its end with memory.
+pub fn play(alloc: Global, indexes: &Indexes, budget: usize) -> Option<Outcome> {
+    let mut gateway = with_document(alloc, indexes)?;
+    let mut output = MemOutlet::new(alloc);
+    let room = all_but(alloc, budget)?;
+    let ended = played(alloc, &mut gateway, &mut output);
+    drop(room);
+    let printed = output.bytes();
+    Some(match ended {
+        Ok(()) if printed == OUTPUT => Outcome::Same,
+        Ok(()) if REFUSED.contains(&printed) => played_later(alloc, &mut gateway),
+        Err(TraceFault::OutOfMemory | TraceFault::Write) if begins_right(printed) => {
+            played_later(alloc, &mut gateway)
+        }
+        _ => Outcome::Wrong,
+    })
+}
+
+/// Whether this is right as far as it goes.
+fn begins_right(printed: &[u8]) -> bool {
+    for whole in &REFUSED {
+        if whole.starts_with(printed) {
+            return true;
+        }
+    }
+    OUTPUT.starts_with(printed)
+}
+
+/// How the trace comes out with memory, on a gateway where its connection may still be open.
+fn played_later(alloc: Global, gateway: &mut Gateway<'_>) -> Outcome {
+    let _ = gateway.event(Event::Close(1));
+    let mut output = MemOutlet::new(alloc);
+    match played(alloc, gateway, &mut output) {
+        Ok(()) if output.bytes() == OUTPUT => Outcome::Refused,
+        _ => Outcome::Wrong,
+    }
+}

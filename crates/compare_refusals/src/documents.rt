@@ -1,0 +1,206 @@
+//! Calls on documents of some pieces.
+
+use crate::answers::{Answers, answers_of};
+use crate::budget::all_but;
+use crate::cases::{AT, Bytes};
+use crate::outcome::{Outcome, outcome_if};
+use crate::tried::Tried;
+use decoder_core::{Meter, meter};
+use enc_names::Encoding;
+use index_loader::Indexes;
+use piece_rope::{Doc, DocFault};
+use std::alloc::Global;
+
+/// A call on a document.
+#[derive(Clone, Copy)]
+pub enum DocumentCall {
+    /// `Doc::open`.
+    Open,
+    /// `Doc::splice`, by which the edit is taken back.
+    Splice,
+    /// `Doc::text`.
+    Text,
+    /// `Doc::source`.
+    Source,
+    /// `Doc::errors`.
+    Errors,
+}
+
+/// All of them, with their names.
+pub const DOCUMENT_CALLS: [(DocumentCall, &str); 5] = [
+    (DocumentCall::Open, "open"),
+    (DocumentCall::Splice, "splice"),
+    (DocumentCall::Text, "text"),
+    (DocumentCall::Source, "source"),
+    (DocumentCall::Errors, "errors"),
+];
+
+/// Where a document comes from.
+#[derive(Drop)]
+pub struct Source<'a> {
+    /// Where memory comes from.
+    pub alloc: Global,
+    /// The index files.
+    pub indexes: &'a Indexes,
+    /// The encoding given.
+    pub given: Encoding,
+    /// Its bytes, and those of its edit.
+    pub bytes: &'a Bytes,
+}
+
+impl<'a> Source<'a> {
+    /// Opens the document.
+    fn open(&self) -> Result<Doc<'a>, DocFault> {
+        let bytes = &self.bytes.bytes;
+        Doc::open(self.alloc, self.indexes, self.given, bytes, &mut meter())
+    }
+
+    /// Makes the edit.
+    fn edit(&self, doc: &mut Doc<'_>) -> Result<(), DocFault> {
+        let del = self.bytes.out.len() as u64;
+        doc.splice(AT, del, &self.bytes.ins, &mut meter())
+    }
+
+    /// Takes the edit back.
+    fn take_back(&self, doc: &mut Doc<'_>, meter: &mut Meter) -> Result<(), DocFault> {
+        let del = self.bytes.ins.len() as u64;
+        doc.splice(AT, del, &self.bytes.out, meter)
+    }
+
+    /// The document behind the edit; `None` where memory is refused.
+    fn edited(&self) -> Option<Doc<'a>> {
+        let mut doc = self.open().ok()?;
+        self.edit(&mut doc).ok()?;
+        Some(doc)
+    }
+}
+
+/// What is answered with memory.
+#[derive(Drop)]
+pub struct Wanted {
+    /// By the document as it is opened, and once its edit is taken back.
+    opened: Answers,
+    /// By the document behind the edit.
+    edited: Answers,
+    /// How many bytes are decoded where the edit is taken back, by what the pieces remember.
+    decoded: u64,
+}
+
+/// What is answered with memory; `None` where it is refused.
+pub fn wanted_of(source: &Source<'_>) -> Option<Wanted> {
+    let opened = answers_of(&source.open().ok()?)?;
+    let mut doc = source.edited()?;
+    let edited = answers_of(&doc)?;
+    let mut meter = meter();
+    source.take_back(&mut doc, &mut meter).ok()?;
+    Some(Wanted {
+        opened,
+        edited,
+        decoded: meter.decoded(),
+    })
+}
+
+/// A call on a document.
+#[derive(Drop)]
+pub struct DocumentTrial<'a> {
+    /// Where the document comes from.
+    pub source: &'a Source<'a>,
+    /// What is answered with memory.
+    pub wanted: &'a Wanted,
+    /// The call.
+    pub call: DocumentCall,
+}
+
+impl Tried for DocumentTrial<'_> {
+    fn tried(&self, budget: usize) -> Option<Outcome> {
+        match self.call {
+            DocumentCall::Open => self.open(budget),
+            DocumentCall::Splice => self.splice(budget),
+            DocumentCall::Text => self.text(budget),
+            DocumentCall::Source => self.source(budget),
+            DocumentCall::Errors => self.errors(budget),
+        }
+    }
+}
+
+impl DocumentTrial<'_> {
+    /// `Doc::open`.
+    fn open(&self, budget: usize) -> Option<Outcome> {
+        let room = all_but(self.source.alloc, budget)?;
+        let opened = self.source.open();
+        drop(room);
+        Some(match opened {
+            Ok(doc) => outcome_if(self.wanted.opened.are_of(&doc)),
+            Err(DocFault::OutOfMemory) => Outcome::Refused,
+            Err(_) => Outcome::Wrong,
+        })
+    }
+
+    /// `Doc::text`.
+    fn text(&self, budget: usize) -> Option<Outcome> {
+        let wanted = &self.wanted.opened;
+        let doc = self.source.open().ok()?;
+        let room = all_but(self.source.alloc, budget)?;
+        let text = doc.text(0, wanted.lengths.scalars);
+        drop(room);
+        Some(match text {
+            Ok(text) => outcome_if(text.as_str() == wanted.text.as_str()),
+            Err(DocFault::OutOfMemory) if wanted.are_of(&doc) => Outcome::Refused,
+            Err(_) => Outcome::Wrong,
+        })
+    }
+
+    /// `Doc::source`.
+    fn source(&self, budget: usize) -> Option<Outcome> {
+        let wanted = &self.wanted.opened;
+        let doc = self.source.open().ok()?;
+        let room = all_but(self.source.alloc, budget)?;
+        let source = doc.source(0, wanted.lengths.bytes);
+        drop(room);
+        Some(match source {
+            Ok(source) => outcome_if(source.as_slice() == wanted.source.as_slice()),
+            Err(DocFault::OutOfMemory) if wanted.are_of(&doc) => Outcome::Refused,
+            Err(_) => Outcome::Wrong,
+        })
+    }
+
+    /// `Doc::errors`.
+    fn errors(&self, budget: usize) -> Option<Outcome> {
+        let wanted = &self.wanted.opened;
+        let doc = self.source.open().ok()?;
+        let room = all_but(self.source.alloc, budget)?;
+        let errors = doc.errors(0, wanted.lengths.errors);
+        drop(room);
+        Some(match errors {
+            Ok(errors) => outcome_if(errors.as_slice() == wanted.errors.as_slice()),
+            Err(DocFault::OutOfMemory) if wanted.are_of(&doc) => Outcome::Refused,
+            Err(_) => Outcome::Wrong,
+        })
+    }
+
+    /// `Doc::splice`, by which the edit is taken back: where it is refused, the document is as
+    /// before, and the same splice with memory decodes as much as it would have.
+    fn splice(&self, budget: usize) -> Option<Outcome> {
+        let mut doc = self.source.edited()?;
+        let room = all_but(self.source.alloc, budget)?;
+        let spliced = self.source.take_back(&mut doc, &mut meter());
+        drop(room);
+        Some(match spliced {
+            Ok(()) => outcome_if(self.wanted.opened.are_of(&doc)),
+            Err(DocFault::OutOfMemory) if self.wanted.edited.are_of(&doc) => self.later(&mut doc),
+            Err(_) => Outcome::Wrong,
+        })
+    }
+
+    /// How the splice that was refused comes out with memory.
+    fn later(&self, doc: &mut Doc<'_>) -> Outcome {
+        let mut meter = meter();
+        let spliced = self.source.take_back(doc, &mut meter);
+        let decoded = meter.decoded() == self.wanted.decoded;
+        if spliced.is_ok() && decoded && self.wanted.opened.are_of(doc) {
+            Outcome::Refused
+        } else {
+            Outcome::Wrong
+        }
+    }
+}

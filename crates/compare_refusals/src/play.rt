@@ -1,0 +1,142 @@
+//! Sessions, of which one step is played under a budget.
+
+use crate::asked::{Replies, asked, reply_to};
+use crate::budget::all_but;
+use crate::outcome::Outcome;
+use crate::sessions::Step;
+use crate::tried::Tried;
+use desk::Desk;
+use enc_names::Labels;
+use gateway::{Event, Gateway, ReplyLine};
+use index_loader::Indexes;
+use std::alloc::Global;
+
+/// The reply where memory is refused.
+const REFUSED: &[u8] = b"{\"fault\":\"OutOfMemory\"}\n";
+
+/// The connections that are open: two on which a session is played, and one on which is asked.
+const OPEN: [u8; 3] = [1, 2, 15];
+
+/// A gateway without a document, with connections 1, 2 and 15 open; `None` where memory is refused.
+pub fn new_gateway<'i>(alloc: Global, indexes: &'i Indexes) -> Option<Gateway<'i>> {
+    let labels = Labels::names(alloc).ok()?;
+    let desk = Desk::new(alloc, indexes, labels).ok()?;
+    let mut gateway = Gateway::new(alloc, desk);
+    for connection in &OPEN {
+        gateway.event(Event::Open(*connection)).ok()?;
+    }
+    Some(gateway)
+}
+
+/// Whether this is the reply of a line that is refused for memory.
+pub fn is_refusal(reply: &Option<ReplyLine>) -> bool {
+    match reply {
+        Some(reply) => reply.bytes() == REFUSED,
+        None => false,
+    }
+}
+
+/// Whether this is the reply wanted, which is none where nothing is.
+pub fn is_wanted(reply: &Option<ReplyLine>, wanted: &str) -> bool {
+    match reply {
+        Some(reply) => reply.bytes() == wanted.as_bytes(),
+        None => wanted.is_empty(),
+    }
+}
+
+/// A session of which one step is played under a budget.
+#[derive(Drop)]
+pub struct StepTrial<'a> {
+    /// Where memory comes from.
+    pub alloc: Global,
+    /// The index files.
+    pub indexes: &'a Indexes,
+    /// The session.
+    pub steps: &'a [Step],
+    /// The number of the step, from 0.
+    pub number: usize,
+}
+
+impl Tried for StepTrial<'_> {
+    fn tried(&self, budget: usize) -> Option<Outcome> {
+        let mut gateway = new_gateway(self.alloc, self.indexes)?;
+        let mut outcome = Outcome::Same;
+        for (number, step) in self.steps.iter().enumerate() {
+            match self.played(&mut gateway, number, step, budget)? {
+                Outcome::Same => {}
+                Outcome::Refused if outcome == Outcome::Same && number >= self.number => {
+                    outcome = Outcome::Refused;
+                }
+                _ => return Some(Outcome::Wrong),
+            }
+        }
+        Some(outcome)
+    }
+}
+
+impl StepTrial<'_> {
+    /// How a step comes out. Where its line is refused, by the step itself or since bytes of it were
+    /// dropped before, the documents have to be as before, and the line sent again has the reply.
+    fn played(
+        &self,
+        gateway: &mut Gateway<'_>,
+        number: usize,
+        step: &Step,
+        budget: usize,
+    ) -> Option<Outcome> {
+        let before = asked(self.alloc, gateway)?;
+        let reply = self.sent(gateway, number, step, budget)?;
+        if is_wanted(&reply, step.reply) {
+            return Some(Outcome::Same);
+        }
+        if !is_refusal(&reply) {
+            return Some(Outcome::Wrong);
+        }
+        later(self.alloc, gateway, &before, step)
+    }
+
+    /// Sends a step's bytes, under the budget if it is its turn, and returns the reply, if there is
+    /// one; `None` where memory is refused that is to be there.
+    fn sent(
+        &self,
+        gateway: &mut Gateway<'_>,
+        number: usize,
+        step: &Step,
+        budget: usize,
+    ) -> Option<Option<ReplyLine>> {
+        let bytes = step.bytes.as_bytes();
+        if number != self.number {
+            return Some(reply_to(gateway, step.connection, bytes));
+        }
+        let room = all_but(self.alloc, budget)?;
+        let reply = reply_to(gateway, step.connection, bytes);
+        drop(room);
+        Some(reply)
+    }
+}
+
+/// How a step whose line was refused comes out, where the documents are to answer as before.
+fn later(
+    alloc: Global,
+    gateway: &mut Gateway<'_>,
+    before: &Replies,
+    step: &Step,
+) -> Option<Outcome> {
+    let now = asked(alloc, gateway)?;
+    Some(if now.are(before) {
+        sent_again(gateway, step)
+    } else {
+        Outcome::Wrong
+    })
+}
+
+/// How a line comes out that was refused and is sent again, with memory.
+fn sent_again(gateway: &mut Gateway<'_>, step: &Step) -> Outcome {
+    let begun = reply_to(gateway, step.connection, step.begun.as_bytes());
+    let reply = reply_to(gateway, step.connection, step.bytes.as_bytes());
+    if begun.is_none() && is_wanted(&reply, step.reply) {
+        Outcome::Refused
+    } else {
+        Outcome::Wrong
+    }
+}

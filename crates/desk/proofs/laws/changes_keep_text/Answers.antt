@@ -1,5 +1,0 @@
-use Rattle.desk.proofs.KeptText as kept
-use Rattle.desk.proofs.laws.changes_keep_text.Goals as goal
-
-pub returns : goal.returns
-returns c = kept.changes_keep_text

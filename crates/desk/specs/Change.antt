@@ -1,0 +1,61 @@
+-- Changing a range of a document's text.
+use Rattle.std.specs.Prelude.{ℕ, Bool, true, false, List, length, Option, Some, None, Result, Ok, Err}
+use Rattle.std.specs.Str.{chars}
+use Rattle.index_loader.specs.Files.{Files}
+use Rattle.piece_rope.specs.declared.fault.DocFault.{DocFault}
+use Rattle.piece_rope.specs.declared.fault.DocFault.TheVariants as cause
+use Rattle.piece_rope.specs.Document.{Document, decoded}
+use Rattle.piece_rope.specs.Edits.{is_kept, kept_fault, first_of, spliced_document}
+use Rattle.position_map.specs.declared.change_fault.ChangeFault.{ChangeFault}
+use Rattle.position_map.specs.declared.change_fault.ChangeFault.TheVariants as change
+use Rattle.position_map.specs.declared.plan.Plan.{Plan}
+use Rattle.position_map.specs.declared.position.Range.{Range}
+use Rattle.position_map.specs.declared.unit.Unit.{Unit as TextUnit}
+use Rattle.position_map.specs.Plan.{planned}
+use Rattle.desk.specs.Documents.{Entry, unless}
+use Rattle.desk.specs.Edits.{Applied, edited}
+use Rattle.desk.specs.Effects.{Effect}
+use Rattle.desk.specs.declared.fault.Fault.{Fault}
+use Rattle.desk.specs.declared.fault.Fault.TheVariants.{OutOfRange, SplitsCharacter, SplitsItem, NoEncoder, Unencodable, OutOfMemory}
+use Rattle.desk.specs.declared.reply.Reply.{Reply}
+use Rattle.desk.specs.declared.reply.Reply.TheVariants.{Changed}
+
+-- the refusal for the cause that a change isn't planned
+abbrev pub change_fault : ChangeFault → Fault
+change_fault change.OutOfRange = OutOfRange
+change_fault change.SplitsCharacter = SplitsCharacter
+change_fault change.SplitsItem = SplitsItem
+change_fault change.NoEncoder = NoEncoder
+change_fault (change.Unencodable e) = Unencodable e.code_point e.index
+change_fault change.OutOfMemory = OutOfMemory
+
+abbrev pub unless_kept : Bool → Option DocFault
+unless_kept true = None
+unless_kept false = Some cause.NotKept
+
+-- What refuses a planned splice: that the document would be too large, and then that the new text wouldn't be the old one with the range
+-- replaced by the text. What it takes out is there, so that nothing is out of range.
+abbrev pub plan_fault : Document → List ℕ → Plan → Option DocFault
+plan_fault d text plan =
+    first_of (kept_fault d plan.at plan.del plan.ins plan.i plan.j) (unless_kept (is_kept d plan.at plan.del plan.ins plan.i plan.j text))
+
+-- the document that the splice of a plan leaves
+abbrev pub made : Document → Plan → Applied Plan
+made d plan = record { document = spliced_document d plan.at plan.del plan.ins; done = plan }
+
+-- it is made unless the text isn't kept, or nothing is planned
+abbrev pub carried_out : Document → List ℕ → Result Plan ChangeFault → Result (Applied Plan) Fault
+carried_out d text (Ok plan) = unless (plan_fault d text plan) (made d plan)
+carried_out d text (Err fault) = Err (change_fault fault)
+
+-- What a change of a range of the text leaves, by the splice planned for it, or why it is refused. The text, in UTF-8, is put in the place of
+-- the range, and without one in the place of the whole text.
+abbrev pub changed : TextUnit → Option Range → List ℕ → Document → Result (Applied Plan) Fault
+changed unit range text d = carried_out d (chars text) (planned d range unit (chars text))
+
+-- the splice that was made, with the number of bytes put in, and the document after it
+abbrev pub change_reply : Plan → Document → ℕ → Reply
+change_reply plan d rev = Changed plan.at (decoded d).bom plan.del (decoded d).encoding (length plan.ins) rev
+
+abbrev pub change_effect : Files → ℕ → TextUnit → Option Range → List ℕ → Entry → Effect
+change_effect indexes rev unit range text = edited indexes rev (changed unit range text) change_reply

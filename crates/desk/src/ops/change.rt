@@ -1,0 +1,88 @@
+//! The op `change`.
+ghost use Rattle.std.specs.Prelude.{◌≡◌};
+ghost use Rattle.desk.specs.Commands.{asked_of, ChangesText};
+ghost use Rattle.desk.specs.Desk.{Answers};
+ghost use Rattle.desk.specs.Documents.{reply_of};
+ghost use Rattle.desk.specs.Change.{changed, change_reply};
+
+use crate::desk::Desk;
+use crate::edit::Edit;
+use crate::fault::Fault;
+use crate::reply::Reply;
+use decoder_core::meter;
+use piece_rope::Doc;
+use position_map::{Plan, Range, Unit, plan_change};
+use std::alloc::Global;
+use sum_tree::visits;
+
+/// Replaces a range of a document's text (LSP 3.17, "TextDocumentContentChangeEvent").
+#[derive(Clone, Copy)]
+pub struct Change<'a> {
+    /// The document's name.
+    pub doc: &'a str,
+    /// The document's revision now.
+    pub rev: u64,
+    /// What the range's characters are counted in.
+    pub unit: Unit,
+    /// The range to replace; the whole text without one.
+    pub range: Option<Range>,
+    /// The text to put in its place.
+    pub text: &'a str,
+}
+
+impl Desk<'_> {
+    /// Puts a text in place of a range of the document's text, and without a range in place of all
+    /// of it.
+    pub(crate) fn change(&mut self, change: &Change<'_>) -> Result<Reply, Fault>
+        ensures { Answers self.old (asked_of change.now.doc.now (ChangesText change.now.rev change.now.unit change.now.range change.now.text.now)) (reply_of result) self.new }
+    {
+        self.documents.edit(self.alloc, change.doc, change)
+    }
+}
+
+impl Edit for Change<'_> {
+    type Done = Plan;
+
+    ghost named = { λ c. c.rev };
+
+    ghost applied = { λ c. changed c.unit c.range c.text.now };
+
+    ghost answer = { change_reply };
+
+    fn rev(&self) -> u64 {
+        self.rev
+    }
+
+    // Nothing asks for memory behind the splice.
+    fn apply(&self, alloc: Global, document: &mut Doc<'_>) -> Result<Plan, Fault> {
+        let plan = plan_change(
+            alloc,
+            document,
+            self.range,
+            self.unit,
+            self.text,
+            &mut visits(),
+        )?;
+        document.splice_kept(
+            plan.at,
+            plan.del,
+            plan.ins.as_slice(),
+            plan.i,
+            plan.j,
+            self.text,
+            &mut meter(),
+        )?;
+        Ok(plan)
+    }
+
+    fn reply(&self, done: &Plan, document: &Doc<'_>, rev: u64) -> Reply {
+        Reply::Changed {
+            at: done.at,
+            bom: document.bom_len(),
+            del: done.del,
+            encoding: document.encoding(),
+            ins: done.ins.as_slice().len() as u64,
+            rev,
+        }
+    }
+}

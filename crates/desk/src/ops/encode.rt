@@ -1,0 +1,92 @@
+//! The op `encode`.
+ghost use Rattle.std.specs.Prelude.{ℕ, List, Result, refl};
+ghost use Rattle.enc_names.specs.Labels.{lookup_in};
+ghost use Rattle.desk.specs.Commands.{Encodes};
+ghost use Rattle.desk.specs.Documents.{Gives};
+ghost use Rattle.desk.specs.Encode.{bytes_reply, encode_reply, encode_reply_as};
+ghost use Rattle.desk.specs.OpenDocuments.{entry_of};
+ghost use Rattle.encoders.specs.Encode.{IsEncoded};
+ghost use Rattle.encoders.specs.declared.fault.EncodeFault.{EncodeFault};
+
+use crate::fault::Fault;
+use crate::open_document::OpenDocument;
+use crate::question::Question;
+use crate::reply::{Reply, ReplyList};
+use enc_names::{Encoding, Labels};
+use encoders::{EncodeFault, EncodeMode, encode};
+use std::alloc::Global;
+
+/// Returns the code points `from..to` of a document's text, encoded.
+#[derive(Clone, Copy)]
+pub struct Encode<'a> {
+    /// The document's name.
+    pub doc: &'a str,
+    /// How many code points stand before the first wanted.
+    pub from: u64,
+    /// How many code points stand before the end of those wanted.
+    pub to: u64,
+    /// What names the encoding of the reply's bytes.
+    pub label: &'a str,
+    /// What becomes of code points that the encoding doesn't have.
+    pub mode: EncodeMode,
+}
+
+impl Question for Encode<'_> {
+    ghost asked = { λ q. Encodes q.from q.to q.label.now q.mode };
+
+    ghost answer = { λ q indexes labels h. encode_reply_as indexes h q.from q.to (lookup_in labels q.label.now) q.mode };
+
+    ghost asks = { λ _ _ _ _ _. refl };
+
+    fn ask(
+        &self,
+        alloc: Global,
+        labels: &Labels,
+        opened: &OpenDocument<'_>,
+    ) -> Result<Reply, Fault> {
+        match labels.lookup(self.label.as_bytes()) {
+            Some(target) => self.encoded(alloc, target, opened),
+            None => Err(Fault::UnknownLabel),
+        }
+    }
+}
+
+impl Encode<'_> {
+    /// The code points in this encoding, from its first state to its end.
+    fn encoded(
+        &self,
+        alloc: Global,
+        target: Encoding,
+        opened: &OpenDocument<'_>,
+    ) -> Result<Reply, Fault>
+        ensures { Gives (encode_reply opened.now.document.indexes (entry_of opened.now) self.now.from self.now.to target self.now.mode) result }
+    {
+        let document = &opened.document;
+        let indexes = document.indexes();
+        if !indexes.has(target) {
+            return Err(Fault::NoIndex);
+        }
+        let part = document.text(self.from, self.to)?;
+        let answer = encode(alloc, target, indexes, self.mode, part.as_str());
+        encoded_reply(opened.revision, answer)
+    }
+}
+
+/// The reply with what an encoder answered.
+fn encoded_reply(rev: u64, answer: Result<Vec<u8>, EncodeFault>) -> Result<Reply, Fault>
+    ensures { (wanted : Result (List ℕ) EncodeFault) → IsEncoded wanted answer → Gives (bytes_reply rev wanted) result }
+{
+    match answer {
+        Ok(bytes) => Ok(Reply::Bytes {
+            rev,
+            bytes: ReplyList::new(bytes),
+        }),
+        Err(EncodeFault::NoIndex) => Err(Fault::NoIndex),
+        Err(EncodeFault::NoEncoder) => Err(Fault::NoEncoder),
+        Err(EncodeFault::Unencodable(found)) => Err(Fault::Unencodable {
+            code_point: u32::from(found.code_point),
+            index: found.index,
+        }),
+        Err(EncodeFault::OutOfMemory) => Err(Fault::OutOfMemory),
+    }
+}

@@ -1,0 +1,39 @@
+//! The op `errors`.
+ghost use Rattle.std.specs.Prelude.{refl};
+ghost use Rattle.desk.specs.Commands.{ListsErrors};
+ghost use Rattle.desk.specs.Errors.{errors_reply};
+
+use crate::fault::Fault;
+use crate::open_document::OpenDocument;
+use crate::question::Question;
+use crate::reply::{Reply, ReplyList};
+use enc_names::Labels;
+use std::alloc::Global;
+
+/// Returns a page of the places of a document's errors.
+#[derive(Clone, Copy)]
+pub struct Errors<'a> {
+    /// The document's name.
+    pub doc: &'a str,
+    /// The number of the first entry wanted, counted from 0.
+    pub from: u64,
+    /// The most entries wanted.
+    pub max: u64,
+}
+
+impl Question for Errors<'_> {
+    ghost asked = { λ q. ListsErrors q.from q.max };
+
+    ghost answer = { λ q indexes _ h. errors_reply indexes h q.from q.max };
+
+    ghost asks = { λ _ _ _ _ _. refl };
+
+    fn ask(&self, _: Global, _: &Labels, opened: &OpenDocument<'_>) -> Result<Reply, Fault> {
+        let places = opened.document.errors(self.from, self.max)?;
+        Ok(Reply::Errors {
+            rev: opened.revision,
+            total: opened.document.lengths().errors,
+            places: ReplyList::new(places),
+        })
+    }
+}

@@ -1,0 +1,73 @@
+//! The op `lines`.
+ghost use Rattle.std.specs.Prelude.{◌≡◌, ℕ, ◌+◌, ◌*◌, ◌^◌, ◌<◌, ◌≤◌, length, IfOk, refl};
+ghost use Rattle.piece_rope.specs.Document.{text_of};
+ghost use Rattle.position_map.specs.Whole.{pieces_most};
+ghost use Rattle.desk.specs.Commands.{ListsLines};
+ghost use Rattle.desk.specs.Lines.{lines_reply, page_of};
+
+use crate::fault::Fault;
+use crate::line::Line;
+use crate::open_document::OpenDocument;
+use crate::question::Question;
+use crate::reply::{Reply, ReplyList};
+use enc_names::Labels;
+use piece_rope::{Doc, Visits};
+use position_map::{LineCursor, line_count};
+use std::alloc::{AllocError, Global};
+use sum_tree::visits;
+
+/// Returns a page of a document's lines.
+#[derive(Clone, Copy)]
+pub struct Lines<'a> {
+    /// The document's name.
+    pub doc: &'a str,
+    /// The number of the first line wanted, counted from 0.
+    pub from: u64,
+    /// The most lines wanted.
+    pub max: u64,
+}
+
+impl Question for Lines<'_> {
+    ghost asked = { λ q. ListsLines q.from q.max };
+
+    ghost answer = { λ q indexes _ h. lines_reply indexes h q.from q.max };
+
+    ghost asks = { λ _ _ _ _ _. refl };
+
+    fn ask(&self, alloc: Global, _: &Labels, opened: &OpenDocument<'_>) -> Result<Reply, Fault> {
+        let document = &opened.document;
+        let count = line_count(document);
+        if self.from > count {
+            return Err(Fault::OutOfRange);
+        }
+        let lines = page(alloc, document, self.from, self.max, &mut visits())?;
+        Ok(Reply::Lines {
+            rev: opened.revision,
+            count,
+            lines: ReplyList::new(lines),
+        })
+    }
+}
+
+/// At most `max` lines of a document from number `from` on, each found from the one before.
+fn page(
+    alloc: Global,
+    document: &Doc<'_>,
+    from: u64,
+    max: u64,
+    visits: &mut Visits,
+) -> Result<Vec<Line>, AllocError>
+    ensures page { IfOk result (λ lines. lines.items ≡ page_of (text_of document.now) from max) }
+    ensures most { IfOk result (λ lines. (d : ℕ) → pieces_most document.now < 2 ^ d → visits.new ≤ visits.old + (length lines.items + 1) * (2 * (d + 2))) }
+{
+    let count = max.min(line_count(document).saturating_sub(from));
+    let mut lines = Vec::with_capacity(alloc, count as usize)?;
+    let mut cursor = LineCursor::at(document, from, visits);
+    'lines: for _ in 0..count {
+        let Some((start, end)) = cursor.next(visits) else {
+            return Ok(lines);
+        };
+        lines.push(Line { start, end })?;
+    }
+    Ok(lines)
+}

@@ -1,0 +1,46 @@
+//! The op `offset`.
+ghost use Rattle.std.specs.Prelude.{refl};
+ghost use Rattle.desk.specs.Commands.{FindsOffset};
+ghost use Rattle.desk.specs.Offset.{offset_reply};
+
+use crate::fault::Fault;
+use crate::open_document::OpenDocument;
+use crate::question::Question;
+use crate::reply::Reply;
+use enc_names::Labels;
+use position_map::{Position, Unit, to_offset};
+use std::alloc::Global;
+use sum_tree::visits;
+
+/// Returns the offset of a position (LSP 3.17, "Position").
+#[derive(Clone, Copy)]
+pub struct Offset<'a> {
+    /// The document's name.
+    pub doc: &'a str,
+    /// The line's number, counted from 0.
+    pub line: u64,
+    /// The units between the line's start and the position.
+    pub character: u64,
+    /// What the character is counted in.
+    pub unit: Unit,
+}
+
+impl Question for Offset<'_> {
+    ghost asked = { λ q. FindsOffset q.line q.character q.unit };
+
+    ghost answer = { λ q indexes _ h. offset_reply indexes h q.line q.character q.unit };
+
+    ghost asks = { λ _ _ _ _ _. refl };
+
+    fn ask(&self, _: Global, _: &Labels, opened: &OpenDocument<'_>) -> Result<Reply, Fault> {
+        let position = Position {
+            line: self.line,
+            character: self.character,
+        };
+        let offset = to_offset(&opened.document, position, self.unit, &mut visits())?;
+        Ok(Reply::Offset {
+            rev: opened.revision,
+            offset,
+        })
+    }
+}

@@ -1,0 +1,42 @@
+//! The op `open`.
+ghost use Rattle.std.specs.Prelude.{◌≡◌};
+ghost use Rattle.desk.specs.Commands.{asked_of, Opens};
+ghost use Rattle.desk.specs.Desk.{Answers};
+ghost use Rattle.desk.specs.Documents.{reply_of};
+
+use crate::base64_text::bytes_of;
+use crate::desk::Desk;
+use crate::fault::Fault;
+use crate::reply::Reply;
+use enc_names::Setting;
+
+/// Opens a document at revision 0.
+#[derive(Clone, Copy)]
+pub struct Open<'a> {
+    /// The name, which has to be free.
+    pub doc: &'a str,
+    /// What names the encoding.
+    pub label: &'a str,
+    /// The document's bytes in base64 (RFC 4648, section 4).
+    pub bytes: &'a str,
+}
+
+impl Desk<'_> {
+    /// Opens a document under a name that is free.
+    pub(crate) fn open(&mut self, command: &Open<'_>) -> Result<Reply, Fault>
+        ensures { Answers self.old (asked_of command.now.doc.now (Opens command.now.label.now command.now.bytes.now)) (reply_of result) self.new }
+    {
+        let bytes = bytes_of(self.alloc, command.bytes)?;
+        if self.documents.has(command.doc) {
+            return Err(Fault::NameTaken);
+        }
+        match self.labels.lookup(command.label.as_bytes()) {
+            Some(given) => {
+                let setting = Setting::new(given);
+                self.documents
+                    .open(self.alloc, command.doc, setting, &bytes, 0)
+            }
+            None => Err(Fault::UnknownLabel),
+        }
+    }
+}

@@ -1,0 +1,64 @@
+//! The op `place`.
+ghost use Rattle.std.specs.Prelude.{◌≡◌, ◌≤◌, length, IfOk, refl};
+ghost use Rattle.piece_rope.specs.Document.{text_of};
+ghost use Rattle.desk.specs.Commands.{FindsPlace};
+ghost use Rattle.desk.specs.Place.{offset_named, place_reply};
+
+use crate::fault::Fault;
+use crate::open_document::OpenDocument;
+use crate::place_unit::PlaceUnit;
+use crate::question::Question;
+use crate::reply::Reply;
+use enc_names::Labels;
+use piece_rope::{Doc, Visits};
+use position_map::{PosFault, Unit, byte_to_scalar, convert, scalar_to_place};
+use std::alloc::Global;
+use sum_tree::visits;
+
+/// Returns an offset in all units, and the place of the code point there.
+#[derive(Clone, Copy)]
+pub struct Place<'a> {
+    /// The document's name.
+    pub doc: &'a str,
+    /// What the value counts.
+    pub unit: PlaceUnit,
+    /// How much of it stands before the offset.
+    pub value: u64,
+}
+
+impl Question for Place<'_> {
+    ghost asked = { λ q. FindsPlace q.unit q.value };
+
+    ghost answer = { λ q indexes _ h. place_reply indexes h q.unit q.value };
+
+    ghost asks = { λ _ _ _ _ _. refl };
+
+    fn ask(&self, _: Global, _: &Labels, opened: &OpenDocument<'_>) -> Result<Reply, Fault> {
+        let document = &opened.document;
+        let mut visits = visits();
+        let offset = offset_named(document, self.unit, self.value, &mut visits)?;
+        Ok(Reply::Place {
+            rev: opened.revision,
+            place: scalar_to_place(document, offset, &mut visits),
+            utf8: convert(document, offset, Unit::Utf32, Unit::Utf8, &mut visits)?,
+            utf16: convert(document, offset, Unit::Utf32, Unit::Utf16, &mut visits)?,
+            utf32: offset,
+        })
+    }
+}
+
+/// The offset that a value names, in code points.
+fn offset_named(
+    document: &Doc<'_>,
+    unit: PlaceUnit,
+    value: u64,
+    visits: &mut Visits,
+) -> Result<u64, PosFault>
+    ensures offset { result ≡ offset_named document.now unit value }
+    ensures within { IfOk result (λ n. n ≤ length (text_of document.now)) }
+{
+    match unit {
+        PlaceUnit::Byte => byte_to_scalar(document, value, visits),
+        PlaceUnit::Text(unit) => convert(document, value, unit, Unit::Utf32, visits),
+    }
+}

@@ -1,0 +1,41 @@
+//! The op `position`.
+ghost use Rattle.std.specs.Prelude.{refl};
+ghost use Rattle.desk.specs.Commands.{FindsPosition};
+ghost use Rattle.desk.specs.Position.{position_reply};
+
+use crate::fault::Fault;
+use crate::open_document::OpenDocument;
+use crate::question::Question;
+use crate::reply::Reply;
+use enc_names::Labels;
+use position_map::{Unit, to_position};
+use std::alloc::Global;
+use sum_tree::visits;
+
+/// Returns the position of an offset (LSP 3.17, "Position").
+#[derive(Clone, Copy)]
+pub struct Position<'a> {
+    /// The document's name.
+    pub doc: &'a str,
+    /// How many code points stand before the offset.
+    pub offset: u64,
+    /// What the position's character is counted in.
+    pub unit: Unit,
+}
+
+impl Question for Position<'_> {
+    ghost asked = { λ q. FindsPosition q.offset q.unit };
+
+    ghost answer = { λ q indexes _ h. position_reply indexes h q.offset q.unit };
+
+    ghost asks = { λ _ _ _ _ _. refl };
+
+    fn ask(&self, _: Global, _: &Labels, opened: &OpenDocument<'_>) -> Result<Reply, Fault> {
+        let position = to_position(&opened.document, self.offset, self.unit, &mut visits())?;
+        Ok(Reply::Position {
+            rev: opened.revision,
+            line: position.line,
+            character: position.character,
+        })
+    }
+}

@@ -1,0 +1,79 @@
+//! The op `splice`.
+ghost use Rattle.std.specs.Prelude.{◌≡◌};
+ghost use Rattle.desk.specs.Commands.{asked_of, Splices};
+ghost use Rattle.desk.specs.Desk.{Answers};
+ghost use Rattle.desk.specs.Documents.{reply_of};
+ghost use Rattle.desk.specs.Splice.{spliced, splice_reply};
+
+use crate::base64_text::bytes_of;
+use crate::desk::Desk;
+use crate::edit::Edit;
+use crate::fault::Fault;
+use crate::open_document::edited_reply;
+use crate::reply::Reply;
+use decoder_core::meter;
+use piece_rope::Doc;
+use std::alloc::Global;
+
+/// Replaces bytes of a document.
+#[derive(Clone, Copy)]
+pub struct Splice<'a> {
+    /// The document's name.
+    pub doc: &'a str,
+    /// The document's revision now.
+    pub rev: u64,
+    /// How many bytes stand before the first to take out.
+    pub at: u64,
+    /// How many bytes to take out.
+    pub del: u64,
+    /// The bytes to put in their place, in base64 (RFC 4648, section 4).
+    pub bytes: &'a str,
+}
+
+impl Desk<'_> {
+    /// Puts bytes in place of `del` bytes from `at` on.
+    pub(crate) fn splice(&mut self, splice: &Splice<'_>) -> Result<Reply, Fault>
+        ensures { Answers self.old (asked_of splice.now.doc.now (Splices splice.now.rev splice.now.at splice.now.del splice.now.bytes.now)) (reply_of result) self.new }
+    {
+        let ins = bytes_of(self.alloc, splice.bytes)?;
+        let read = ReadSplice {
+            rev: splice.rev,
+            at: splice.at,
+            del: splice.del,
+            ins: ins.as_slice(),
+        };
+        self.documents.edit(self.alloc, splice.doc, &read)
+    }
+}
+
+/// A splice whose bytes are read from their base64.
+#[derive(Clone, Copy)]
+struct ReadSplice<'a> {
+    rev: u64,
+    at: u64,
+    del: u64,
+    ins: &'a [u8],
+}
+
+impl Edit for ReadSplice<'_> {
+    type Done = ();
+
+    ghost named = { λ s. s.rev };
+
+    ghost applied = { λ s. spliced s.at s.del s.ins.now };
+
+    ghost answer = { splice_reply };
+
+    fn rev(&self) -> u64 {
+        self.rev
+    }
+
+    fn apply(&self, _: Global, document: &mut Doc<'_>) -> Result<(), Fault> {
+        document.splice(self.at, self.del, self.ins, &mut meter())?;
+        Ok(())
+    }
+
+    fn reply(&self, _: &(), document: &Doc<'_>, rev: u64) -> Reply {
+        edited_reply(document, rev)
+    }
+}

@@ -1,0 +1,46 @@
+//! The op `stat`.
+ghost use Rattle.std.specs.Prelude.{refl, Ok};
+ghost use Rattle.desk.specs.Commands.{Measures};
+ghost use Rattle.desk.specs.Stat.{stat_reply};
+
+use crate::fault::Fault;
+use crate::open_document::OpenDocument;
+use crate::question::Question;
+use crate::reply::Reply;
+use enc_names::Labels;
+use position_map::line_count;
+use std::alloc::Global;
+
+/// Returns how long a document and its text are.
+#[derive(Clone, Copy)]
+pub struct Stat<'a> {
+    /// The document's name.
+    pub doc: &'a str,
+}
+
+impl Question for Stat<'_> {
+    ghost asked = { λ _. Measures };
+
+    ghost answer = { λ _ indexes _ h. Ok (stat_reply indexes h) };
+
+    ghost asks = { λ _ _ _ _ _. refl };
+
+    fn ask(&self, _: Global, _: &Labels, opened: &OpenDocument<'_>) -> Result<Reply, Fault> {
+        let document = &opened.document;
+        document.law_bounds();
+        let lengths = document.lengths();
+        let lines = line_count(document);
+        Ok(Reply::Stat {
+            rev: opened.revision,
+            given: document.given(),
+            encoding: document.encoding(),
+            bom: document.bom_len(),
+            bytes: lengths.bytes as u32,
+            errors: lengths.errors as u32,
+            lines: lines as u32,
+            utf8: lengths.utf8 as u32,
+            utf16: lengths.utf16 as u32,
+            utf32: lengths.scalars as u32,
+        })
+    }
+}

@@ -1,0 +1,67 @@
+//! The op `text`.
+ghost use Rattle.std.specs.Prelude.{◌≡◌, None, Err, MatchResult, refl};
+ghost use Rattle.piece_rope.specs.Document.{first_error};
+ghost use Rattle.desk.specs.Commands.{Reads};
+ghost use Rattle.desk.specs.OpenDocuments.{entry_of};
+ghost use Rattle.desk.specs.Text.{text_reply};
+ghost use Rattle.desk.specs.declared.text_mode.TextMode.TheVariants.{Fatal};
+
+use crate::fault::Fault;
+use crate::open_document::OpenDocument;
+use crate::question::Question;
+use crate::reply::{Reply, ReplyText};
+use crate::text_mode::TextMode;
+use enc_names::Labels;
+use std::alloc::Global;
+
+/// Returns the code points `from..to` of a document's text.
+#[derive(Clone, Copy)]
+pub struct Text<'a> {
+    /// The document's name.
+    pub doc: &'a str,
+    /// How many code points stand before the first wanted.
+    pub from: u64,
+    /// How many code points stand before the end of those wanted.
+    pub to: u64,
+    /// What becomes of the document's errors.
+    pub mode: TextMode,
+}
+
+impl Question for Text<'_> {
+    ghost asked = { λ q. Reads q.from q.to q.mode };
+
+    ghost answer = { λ q indexes _ h. text_reply indexes h q.from q.to q.mode };
+
+    ghost asks = { λ _ _ _ _ _. refl };
+
+    fn ask(&self, _: Global, _: &Labels, opened: &OpenDocument<'_>) -> Result<Reply, Fault> {
+        if let TextMode::Fatal = self.mode {
+            opened.without_errors(self.from, self.to)?;
+        }
+        let text = opened.document.text(self.from, self.to)?;
+        Ok(Reply::Text {
+            rev: opened.revision,
+            text: ReplyText::new(text),
+        })
+    }
+}
+
+impl OpenDocument<'_> {
+    /// Refuses a text in mode fatal where the document has an error, and first where the range is
+    /// past its end. No text is copied for that.
+    fn without_errors(&self, from: u64, to: u64) -> Result<(), Fault>
+        ensures { MatchResult result (λ _. first_error self.now.document ≡ None)
+            (λ fault. text_reply self.now.document.indexes (entry_of self.now) from to Fatal ≡ Err fault) }
+    {
+        if from > to {
+            return Err(Fault::OutOfRange);
+        }
+        if to > self.document.lengths().scalars {
+            return Err(Fault::OutOfRange);
+        }
+        match self.document.fatal() {
+            Some(place) => Err(Fault::Malformed { place }),
+            None => Ok(()),
+        }
+    }
+}

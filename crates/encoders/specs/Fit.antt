@@ -1,0 +1,22 @@
+-- What the encoders rest on in the indexes that they are lent: that no pointer is above those that their bytes can name.
+use Rattle.std.specs.Prelude.{◌≡◌, ⊤, ℕ, Option, IfSome, true}
+use Rattle.enc_names.specs.declared.encoding.Encoding.TheVariants.{Iso2022Jp}
+use Rattle.index_loader.specs.declared.family.Family.{Family}
+use Rattle.index_loader.specs.declared.family.Family.TheVariants as of
+use Rattle.index_loader.specs.Files.{Files, has_files}
+use Rattle.index_loader.specs.Index.{Loaded}
+use Rattle.index_loader.specs.Table.{pointer_limit}
+
+abbrev pub HasLimit : ℕ → Option Loaded → Type 0
+HasLimit limit o = IfSome o (λ index. pointer_limit index.kind ≡ limit)
+
+-- of ISO-2022-JP, whose encoder looks for its files itself, that they are there
+abbrev pub IsFit : Files → Family (Option Loaded) → Type 0
+IsFit files (of.SingleByte index) = HasLimit 127 index
+IsFit files (of.Gb18030 index ranges) = HasLimit 23939 index × HasLimit 1303111 ranges
+IsFit files (of.Big5 index) = HasLimit 19781 index
+IsFit files (of.EucJp jis0208 jis0212) = HasLimit 11279 jis0208
+IsFit files (of.Iso2022Jp jis0208 katakana) = has_files files Iso2022Jp ≡ true
+IsFit files (of.ShiftJis index) = HasLimit 11279 index
+IsFit files (of.EucKr index) = HasLimit 23939 index
+IsFit files family = ⊤

@@ -1,8 +1,0 @@
-use Rattle.gateway.proofs.Traced as traced
-use Rattle.gateway.proofs.laws.traces_in_order.Goals as goal
-
-pub returns-clause-events : goal.returns-clause-events
-returns-clause-events c = traced.traces_are_events
-
-pub returns-clause-order : goal.returns-clause-order
-returns-clause-order c = traced.traces_in_order c.replies_in_order.ensures.order

@@ -1,0 +1,48 @@
+//! The families of encodings that share a decoder.
+
+/// A family of encodings that share a decoder (Encoding Standard, "Names and labels"), with what it
+/// needs of the index files: as `Indexes::of` lends it the indexes, and in contracts also the kinds
+/// of the files.
+#[derive(Drop)]
+pub enum Family<I: Drop> {
+    /// UTF-8.
+    Utf8,
+    /// The 28 single-byte encodings, each by an index of its own.
+    SingleByte(I),
+    /// gb18030 and GBK.
+    Gb18030 {
+        /// The two-byte index.
+        index: I,
+        /// The ranges, for four bytes.
+        ranges: I,
+    },
+    /// Big5.
+    Big5(I),
+    /// EUC-JP.
+    EucJp {
+        /// The index of two bytes.
+        jis0208: I,
+        /// The index of three bytes, which its decoder alone looks up.
+        jis0212: I,
+    },
+    /// ISO-2022-JP.
+    Iso2022Jp {
+        /// The index of two bytes.
+        jis0208: I,
+        /// Half-width katakana, which its encoder alone looks up: the encoding is served with both
+        /// files or not at all.
+        katakana: I,
+    },
+    /// Shift_JIS.
+    ShiftJis(I),
+    /// EUC-KR.
+    EucKr(I),
+    /// replacement.
+    Replacement,
+    /// UTF-16BE.
+    Utf16Be,
+    /// UTF-16LE.
+    Utf16Le,
+    /// x-user-defined.
+    XUserDefined,
+}

@@ -1,5 +1,0 @@
-use Rattle.iso2022jp.proofs.Restoring.{settles}
-use Rattle.iso2022jp.proofs.from_state.no_second_restore.Goals as goal
-
-pub returns : goal.returns
-returns c = settles

@@ -1,0 +1,49 @@
+-- What the text that reports that memory ran out says of the desk.
+use Rattle.std.proofs.Common.{◌≡◌, ℕ, Bool, true, false, nat_lt, List, length, Result, Ok, Err, MatchBool, refl, sym, ap, ◌∙◌}
+use Rattle.std.specs.Str.{bytes_eq}
+use Rattle.json.specs.Print.{escape_byte}
+use Rattle.desk.specs.Changes.{changes, OnlyChangesChange}
+use Rattle.desk.specs.Commands.{Asked}
+use Rattle.desk.specs.Desk.{Office, answer_of}
+use Rattle.desk.specs.Documents.{Names}
+use Rattle.desk.specs.declared.reply.Reply.{Reply}
+use Rattle.desk.specs.declared.reply.Reply.TheVariants.{Edited, Changed, Closed}
+use Rattle.line_protocol.specs.declared.request.refusal.Refusal.{Refusal}
+use Rattle.line_protocol.specs.Replies.{reply_text, memory_text}
+use Rattle.line_protocol.specs.Request.{request_of_line}
+use Rattle.line_protocol.specs.Step.{Step, IsStep, taken, ran_out, Replies, step_by, step_of, line_limit, too_long_text}
+
+memory_same : bytes_eq memory_text memory_text ≡ true
+unfolding escape_byte
+memory_same = refl
+
+differs : (text : List ℕ) → bytes_eq text memory_text ≡ false → text ≡ memory_text → ⊥
+differs text apart e = let no : true ≡ false = sym memory_same ∙ ap (λ t. bytes_eq t memory_text) (sym e) ∙ apart in cc
+
+-- an open, an edit or a close that is accepted has another text
+changes_nothing : (id : ℕ) (reply : Reply) → reply_text id reply ≡ memory_text → changes reply ≡ false
+unfolding escape_byte
+changes_nothing id (Edited bom encoding rev) e = absurd (differs (reply_text id (Edited bom encoding rev)) refl e)
+changes_nothing id (Changed at bom del encoding ins rev) e = absurd (differs (reply_text id (Changed at bom del encoding ins rev)) refl e)
+changes_nothing id (Closed rev) e = absurd (differs (reply_text id (Closed rev)) refl e)
+changes_nothing id reply e = refl
+
+module _ (only : OnlyChangesChange) (old new : Office) where
+  by_request : (r : Result (ℕ × Asked) Refusal) → step_by old r ≡ record { text = memory_text; office = new } → new ≡ old
+  by_request (Err refusal) e = sym (ap (λ (s : Step). s.office) e)
+  by_request (Ok request) e =
+      let office : Names → Office = λ d. record { indexes = old.indexes; labels = old.labels; documents = d } in
+      let kept = only old request.1 (changes_nothing request.0 (answer_of old request.1).reply (ap (λ (s : Step). s.text) e)) in
+      sym (ap (λ (s : Step). s.office) e) ∙ ap office kept
+
+  by_step : (line : List ℕ) → IsStep old (step_of old line) memory_text new → new ≡ old
+  by_step line (taken e) = by_request (request_of_line line) e
+  by_step line (ran_out text same) = same
+
+  by_limit : (t : Bool) (line : List ℕ) → MatchBool t ((memory_text ≡ too_long_text) × (new ≡ old)) (IsStep old (step_of old line) memory_text new) → new ≡ old
+  by_limit true line (text, same) = same
+  by_limit false line is = by_step line is
+
+  pub out_of_memory_changes_nothing : (line : List ℕ) → Replies old line memory_text new → new ≡ old
+  unfolding Replies
+  out_of_memory_changes_nothing line is = by_limit (nat_lt line_limit (length line)) line is

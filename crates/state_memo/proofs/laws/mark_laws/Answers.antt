@@ -1,5 +1,0 @@
-use Rattle.state_memo.proofs.Marks.{marks-bytes, ends-bytes}
-use Rattle.state_memo.proofs.laws.mark_laws.Goals as goal
-
-pub returns : goal.returns
-returns c = record { marks = marks-bytes; ends = ends-bytes }

@@ -1,5 +1,0 @@
-use Rattle.state_memo.proofs.Joining.{IsSumOf-joined}
-use Rattle.state_memo.proofs.laws.sum_laws.Goals as goal
-
-pub returns : goal.returns
-returns c = record { joined = IsSumOf-joined }
