@@ -79,11 +79,7 @@ impl Exceptions {
     }
 
     /// Puts the exception of the line of this number beside those above.
-    fn put(
-        &mut self,
-        number: u64,
-        exception: (Scalar, [u8; 2]),
-    ) -> Result<(), ExceptionFault>
+    fn put(&mut self, number: u64, exception: (Scalar, [u8; 2])) -> Result<(), ExceptionFault>
         ensures ok { OnOk result (exceptions_beside number self.old exception.0 exception.1 ≡ Ok self.new) }
         ensures err { IfErr result (λ fault. FaultIs fault.cause fault (exceptions_beside number self.old exception.0 exception.1)) }
     {
