@@ -1,5 +1,5 @@
 """The program as it was built, started under limits of memory, from one under which it just starts up to one under
-which nothing is refused: index files and labels that can't be loaded end it by their text and status, and from then on
+which nothing is refused: index files, exceptions and labels that can't be loaded end it by their text and status, and from then on
 lines alone are refused."""
 import json
 import pathlib
@@ -22,6 +22,9 @@ FILES = [
     ("jis0208", "".join(f"{pointer}\t0x{0x4E00 + pointer:04X}\n" for pointer in range(11000))),
     ("euc-kr", "".join(f"{pointer}\t0x{0xAC00 + pointer:04X}\n" for pointer in range(8000))),
 ]
+
+# Exceptions of the gb18030 encoder, many as well.
+EXCEPTIONS = "".join(f"0x{0xE000 + number:04X}\t{0xAAA1 + number % 94:04X}\n" for number in range(1800))
 
 # A label file of many labels.
 LABELS = [{"encodings": [{"name": "Shift_JIS", "labels": ["sjis", *(f"sjis-{number}" for number in range(3000))]}]}]
@@ -54,6 +57,7 @@ class Memory(unittest.TestCase):
         self.folder = pathlib.Path(folder.name)
         for name, rows in FILES:
             (self.folder / f"index-{name}.txt").write_text(rows)
+        (self.folder / "gb18030-exceptions.txt").write_text(EXCEPTIONS)
         (self.folder / "labels.json").write_text(json.dumps(LABELS))
 
     def ends(self, limit, *words, lines=""):

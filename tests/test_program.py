@@ -80,6 +80,55 @@ CHANGES = [
     '{"bytes":"QRskQjAhGyRCJCIbKEI=","id":6,"rev":1}',
 ]
 
+# The index of gb18030 as its exceptions find it, and as one of them has a pair of it.
+GB18030 = "0\t0x4E02\n1\t0x4E04\n9026\t0x554A\n"
+GB18030_TWICE = "0\t0x4E02\n1\t0x4E04\n2\t0x4E02\n9026\t0x554A\n"
+
+# Exceptions of the gb18030 encoder, the index that they are beside, and a session, each command with its reply. An
+# exception whose bytes are another character is encoded, and a change that would put it isn't kept; in GBK U+20AC has its
+# byte all the same, and U+E5E5 has none.
+EXCEPTIONS = [
+    ("0x4E04\tB0A1\n", GB18030, [
+        '{"id":1,"op":"open","doc":"u","label":"utf-8","bytes":"5LiE"}',
+        '{"bom":0,"encoding":"UTF-8","id":1,"rev":0}',
+        '{"id":2,"op":"encode","doc":"u","from":0,"to":1,"label":"gb18030"}',
+        '{"bytes":"sKE=","id":2,"rev":0}',
+        '{"id":3,"op":"encode","doc":"u","from":0,"to":1,"label":"gbk","mode":"html"}',
+        '{"bytes":"sKE=","id":3,"rev":0}',
+        '{"id":4,"op":"open","doc":"g","label":"gb18030","bytes":"QQ=="}',
+        '{"bom":0,"encoding":"gb18030","id":4,"rev":0}',
+        '{"id":5,"op":"change","doc":"g","rev":0,"range":{"start":{"line":0,"character":1},"end":{"line":0,"character":1}},"text":"\\u4e04"}',
+        '{"fault":"NotKept","id":5}',
+        '{"id":6,"op":"source","doc":"g","at":0,"len":1}',
+        '{"bytes":"QQ==","id":6,"rev":0}',
+    ]),
+    ("0x4E02\t8142\n", GB18030_TWICE, [
+        '{"id":1,"op":"open","doc":"g","label":"gb18030","bytes":"QQ=="}',
+        '{"bom":0,"encoding":"gb18030","id":1,"rev":0}',
+        '{"id":2,"op":"change","doc":"g","rev":0,"range":{"start":{"line":0,"character":1},"end":{"line":0,"character":1}},"text":"\\u4e02"}',
+        '{"at":1,"bom":0,"del":0,"encoding":"gb18030","id":2,"ins":2,"rev":1}',
+        '{"id":3,"op":"source","doc":"g","at":0,"len":3}',
+        '{"bytes":"QYFC","id":3,"rev":1}',
+    ]),
+    ("# in no order\r\n\n 0x20ac \t a2e3 \tU+20AC\n0xE5E5\tA3A0\n0x41\t8140", GB18030, [
+        '{"id":1,"op":"open","doc":"u","label":"utf-8","bytes":"QeKCrO6XpQ=="}',
+        '{"bom":0,"encoding":"UTF-8","id":1,"rev":0}',
+        '{"id":2,"op":"encode","doc":"u","from":0,"to":2,"label":"gb18030"}',
+        '{"bytes":"QaLj","id":2,"rev":0}',
+        '{"id":3,"op":"encode","doc":"u","from":0,"to":2,"label":"gbk"}',
+        '{"bytes":"QYA=","id":3,"rev":0}',
+        '{"id":4,"op":"encode","doc":"u","from":0,"to":3,"label":"gb18030"}',
+        '{"code_point":58853,"fault":"Unencodable","id":4,"index":2}',
+    ]),
+]
+
+# Files of exceptions, and what is said of each.
+FAULTY_EXCEPTIONS = [
+    ("0x4E04\t417F\n", "line 1: BadBytes"),
+    ("0x4E04\tB0A1\n0x4E04\tB0A1\n", "line 2: DuplicateCodePoint"),
+    ("#\n\n4E04\t417F\n", "line 3: BadCodePoint"),
+]
+
 # Words that are none of the program's, each refused before any file is read.
 BAD_WORDS = [
     ["stdio"],
@@ -229,6 +278,32 @@ class Program(unittest.TestCase):
             self.put(name, rows)
         for session in ENCODED, CHANGES:
             self.serves("".join(line + "\n" for line in session[::2]), "".join(reply + "\n" for reply in session[1::2]))
+
+    def put_exceptions(self, rows):
+        (self.folder / "gb18030-exceptions.txt").write_bytes(rows.encode())
+
+    def test_exceptions_of_the_gb18030_encoder(self):
+        self.put("gb18030-ranges", "0\t0x0080\n189000\t0x10000\n")
+        for exceptions, index, session in EXCEPTIONS:
+            with self.subTest(exceptions):
+                self.put("gb18030", index)
+                self.put_exceptions(exceptions)
+                self.serves("".join(line + "\n" for line in session[::2]), "".join(reply + "\n" for reply in session[1::2]))
+
+    def test_exceptions_alone_make_no_encoding(self):
+        self.put_exceptions("0x4E04\tB0A1\n")
+        self.serves(asked("gb18030", b"\xb0\xa1"), NOT_OPENED)
+
+    def test_faulty_exceptions_are_reported_between_index_files_and_labels(self):
+        labels = self.folder / "labels.json"
+        labels.write_text("[")
+        words = ["stdio", "--indexes", str(self.folder), "--labels", str(labels)]
+        for rows, told in FAULTY_EXCEPTIONS:
+            with self.subTest(rows):
+                self.put_exceptions(rows)
+                self.runs(*words, status=2, error=f"gate: index file gb18030-exceptions.txt, {told}\n")
+        self.put("gb18030-ranges", "0\t0x80\n")
+        self.runs(*words, status=2, error="gate: index file index-gb18030-ranges.txt, line 0: BadRanges\n")
 
     def test_each_single_byte_encoding_reads_its_own_file(self):
         lines = replies = ""

@@ -7,6 +7,7 @@ MOST = 16777216  # bytes of a file
 
 IBM866 = "index-ibm866.txt"
 RANGES = "index-gb18030-ranges.txt"
+EXCEPTIONS = "gb18030-exceptions.txt"
 LABELS = "labels.json"
 
 ASK = b'{"id":1,"op":"open","doc":"d","label":"ibm866","bytes":""}\n'
@@ -37,6 +38,13 @@ def link_to_itself(path):
 def comments(count):
     """So many bytes of comments."""
     return (b"#" * 63 + b"\n") * (count // 64) + b"#" * (count % 64)
+
+
+def all_exceptions():
+    """Each scalar value from U+0080 to U+FFFF, by two bytes each."""
+    pairs = [lead << 8 | trail for lead in range(0x81, 0xFF) for trail in range(0x40, 0xFF) if trail != 0x7F]
+    code_points = [*range(0x80, 0xD800), *range(0xE000, 0x10000)]
+    return b"".join(b"0x%X\t%X\n" % (code_point, pairs[number % len(pairs)]) for number, code_point in enumerate(code_points))
 
 
 # An index file, or several by name; what the program says of it; or, where it says nothing, the reply to an open.
@@ -91,6 +99,20 @@ INDEX_FILES = [
         ("with another last row", b"189000\t0x10001\n", b"BadRanges", 1),
         ("with a pointer twice", b"0\t0x80\n0\t0x81\n189000\t0x10000\n", b"DuplicatePointer", 2),
     )),
+    *((f"exceptions of gb18030 {name}", {EXCEPTIONS: content}, faulty(cause, line, EXCEPTIONS)) for name, content, cause, line in (
+        ("with a byte order mark", b"\xef\xbb\xbf0x80\t8140\n", b"BadCodePoint", 1),
+        ("with the last surrogate", b"0xDFFF\t8140\n", b"BadCodePoint", 1),
+        ("of a code point of 400 digits", b"0x" + b"1" * 400 + b"\t8140\n", b"BadCodePoint", 1),
+        ("truncated behind a code point", b"0x80\t8140\n0x81", b"BadBytes", 2),
+        ("truncated in the bytes", b"0x80\t8140\n0x81\t814", b"BadBytes", 2),
+        ("of bytes of 400 digits", b"0x80\t" + b"0" * 396 + b"8140\n", b"BadBytes", 1),
+        ("of a trail byte 7F", b"0x80\t817F\n", b"BadBytes", 1),
+        ("of four bytes", b"0x80\t81308130\n", b"BadBytes", 1),
+        ("with a code point twice", b"0x80\t8140\n0x0080\t8141\n", b"DuplicateCodePoint", 2),
+    )),
+    ("exceptions of all code points up to U+FFFF but ASCII", {IBM866: b"", EXCEPTIONS: all_exceptions()}, THERE),
+    ("a folder in place of the exceptions", {EXCEPTIONS: os.mkdir}, unread(EXCEPTIONS)),
+    ("faulty exceptions and a faulty file before them", {EXCEPTIONS: b"x", RANGES: b""}, faulty(b"BadRanges", 0, RANGES)),
 ]
 
 NOT_JSON = b"gate: label file: NotJson\n"

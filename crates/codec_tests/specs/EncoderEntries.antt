@@ -1,6 +1,7 @@
 -- A few entries of the Standard's indexes, and character references, for the encoders' worked examples.
 use Rattle.std.specs.Prelude.{ℕ, List, [], ◌∷◌, codes}
 use Rattle.index_loader.specs.declared.kind.IndexKind.TheVariants.{Jis0208, Big5, EucKr, Gb18030, Gb18030Ranges}
+use Rattle.index_loader.specs.Exceptions.{ExceptionTable}
 use Rattle.index_loader.specs.Index.{Loaded}
 
 abbrev pub jis0208 : Loaded
@@ -25,6 +26,10 @@ gb18030 = record { kind = Gb18030; pairs = (0, 0x4E02) ∷ (1, 0x4E04) ∷ (9026
 
 abbrev pub gb18030_ranges : Loaded
 gb18030_ranges = record { kind = Gb18030Ranges; pairs = (0, 0x80) ∷ (189000, 0x10000) ∷ [] }
+
+-- exceptions that stand in the way of each step of the gb18030 encoder
+abbrev pub exceptions : ExceptionTable
+exceptions = (0x41, 0x81 ∷ 0x40 ∷ []) ∷ (0x20AC, 0xA2 ∷ 0xE3 ∷ []) ∷ (0x4E04, 0xB0 ∷ 0xA1 ∷ []) ∷ (0xE5E5, 0xA3 ∷ 0xA0 ∷ []) ∷ (0xE7C7, 0xA8 ∷ 0xBC ∷ []) ∷ []
 
 -- the character references of U+1F600, U+FFFD and U+E7C7
 abbrev pub grinning_face_reference : List ℕ

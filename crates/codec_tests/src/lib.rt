@@ -13,6 +13,8 @@ mod of_decoder_core;
 #[cfg(test)]
 mod of_encoders;
 #[cfg(test)]
+mod of_exceptions;
+#[cfg(test)]
 mod of_iso2022jp;
 #[cfg(test)]
 mod of_multibyte_decoders;

@@ -3,6 +3,7 @@ use Rattle.std.specs.Prelude.{◌≡◌, ⊤, ℕ, Bool, true, false, List, Opti
 use Rattle.std.specs.Char.{encode_utf8}
 use Rattle.std.specs.declared.alloc.Global.{Global}
 use Rattle.enc_names.specs.declared.encoding.Encoding.{Encoding}
+use Rattle.index_loader.specs.Exceptions.{ExceptionTable}
 use Rattle.index_loader.specs.declared.family.Family.{Family}
 use Rattle.index_loader.specs.declared.family.Family.TheVariants as of
 use Rattle.index_loader.specs.Files.{Files, has_files, indexes_of}
@@ -36,19 +37,19 @@ abbrev pub over : Option Loaded → (Loaded → ℕ → Option (List ℕ)) → �
 over (Some index) bytes = bytes index
 over None bytes = λ c. None
 
--- the bytes of a code point in a family whose encoder keeps no state; of gb18030's with its flag "is GBK"
-abbrev pub bytes_over : Bool → Family (Option Loaded) → ℕ → Option (List ℕ)
-bytes_over gbk of.Utf8 = λ c. Some (encode_utf8 c)
-bytes_over gbk of.Utf16Be = utf16_bytes BigEndian
-bytes_over gbk of.Utf16Le = utf16_bytes LittleEndian
-bytes_over gbk of.XUserDefined = x_user_defined_bytes
-bytes_over gbk (of.ShiftJis index) = over index shift_jis_bytes
-bytes_over gbk (of.EucJp jis0208 jis0212) = over jis0208 euc_jp_bytes
-bytes_over gbk (of.EucKr index) = over index euc_kr_bytes
-bytes_over gbk (of.Big5 index) = over index big5_bytes
-bytes_over gbk (of.Gb18030 index ranges) = over index (λ i. over ranges (gb18030_bytes gbk i))
-bytes_over gbk (of.SingleByte index) = over index single_byte_bytes
-bytes_over gbk family = λ c. None
+-- the bytes of a code point in a family whose encoder keeps no state; of gb18030's with its flag "is GBK" and its exceptions
+abbrev pub bytes_over : Bool → ExceptionTable → Family (Option Loaded) → ℕ → Option (List ℕ)
+bytes_over gbk exceptions of.Utf8 = λ c. Some (encode_utf8 c)
+bytes_over gbk exceptions of.Utf16Be = utf16_bytes BigEndian
+bytes_over gbk exceptions of.Utf16Le = utf16_bytes LittleEndian
+bytes_over gbk exceptions of.XUserDefined = x_user_defined_bytes
+bytes_over gbk exceptions (of.ShiftJis index) = over index shift_jis_bytes
+bytes_over gbk exceptions (of.EucJp jis0208 jis0212) = over jis0208 euc_jp_bytes
+bytes_over gbk exceptions (of.EucKr index) = over index euc_kr_bytes
+bytes_over gbk exceptions (of.Big5 index) = over index big5_bytes
+bytes_over gbk exceptions (of.Gb18030 index ranges) = over index (λ i. over ranges (gb18030_bytes gbk exceptions i))
+bytes_over gbk exceptions (of.SingleByte index) = over index single_byte_bytes
+bytes_over gbk exceptions family = λ c. None
 
 -- without the state behind the bytes
 abbrev pub bytes_only : {S : Type 0} → Result (Put S) Unencodable → Result (List ℕ) EncodeFault
@@ -59,7 +60,7 @@ bytes_only (Err e) = Err (unencodable e)
 abbrev pub encoded_over : Bool → Files → Family (Option Loaded) → Bool → List ℕ → Result (List ℕ) EncodeFault
 encoded_over gbk files of.Replacement html cs = Err NoEncoder
 encoded_over gbk files (of.Iso2022Jp jis0208 katakana) html cs = bytes_only (encoded_iso files Ascii cs html true)
-encoded_over gbk files family html cs = bytes_only (encoded_from (stateless (bytes_over gbk family)) html 0 tt cs)
+encoded_over gbk files family html cs = bytes_only (encoded_from (stateless (bytes_over gbk files.exceptions family)) html 0 tt cs)
 
 abbrev pub encoded_in : Files → Encoding → Bool → List ℕ → Result (List ℕ) EncodeFault
 encoded_in files encoding html cs = encoded_over (is_gbk encoding) files (indexes_of files encoding) html cs

@@ -77,7 +77,7 @@ fn encode_over(
         Family::Gb18030 { index, ranges } => {
             encode_bytes(
                 alloc,
-                &Gb18030Encoder::new(is_gbk, index, ranges),
+                &Gb18030Encoder::new(is_gbk, indexes, index, ranges),
                 mode,
                 text,
             )

@@ -7,7 +7,7 @@ ghost use Rattle.encoders.specs.Gb18030.{gb18030_bytes, gb18030_four, gb18030_pa
 use crate::stateless::Stateless;
 use decoder_core::Few;
 use enc_names::{Encoding, Scalar};
-use index_loader::Index;
+use index_loader::{Index, Indexes};
 use std::marker::Model;
 
 /// The two bytes of a pointer.
@@ -34,6 +34,14 @@ fn gb18030_four(pointer: u32) -> Few
     )
 }
 
+/// The two bytes of an exception.
+fn two_of(bytes: [u8; 2]) -> Few
+    ensures { bytes_of result ≡ bytes }
+{
+    let [lead, trail] = bytes;
+    Few::Two(lead, trail)
+}
+
 /// Whether the encoding is GBK, which the gb18030 encoder's flag "is GBK" says.
 pub(crate) fn is_gbk(encoding: Encoding) -> bool
     ensures { result ≡ is_gbk encoding }
@@ -41,9 +49,11 @@ pub(crate) fn is_gbk(encoding: Encoding) -> bool
     matches!(encoding, Encoding::Gbk)
 }
 
-/// The encoder of gb18030 and GBK, which borrows its indexes. Contracts see these and its flag.
+/// The encoder of gb18030 and GBK, which borrows its exceptions, from all the loaded files, and its
+/// indexes. Contracts see these and its flag.
 #[derive(Drop)]
 pub(crate) struct Gb18030Encoder<'i> {
+    files: &'i Indexes,
     index: &'i Index,
     ranges: &'i Index,
     is_gbk: bool,
@@ -56,19 +66,25 @@ impl<'i> Model for Gb18030Encoder<'i> {
 
     ghost Value = { Gb18030 };
 
-    ghost view = { λ e. record { gbk = e.is_gbk; index = e.index.now; ranges = e.ranges.now } };
+    ghost view = { λ e. record { gbk = e.is_gbk; exceptions = e.files.now.exceptions; index = e.index.now; ranges = e.ranges.now } };
 
     ghost invariant = { λ e. (pointer_limit e.index.now.kind ≡ 23939) × (pointer_limit e.ranges.now.kind ≡ 1303111) };
 }
 
 impl<'i> Gb18030Encoder<'i> {
-    /// The encoder over its indexes, with the Standard's flag "is GBK".
-    pub(crate) fn new(is_gbk: bool, index: &'i Index, ranges: &'i Index) -> Gb18030Encoder<'i>
+    /// The encoder over its exceptions and indexes, with the Standard's flag "is GBK".
+    pub(crate) fn new(
+        is_gbk: bool,
+        files: &'i Indexes,
+        index: &'i Index,
+        ranges: &'i Index,
+    ) -> Gb18030Encoder<'i>
         requires index { pointer_limit index.now.kind ≡ 23939 }
         requires ranges { pointer_limit ranges.now.kind ≡ 1303111 }
-        ensures { result ≡ record { gbk = is_gbk; index = index.now; ranges = ranges.now } }
+        ensures { result ≡ record { gbk = is_gbk; exceptions = files.now.exceptions; index = index.now; ranges = ranges.now } }
     {
         Gb18030Encoder {
+            files,
             index,
             ranges,
             is_gbk,
@@ -79,7 +95,7 @@ impl<'i> Gb18030Encoder<'i> {
 impl<'i> Stateless for Gb18030Encoder<'i> {
     ghost use Rattle.encoders.specs.StatelessLaws.{by_ascii_or};
 
-    ghost encodes = { λ e. gb18030_bytes e.gbk e.index e.ranges };
+    ghost encodes = { λ e. gb18030_bytes e.gbk e.exceptions e.index e.ranges };
 
     #[inline(always)]
     fn bytes(&self, code_point: char) -> Option<Few> {
@@ -88,6 +104,10 @@ impl<'i> Stateless for Gb18030Encoder<'i> {
             0xE5E5 => return None,
             0x20AC if self.is_gbk => return Some(Few::One(0x80)),
             _ => {}
+        }
+        let exception = self.files.exception_of(Scalar::from(code_point));
+        if let Some(bytes) = exception {
+            return Some(two_of(bytes));
         }
         if let Some(pointer) = self.index.pointer(Scalar::from(code_point)) {
             return Some(gb18030_pair(pointer));

@@ -1,8 +1,9 @@
 //! Why files can't be read or parsed.
 ghost use Rattle.std.specs.Prelude.{◌≡◌};
-ghost use Rattle.index_files.specs.Names.{cause_name};
+ghost use Rattle.index_files.specs.Ending.{of_exceptions, of_index};
+ghost use Rattle.index_files.specs.Names.{cause_name, exception_cause_name, index_cause_name};
 
-use index_loader::{IndexCause, IndexFault};
+use index_loader::{ExceptionCause, ExceptionFault, IndexCause, IndexFault};
 use std::alloc::AllocError;
 use std::fmt;
 use std::io::{self, ErrorKind};
@@ -17,8 +18,8 @@ pub enum Unread {
 }
 
 impl Unread {
-    /// The same fault, as that of a folder's index file of this name.
-    pub(crate) fn of_index_file(self, name: &'static str) -> FolderFault {
+    /// The same fault, as that of a folder's file of this name.
+    pub(crate) fn of_file(self, name: &'static str) -> FolderFault {
         match self {
             Unread::Failed => FolderFault::CannotRead(name),
             Unread::OutOfMemory => FolderFault::OutOfMemory,
@@ -41,18 +42,40 @@ impl From<io::Error> for Unread {
     }
 }
 
-/// The first fault of an index file. Displayed as a line of text without its line end.
+/// Why a line of a folder's file, or the file as a whole, is refused.
+#[derive(Clone, Copy, PartialEq, Eq, Debug)]
+pub enum FileCause {
+    /// Of an index file.
+    Index(IndexCause),
+    /// Of the exceptions of the gb18030 encoder.
+    Exceptions(ExceptionCause),
+}
+
+/// The first fault of an index file, or of the exceptions. Displayed as a line of text without its
+/// line end.
 #[derive(Clone, Copy, PartialEq, Eq, Debug)]
 pub struct IndexFileFault {
     /// The file's name in the folder.
     pub name: &'static str,
-    /// The file's first fault.
-    pub fault: IndexFault,
+    /// The number of the faulty line, from 1; 0 for the file as a whole.
+    pub line: u64,
+    /// Why it is refused.
+    pub cause: FileCause,
 }
 
 /// The cause's name in texts.
-fn cause_name(cause: IndexCause) -> &'static str
+fn cause_name(cause: FileCause) -> &'static str
     ensures { result.now ≡ cause_name cause }
+{
+    match cause {
+        FileCause::Index(cause) => index_cause_name(cause),
+        FileCause::Exceptions(cause) => exception_cause_name(cause),
+    }
+}
+
+/// That of an index file's cause.
+fn index_cause_name(cause: IndexCause) -> &'static str
+    ensures { result.now ≡ index_cause_name cause }
 {
     match cause {
         IndexCause::BadPointer => "BadPointer",
@@ -64,16 +87,28 @@ fn cause_name(cause: IndexCause) -> &'static str
     }
 }
 
+/// That of a cause of the exceptions.
+fn exception_cause_name(cause: ExceptionCause) -> &'static str
+    ensures { result.now ≡ exception_cause_name cause }
+{
+    match cause {
+        ExceptionCause::BadCodePoint => "BadCodePoint",
+        ExceptionCause::BadBytes => "BadBytes",
+        ExceptionCause::DuplicateCodePoint => "DuplicateCodePoint",
+        ExceptionCause::OutOfMemory => "OutOfMemory",
+    }
+}
+
 impl fmt::Display for IndexFileFault {
     fn fmt<W: fmt::Write>(&self, f: &mut fmt::Formatter<W>) -> fmt::Result {
         let name = self.name;
-        let line = self.fault.line;
-        let cause = cause_name(self.fault.cause);
+        let line = self.line;
+        let cause = cause_name(self.cause);
         write!(f, "index file {name}, line {line}: {cause}")
     }
 }
 
-/// Why the index files of a folder can't be loaded.
+/// Why the index files of a folder, or the exceptions beside them, can't be loaded.
 #[derive(Clone, Copy, PartialEq, Eq, Debug)]
 pub enum FolderFault {
     /// The file of this name exists, but can't be read.
@@ -82,4 +117,34 @@ pub enum FolderFault {
     Index(IndexFileFault),
     /// Memory ran out.
     OutOfMemory,
+}
+
+impl FolderFault {
+    /// The fault of the index file of this name.
+    pub(crate) fn of_index(name: &'static str, fault: IndexFault) -> FolderFault
+        ensures { result ≡ of_index name.entry fault.line fault.cause }
+    {
+        match fault.cause {
+            IndexCause::OutOfMemory => FolderFault::OutOfMemory,
+            cause => FolderFault::Index(IndexFileFault {
+                name,
+                line: fault.line,
+                cause: FileCause::Index(cause),
+            }),
+        }
+    }
+
+    /// The fault of the file of exceptions, which has this name.
+    pub(crate) fn of_exceptions(name: &'static str, fault: ExceptionFault) -> FolderFault
+        ensures { result ≡ of_exceptions name.entry fault.line fault.cause }
+    {
+        match fault.cause {
+            ExceptionCause::OutOfMemory => FolderFault::OutOfMemory,
+            cause => FolderFault::Index(IndexFileFault {
+                name,
+                line: fault.line,
+                cause: FileCause::Exceptions(cause),
+            }),
+        }
+    }
 }

@@ -1,20 +1,21 @@
-//! The index files of a folder.
+//! The index files of a folder, and the exceptions beside them.
 ghost use Rattle.std.specs.Prelude.{IsTrue};
 ghost use Rattle.std.specs.List.{list_all};
 ghost use Rattle.index_loader.specs.Kinds.{has_files_of};
 
-use crate::fault::{FolderFault, IndexFileFault};
+use crate::fault::FolderFault;
 use crate::file::put_bytes;
-use index_loader::{INDEX_FILES, Index, IndexCause, IndexKind, Indexes};
+use index_loader::{EXCEPTIONS_FILE, Exceptions, INDEX_FILES, Index, IndexKind, Indexes};
 use std::alloc::Global;
 use std::path::Path;
 use std::rt::Files;
 
-/// The index files of a folder, each read once, in the order of the list. An absent file is left
-/// out; an absent folder has none.
+/// The index files of a folder, each read once, in the order of the list, and behind them the
+/// exceptions of the gb18030 encoder. An absent file is left out; an absent folder has none.
 pub fn indexes_in<T: Files>(rt: &T, alloc: Global, folder: &str) -> Result<Indexes, FolderFault> {
     let mut indexes = Indexes::new();
     put_all(rt, alloc, folder, &INDEX_FILES, &mut indexes)?;
+    put_exceptions(rt, alloc, folder, &mut indexes)?;
     Ok(indexes)
 }
 
@@ -47,22 +48,43 @@ fn put_index<T: Files>(
 ) -> Result<(), FolderFault>
     requires { IsTrue (has_files_of kind) }
 {
+    if put_file(rt, alloc, folder, name, bytes)? {
+        match Index::parse(alloc, kind, bytes) {
+            Ok(index) => indexes.put(index),
+            Err(fault) => return Err(FolderFault::of_index(name, fault)),
+        }
+    }
+    Ok(())
+}
+
+/// Adds the exceptions, if their file exists.
+fn put_exceptions<T: Files>(
+    rt: &T,
+    alloc: Global,
+    folder: &str,
+    indexes: &mut Indexes,
+) -> Result<(), FolderFault> {
+    let mut bytes = Vec::new(alloc);
+    if put_file(rt, alloc, folder, EXCEPTIONS_FILE, &mut bytes)? {
+        match Exceptions::parse(alloc, &bytes) {
+            Ok(exceptions) => indexes.put_exceptions(exceptions),
+            Err(fault) => return Err(FolderFault::of_exceptions(EXCEPTIONS_FILE, fault)),
+        }
+    }
+    Ok(())
+}
+
+/// Puts the bytes of the folder's file of this name in the place of those that are there, and
+/// returns whether there is such a file.
+fn put_file<T: Files>(
+    rt: &T,
+    alloc: Global,
+    folder: &str,
+    name: &'static str,
+    bytes: &mut Vec<u8>,
+) -> Result<bool, FolderFault> {
     let Ok(path) = Path::new(folder).join(alloc, name) else {
         return Err(FolderFault::OutOfMemory);
     };
-    match put_bytes(rt, path.as_path(), bytes) {
-        Ok(true) => {}
-        Ok(false) => return Ok(()),
-        Err(unread) => return Err(unread.of_index_file(name)),
-    }
-    match Index::parse(alloc, kind, bytes) {
-        Ok(index) => {
-            indexes.put(index);
-            Ok(())
-        }
-        Err(fault) => Err(match fault.cause {
-            IndexCause::OutOfMemory => FolderFault::OutOfMemory,
-            _ => FolderFault::Index(IndexFileFault { name, fault }),
-        }),
-    }
+    put_bytes(rt, path.as_path(), bytes).map_err(|unread| unread.of_file(name))
 }

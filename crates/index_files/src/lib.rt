@@ -8,6 +8,6 @@ mod file;
 mod folder;
 
 pub use failure::Failure;
-pub use fault::{FolderFault, IndexFileFault, Unread};
+pub use fault::{FileCause, FolderFault, IndexFileFault, Unread};
 pub use file::bytes_of;
 pub use folder::indexes_in;

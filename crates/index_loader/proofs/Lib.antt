@@ -1,5 +1,6 @@
 pub mod ByCodePointLemmas
 pub mod Digits
+pub mod ExceptionLemmas
 pub mod Exclusion
 pub mod Found
 pub mod FileLawLemmas
@@ -7,6 +8,7 @@ pub mod IndexLemmas
 pub mod KindPlaces
 pub mod LineLemmas
 pub mod Members
+pub mod NumberedLemmas
 pub mod Places
 pub mod PlainLemmas
 pub mod RowLemmas

@@ -2,6 +2,7 @@
 use Rattle.std.proofs.Common.{◌≡◌, ℕ, ◌+◌, ◌<◌, ◌&&◌, not, true, false, List, [], ◌∷◌, length, get_or, set, Option, Some, None, is_some, Ok, Err, Result, refl, sym, ap, ◌∙◌, nat_le, arith, if◌then◌else◌}
 use Rattle.std.proofs.lemmas.Bool.Decides.{nat_tests}
 use Rattle.std.proofs.lemmas.Bool.{false≢true, leb-true}
+use Rattle.index_loader.proofs.NumberedLemmas.{faulty, stays}
 use Rattle.index_loader.proofs.Places.{code_point-in_table, inserted-in_table}
 use Rattle.index_loader.specs.declared.fault.IndexCause.{IndexCause}
 use Rattle.index_loader.specs.declared.fault.IndexCause.TheVariants.{BadPointer, BadCodePoint, PointerTooLarge, BadRanges, DuplicatePointer, OutOfMemory}
@@ -19,15 +20,14 @@ none_from_is_some (Some n) no' = absurd (false≢true (sym no'))
 
 -- a fault stays
 pub fault-stays : (kind : IndexKind) (fault : IndexFault) (number : ℕ) (lines : List (List ℕ)) → pairs_from kind (Err fault) number lines ≡ Err fault
-fault-stays kind fault number [] = refl
-fault-stays kind fault number (line ∷ lines) = fault-stays kind fault (number + 1) lines
+fault-stays kind fault number lines = stays (with_line kind) fault number lines
 
 -- the last lines, behind a faulty one
-pub lines-faulty : (kind : IndexKind) (above : Pairs) (number : ℕ) (line : List ℕ) (lines : List (List ℕ)) (fault : IndexFault) → with_line kind (Ok above) (number, line) ≡ Err fault → pairs_from kind (Ok above) number (line ∷ lines) ≡ Err fault
-lines-faulty kind above number line lines fault is = ap (λ parsed. pairs_from kind parsed (number + 1) lines) is ∙ fault-stays kind fault (number + 1) lines
+pub lines-faulty : (kind : IndexKind) (above : Pairs) (number : ℕ) (line : List ℕ) (lines : List (List ℕ)) (fault : IndexFault) → with_line kind number above line ≡ Err fault → pairs_from kind (Ok above) number (line ∷ lines) ≡ Err fault
+lines-faulty kind above number line lines fault is = faulty (with_line kind) above number line lines fault is
 
 -- one line
-pub lines-more : (kind : IndexKind) (above : Pairs) (number : ℕ) (line : List ℕ) (lines : List (List ℕ)) (pairs : Pairs) → with_line kind (Ok above) (number, line) ≡ Ok pairs → pairs_from kind (Ok above) number (line ∷ lines) ≡ pairs_from kind (Ok pairs) (number + 1) lines
+pub lines-more : (kind : IndexKind) (above : Pairs) (number : ℕ) (line : List ℕ) (lines : List (List ℕ)) (pairs : Pairs) → with_line kind number above line ≡ Ok pairs → pairs_from kind (Ok above) number (line ∷ lines) ≡ pairs_from kind (Ok pairs) (number + 1) lines
 lines-more kind above number line lines pairs is = ap (λ parsed. pairs_from kind parsed (number + 1) lines) is
 
 -- a pair whose pointer stands above

@@ -4,6 +4,7 @@ use Rattle.std.proofs.lemmas.Bool.{cases_eq, cases_lt}
 use Rattle.std.proofs.lemmas.List.{get_or-map, get_or-set_same, get_or-set_other, get_or_past, length-map, map-set, set_past}
 use Rattle.std.specs.Option.{option_map}
 use Rattle.index_loader.specs.declared.kind.IndexKind.{IndexKind}
+use Rattle.index_loader.specs.Exceptions.{ExceptionTable}
 use Rattle.index_loader.specs.Files.{index_of}
 use Rattle.index_loader.specs.Index.{Loaded}
 use Rattle.index_loader.specs.Kinds.{home_of, slot_of}
@@ -42,21 +43,21 @@ pub pairs-put : (slots : List (Option Loaded)) (slot : ℕ) (index : Loaded) →
 pairs-put slots slot index = map-set (λ slot. option_map (λ index. index.pairs) slot) slots slot (Some index)
 
 -- the index at the place of a kind
-index-there : (slots : List (Option Loaded)) (kind : IndexKind) (slot : ℕ) (index : Loaded) → IsKept slots → slot_of kind ≡ Some slot → get_or slots slot None ≡ Some index → index_of (record { slots = pairs_kept slots }) kind ≡ Some index
-index-there slots kind slot index kept place is =
+index-there : (exceptions : ExceptionTable) (slots : List (Option Loaded)) (kind : IndexKind) (slot : ℕ) (index : Loaded) → IsKept slots → slot_of kind ≡ Some slot → get_or slots slot None ≡ Some index → index_of (record { slots = pairs_kept slots; exceptions = exceptions }) kind ≡ Some index
+index-there exceptions slots kind slot index kept place is =
     let home : index.kind ≡ home_of kind = kept slot index is ∙ kind-at kind slot place in
     let pairs : get_or (pairs_kept slots) slot None ≡ Some index.pairs = pairs-at slots slot ∙ ap (λ o. option_map (λ index. index.pairs) o) is in
     rw (place, pairs, ← home) refl
 
-index-absent : (slots : List (Option Loaded)) (kind : IndexKind) (slot : ℕ) → slot_of kind ≡ Some slot → get_or slots slot None ≡ None → index_of (record { slots = pairs_kept slots }) kind ≡ None
-index-absent slots kind slot place is =
+index-absent : (exceptions : ExceptionTable) (slots : List (Option Loaded)) (kind : IndexKind) (slot : ℕ) → slot_of kind ≡ Some slot → get_or slots slot None ≡ None → index_of (record { slots = pairs_kept slots; exceptions = exceptions }) kind ≡ None
+index-absent exceptions slots kind slot place is =
     let pairs : get_or (pairs_kept slots) slot None ≡ None = pairs-at slots slot ∙ ap (λ o. option_map (λ index. index.pairs) o) is in
     rw (place, pairs) refl
 
 -- what a look at a place finds
-pub index-at : (slots : List (Option Loaded)) (kind : IndexKind) (slot : ℕ) (found : Option (Bor Loaded)) → IsKept slots → slot_of kind ≡ Some slot → option_copied found ≡ get_or slots slot None → MatchOption found (index_of (record { slots = pairs_kept slots }) kind ≡ None) (λ index. index_of (record { slots = pairs_kept slots }) kind ≡ Some index.now)
-index-at slots kind slot None kept place is = index-absent slots kind slot place (sym is)
-index-at slots kind slot (Some index) kept place is = index-there slots kind slot index.now kept place (sym is)
+pub index-at : (exceptions : ExceptionTable) (slots : List (Option Loaded)) (kind : IndexKind) (slot : ℕ) (found : Option (Bor Loaded)) → IsKept slots → slot_of kind ≡ Some slot → option_copied found ≡ get_or slots slot None → MatchOption found (index_of (record { slots = pairs_kept slots; exceptions = exceptions }) kind ≡ None) (λ index. index_of (record { slots = pairs_kept slots; exceptions = exceptions }) kind ≡ Some index.now)
+index-at exceptions slots kind slot None kept place is = index-absent exceptions slots kind slot place (sym is)
+index-at exceptions slots kind slot (Some index) kept place is = index-there exceptions slots kind slot index.now kept place (sym is)
 
 -- an empty place
 pub none-at : (n k : ℕ) → get_or {A = Option Loaded} (replicate n None) k None ≡ None

@@ -1,6 +1,5 @@
 -- What an index file holds (Encoding Standard, "Indexes").
-use Rattle.std.specs.Prelude.{◌≡◌, ℕ, ◌==◌, Bool, false, not, ◌&&◌, List, [], fold, Option, Some, None, is_some, Result, Ok, Err, if◌then◌else◌, ⊤}
-use Rattle.std.specs.List.{enumerate_from}
+use Rattle.std.specs.Prelude.{◌≡◌, ℕ, ◌==◌, Bool, false, not, ◌&&◌, List, [], Option, Some, None, is_some, Result, Ok, Err, if◌then◌else◌, ⊤}
 use Rattle.index_loader.specs.declared.fault.IndexCause.{IndexCause}
 use Rattle.index_loader.specs.declared.fault.IndexCause.TheVariants.{BadRanges, DuplicatePointer, OutOfMemory}
 use Rattle.index_loader.specs.declared.fault.IndexFault.{IndexFault}
@@ -8,6 +7,7 @@ use Rattle.index_loader.specs.declared.kind.IndexKind.{IndexKind}
 use Rattle.index_loader.specs.Index.{Loaded, is_ranges}
 use Rattle.index_loader.specs.Kinds.{home_of}
 use Rattle.index_loader.specs.Lines.{lines_of, pair_on}
+use Rattle.index_loader.specs.Numbered.{read_from}
 use Rattle.index_loader.specs.Pairs.{Pairs, code_point_at, inserted}
 
 -- a pair beside those of the lines above, unless one of these has its pointer
@@ -21,14 +21,13 @@ pairs_with number above (Err cause) = Err (record { line = number; cause = cause
 pairs_with number above (Ok None) = Ok above
 pairs_with number above (Ok (Some pair)) = pairs_beside number above pair
 
--- one more line; the fault of a line above stays
-abbrev pub with_line : IndexKind → Result Pairs IndexFault → ℕ × List ℕ → Result Pairs IndexFault
-with_line kind (Err fault) line = Err fault
-with_line kind (Ok above) line = pairs_with line.0 above (pair_on kind line.1)
+-- the pairs of the lines above and of one more
+abbrev pub with_line : IndexKind → ℕ → Pairs → List ℕ → Result Pairs IndexFault
+with_line kind number above line = pairs_with number above (pair_on kind line)
 
 -- the pairs of the lines above and of these numbered ones, or the fault of the first faulty line
 abbrev pub pairs_from : IndexKind → Result Pairs IndexFault → ℕ → List (List ℕ) → Result Pairs IndexFault
-pairs_from kind above number lines = fold (with_line kind) above (enumerate_from number lines)
+pairs_from kind above number lines = read_from (with_line kind) above number lines
 
 -- there is a number, and it is this one
 abbrev pub is_number : Option ℕ → ℕ → Bool

@@ -1,22 +1,24 @@
 -- The loaded index files and which of them an encoding needs (Encoding Standard, "Indexes").
-use Rattle.std.specs.Prelude.{Bool, List, replicate, set, Option, Some, None, is_some, option_and_then, option_map, slice_index_or}
+use Rattle.std.specs.Prelude.{Bool, List, [], replicate, set, Option, Some, None, is_some, option_and_then, option_map, slice_index_or}
 use Rattle.std.specs.List.{list_all}
 use Rattle.std.specs.Option.{option_map_or}
 use Rattle.enc_names.specs.declared.encoding.Encoding.{Encoding}
 use Rattle.index_loader.specs.declared.kind.IndexKind.{IndexKind}
 use Rattle.index_loader.specs.declared.family.Family.{Family}
+use Rattle.index_loader.specs.Exceptions.{ExceptionTable}
 use Rattle.index_loader.specs.Families.{family_map, family_of, needed}
 use Rattle.index_loader.specs.Index.{Loaded}
 use Rattle.index_loader.specs.Kinds.{home_of, slot_of}
 pub use Rattle.index_loader.specs.Pairs.{Pairs}
 
--- the loaded files: at each kind's place the pairs of the file of that kind, if it is there
+-- the loaded files: at each kind's place the pairs of the file of that kind, if it is there, and the exceptions of the gb18030 encoder, none where their file isn't there
 pub record Files : Type 0 where
   pub slots : List (Option Pairs)
+  pub exceptions : ExceptionTable
 
 -- no file at all
 abbrev pub no_files : Files
-no_files = record { slots = replicate 34 None }
+no_files = record { slots = replicate 34 None; exceptions = [] }
 
 -- the pairs of the file of a kind
 abbrev pub pairs_of : Files → IndexKind → Option Pairs
@@ -28,7 +30,11 @@ index_of files kind = option_map (λ pairs. record { kind = home_of kind; pairs 
 
 -- the files with this index in place of that of its kind
 abbrev pub with_index : Files → Loaded → Files
-with_index files index = option_map_or (λ slot. record { slots = set files.slots slot (Some index.pairs) }) (slot_of index.kind) files
+with_index files index = option_map_or (λ slot. record { slots = set files.slots slot (Some index.pairs); exceptions = files.exceptions }) (slot_of index.kind) files
+
+-- the files with these exceptions in place of those that were there
+abbrev pub with_exceptions : Files → ExceptionTable → Files
+with_exceptions files exceptions = record { slots = files.slots; exceptions = exceptions }
 
 -- the indexes that an encoding needs, each where its file is there
 abbrev pub indexes_of : Files → Encoding → Family (Option Loaded)

@@ -1,3 +1,4 @@
+pub mod Exceptions
 pub mod Families
 pub mod File
 pub mod FileLaws
@@ -7,6 +8,7 @@ pub mod Index
 pub mod Inside
 pub mod Kinds
 pub mod Lines
+pub mod Numbered
 pub mod Pairs
 pub mod Plain
 pub mod Ranges

@@ -88,9 +88,13 @@ abbrev pub pair_in : IndexKind → List (List ℕ) → Result (Option (ℕ × �
 pair_in kind [] = Err BadPointer
 pair_in kind (field ∷ fields) = pair_behind kind (number_in 10 (stripped field)) fields
 
--- what a line without its CR holds
+-- what a line without its CR holds, by what its fields do
+abbrev pub unless_skipped : {H C : Type 0} → (List (List ℕ) → Result (Option H) C) → List ℕ → Result (Option H) C
+unless_skipped by_fields text = if is_skipped text then Ok None else by_fields (fields_of text)
+
+-- the pair of a line without its CR
 abbrev pub pair_of_text : IndexKind → List ℕ → Result (Option (ℕ × ℕ)) IndexCause
-pair_of_text kind text = if is_skipped text then Ok None else pair_in kind (fields_of text)
+pair_of_text kind text = unless_skipped (pair_in kind) text
 
 -- what a line holds: nothing, a pair, or the first cause why it is refused
 abbrev pub pair_on : IndexKind → List ℕ → Result (Option (ℕ × ℕ)) IndexCause

@@ -1,4 +1,4 @@
-//! Why an index file could not be read.
+//! Why an index file, or the file of exceptions, could not be read.
 ghost use Rattle.std.specs.Prelude.{◌≡◌};
 
 use std::alloc::AllocError;
@@ -39,6 +39,42 @@ impl From<AllocError> for IndexFault {
         IndexFault {
             line: 0,
             cause: IndexCause::OutOfMemory,
+        }
+    }
+}
+
+/// Why a line of the exceptions, or their file as a whole, is refused. Of several causes on a line
+/// the first in this order is named.
+#[derive(Clone, Copy, PartialEq, Eq, Debug)]
+pub enum ExceptionCause {
+    /// The first field isn't `0x` and a scalar value in hexadecimal digits.
+    BadCodePoint,
+    /// The second field is absent, or isn't four hexadecimal digits, those of two bytes of gb18030.
+    BadBytes,
+    /// A line above has the same code point.
+    DuplicateCodePoint,
+    /// A growth of memory was refused.
+    OutOfMemory,
+}
+
+/// The first fault of a file of exceptions.
+#[derive(Clone, Copy, PartialEq, Eq, Debug)]
+pub struct ExceptionFault {
+    /// The number of the faulty line, from 1; 0 for memory.
+    pub line: u64,
+    /// Why it is refused.
+    pub cause: ExceptionCause,
+}
+
+impl From<AllocError> for ExceptionFault {
+    ghost use Rattle.index_loader.specs.declared.fault.ExceptionCause.TheVariants.{OutOfMemory};
+
+    ghost from_gives = { λ _ fault. fault ≡ record { line = 0; cause = OutOfMemory } };
+
+    fn from(_: AllocError) -> ExceptionFault {
+        ExceptionFault {
+            line: 0,
+            cause: ExceptionCause::OutOfMemory,
         }
     }
 }

@@ -44,3 +44,6 @@ pub const INDEX_FILES: [(IndexKind, &str); 34] = [
     (IndexKind::Gb18030, "index-gb18030.txt"),
     (IndexKind::Gb18030Ranges, "index-gb18030-ranges.txt"),
 ];
+
+/// The name that the file of the exceptions has in a folder (see `Exceptions`).
+pub const EXCEPTIONS_FILE: &str = "gb18030-exceptions.txt";

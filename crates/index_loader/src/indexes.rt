@@ -1,19 +1,23 @@
 //! The loaded index files.
 ghost use Rattle.std.specs.Prelude.{◌≡◌, IfSome, MatchOption, None, Some, is_some};
+ghost use Rattle.index_loader.specs.Exceptions.{exception_of};
 ghost use Rattle.index_loader.specs.Families.{family_map};
-ghost use Rattle.index_loader.specs.Files.{has_files, index_of, indexes_of, no_files, with_index};
+ghost use Rattle.index_loader.specs.Files.{has_files, index_of, indexes_of, no_files, with_exceptions, with_index};
 
+use crate::exceptions::Exceptions;
 use crate::family::Family;
 use crate::index::Index;
 use crate::kind::IndexKind;
-use enc_names::Encoding;
+use enc_names::{Encoding, Scalar};
 use std::marker::Model;
 
-/// The loaded index files, at most one of each kind.
+/// The loaded index files, at most one of each kind, and the exceptions of the gb18030 encoder.
 #[derive(Drop)]
 pub struct Indexes {
     /// The index of each kind, at the place of the kind.
     slots: [Option<Index>; 34],
+    /// The exceptions of the gb18030 encoder, if their file is there.
+    exceptions: Option<Exceptions>,
 }
 
 impl Model for Indexes {
@@ -21,9 +25,10 @@ impl Model for Indexes {
 
     ghost Value = { Files };
 
+    ghost use Rattle.std.specs.Prelude.{[], unwrap_or};
     ghost use Rattle.index_loader.specs.Slots.{IsKept, pairs_kept};
 
-    ghost view = { λ s. record { slots = pairs_kept s.slots } };
+    ghost view = { λ s. record { slots = pairs_kept s.slots; exceptions = unwrap_or s.exceptions [] } };
 
     ghost invariant = { λ s. IsKept s.slots };
 }
@@ -39,6 +44,7 @@ impl Indexes {
                 None, None, None, None, None, None, None, None, None, None, None, None, None, None,
                 None, None, None, None, None, None,
             ],
+            exceptions: None,
         }
     }
 
@@ -50,6 +56,21 @@ impl Indexes {
             return;
         };
         self.slots[slot] = Some(index);
+    }
+
+    /// Puts the exceptions of the gb18030 encoder in place of those that are there.
+    pub fn put_exceptions(&mut self, exceptions: Exceptions)
+        ensures { self.new ≡ with_exceptions self.old exceptions }
+    {
+        self.exceptions = Some(exceptions);
+    }
+
+    /// The bytes of a code point that is an exception of the gb18030 encoder, where their file is there.
+    /// Takes no memory.
+    pub fn exception_of(&self, code_point: Scalar) -> Option<[u8; 2]>
+        ensures { result ≡ exception_of self.now.exceptions code_point }
+    {
+        self.exceptions.as_ref()?.bytes_of(code_point)
     }
 
     /// The index of this kind. A kind that has no files, as that of an encoding whose index isn't
@@ -92,7 +113,7 @@ impl Indexes {
         })
     }
 
-    /// Whether all files that the encoding needs are there.
+    /// Whether all files that the encoding needs are there. The exceptions aren't needed.
     pub fn has(&self, encoding: Encoding) -> bool
         ensures { result ≡ has_files self.now encoding }
     {

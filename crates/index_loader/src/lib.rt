@@ -1,7 +1,10 @@
-//! Index files of the Encoding Standard: how they are named and parsed, and look-ups in them.
+//! Index files of the Encoding Standard and the exceptions of the gb18030 encoder: how their files
+//! are named and parsed, and look-ups in them.
 #![tactic(auto)]
 
 mod by_code_point;
+mod exception_line;
+mod exceptions;
 mod family;
 mod fault;
 mod field;
@@ -17,9 +20,10 @@ mod reading;
 mod rows;
 mod table;
 
+pub use exceptions::Exceptions;
 pub use family::Family;
-pub use fault::{IndexCause, IndexFault};
-pub use files::INDEX_FILES;
+pub use fault::{ExceptionCause, ExceptionFault, IndexCause, IndexFault};
+pub use files::{EXCEPTIONS_FILE, INDEX_FILES};
 pub use index::Index;
 pub use indexes::Indexes;
 pub use kind::IndexKind;

@@ -32,7 +32,7 @@ pub(crate) fn split_at_byte(text: &[u8], byte: u8) -> (&[u8], Option<&[u8]>)
 }
 
 /// The line without the CR at its end, if it has one.
-fn without_cr(line: &[u8]) -> &[u8]
+pub(crate) fn without_cr(line: &[u8]) -> &[u8]
     ensures { result.now ≡ strip_carriage_return line.now }
 {
     match line {
@@ -42,7 +42,7 @@ fn without_cr(line: &[u8]) -> &[u8]
 }
 
 /// Whether a line holds nothing, being empty or a comment.
-fn is_skipped(line: &[u8]) -> bool
+pub(crate) fn is_skipped(line: &[u8]) -> bool
     ensures { result ≡ is_skipped line.now }
 {
     matches!(line, [] | [b'#', ..])

@@ -51,8 +51,8 @@ fn put_pair(
 fn put_line(table: &mut Table, kind: IndexKind, number: u64, line: &[u8]) -> Result<(), IndexFault>
     requires { length table.old ≡ table_len kind }
     ensures len { length table.new ≡ length table.old }
-    ensures ok { OnOk result (with_line kind (Ok (pairs_in table.old)) (number, line.now) ≡ Ok (pairs_in table.new)) }
-    ensures err { IfErr result (λ fault. with_line kind (Ok (pairs_in table.old)) (number, line.now) ≡ Err fault) }
+    ensures ok { OnOk result (with_line kind number (pairs_in table.old) line.now ≡ Ok (pairs_in table.new)) }
+    ensures err { IfErr result (λ fault. with_line kind number (pairs_in table.old) line.now ≡ Err fault) }
     ensures cause { IfErr result (λ fault. IsLineCause fault.cause) }
 {
     match pair_on(kind, line) {

@@ -48,16 +48,16 @@ fn big5_pointers()
 
 /// By the index, and by the ranges; U+E5E5 has no bytes.
 fn gb18030_encoder()
-    ensures pair { gb18030_bytes false gb18030 gb18030_ranges 0x554A ≡ Some (0xB0 ∷ 0xA1 ∷ []) }
-    ensures euro { gb18030_bytes false gb18030 gb18030_ranges 0x20AC ≡ Some (0x81 ∷ 0x36 ∷ 0xC4 ∷ 0x36 ∷ []) }
-    ensures private_use { gb18030_bytes false gb18030 gb18030_ranges 0xE7C7 ≡ Some (0x81 ∷ 0x35 ∷ 0xF4 ∷ 0x37 ∷ []) }
-    ensures none { gb18030_bytes false gb18030 gb18030_ranges 0xE5E5 ≡ None }
+    ensures pair { gb18030_bytes false [] gb18030 gb18030_ranges 0x554A ≡ Some (0xB0 ∷ 0xA1 ∷ []) }
+    ensures euro { gb18030_bytes false [] gb18030 gb18030_ranges 0x20AC ≡ Some (0x81 ∷ 0x36 ∷ 0xC4 ∷ 0x36 ∷ []) }
+    ensures private_use { gb18030_bytes false [] gb18030 gb18030_ranges 0xE7C7 ≡ Some (0x81 ∷ 0x35 ∷ 0xF4 ∷ 0x37 ∷ []) }
+    ensures none { gb18030_bytes false [] gb18030 gb18030_ranges 0xE5E5 ≡ None }
 {}
 
 /// GBK has a byte for U+20AC and no four bytes.
 fn gbk_encoder()
-    ensures euro { gb18030_bytes true gb18030 gb18030_ranges 0x20AC ≡ Some (0x80 ∷ []) }
-    ensures html { encoded_from (stateless (gb18030_bytes true gb18030 gb18030_ranges)) true 0 tt (0xE7C7 ∷ []) ≡ Ok (record { bytes = private_use_reference; state = tt }) }
+    ensures euro { gb18030_bytes true [] gb18030 gb18030_ranges 0x20AC ≡ Some (0x80 ∷ []) }
+    ensures html { encoded_from (stateless (gb18030_bytes true [] gb18030 gb18030_ranges)) true 0 tt (0xE7C7 ∷ []) ≡ Ok (record { bytes = private_use_reference; state = tt }) }
 {}
 
 /// The ends of the private use area of x-user-defined, and a surrogate pair.

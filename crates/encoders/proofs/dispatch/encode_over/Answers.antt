@@ -50,6 +50,6 @@ returns-in-SingleByte c =
 pub returns-in-Gb18030 : goal.returns-in-Gb18030
 returns-in-Gb18030 c =
     rw c.in-Gb18030.is
-    (made_over (λ (e : Gb18030). gb18030_bytes e.gbk e.index e.ranges) c.new-in-Gb18030.result
-    (record { gbk = c.args.is_gbk; index = c.in-Gb18030.index.now; ranges = c.in-Gb18030.ranges.now })
+    (made_over (λ (e : Gb18030). gb18030_bytes e.gbk e.exceptions e.index e.ranges) c.new-in-Gb18030.result
+    (record { gbk = c.args.is_gbk; exceptions = c.args.indexes.now.exceptions; index = c.in-Gb18030.index.now; ranges = c.in-Gb18030.ranges.now })
     (is_html c.args.mode) (chars c.args.text.now) c.encode_bytes-in-Gb18030.result c.new-in-Gb18030.ensures c.encode_bytes-in-Gb18030.ensures)

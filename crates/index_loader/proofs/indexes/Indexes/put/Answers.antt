@@ -1,4 +1,4 @@
-use Rattle.std.proofs.Common.{◌≡◌, ◌∙◌, Some, ap, sym}
+use Rattle.std.proofs.Common.{◌≡◌, ◌∙◌, Some, [], ap, sym, unwrap_or}
 use Rattle.index_loader.proofs.SlotLemmas.{kept-put, pairs-put}
 use Rattle.index_loader.specs.Files.{Files}
 use Rattle.index_loader.specs.Kinds.{home_of, slot_of}
@@ -13,4 +13,4 @@ invariant_of-self c =
 pub returns : goal.returns
 returns c =
     let place : slot_of c.args.index.kind ≡ Some c.in-Some.slot = sym (c.in-Some.ensures.value ∙ ap slot_of c.kind.ensures.value) in
-    rw (← c.self.view_is, place) (ap (λ pairs. let files : Files = record { slots = pairs } in files) (pairs-put c.self.inside.slots c.in-Some.slot c.args.index))
+    rw (← c.self.view_is, place) (ap (λ pairs. let files : Files = record { slots = pairs; exceptions = unwrap_or c.self.inside.exceptions [] } in files) (pairs-put c.self.inside.slots c.in-Some.slot c.args.index))
