@@ -17,7 +17,7 @@ use Rattle.enc_names.specs.Labels.{lookup_in}
 use Rattle.index_loader.specs.Files.{Files, has_files}
 use Rattle.piece_rope.specs.declared.fault.DocFault.{DocFault}
 use Rattle.piece_rope.specs.Edits.{open_fault}
-use Rattle.desk.specs.Changes.{is_accepted}
+use Rattle.desk.specs.Accepted.{is_accepted}
 use Rattle.desk.specs.Close.{closed}
 use Rattle.desk.specs.Commands.{Asked, asked_of, Opens, Closes}
 use Rattle.desk.specs.Desk.{Office, effect_of, has_place, Answers}

@@ -15,6 +15,7 @@ use Rattle.encoders.specs.declared.fault.EncodeFault.TheVariants as encoder
 use Rattle.encoders.specs.Encode.{encoded_in, bytes_only}
 use Rattle.encoders.specs.Steps.{Put}
 use Rattle.piece_rope.specs.declared.fault.DocFault.{DocFault}
+use Rattle.piece_rope.specs.declared.fault.DocFault.TheVariants as cause
 use Rattle.piece_rope.specs.Document.{Document, decoded, text_of}
 use Rattle.piece_rope.specs.Edits.{text_fault, splice_fault, kept_fault, is_kept, first_of}
 use Rattle.piece_rope.specs.Outputs.{output_at}
@@ -28,13 +29,15 @@ use Rattle.position_map.specs.declared.unit.Unit.{Unit as TextUnit}
 use Rattle.position_map.specs.Plan.{planned, replacing, between_cuts, cut, put_in, splice_with, with_ends, is_behind}
 use Rattle.position_map.specs.Positions.{offset_of}
 use Rattle.desk.specs.Commands.{ChangesText}
-use Rattle.desk.specs.Documents.{Entry, document_of, unless}
+use Rattle.desk.specs.Documents.{Entry, document_of}
 use Rattle.desk.specs.Edits.{Applied}
-use Rattle.desk.specs.Lives.{edited_by, with_planned}
-use Rattle.desk.specs.Change.{unless_kept, plan_fault, made, carried_out, changed, change_reply}
+use Rattle.desk.specs.Lives.{edited_by, with_planned, with_change}
+use Rattle.desk.specs.Change.{unless_kept, plan_fault, made, made_unless, carried_out, changed, alone, change_reply}
+use Rattle.desk.specs.declared.change_cause.ChangeCause.{ChangeCause}
+use Rattle.desk.specs.declared.change_cause.ChangeCause.TheVariants as because
 use Rattle.desk.specs.declared.fault.Fault.{Fault}
 use Rattle.desk.proofs.Edits.{caused-splice, keeps-edited, answered-edited, continues-edited}
-use Rattle.desk.proofs.Row.{IsRow, Decided, Caused, caused-if, decided-unless, keeps-of_document, answered-of_document}
+use Rattle.desk.proofs.Row.{IsRow, Decided, Caused, caused-if, keeps-of_document, answered-of_document}
 
 -- ---- a change that is accepted
 
@@ -44,7 +47,7 @@ pub record IsMade (d : Document) (unit : TextUnit) (range : Option Range) (text 
   pub faultless : plan_fault d (chars text) x.done ≡ None
   pub left : made d x.done ≡ x
 
-carried-ok : (fault : Option DocFault) (y x : Applied Plan) → unless fault y ≡ Ok x → (fault ≡ None) × (y ≡ x)
+carried-ok : (fault : Option DocFault) (y x : Applied Plan) → made_unless fault y ≡ Ok x → (fault ≡ None) × (y ≡ x)
 carried-ok None y x e = let same = e in (refl, cc)
 carried-ok (Some f) y x e = cc
 
@@ -112,7 +115,7 @@ planned-cause d None unit text = replacing-cause d text 0 (length (text_of d))
 planned-cause d (Some range) unit text =
     cause-if (is_behind range.start range.end) _ (ends-cause d text (offset_of (text_of d) unit range.start) (offset_of (text_of d) unit range.end))
 
--- ---- the row
+-- ---- what refuses a change
 
 caused-first : (x y : Option DocFault) → Caused x → Caused y → Caused (first_of x y)
 caused-first None y p q = q
@@ -132,35 +135,77 @@ caused-plan d text plan =
     (caused-first (text_fault d plan.i plan.j) (splice_fault d.bytes plan.at plan.del plan.ins) (caused-text d plan.i plan.j) (caused-splice d.bytes plan.at plan.del plan.ins))
     (caused-kept (is_kept d plan.at plan.del plan.ins plan.i plan.j text))
 
-abbrev Possible : Result (Applied Plan) Fault → Type 0
-Possible r = Decided (λ x. Unit {0}) r
+-- not for memory
+abbrev pub Possible : {A : Type 0} → Result A ChangeCause → Type 0
+Possible (Ok x) = Unit {0}
+Possible (Err (because.Plan change.OutOfMemory)) = ⊥
+Possible (Err (because.Splice cause.OutOfMemory)) = ⊥
+Possible (Err fault) = Unit {0}
 
-decided-carried : (d : Document) (text : List ℕ) (r : Result Plan ChangeFault) → Planless r → Possible (carried_out d text r)
-decided-carried d text (Ok plan) ne = decided-unless (λ x. Unit {0}) (plan_fault d text plan) _ (caused-plan d text plan) tt
-decided-carried d text (Err change.OutOfRange) ne = tt
-decided-carried d text (Err change.SplitsCharacter) ne = tt
-decided-carried d text (Err change.SplitsItem) ne = tt
-decided-carried d text (Err change.NoEncoder) ne = tt
-decided-carried d text (Err (change.Unencodable e)) ne = tt
-decided-carried d text (Err change.OutOfMemory) ne = absurd (ne refl)
+possible-unless : (fault : Option DocFault) (x : Applied Plan) → Caused fault → Possible (made_unless fault x)
+possible-unless None x p = tt
+possible-unless (Some cause.NoIndex) x p = tt
+possible-unless (Some cause.OutOfRange) x p = tt
+possible-unless (Some cause.TooLarge) x p = tt
+possible-unless (Some cause.NotKept) x p = tt
+possible-unless (Some cause.OutOfMemory) x p = absurd (p refl)
+
+possible-carried : (d : Document) (text : List ℕ) (r : Result Plan ChangeFault) → Planless r → Possible (carried_out d text r)
+possible-carried d text (Ok plan) ne = possible-unless (plan_fault d text plan) (made d plan) (caused-plan d text plan)
+possible-carried d text (Err change.OutOfRange) ne = tt
+possible-carried d text (Err change.SplitsCharacter) ne = tt
+possible-carried d text (Err change.SplitsItem) ne = tt
+possible-carried d text (Err change.NoEncoder) ne = tt
+possible-carried d text (Err (change.Unencodable e)) ne = tt
+possible-carried d text (Err change.OutOfMemory) ne = absurd (ne refl)
+
+pub possible-changed : (d : Document) (unit : TextUnit) (range : Option Range) (text : List ℕ) → Possible (changed unit range text d)
+possible-changed d unit range text = possible-carried d (chars text) _ (planned-cause d range unit (chars text))
+
+decided-alone : (r : Result (Applied Plan) ChangeCause) → Possible r → Decided (λ x. Unit {0}) (alone r)
+decided-alone (Ok x) p = tt
+decided-alone (Err (because.Plan change.OutOfRange)) p = tt
+decided-alone (Err (because.Plan change.SplitsCharacter)) p = tt
+decided-alone (Err (because.Plan change.SplitsItem)) p = tt
+decided-alone (Err (because.Plan change.NoEncoder)) p = tt
+decided-alone (Err (because.Plan (change.Unencodable e))) p = tt
+decided-alone (Err (because.Plan change.OutOfMemory)) p = absurd p
+decided-alone (Err (because.Splice cause.NoIndex)) p = tt
+decided-alone (Err (because.Splice cause.OutOfRange)) p = tt
+decided-alone (Err (because.Splice cause.TooLarge)) p = tt
+decided-alone (Err (because.Splice cause.NotKept)) p = tt
+decided-alone (Err (because.Splice cause.OutOfMemory)) p = absurd p
 
 -- ---- the row
 
+-- what an accepted change leaves: the setting, and the bytes of the planned splice
+pub leaves : (d : Document) (unit : TextUnit) (range : Option Range) (text : List ℕ) (x : Applied Plan) → changed unit range text d ≡ Ok x
+    → x.document ≡ record d { bytes = with_change d.indexes d.setting unit range text d.bytes }
+leaves d unit range text x ok =
+    let is = changed-ok d unit range text x ok in
+    ap (λ (y : Applied Plan). y.document) (sym is.left) ∙ ap (λ (r : Result Plan ChangeFault). record d { bytes = with_planned d.bytes r }) (sym is.is_plan)
+
+pub alone-ok : (r : Result (Applied Plan) ChangeCause) (x : Applied Plan) → alone r ≡ Ok x → r ≡ Ok x
+alone-ok (Ok y) x e = let same = e in cc
+alone-ok (Err cause) x e = cc
+
 module _ (indexes : Files) (labels : LabelTable) (rev : ℕ) (unit : TextUnit) (range : Option Range) (text : List ℕ) where
-  leaves : (h : Entry) (x : Applied Plan) → changed unit range text (document_of indexes h) ≡ Ok x
+  apply : Document → Result (Applied Plan) Fault
+  apply d = alone (changed unit range text d)
+
+  continues : (h : Entry) (x : Applied Plan) → apply (document_of indexes h) ≡ Ok x
       → (x.document.setting ≡ h.setting) × (edited_by indexes h.setting h.bytes (ChangesText rev unit range text) ≡ x.document.bytes)
-  leaves h x ok =
-      let is = changed-ok (document_of indexes h) unit range text x ok in (
-        ap (λ (y : Applied Plan). y.document.setting) (sym is.left),
-        ap (with_planned h.bytes) is.is_plan ∙ ap (λ (y : Applied Plan). y.document.bytes) is.left,
-      )
+  unfolding apply
+  continues h x ok =
+      let is = leaves (document_of indexes h) unit range text x (alone-ok _ x ok) in
+      (ap (λ (d : Document). d.setting) is, sym (ap (λ (d : Document). d.bytes) is))
 
   pub row : IsRow indexes labels (ChangesText rev unit range text)
+  unfolding apply
   row = record {
-    keeps = λ place found. keeps-of_document found _ (λ h. keeps-edited indexes h rev change_reply (λ x d r. refl) (changed unit range text));
+    keeps = λ place found. keeps-of_document found _ (λ h. keeps-edited indexes h rev change_reply (λ x d r. refl) apply);
     answered = λ place found. answered-of_document found _ (λ h.
-        answered-edited indexes h rev change_reply (λ x d r. refl) (changed unit range text)
-        (decided-carried (document_of indexes h) (chars text) _ (planned-cause (document_of indexes h) range unit (chars text))));
-    continues = λ place h. continues-edited indexes h rev change_reply (λ x d r. refl) (changed unit range text) (ChangesText rev unit range text) refl refl (leaves h);
+        answered-edited indexes h rev change_reply (λ x d r. refl) apply (decided-alone _ (possible-changed (document_of indexes h) unit range text)));
+    continues = λ place h. continues-edited indexes h rev change_reply (λ x d r. refl) apply (ChangesText rev unit range text) refl refl (continues h);
     placed = λ o found. refl;
   }

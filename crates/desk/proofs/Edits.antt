@@ -17,7 +17,7 @@ use Rattle.std.proofs.lemmas.Map.Steps.{set_value_same}
 use Rattle.index_loader.specs.Files.{Files}
 use Rattle.piece_rope.specs.Document.{Document}
 use Rattle.piece_rope.specs.Edits.{document_limit, splice_fault, spliced}
-use Rattle.desk.specs.Changes.{is_accepted, changes}
+use Rattle.desk.specs.Accepted.{is_accepted, reports_change}
 use Rattle.desk.specs.Commands.{Ask}
 use Rattle.desk.specs.Desk.{IsOutcome, outcome}
 use Rattle.desk.specs.Documents.{Entry, document_of, max_revision, reply_of}
@@ -102,15 +102,15 @@ unfolding splice_fault
 caused-splice bytes at del ins =
     caused-if (nat_le (at + del) (length bytes)) _ _ (caused-if (nat_le (length (spliced bytes at del ins)) document_limit) _ _ (λ e. cc) (λ e. cc)) (λ e. cc)
 
-accepts : (reply : Reply) → changes reply ≡ true → is_accepted reply ≡ true
+accepts : (reply : Reply) → reports_change reply ≡ true → is_accepted reply ≡ true
 accepts (Refused f) e = cc
 accepts reply e = refl
 
-never-memory : (reply : Reply) → changes reply ≡ true → reply ≢ Refused OutOfMemory
-never-memory reply e is = let never : false ≡ true = ap changes (sym is) ∙ e in cc
+never-memory : (reply : Reply) → reports_change reply ≡ true → reply ≢ Refused OutOfMemory
+never-memory reply e is = let never : false ≡ true = ap reports_change (sym is) ∙ e in cc
 
 -- an edit of an entry, whose accepted reply reports a change
-module _ {A : Type 0} (indexes : Files) (h : Entry) (rev : ℕ) (reply : A → Document → ℕ → Reply) (reports : (x : A) (d : Document) (r : ℕ) → changes (reply x d r) ≡ true)
+module _ {A : Type 0} (indexes : Files) (h : Entry) (rev : ℕ) (reply : A → Document → ℕ → Reply) (reports : (x : A) (d : Document) (r : ℕ) → reports_change (reply x d r) ≡ true)
     (apply : Document → Result (Applied A) Fault) where
   keeps-put : (r : Result (Applied A) Fault) → Keeps (put_applied h reply r)
   keeps-put (Ok x) = λ e. let never : true ≡ false = sym (reports x.done x.document (h.revision + 1)) ∙ e in cc

@@ -1,5 +1,6 @@
--- What an accepted change leaves.
-use Rattle.std.proofs.Common.{◌≡◌, ℕ, Bool, true, false, List, refl, sym, ap, ◌∙◌}
+-- What an accepted change leaves, and an accepted list of changes.
+use Rattle.std.proofs.Common.{◌≡◌, ℕ, ◌+◌, ◌<◌, ◌==◌, nat_lt, Bool, true, false, List, [], ◌∷◌, refl, sym, ap, ◌∙◌, subst}
+use Rattle.std.proofs.lemmas.Bool.{eq-eqb, lt-ltb}
 use Rattle.std.specs.declared.option.Option.{Option}
 use Rattle.std.specs.declared.option.Option.TheVariants.{None, Some}
 use Rattle.std.specs.declared.result.Result.{Result}
@@ -8,24 +9,28 @@ use Rattle.std.specs.FinMap.{get}
 use Rattle.std.specs.Str.{chars}
 use Rattle.index_loader.specs.Files.{Files}
 use Rattle.piece_rope.specs.declared.fault.DocFault.{DocFault}
-use Rattle.piece_rope.specs.Document.{Document, text_of}
+use Rattle.piece_rope.specs.Document.{Document, document, text_of}
 use Rattle.piece_rope.specs.Edits.{first_of, is_kept, kept_fault, replaced, spliced_document}
 use Rattle.position_map.specs.declared.plan.Plan.{Plan}
-use Rattle.position_map.specs.declared.position.Range.{Range}
 use Rattle.position_map.specs.declared.unit.Unit.{Unit as TextUnit}
-use Rattle.desk.specs.Changes.{is_accepted}
-use Rattle.desk.specs.Commands.{asked_of, ChangesText}
-use Rattle.desk.specs.Documents.{Entry, document_of}
-use Rattle.desk.specs.Edits.{Applied, at_revision, raised, put_applied}
-use Rattle.desk.specs.Effects.{Move, of_document}
-use Rattle.desk.specs.KeptText.{ChangesKeepText}
-use Rattle.desk.specs.Change.{unless_kept, plan_fault, made, changed, change_reply, change_effect}
+use Rattle.desk.specs.Accepted.{is_accepted}
+use Rattle.desk.specs.Commands.{asked_of, ChangesText, MakesChanges, TextChange}
+use Rattle.desk.specs.Desk.{effect_of}
+use Rattle.desk.specs.Documents.{Entry, entry, document_of, max_revision}
+use Rattle.desk.specs.Edits.{Applied, at_revision, raised, put_applied, edited}
+use Rattle.desk.specs.Effects.{Effect, Move, Puts, Stays, of_document}
+use Rattle.desk.specs.KeptText.{ChangesKeepText, Rewrites, RewritesAll, ListsKeepText, EachAccepted, ListsAreTheirChanges}
+use Rattle.desk.specs.Change.{unless_kept, plan_fault, made, changed, alone, change_reply, change_effect}
+use Rattle.desk.specs.Changes.{then_rest, changed_all, changes_reply, changes_effect}
+use Rattle.desk.specs.declared.change_cause.ChangeCause.{ChangeCause}
 use Rattle.desk.specs.declared.fault.Fault.{Fault}
+use Rattle.desk.specs.declared.reply.Reply.{Reply}
 use Rattle.desk.proofs.Apart.{same_bytes}
 use Rattle.desk.proofs.Begins.{held_here, accepted_here}
 use Rattle.desk.proofs.Edits.{at_revision-ok}
-use Rattle.desk.proofs.Moves.{held_after}
-use Rattle.desk.proofs.Change.{IsMade, changed-ok}
+use Rattle.desk.proofs.Moves.{held_after, reply_is}
+use Rattle.desk.proofs.Change.{changed-ok, alone-ok, leaves}
+use Rattle.desk.proofs.Changes.{goes, leaves_all}
 
 -- no fault stands, and so the text is kept
 kept-ok : (fault : Option DocFault) (b : Bool) → first_of fault (unless_kept b) ≡ None → b ≡ true
@@ -39,43 +44,161 @@ text-kept d text plan e =
     same_bytes (text_of (spliced_document d plan.at plan.del plan.ins)) (replaced (text_of d) plan.i plan.j text)
     (kept-ok (kept_fault d plan.at plan.del plan.ins plan.i plan.j) (is_kept d plan.at plan.del plan.ins plan.i plan.j text) e)
 
--- an accepted change, as it is decided
-record Decided (indexes : Files) (found : Option Entry) (unit : TextUnit) (range : Option Range) (text : List ℕ) (move : Move) : Type 0 where
+-- ---- an edit that is accepted, as it is decided
+
+record Decided {A : Type 0} (indexes : Files) (apply : Document → Result (Applied A) Fault) (found : Option Entry) (move : Move) : Type 0 where
   before : Entry
-  applied : Applied Plan
+  applied : Applied A
   is_found : found ≡ Some before
-  is_made : IsMade (document_of indexes before) unit range text applied
+  is_applied : apply (document_of indexes before) ≡ Ok applied
   held : held_after found move ≡ Some (raised before applied.document)
 
-decided-put : (indexes : Files) (h : Entry) (rev : ℕ) (unit : TextUnit) (range : Option Range) (text : List ℕ) (r : Result (Applied Plan) Fault)
-    → at_revision h rev (changed unit range text (document_of indexes h)) ≡ r → is_accepted (put_applied h change_reply r).reply ≡ true
-    → Decided indexes (Some h) unit range text (put_applied h change_reply r).move
-decided-put indexes h rev unit range text (Ok x) e is = record {
-  before = h;
-  applied = x;
-  is_found = refl;
-  is_made = changed-ok (document_of indexes h) unit range text x (at_revision-ok h rev _ x e).1;
-  held = refl;
-}
-decided-put indexes h rev unit range text (Err f) e is = cc
+module _ {A : Type 0} (indexes : Files) (rev : ℕ) (apply : Document → Result (Applied A) Fault) (reply : A → Document → ℕ → Reply) where
+  decided-put : (h : Entry) (r : Result (Applied A) Fault) → at_revision h rev (apply (document_of indexes h)) ≡ r → is_accepted (put_applied h reply r).reply ≡ true
+      → Decided indexes apply (Some h) (put_applied h reply r).move
+  decided-put h (Ok x) e is = record {
+    before = h;
+    applied = x;
+    is_found = refl;
+    is_applied = (at_revision-ok h rev _ x e).1;
+    held = refl;
+  }
+  decided-put h (Err f) e is = cc
 
-decided-by : (indexes : Files) (found : Option Entry) (rev : ℕ) (unit : TextUnit) (range : Option Range) (text : List ℕ)
-    → (let t = of_document found (change_effect indexes rev unit range text) in is_accepted t.reply ≡ true → Decided indexes found unit range text t.move)
-decided-by indexes None rev unit range text = λ is. cc
-decided-by indexes (Some h) rev unit range text = decided-put indexes h rev unit range text _ refl
+  decided-by : (found : Option Entry) → (let t = of_document found (edited indexes rev apply reply) in is_accepted t.reply ≡ true → Decided indexes apply found t.move)
+  decided-by None = λ is. cc
+  decided-by (Some h) = decided-put h _ refl
 
 pub law_changes_keep_text : ChangesKeepText
 law_changes_keep_text o p doc rev unit range text reply answers e =
     let c = asked_of doc (ChangesText rev unit range text) in
-    let by = decided-by o.indexes (get o.documents doc) rev unit range text (accepted_here o p c reply answers e) in
+    let by = decided-by o.indexes rev (λ d. alone (changed unit range text d)) change_reply (get o.documents doc) (accepted_here o p c reply answers e) in
     let d = document_of o.indexes by.before in
+    let is = changed-ok d unit range text by.applied (alone-ok _ by.applied by.is_applied) in
     let plan = by.applied.done in record {
       before = by.before;
       plan = plan;
       after = raised by.before (made d plan).document;
       found = by.is_found;
-      is_plan = by.is_made.is_plan;
-      held = held_here o p c reply answers e ∙ by.held ∙ ap (λ (x : Applied Plan). Some (raised by.before x.document)) (sym by.is_made.left);
+      is_plan = is.is_plan;
+      held = held_here o p c reply answers e ∙ by.held ∙ ap (λ (x : Applied Plan). Some (raised by.before x.document)) (sym is.left);
       leaves = refl;
-      kept = text-kept d (chars text) plan by.is_made.faultless;
+      kept = text-kept d (chars text) plan is.faultless;
     }
+
+-- ---- a list of changes
+
+rewrites : (unit : TextUnit) (c : TextChange) (d : Document) (x : Applied Plan) → changed unit c.range c.text d ≡ Ok x → Rewrites unit c d x.document
+rewrites unit c d x ok =
+    let is = changed-ok d unit c.range c.text x ok in
+    let same : x.document ≡ (made d x.done).document = ap (λ (y : Applied Plan). y.document) (sym is.left) in record {
+      plan = x.done;
+      is_plan = is.is_plan;
+      leaves = same;
+      kept = ap text_of same ∙ text-kept d (chars c.text) x.done is.faultless;
+    }
+
+rewrites_all : (unit : TextUnit) (n : ℕ) (cs : List TextChange) (d : Document) (x : Applied ℕ) → changed_all unit n cs d ≡ Ok x → RewritesAll unit cs d x.document
+rewrites_all unit n [] d x e = let same = e in cc
+rewrites_all unit n (c ∷ cs) d x e =
+    let by = goes unit n c cs d x e in (by.first.document, rewrites unit c d by.first by.made, rewrites_all unit (n + 1) cs by.first.document x by.rest)
+
+-- an entry with this document's setting and bytes has the document
+again : (indexes : Files) (d : Document) (rev : ℕ) → d.indexes ≡ indexes → document_of indexes (entry d.setting d.bytes rev) ≡ d
+again indexes d rev e = ap (λ i. document i d.setting d.bytes) (sym e)
+
+pub law_lists_keep_text : ListsKeepText
+law_lists_keep_text o p doc rev unit cs reply answers e =
+    let c = asked_of doc (MakesChanges rev unit cs) in
+    let by = decided-by o.indexes rev (changed_all unit 0 cs) changes_reply (get o.documents doc) (accepted_here o p c reply answers e) in
+    let d = document_of o.indexes by.before in
+    let x = by.applied in
+    let files : x.document.indexes ≡ o.indexes = ap (λ (y : Document). y.indexes) (leaves_all unit 0 cs d x by.is_applied) in record {
+      before = by.before;
+      after = raised by.before x.document;
+      found = by.is_found;
+      held = held_here o p c reply answers e ∙ by.held;
+      revision = refl;
+      rewritten = subst (RewritesAll unit cs d) (sym (again o.indexes x.document (by.before.revision + 1) files)) (rewrites_all unit 0 cs d x by.is_applied);
+    }
+
+-- ---- a list is its changes
+
+-- an edit that names the revision now
+now : {A : Type 0} (h : Entry) (answer : Result A Fault) → h.revision < max_revision → at_revision h h.revision answer ≡ answer
+now h answer lt =
+    let same : (h.revision == h.revision) ≡ true = eq-eqb h.revision h.revision refl in
+    let below : nat_lt h.revision max_revision ≡ true = lt-ltb h.revision max_revision lt in
+    rw (same, below) refl
+
+-- a change that puts an entry
+record IsPut (h : Entry) (k : Entry) (r : Result (Applied Plan) ChangeCause) : Type 0 where
+  put : Applied Plan
+  is_made : r ≡ Ok put
+  left : k ≡ raised h put.document
+
+put-by : (h k : Entry) (reply : Reply) (r : Result (Applied Plan) ChangeCause) → put_applied h change_reply (alone r) ≡ record { reply = reply; move = Puts k } → IsPut h k r
+put-by h k reply (Ok x) e = let moves : Puts (raised h x.document) ≡ Puts k = ap (λ (t : Effect). t.move) e in record { put = x; is_made = refl; left = cc }
+put-by h k reply (Err cause) e = let moves : Stays ≡ Puts k = ap (λ (t : Effect). t.move) e in cc
+
+module _ (indexes : Files) (unit : TextUnit) where
+  abbrev Doc : Entry → Document
+  Doc h = document_of indexes h
+
+  step : (h : Entry) → h.revision < max_revision → (c : TextChange)
+      → change_effect indexes h.revision unit c.range c.text h ≡ put_applied h change_reply (alone (changed unit c.range c.text (Doc h)))
+  step h lt c = ap (put_applied h change_reply) (now h (alone (changed unit c.range c.text (Doc h))) lt)
+
+  each : (n : ℕ) (cs : List TextChange) (h : Entry) (x : Applied ℕ) → h.revision < max_revision → changed_all unit n cs (Doc h) ≡ Ok x
+      → EachAccepted indexes h.revision unit cs h (entry x.document.setting x.document.bytes h.revision)
+  each n [] h x lt e =
+      let is : x ≡ record { document = Doc h; done = n } = let same = e in cc in
+      ap (λ (y : Applied ℕ). entry y.document.setting y.document.bytes h.revision) is
+  each n (c ∷ cs) h x lt e =
+      let by = goes unit n c cs (Doc h) x e in
+      let y = by.first in
+      let k = raised h y.document in
+      let g = entry y.document.setting y.document.bytes h.revision in
+      let found : Doc g ≡ y.document = again indexes y.document h.revision (ap (λ (d : Document). d.indexes) (leaves (Doc h) unit c.range c.text y by.made)) in (
+        change_reply y.done y.document (h.revision + 1),
+        k,
+        step h lt c ∙ ap (λ r. put_applied h change_reply (alone r)) by.made,
+        each (n + 1) cs g x lt (ap (changed_all unit (n + 1) cs) found ∙ by.rest),
+      )
+
+  all : (n : ℕ) (cs : List TextChange) (h last : Entry) → h.revision < max_revision → EachAccepted indexes h.revision unit cs h last
+      → (x : Applied ℕ) × (changed_all unit n cs (Doc h) ≡ Ok x)
+  all n [] h last lt e = (record { document = Doc h; done = n }, refl)
+  all n (c ∷ cs) h last lt e =
+      let k = e.1 in
+      let by = put-by h k e.0 _ (sym (step h lt c) ∙ e.2) in
+      let g : Entry = record k { revision = h.revision } in
+      let rest = all (n + 1) cs g last lt e.3 in
+      let files = ap (λ (d : Document). d.indexes) (leaves (Doc h) unit c.range c.text by.put by.is_made) in
+      let found : Doc g ≡ by.put.document = ap (λ (m : Entry). document_of indexes (record m { revision = h.revision })) by.left ∙ again indexes by.put.document h.revision files in
+      (rest.0, ap (then_rest n (changed_all unit (n + 1) cs)) by.is_made ∙ ap (changed_all unit (n + 1) cs) (sym found) ∙ rest.1)
+
+same_entry : (found : Option Entry) (h k : Entry) → found ≡ Some h → found ≡ Some k → h ≡ k
+same_entry found h k e f = let same : Some h ≡ Some k = sym e ∙ f in cc
+
+pub law_lists_are_their_changes : ListsAreTheirChanges
+law_lists_are_their_changes o p doc unit cs reply before found lt answers ne =
+    let c = asked_of doc (MakesChanges before.revision unit cs) in
+    let apply = changed_all unit 0 cs in
+    let here : effect_of o c ≡ put_applied before changes_reply (apply (document_of o.indexes before)) =
+    ap (λ f. of_document f (changes_effect o.indexes before.revision unit cs)) found ∙ ap (put_applied before changes_reply) (now before (apply (document_of o.indexes before)) lt) in (
+      λ e.
+          let by = decided-by o.indexes before.revision apply changes_reply (get o.documents doc) (accepted_here o p c reply answers e) in
+          let same = same_entry (get o.documents doc) by.before before by.is_found found in
+          let x = by.applied in
+          let is : apply (document_of o.indexes before) ≡ Ok x = ap (λ h. apply (document_of o.indexes h)) (sym same) ∙ by.is_applied in (
+            entry x.document.setting x.document.bytes before.revision,
+            each o.indexes unit 0 cs before x lt is,
+            held_here o p c reply answers e ∙ by.held ∙ ap (λ h. Some (raised h x.document)) same,
+          ),
+      λ last each_is.
+          let x = all o.indexes unit 0 cs before last lt each_is in
+          let is : reply ≡ changes_reply x.0.done x.0.document (before.revision + 1) =
+          sym (reply_is o p c reply answers ne) ∙ ap (λ (t : Effect). t.reply) (here ∙ ap (put_applied before changes_reply) x.1) in
+          ap is_accepted is,
+    )

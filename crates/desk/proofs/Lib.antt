@@ -2,6 +2,7 @@ mod Answering
 mod Apart
 mod Begins
 mod Change
+mod Changes
 mod Close
 mod Edits
 mod Encode

@@ -14,7 +14,7 @@ use Rattle.desk.specs.Commands.{Ask, Asked}
 use Rattle.desk.specs.Desk.{Office, effect, effect_of, has_place, Answers, Adopts}
 use Rattle.desk.specs.Documents.{Entry}
 use Rattle.desk.specs.Effects.{Move, Stays, Puts, Goes}
-use Rattle.desk.specs.Changes.{is_accepted}
+use Rattle.desk.specs.Accepted.{is_accepted}
 use Rattle.desk.specs.Lives.{Act, Commanded, Adopted, Acts, is_edit, is_close, edit_in, edits_of, ends_life, edited_by, edited_by_all, NameFrom, IsLife, Lives}
 use Rattle.desk.specs.Open.{adopted}
 use Rattle.desk.specs.declared.fault.Fault.{Fault}

@@ -12,7 +12,7 @@ use Rattle.enc_names.specs.Settings.{setting_of}
 use Rattle.enc_names.specs.Labels.{LabelTable, lookup_in}
 use Rattle.index_loader.specs.Files.{Files, has_files}
 use Rattle.piece_rope.specs.Edits.{document_limit, open_fault}
-use Rattle.desk.specs.Changes.{is_accepted}
+use Rattle.desk.specs.Accepted.{is_accepted}
 use Rattle.desk.specs.Commands.{asked_of, Opens}
 use Rattle.desk.specs.Desk.{Office, Outcome, Answers, Adopts, IsOutcome, outcome, has_place}
 use Rattle.desk.specs.Documents.{Entry, Names, edit_reply}

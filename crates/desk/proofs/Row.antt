@@ -11,7 +11,7 @@ use Rattle.piece_rope.specs.declared.fault.DocFault.TheVariants as cause
 use Rattle.position_map.specs.declared.fault.PosFault.{PosFault}
 use Rattle.position_map.specs.declared.fault.PosFault.TheVariants as position
 use Rattle.desk.specs.Apart.{place_at}
-use Rattle.desk.specs.Changes.{is_accepted, changes}
+use Rattle.desk.specs.Accepted.{is_accepted, reports_change}
 use Rattle.desk.specs.Commands.{Ask}
 use Rattle.desk.specs.Desk.{Office, effect, has_place}
 use Rattle.desk.specs.Documents.{Entry, reply_of, unless_fault, unless_position_fault}
@@ -24,7 +24,7 @@ use Rattle.desk.specs.declared.reply.Reply.TheVariants.{Refused}
 
 -- what reports no change leaves the entry
 abbrev pub Keeps : Effect → Type 0
-Keeps e = changes e.reply ≡ false → e.move ≡ Stays
+Keeps e = reports_change e.reply ≡ false → e.move ≡ Stays
 
 -- memory is no cause of the definition's
 abbrev pub Answered : Effect → Type 0
@@ -121,7 +121,7 @@ continues-refused indexes h ask fault = and_no (is_edit ask)
 
 -- ---- an entry put
 
-pub keeps-put : (reply : Entry → Reply) (change : Result Entry Fault) → ((k : Entry) → changes (reply k) ≡ true) → Keeps (put reply change)
+pub keeps-put : (reply : Entry → Reply) (change : Result Entry Fault) → ((k : Entry) → reports_change (reply k) ≡ true) → Keeps (put reply change)
 keeps-put reply (Ok h) p = λ e. let never : true ≡ false = sym (p h) ∙ e in cc
 keeps-put reply (Err f) p = λ e. refl
 

@@ -1,5 +1,5 @@
 -- Changing a range of a document's text.
-use Rattle.std.specs.Prelude.{ℕ, Bool, true, false, List, length, Option, Some, None, Result, Ok, Err}
+use Rattle.std.specs.Prelude.{◌≡◌, ℕ, Bool, true, false, List, length, Option, Some, None, Result, Ok, Err}
 use Rattle.std.specs.Str.{chars}
 use Rattle.index_loader.specs.Files.{Files}
 use Rattle.piece_rope.specs.declared.fault.DocFault.{DocFault}
@@ -12,9 +12,11 @@ use Rattle.position_map.specs.declared.plan.Plan.{Plan}
 use Rattle.position_map.specs.declared.position.Range.{Range}
 use Rattle.position_map.specs.declared.unit.Unit.{Unit as TextUnit}
 use Rattle.position_map.specs.Plan.{planned}
-use Rattle.desk.specs.Documents.{Entry, unless}
+use Rattle.desk.specs.Documents.{Entry, fault_of}
 use Rattle.desk.specs.Edits.{Applied, edited}
 use Rattle.desk.specs.Effects.{Effect}
+use Rattle.desk.specs.declared.change_cause.ChangeCause.{ChangeCause}
+use Rattle.desk.specs.declared.change_cause.ChangeCause.TheVariants as because
 use Rattle.desk.specs.declared.fault.Fault.{Fault}
 use Rattle.desk.specs.declared.fault.Fault.TheVariants.{OutOfRange, SplitsCharacter, SplitsItem, NoEncoder, Unencodable, OutOfMemory}
 use Rattle.desk.specs.declared.reply.Reply.{Reply}
@@ -28,6 +30,11 @@ change_fault change.SplitsItem = SplitsItem
 change_fault change.NoEncoder = NoEncoder
 change_fault (change.Unencodable e) = Unencodable e.code_point e.index
 change_fault change.OutOfMemory = OutOfMemory
+
+-- the refusal of a change by itself
+abbrev pub cause_fault : ChangeCause → Fault
+cause_fault (because.Plan fault) = change_fault fault
+cause_fault (because.Splice fault) = fault_of fault
 
 abbrev pub unless_kept : Bool → Option DocFault
 unless_kept true = None
@@ -43,19 +50,37 @@ plan_fault d text plan =
 abbrev pub made : Document → Plan → Applied Plan
 made d plan = record { document = spliced_document d plan.at plan.del plan.ins; done = plan }
 
+abbrev pub made_unless : Option DocFault → Applied Plan → Result (Applied Plan) ChangeCause
+made_unless None x = Ok x
+made_unless (Some fault) x = Err (because.Splice fault)
+
 -- it is made unless the text isn't kept, or nothing is planned
-abbrev pub carried_out : Document → List ℕ → Result Plan ChangeFault → Result (Applied Plan) Fault
-carried_out d text (Ok plan) = unless (plan_fault d text plan) (made d plan)
-carried_out d text (Err fault) = Err (change_fault fault)
+abbrev pub carried_out : Document → List ℕ → Result Plan ChangeFault → Result (Applied Plan) ChangeCause
+carried_out d text (Ok plan) = made_unless (plan_fault d text plan) (made d plan)
+carried_out d text (Err fault) = Err (because.Plan fault)
 
 -- What a change of a range of the text leaves, by the splice planned for it, or why it is refused. The text, in UTF-8, is put in the place of
 -- the range, and without one in the place of the whole text.
-abbrev pub changed : TextUnit → Option Range → List ℕ → Document → Result (Applied Plan) Fault
+abbrev pub changed : TextUnit → Option Range → List ℕ → Document → Result (Applied Plan) ChangeCause
 changed unit range text d = carried_out d (chars text) (planned d range unit (chars text))
+
+-- a change by itself is refused by its cause alone
+abbrev pub alone : {A : Type 0} → Result A ChangeCause → Result A Fault
+alone (Ok x) = Ok x
+alone (Err cause) = Err (cause_fault cause)
 
 -- the splice that was made, with the number of bytes put in, and the document after it
 abbrev pub change_reply : Plan → Document → ℕ → Reply
 change_reply plan d rev = Changed plan.at (decoded d).bom plan.del (decoded d).encoding (length plan.ins) rev
 
 abbrev pub change_effect : Files → ℕ → TextUnit → Option Range → List ℕ → Entry → Effect
-change_effect indexes rev unit range text = edited indexes rev (changed unit range text) change_reply
+change_effect indexes rev unit range text = edited indexes rev (λ d. alone (changed unit range text d)) change_reply
+
+-- ---- what the code answers
+
+-- The change left this document, by this splice, or is refused; or memory ran out.
+abbrev pub MakesChange : Result (Applied Plan) ChangeCause → Result Plan ChangeCause → Document → Type 0
+MakesChange wanted (Ok plan) d = wanted ≡ Ok (record { document = d; done = plan })
+MakesChange wanted (Err (because.Plan change.OutOfMemory)) d = Unit {0}
+MakesChange wanted (Err (because.Splice cause.OutOfMemory)) d = Unit {0}
+MakesChange wanted (Err fault) d = wanted ≡ Err fault

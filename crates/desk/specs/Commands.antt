@@ -1,12 +1,21 @@
 -- The commands: what a client asks of the desk. Texts are lists of UTF-8 bytes.
-use Rattle.std.specs.Prelude.{ℕ, List, Option}
+use Rattle.std.specs.Prelude.{ℕ, List, map, Option}
 use Rattle.position_map.specs.declared.position.Range.{Range}
 use Rattle.position_map.specs.declared.unit.Unit.{Unit as TextUnit}
 use Rattle.encoders.specs.declared.mode.EncodeMode.{EncodeMode}
 use Rattle.desk.specs.declared.command.Command.{Command}
-use Rattle.desk.specs.declared.command.Command.TheVariants.{Open, Close, Splice, Change, Text, Source, Encode, Errors, Lines, Position, Offset, Place, Stat}
+use Rattle.desk.specs.declared.command.Command.TheVariants.{Open, Close, Splice, Change, Changes, Text, Source, Encode, Errors, Lines, Position, Offset, Place, Stat}
+use Rattle.desk.specs.declared.ops.changes.ContentChange.{ContentChange}
 use Rattle.desk.specs.declared.place_unit.PlaceUnit.{PlaceUnit}
 use Rattle.desk.specs.declared.text_mode.TextMode.{TextMode}
+
+-- a change of a list: the range, without one the whole text, and the text that is put in its place
+pub record TextChange : Type 0 where
+  pub range : Option Range
+  pub text : List ℕ
+
+abbrev pub change_of : ContentChange → TextChange
+change_of c = record { range = c.range; text = c.text.now }
 
 -- what is asked at the name of a document
 pub data Ask : Type 0 where
@@ -17,6 +26,8 @@ pub data Ask : Type 0 where
   Splices : ℕ → ℕ → ℕ → List ℕ → Ask
   -- rev unit range text
   ChangesText : ℕ → TextUnit → Option Range → List ℕ → Ask
+  -- rev unit changes
+  MakesChanges : ℕ → TextUnit → List TextChange → Ask
   -- from to mode
   Reads : ℕ → ℕ → TextMode → Ask
   -- at len
@@ -48,6 +59,7 @@ asked (Open c) = asked_of c.doc.now (Opens c.label.now c.bytes.now)
 asked (Close c) = asked_of c.doc.now Closes
 asked (Splice c) = asked_of c.doc.now (Splices c.rev c.at c.del c.bytes.now)
 asked (Change c) = asked_of c.doc.now (ChangesText c.rev c.unit c.range c.text.now)
+asked (Changes c) = asked_of c.doc.now (MakesChanges c.rev c.unit (map change_of c.changes.items))
 asked (Text c) = asked_of c.doc.now (Reads c.from c.to c.mode)
 asked (Source c) = asked_of c.doc.now (ReadsBytes c.at c.len)
 asked (Encode c) = asked_of c.doc.now (Encodes c.from c.to c.label.now c.mode)

@@ -1,18 +1,23 @@
 -- What an accepted change leaves: the planned bytes, and the old text with the range replaced.
-use Rattle.std.specs.Prelude.{◌≡◌, ℕ, ◌+◌, true, List, Option, Some, Ok}
+use Rattle.std.specs.Prelude.{◌≡◌, ◌≢◌, ◌<◌, ℕ, ◌+◌, true, List, [], ◌∷◌, Option, Some, Ok}
 use Rattle.std.specs.FinMap.{get}
 use Rattle.std.specs.Str.{chars}
-use Rattle.piece_rope.specs.Document.{text_of}
-use Rattle.piece_rope.specs.Edits.{replaced, spliced}
+use Rattle.index_loader.specs.Files.{Files}
+use Rattle.piece_rope.specs.Document.{Document, text_of}
+use Rattle.piece_rope.specs.Edits.{replaced, spliced, spliced_document}
 use Rattle.position_map.specs.declared.plan.Plan.{Plan}
 use Rattle.position_map.specs.declared.position.Range.{Range}
 use Rattle.position_map.specs.declared.unit.Unit.{Unit as TextUnit}
 use Rattle.position_map.specs.Plan.{planned}
-use Rattle.desk.specs.Changes.{is_accepted}
-use Rattle.desk.specs.Commands.{asked_of, ChangesText}
+use Rattle.desk.specs.Accepted.{is_accepted}
+use Rattle.desk.specs.Change.{change_effect}
+use Rattle.desk.specs.Commands.{asked_of, ChangesText, MakesChanges, TextChange}
 use Rattle.desk.specs.Desk.{Office, Answers}
-use Rattle.desk.specs.Documents.{Entry, entry, document_of}
+use Rattle.desk.specs.Documents.{Entry, entry, document_of, max_revision}
+use Rattle.desk.specs.Effects.{Puts}
+use Rattle.desk.specs.declared.fault.Fault.TheVariants.{OutOfMemory}
 use Rattle.desk.specs.declared.reply.Reply.{Reply}
+use Rattle.desk.specs.declared.reply.Reply.TheVariants.{Refused}
 
 -- The document at the name, the splice planned for its range, and what is held afterwards. Decoded from scratch, the new bytes have the old
 -- text with the code points of the range replaced.
@@ -29,3 +34,47 @@ pub record Replaces (o : Office) (doc : List ℕ) (unit : TextUnit) (range : Opt
 abbrev pub ChangesKeepText : Type 0
 ChangesKeepText = (o p : Office) (doc : List ℕ) (rev : ℕ) (unit : TextUnit) (range : Option Range) (text : List ℕ) (reply : Reply)
     → Answers o (asked_of doc (ChangesText rev unit range text)) reply p → is_accepted reply ≡ true → Replaces o doc unit range text p
+
+-- ---- a list of changes
+
+-- A change of a list, from the document that it finds to the one that it leaves: that of the splice planned for its range, whose text,
+-- decoded from scratch, is the text found with the code points of the range replaced.
+pub record Rewrites (unit : TextUnit) (c : TextChange) (d e : Document) : Type 0 where
+  pub plan : Plan
+  pub is_plan : planned d c.range unit (chars c.text) ≡ Ok plan
+  pub leaves : e ≡ spliced_document d plan.at plan.del plan.ins
+  pub kept : text_of e ≡ replaced (text_of d) plan.i plan.j (chars c.text)
+
+-- each on what the one before left
+abbrev pub RewritesAll : TextUnit → List TextChange → Document → Document → Type 0
+RewritesAll unit [] d e = e ≡ d
+RewritesAll unit (c ∷ cs) d e = (mid : Document) × Rewrites unit c d mid × RewritesAll unit cs mid e
+
+-- The document at the name, and what is held afterwards, one revision later.
+pub record ReplacesAll (o : Office) (doc : List ℕ) (unit : TextUnit) (changes : List TextChange) (p : Office) : Type 0 where
+  pub before : Entry
+  pub after : Entry
+  pub found : get o.documents doc ≡ Some before
+  pub held : get p.documents doc ≡ Some after
+  pub revision : after.revision ≡ before.revision + 1
+  pub rewritten : RewritesAll unit changes (document_of o.indexes before) (document_of o.indexes after)
+
+abbrev pub ListsKeepText : Type 0
+ListsKeepText = (o p : Office) (doc : List ℕ) (rev : ℕ) (unit : TextUnit) (changes : List TextChange) (reply : Reply)
+    → Answers o (asked_of doc (MakesChanges rev unit changes)) reply p → is_accepted reply ≡ true → ReplacesAll o doc unit changes p
+
+-- Each change in its turn, asked for by itself at this revision, is accepted, and puts an entry whose document the next one finds.
+abbrev pub EachAccepted : Files → ℕ → TextUnit → List TextChange → Entry → Entry → Type 0
+EachAccepted indexes rev unit [] h last = last ≡ h
+EachAccepted indexes rev unit (c ∷ cs) h last =
+    (reply : Reply) × (k : Entry) × (change_effect indexes rev unit c.range c.text h ≡ record { reply = reply; move = Puts k })
+    × EachAccepted indexes rev unit cs (record k { revision = rev }) last
+
+-- A list that names the revision now, where this can be raised, is accepted exactly where each change in its turn is; and then it leaves
+-- what they leave, one revision later.
+abbrev pub ListsAreTheirChanges : Type 0
+ListsAreTheirChanges = (o p : Office) (doc : List ℕ) (unit : TextUnit) (changes : List TextChange) (reply : Reply) (before : Entry)
+    → get o.documents doc ≡ Some before → before.revision < max_revision
+    → Answers o (asked_of doc (MakesChanges before.revision unit changes)) reply p → reply ≢ Refused OutOfMemory
+    → (is_accepted reply ≡ true → (last : Entry) × EachAccepted o.indexes before.revision unit changes before last × (get p.documents doc ≡ Some (record last { revision = before.revision + 1 })))
+    × ((last : Entry) → EachAccepted o.indexes before.revision unit changes before last → is_accepted reply ≡ true)

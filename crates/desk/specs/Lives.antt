@@ -7,14 +7,17 @@ use Rattle.enc_names.specs.declared.setting.Setting.{Setting}
 use Rattle.enc_names.specs.Settings.{setting_of}
 use Rattle.enc_names.specs.Labels.{lookup_in}
 use Rattle.index_loader.specs.Files.{Files}
+use Rattle.piece_rope.specs.Document.{document}
 use Rattle.piece_rope.specs.Edits.{spliced}
 use Rattle.position_map.specs.declared.change_fault.ChangeFault.{ChangeFault}
 use Rattle.position_map.specs.declared.plan.Plan.{Plan}
+use Rattle.position_map.specs.declared.position.Range.{Range}
+use Rattle.position_map.specs.declared.unit.Unit.{Unit as TextUnit}
 use Rattle.position_map.specs.Plan.{planned}
-use Rattle.desk.specs.Changes.{is_accepted}
-use Rattle.desk.specs.Commands.{Ask, Asked, asked_of, Opens, Closes, Splices, ChangesText}
+use Rattle.desk.specs.Accepted.{is_accepted}
+use Rattle.desk.specs.Commands.{Ask, Asked, asked_of, Opens, Closes, Splices, ChangesText, MakesChanges, TextChange}
 use Rattle.desk.specs.Desk.{Office, Answers, Adopts}
-use Rattle.desk.specs.Documents.{Entry, entry, document_of}
+use Rattle.desk.specs.Documents.{Entry, entry}
 use Rattle.desk.specs.Effects.{base64_bytes}
 use Rattle.desk.specs.declared.fault.Fault.{Fault}
 use Rattle.desk.specs.declared.reply.Reply.{Reply}
@@ -42,6 +45,7 @@ ActsAll o (a ∷ acts) p = (mid : Office) × Acts o a mid × ActsAll mid acts p
 abbrev pub is_edit : Ask → Bool
 is_edit (Splices rev at del bytes) = true
 is_edit (ChangesText rev unit range text) = true
+is_edit (MakesChanges rev unit changes) = true
 is_edit ask = false
 
 abbrev pub is_close : Ask → Bool
@@ -73,6 +77,7 @@ Lasts d (a ∷ acts) = (ends_life d a ≡ false) × Lasts d acts
 abbrev pub named_by : Ask → Option ℕ
 named_by (Splices rev at del bytes) = Some rev
 named_by (ChangesText rev unit range text) = Some rev
+named_by (MakesChanges rev unit changes) = Some rev
 named_by ask = None
 
 abbrev pub with_spliced : List ℕ → ℕ → ℕ → Option (List ℕ) → List ℕ
@@ -83,11 +88,20 @@ abbrev pub with_planned : List ℕ → Result Plan ChangeFault → List ℕ
 with_planned bytes (Err fault) = bytes
 with_planned bytes (Ok plan) = spliced bytes plan.at plan.del plan.ins
 
+-- the bytes that the splice planned for a change leaves
+abbrev pub with_change : Files → Setting → TextUnit → Option Range → List ℕ → List ℕ → List ℕ
+with_change indexes setting unit range text bytes = with_planned bytes (planned (document indexes setting bytes) range unit (chars text))
+
+-- and those of a list, each on the bytes that the one before left
+abbrev pub with_changes : Files → Setting → TextUnit → List TextChange → List ℕ → List ℕ
+with_changes indexes setting unit [] bytes = bytes
+with_changes indexes setting unit (c ∷ cs) bytes = with_changes indexes setting unit cs (with_change indexes setting unit c.range c.text bytes)
+
 -- the bytes that an edit leaves of these
 abbrev pub edited_by : Files → Setting → List ℕ → Ask → List ℕ
 edited_by indexes setting bytes (Splices rev at del text) = with_spliced bytes at del (base64_bytes text)
-edited_by indexes setting bytes (ChangesText rev unit range text) =
-    with_planned bytes (planned (document_of indexes (entry setting bytes rev)) range unit (chars text))
+edited_by indexes setting bytes (ChangesText rev unit range text) = with_change indexes setting unit range text bytes
+edited_by indexes setting bytes (MakesChanges rev unit changes) = with_changes indexes setting unit changes bytes
 edited_by indexes setting bytes ask = bytes
 
 abbrev pub edited_by_all : Files → Setting → List ℕ → List Ask → List ℕ

@@ -1,9 +1,11 @@
 //! Refusals whose cause a layer below reports.
 ghost use Rattle.std.specs.Prelude.{◌≡◌};
 ghost use Rattle.desk.specs.Documents.{fault_of, position_fault};
-ghost use Rattle.desk.specs.Change.{change_fault};
+ghost use Rattle.desk.specs.Change.{cause_fault, change_fault};
+ghost use Rattle.desk.specs.Changes.{in_change};
 ghost use Rattle.desk.specs.declared.fault.Fault.TheVariants.{OutOfMemory};
 
+use crate::change_cause::ChangeCause;
 use crate::fault::Fault;
 use piece_rope::DocFault;
 use position_map::{ChangeFault, PosFault};
@@ -48,6 +50,30 @@ impl From<ChangeFault> for Fault {
                 index: found.index,
             },
             ChangeFault::OutOfMemory => Fault::OutOfMemory,
+        }
+    }
+}
+
+impl From<ChangeCause> for Fault {
+    ghost from_gives = { λ cause fault. fault ≡ cause_fault cause };
+
+    fn from(cause: ChangeCause) -> Fault {
+        match cause {
+            ChangeCause::Plan(fault) => Fault::from(fault),
+            ChangeCause::Splice(fault) => Fault::from(fault),
+        }
+    }
+}
+
+impl Fault {
+    /// The refusal of a list of changes whose change of this number is refused.
+    pub(crate) fn in_change(change: u64, cause: ChangeCause) -> Fault
+        ensures { result ≡ in_change change cause }
+    {
+        match cause {
+            ChangeCause::Plan(ChangeFault::OutOfMemory)
+            | ChangeCause::Splice(DocFault::OutOfMemory) => Fault::OutOfMemory,
+            _ => Fault::InChange { change, cause },
         }
     }
 }

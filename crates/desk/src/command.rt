@@ -1,11 +1,12 @@
 //! The commands of a client.
 
 use crate::ops::{
-    Change, Close, Encode, Errors, Lines, Offset, Open, Place, Position, Source, Splice, Stat, Text,
+    Change, Changes, Close, Encode, Errors, Lines, Offset, Open, Place, Position, Source, Splice,
+    Stat, Text,
 };
 
 /// One command. Its texts are borrowed from the line that it was parsed from.
-#[derive(Clone, Copy)]
+#[derive(Drop)]
 pub enum Command<'a> {
     /// Opens a document.
     Open(Open<'a>),
@@ -15,6 +16,8 @@ pub enum Command<'a> {
     Splice(Splice<'a>),
     /// Replaces a range of a document's text.
     Change(Change<'a>),
+    /// Makes a list of changes of a document's text.
+    Changes(Changes<'a>),
     /// Returns code points of a document's text.
     Text(Text<'a>),
     /// Returns bytes of a document as they are.

@@ -2,7 +2,7 @@
 ghost use Rattle.std.specs.Prelude.{◌≡◌, ◌≤◌, false, length, Ok};
 ghost use Rattle.std.specs.FinMap as map;
 ghost use Rattle.enc_names.specs.Settings.{setting_of};
-ghost use Rattle.desk.specs.Changes.{changes};
+ghost use Rattle.desk.specs.Accepted.{reports_change};
 ghost use Rattle.desk.specs.Commands.{asked, asked_of};
 ghost use Rattle.desk.specs.Desk.{Answers, Adopts};
 ghost use Rattle.desk.specs.Documents.{max_revision, reply_of};
@@ -80,7 +80,7 @@ impl<'i> Desk<'i> {
     /// Answers one command. A command that is refused changes nothing.
     pub fn answer(&mut self, command: &Command<'_>) -> Reply
         ensures step { Answers self.old (asked command.now) result self.new }
-        ensures kept { changes result ≡ false → self.new ≡ self.old }
+        ensures kept { reports_change result ≡ false → self.new ≡ self.old }
     {
         match self.decide(command) {
             Ok(reply) => reply,
@@ -97,6 +97,7 @@ impl<'i> Desk<'i> {
             Command::Close(close) => self.documents.close(close.doc),
             Command::Splice(splice) => self.splice(splice),
             Command::Change(change) => self.change(change),
+            Command::Changes(changes) => self.changes(changes),
             Command::Text(text) => self.ask(text.doc, text),
             Command::Source(source) => self.ask(source.doc, source),
             Command::Encode(encode) => self.ask(encode.doc, encode),

@@ -1,7 +1,7 @@
 //! The open documents by their names.
 ghost use Rattle.std.specs.Prelude.{◌≡◌, true, IfOk, OnOk, OnErr, is_some, string_bytes};
 ghost use Rattle.std.specs.FinMap as map;
-ghost use Rattle.desk.specs.Changes.{is_accepted};
+ghost use Rattle.desk.specs.Accepted.{is_accepted};
 ghost use Rattle.desk.specs.Close.{closed};
 ghost use Rattle.desk.specs.Desk.{IsOutcome, has_place, outcome};
 ghost use Rattle.desk.specs.Documents.{edit_reply, reply_of};

@@ -1,7 +1,7 @@
 //! Edits of a document: one form for all of them.
 ghost use Rattle.std.specs.Prelude.{◌≡◌, ℕ, true, OnErr, Result};
 ghost use Rattle.piece_rope.specs.Document.{Document};
-ghost use Rattle.desk.specs.Changes.{is_accepted};
+ghost use Rattle.desk.specs.Accepted.{is_accepted};
 ghost use Rattle.desk.specs.Edits.{Applied, Applies};
 ghost use Rattle.desk.specs.declared.fault.Fault.{Fault};
 ghost use Rattle.desk.specs.declared.reply.Reply.{Reply};

@@ -1,7 +1,7 @@
 //! Laws of the desk's definition, which every desk meets.
 ghost use Rattle.desk.specs.Apart.{DocumentsAreApart};
-ghost use Rattle.desk.specs.Changes.{OnlyChangesChange, RefusalsChangeNothing, MemoryIsNeverWanted};
-ghost use Rattle.desk.specs.KeptText.{ChangesKeepText};
+ghost use Rattle.desk.specs.Accepted.{OnlyChangesChange, RefusalsChangeNothing, MemoryIsNeverWanted};
+ghost use Rattle.desk.specs.KeptText.{ChangesKeepText, ListsAreTheirChanges, ListsKeepText};
 ghost use Rattle.desk.specs.Lives.{OpensBegin, AdoptionsBegin, ClosesEnd, Lives};
 
 /// A refused command changes nothing; and the definition itself never refuses for lack of memory.
@@ -21,9 +21,13 @@ pub fn law_lives_have_each_edit_once()
 {}
 
 /// An accepted change leaves the bytes of the splice planned for its range, whose text, decoded from
-/// scratch, is the old text with the code points of the range replaced.
+/// scratch, is the old text with the code points of the range replaced. So does each change of an
+/// accepted list, on what the one before left; and a list is accepted exactly where each of its
+/// changes is, in its turn.
 pub fn law_changes_keep_text()
-    ensures { ChangesKeepText }
+    ensures changes { ChangesKeepText }
+    ensures lists { ListsKeepText }
+    ensures each { ListsAreTheirChanges }
 {}
 
 /// What a desk answers for one document depends on no other, but for whether there is a place for

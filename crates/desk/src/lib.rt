@@ -3,6 +3,7 @@
 
 mod base64_text;
 mod causes;
+mod change_cause;
 mod command;
 mod desk;
 mod documents;
@@ -17,6 +18,7 @@ mod question;
 mod reply;
 mod text_mode;
 
+pub use change_cause::ChangeCause;
 pub use command::Command;
 pub use desk::Desk;
 pub use fault::Fault;

@@ -1,6 +1,6 @@
 //! One open document and its revision. What it answers to an op is in that op's file.
 ghost use Rattle.std.specs.Prelude.{◌≡◌, true, Ok, IfOk, OnErr};
-ghost use Rattle.desk.specs.Changes.{is_accepted};
+ghost use Rattle.desk.specs.Accepted.{is_accepted};
 ghost use Rattle.desk.specs.Documents.{edit_reply, edited_reply};
 ghost use Rattle.desk.specs.Edits.{at_revision, edited, Makes};
 ghost use Rattle.desk.specs.OpenDocuments.{entry_of};

@@ -1,6 +1,7 @@
 //! The ops, a file each: what a command asks, and how it is answered.
 
 mod change;
+mod changes;
 mod close;
 mod encode;
 mod errors;
@@ -15,6 +16,7 @@ mod stat;
 mod text;
 
 pub use change::Change;
+pub use changes::{Changes, ContentChange};
 pub use close::Close;
 pub use encode::Encode;
 pub use errors::Errors;

@@ -96,6 +96,17 @@ pub enum Reply {
         /// The document's revision after the command.
         rev: u64,
     },
+    /// A list of changes was made.
+    ChangesMade {
+        /// How many changes there were.
+        applied: u64,
+        /// How many bytes of the document are its byte order mark.
+        bom: u64,
+        /// The encoding in force.
+        encoding: Encoding,
+        /// The document's revision after the command.
+        rev: u64,
+    },
     /// A document was closed.
     Closed {
         /// The revision that it had.

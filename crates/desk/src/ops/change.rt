@@ -1,10 +1,11 @@
 //! The op `change`.
-ghost use Rattle.std.specs.Prelude.{◌≡◌};
+ghost use Rattle.std.specs.Prelude.{◌≡◌, OnErr};
 ghost use Rattle.desk.specs.Commands.{asked_of, ChangesText};
 ghost use Rattle.desk.specs.Desk.{Answers};
 ghost use Rattle.desk.specs.Documents.{reply_of};
-ghost use Rattle.desk.specs.Change.{changed, change_reply};
+ghost use Rattle.desk.specs.Change.{MakesChange, alone, changed, change_reply};
 
+use crate::change_cause::ChangeCause;
 use crate::desk::Desk;
 use crate::edit::Edit;
 use crate::fault::Fault;
@@ -45,7 +46,7 @@ impl Edit for Change<'_> {
 
     ghost named = { λ c. c.rev };
 
-    ghost applied = { λ c. changed c.unit c.range c.text.now };
+    ghost applied = { λ c d. alone (changed c.unit c.range c.text.now d) };
 
     ghost answer = { change_reply };
 
@@ -53,25 +54,8 @@ impl Edit for Change<'_> {
         self.rev
     }
 
-    // Nothing asks for memory behind the splice.
     fn apply(&self, alloc: Global, document: &mut Doc<'_>) -> Result<Plan, Fault> {
-        let plan = plan_change(
-            alloc,
-            document,
-            self.range,
-            self.unit,
-            self.text,
-            &mut visits(),
-        )?;
-        document.splice_kept(
-            plan.at,
-            plan.del,
-            plan.ins.as_slice(),
-            plan.i,
-            plan.j,
-            self.text,
-            &mut meter(),
-        )?;
+        let plan = make_change(alloc, document, self.unit, self.range, self.text)?;
         Ok(plan)
     }
 
@@ -85,4 +69,30 @@ impl Edit for Change<'_> {
             rev,
         }
     }
+}
+
+/// Puts a text in place of a range of a document's text, and without a range in place of all of it,
+/// or leaves the document as it is. Nothing asks for memory behind the splice.
+pub(crate) fn make_change(
+    alloc: Global,
+    document: &mut Doc<'_>,
+    unit: Unit,
+    range: Option<Range>,
+    text: &str,
+) -> Result<Plan, ChangeCause>
+    ensures step { MakesChange (changed unit range text.now document.old) result document.new }
+    ensures indexes { document.new.indexes ≡ document.old.indexes }
+    ensures err { OnErr result (document.new ≡ document.old) }
+{
+    let plan = plan_change(alloc, document, range, unit, text, &mut visits())?;
+    document.splice_kept(
+        plan.at,
+        plan.del,
+        plan.ins.as_slice(),
+        plan.i,
+        plan.j,
+        text,
+        &mut meter(),
+    )?;
+    Ok(plan)
 }

@@ -1,0 +1,32 @@
+-- Which replies accept a command, and what changes nothing.
+use Rattle.std.specs.Prelude.{◌≡◌, ◌≢◌, Bool, true, false}
+use Rattle.desk.specs.Commands.{Asked}
+use Rattle.desk.specs.Desk.{Office, answer_of}
+use Rattle.desk.specs.declared.fault.Fault.{Fault}
+use Rattle.desk.specs.declared.fault.Fault.TheVariants.{OutOfMemory}
+use Rattle.desk.specs.declared.reply.Reply.{Reply}
+use Rattle.desk.specs.declared.reply.Reply.TheVariants.{Edited, Changed, ChangesMade, Closed, Refused}
+
+abbrev pub is_accepted : Reply → Bool
+is_accepted (Refused fault) = false
+is_accepted reply = true
+
+-- the reply accepts an open, an edit or a close
+abbrev pub reports_change : Reply → Bool
+reports_change (Edited bom encoding rev) = true
+reports_change (Changed at bom del encoding ins rev) = true
+reports_change (ChangesMade applied bom encoding rev) = true
+reports_change (Closed rev) = true
+reports_change reply = false
+
+-- a command changes nothing, but for an open, an edit or a close that is accepted
+abbrev pub OnlyChangesChange : Type 0
+OnlyChangesChange = (o : Office) (c : Asked) → reports_change (answer_of o c).reply ≡ false → (answer_of o c).documents ≡ o.documents
+
+-- a command that is refused leaves the documents as they were
+abbrev pub RefusalsChangeNothing : Type 0
+RefusalsChangeNothing = (o : Office) (c : Asked) (fault : Fault) → (answer_of o c).reply ≡ Refused fault → (answer_of o c).documents ≡ o.documents
+
+-- that memory ran out is no part of what a command answers
+abbrev pub MemoryIsNeverWanted : Type 0
+MemoryIsNeverWanted = (o : Office) (c : Asked) → (answer_of o c).reply ≢ Refused OutOfMemory

@@ -1,0 +1,105 @@
+//! The op `changes`.
+ghost use Rattle.std.specs.Prelude.{◌≡◌, ◌≤◌, length, map, OnErr};
+ghost use Rattle.desk.specs.Commands.{MakesChanges, asked_of, change_of};
+ghost use Rattle.desk.specs.Desk.{Answers};
+ghost use Rattle.desk.specs.Documents.{reply_of};
+ghost use Rattle.desk.specs.Changes.{changed_all, changes_reply};
+ghost use Rattle.desk.specs.Edits.{Applies};
+
+use crate::desk::Desk;
+use crate::edit::Edit;
+use crate::fault::Fault;
+use crate::ops::change::make_change;
+use crate::reply::Reply;
+use piece_rope::Doc;
+use position_map::{Range, Unit};
+use std::alloc::Global;
+
+/// One change of a list.
+#[derive(Clone, Copy)]
+pub struct ContentChange<'a> {
+    /// The range to replace; the whole text without one.
+    pub range: Option<Range>,
+    /// The text to put in its place.
+    pub text: &'a str,
+}
+
+/// Makes a list of changes of a document's text, each on the result of the one before; all of them
+/// or none.
+#[derive(Drop)]
+pub struct Changes<'a> {
+    /// The document's name.
+    pub doc: &'a str,
+    /// The document's revision now.
+    pub rev: u64,
+    /// What the characters of ranges are counted in.
+    pub unit: Unit,
+    /// The changes.
+    pub changes: Vec<ContentChange<'a>>,
+}
+
+impl Desk<'_> {
+    /// Makes all changes of a list, under one revision more, or none of them.
+    pub(crate) fn changes(&mut self, changes: &Changes<'_>) -> Result<Reply, Fault>
+        ensures { Answers self.old (asked_of changes.now.doc.now (MakesChanges changes.now.rev changes.now.unit (map change_of changes.now.changes.items))) (reply_of result) self.new }
+    {
+        self.documents.edit(self.alloc, changes.doc, changes)
+    }
+}
+
+impl Edit for Changes<'_> {
+    /// How many changes were made.
+    type Done = u64;
+
+    ghost named = { λ c. c.rev };
+
+    ghost applied = { λ c. changed_all c.unit 0 (map change_of c.changes.items) };
+
+    ghost answer = { changes_reply };
+
+    fn rev(&self) -> u64 {
+        self.rev
+    }
+
+    // One change is made or refused as a whole. More are made on a copy, so that the document stays
+    // as it is until all are made.
+    fn apply(&self, alloc: Global, document: &mut Doc<'_>) -> Result<u64, Fault> {
+        let changes = self.changes.as_slice();
+        if changes.len() <= 1 {
+            return make_changes(alloc, document, self.unit, changes);
+        }
+        let mut copy = document.copy()?;
+        let made = make_changes(alloc, &mut copy, self.unit, changes)?;
+        *document = copy;
+        Ok(made)
+    }
+
+    fn reply(&self, done: &u64, document: &Doc<'_>, rev: u64) -> Reply {
+        Reply::ChangesMade {
+            applied: *done,
+            bom: document.bom_len(),
+            encoding: document.encoding(),
+            rev,
+        }
+    }
+}
+
+/// Makes changes one after another, up to the first that is refused, and counts them.
+fn make_changes(
+    alloc: Global,
+    document: &mut Doc<'_>,
+    unit: Unit,
+    changes: &[ContentChange<'_>],
+) -> Result<u64, Fault>
+    ensures step { Applies (changed_all unit 0 (map change_of changes.now) document.old) result document.new }
+    ensures indexes { document.new.indexes ≡ document.old.indexes }
+    ensures few { length changes.now ≤ 1 → OnErr result (document.new ≡ document.old) }
+{
+    'changes: for (number, change) in changes.iter().enumerate() {
+        let number = number as u64;
+        if let Err(cause) = make_change(alloc, document, unit, change.range, change.text) {
+            return Err(Fault::in_change(number, cause));
+        }
+    }
+    Ok(changes.len() as u64)
+}
