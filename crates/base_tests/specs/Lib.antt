@@ -1,1 +1,2 @@
+pub mod ExceptionFiles
 pub mod IndexFiles

@@ -1,6 +1,7 @@
-//! Index files of a few lines, their faults and look-ups in them, computed by the definitions. What
-//! the program answers over index files is tried on it as it was built, by tests/test_program.py and
-//! tools/hostile.
+//! Index files and files of exceptions of a few lines, their faults and look-ups in them, computed by
+//! the definitions. What the program answers over such files is tried on it as it was built, by
+//! tests/test_program.py and tools/hostile.
+ghost use Rattle.base_tests.specs.ExceptionFiles.{ExceptionFaults, ParsedExceptions};
 ghost use Rattle.base_tests.specs.IndexFiles.{Faults, Held, LookUps, ParsedFiles};
 
 /// The worked examples hold, by computing.
@@ -8,6 +9,8 @@ fn examples()
     ensures faults { Faults }
     ensures parsed_files { ParsedFiles }
     ensures look_ups { LookUps }
+    ensures exception_faults { ExceptionFaults }
+    ensures parsed_exceptions { ParsedExceptions }
 {}
 
 /// Which files are held, and which encodings have all of theirs.

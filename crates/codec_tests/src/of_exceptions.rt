@@ -6,8 +6,8 @@ ghost use Rattle.codec_tests.specs.EncoderEntries.{exceptions, gb18030, gb18030_
 ghost use Rattle.encoders.specs.Gb18030.{gb18030_bytes};
 
 use crate::indexes::small_indexes;
-use encoders::{EncodeFault, EncodeMode, Unencodable, encode};
 use enc_names::{Encoding, Scalar};
+use encoders::{EncodeFault, EncodeMode, Unencodable, encode};
 use index_loader::{ExceptionCause, ExceptionFault, Exceptions, Indexes};
 use std::alloc::Global;
 use std::test::Fail;
@@ -40,11 +40,7 @@ const ROWS: [(Encoding, &str, &[u8]); 7] = [
     (Encoding::Gbk, "\u{4E04}", b"\xB0\xA1"),
     (Encoding::Gb18030, "A\u{20AC}", b"A\xA2\xE3"),
     (Encoding::Gbk, "A\u{20AC}", b"A\x80"),
-    (
-        Encoding::Gb18030,
-        "\u{E7C7}\u{4E02}",
-        b"\xA8\xBC\x81\x40",
-    ),
+    (Encoding::Gb18030, "\u{E7C7}\u{4E02}", b"\xA8\xBC\x81\x40"),
     (Encoding::Gbk, "\u{E7C7}\u{554A}", b"\xA8\xBC\xB0\xA1"),
     (Encoding::EucKr, "\u{AC00}", b"\xB0\xA1"),
 ];
