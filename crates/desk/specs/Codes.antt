@@ -6,6 +6,7 @@ use Rattle.enc_names.specs.contracts.encoding.Encoding.{the_row}
 use Rattle.enc_names.specs.contracts.setting.Setting.{the_row as setting_row}
 use Rattle.enc_names.specs.declared.setting.Setting.{Setting}
 use Rattle.enc_names.specs.Labels.{LabelTable}
+use Rattle.index_loader.specs.Exceptions.{ExceptionTable}
 use Rattle.index_loader.specs.Files.{Files}
 use Rattle.index_loader.specs.Pairs.{Pairs}
 use Rattle.desk.specs.Documents.{Entry, Names}
@@ -22,7 +23,9 @@ names_code = map.code (coded_list coded_ℕ) entry_code
 
 abbrev pub files_code : Coded Files
 files_code =
-    code_by (List (Option Pairs)) (coded_list (coded_option (coded_list (coded× coded_ℕ coded_ℕ)))) (λ f. f.slots) (λ s. record { slots = s }) (λ _. refl)
+    code_by (List (Option Pairs) × ExceptionTable)
+    (coded× (coded_list (coded_option (coded_list (coded× coded_ℕ coded_ℕ)))) (coded_list (coded× coded_ℕ (coded_list coded_ℕ))))
+    (λ f. (f.slots, f.exceptions)) (λ p. record { slots = p.0; exceptions = p.1 }) (λ _. refl)
 
 abbrev pub shelf_code : Coded Shelf
 shelf_code = code_by (Files × Names) (coded× files_code names_code) (λ s. (s.indexes, s.named)) (λ p. record { indexes = p.0; named = p.1 }) (λ _. refl)
