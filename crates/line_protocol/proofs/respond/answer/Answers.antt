@@ -1,6 +1,6 @@
 use Rattle.std.proofs.Common.{subst}
 use Rattle.line_protocol.specs.Step.{IsStep, step_by}
-use Rattle.line_protocol.proofs.StepReplies.{desk_step, refused_step, unwritten_reply_step}
+use Rattle.line_protocol.proofs.StepReplies.{desk_step, unparsed_step, unwritten_reply_step}
 use Rattle.line_protocol.proofs.respond.answer.Goals as goal
 
 pub returns-in-Ok-of : goal.returns-in-Ok-of
@@ -14,5 +14,4 @@ returns-in-Ok c =
 
 pub returns : goal.returns
 returns c =
-    subst (λ r. IsStep c.args.desk.now (step_by c.args.desk.now r) c.refused.result c.args.desk.now) c.in-Err.ensures
-    (refused_step c.args.desk.now c.in-Err.refusal c.refused.result c.refused.ensures.text)
+    unparsed_step c.args.desk.now _ c.in-Err.refusal c.refused.result c.in-Err.ensures c.refused.ensures.text
