@@ -138,20 +138,16 @@ impl Reason {
         let fault = ("fault", Content::Text(self.name));
         match (self.change, self.id) {
             (None, None) => with_more(&[fault], self.more),
-            (None, Some(id)) => with_more(&[fault, number("id", id)], self.more),
-            (Some(change), None) => with_more(&[number("change", change), fault], self.more),
+            (None, Some(id)) => with_more(&[fault, ("id", Content::Number(id))], self.more),
+            (Some(change), None) => {
+                with_more(&[("change", Content::Number(change)), fault], self.more)
+            }
             (Some(change), Some(id)) => {
-                with_more(&[number("change", change), fault, number("id", id)], self.more)
+                let (change, id) = (Content::Number(change), Content::Number(id));
+                with_more(&[("change", change), fault, ("id", id)], self.more)
             }
         }
     }
-}
-
-/// A member that is a number.
-fn number(key: &'static str, number: u64) -> Member<'static>
-    ensures { result ≡ (key, Content.Number number) }
-{
-    (key, Content::Number(number))
 }
 
 /// The line of an object with these members and further ones.
