@@ -9,7 +9,8 @@ use Rattle.desk.specs.declared.reply.Reply.TheVariants.{Edited, Changed, Changes
 use Rattle.desk.specs.declared.reply.Reply.TheVariants as replies
 use Rattle.line_protocol.specs.declared.request.refusal.Refusal.{Refusal}
 use Rattle.line_protocol.specs.declared.request.refusal.Refusal.TheVariants as refusal
-use Rattle.desk.specs.Commands.{Asked}
+use Rattle.desk.specs.Commands.{Asked, asked}
+use Rattle.desk.specs.declared.command.Command.{Command}
 use Rattle.line_protocol.specs.Request.{◌>>=◌, json_of_line, request_of, IsJsonOfLine, IsRequest}
 use Rattle.line_protocol.specs.Inline.{is_short}
 use Rattle.line_protocol.specs.Replies.{reply_text, refusal_text, memory_text}
@@ -34,7 +35,7 @@ same_step old new id outcome reply text e o p q =
     ap (answered old id) o ∙ ap (λ t. step t old.indexes old.labels) (sym e) ∙ ap (λ i. step text i old.labels) (sym p) ∙ ap (λ l. step text new.indexes l) (sym q)
 
 -- the desk answered, and its reply was written
-pub desk_step : (old new : Office) (id : ℕ) (command : Asked) (reply : Reply) (text : List ℕ) → text ≡ reply_text id reply → Answers old command reply new
+desk_step : (old new : Office) (id : ℕ) (command : Asked) (reply : Reply) (text : List ℕ) → text ≡ reply_text id reply → Answers old command reply new
     → IsStep old (answered old id (answer_of old command)) text new
 desk_step old new id command (Refused OutOfMemory) text e a = ran_out e (same_office old new a.indexes a.labels a.step)
 desk_step old new id command reply text e a = taken (same_step old new id _ reply text e a.step a.indexes a.labels)
@@ -65,8 +66,13 @@ unwritten_reply_step old new step reply text e long kept = ran_out e (kept (long
 -- ---- refusals
 
 -- a line is refused, and the desk stays
-pub refused_step : (o : Office) (r : Refusal) (text : List ℕ) → text ≡ refusal_text r → IsStep o (step_by o (Err r)) text o
+refused_step : (o : Office) (r : Refusal) (text : List ℕ) → text ≡ refusal_text r → IsStep o (step_by o (Err r)) text o
 refused_step o r text e = taken (ap (λ x. let s : Step = record { text = x; office = o } in s) (sym e))
+
+-- the desk answered a request, and its reply was written
+pub parsed_step : (old new : Office) (d : Data) (id : ℕ) (command : Command) (reply : Reply) (text : List ℕ) → IsRequest d (Ok (id, command)) → text ≡ reply_text id reply
+    → Answers old (asked command) reply new → IsStep old (step_by old (request_of d)) text new
+parsed_step old new d id command reply text is e a = subst (λ r. IsStep old (step_by old r) text new) is (desk_step old new id (asked command) reply text e a)
 
 -- a request without a command, or whose list memory didn't suffice for
 pub unparsed_step : (o : Office) (d : Data) (r : Refusal) (text : List ℕ) → IsRequest d (Err r) → text ≡ refusal_text r → IsStep o (step_by o (request_of d)) text o

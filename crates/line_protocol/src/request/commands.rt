@@ -9,8 +9,8 @@ use crate::request::change_list::change_list;
 use crate::request::field::Field;
 use crate::request::fields::{self, MAX_NUMBER};
 use crate::request::refusal::Refusal;
-use desk::ops::{self, ContentChange};
 use desk::Command;
+use desk::ops::{self, ContentChange};
 use serde_json::Value;
 use std::alloc::Global;
 
@@ -117,10 +117,7 @@ fn change(value: &Value) -> Result<Command<'_>, Field>
 
 /// The command `changes`, or the first faulty field. The list of changes was read before, since it
 /// takes memory; it is none where it is faulty.
-fn changes<'a>(
-    value: &'a Value,
-    list: Option<Vec<ContentChange<'a>>>,
-) -> Result<Command<'a>, Field>
+fn changes<'a>(value: &'a Value, list: Option<Vec<ContentChange<'a>>>) -> Result<Command<'a>, Field>
     requires { option_map (λ list. map change_of list.items) list ≡ changes_at (view value.now) }
     ensures { command_asked result ≡ changes_command (view value.now) }
 {

@@ -1,4 +1,4 @@
-use Rattle.std.proofs.Common.{◌≡◌, List, [], ◌∷◌, drop, map, ◌+◌, refl, sym, ap, ◌∙◌}
+use Rattle.std.proofs.Common.{◌≡◌, List, [], drop, map, ◌+◌, sym, ap, ◌∙◌}
 use Rattle.std.proofs.Math.ListN.{drop_of_length-le}
 use Rattle.serde_json.specs.View.{items_view}
 use Rattle.serde_json.specs.declared.value.Value.{Value}
@@ -16,7 +16,7 @@ returns-in_default c =
     let rest = drop (c.loop-element.element-index + 1) c.args.elements.now in
     sym (stops front c.element-item.result rest c.in_default.ensures)
     ∙ ap (λ (vs : List Value). behind front (as_changes (items_view vs)))
-      (next_element c.args.elements.now c.loop-element.element-index c.element-item.result c.loop-element-test.true c.element-item.is)
+    (next_element c.args.elements.now c.loop-element.element-index c.element-item.result c.loop-element-test.true c.element-item.is)
     ∙ c.loop-element.invariant
 
 pub loop-element-preserved : goal.loop-element-preserved
@@ -25,7 +25,7 @@ loop-element-preserved c =
     let rest = drop (c.loop-element.element-index + 1) c.args.elements.now in
     rw c.in_ok-push.ensures.items (goes_on c.loop-element.list.items c.in-Some.change c.element-item.result rest c.in-Some.ensures
     ∙ ap (λ (vs : List Value). behind front (as_changes (items_view vs)))
-      (next_element c.args.elements.now c.loop-element.element-index c.element-item.result c.loop-element-test.true c.element-item.is)
+    (next_element c.args.elements.now c.loop-element.element-index c.element-item.result c.loop-element-test.true c.element-item.is)
     ∙ c.loop-element.invariant)
 
 pub returns : goal.returns
