@@ -18,12 +18,14 @@ import socket
 import subprocess
 import threading
 import time
-from typing import Any, BinaryIO, Callable, Dict, List, Optional, Tuple, Union
+from typing import Any, BinaryIO, Callable, Dict, List, Optional, Sequence, Tuple, Union
 
 # What a reply or a refusal says, by the names that docs/PROTOCOL.md has.
 Members = Dict[str, Any]
 # A line and a character, both counted from 0, or the code points where something begins and ends.
 Pair = Tuple[int, int]
+# A change: its text alone, for the whole text, or its text and from where to where.
+Change = Union[Tuple[str], Tuple[str, Pair], Tuple[str, Pair, Pair]]
 
 # The most bytes of a document that one line has room for: 4 MiB of line, less its other fields, as base64.
 ROOM = 3_000_000
@@ -200,9 +202,15 @@ class Document:
         """Replaces the text from one position, a line and a character, to another; without positions the whole text.
         Returns the edit. A change of the whole text encodes all of it anew, and so bytes that nobody meant: send the
         smallest range that differs."""
-        where = {} if start is None else {"range": {"start": _position(start), "end": _position(end or start)}}
-        reply = self._take(self._gate.ask("change", doc=self.name, rev=self.rev, unit=unit, text=text, **where))
+        reply = self._take(self._gate.ask("change", doc=self.name, rev=self.rev, unit=unit, **_change(text, start, end)))
         return self._put(reply["at"], reply["del"], self.source(reply["at"], reply["ins"]))
+
+    def changes(self, listed: Sequence[Change], unit: str = "utf-16") -> Edit:
+        """Makes changes in one command, as an editor lists them, or none of them: each is what `change` takes, and its
+        positions are those of the text that the ones before it leave. Returns one edit, of all bytes between the first
+        that differs and the last."""
+        self._take(self._gate.ask("changes", doc=self.name, rev=self.rev, unit=unit, changes=[_change(*it) for it in listed]))
+        return self._put(*_difference(self.bytes, self.source(0, self.stat()["bytes"])))
 
     def undo(self, edit: Edit) -> Edit:
         """Takes the last edit back, by the bytes that were there: their text, put in again, may have others. Returns
@@ -270,3 +278,16 @@ def _base64(content: bytes) -> str:
 def _position(position: Pair) -> Dict[str, int]:
     line, character = position
     return {"line": line, "character": character}
+
+
+def _change(text: str, start: Optional[Pair] = None, end: Optional[Pair] = None) -> Members:
+    where = {} if start is None else {"range": {"start": _position(start), "end": _position(end or start)}}
+    return {"text": text, **where}
+
+
+def _difference(old: bytes, new: bytes) -> Tuple[int, int, bytes]:
+    """Where two contents begin to differ, how many bytes of the old one do, and which those of the new one are."""
+    at = len(os.path.commonprefix([old, new]))
+    left = min(len(old), len(new)) - at
+    same = len(os.path.commonprefix([old[len(old) - left :][::-1], new[len(new) - left :][::-1]]))
+    return at, len(old) - at - same, new[at : len(new) - same]

@@ -43,6 +43,26 @@ class Documents(unittest.TestCase):
         document.undo(edit)
         self.assertEqual((document.bytes, document.source()), (b"a\xffb", b"a\xffb"))
 
+    def test_a_list_of_changes_is_one_edit(self):
+        content = "a😀\r\nb".encode()
+        document = self.gate.open("d", "utf-8", content)
+        edit = document.changes([("x", (0, 1), (0, 3)), ("yz", (1, 0), (1, 1))])
+        self.assertEqual((document.text(), document.rev), ("ax\r\nyz", 1))
+        self.assertEqual((edit.at, edit.old, edit.new), (1, content[1:], b"x\r\nyz"))
+        self.assertEqual(document.bytes, document.source())
+        document.undo(edit)
+        self.assertEqual((document.bytes, document.source()), (content, content))
+        edit = document.changes([("aa", (0, 0)), ("", (0, 1), (0, 2))])
+        self.assertEqual((document.text(), edit.old, edit.new), ("aa😀\r\nb", b"", b"a"))
+        self.assertEqual((document.changes([]).new, document.rev), (b"", 4))
+
+    def test_a_list_of_changes_is_refused_as_a_whole(self):
+        document = self.gate.open("d", "utf-8", b"a")
+        with self.assertRaises(Fault) as refused:
+            document.changes([("a😀",), ("x", (0, 2))])
+        self.assertEqual((refused.exception.name, refused.exception.members), ("SplitsCharacter", {"change": 1}))
+        self.assertEqual((document.rev, document.bytes, document.source()), (0, b"a", b"a"))
+
     def test_a_refusal_is_an_exception_with_its_members(self):
         document = self.gate.open("d", "windows-1252", b"A")
         with self.assertRaises(Fault) as refused:

@@ -227,6 +227,21 @@ def becomes(given, content, command, wanted, line, more):
     return [(command, made), *has_bytes(left, 1)]
 
 
+def changes(rev, *listed):
+    """A list of these changes."""
+    return {"op": "changes", "rev": rev, "changes": [{key: it[key] for key in ("range", "text")} for it in listed]}
+
+
+def of_a_list(rows, number):
+    """These rows of `becomes`, for the list in which the change has this number and all before it put in nothing."""
+    (command, reply), *left = rows
+    if "fault" in reply:
+        wanted = {"change": number, **reply}
+    else:
+        wanted = {"applied": number + 1, **{key: reply[key] for key in ("bom", "encoding", "rev")}}
+    return [(changes(0, *[change(0, 0, 0, "")] * number, command), wanted), *left]
+
+
 # Documents: the encoding given, the bytes, the text, and from where to where its errors are.
 DECODED = [
     ("UTF-8", b"", "", []),
@@ -312,6 +327,24 @@ LONGEST = [
     (text(4, 7), {"text": "aaa", "rev": 0}),
     (splices(0, 5, 1, b"b"), opened("UTF-8", b"a", 1)),
     (text(4, 7), {"text": "aba", "rev": 1}),
+    (changes(1, change(0, 0, 0, "c"), change(0, 0, 1, "")), {"change": 0, "fault": "TooLarge"}),
+    (changes(1, change(0, 0, 1, ""), change(0, 0, 0, "c"), change(0, 0, 0, "d")), {"change": 2, "fault": "TooLarge"}),
+    (text(0, 2), {"text": "aa", "rev": 1}),
+    (changes(1, change(0, 0, 1, ""), change(0, 0, 0, "c")), {"applied": 2, **opened("UTF-8", b"a", 2)}),
+    (text(0, 2), {"text": "ca", "rev": 2}),
+]
+
+# Letters that are put in one in front of the other, the most that a list has and one more.
+LETTERS = [change(0, 0, 0, "abcdefghij"[number % 10]) for number in range(1001)]
+LISTED = b"jihgfedcba" * 100
+LONG_LISTS = [
+    (opens("UTF-8", b""), opened("UTF-8", b"")),
+    (changes(0, *LETTERS), {"fault": "BadRequest", "field": "changes"}),
+    (changes(0, *LETTERS[:999], change(0, 0, 0, None)), {"fault": "BadRequest", "field": "changes"}),
+    (changes(0, *LETTERS[:999], change(0, 1, 0, "")), {"change": 999, "fault": "OutOfRange"}),
+    *has_bytes(b"", 0),
+    (changes(0, *LETTERS[:1000]), {"applied": 1000, **opened("UTF-8", LISTED, 1)}),
+    *has_bytes(LISTED, 1),
 ]
 
 
@@ -340,7 +373,10 @@ class Documents(Played):
             for line, more in arounds:
                 with self.subTest(f"{shows}, {line} lines before and {more} behind"):
                     before = surrounded(content, line, more)
-                    self.of_one(whole(given, before) + becomes(given, before, change(line, begin, end, new), wanted, line, more))
+                    rows = becomes(given, before, change(line, begin, end, new), wanted, line, more)
+                    self.of_one(whole(given, before) + rows)
+                    for number in (0,) if given == "replacement" else (0, 2):
+                        self.of_one(whole(given, before) + of_a_list(rows, number))
 
     def test_documents_spliced_together(self):
         for given, content, string, places in DECODED:
@@ -368,6 +404,9 @@ class Documents(Played):
 
     def test_the_longest_document(self):
         self.of_one(LONGEST)
+
+    def test_the_longest_list_of_changes(self):
+        self.of_one(LONG_LISTS)
 
 
 if __name__ == "__main__":

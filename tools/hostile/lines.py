@@ -49,6 +49,15 @@ def splice(at, cut, rev=0):
     return b'{"id":1,"op":"splice","doc":"kept","rev":%d,"at":%d,"del":%d,"bytes":""}' % (rev, at, cut)
 
 
+# A change that is refused: its range ends in front of its start.
+BACKWARDS = b'{"range":{"start":{"line":0,"character":1},"end":{"line":0,"character":0}},"text":""}'
+
+
+def changes(one, count, *more):
+    """A list that has this change so many times, and then more."""
+    return b'{"id":1,"op":"changes","doc":"kept","rev":0,"changes":[%s]}' % b",".join([one] * count + list(more))
+
+
 # What is sent, and the reply.
 LINES = [
     ("an empty line", b"", BAD_JSON),
@@ -106,6 +115,12 @@ LINES = [
     ("a document of 2,097,152 bytes", opens(base64.b64encode(b"\0" * LARGEST)), OPENED_1),
     ("a document of 2,097,153 bytes", opens(base64.b64encode(b"\0" * (LARGEST + 1))), fault(b"TooLarge")),
     ("a label of a megabyte", opens(b"", label=b"x" * (1 << 20)), fault(b"UnknownLabel")),
+    ("a list of 1,001 changes", changes(b'{"text":"x"}', 1001), bad("changes", 1)),
+    ("a list of a million numbers", changes(b"0", 1000000), bad("changes", 1)),
+    ("a list of 1,000 changes, of which the last is none", changes(b'{"text":"x"}', 999, b"{}"), bad("changes", 1)),
+    ("a list of 1,000 changes, of which the last is refused", changes(b'{"text":"x"}', 999, BACKWARDS), b'{"change":999,"fault":"OutOfRange","id":1}'),
+    ("a list of 1,000 long changes, of which the last is refused", changes(b'{"text":"%s"}' % (b"x" * 4000), 999, BACKWARDS), b'{"change":999,"fault":"OutOfRange","id":1}'),
+    ("a list that nests", changes(b"[" * 120 + b"]" * 120, 1), bad("changes", 1)),
     ("a splice far past the end", splice(9007199254740991, 9007199254740991), fault(b"OutOfRange")),
     ("a splice a byte past the end", splice(0, 4), fault(b"OutOfRange")),
     ("a splice of another revision", splice(0, 3, 1), b'{"fault":"Stale","id":1,"rev":0}'),

@@ -1,3 +1,4 @@
+pub mod ChangeLists
 mod DroppedLines
 mod MemoryReplies
 pub mod Merging

@@ -2,12 +2,12 @@
 use Rattle.std.proofs.Common.{◌≡◌, ℕ, Bool, true, false, nat_lt, List, length, Result, Ok, Err, MatchBool, refl, sym, ap, ◌∙◌}
 use Rattle.std.specs.Str.{bytes_eq}
 use Rattle.json.specs.Print.{escape_byte}
-use Rattle.desk.specs.Changes.{changes, OnlyChangesChange}
+use Rattle.desk.specs.Accepted.{reports_change, OnlyChangesChange}
 use Rattle.desk.specs.Commands.{Asked}
 use Rattle.desk.specs.Desk.{Office, answer_of}
 use Rattle.desk.specs.Documents.{Names}
 use Rattle.desk.specs.declared.reply.Reply.{Reply}
-use Rattle.desk.specs.declared.reply.Reply.TheVariants.{Edited, Changed, Closed}
+use Rattle.desk.specs.declared.reply.Reply.TheVariants.{Edited, Changed, ChangesMade, Closed}
 use Rattle.line_protocol.specs.declared.request.refusal.Refusal.{Refusal}
 use Rattle.line_protocol.specs.Replies.{reply_text, memory_text}
 use Rattle.line_protocol.specs.Request.{request_of_line}
@@ -21,10 +21,11 @@ differs : (text : List ℕ) → bytes_eq text memory_text ≡ false → text ≡
 differs text apart e = let no : true ≡ false = sym memory_same ∙ ap (λ t. bytes_eq t memory_text) (sym e) ∙ apart in cc
 
 -- an open, an edit or a close that is accepted has another text
-changes_nothing : (id : ℕ) (reply : Reply) → reply_text id reply ≡ memory_text → changes reply ≡ false
+changes_nothing : (id : ℕ) (reply : Reply) → reply_text id reply ≡ memory_text → reports_change reply ≡ false
 unfolding escape_byte
 changes_nothing id (Edited bom encoding rev) e = absurd (differs (reply_text id (Edited bom encoding rev)) refl e)
 changes_nothing id (Changed at bom del encoding ins rev) e = absurd (differs (reply_text id (Changed at bom del encoding ins rev)) refl e)
+changes_nothing id (ChangesMade applied bom encoding rev) e = absurd (differs (reply_text id (ChangesMade applied bom encoding rev)) refl e)
 changes_nothing id (Closed rev) e = absurd (differs (reply_text id (Closed rev)) refl e)
 changes_nothing id reply e = refl
 

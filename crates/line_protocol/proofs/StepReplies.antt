@@ -5,18 +5,19 @@ use Rattle.enc_names.specs.Labels.{LabelTable}
 use Rattle.index_loader.specs.Files.{Files}
 use Rattle.desk.specs.declared.fault.Fault.TheVariants.{OutOfMemory}
 use Rattle.desk.specs.declared.reply.Reply.{Reply}
-use Rattle.desk.specs.declared.reply.Reply.TheVariants.{Edited, Changed, Closed, Text, Bytes, Errors, Lines, Position, Offset, Stat, Refused}
+use Rattle.desk.specs.declared.reply.Reply.TheVariants.{Edited, Changed, ChangesMade, Closed, Text, Bytes, Errors, Lines, Position, Offset, Stat, Refused}
 use Rattle.desk.specs.declared.reply.Reply.TheVariants as replies
 use Rattle.line_protocol.specs.declared.request.refusal.Refusal.{Refusal}
 use Rattle.line_protocol.specs.declared.request.refusal.Refusal.TheVariants as refusal
-use Rattle.desk.specs.Commands.{Asked}
-use Rattle.line_protocol.specs.Request.{◌>>=◌, json_of_line, request_of, IsJsonOfLine}
+use Rattle.desk.specs.Commands.{Asked, asked}
+use Rattle.desk.specs.declared.command.Command.{Command}
+use Rattle.line_protocol.specs.Request.{◌>>=◌, json_of_line, request_of, IsJsonOfLine, IsRequest}
 use Rattle.line_protocol.specs.Inline.{is_short}
 use Rattle.line_protocol.specs.Replies.{reply_text, refusal_text, memory_text}
 use Rattle.std.proofs.lemmas.Bool.{false_from_ne_true}
 use Rattle.desk.specs.Documents.{Names}
 use Rattle.desk.specs.Desk.{Office, Outcome, Answers, answer_of}
-use Rattle.desk.specs.Changes.{changes}
+use Rattle.desk.specs.Accepted.{reports_change}
 use Rattle.line_protocol.proofs.DroppedLines.{memory_answers}
 use Rattle.line_protocol.specs.Step.{Step, IsStep, taken, ran_out, Replies, answered, step_by, step_of, line_limit}
 
@@ -34,7 +35,7 @@ same_step old new id outcome reply text e o p q =
     ap (answered old id) o ∙ ap (λ t. step t old.indexes old.labels) (sym e) ∙ ap (λ i. step text i old.labels) (sym p) ∙ ap (λ l. step text new.indexes l) (sym q)
 
 -- the desk answered, and its reply was written
-pub desk_step : (old new : Office) (id : ℕ) (command : Asked) (reply : Reply) (text : List ℕ) → text ≡ reply_text id reply → Answers old command reply new
+desk_step : (old new : Office) (id : ℕ) (command : Asked) (reply : Reply) (text : List ℕ) → text ≡ reply_text id reply → Answers old command reply new
     → IsStep old (answered old id (answer_of old command)) text new
 desk_step old new id command (Refused OutOfMemory) text e a = ran_out e (same_office old new a.indexes a.labels a.step)
 desk_step old new id command reply text e a = taken (same_step old new id _ reply text e a.step a.indexes a.labels)
@@ -42,9 +43,10 @@ desk_step old new id command reply text e a = taken (same_step old new id _ repl
 -- ---- replies that need memory
 
 -- a reply with a text or a list reports no change
-long_keeps : (reply : Reply) → is_short reply ≡ false → changes reply ≡ false
+long_keeps : (reply : Reply) → is_short reply ≡ false → reports_change reply ≡ false
 long_keeps (Edited bom encoding rev) long = cc
 long_keeps (Changed at bom del encoding ins rev) long = cc
+long_keeps (ChangesMade applied bom encoding rev) long = cc
 long_keeps (Closed rev) long = cc
 long_keeps (Refused fault) long = refl
 long_keeps (Text rev text) long = refl
@@ -57,15 +59,25 @@ long_keeps (replies.Place rev place utf8 utf16 utf32) long = refl
 long_keeps (Stat rev given encoding bom bytes errors lines utf8 utf16 utf32) long = refl
 
 -- the desk answered, and memory didn't suffice to write its reply
-pub unwritten_reply_step : (old new : Office) (step : Step) (reply : Reply) (text : List ℕ) → text ≡ memory_text → (is_short reply ≡ true → ⊥) → (changes reply ≡ false → new ≡ old)
+pub unwritten_reply_step : (old new : Office) (step : Step) (reply : Reply) (text : List ℕ) → text ≡ memory_text → (is_short reply ≡ true → ⊥) → (reports_change reply ≡ false → new ≡ old)
     → IsStep old step text new
 unwritten_reply_step old new step reply text e long kept = ran_out e (kept (long_keeps reply (false_from_ne_true _ long)))
 
 -- ---- refusals
 
 -- a line is refused, and the desk stays
-pub refused_step : (o : Office) (r : Refusal) (text : List ℕ) → text ≡ refusal_text r → IsStep o (step_by o (Err r)) text o
+refused_step : (o : Office) (r : Refusal) (text : List ℕ) → text ≡ refusal_text r → IsStep o (step_by o (Err r)) text o
 refused_step o r text e = taken (ap (λ x. let s : Step = record { text = x; office = o } in s) (sym e))
+
+-- the desk answered a request, and its reply was written
+pub parsed_step : (old new : Office) (d : Data) (id : ℕ) (command : Command) (reply : Reply) (text : List ℕ) → IsRequest d (Ok (id, command)) → text ≡ reply_text id reply
+    → Answers old (asked command) reply new → IsStep old (step_by old (request_of d)) text new
+parsed_step old new d id command reply text is e a = subst (λ r. IsStep old (step_by old r) text new) is (desk_step old new id (asked command) reply text e a)
+
+-- a request without a command, or whose list memory didn't suffice for
+pub unparsed_step : (o : Office) (d : Data) (r : Refusal) (text : List ℕ) → IsRequest d (Err r) → text ≡ refusal_text r → IsStep o (step_by o (request_of d)) text o
+unparsed_step o d refusal.OutOfMemory text is e = ran_out e refl
+unparsed_step o d r text is e = subst (λ s. IsStep o (step_by o s) text o) is (refused_step o r text e)
 
 -- ---- lines
 

@@ -2,7 +2,7 @@
 use Rattle.std.specs.Prelude.{◌≡◌, ◌≤◌, ℕ, length, List, Bool, true, false}
 use Rattle.serde_json.specs.Data.{Data}
 use Rattle.desk.specs.declared.reply.Reply.{Reply}
-use Rattle.desk.specs.declared.reply.Reply.TheVariants.{Edited, Changed, Closed, Text, Bytes, Errors, Lines, Position, Offset, Stat, Refused}
+use Rattle.desk.specs.declared.reply.Reply.TheVariants.{Edited, Changed, ChangesMade, Closed, Text, Bytes, Errors, Lines, Position, Offset, Stat, Refused}
 use Rattle.desk.specs.declared.reply.Reply.TheVariants as replies
 use Rattle.line_protocol.specs.Replies.{line_of}
 
@@ -18,6 +18,7 @@ IsShortLine d line = (line ≡ line_of d) × (length line ≤ inline_limit)
 abbrev pub is_short : Reply → Bool
 is_short (Edited bom encoding rev) = true
 is_short (Changed at bom del encoding ins rev) = true
+is_short (ChangesMade applied bom encoding rev) = true
 is_short (Closed rev) = true
 is_short (Text rev text) = false
 is_short (Bytes rev bytes) = false

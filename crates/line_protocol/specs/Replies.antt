@@ -10,10 +10,11 @@ use Rattle.enc_names.specs.Names.{name_of}
 use Rattle.enc_names.specs.declared.encoding.Encoding.{Encoding}
 use Rattle.enc_names.specs.declared.place.Place.{Place}
 use Rattle.desk.specs.declared.fault.Fault.{Fault}
-use Rattle.desk.specs.declared.fault.Fault.TheVariants.{BadBase64, NoDocument, NameTaken, UnknownLabel, NoIndex, TooManyDocuments, Stale, RevisionsSpent, OutOfRange, SplitsCharacter, SplitsItem, NoEncoder, Unencodable, TooLarge, NotKept, Malformed, OutOfMemory}
+use Rattle.desk.specs.declared.fault.Fault.TheVariants.{BadBase64, NoDocument, NameTaken, UnknownLabel, NoIndex, TooManyDocuments, Stale, RevisionsSpent, OutOfRange, SplitsCharacter, SplitsItem, NoEncoder, Unencodable, TooLarge, NotKept, InChange, Malformed, OutOfMemory}
+use Rattle.desk.specs.Change.{cause_fault}
 use Rattle.desk.specs.declared.reply.Reply.{Reply}
 use Rattle.desk.specs.declared.line.Line.{Line}
-use Rattle.desk.specs.declared.reply.Reply.TheVariants.{Edited, Changed, Closed, Text, Bytes, Errors, Lines, Position, Offset, Stat, Refused}
+use Rattle.desk.specs.declared.reply.Reply.TheVariants.{Edited, Changed, ChangesMade, Closed, Text, Bytes, Errors, Lines, Position, Offset, Stat, Refused}
 use Rattle.desk.specs.declared.reply.Reply.TheVariants as replies
 use Rattle.line_protocol.specs.declared.request.field.Field.{Field}
 use Rattle.line_protocol.specs.declared.request.field.Field.TheVariants as field
@@ -44,6 +45,7 @@ field_name field.Unit = codes "unit"
 field_name field.Value = codes "value"
 field_name field.Range = codes "range"
 field_name field.Text = codes "text"
+field_name field.Changes = codes "changes"
 
 -- ---- data
 
@@ -81,6 +83,11 @@ changed_data id at bom del encoding ins rev =
     object (member (codes "at") (whole at) (member (codes "bom") (whole bom) (member (codes "del") (whole del)
     (member (codes "encoding") (string (name_of encoding)) (member (codes "id") (whole id) (member (codes "ins") (whole ins)
     (member (codes "rev") (whole rev) no_members)))))))
+
+abbrev pub changes_made_data : ℕ → ℕ → ℕ → Encoding → ℕ → Data
+changes_made_data id applied bom encoding rev =
+    object (member (codes "applied") (whole applied) (member (codes "bom") (whole bom) (member (codes "encoding") (string (name_of encoding))
+    (member (codes "id") (whole id) (member (codes "rev") (whole rev) no_members)))))
 
 abbrev pub closed_data : ℕ → ℕ → Data
 closed_data id rev = object (member (codes "id") (whole id) (member (codes "rev") (whole rev) no_members))
@@ -138,14 +145,20 @@ merged (member k x xs) no_members = member k x xs
 merged (member k x xs) (member l y ys) =
     if key_before k l then member k x (merged xs (member l y ys)) else member l y (merged (member k x xs) ys)
 
--- why something is refused, as its line says it: a name, the number of the request where the line has it, and further members
+-- why something is refused, as its line says it: a name, the number of the request where the line has it, that of the change where it is
+-- one of a list, and further members
 pub record Reason : Type 0 where
   pub name : List ℕ
   pub id : Option ℕ
+  pub change : Option ℕ
   pub more : Members
 
 abbrev pub reason : List ℕ → Option ℕ → Members → Reason
-reason name id more = record { name = name; id = id; more = more }
+reason name id more = record { name = name; id = id; change = None; more = more }
+
+-- why a change of a list is refused, by its number from 0 and why it would be refused alone
+abbrev pub in_change : ℕ → Reason → Reason
+in_change change r = record { name = r.name; id = r.id; change = Some change; more = r.more }
 
 -- a further member, which is a whole number
 abbrev pub with_number : List ℕ → ℕ → Members → Members
@@ -155,26 +168,32 @@ with_number key n more = member key (whole n) more
 abbrev pub memory_reason : Reason
 memory_reason = reason (codes "OutOfMemory") None no_members
 
+-- why the desk refuses the request with this number, but for a change of a list
+abbrev pub plain_reason : ℕ → Fault → Reason
+plain_reason id BadBase64 = reason (codes "BadBase64") (Some id) no_members
+plain_reason id NoDocument = reason (codes "NoDocument") (Some id) no_members
+plain_reason id NameTaken = reason (codes "NameTaken") (Some id) no_members
+plain_reason id UnknownLabel = reason (codes "UnknownLabel") (Some id) no_members
+plain_reason id NoIndex = reason (codes "NoIndex") (Some id) no_members
+plain_reason id TooManyDocuments = reason (codes "TooManyDocuments") (Some id) no_members
+plain_reason id (Stale rev) = reason (codes "Stale") (Some id) (with_number (codes "rev") rev no_members)
+plain_reason id RevisionsSpent = reason (codes "RevisionsSpent") (Some id) no_members
+plain_reason id OutOfRange = reason (codes "OutOfRange") (Some id) no_members
+plain_reason id SplitsCharacter = reason (codes "SplitsCharacter") (Some id) no_members
+plain_reason id SplitsItem = reason (codes "SplitsItem") (Some id) no_members
+plain_reason id NoEncoder = reason (codes "NoEncoder") (Some id) no_members
+plain_reason id (Unencodable code_point index) =
+    reason (codes "Unencodable") (Some id) (with_number (codes "code_point") code_point (with_number (codes "index") index no_members))
+plain_reason id TooLarge = reason (codes "TooLarge") (Some id) no_members
+plain_reason id NotKept = reason (codes "NotKept") (Some id) no_members
+plain_reason id (Malformed place) = reason (codes "Malformed") (Some id) (member (codes "place") (place_data place) no_members)
+plain_reason id (InChange change cause) = reason (codes "InChange") (Some id) no_members
+plain_reason id OutOfMemory = memory_reason
+
 -- why the desk refuses the request with this number
 abbrev pub fault_reason : ℕ → Fault → Reason
-fault_reason id BadBase64 = reason (codes "BadBase64") (Some id) no_members
-fault_reason id NoDocument = reason (codes "NoDocument") (Some id) no_members
-fault_reason id NameTaken = reason (codes "NameTaken") (Some id) no_members
-fault_reason id UnknownLabel = reason (codes "UnknownLabel") (Some id) no_members
-fault_reason id NoIndex = reason (codes "NoIndex") (Some id) no_members
-fault_reason id TooManyDocuments = reason (codes "TooManyDocuments") (Some id) no_members
-fault_reason id (Stale rev) = reason (codes "Stale") (Some id) (with_number (codes "rev") rev no_members)
-fault_reason id RevisionsSpent = reason (codes "RevisionsSpent") (Some id) no_members
-fault_reason id OutOfRange = reason (codes "OutOfRange") (Some id) no_members
-fault_reason id SplitsCharacter = reason (codes "SplitsCharacter") (Some id) no_members
-fault_reason id SplitsItem = reason (codes "SplitsItem") (Some id) no_members
-fault_reason id NoEncoder = reason (codes "NoEncoder") (Some id) no_members
-fault_reason id (Unencodable code_point index) =
-    reason (codes "Unencodable") (Some id) (with_number (codes "code_point") code_point (with_number (codes "index") index no_members))
-fault_reason id TooLarge = reason (codes "TooLarge") (Some id) no_members
-fault_reason id NotKept = reason (codes "NotKept") (Some id) no_members
-fault_reason id (Malformed place) = reason (codes "Malformed") (Some id) (member (codes "place") (place_data place) no_members)
-fault_reason id OutOfMemory = memory_reason
+fault_reason id (InChange change cause) = in_change change (plain_reason id (cause_fault cause))
+fault_reason id fault = plain_reason id fault
 
 -- why a line is refused before the desk sees it
 abbrev pub refusal_reason : Refusal → Reason
@@ -189,9 +208,14 @@ abbrev pub id_members : Option ℕ → Members
 id_members None = no_members
 id_members (Some id) = member (codes "id") (whole id) no_members
 
+-- the number of the change, where the line has it
+abbrev pub change_members : Option ℕ → Members → Members
+change_members None more = more
+change_members (Some change) more = member (codes "change") (whole change) more
+
 -- the object that says why
 abbrev pub reason_data : Reason → Data
-reason_data r = object (merged (member (codes "fault") (string r.name) (id_members r.id)) r.more)
+reason_data r = object (merged (change_members r.change (member (codes "fault") (string r.name) (id_members r.id))) r.more)
 
 -- ---- replies
 
@@ -199,6 +223,7 @@ reason_data r = object (merged (member (codes "fault") (string r.name) (id_membe
 abbrev pub reply_data : ℕ → Reply → Data
 reply_data id (Edited bom encoding rev) = edited_data id bom encoding rev
 reply_data id (Changed at bom del encoding ins rev) = changed_data id at bom del encoding ins rev
+reply_data id (ChangesMade applied bom encoding rev) = changes_made_data id applied bom encoding rev
 reply_data id (Closed rev) = closed_data id rev
 reply_data id (Text rev text) = text_data id rev text
 reply_data id (Bytes rev bytes) = bytes_data id rev bytes

@@ -1,14 +1,15 @@
 -- The request in a line, over the data that its JSON text stands for. Of two equal keys
 -- the last counts, and a number that has a fraction, an exponent or a minus sign is no whole number.
-use Rattle.std.specs.Prelude.{◌≡◌, ◌<◌, ◌-◌, ◌^◌, ℕ, ◌||◌, ◌==◌, nat_lt, nat_le, List, length, codes, if◌then◌else◌, is_some, Option, Some, None, option_and_then, Result, Ok, Err}
+use Rattle.std.specs.Prelude.{◌≡◌, ◌<◌, ◌-◌, ◌^◌, ℕ, ◌||◌, ◌==◌, nat_lt, nat_le, List, [], ◌∷◌, length, codes, if◌then◌else◌, is_some, Option, Some, None, option_and_then, Result, Ok, Err}
 use Rattle.std.specs.Str.{bytes_eq}
 use Rattle.std.specs.Option.{option_map}
-use Rattle.serde_json.specs.Data.{Data, null}
-use Rattle.serde_json.specs.Find.{get, as_number, as_u64, as_str, as_object}
+use Rattle.serde_json.specs.Data.{Data, null, Items, no_items, item}
+use Rattle.serde_json.specs.Events.{items_len}
+use Rattle.serde_json.specs.Find.{get, as_number, as_u64, as_str, as_array, as_object}
 use Rattle.serde_json.specs.View.{view}
 use Rattle.serde_json.specs.declared.value.Value.{Value}
 use Rattle.enc_names.specs.Json.{json_of}
-use Rattle.desk.specs.Commands.{Asked, asked_of, Opens, Closes, Splices, ChangesText, Reads, ReadsBytes, Encodes, ListsErrors, ListsLines, FindsPosition, FindsOffset, FindsPlace, Measures, asked}
+use Rattle.desk.specs.Commands.{Asked, TextChange, asked_of, Opens, Closes, Splices, ChangesText, MakesChanges, Reads, ReadsBytes, Encodes, ListsErrors, ListsLines, FindsPosition, FindsOffset, FindsPlace, Measures, asked}
 use Rattle.desk.specs.declared.command.Command.{Command}
 use Rattle.position_map.specs.declared.position.Position.{Position}
 use Rattle.position_map.specs.declared.position.Range.{Range}
@@ -143,6 +144,31 @@ or_whole (Some d) = option_map Some (as_range d)
 abbrev pub range_at : Data → Option (Option Range)
 range_at d = or_whole (get (codes "range") d)
 
+-- ---- a list of changes
+
+abbrev pub text_change : Option Range → List ℕ → TextChange
+text_change range text = record { range = range; text = text }
+
+-- a change of a list: its text has to be there
+abbrev pub as_change : Data → Option TextChange
+as_change d = option_and_then (λ range. option_map (text_change range) (text_at d (codes "text"))) (range_at d)
+
+-- each element is a change
+abbrev pub as_changes : Items → Option (List TextChange)
+as_changes no_items = Some []
+as_changes (item d ds) = option_and_then (λ change. option_map (λ more. change ∷ more) (as_changes ds)) (as_change d)
+
+-- the most changes of a list
+abbrev pub max_changes : ℕ
+max_changes = 1000
+
+abbrev pub few_items : Items → Option Items
+few_items ds = if nat_le (items_len ds) max_changes then Some ds else None
+
+-- the list of changes, which has to be there
+abbrev pub changes_at : Data → Option (List TextChange)
+changes_at d = option_and_then as_changes (option_and_then few_items (option_and_then as_array (get (codes "changes") d)))
+
 -- ---- the fields of each command, in the order of their checks
 
 abbrev pub open_command : Data → Result Asked Field
@@ -174,6 +200,14 @@ change_command d = do
   range ← need field.Range (range_at d)
   text ← need field.Text (text_at d (codes "text"))
   Ok (asked_of doc (ChangesText rev unit range text))
+
+abbrev pub changes_command : Data → Result Asked Field
+changes_command d = do
+  doc ← need field.Doc (name_at d)
+  rev ← need field.Rev (number_at d (codes "rev") max_number)
+  unit ← need field.Unit (unit_at d)
+  changes ← need field.Changes (changes_at d)
+  Ok (asked_of doc (MakesChanges rev unit changes))
 
 abbrev pub text_command : Data → Result Asked Field
 text_command d = do
@@ -250,6 +284,7 @@ command_of d id op =
     else (if bytes_eq op (codes "close") then with_id id (close_command d)
     else (if bytes_eq op (codes "splice") then with_id id (splice_command d)
     else (if bytes_eq op (codes "change") then with_id id (change_command d)
+    else (if bytes_eq op (codes "changes") then with_id id (changes_command d)
     else (if bytes_eq op (codes "text") then with_id id (text_command d)
     else (if bytes_eq op (codes "source") then with_id id (source_command d)
     else (if bytes_eq op (codes "encode") then with_id id (encode_command d)
@@ -259,7 +294,7 @@ command_of d id op =
     else (if bytes_eq op (codes "offset") then with_id id (offset_command d)
     else (if bytes_eq op (codes "place") then with_id id (place_command d)
     else (if bytes_eq op (codes "stat") then with_id id (stat_command d)
-    else Err (UnknownOp id)))))))))))))
+    else Err (UnknownOp id))))))))))))))
 
 -- the request in an object: its number and its command
 abbrev pub request_of : Data → Result (ℕ × Asked) Refusal
@@ -284,6 +319,11 @@ command_asked (Err f) = Err f
 abbrev pub request_asked : Result (ℕ × Command) Refusal → Result (ℕ × Asked) Refusal
 request_asked (Ok request) = Ok (request.0, asked request.1)
 request_asked (Err e) = Err e
+
+-- the request in an object or its refusal; or memory ran out, which it can for a list of changes alone
+abbrev pub IsRequest : Data → Result (ℕ × Command) Refusal → Type 0
+IsRequest d (Err OutOfMemory) = text_at d (codes "op") ≡ Some (codes "changes")
+IsRequest d request = request_asked request ≡ request_of d
 
 -- the value of the line or its refusal, or memory ran out, which it can't on no bytes
 abbrev pub IsJsonOfLine : List ℕ → Result Value Refusal → Type 0

@@ -2,7 +2,7 @@
 use Rattle.std.specs.Prelude.{ℕ, suc, ◌&&◌, ◌||◌, ◌==◌, Bool, true, not, nat_lt, List, [], ◌∷◌, ◌+◌, length, ◌≡◌, ◌++◌, Some}
 use denote.Ref.{Bor}
 use Rattle.serde_json.specs.Data.{Data, null, string, Members, no_members, member}
-use Rattle.line_protocol.specs.Replies.{whole, place_data, merged, Reason, reason}
+use Rattle.line_protocol.specs.Replies.{whole, place_data, merged, Reason}
 use Rattle.line_protocol.specs.declared.reply_line.reasons.Reason.{Reason as WrittenReason}
 use Rattle.line_protocol.specs.declared.reply_line.reasons.More.{More}
 use Rattle.line_protocol.specs.declared.reply_line.reasons.More.TheVariants.{NoMore, One, Two}
@@ -97,7 +97,7 @@ members_in (One key content) = (key, content) ∷ []
 members_in (Two key content other behind) = (key, content) ∷ (other, behind) ∷ []
 
 abbrev pub reason_of : WrittenReason → Reason
-reason_of r = reason r.name.now r.id (members_of (members_in r.more))
+reason_of r = record { name = r.name.now; id = r.id; change = r.change; more = members_of (members_in r.more) }
 
 -- the most bytes of a name and the further members
 abbrev pub reason_room : ℕ

@@ -86,6 +86,12 @@ impl ReplyLine {
                 };
                 Ok(ReplyLine::inline(short::changed(id, &done)))
             }
+            Reply::ChangesMade {
+                applied,
+                bom,
+                encoding,
+                rev,
+            } => Ok(ReplyLine::inline(short::changes_made(id, *applied, *bom, *encoding, *rev))),
             Reply::Closed { rev } => Ok(ReplyLine::inline(short::closed(id, *rev))),
             Reply::Text { rev, text } => {
                 let bytes = long::text(alloc, id, *rev, text.as_str())?;

@@ -1,5 +1,6 @@
 //! The request in a line: its JSON value, and the command in the value's fields.
 
+mod change_list;
 mod commands;
 mod field;
 mod fields;

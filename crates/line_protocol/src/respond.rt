@@ -31,7 +31,7 @@ pub fn reply_to(desk: &mut Desk<'_>, alloc: Global, line: &[u8]) -> ReplyLine
 fn answer(desk: &mut Desk<'_>, alloc: Global, value: &Value) -> ReplyLine
     ensures { IsStep desk.old (step_by desk.old (request_of (view value.now))) result desk.new }
 {
-    match parse_request(value) {
+    match parse_request(alloc, value) {
         Ok((id, command)) => {
             let reply = desk.answer(&command);
             match ReplyLine::of(alloc, id, &reply) {

@@ -2,7 +2,7 @@
 ghost use Rattle.std.specs.Prelude.{◌≡◌, ◌≤◌, ◌+◌, ◌&&◌, length, IsTrue};
 ghost use Rattle.serde_json.specs.Data.{object};
 ghost use Rattle.line_protocol.specs.Inline.{IsShortLine};
-ghost use Rattle.line_protocol.specs.Replies.{fault_reason, field_name, merged, reason_data, refusal_reason};
+ghost use Rattle.line_protocol.specs.Replies.{fault_reason, plain_reason, field_name, merged, reason_data, refusal_reason};
 ghost use Rattle.line_protocol.specs.Writing.{all_plain, are_plain, members_in, members_of, name_room, reason_of, reason_room, room_of};
 
 use crate::reply_line::members::{Content, Member, merged_line};
@@ -17,6 +17,8 @@ pub(super) struct Reason {
     name: &'static str,
     /// The request that is refused, where the line has its number.
     id: Option<u64>,
+    /// Which change is refused, counted from 0, where the request is a list of them.
+    change: Option<u64>,
     /// What else the line says.
     more: More,
 }
@@ -37,12 +39,33 @@ impl Reason {
     pub(super) const OUT_OF_MEMORY: Reason = Reason {
         name: "OutOfMemory",
         id: None,
+        change: None,
         more: More::NoMore,
     };
 
     /// Why the desk refuses the request with this number.
     pub(super) fn of_fault(id: u64, fault: Fault) -> Reason
         ensures value { reason_of result ≡ fault_reason id fault }
+        ensures plain { IsTrue (all_plain result.name.now && are_plain (members_in result.more)) }
+        ensures room { length result.name.now + room_of (members_in result.more) ≤ reason_room }
+    {
+        match fault {
+            Fault::InChange { change, cause } => {
+                let alone = Reason::of_plain(id, Fault::from(cause));
+                Reason {
+                    name: alone.name,
+                    id: alone.id,
+                    change: Some(change),
+                    more: alone.more,
+                }
+            }
+            fault => Reason::of_plain(id, fault),
+        }
+    }
+
+    /// Why the desk refuses the request with this number, but for a change of a list.
+    fn of_plain(id: u64, fault: Fault) -> Reason
+        ensures value { reason_of result ≡ plain_reason id fault }
         ensures plain { IsTrue (all_plain result.name.now && are_plain (members_in result.more)) }
         ensures room { length result.name.now + room_of (members_in result.more) ≤ reason_room }
     {
@@ -69,11 +92,16 @@ impl Reason {
             }
             Fault::TooLarge => ("TooLarge", More::NoMore),
             Fault::NotKept => ("NotKept", More::NoMore),
+            Fault::InChange { .. } => ("InChange", More::NoMore),
             Fault::Malformed { place } => ("Malformed", More::One("place", Content::At(place))),
             Fault::OutOfMemory => return Reason::OUT_OF_MEMORY,
         };
-        let id = Some(id);
-        Reason { name, id, more }
+        Reason {
+            name,
+            id: Some(id),
+            change: None,
+            more,
+        }
     }
 
     /// Why a line is refused before the desk sees it.
@@ -92,20 +120,32 @@ impl Reason {
             Refusal::UnknownOp { id } => ("UnknownOp", Some(id), More::NoMore),
             Refusal::OutOfMemory => return Reason::OUT_OF_MEMORY,
         };
-        Reason { name, id, more }
+        Reason {
+            name,
+            id,
+            change: None,
+            more,
+        }
     }
 
-    /// The line that says this: `fault` and `id` stand among the further members in the order of the
-    /// keys.
+    /// The line that says this: `change`, `fault` and `id` stand among the further members in the order
+    /// of the keys.
     pub(super) fn line(&self) -> ShortText
         requires plain { IsTrue (all_plain self.now.name.now && are_plain (members_in self.now.more)) }
         requires room { length self.now.name.now + room_of (members_in self.now.more) ≤ reason_room }
         ensures { IsShortLine (reason_data (reason_of self.now)) result }
     {
         let fault = ("fault", Content::Text(self.name));
-        match self.id {
-            Some(id) => with_more(&[fault, ("id", Content::Number(id))], self.more),
-            None => with_more(&[fault], self.more),
+        match (self.change, self.id) {
+            (None, None) => with_more(&[fault], self.more),
+            (None, Some(id)) => with_more(&[fault, ("id", Content::Number(id))], self.more),
+            (Some(change), None) => {
+                with_more(&[("change", Content::Number(change)), fault], self.more)
+            }
+            (Some(change), Some(id)) => {
+                let (change, id) = (Content::Number(change), Content::Number(id));
+                with_more(&[("change", change), fault, ("id", id)], self.more)
+            }
         }
     }
 }
@@ -153,5 +193,6 @@ fn field_name(field: Field) -> &'static str
         Field::Value => "value",
         Field::Range => "range",
         Field::Text => "text",
+        Field::Changes => "changes",
     }
 }

@@ -3,7 +3,7 @@ ghost use Rattle.std.specs.Prelude.{◌≡◌, ◌≤◌, length, IsTrue};
 ghost use Rattle.enc_names.specs.Names.{name_of};
 ghost use Rattle.line_protocol.specs.Writing.{all_plain, encoding_room};
 ghost use Rattle.line_protocol.specs.Inline.{IsShortLine};
-ghost use Rattle.line_protocol.specs.Replies.{edited_data, changed_data, closed_data, position_data, offset_data, found_place_data, stat_data};
+ghost use Rattle.line_protocol.specs.Replies.{edited_data, changed_data, changes_made_data, closed_data, position_data, offset_data, found_place_data, stat_data};
 
 use crate::reply_line::members::{Content, line};
 use crate::reply_line::short_text::ShortText;
@@ -44,6 +44,25 @@ pub(super) fn changed(id: u64, done: &Change) -> ShortText
         ("id", Content::Number(id)),
         ("ins", Content::Number(done.ins)),
         ("rev", Content::Number(done.rev)),
+    ])
+}
+
+/// A list of changes was accepted.
+pub(super) fn changes_made(
+    id: u64,
+    applied: u64,
+    bom: u64,
+    encoding: Encoding,
+    rev: u64,
+) -> ShortText
+    ensures { IsShortLine (changes_made_data id applied bom encoding rev) result }
+{
+    line(&[
+        ("applied", Content::Number(applied)),
+        ("bom", Content::Number(bom)),
+        ("encoding", Content::Text(encoding_name(encoding))),
+        ("id", Content::Number(id)),
+        ("rev", Content::Number(rev)),
     ])
 }
 

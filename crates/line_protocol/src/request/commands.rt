@@ -1,14 +1,18 @@
 //! From a JSON value to a command.
-ghost use Rattle.std.specs.Prelude.{◌≡◌};
+ghost use Rattle.std.specs.Prelude.{◌≡◌, map, option_map};
 ghost use Rattle.serde_json.specs.View.{view};
-ghost use Rattle.line_protocol.specs.Request.{open_command, close_command, splice_command, change_command, text_command, source_command, encode_command, errors_command, lines_command, position_command, offset_command, place_command, stat_command, request_of, command_asked, request_asked};
+ghost use Rattle.desk.specs.Commands.{change_of};
+ghost use Rattle.line_protocol.specs.Request.{changes_at, open_command, close_command, splice_command, change_command, text_command, source_command, encode_command, errors_command, lines_command, position_command, offset_command, place_command, stat_command, changes_command, request_of, command_asked, IsRequest};
 ghost use Rattle.line_protocol.specs.declared.request.refusal.Refusal.TheVariants.{BadRequest};
 
+use crate::request::change_list::change_list;
 use crate::request::field::Field;
 use crate::request::fields::{self, MAX_NUMBER};
 use crate::request::refusal::Refusal;
-use desk::{Command, ops};
+use desk::Command;
+use desk::ops::{self, ContentChange};
 use serde_json::Value;
+use std::alloc::Global;
 
 /// The most places of errors, or lines, that one request may ask for.
 const MAX_ENTRIES: u64 = 10_000;
@@ -17,9 +21,10 @@ const MAX_ENTRIES: u64 = 10_000;
 ///
 /// # Errors
 ///
-/// `BadRequest` with the first faulty field in the order of the command's fields, `UnknownOp`.
-pub fn parse_request(value: &Value) -> Result<(u64, Command<'_>), Refusal>
-    ensures { request_asked result ≡ request_of (view value.now) }
+/// `BadRequest` with the first faulty field in the order of the command's fields, `UnknownOp`,
+/// `OutOfMemory` for a list.
+pub fn parse_request(alloc: Global, value: &Value) -> Result<(u64, Command<'_>), Refusal>
+    ensures { IsRequest (view value.now) result }
 {
     if !value.is_object() {
         return Err(bad(None, Field::Object));
@@ -31,6 +36,7 @@ pub fn parse_request(value: &Value) -> Result<(u64, Command<'_>), Refusal>
         "close" => close(value),
         "splice" => splice(value),
         "change" => change(value),
+        "changes" => changes(value, change_list(alloc, value)?),
         "text" => text(value),
         "source" => source(value),
         "encode" => encode(value),
@@ -106,6 +112,24 @@ fn change(value: &Value) -> Result<Command<'_>, Field>
         unit,
         range,
         text,
+    }))
+}
+
+/// The command `changes`, or the first faulty field. The list of changes was read before, since it
+/// takes memory; it is none where it is faulty.
+fn changes<'a>(value: &'a Value, list: Option<Vec<ContentChange<'a>>>) -> Result<Command<'a>, Field>
+    requires { option_map (λ list. map change_of list.items) list ≡ changes_at (view value.now) }
+    ensures { command_asked result ≡ changes_command (view value.now) }
+{
+    let doc = fields::name(value).ok_or(Field::Doc)?;
+    let rev = fields::number(value, "rev", MAX_NUMBER).ok_or(Field::Rev)?;
+    let unit = fields::unit(value).ok_or(Field::Unit)?;
+    let changes = list.ok_or(Field::Changes)?;
+    Ok(Command::Changes(ops::Changes {
+        doc,
+        rev,
+        unit,
+        changes,
     }))
 }
 

@@ -25,4 +25,5 @@ pub enum Field {
     Value,
     Range,
     Text,
+    Changes,
 }

@@ -1,18 +1,18 @@
-use Rattle.std.proofs.Common.{subst}
-use Rattle.line_protocol.specs.Step.{IsStep, step_by}
-use Rattle.line_protocol.proofs.StepReplies.{desk_step, refused_step, unwritten_reply_step}
+use Rattle.serde_json.specs.View.{view}
+use Rattle.line_protocol.specs.Request.{request_of}
+use Rattle.line_protocol.specs.Step.{step_by}
+use Rattle.line_protocol.proofs.StepReplies.{parsed_step, unparsed_step, unwritten_reply_step}
 use Rattle.line_protocol.proofs.respond.answer.Goals as goal
 
 pub returns-in-Ok-of : goal.returns-in-Ok-of
 returns-in-Ok-of c =
-    subst (λ r. IsStep c.args.desk.now (step_by c.args.desk.now r) c.in-Ok-of.line c.answer-reply.new.self) c.in-Ok.ensures
-    (desk_step _ _ c.in-Ok.id _ c.answer-reply.result _ c.in-Ok-of.ensures.text c.answer-reply.ensures.step)
+    parsed_step c.args.desk.now c.answer-reply.new.self (view c.args.value.now) c.in-Ok.id c.in-Ok.command c.answer-reply.result c.in-Ok-of.line
+    c.in-Ok.ensures c.in-Ok-of.ensures.text c.answer-reply.ensures.step
 
 pub returns-in-Ok : goal.returns-in-Ok
 returns-in-Ok c =
-    unwritten_reply_step _ _ _ c.answer-reply.result _ c.out_of_memory.ensures.text (λ short. let no = c.in-Err-of.ensures.short short in cc) c.answer-reply.ensures.kept
+    unwritten_reply_step c.args.desk.now c.answer-reply.new.self (step_by c.args.desk.now (request_of (view c.args.value.now))) c.answer-reply.result c.out_of_memory.result
+    c.out_of_memory.ensures.text (λ short. let no = c.in-Err-of.ensures.short short in cc) c.answer-reply.ensures.kept
 
 pub returns : goal.returns
-returns c =
-    subst (λ r. IsStep c.args.desk.now (step_by c.args.desk.now r) c.refused.result c.args.desk.now) c.in-Err.ensures
-    (refused_step c.args.desk.now c.in-Err.refusal c.refused.result c.refused.ensures.text)
+returns c = unparsed_step c.args.desk.now (view c.args.value.now) c.in-Err.refusal c.refused.result c.in-Err.ensures c.refused.ensures.text

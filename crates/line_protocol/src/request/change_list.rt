@@ -1,0 +1,57 @@
+//! A list of changes, element by element.
+ghost use Rattle.std.specs.Prelude.{◌≡◌, option_map, IfOk, map};
+ghost use Rattle.serde_json.specs.View.{view, items_view};
+ghost use Rattle.desk.specs.Commands.{change_of};
+ghost use Rattle.line_protocol.specs.Request.{as_change, as_changes, changes_at};
+
+use crate::request::fields;
+use desk::ops::ContentChange;
+use serde_json::Value;
+use std::alloc::{AllocError, Global};
+
+/// The most changes of a list.
+const MAX_CHANGES: usize = 1_000;
+
+/// The list of changes in an object; none where it has no such list, or an element is no change.
+///
+/// # Errors
+///
+/// Memory ran out.
+#[tactic(auto, using(crate::proofs::ChangeLists::len_viewed))]
+pub(super) fn change_list(
+    alloc: Global,
+    value: &Value,
+) -> Result<Option<Vec<ContentChange<'_>>>, AllocError>
+    ensures { IfOk result (λ found. option_map (λ list. map change_of list.items) found ≡ changes_at (view value.now)) }
+{
+    let Some(elements) = value.get("changes").and_then(Value::as_array) else {
+        return Ok(None);
+    };
+    if elements.len() > MAX_CHANGES {
+        return Ok(None);
+    }
+    each(alloc, elements.as_slice())
+}
+
+/// The changes that the elements are; none where one of them is no change.
+fn each(alloc: Global, elements: &[Value]) -> Result<Option<Vec<ContentChange<'_>>>, AllocError>
+    ensures { IfOk result (λ found. option_map (λ list. map change_of list.items) found ≡ as_changes (items_view elements.now)) }
+{
+    let mut list = Vec::with_capacity(alloc, elements.len())?;
+    for element in elements {
+        let Some(change) = content_change(element) else {
+            return Ok(None);
+        };
+        list.push(change)?;
+    }
+    Ok(Some(list))
+}
+
+/// A change: the range that it replaces, and the text.
+fn content_change(value: &Value) -> Option<ContentChange<'_>>
+    ensures { option_map change_of result ≡ as_change (view value.now) }
+{
+    let range = fields::range(value)?;
+    let text = fields::text(value, "text")?;
+    Some(ContentChange { range, text })
+}
