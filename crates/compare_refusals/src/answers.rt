@@ -5,7 +5,7 @@ use piece_rope::{Doc, Lengths};
 
 /// What a document answers, with memory.
 #[derive(Drop)]
-pub struct Answers {
+pub struct DocumentAnswers {
     /// `Doc::lengths`.
     pub lengths: Lengths,
     /// `Doc::text` of all of it.
@@ -17,12 +17,12 @@ pub struct Answers {
 }
 
 /// What a document answers; `None` where a call is refused.
-pub fn answers_of(doc: &Doc<'_>) -> Option<Answers> {
+pub fn answers_of(doc: &Doc<'_>) -> Option<DocumentAnswers> {
     let lengths = doc.lengths();
     let text = doc.text(0, lengths.scalars).ok()?;
     let source = doc.source(0, lengths.bytes).ok()?;
     let errors = doc.errors(0, lengths.errors).ok()?;
-    Some(Answers {
+    Some(DocumentAnswers {
         lengths,
         text,
         source,
@@ -30,7 +30,7 @@ pub fn answers_of(doc: &Doc<'_>) -> Option<Answers> {
     })
 }
 
-impl Answers {
+impl DocumentAnswers {
     /// Whether the document answers all this.
     pub fn are_of(&self, doc: &Doc<'_>) -> bool {
         match answers_of(doc) {
@@ -40,7 +40,7 @@ impl Answers {
     }
 
     /// Whether these are the others.
-    fn are(&self, others: &Answers) -> bool {
+    fn are(&self, others: &DocumentAnswers) -> bool {
         self.lengths == others.lengths
             && self.text.as_str() == others.text.as_str()
             && self.source.as_slice() == others.source.as_slice()

@@ -10,7 +10,7 @@ mod pieces;
 mod traces;
 mod tree;
 
-use crate::outcome::Outcome;
+use crate::outcome::TrialOutcome;
 use crate::tried::Tried;
 use index_loader::Indexes;
 use std::alloc::Global;
@@ -87,7 +87,7 @@ pub struct CallTrial<'a> {
 }
 
 impl Tried for CallTrial<'_> {
-    fn tried(&self, budget: usize) -> Option<Outcome> {
+    fn tried(&self, budget: usize) -> Option<TrialOutcome> {
         let (alloc, indexes) = (self.alloc, self.indexes);
         match self.call {
             Call::Names => labels::names(alloc, budget),

@@ -6,7 +6,7 @@ use std::alloc::Global;
 /// A document and an edit, which is made and then taken back: bytes that are repeated, and where so
 /// many are taken out and others put in.
 #[derive(Clone, Copy)]
-pub struct Case {
+pub struct DocumentCase {
     /// The encoding given.
     pub given: Encoding,
     /// What the document repeats.
@@ -27,29 +27,29 @@ pub const AT: u64 = 901;
 
 /// The documents: with errors, line ends, characters cut by the edit, shifts, and half a code unit
 /// more.
-pub const CASES: [Case; 4] = [
-    Case {
+pub const CASES: [DocumentCase; 4] = [
+    DocumentCase {
         given: Encoding::Utf8,
         pattern: b"plain \xE2\x82\xAC \xE2\x82 \xF0\x9F\x98\x80\r\n",
         del: 300,
         put_in: b"\x82\xAC\r\n\xEF\xBB\xBFtext",
         ins: 400,
     },
-    Case {
+    DocumentCase {
         given: Encoding::ShiftJis,
         pattern: b"\x82\xA0\x82\xA0 text \x82\r\n",
         del: 300,
         put_in: b"\xA0\x82\xA0\x82\r",
         ins: 400,
     },
-    Case {
+    DocumentCase {
         given: Encoding::Iso2022Jp,
         pattern: b"\x1B$B$\"$\"\x1B(B text\x80\r\n",
         del: 300,
         put_in: b"\x1B(J\\\\\\",
         ins: 400,
     },
-    Case {
+    DocumentCase {
         given: Encoding::Utf16Le,
         pattern: b"A\0B\0\x42\x30\r\0\n\0",
         del: 0,
@@ -82,7 +82,7 @@ pub fn repeated(alloc: Global, pattern: &[u8], len: usize) -> Option<Vec<u8>> {
 }
 
 /// The bytes of a case; `None` where memory is refused.
-pub fn made(alloc: Global, case: &Case) -> Option<Bytes> {
+pub fn made(alloc: Global, case: &DocumentCase) -> Option<Bytes> {
     let bytes = repeated(alloc, case.pattern, LENGTH)?;
     let behind = bytes.get(AT as usize..)?;
     let out = Vec::from_slice(alloc, behind.get(..case.del)?).ok()?;

@@ -1,9 +1,9 @@
 //! Calls on documents of some pieces.
 
-use crate::answers::{Answers, answers_of};
+use crate::answers::{DocumentAnswers, answers_of};
 use crate::budget::all_but;
 use crate::cases::{AT, Bytes};
-use crate::outcome::{Outcome, outcome_if};
+use crate::outcome::{TrialOutcome, outcome_if};
 use crate::tried::Tried;
 use decoder_core::{Meter, meter};
 use enc_names::Encoding;
@@ -37,7 +37,7 @@ pub const DOCUMENT_CALLS: [(DocumentCall, &str); 5] = [
 
 /// Where a document comes from.
 #[derive(Drop)]
-pub struct Source<'a> {
+pub struct DocumentSource<'a> {
     /// Where memory comes from.
     pub alloc: Global,
     /// The index files.
@@ -48,7 +48,7 @@ pub struct Source<'a> {
     pub bytes: &'a Bytes,
 }
 
-impl<'a> Source<'a> {
+impl<'a> DocumentSource<'a> {
     /// Opens the document.
     fn open(&self) -> Result<Doc<'a>, DocFault> {
         let bytes = &self.bytes.bytes;
@@ -79,15 +79,15 @@ impl<'a> Source<'a> {
 #[derive(Drop)]
 pub struct Wanted {
     /// By the document as it is opened, and once its edit is taken back.
-    opened: Answers,
+    opened: DocumentAnswers,
     /// By the document behind the edit.
-    edited: Answers,
+    edited: DocumentAnswers,
     /// How many bytes are decoded where the edit is taken back, by what the pieces remember.
     decoded: u64,
 }
 
 /// What is answered with memory; `None` where it is refused.
-pub fn wanted_of(source: &Source<'_>) -> Option<Wanted> {
+pub fn wanted_of(source: &DocumentSource<'_>) -> Option<Wanted> {
     let opened = answers_of(&source.open().ok()?)?;
     let mut doc = source.edited()?;
     let edited = answers_of(&doc)?;
@@ -104,7 +104,7 @@ pub fn wanted_of(source: &Source<'_>) -> Option<Wanted> {
 #[derive(Drop)]
 pub struct DocumentTrial<'a> {
     /// Where the document comes from.
-    pub source: &'a Source<'a>,
+    pub source: &'a DocumentSource<'a>,
     /// What is answered with memory.
     pub wanted: &'a Wanted,
     /// The call.
@@ -112,7 +112,7 @@ pub struct DocumentTrial<'a> {
 }
 
 impl Tried for DocumentTrial<'_> {
-    fn tried(&self, budget: usize) -> Option<Outcome> {
+    fn tried(&self, budget: usize) -> Option<TrialOutcome> {
         match self.call {
             DocumentCall::Open => self.open(budget),
             DocumentCall::Splice => self.splice(budget),
@@ -125,19 +125,19 @@ impl Tried for DocumentTrial<'_> {
 
 impl DocumentTrial<'_> {
     /// `Doc::open`.
-    fn open(&self, budget: usize) -> Option<Outcome> {
+    fn open(&self, budget: usize) -> Option<TrialOutcome> {
         let room = all_but(self.source.alloc, budget)?;
         let opened = self.source.open();
         drop(room);
         Some(match opened {
             Ok(doc) => outcome_if(self.wanted.opened.are_of(&doc)),
-            Err(DocFault::OutOfMemory) => Outcome::Refused,
-            Err(_) => Outcome::Wrong,
+            Err(DocFault::OutOfMemory) => TrialOutcome::Refused,
+            Err(_) => TrialOutcome::Wrong,
         })
     }
 
     /// `Doc::text`.
-    fn text(&self, budget: usize) -> Option<Outcome> {
+    fn text(&self, budget: usize) -> Option<TrialOutcome> {
         let wanted = &self.wanted.opened;
         let doc = self.source.open().ok()?;
         let room = all_but(self.source.alloc, budget)?;
@@ -145,13 +145,13 @@ impl DocumentTrial<'_> {
         drop(room);
         Some(match text {
             Ok(text) => outcome_if(text.as_str() == wanted.text.as_str()),
-            Err(DocFault::OutOfMemory) if wanted.are_of(&doc) => Outcome::Refused,
-            Err(_) => Outcome::Wrong,
+            Err(DocFault::OutOfMemory) if wanted.are_of(&doc) => TrialOutcome::Refused,
+            Err(_) => TrialOutcome::Wrong,
         })
     }
 
     /// `Doc::source`.
-    fn source(&self, budget: usize) -> Option<Outcome> {
+    fn source(&self, budget: usize) -> Option<TrialOutcome> {
         let wanted = &self.wanted.opened;
         let doc = self.source.open().ok()?;
         let room = all_but(self.source.alloc, budget)?;
@@ -159,13 +159,13 @@ impl DocumentTrial<'_> {
         drop(room);
         Some(match source {
             Ok(source) => outcome_if(source.as_slice() == wanted.source.as_slice()),
-            Err(DocFault::OutOfMemory) if wanted.are_of(&doc) => Outcome::Refused,
-            Err(_) => Outcome::Wrong,
+            Err(DocFault::OutOfMemory) if wanted.are_of(&doc) => TrialOutcome::Refused,
+            Err(_) => TrialOutcome::Wrong,
         })
     }
 
     /// `Doc::errors`.
-    fn errors(&self, budget: usize) -> Option<Outcome> {
+    fn errors(&self, budget: usize) -> Option<TrialOutcome> {
         let wanted = &self.wanted.opened;
         let doc = self.source.open().ok()?;
         let room = all_but(self.source.alloc, budget)?;
@@ -173,14 +173,14 @@ impl DocumentTrial<'_> {
         drop(room);
         Some(match errors {
             Ok(errors) => outcome_if(errors.as_slice() == wanted.errors.as_slice()),
-            Err(DocFault::OutOfMemory) if wanted.are_of(&doc) => Outcome::Refused,
-            Err(_) => Outcome::Wrong,
+            Err(DocFault::OutOfMemory) if wanted.are_of(&doc) => TrialOutcome::Refused,
+            Err(_) => TrialOutcome::Wrong,
         })
     }
 
     /// `Doc::splice`, by which the edit is taken back: where it is refused, the document is as
     /// before, and the same splice with memory decodes as much as it would have.
-    fn splice(&self, budget: usize) -> Option<Outcome> {
+    fn splice(&self, budget: usize) -> Option<TrialOutcome> {
         let mut doc = self.source.edited()?;
         let room = all_but(self.source.alloc, budget)?;
         let spliced = self.source.take_back(&mut doc, &mut meter());
@@ -188,19 +188,19 @@ impl DocumentTrial<'_> {
         Some(match spliced {
             Ok(()) => outcome_if(self.wanted.opened.are_of(&doc)),
             Err(DocFault::OutOfMemory) if self.wanted.edited.are_of(&doc) => self.later(&mut doc),
-            Err(_) => Outcome::Wrong,
+            Err(_) => TrialOutcome::Wrong,
         })
     }
 
     /// How the splice that was refused comes out with memory.
-    fn later(&self, doc: &mut Doc<'_>) -> Outcome {
+    fn later(&self, doc: &mut Doc<'_>) -> TrialOutcome {
         let mut meter = meter();
         let spliced = self.source.take_back(doc, &mut meter);
         let decoded = meter.decoded() == self.wanted.decoded;
         if spliced.is_ok() && decoded && self.wanted.opened.are_of(doc) {
-            Outcome::Refused
+            TrialOutcome::Refused
         } else {
-            Outcome::Wrong
+            TrialOutcome::Wrong
         }
     }
 }

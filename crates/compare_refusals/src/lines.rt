@@ -2,7 +2,7 @@
 
 use crate::asked::reply_to;
 use crate::budget::all_but;
-use crate::outcome::{Outcome, outcome_if};
+use crate::outcome::{TrialOutcome, outcome_if};
 use crate::play::{is_refusal, is_wanted, new_gateway};
 use crate::tried::{Budgets, Tried};
 use gateway::{Gateway, ReplyLine};
@@ -39,7 +39,7 @@ const OTHER: (&[u8], &[u8], &str) = (
 
 /// A line.
 #[derive(Clone, Copy)]
-pub struct Line {
+pub struct TriedLine {
     /// What it is.
     pub name: &'static str,
     /// How many of its bytes are received with memory.
@@ -53,36 +53,36 @@ pub struct Line {
 }
 
 /// The lines.
-pub const LINES: [Line; 5] = [
-    Line {
+pub const LINES: [TriedLine; 5] = [
+    TriedLine {
         name: "a line",
         begun: 0,
         rest: 5000,
         budgets: Budgets::Steps,
         least: 1,
     },
-    Line {
+    TriedLine {
         name: "the rest of a line",
         begun: 300,
         rest: 5000,
         budgets: Budgets::Steps,
         least: 1,
     },
-    Line {
+    TriedLine {
         name: "the longest line",
         begun: 0,
         rest: LONGEST,
         budgets: Budgets::Doublings,
         least: 1,
     },
-    Line {
+    TriedLine {
         name: "a line that is too long",
         begun: 0,
         rest: LONGEST + 1,
         budgets: Budgets::Doublings,
         least: 0,
     },
-    Line {
+    TriedLine {
         name: "the rest of one",
         begun: 5000,
         rest: LONGEST,
@@ -99,14 +99,14 @@ pub struct LineTrial<'a> {
     /// The index files.
     pub indexes: &'a Indexes,
     /// The line.
-    pub line: &'a Line,
+    pub line: &'a TriedLine,
 }
 
 impl Tried for LineTrial<'_> {
-    fn tried(&self, budget: usize) -> Option<Outcome> {
+    fn tried(&self, budget: usize) -> Option<TrialOutcome> {
         let mut gateway = new_gateway(self.alloc, self.indexes)?;
         if !self.begins(&mut gateway) {
-            return Some(Outcome::Wrong);
+            return Some(TrialOutcome::Wrong);
         }
         let room = all_but(self.alloc, budget)?;
         let outcome = self.ended(&mut gateway);
@@ -114,7 +114,7 @@ impl Tried for LineTrial<'_> {
         Some(if goes_on(&mut gateway) {
             outcome
         } else {
-            Outcome::Wrong
+            TrialOutcome::Wrong
         })
     }
 }
@@ -127,22 +127,22 @@ impl LineTrial<'_> {
     }
 
     /// How the line comes out once its rest is sent.
-    fn ended(&self, gateway: &mut Gateway<'_>) -> Outcome {
+    fn ended(&self, gateway: &mut Gateway<'_>) -> TrialOutcome {
         if send(gateway, self.line.rest) {
             self.outcome(&reply_to(gateway, 1, b"\n"))
         } else {
-            Outcome::Wrong
+            TrialOutcome::Wrong
         }
     }
 
     /// How the line came out: one that is too long is said to be so, whatever was refused.
-    fn outcome(&self, reply: &Option<ReplyLine>) -> Outcome {
+    fn outcome(&self, reply: &Option<ReplyLine>) -> TrialOutcome {
         let length = self.line.begun.saturating_add(self.line.rest);
         if length > LONGEST {
             return outcome_if(is_wanted(reply, TOO_LONG));
         }
         if is_refusal(reply) {
-            return Outcome::Refused;
+            return TrialOutcome::Refused;
         }
         outcome_if(is_wanted(reply, NO_JSON))
     }

@@ -22,7 +22,7 @@ mod tried;
 use budget::{Room, all_but_room};
 use calls::{CALLS, CallTrial};
 use cases::{CASES, made, repeated};
-use documents::{DOCUMENT_CALLS, DocumentCall, DocumentTrial, Source, wanted_of};
+use documents::{DOCUMENT_CALLS, DocumentCall, DocumentSource, DocumentTrial, wanted_of};
 use index_loader::Indexes;
 use lines::{LINES, LineTrial};
 use oracle::small_indexes;
@@ -61,7 +61,7 @@ fn document_tally(alloc: Global, indexes: &Indexes, call: DocumentCall) -> Optio
     let mut total = Tally::new();
     for case in &CASES {
         let bytes = made(alloc, case)?;
-        let source = Source {
+        let source = DocumentSource {
             alloc,
             indexes,
             given: case.given,

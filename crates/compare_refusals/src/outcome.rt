@@ -4,7 +4,7 @@ ghost use Rattle.compare_refusals.specs.Outcomes.{is_same, is_refused, is_wrong}
 
 /// How a call under a budget came out, beside the same call with memory.
 #[derive(Clone, Copy, PartialEq, Eq, Debug)]
-pub enum Outcome {
+pub enum TrialOutcome {
     /// It answered the same.
     Same,
     /// It was refused for memory, changed nothing, and answered the same once there was memory.
@@ -14,11 +14,11 @@ pub enum Outcome {
 }
 
 /// The outcome of a call that answered as wanted or not.
-pub fn outcome_if(wanted: bool) -> Outcome {
+pub fn outcome_if(wanted: bool) -> TrialOutcome {
     if wanted {
-        Outcome::Same
+        TrialOutcome::Same
     } else {
-        Outcome::Wrong
+        TrialOutcome::Wrong
     }
 }
 
@@ -26,15 +26,15 @@ pub fn outcome_if(wanted: bool) -> Outcome {
 pub type Tally = oracle::Tally<2>;
 
 /// Counts an outcome.
-pub fn count(tally: &mut Tally, outcome: Outcome)
+pub fn count(tally: &mut Tally, outcome: TrialOutcome)
     ensures same { slice_index tally.new.seen 0 ≡ (if is_same outcome then min (slice_index tally.old.seen 0 + 1) (2 ^ 64 - 1) else slice_index tally.old.seen 0) }
     ensures refused { slice_index tally.new.seen 1 ≡ (if is_refused outcome then min (slice_index tally.old.seen 1 + 1) (2 ^ 64 - 1) else slice_index tally.old.seen 1) }
     ensures wrong { tally.new.different ≡ (if is_wrong outcome then min (tally.old.different + 1) (2 ^ 64 - 1) else tally.old.different) }
 {
     match outcome {
-        Outcome::Same => tally.count(0),
-        Outcome::Refused => tally.count(1),
-        Outcome::Wrong => tally.compare(false),
+        TrialOutcome::Same => tally.count(0),
+        TrialOutcome::Refused => tally.count(1),
+        TrialOutcome::Wrong => tally.compare(false),
     }
 }
 

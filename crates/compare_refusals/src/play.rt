@@ -2,8 +2,8 @@
 
 use crate::asked::{Replies, asked, reply_to};
 use crate::budget::all_but;
-use crate::outcome::Outcome;
-use crate::sessions::Step;
+use crate::outcome::TrialOutcome;
+use crate::sessions::SessionStep;
 use crate::tried::Tried;
 use desk::Desk;
 use enc_names::Labels;
@@ -52,22 +52,22 @@ pub struct StepTrial<'a> {
     /// The index files.
     pub indexes: &'a Indexes,
     /// The session.
-    pub steps: &'a [Step],
+    pub steps: &'a [SessionStep],
     /// The number of the step, from 0.
     pub number: usize,
 }
 
 impl Tried for StepTrial<'_> {
-    fn tried(&self, budget: usize) -> Option<Outcome> {
+    fn tried(&self, budget: usize) -> Option<TrialOutcome> {
         let mut gateway = new_gateway(self.alloc, self.indexes)?;
-        let mut outcome = Outcome::Same;
+        let mut outcome = TrialOutcome::Same;
         for (number, step) in self.steps.iter().enumerate() {
             match self.played(&mut gateway, number, step, budget)? {
-                Outcome::Same => {}
-                Outcome::Refused if outcome == Outcome::Same && number >= self.number => {
-                    outcome = Outcome::Refused;
+                TrialOutcome::Same => {}
+                TrialOutcome::Refused if outcome == TrialOutcome::Same && number >= self.number => {
+                    outcome = TrialOutcome::Refused;
                 }
-                _ => return Some(Outcome::Wrong),
+                _ => return Some(TrialOutcome::Wrong),
             }
         }
         Some(outcome)
@@ -81,16 +81,16 @@ impl StepTrial<'_> {
         &self,
         gateway: &mut Gateway<'_>,
         number: usize,
-        step: &Step,
+        step: &SessionStep,
         budget: usize,
-    ) -> Option<Outcome> {
+    ) -> Option<TrialOutcome> {
         let before = asked(self.alloc, gateway)?;
         let reply = self.sent(gateway, number, step, budget)?;
         if is_wanted(&reply, step.reply) {
-            return Some(Outcome::Same);
+            return Some(TrialOutcome::Same);
         }
         if !is_refusal(&reply) {
-            return Some(Outcome::Wrong);
+            return Some(TrialOutcome::Wrong);
         }
         later(self.alloc, gateway, &before, step)
     }
@@ -101,7 +101,7 @@ impl StepTrial<'_> {
         &self,
         gateway: &mut Gateway<'_>,
         number: usize,
-        step: &Step,
+        step: &SessionStep,
         budget: usize,
     ) -> Option<Option<ReplyLine>> {
         let bytes = step.bytes.as_bytes();
@@ -120,23 +120,23 @@ fn later(
     alloc: Global,
     gateway: &mut Gateway<'_>,
     before: &Replies,
-    step: &Step,
-) -> Option<Outcome> {
+    step: &SessionStep,
+) -> Option<TrialOutcome> {
     let now = asked(alloc, gateway)?;
     Some(if now.are(before) {
         sent_again(gateway, step)
     } else {
-        Outcome::Wrong
+        TrialOutcome::Wrong
     })
 }
 
 /// How a line comes out that was refused and is sent again, with memory.
-fn sent_again(gateway: &mut Gateway<'_>, step: &Step) -> Outcome {
+fn sent_again(gateway: &mut Gateway<'_>, step: &SessionStep) -> TrialOutcome {
     let begun = reply_to(gateway, step.connection, step.begun.as_bytes());
     let reply = reply_to(gateway, step.connection, step.bytes.as_bytes());
     if begun.is_none() && is_wanted(&reply, step.reply) {
-        Outcome::Refused
+        TrialOutcome::Refused
     } else {
-        Outcome::Wrong
+        TrialOutcome::Wrong
     }
 }

@@ -2,7 +2,7 @@
 
 /// Bytes that are sent on a connection, and the reply to the line that they end.
 #[derive(Clone, Copy)]
-pub struct Step {
+pub struct SessionStep {
     /// The connection's number.
     pub connection: u8,
     /// What was sent of the line before.
@@ -19,13 +19,13 @@ pub struct Session {
     /// What it shows.
     pub name: &'static str,
     /// What is sent, in order.
-    pub steps: &'static [Step],
+    pub steps: &'static [SessionStep],
 }
 
 /// A whole line on connection 1, and its reply.
 macro_rules! line {
     ($bytes:literal, $reply:literal) => {
-        Step {
+        SessionStep {
             connection: 1,
             begun: "",
             bytes: $bytes,
@@ -62,7 +62,7 @@ pub const SESSIONS: [Session; 6] = [
     },
 ];
 
-const MARK: [Step; 5] = [
+const MARK: [SessionStep; 5] = [
     line!(
         "{\"id\":1,\"op\":\"open\",\"doc\":\"d\",\"label\":\"windows-1252\",\"bytes\":\"77u/QQ==\"}\n",
         "{\"bom\":3,\"encoding\":\"UTF-8\",\"id\":1,\"rev\":0}\n"
@@ -85,7 +85,7 @@ const MARK: [Step; 5] = [
     ),
 ];
 
-const SHIFT: [Step; 3] = [
+const SHIFT: [SessionStep; 3] = [
     line!(
         "{\"id\":1,\"op\":\"open\",\"doc\":\"d\",\"label\":\"iso-2022-jp\",\"bytes\":\"QRskQiQiGyhC\"}\n",
         "{\"bom\":0,\"encoding\":\"ISO-2022-JP\",\"id\":1,\"rev\":0}\n"
@@ -100,36 +100,36 @@ const SHIFT: [Step; 3] = [
     ),
 ];
 
-const EDITORS: [Step; 6] = [
+const EDITORS: [SessionStep; 6] = [
     line!(
         "{\"id\":1,\"op\":\"open\",\"doc\":\"d\",\"label\":\"utf-8\",\"bytes\":\"YQ==\"}\n",
         "{\"bom\":0,\"encoding\":\"UTF-8\",\"id\":1,\"rev\":0}\n"
     ),
-    Step {
+    SessionStep {
         connection: 1,
         begun: "",
         bytes: "{\"id\":2,\"op\":\"splice\",\"doc\":\"d\",\"rev\":0,\"at\":1,",
         reply: "",
     },
-    Step {
+    SessionStep {
         connection: 2,
         begun: "",
         bytes: "{\"id\":1,\"op\":\"splice\",\"doc\":\"d\",\"rev\":0,\"at\":0,\"del\":0,\"bytes\":\"Yg==\"}",
         reply: "",
     },
-    Step {
+    SessionStep {
         connection: 1,
         begun: "{\"id\":2,\"op\":\"splice\",\"doc\":\"d\",\"rev\":0,\"at\":1,",
         bytes: "\"del\":0,\"bytes\":\"Yw==\"}\n",
         reply: "{\"bom\":0,\"encoding\":\"UTF-8\",\"id\":2,\"rev\":1}\n",
     },
-    Step {
+    SessionStep {
         connection: 2,
         begun: "{\"id\":1,\"op\":\"splice\",\"doc\":\"d\",\"rev\":0,\"at\":0,\"del\":0,\"bytes\":\"Yg==\"}",
         bytes: "\n",
         reply: "{\"fault\":\"Stale\",\"id\":1,\"rev\":1}\n",
     },
-    Step {
+    SessionStep {
         connection: 2,
         begun: "",
         bytes: "{\"id\":2,\"op\":\"text\",\"doc\":\"d\",\"from\":0,\"to\":2}\n",
@@ -137,7 +137,7 @@ const EDITORS: [Step; 6] = [
     },
 ];
 
-const PAIR: [Step; 3] = [
+const PAIR: [SessionStep; 3] = [
     line!(
         "{\"id\":1,\"op\":\"open\",\"doc\":\"d\",\"label\":\"utf-8\",\"bytes\":\"YfCfmIANCmI=\"}\n",
         "{\"bom\":0,\"encoding\":\"UTF-8\",\"id\":1,\"rev\":0}\n"
@@ -152,7 +152,7 @@ const PAIR: [Step; 3] = [
     ),
 ];
 
-const PLACES: [Step; 4] = [
+const PLACES: [SessionStep; 4] = [
     line!(
         "{\"id\":0,\"op\":\"open\",\"doc\":\"d\",\"label\":\"utf-8\",\"bytes\":\"4oJB\"}\n",
         "{\"bom\":0,\"encoding\":\"UTF-8\",\"id\":0,\"rev\":0}\n"
@@ -171,7 +171,7 @@ const PLACES: [Step; 4] = [
     ),
 ];
 
-const BETWEEN: [Step; 6] = [
+const BETWEEN: [SessionStep; 6] = [
     line!(
         "{\"id\":1,\"op\":\"open\",\"doc\":\"d\",\"label\":\"iso-2022-jp\",\"bytes\":\"QRskQiQiGyhC\"}\n",
         "{\"bom\":0,\"encoding\":\"ISO-2022-JP\",\"id\":1,\"rev\":0}\n"

@@ -1,7 +1,7 @@
 //! What is tried under each budget.
 
 use crate::budget::STEP;
-use crate::outcome::{Outcome, Tally, count};
+use crate::outcome::{Tally, TrialOutcome, count};
 
 /// How often it has to answer before no greater budget is tried.
 const ANSWERS: u64 = 16;
@@ -36,7 +36,7 @@ impl Budgets {
 /// What is tried under budgets of memory.
 pub trait Tried {
     /// How it comes out under a budget; `None` where memory is refused that is to be there.
-    fn tried(&self, budget: usize) -> Option<Outcome>;
+    fn tried(&self, budget: usize) -> Option<TrialOutcome>;
 }
 
 /// How it comes out under each budget, up to those under which nothing is refused any more; `None`

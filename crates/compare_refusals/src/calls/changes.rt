@@ -1,9 +1,9 @@
 //! Changes of a range.
 
-use crate::answers::{Answers, answers_of};
+use crate::answers::{DocumentAnswers, answers_of};
 use crate::budget::all_but;
 use crate::cases::repeated;
-use crate::outcome::Outcome;
+use crate::outcome::TrialOutcome;
 use decoder_core::{Meter, meter};
 use enc_names::Encoding;
 use index_loader::Indexes;
@@ -51,27 +51,27 @@ fn make(doc: &mut Doc<'_>, plan: &Plan, meter: &mut Meter) -> Result<(), DocFaul
 }
 
 /// `plan_change`: the document is as before.
-pub fn plan(alloc: Global, indexes: &Indexes, budget: usize) -> Option<Outcome> {
+pub fn plan(alloc: Global, indexes: &Indexes, budget: usize) -> Option<TrialOutcome> {
     let doc = opened(alloc, indexes)?;
     let before = answers_of(&doc)?;
     let outcome = planned_under(alloc, &doc, budget)?;
     Some(if before.are_of(&doc) {
         outcome
     } else {
-        Outcome::Wrong
+        TrialOutcome::Wrong
     })
 }
 
 /// How the plan comes out under a budget.
-fn planned_under(alloc: Global, doc: &Doc<'_>, budget: usize) -> Option<Outcome> {
+fn planned_under(alloc: Global, doc: &Doc<'_>, budget: usize) -> Option<TrialOutcome> {
     let room = all_but(alloc, budget)?;
     let first = planned(alloc, doc);
     drop(room);
     let wanted = planned(alloc, doc).ok()?;
     Some(match first {
-        Ok(plan) if is_same(&plan, &wanted) => Outcome::Same,
-        Err(ChangeFault::OutOfMemory) => Outcome::Refused,
-        _ => Outcome::Wrong,
+        Ok(plan) if is_same(&plan, &wanted) => TrialOutcome::Same,
+        Err(ChangeFault::OutOfMemory) => TrialOutcome::Refused,
+        _ => TrialOutcome::Wrong,
     })
 }
 
@@ -85,7 +85,7 @@ fn is_same(plan: &Plan, wanted: &Plan) -> bool {
 #[derive(Drop)]
 struct Changed {
     /// What the document then answers.
-    answers: Answers,
+    answers: DocumentAnswers,
     /// How many bytes it decodes.
     decoded: u64,
 }
@@ -103,7 +103,7 @@ fn made_on_another(alloc: Global, indexes: &Indexes, plan: &Plan) -> Option<Chan
 
 /// `Doc::splice_kept`: where it is refused, the document is as before, and the same change with
 /// memory decodes no more than it would have.
-pub fn splice_kept(alloc: Global, indexes: &Indexes, budget: usize) -> Option<Outcome> {
+pub fn splice_kept(alloc: Global, indexes: &Indexes, budget: usize) -> Option<TrialOutcome> {
     let mut doc = opened(alloc, indexes)?;
     let plan = planned(alloc, &doc).ok()?;
     let wanted = made_on_another(alloc, indexes, &plan)?;
@@ -118,26 +118,26 @@ impl Changed {
         doc: &mut Doc<'_>,
         plan: &Plan,
         budget: usize,
-    ) -> Option<Outcome> {
+    ) -> Option<TrialOutcome> {
         let before = answers_of(doc)?;
         let room = all_but(alloc, budget)?;
         let made = make(doc, plan, &mut meter());
         drop(room);
         Some(match made {
-            Ok(()) if self.answers.are_of(doc) => Outcome::Same,
+            Ok(()) if self.answers.are_of(doc) => TrialOutcome::Same,
             Err(DocFault::OutOfMemory) if before.are_of(doc) => self.later(doc, plan),
-            _ => Outcome::Wrong,
+            _ => TrialOutcome::Wrong,
         })
     }
 
     /// How the same change comes out with memory.
-    fn later(&self, doc: &mut Doc<'_>, plan: &Plan) -> Outcome {
+    fn later(&self, doc: &mut Doc<'_>, plan: &Plan) -> TrialOutcome {
         let mut meter = meter();
         let made = make(doc, plan, &mut meter);
         if made.is_ok() && meter.decoded() == self.decoded && self.answers.are_of(doc) {
-            Outcome::Refused
+            TrialOutcome::Refused
         } else {
-            Outcome::Wrong
+            TrialOutcome::Wrong
         }
     }
 }

@@ -3,7 +3,7 @@
 use crate::budget::all_but;
 use crate::calls::ends::Ends;
 use crate::cases::repeated;
-use crate::outcome::Outcome;
+use crate::outcome::TrialOutcome;
 use codec::{CodecFault, Decoded, decode_fatal, decode_whole};
 use decoder_core::{Decoder, Utf8Decoder, meter, run_piece};
 use enc_names::Encoding;
@@ -23,16 +23,16 @@ const NO_ERRORS: &[u8] = b"\xB0\xA1 text ";
 const UTF_8: &[u8] = b"\xE2\x82\xAC\xE2\x82\x80\x80";
 
 /// `decode_whole`.
-pub fn whole(alloc: Global, indexes: &Indexes, budget: usize) -> Option<Outcome> {
+pub fn whole(alloc: Global, indexes: &Indexes, budget: usize) -> Option<TrialOutcome> {
     let bytes = repeated(alloc, ERRORS, LENGTH)?;
     let room = all_but(alloc, budget)?;
     let first = decode_whole(alloc, indexes, Encoding::EucKr, &bytes);
     drop(room);
     let wanted = decode_whole(alloc, indexes, Encoding::EucKr, &bytes).ok()?;
     Some(match first {
-        Ok(decoded) if is_same(&decoded, &wanted) => Outcome::Same,
-        Err(CodecFault::OutOfMemory) => Outcome::Refused,
-        _ => Outcome::Wrong,
+        Ok(decoded) if is_same(&decoded, &wanted) => TrialOutcome::Same,
+        Err(CodecFault::OutOfMemory) => TrialOutcome::Refused,
+        _ => TrialOutcome::Wrong,
     })
 }
 
@@ -46,21 +46,21 @@ fn is_same(decoded: &Decoded, wanted: &Decoded) -> bool {
 }
 
 /// `decode_fatal`.
-pub fn fatal(alloc: Global, indexes: &Indexes, budget: usize) -> Option<Outcome> {
+pub fn fatal(alloc: Global, indexes: &Indexes, budget: usize) -> Option<TrialOutcome> {
     let bytes = repeated(alloc, NO_ERRORS, LENGTH)?;
     let room = all_but(alloc, budget)?;
     let first = decode_fatal(alloc, indexes, Encoding::EucKr, &bytes);
     drop(room);
     let wanted = decode_fatal(alloc, indexes, Encoding::EucKr, &bytes).ok()?;
     Some(match first {
-        Ok(text) if text.as_str() == wanted.as_str() => Outcome::Same,
-        Err(CodecFault::OutOfMemory) => Outcome::Refused,
-        _ => Outcome::Wrong,
+        Ok(text) if text.as_str() == wanted.as_str() => TrialOutcome::Same,
+        Err(CodecFault::OutOfMemory) => TrialOutcome::Refused,
+        _ => TrialOutcome::Wrong,
     })
 }
 
 /// `run_piece`: where it is refused, its sink has a prefix of the items.
-pub fn run(alloc: Global, budget: usize) -> Option<Outcome> {
+pub fn run(alloc: Global, budget: usize) -> Option<TrialOutcome> {
     let bytes = repeated(alloc, UTF_8, LENGTH)?;
     let start = Utf8Decoder.start();
     let mut first = Ends::new(alloc);
@@ -70,8 +70,8 @@ pub fn run(alloc: Global, budget: usize) -> Option<Outcome> {
     let mut wanted = Ends::new(alloc);
     let state = run_piece(&Utf8Decoder, start, &bytes, &mut wanted, &mut meter()).ok()?;
     Some(match ran {
-        Ok(reached) if reached == state && first.are(&wanted) => Outcome::Same,
-        Err(_) if first.begin(&wanted) => Outcome::Refused,
-        _ => Outcome::Wrong,
+        Ok(reached) if reached == state && first.are(&wanted) => TrialOutcome::Same,
+        Err(_) if first.begin(&wanted) => TrialOutcome::Refused,
+        _ => TrialOutcome::Wrong,
     })
 }

@@ -1,7 +1,7 @@
 //! Desks.
 
 use crate::budget::all_but;
-use crate::outcome::{Outcome, outcome_if};
+use crate::outcome::{TrialOutcome, outcome_if};
 use desk::ops::Stat;
 use desk::{Command, Desk, Fault, Reply};
 use enc_names::{Encoding, Labels};
@@ -50,14 +50,14 @@ fn has_both(desk: &mut Desk<'_>) -> bool {
 }
 
 /// `Desk::new`, which takes no memory.
-pub fn new(alloc: Global, indexes: &Indexes, budget: usize) -> Option<Outcome> {
+pub fn new(alloc: Global, indexes: &Indexes, budget: usize) -> Option<TrialOutcome> {
     let labels = Labels::names(alloc).ok()?;
     let room = all_but(alloc, budget)?;
     let first = Desk::new(alloc, indexes, labels);
     drop(room);
     Some(match first {
         Ok(mut desk) => outcome_if(is_empty(&mut desk) && adopt_on(&mut desk).is_ok()),
-        Err(_) => Outcome::Refused,
+        Err(_) => TrialOutcome::Refused,
     })
 }
 
@@ -68,23 +68,23 @@ fn is_empty(desk: &mut Desk<'_>) -> bool {
 
 /// `Desk::adopt`: where it is refused, the desk has no document of that name, and the other is as it
 /// was.
-pub fn adopt(alloc: Global, indexes: &Indexes, budget: usize) -> Option<Outcome> {
+pub fn adopt(alloc: Global, indexes: &Indexes, budget: usize) -> Option<TrialOutcome> {
     let mut desk = with_other(alloc, indexes)?;
     let room = all_but(alloc, budget)?;
     let adopted = adopt_on(&mut desk);
     drop(room);
     Some(match adopted {
-        Ok(()) if has_both(&mut desk) => Outcome::Same,
+        Ok(()) if has_both(&mut desk) => TrialOutcome::Same,
         Err(Fault::OutOfMemory) if has_other_alone(&mut desk) => adopted_later(&mut desk),
-        _ => Outcome::Wrong,
+        _ => TrialOutcome::Wrong,
     })
 }
 
 /// How the adoption comes out with memory.
-fn adopted_later(desk: &mut Desk<'_>) -> Outcome {
+fn adopted_later(desk: &mut Desk<'_>) -> TrialOutcome {
     if adopt_on(desk).is_ok() && has_both(desk) {
-        Outcome::Refused
+        TrialOutcome::Refused
     } else {
-        Outcome::Wrong
+        TrialOutcome::Wrong
     }
 }

@@ -1,7 +1,7 @@
 //! Encoding.
 
 use crate::budget::all_but;
-use crate::outcome::Outcome;
+use crate::outcome::TrialOutcome;
 use enc_names::Encoding;
 use encoders::{EncodeFault, EncodeMode, encode};
 use index_loader::Indexes;
@@ -24,7 +24,7 @@ fn text_of(alloc: Global) -> Option<String> {
 }
 
 /// `encode`.
-pub fn whole(alloc: Global, indexes: &Indexes, budget: usize) -> Option<Outcome> {
+pub fn whole(alloc: Global, indexes: &Indexes, budget: usize) -> Option<TrialOutcome> {
     let (to, mode) = (Encoding::ShiftJis, EncodeMode::Html);
     let text = text_of(alloc)?;
     let room = all_but(alloc, budget)?;
@@ -32,14 +32,14 @@ pub fn whole(alloc: Global, indexes: &Indexes, budget: usize) -> Option<Outcome>
     drop(room);
     let wanted = encode(alloc, to, indexes, mode, &text).ok()?;
     Some(match first {
-        Ok(bytes) if bytes.as_slice() == wanted.as_slice() => Outcome::Same,
-        Err(EncodeFault::OutOfMemory) => Outcome::Refused,
-        _ => Outcome::Wrong,
+        Ok(bytes) if bytes.as_slice() == wanted.as_slice() => TrialOutcome::Same,
+        Err(EncodeFault::OutOfMemory) => TrialOutcome::Refused,
+        _ => TrialOutcome::Wrong,
     })
 }
 
 /// `encode_from`.
-pub fn from_state(alloc: Global, indexes: &Indexes, budget: usize) -> Option<Outcome> {
+pub fn from_state(alloc: Global, indexes: &Indexes, budget: usize) -> Option<TrialOutcome> {
     if !indexes.has(Encoding::Iso2022Jp) {
         return None;
     }
@@ -51,8 +51,8 @@ pub fn from_state(alloc: Global, indexes: &Indexes, budget: usize) -> Option<Out
     let (wanted, end) = encode_from(alloc, indexes, state, &text, true, true).ok()?;
     Some(match first {
         Ok((bytes, after)) if after == end && bytes.as_slice() == wanted.as_slice() =>
-            Outcome::Same,
-        Err(FromFault::OutOfMemory) => Outcome::Refused,
-        _ => Outcome::Wrong,
+            TrialOutcome::Same,
+        Err(FromFault::OutOfMemory) => TrialOutcome::Refused,
+        _ => TrialOutcome::Wrong,
     })
 }

@@ -1,7 +1,7 @@
 //! Labels and index files.
 
 use crate::budget::all_but;
-use crate::outcome::Outcome;
+use crate::outcome::TrialOutcome;
 use enc_names::{Encoding, LabelFault, Labels, Scalar};
 use index_loader::{Index, IndexCause, IndexFault, IndexKind};
 use std::alloc::Global;
@@ -14,7 +14,7 @@ const FILE: &[u8] =
 const INDEX: &[u8] = b"# comment\n0\t0x20AC\n59\t0x00BB\n63\t0x00BF\n127\t0x00FF\n";
 
 /// `Labels::names`.
-pub fn names(alloc: Global, budget: usize) -> Option<Outcome> {
+pub fn names(alloc: Global, budget: usize) -> Option<TrialOutcome> {
     let room = all_but(alloc, budget)?;
     let first = Labels::names(alloc);
     drop(room);
@@ -23,7 +23,7 @@ pub fn names(alloc: Global, budget: usize) -> Option<Outcome> {
 }
 
 /// `Labels::from_json`.
-pub fn from_json(alloc: Global, budget: usize) -> Option<Outcome> {
+pub fn from_json(alloc: Global, budget: usize) -> Option<TrialOutcome> {
     let room = all_but(alloc, budget)?;
     let first = Labels::from_json(alloc, FILE);
     drop(room);
@@ -32,12 +32,16 @@ pub fn from_json(alloc: Global, budget: usize) -> Option<Outcome> {
 }
 
 /// How labels came out beside those with memory, by which Shift_JIS has this label.
-fn labels_outcome(labels: Result<Labels, LabelFault>, wanted: &Labels, label: &[u8]) -> Outcome {
+fn labels_outcome(
+    labels: Result<Labels, LabelFault>,
+    wanted: &Labels,
+    label: &[u8],
+) -> TrialOutcome {
     match labels {
-        _ if wanted.lookup(label) != Some(Encoding::ShiftJis) => Outcome::Wrong,
-        Ok(labels) if is_same(&labels, wanted) => Outcome::Same,
-        Err(LabelFault::OutOfMemory) => Outcome::Refused,
-        _ => Outcome::Wrong,
+        _ if wanted.lookup(label) != Some(Encoding::ShiftJis) => TrialOutcome::Wrong,
+        Ok(labels) if is_same(&labels, wanted) => TrialOutcome::Same,
+        Err(LabelFault::OutOfMemory) => TrialOutcome::Refused,
+        _ => TrialOutcome::Wrong,
     }
 }
 
@@ -58,16 +62,16 @@ fn is_same(labels: &Labels, wanted: &Labels) -> bool {
 }
 
 /// `Index::parse`.
-pub fn parse(alloc: Global, budget: usize) -> Option<Outcome> {
+pub fn parse(alloc: Global, budget: usize) -> Option<TrialOutcome> {
     let kind = IndexKind::SingleByte(Encoding::Windows1252);
     let room = all_but(alloc, budget)?;
     let first = Index::parse(alloc, kind, INDEX);
     drop(room);
     let wanted = Index::parse(alloc, kind, INDEX).ok()?;
     Some(match first {
-        Ok(index) if has_pairs(&index) && has_pairs(&wanted) => Outcome::Same,
-        Err(fault) if is_refusal(fault) && has_pairs(&wanted) => Outcome::Refused,
-        _ => Outcome::Wrong,
+        Ok(index) if has_pairs(&index) && has_pairs(&wanted) => TrialOutcome::Same,
+        Err(fault) if is_refusal(fault) && has_pairs(&wanted) => TrialOutcome::Refused,
+        _ => TrialOutcome::Wrong,
     })
 }
 

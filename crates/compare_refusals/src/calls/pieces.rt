@@ -2,7 +2,7 @@
 
 use crate::budget::all_but;
 use crate::cases::repeated;
-use crate::outcome::Outcome;
+use crate::outcome::TrialOutcome;
 use decoder_core::meter;
 use enc_names::Encoding;
 use index_loader::Indexes;
@@ -23,21 +23,21 @@ fn bytes_of(alloc: Global) -> Option<Vec<u8>> {
 }
 
 /// `Piece::new`.
-pub fn new(alloc: Global, budget: usize) -> Option<Outcome> {
+pub fn new(alloc: Global, budget: usize) -> Option<TrialOutcome> {
     let bytes = bytes_of(alloc)?;
     let room = all_but(alloc, budget)?;
     let first = Piece::new(alloc, &bytes);
     drop(room);
     let wanted = Piece::new(alloc, &bytes).ok()?;
     Some(match first {
-        Ok(piece) if piece.bytes() == wanted.bytes() => Outcome::Same,
-        Err(_) if wanted.bytes() == bytes.as_slice() => Outcome::Refused,
-        _ => Outcome::Wrong,
+        Ok(piece) if piece.bytes() == wanted.bytes() => TrialOutcome::Same,
+        Err(_) if wanted.bytes() == bytes.as_slice() => TrialOutcome::Refused,
+        _ => TrialOutcome::Wrong,
     })
 }
 
 /// `Piece::compute`: the piece has the same bytes behind it, and remembers nothing.
-pub fn compute(alloc: Global, indexes: &Indexes, budget: usize) -> Option<Outcome> {
+pub fn compute(alloc: Global, indexes: &Indexes, budget: usize) -> Option<TrialOutcome> {
     let bytes = bytes_of(alloc)?;
     let piece = Piece::new(alloc, &bytes).ok()?;
     let decoder = AnyDecoder::new(indexes, Encoding::Iso2022Jp)?;
@@ -46,7 +46,7 @@ pub fn compute(alloc: Global, indexes: &Indexes, budget: usize) -> Option<Outcom
     Some(if piece.bytes() == bytes.as_slice() && !remembers {
         outcome
     } else {
-        Outcome::Wrong
+        TrialOutcome::Wrong
     })
 }
 
@@ -56,21 +56,21 @@ fn computed_under(
     decoder: &AnyDecoder<'_>,
     piece: &Piece,
     budget: usize,
-) -> Option<Outcome> {
+) -> Option<TrialOutcome> {
     let start = start_of(decoder);
     let room = all_but(alloc, budget)?;
     let first = piece.compute(decoder, start, &mut meter());
     drop(room);
     let wanted = piece.compute(decoder, start, &mut meter()).ok()?;
     Some(match first {
-        Ok(decoded) if is_same(&decoded, &wanted) => Outcome::Same,
-        Err(_) => Outcome::Refused,
-        _ => Outcome::Wrong,
+        Ok(decoded) if is_same(&decoded, &wanted) => TrialOutcome::Same,
+        Err(_) => TrialOutcome::Refused,
+        _ => TrialOutcome::Wrong,
     })
 }
 
 /// `finish_of`, in the state behind the piece.
-pub fn finish(alloc: Global, indexes: &Indexes, budget: usize) -> Option<Outcome> {
+pub fn finish(alloc: Global, indexes: &Indexes, budget: usize) -> Option<TrialOutcome> {
     let bytes = bytes_of(alloc)?;
     let decoder = AnyDecoder::new(indexes, Encoding::Iso2022Jp)?;
     let state = behind(alloc, &decoder, &bytes)?;
@@ -79,9 +79,9 @@ pub fn finish(alloc: Global, indexes: &Indexes, budget: usize) -> Option<Outcome
     drop(room);
     let wanted = finish_of(alloc, &decoder, state).ok()?;
     Some(match first {
-        Ok(decoded) if is_same(&decoded, &wanted) => Outcome::Same,
-        Err(_) => Outcome::Refused,
-        _ => Outcome::Wrong,
+        Ok(decoded) if is_same(&decoded, &wanted) => TrialOutcome::Same,
+        Err(_) => TrialOutcome::Refused,
+        _ => TrialOutcome::Wrong,
     })
 }
 

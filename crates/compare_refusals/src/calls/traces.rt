@@ -1,7 +1,7 @@
 //! Traces.
 
 use crate::budget::all_but;
-use crate::outcome::Outcome;
+use crate::outcome::TrialOutcome;
 use desk::Desk;
 use enc_names::{Encoding, Labels};
 use gateway::{Event, Gateway, MemFeed, MemOutlet, TraceFault, trace};
@@ -44,7 +44,7 @@ fn played(
 
 /// `trace`: where it breaks off, or a question is refused, what was printed is right so far, and the
 /// same trace is played to its end with memory.
-pub fn play(alloc: Global, indexes: &Indexes, budget: usize) -> Option<Outcome> {
+pub fn play(alloc: Global, indexes: &Indexes, budget: usize) -> Option<TrialOutcome> {
     let mut gateway = with_document(alloc, indexes)?;
     let mut output = MemOutlet::new(alloc);
     let room = all_but(alloc, budget)?;
@@ -52,12 +52,12 @@ pub fn play(alloc: Global, indexes: &Indexes, budget: usize) -> Option<Outcome> 
     drop(room);
     let printed = output.bytes();
     Some(match ended {
-        Ok(()) if printed == OUTPUT => Outcome::Same,
+        Ok(()) if printed == OUTPUT => TrialOutcome::Same,
         Ok(()) if REFUSED.contains(&printed) => played_later(alloc, &mut gateway),
         Err(TraceFault::OutOfMemory | TraceFault::Write) if begins_right(printed) => {
             played_later(alloc, &mut gateway)
         }
-        _ => Outcome::Wrong,
+        _ => TrialOutcome::Wrong,
     })
 }
 
@@ -72,11 +72,11 @@ fn begins_right(printed: &[u8]) -> bool {
 }
 
 /// How the trace comes out with memory, on a gateway where its connection may still be open.
-fn played_later(alloc: Global, gateway: &mut Gateway<'_>) -> Outcome {
+fn played_later(alloc: Global, gateway: &mut Gateway<'_>) -> TrialOutcome {
     let _ = gateway.event(Event::Close(1));
     let mut output = MemOutlet::new(alloc);
     match played(alloc, gateway, &mut output) {
-        Ok(()) if output.bytes() == OUTPUT => Outcome::Refused,
-        _ => Outcome::Wrong,
+        Ok(()) if output.bytes() == OUTPUT => TrialOutcome::Refused,
+        _ => TrialOutcome::Wrong,
     }
 }

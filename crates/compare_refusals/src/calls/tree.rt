@@ -1,7 +1,7 @@
 //! The tree of sums.
 
 use crate::budget::all_but;
-use crate::outcome::Outcome;
+use crate::outcome::TrialOutcome;
 use oracle::tree::{Item, Items, light, put};
 use std::alloc::Global;
 
@@ -25,19 +25,19 @@ fn list(alloc: Global) -> Option<Items> {
 
 /// `SumTree::reserve`: where it is refused, the list has the items and the room that it had, and so
 /// many more can be put in once there is memory.
-pub fn reserve(alloc: Global, budget: usize) -> Option<Outcome> {
+pub fn reserve(alloc: Global, budget: usize) -> Option<TrialOutcome> {
     let mut items = list(alloc)?;
     let spare = items.spare();
     let room = all_but(alloc, budget)?;
     let reserved = items.reserve(MORE);
     drop(room);
     if !has_items(&items) {
-        return Some(Outcome::Wrong);
+        return Some(TrialOutcome::Wrong);
     }
     Some(match reserved {
-        Ok(()) if takes_more(&mut items) => Outcome::Same,
-        Err(_) if items.spare() == spare && takes_later(&mut items) => Outcome::Refused,
-        _ => Outcome::Wrong,
+        Ok(()) if takes_more(&mut items) => TrialOutcome::Same,
+        Err(_) if items.spare() == spare && takes_later(&mut items) => TrialOutcome::Refused,
+        _ => TrialOutcome::Wrong,
     })
 }
 
