@@ -302,16 +302,28 @@ ONE_MORE = [
     ("f", opens("UTF-8", b"a"), {"fault": "TooManyDocuments"}),
 ]
 
-MOST = 2_097_152
+MOST = 16_777_216
+PART = 3_000_000  # bytes that a line carries
+PARTS = MOST // PART
+
+
+def by_parts(rev):
+    """The document of the most bytes comes by parts, of which the one of this revision is the last; it may not be a byte longer."""
+    at = rev * PART
+    rest = min(PART, MOST - at)
+    more = [(splices(rev - 1, at, 0, b"a" * (rest + 1)), {"fault": "TooLarge"})] if rest < PART else []
+    return more + [(splices(rev - 1, at, 0, b"a" * rest), opened("UTF-8", b"a", rev))]
+
+
 LONGEST = [
-    (opens("UTF-8", b"a" * (MOST + 1)), {"fault": "TooLarge"}),
-    (opens("UTF-8", b"a" * MOST), opened("UTF-8", b"a")),
-    (splices(0, 5, 0, b"b"), {"fault": "TooLarge"}),
-    (splices(1, 5, 0, b"b"), {"fault": "Stale", "rev": 0}),
-    (splices(0, MOST + 1, 0, b"b"), PAST),
-    (text(4, 7), {"text": "aaa", "rev": 0}),
-    (splices(0, 5, 1, b"b"), opened("UTF-8", b"a", 1)),
-    (text(4, 7), {"text": "aba", "rev": 1}),
+    (opens("UTF-8", b"a" * PART), opened("UTF-8", b"a")),
+    *(row for rev in range(1, PARTS + 1) for row in by_parts(rev)),
+    (splices(PARTS, 5, 0, b"b"), {"fault": "TooLarge"}),
+    (splices(PARTS - 1, 5, 0, b"b"), {"fault": "Stale", "rev": PARTS}),
+    (splices(PARTS, MOST + 1, 0, b"b"), PAST),
+    (text(4, 7), {"text": "aaa", "rev": PARTS}),
+    (splices(PARTS, 5, 1, b"b"), opened("UTF-8", b"a", PARTS + 1)),
+    (text(4, 7), {"text": "aba", "rev": PARTS + 1}),
 ]
 
 

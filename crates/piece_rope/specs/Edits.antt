@@ -10,7 +10,7 @@ use Rattle.piece_rope.specs.Document.{Document, text_of, errors_of}
 
 -- the most bytes that a document has
 abbrev pub document_limit : ℕ
-document_limit = 2097152
+document_limit = 16777216
 
 -- the bytes before `at`, then those put in, then those from `at + del` on
 abbrev pub spliced : List ℕ → ℕ → ℕ → List ℕ → List ℕ

@@ -9,7 +9,7 @@ use crate::pieces::Pieces;
 use crate::window::count_bytes;
 
 /// The most bytes that a document has.
-pub const DOCUMENT_LIMIT: usize = 2_097_152;
+pub const DOCUMENT_LIMIT: usize = 16_777_216;
 
 /// The most bytes that a piece of a document has.
 pub const LONGEST_PIECE: usize = 2_048;
