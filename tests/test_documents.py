@@ -317,21 +317,33 @@ ONE_MORE = [
     ("f", opens("UTF-8", b"a"), {"fault": "TooManyDocuments"}),
 ]
 
-MOST = 2_097_152
+MOST = 16_777_216
+PART = 3_000_000  # bytes that a line carries
+PARTS = MOST // PART
+
+
+def by_parts(rev):
+    """The document of the most bytes comes by parts, of which the one of this revision is the last; it may not be a byte longer."""
+    at = rev * PART
+    rest = min(PART, MOST - at)
+    more = [(splices(rev - 1, at, 0, b"a" * (rest + 1)), {"fault": "TooLarge"})] if rest < PART else []
+    return more + [(splices(rev - 1, at, 0, b"a" * rest), opened("UTF-8", b"a", rev))]
+
+
 LONGEST = [
-    (opens("UTF-8", b"a" * (MOST + 1)), {"fault": "TooLarge"}),
-    (opens("UTF-8", b"a" * MOST), opened("UTF-8", b"a")),
-    (splices(0, 5, 0, b"b"), {"fault": "TooLarge"}),
-    (splices(1, 5, 0, b"b"), {"fault": "Stale", "rev": 0}),
-    (splices(0, MOST + 1, 0, b"b"), PAST),
-    (text(4, 7), {"text": "aaa", "rev": 0}),
-    (splices(0, 5, 1, b"b"), opened("UTF-8", b"a", 1)),
-    (text(4, 7), {"text": "aba", "rev": 1}),
-    (changes(1, change(0, 0, 0, "c"), change(0, 0, 1, "")), {"change": 0, "fault": "TooLarge"}),
-    (changes(1, change(0, 0, 1, ""), change(0, 0, 0, "c"), change(0, 0, 0, "d")), {"change": 2, "fault": "TooLarge"}),
-    (text(0, 2), {"text": "aa", "rev": 1}),
-    (changes(1, change(0, 0, 1, ""), change(0, 0, 0, "c")), {"applied": 2, **opened("UTF-8", b"a", 2)}),
-    (text(0, 2), {"text": "ca", "rev": 2}),
+    (opens("UTF-8", b"a" * PART), opened("UTF-8", b"a")),
+    *(row for rev in range(1, PARTS + 1) for row in by_parts(rev)),
+    (splices(PARTS, 5, 0, b"b"), {"fault": "TooLarge"}),
+    (splices(PARTS - 1, 5, 0, b"b"), {"fault": "Stale", "rev": PARTS}),
+    (splices(PARTS, MOST + 1, 0, b"b"), PAST),
+    (text(4, 7), {"text": "aaa", "rev": PARTS}),
+    (splices(PARTS, 5, 1, b"b"), opened("UTF-8", b"a", PARTS + 1)),
+    (text(4, 7), {"text": "aba", "rev": PARTS + 1}),
+    (changes(PARTS + 1, change(0, 0, 0, "c"), change(0, 0, 1, "")), {"change": 0, "fault": "TooLarge"}),
+    (changes(PARTS + 1, change(0, 0, 1, ""), change(0, 0, 0, "c"), change(0, 0, 0, "d")), {"change": 2, "fault": "TooLarge"}),
+    (text(0, 2), {"text": "aa", "rev": PARTS + 1}),
+    (changes(PARTS + 1, change(0, 0, 1, ""), change(0, 0, 0, "c")), {"applied": 2, **opened("UTF-8", b"a", PARTS + 2)}),
+    (text(0, 2), {"text": "ca", "rev": PARTS + 2}),
 ]
 
 # Letters that are put in one in front of the other, the most that a list has and one more.

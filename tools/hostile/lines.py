@@ -5,7 +5,9 @@ import json
 from program import Case, Ended
 
 MOST = 4194304  # bytes of a line
-LARGEST = 2097152  # bytes of a document
+LARGEST = 16777216  # bytes of a document
+PART = 3000000  # bytes of a document that a line carries
+LARGE = 2097150  # bytes of one that a line has room for, in triples
 
 OPEN = b'{"id":0,"op":"open","doc":"kept","label":"utf-8","bytes":"4oJB"}'
 OPENED = b'{"bom":0,"encoding":"UTF-8","id":0,"rev":0}'
@@ -58,7 +60,21 @@ def changes(one, count, *more):
     return b'{"id":1,"op":"changes","doc":"kept","rev":0,"changes":[%s]}' % b",".join([one] * count + list(more))
 
 
-# What is sent, and the reply.
+def by_parts(size, last):
+    """Lines that open a document of so many bytes 00, and their replies, of which the last is given."""
+    part = b'{"id":1,"op":"splice","doc":"new","rev":%d,"at":%d,"del":0,"bytes":"%s"}'
+    lines, replies = [opens(zeros(PART))], [OPENED_1]
+    for rev, at in enumerate(range(PART, size, PART)):
+        lines.append(part % (rev, at, zeros(min(PART, size - at))))
+        replies.append(OPENED_1.replace(b'"rev":0', b'"rev":%d' % (rev + 1)))
+    return b"\n".join(lines), b"\n".join(replies[:-1] + [last or replies[-1]])
+
+
+def zeros(count):
+    return base64.b64encode(b"\0" * count)
+
+
+# What is sent, and the reply, or several with as many replies.
 LINES = [
     ("an empty line", b"", BAD_JSON),
     ("a line of CR alone", b"\r", BAD_JSON),
@@ -112,8 +128,8 @@ LINES = [
     ("a name of 65 bytes", opens(b"", b"n" * 65), bad("doc", 1)),
     ("a name of 16 code points in 64 bytes", opens(b"", "\U0001f600".encode() * 16), OPENED_1),
     ("a name of 22 code points in 66 bytes", opens(b"", b"\\u3042" * 22), bad("doc", 1)),
-    ("a document of 2,097,152 bytes", opens(base64.b64encode(b"\0" * LARGEST)), OPENED_1),
-    ("a document of 2,097,153 bytes", opens(base64.b64encode(b"\0" * (LARGEST + 1))), fault(b"TooLarge")),
+    ("a document of 16,777,216 bytes", *by_parts(LARGEST, None)),
+    ("a document of 16,777,217 bytes", *by_parts(LARGEST + 1, fault(b"TooLarge"))),
     ("a label of a megabyte", opens(b"", label=b"x" * (1 << 20)), fault(b"UnknownLabel")),
     ("a list of 1,001 changes", changes(b'{"text":"x"}', 1001), bad("changes", 1)),
     ("a list of a million numbers", changes(b"0", 1000000), bad("changes", 1)),

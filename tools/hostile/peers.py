@@ -4,7 +4,7 @@ import struct
 import threading
 import time
 
-from lines import ASK, BAD_JSON, KEPT, LARGEST, OPEN, OPENED
+from lines import ASK, BAD_JSON, KEPT, LARGE, OPEN, OPENED
 from program import Case, Ended, connected, ending, received, replies_to
 
 # Behind so many connections memory has its size; the rest may add so many KiB at most.
@@ -63,8 +63,8 @@ def sends_no_line_end(port):
 def never_reads(port):
     """Asks for more than the buffers between the two hold, and is reset when nothing goes on."""
     peer = connected(port)
-    peer.sendall(OPEN.replace(b"kept", b"large").replace(b"4oJB", b"AAAA" * (LARGEST // 3)) + b"\n")
-    ask = b'{"id":1,"op":"text","doc":"large","from":0,"to":%d}\n' % (LARGEST // 3 * 3)
+    peer.sendall(OPEN.replace(b"kept", b"large").replace(b"4oJB", b"AAAA" * (LARGE // 3)) + b"\n")
+    ask = b'{"id":1,"op":"text","doc":"large","from":0,"to":%d}\n' % (LARGE)
     peer.sendall(ask * 4)
     time.sleep(0.5)
     reset(peer)

@@ -6,7 +6,7 @@ import subprocess
 import threading
 import time
 
-from lines import ASK, KEPT, LARGEST, OPEN, OPENED
+from lines import ASK, KEPT, LARGE, OPEN, OPENED
 from program import Case, Ended, ending
 
 READ = Ended(1, b"", b"gate: read fault\n")
@@ -134,9 +134,9 @@ def closed_cases(gate, lines):
 
 def slow_cases(gate):
     """Documents of bytes 00, each of which is six bytes in a reply."""
-    zeros = OPEN.replace(b'"4oJB"', b'"' + b"AAAA" * (LARGEST // 3) + b'"')
-    ask = b'{"id":1,"op":"text","doc":"kept","from":0,"to":%d}' % (LARGEST // 3 * 3)
-    reply = b'{"id":1,"rev":0,"text":"' + b"\\u0000" * (LARGEST // 3 * 3) + b'"}\n'
+    zeros = OPEN.replace(b'"4oJB"', b'"' + b"AAAA" * (LARGE // 3) + b'"')
+    ask = b'{"id":1,"op":"text","doc":"kept","from":0,"to":%d}' % (LARGE)
+    reply = b'{"id":1,"rev":0,"text":"' + b"\\u0000" * (LARGE) + b'"}\n'
     data = zeros + b"\n" + ask + b"\n"
     yield Case("stdio: 12 MiB of a reply to a slow reader", lambda: read_slowly(gate, data), Ended(0, OPENED + b"\n" + reply, b""))
     begun = (OPENED + b"\n" + reply)[:100000]

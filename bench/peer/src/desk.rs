@@ -11,7 +11,7 @@ use std::collections::HashMap;
 
 const GREATEST: u64 = (1 << 53) - 1;
 const LINE: usize = 4_194_304;
-const DOCUMENT: usize = 2_097_152;
+const DOCUMENT: usize = 16_777_216;
 const DOCUMENTS: usize = 64;
 
 #[derive(Default)]

@@ -5,16 +5,13 @@ use crate::tally::CallTally;
 use decoder_core::meter;
 use index_loader::Indexes;
 use oracle::{Sample, bytes_of, length};
-use piece_rope::Doc;
+use piece_rope::{DOCUMENT_LIMIT, Doc};
 use rand::RngExt;
 use rand::rngs::SmallRng;
 use std::alloc::Global;
 
 /// How many documents each encoding has.
 const DOCUMENTS: usize = 40;
-
-/// The most bytes of a document.
-const LARGEST: usize = 2_097_152;
 
 /// Puts other bytes into the document and its bytes; `None` where a call is refused.
 fn splice(
@@ -65,7 +62,7 @@ pub fn random_documents(
     Some(tally)
 }
 
-/// The calls on a document of 2,097,152 bytes; `None` where a call is refused.
+/// The calls on a document of as many bytes as there may be; `None` where a call is refused.
 pub fn large_document(
     alloc: Global,
     indexes: &Indexes,
@@ -73,8 +70,8 @@ pub fn large_document(
     sample: &Sample,
 ) -> Option<CallTally> {
     let mut tally = CallTally::new();
-    let mut bytes = bytes_of(alloc, rng, sample, LARGEST)?;
-    bytes.truncate(LARGEST);
+    let mut bytes = bytes_of(alloc, rng, sample, DOCUMENT_LIMIT)?;
+    bytes.truncate(DOCUMENT_LIMIT);
     let doc = Doc::open(alloc, indexes, sample.given, &bytes, &mut meter()).ok()?;
     compare(alloc, rng, &doc, &bytes, &mut tally)?;
     Some(tally)

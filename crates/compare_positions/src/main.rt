@@ -59,7 +59,7 @@ fn compare_all(rt: &HostRuntime) -> io::Result<bool> {
         let tally = line_ends(rt.alloc(), &mut rng, case);
         all = print_tally(rt, case.given, tally)? && all;
     }
-    println!(rt; "Documents of 2,097,152 bytes:")?;
+    println!(rt; "Documents of 16,777,216 bytes:")?;
     for sample in SAMPLES.iter().take(LARGE) {
         let tally = large_document(rt.alloc(), &indexes, &mut rng, sample);
         all = print_tally(rt, sample.given, tally)? && all;

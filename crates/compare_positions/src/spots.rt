@@ -9,6 +9,10 @@ use sum_tree::visits;
 /// How many numbers are drawn for a document, beside those near its pieces' borders.
 const DRAWN: usize = 32;
 
+/// Bytes for each of which a further border is left out between two that are looked at: the calls of
+/// a document of the greatest length are then those of one of a seventh.
+const SKIPPED: u64 = 2_500_000;
+
 /// Numbers at which calls are compared, and what the pieces' borders cut.
 #[derive(Drop)]
 pub struct Spots {
@@ -64,21 +68,26 @@ impl Spots {
         }
     }
 
-    /// Numbers near every border of a piece, and others; `None` where memory is refused, or where the
-    /// pieces don't end with the document.
+    /// Numbers near the borders of pieces, in a large document of some of them up to its end, and
+    /// others; `None` where memory is refused, or where the pieces don't end with the document.
     pub fn of(alloc: Global, rng: &mut SmallRng, doc: &Doc<'_>) -> Option<Spots> {
         let mut spots = Spots::drawn(alloc, rng, doc)?;
         let finder = doc.finder();
         let mut at = 0;
+        let len = doc.lengths().bytes;
+        let every = len / SKIPPED + 1;
         // No document has more pieces than bytes.
-        for _ in 0..=doc.lengths().bytes {
+        for n in 0..=len {
             let (before, found) = finder.find(&Axis::Byte, at, &mut visits());
-            spots.push(before)?;
             let Some(piece) = found else {
+                spots.push(before)?;
                 return Some(spots);
             };
             let sum = piece.here().sum;
-            spots.count(before, sum.lf_first);
+            if n % every == 0 {
+                spots.push(before)?;
+                spots.count(before, sum.lf_first);
+            }
             at = before.bytes.saturating_add(sum.bytes);
         }
         None

@@ -4,7 +4,7 @@ ghost use Rattle.std.specs.Prelude.{◌≡◌, ◌≤◌, ◌+◌, ◌-◌, ◌^
 use position_map::PosFault;
 
 /// The most nodes that a call may visit in a document of any length.
-const MOST_VISITED: u64 = 60;
+const MOST_VISITED: u64 = 72;
 
 /// What calls came to, as they are counted.
 #[derive(Clone, Copy)]
@@ -75,7 +75,7 @@ impl CallTally {
     /// of everything for the comparison to tell something.
     pub fn is_telling(&self) -> bool
         ensures same { result ≡ true → self.now.calls.different ≡ 0 }
-        ensures few { result ≡ true → self.now.visited ≤ 60 }
+        ensures few { result ≡ true → self.now.visited ≤ 72 }
         ensures calls { result ≡ true → 1000 ≤ slice_index self.now.calls.seen 0 }
         ensures out_of_range { result ≡ true → 100 ≤ slice_index self.now.calls.seen 1 }
     {

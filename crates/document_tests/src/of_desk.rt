@@ -140,7 +140,7 @@ fn adopt_sixty_three(rt: &impl Abort, alloc: Global, desk: &mut Desk<'_>) -> Res
 fn adoptions_refused_in_their_order(rt: HostRuntime) -> Result<(), Fail> {
     let indexes = Indexes::new();
     let mut desk = Desk::new(rt.alloc(), &indexes, Labels::names(rt.alloc())?)?;
-    let too_large = vec![in rt.alloc(); b'a'; 2_097_153]?;
+    let too_large = vec![in rt.alloc(); b'a'; 16_777_217]?;
     let utf8 = Encoding::Utf8;
     adopt_sixty_three(&rt, rt.alloc(), &mut desk)?;
     assert_eq!(&rt; desk.adopt("e", utf8, &too_large, 7), Err(Fault::TooLarge));

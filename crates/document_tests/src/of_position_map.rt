@@ -3,7 +3,7 @@
 use decoder_core::meter;
 use enc_names::Encoding;
 use index_loader::Indexes;
-use piece_rope::{Axis, Doc};
+use piece_rope::{Axis, DOCUMENT_LIMIT, Doc};
 use position_map::{
     Position, Unit, byte_to_scalar, convert, line, scalar_to_place, to_offset, to_position,
 };
@@ -12,20 +12,20 @@ use std::test::Fail;
 use sum_tree::visits;
 
 /// The most visits of one call.
-const MOST: u64 = 60;
+const MOST: u64 = 72;
 
-/// How many pieces a document has, up to 5,000.
+/// How many pieces a document has, up to 40,000.
 fn count_pieces(doc: &Doc<'_>) -> u64 {
     let finder = doc.finder();
     let mut at = 0;
-    for count in 0..5000u64 {
+    for count in 0..40_000u64 {
         let (before, found) = finder.find(&Axis::Byte, at, &mut visits());
         let Some(piece) = found else {
             return count;
         };
         at = before.bytes.saturating_add(piece.here().sum.bytes);
     }
-    5000
+    40_000
 }
 
 /// Asserts that no call that seeks visits more, at a place in hundredths of the document.
@@ -69,17 +69,17 @@ fn few_by_offsets(rt: &impl Abort, doc: &Doc<'_>, offset: u64, at: u64) {
 }
 
 #[test]
-fn few_nodes_of_4097_pieces(rt: HostRuntime) -> Result<(), Fail> {
+fn few_nodes_of_32769_pieces(rt: HostRuntime) -> Result<(), Fail> {
     let alloc = rt.alloc();
     let indexes = Indexes::new();
     let lines = "ab\u{e9}\u{1f600}\u{3042}cde\r\n".as_bytes();
-    let mut bytes = Vec::with_capacity(alloc, 2_097_152)?;
-    for _ in 0..131_072 {
+    let mut bytes = Vec::with_capacity(alloc, DOCUMENT_LIMIT)?;
+    for _ in 0..1_048_576 {
         bytes.extend_from_slice(lines)?;
     }
     let doc = Doc::open(alloc, &indexes, Encoding::Utf8, &bytes, &mut meter())?;
-    assert_eq!(rt; doc.lengths().bytes, 2_097_152);
-    assert!(rt; count_pieces(&doc) <= 4097);
+    assert_eq!(rt; doc.lengths().bytes, 16_777_216);
+    assert!(rt; count_pieces(&doc) <= 32_769);
     for hundredths in 0..101 {
         visits_few(&rt, &doc, hundredths);
     }

@@ -1,8 +1,8 @@
 -- The numbers that a document keeps are its own.
-use Rattle.std.proofs.Common.{◌≡◌, refl, sym, ap, ◌∙◌, ℕ, ◌+◌, ◌^◌, ◌<◌, ◌≤◌, false, List, [], ◌∷◌, ◌++◌, length, slice_get, Some, arith, append-nil}
+use Rattle.std.proofs.Common.{◌≡◌, refl, sym, ap, ◌∙◌, ℕ, ◌+◌, ◌^◌, ◌<◌, ◌≤◌, false, List, [], ◌∷◌, ◌++◌, length, slice_get, Some, arith, append-nil, rules}
 use Rattle.enc_names.specs.declared.setting.Setting.{Setting}
 use Rattle.index_loader.specs.Files.{Files}
-use Rattle.state_memo.specs.Decoding.{mark_of, marks, total_width, utf16_width, utf8_width}
+use Rattle.state_memo.specs.Decoding.{mark_of, mark_length, marks, total_width, utf16_width, utf8_width}
 use Rattle.state_memo.specs.declared.outcome.Outcome.{Outcome}
 use Rattle.state_memo.specs.declared.sum.Sum.{Sum}
 use Rattle.state_memo.specs.Sums.{joined}
@@ -51,6 +51,10 @@ mark-front [] ys l = absurd (omega (arith, l))
 mark-front (a ∷ []) ys l = absurd (omega (arith, l))
 mark-front (a ∷ b ∷ []) ys l = absurd (omega (arith, l))
 mark-front (a ∷ b ∷ c ∷ xs) ys l = refl
+
+-- only the mark counts for its length
+pub mark-length-by : (setting : Setting) (xs ys : List ℕ) → mark_of xs ≡ mark_of ys → mark_length setting xs ≡ mark_length setting ys
+mark-length-by setting xs ys e = search rules
 
 -- the first piece has a byte order mark whole
 pub mark-first : (ps : List Entry) (p : Entry) → HasSizes ps → slice_get ps 0 ≡ Some p → mark_of p.piece.bytes ≡ mark_of (bytes_of ps)

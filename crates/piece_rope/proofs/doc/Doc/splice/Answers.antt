@@ -1,6 +1,9 @@
 use Rattle.piece_rope.proofs.Metering.{metered-as}
 use Rattle.piece_rope.proofs.doc.Doc.splice.Goals as goal
 
+pub prepare_splice-requires : goal.prepare_splice-requires
+prepare_splice-requires c = c.self.invariant
+
 pub invariant_of-self-2 : goal.invariant_of-self-2
 invariant_of-self-2 c = rw (c.in_ok-install_edit.ensures.pieces, c.in_ok-install_edit.ensures.tail) c.in_ok-edit.ensures.ready.kept
 

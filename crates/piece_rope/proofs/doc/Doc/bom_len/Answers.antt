@@ -1,0 +1,13 @@
+use Rattle.std.proofs.Common.{ap, ◌∙◌}
+use Rattle.state_memo.specs.Decoding.{decode, mark_length}
+use Rattle.piece_rope.specs.Chain.{bytes_of}
+use Rattle.piece_rope.specs.Document.{Document}
+use Rattle.piece_rope.proofs.Kept.{mark-length-by}
+use Rattle.piece_rope.proofs.doc.Doc.bom_len.Goals as goal
+
+pub returns : goal.returns
+unfolding decode
+returns c =
+    c.sniff.ensures.bom_len
+    ∙ mark-length-by c.self.inside.setting c.first_bytes.result.now (bytes_of c.self.inside.pieces.items) c.first_bytes.ensures
+    ∙ ap (λ (d : Document). mark_length d.setting d.bytes) c.self.view_is
