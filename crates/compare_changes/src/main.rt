@@ -9,15 +9,17 @@ mod documents;
 mod escapes;
 mod kind;
 mod mirrored_document;
+mod numbers;
 mod plain_document;
 mod plan;
 mod refusal;
 mod resync;
 
-use documents::{changes, full_document};
+use documents::{SPARE, changes, full_document};
 use enc_names::Encoding;
 use kind::{Tally, is_telling};
 use oracle::{SAMPLES, Sample, small_indexes};
+use piece_rope::DOCUMENT_LIMIT;
 use rand::SeedableRng;
 use rand::rngs::SmallRng;
 use std::io;
@@ -69,7 +71,8 @@ fn compare(rt: &HostRuntime) -> io::Result<bool> {
     }
     println!(rt; "Full documents:")?;
     for sample in SAMPLES.iter().take(FULL) {
-        let tally = full_document(rt.alloc(), &indexes, &mut rng, sample);
+        let count = DOCUMENT_LIMIT - SPARE;
+        let tally = full_document(rt.alloc(), &indexes, &mut rng, sample, count);
         take(rt, sample.given, tally, &mut all)?;
     }
     print_counts(rt, "All", &all)?;
