@@ -131,6 +131,16 @@ fn one_document(
     let len = len.saturating_mul(up_to(rng, 2).saturating_add(1));
     let bytes = bytes_of(alloc, rng, sample, len)?;
     let mut trial = MirroredDocument::open(alloc, indexes, sample.given, bytes)?;
+    change_often(alloc, rng, &mut trial, tally)
+}
+
+/// Changes a document again and again; `None` where a call is refused.
+fn change_often(
+    alloc: Global,
+    rng: &mut SmallRng,
+    trial: &mut MirroredDocument<'_>,
+    tally: &mut Tally,
+) -> Option<()> {
     for _ in 0..CHANGES {
         let change = RangeChange::drawn(alloc, rng, trial.plain())?;
         trial.change(alloc, &change, tally)?;
@@ -166,11 +176,22 @@ pub fn full_document(
     let drawn = bytes_of(alloc, rng, sample, count.saturating_add(SPARE))?;
     let bytes = Vec::from_slice(alloc, drawn.get(..count)?).ok()?;
     let mut trial = MirroredDocument::open(alloc, indexes, sample.given, bytes)?;
+    insert_often(alloc, rng, &mut trial, &mut tally)?;
+    Some(tally)
+}
+
+/// Puts something into a document again and again; `None` where a call is refused.
+fn insert_often(
+    alloc: Global,
+    rng: &mut SmallRng,
+    trial: &mut MirroredDocument<'_>,
+    tally: &mut Tally,
+) -> Option<()> {
     for _ in 0..CHANGES {
         let change = RangeChange::drawn(alloc, rng, trial.plain())?;
         if let Some(insertion) = change.insertion() {
-            trial.change(alloc, &insertion, &mut tally)?;
+            trial.change(alloc, &insertion, tally)?;
         }
     }
-    Some(tally)
+    Some(())
 }
