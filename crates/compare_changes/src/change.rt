@@ -1,8 +1,8 @@
 //! Changes that look random.
 
+use crate::numbers::{one_number, up_to};
 use oracle::Plain;
 use position_map::{Position, Range, Unit};
-use rand::RngExt;
 use rand::rngs::SmallRng;
 use rand::seq::IndexedRandom;
 use std::alloc::Global;
@@ -64,60 +64,90 @@ pub struct RangeChange {
     pub text: Vec<char>,
 }
 
+/// One of the texts.
+fn one_text(rng: &mut SmallRng) -> Option<&'static str> {
+    TEXTS.as_slice().choose(rng).copied()
+}
+
+/// Puts a text behind another one; `None` where memory is refused.
+fn push_text(text: &mut Vec<char>, more: &str) -> Option<()> {
+    for c in more.chars() {
+        text.push(c).ok()?;
+    }
+    Some(())
+}
+
 /// A few of the texts in a row; `None` where memory is refused.
 fn few_texts(alloc: Global, rng: &mut SmallRng) -> Option<Vec<char>> {
     let mut text = Vec::new(alloc);
-    for _ in 0..rng.random_range(0..4usize) {
-        for c in TEXTS.as_slice().choose(rng)?.chars() {
-            text.push(c).ok()?;
-        }
+    for _ in 0..up_to(rng, 3) {
+        push_text(&mut text, one_text(rng)?)?;
     }
     Some(text)
 }
 
 /// A part of the text itself, mostly a short one; `None` where memory is refused.
 fn own_part(alloc: Global, rng: &mut SmallRng, own: &[char]) -> Option<Vec<char>> {
-    let most = *[4, 4, 4, 4, 4, 4, 4, 2000].as_slice().choose(rng)?;
-    let rest = own.get(rng.random_range(0..=own.len())..)?;
-    let count = rng.random_range(0..=rest.len().min(most));
+    let most = one_number(rng, &[4, 4, 4, 4, 4, 4, 4, 2000])?;
+    let rest = own.get(up_to(rng, own.len())..)?;
+    let count = up_to(rng, rest.len().min(most));
     Vec::from_slice(alloc, rest.get(..count)?).ok()
 }
 
 /// A new text; `None` where memory is refused.
 pub fn new_text(alloc: Global, rng: &mut SmallRng, own: &[char]) -> Option<Vec<char>> {
-    if rng.random_range(0..2usize) == 0 {
+    if up_to(rng, 1) == 0 {
         own_part(alloc, rng, own)
     } else {
         few_texts(alloc, rng)
     }
 }
 
-/// The position of an offset, or now and then one a unit behind it, or one with another line.
-fn position(rng: &mut SmallRng, plain: &Plain, offset: usize, unit: Unit) -> Option<Position> {
-    let mut position = plain.to_position(offset as u64, unit).ok()?;
-    match rng.random_range(0..32usize) {
-        0..4 => position.character = position.character.saturating_add(1),
-        4 => position.line = position.line.saturating_add(1),
-        5 => position.line = position.line.saturating_sub(1),
-        6 => position.character = u64::MAX,
-        _ => {}
+/// The position, or now and then one a unit behind it, or one with another line.
+fn shifted(rng: &mut SmallRng, position: Position) -> Position {
+    let Position { line, character } = position;
+    match up_to(rng, 31) {
+        0..4 => Position {
+            line,
+            character: character.saturating_add(1),
+        },
+        4 => Position {
+            line: line.saturating_add(1),
+            character,
+        },
+        5 => Position {
+            line: line.saturating_sub(1),
+            character,
+        },
+        6 => Position {
+            line,
+            character: u64::MAX,
+        },
+        _ => position,
     }
-    Some(position)
+}
+
+/// The position of an offset, at times shifted.
+fn position(rng: &mut SmallRng, plain: &Plain, offset: usize, unit: Unit) -> Option<Position> {
+    let position = plain.to_position(offset as u64, unit).ok()?;
+    Some(shifted(rng, position))
+}
+
+/// Two offsets in a text of so many code points, mostly near one another.
+fn offsets(rng: &mut SmallRng, count: usize) -> Option<(usize, usize)> {
+    let latest = one_number(rng, &[0, count, count, count])?;
+    let from = up_to(rng, latest);
+    let most = one_number(rng, &[0, 1, 4, 4, 4, 4, 40, 4000])?;
+    let more = up_to(rng, most);
+    Some((from, from.saturating_add(more).min(count)))
 }
 
 /// A range, mostly of few code points, and now and then one whose start is behind its end.
 fn range(rng: &mut SmallRng, plain: &Plain, unit: Unit) -> Option<Range> {
-    let count = plain.text.chars.len();
-    let latest = *[0, count, count, count].as_slice().choose(rng)?;
-    let from = rng.random_range(0..=latest);
-    let most = *[0, 1, 4, 4, 4, 4, 40, 4000].as_slice().choose(rng)?;
-    let more = rng.random_range(0..=most);
-    let to = from.saturating_add(more).min(count);
-    let (start, end) = (
-        position(rng, plain, from, unit)?,
-        position(rng, plain, to, unit)?,
-    );
-    if rng.random_range(0..32usize) == 0 {
+    let (from, to) = offsets(rng, plain.text.chars.len())?;
+    let start = position(rng, plain, from, unit)?;
+    let end = position(rng, plain, to, unit)?;
+    if up_to(rng, 31) == 0 {
         return Some(Range {
             start: end,
             end: start,
@@ -130,12 +160,24 @@ impl RangeChange {
     /// A change of this text; `None` where memory is refused.
     pub fn drawn(alloc: Global, rng: &mut SmallRng, plain: &Plain) -> Option<RangeChange> {
         let unit = *UNITS.as_slice().choose(rng)?;
-        let range = if rng.random_range(0..64usize) == 0 {
+        let range = if up_to(rng, 63) == 0 {
             None
         } else {
             Some(range(rng, plain, unit)?)
         };
         let text = new_text(alloc, rng, &plain.text.chars)?;
+        Some(RangeChange { range, unit, text })
+    }
+
+    /// The change that puts the text in at the range's start and takes nothing out; `None` where there
+    /// is no range or no text.
+    pub fn insertion(self) -> Option<RangeChange> {
+        let RangeChange { range, unit, text } = self;
+        if text.is_empty() {
+            return None;
+        }
+        let start = range?.start;
+        let range = Some(Range { start, end: start });
         Some(RangeChange { range, unit, text })
     }
 

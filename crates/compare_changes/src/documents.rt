@@ -3,11 +3,11 @@
 use crate::change::{RangeChange, UNITS, new_text};
 use crate::kind::Tally;
 use crate::mirrored_document::MirroredDocument;
-use crate::plain_document::LARGEST;
+use crate::numbers::up_to;
+use enc_names::Encoding;
 use index_loader::Indexes;
 use oracle::{Plain, Sample, bytes_of, length};
 use position_map::{Position, Range, Unit};
-use rand::RngExt;
 use rand::rngs::SmallRng;
 use std::alloc::Global;
 
@@ -24,7 +24,7 @@ const DOCUMENTS: usize = 20;
 const CHANGES: usize = 100;
 
 /// How many bytes a full document lacks to the most that there may be.
-const SPARE: usize = 3;
+pub const SPARE: usize = 3;
 
 /// The position of each code point and of the end, and of each also one a unit further on; `None`
 /// where memory is refused.
@@ -44,22 +44,42 @@ fn borders(alloc: Global, plain: &Plain, unit: Unit) -> Option<Vec<Position>> {
     Some(borders)
 }
 
+/// A document that is opened anew for each change of it.
+#[derive(Clone, Copy)]
+struct SmallDocument<'a> {
+    indexes: &'a Indexes,
+    given: Encoding,
+    bytes: &'a [u8],
+}
+
+impl<'a> SmallDocument<'a> {
+    /// The document as it was; `None` where a call is refused.
+    fn opened(self, alloc: Global) -> Option<MirroredDocument<'a>> {
+        let bytes = Vec::from_slice(alloc, self.bytes).ok()?;
+        MirroredDocument::open(alloc, self.indexes, self.given, bytes)
+    }
+}
+
+/// A change of the document as it was; `None` where a call is refused.
+fn change_anew(
+    alloc: Global,
+    document: SmallDocument<'_>,
+    change: &RangeChange,
+    tally: &mut Tally,
+) -> Option<()> {
+    document.opened(alloc)?.change(alloc, change, tally)
+}
+
 /// Changes of every range of a document in a unit, each of the document as it was; `None` where a
 /// call is refused.
 fn every_range(
     alloc: Global,
-    indexes: &Indexes,
     rng: &mut SmallRng,
-    sample: &Sample,
-    bytes: &[u8],
+    document: SmallDocument<'_>,
     unit: Unit,
-) -> Option<Tally> {
-    let mut tally = Tally::new();
-    let opened = |alloc| {
-        let bytes = Vec::from_slice(alloc, bytes).ok()?;
-        MirroredDocument::open(alloc, indexes, sample.given, bytes)
-    };
-    let first = opened(alloc)?;
+    tally: &mut Tally,
+) -> Option<()> {
+    let first = document.opened(alloc)?;
     let plain = first.plain();
     let borders = borders(alloc, plain, unit)?;
     for (n, start) in borders.iter().enumerate() {
@@ -70,10 +90,10 @@ fn every_range(
             });
             let text = new_text(alloc, rng, &plain.text.chars)?;
             let change = RangeChange { range, unit, text };
-            opened(alloc)?.change(alloc, &change, &mut tally)?;
+            change_anew(alloc, document, &change, tally)?;
         }
     }
-    Some(tally)
+    Some(())
 }
 
 /// Changes of every range of small documents; `None` where a call is refused.
@@ -82,16 +102,21 @@ fn small_documents(
     indexes: &Indexes,
     rng: &mut SmallRng,
     sample: &Sample,
-) -> Option<Tally> {
-    let mut tally = Tally::new();
+    tally: &mut Tally,
+) -> Option<()> {
     for _ in 0..SMALL {
-        let len = rng.random_range(0..=SMALL_LENGTH);
+        let len = up_to(rng, SMALL_LENGTH);
         let bytes = bytes_of(alloc, rng, sample, len)?;
+        let document = SmallDocument {
+            indexes,
+            given: sample.given,
+            bytes: &bytes,
+        };
         for unit in &UNITS {
-            tally.add(&every_range(alloc, indexes, rng, sample, &bytes, *unit)?);
+            every_range(alloc, rng, document, *unit, tally)?;
         }
     }
-    Some(tally)
+    Some(())
 }
 
 /// A document with changes one after another; `None` where a call is refused.
@@ -102,28 +127,25 @@ fn one_document(
     sample: &Sample,
     tally: &mut Tally,
 ) -> Option<()> {
-    let len = length(rng).saturating_mul(rng.random_range(1..=3));
+    let len = length(rng);
+    let len = len.saturating_mul(up_to(rng, 2).saturating_add(1));
     let bytes = bytes_of(alloc, rng, sample, len)?;
     let mut trial = MirroredDocument::open(alloc, indexes, sample.given, bytes)?;
+    change_often(alloc, rng, &mut trial, tally)
+}
+
+/// Changes a document again and again; `None` where a call is refused.
+fn change_often(
+    alloc: Global,
+    rng: &mut SmallRng,
+    trial: &mut MirroredDocument<'_>,
+    tally: &mut Tally,
+) -> Option<()> {
     for _ in 0..CHANGES {
         let change = RangeChange::drawn(alloc, rng, trial.plain())?;
         trial.change(alloc, &change, tally)?;
     }
     Some(())
-}
-
-/// Changes of documents, one after another; `None` where a call is refused.
-fn random_documents(
-    alloc: Global,
-    indexes: &Indexes,
-    rng: &mut SmallRng,
-    sample: &Sample,
-) -> Option<Tally> {
-    let mut tally = Tally::new();
-    for _ in 0..DOCUMENTS {
-        one_document(alloc, indexes, rng, sample, &mut tally)?;
-    }
-    Some(tally)
 }
 
 /// Changes of small documents and of others; `None` where a call is refused.
@@ -133,29 +155,43 @@ pub fn changes(
     rng: &mut SmallRng,
     sample: &Sample,
 ) -> Option<Tally> {
-    let mut tally = small_documents(alloc, indexes, rng, sample)?;
-    tally.add(&random_documents(alloc, indexes, rng, sample)?);
+    let mut tally = Tally::new();
+    small_documents(alloc, indexes, rng, sample, &mut tally)?;
+    for _ in 0..DOCUMENTS {
+        one_document(alloc, indexes, rng, sample, &mut tally)?;
+    }
     Some(tally)
 }
 
-/// Changes that put something into a document with hardly a byte to spare; `None` where a call is
-/// refused.
+/// Changes that put something into a document of so many bytes, which are nearly the most that there
+/// may be; `None` where a call is refused.
 pub fn full_document(
     alloc: Global,
     indexes: &Indexes,
     rng: &mut SmallRng,
     sample: &Sample,
+    count: usize,
 ) -> Option<Tally> {
     let mut tally = Tally::new();
-    let mut bytes = bytes_of(alloc, rng, sample, LARGEST)?;
-    bytes.truncate(LARGEST - SPARE);
+    let drawn = bytes_of(alloc, rng, sample, count.saturating_add(SPARE))?;
+    let bytes = Vec::from_slice(alloc, drawn.get(..count)?).ok()?;
     let mut trial = MirroredDocument::open(alloc, indexes, sample.given, bytes)?;
+    insert_often(alloc, rng, &mut trial, &mut tally)?;
+    Some(tally)
+}
+
+/// Puts something into a document again and again; `None` where a call is refused.
+fn insert_often(
+    alloc: Global,
+    rng: &mut SmallRng,
+    trial: &mut MirroredDocument<'_>,
+    tally: &mut Tally,
+) -> Option<()> {
     for _ in 0..CHANGES {
-        let mut change = RangeChange::drawn(alloc, rng, trial.plain())?;
-        if let (Some(range), Some(_)) = (&mut change.range, change.text.first()) {
-            range.end = range.start;
-            trial.change(alloc, &change, &mut tally)?;
+        let change = RangeChange::drawn(alloc, rng, trial.plain())?;
+        if let Some(insertion) = change.insertion() {
+            trial.change(alloc, &insertion, tally)?;
         }
     }
-    Some(tally)
+    Some(())
 }

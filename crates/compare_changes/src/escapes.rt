@@ -42,25 +42,55 @@ pub fn last_escape(bytes: &[u8]) -> Escape {
     last
 }
 
-/// The bytes of the code point at `index`, encoded alone: with an escape in front of it and one
-/// behind it, unless it is of ASCII.
-fn alone(alloc: Global, indexes: &Indexes, index: usize, c: char) -> Result<Vec<u8>, EncodeFault> {
+/// The fault of a text of which the code point at `index` alone has this fault.
+fn fault_at(index: usize, fault: EncodeFault) -> EncodeFault {
+    match fault {
+        EncodeFault::Unencodable(Unencodable { code_point, .. }) => {
+            let index = index as u64;
+            EncodeFault::Unencodable(Unencodable { index, code_point })
+        }
+        other => other,
+    }
+}
+
+/// The bytes of a code point, encoded alone: with an escape in front of it and one behind it, unless
+/// it is of ASCII.
+fn alone(alloc: Global, indexes: &Indexes, c: char) -> Result<Vec<u8>, EncodeFault> {
     let mut buffer = [0; 4];
     let text = c.encode_utf8(&mut buffer);
-    encode(alloc, Encoding::Iso2022Jp, indexes, EncodeMode::Fatal, text).map_err(|fault| {
-        match fault {
-            EncodeFault::Unencodable(Unencodable { code_point, .. }) => {
-                let index = index as u64;
-                EncodeFault::Unencodable(Unencodable { index, code_point })
-            }
-            other => other,
-        }
-    })
+    encode(alloc, Encoding::Iso2022Jp, indexes, EncodeMode::Fatal, text)
+}
+
+/// The bytes of a code point between its escapes.
+fn between_escapes(alone: &[u8]) -> &[u8] {
+    match alone {
+        [0x1B, _, _, own @ .., 0x1B, _, _] => own,
+        own => own,
+    }
 }
 
 /// Whether a code point that is encoded in ASCII has the same byte in the Roman set.
 fn is_roman(escape: Escape, c: char) -> bool {
     escape == ASCII && c != '\\' && c != '~'
+}
+
+/// Puts the bytes of a code point behind those of a document, where this escape is in force, and
+/// returns the escape in force behind them.
+fn put_one(
+    alloc: Global,
+    indexes: &Indexes,
+    c: char,
+    now: Escape,
+    bytes: &mut Vec<u8>,
+) -> Result<Escape, EncodeFault> {
+    let alone = alone(alloc, indexes, c)?;
+    let escape = first_escape(&alone).unwrap_or(ASCII);
+    let goes_on = escape == now || now == ROMAN && is_roman(escape, c);
+    if !goes_on {
+        bytes.extend_from_slice(&escape)?;
+    }
+    bytes.extend_from_slice(between_escapes(&alone))?;
+    Ok(if goes_on { now } else { escape })
 }
 
 /// Puts the bytes of a text behind those of a document, where this escape is in force, with an
@@ -73,17 +103,10 @@ pub fn put(
     bytes: &mut Vec<u8>,
 ) -> Result<Escape, EncodeFault> {
     for (index, c) in text.iter().enumerate() {
-        let alone = alone(alloc, indexes, index, *c)?;
-        let escape = first_escape(&alone).unwrap_or(ASCII);
-        if escape != now && !(now == ROMAN && is_roman(escape, *c)) {
-            bytes.extend_from_slice(&escape)?;
-            now = escape;
+        match put_one(alloc, indexes, *c, now, bytes) {
+            Ok(escape) => now = escape,
+            Err(fault) => return Err(fault_at(index, fault)),
         }
-        let own = match alone.as_slice() {
-            [0x1B, _, _, own @ .., 0x1B, _, _] => own,
-            own => own,
-        };
-        bytes.extend_from_slice(own)?;
     }
     Ok(now)
 }

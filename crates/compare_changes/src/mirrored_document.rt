@@ -9,7 +9,7 @@ use enc_names::Encoding;
 use index_loader::Indexes;
 use oracle::Plain;
 use piece_rope::{Doc, DocFault};
-use position_map::{Plan, plan_change};
+use position_map::{ChangeFault, Plan, plan_change};
 use std::alloc::Global;
 use sum_tree::visits;
 
@@ -43,6 +43,22 @@ fn is_as_wanted(
     }
 }
 
+/// The plan of a change.
+fn planned(
+    alloc: Global,
+    doc: &Doc<'_>,
+    change: &RangeChange,
+    text: &str,
+) -> Result<Plan, ChangeFault> {
+    plan_change(alloc, doc, change.range, change.unit, text, &mut visits())
+}
+
+/// Makes a change by its plan.
+fn make(doc: &mut Doc<'_>, plan: &Plan, text: &str, meter: &mut Meter) -> Result<(), DocFault> {
+    let ins = plan.ins.as_slice();
+    doc.splice_kept(plan.at, plan.del, ins, plan.i, plan.j, text, meter)
+}
+
 /// What a change leads to.
 fn changed(
     alloc: Global,
@@ -51,9 +67,8 @@ fn changed(
     meter: &mut Meter,
 ) -> Result<Plan, ChangeRefusal> {
     let text = change.string(alloc).ok_or(DocFault::OutOfMemory)?;
-    let plan = plan_change(alloc, doc, change.range, change.unit, &text, &mut visits())?;
-    let (at, del, ins) = (plan.at, plan.del, plan.ins.as_slice());
-    doc.splice_kept(at, del, ins, plan.i, plan.j, &text, meter)?;
+    let plan = planned(alloc, doc, change, &text)?;
+    make(doc, &plan, &text, meter)?;
     Ok(plan)
 }
 

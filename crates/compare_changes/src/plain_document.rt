@@ -8,12 +8,9 @@ use codec::AnyDecoder;
 use enc_names::Encoding;
 use index_loader::Indexes;
 use oracle::{Plain, Text};
-use piece_rope::{Doc, DocFault};
+use piece_rope::{DOCUMENT_LIMIT, Doc, DocFault, LONGEST_PIECE};
 use position_map::Plan;
 use std::alloc::Global;
-
-/// The most bytes of a document.
-pub const LARGEST: usize = 2_097_152;
 
 /// The bytes of a document and everything about its text.
 #[derive(Drop)]
@@ -73,23 +70,28 @@ impl PlainDocument<'_> {
         let (old, rest) = self.bytes.split_at_checked(end)?;
         let new = new.get(..(plan.at as usize).saturating_add(put_in))?;
         let behind = until_resync(&decoder, old, new, rest);
-        Some((put_in.saturating_add(behind) as u64).saturating_add(4 * 2048))
+        let pieces = 4 * LONGEST_PIECE as u64;
+        Some((put_in.saturating_add(behind) as u64).saturating_add(pieces))
+    }
+
+    /// The code points that a change by this plan has to leave; `None` where memory is refused.
+    fn chars_behind(&self, alloc: Global, plan: &Plan, change: &RangeChange) -> Option<Vec<char>> {
+        replaced(alloc, &self.plain.text.chars, plan.i, plan.j, &change.text)
     }
 
     /// What a change has to lead to, computed from scratch.
     pub fn changed(&self, alloc: Global, change: &RangeChange) -> Result<After, ChangeRefusal> {
         let plan = planned(alloc, self.indexes, &self.bytes, &self.plain, change)?;
         let end = plan.at.saturating_add(plan.del);
-        let bytes = replaced(alloc, &self.bytes, plan.at, end, plan.ins.as_slice()).ok_or(
-            DocFault::OutOfMemory,
-        )?;
-        if bytes.len() > LARGEST {
+        let ins = plan.ins.as_slice();
+        let bytes = replaced(alloc, &self.bytes, plan.at, end, ins).ok_or(DocFault::OutOfMemory)?;
+        if bytes.len() > DOCUMENT_LIMIT {
             return Err(ChangeRefusal::Unmade(DocFault::TooLarge));
         }
         let text = Text::of(alloc, self.indexes, self.given, &bytes).ok_or(DocFault::OutOfMemory)?;
-        let chars = replaced(alloc, &self.plain.text.chars, plan.i, plan.j, &change.text).ok_or(
-            DocFault::OutOfMemory,
-        )?;
+        let chars = self
+            .chars_behind(alloc, &plan, change)
+            .ok_or(DocFault::OutOfMemory)?;
         if text.chars != chars {
             return Err(ChangeRefusal::Unmade(DocFault::NotKept));
         }
@@ -113,11 +115,19 @@ impl PlainDocument<'_> {
 
     /// Whether a document has these bytes and this text; `None` where memory is refused.
     pub fn is_held(&self, doc: &Doc<'_>) -> Option<bool> {
-        let lengths = doc.lengths();
-        let bytes = doc.source(0, lengths.bytes).ok()?;
-        let text = doc.text(0, lengths.scalars).ok()?;
-        let same_text = text.chars().eq(self.plain.text.chars.iter().copied());
         let same_encoding = doc.encoding() == self.plain.text.encoding;
-        Some(bytes == self.bytes && same_text && same_encoding)
+        Some(self.is_source(doc)? && self.is_text(doc)? && same_encoding)
+    }
+
+    /// Whether a document has these bytes; `None` where memory is refused.
+    fn is_source(&self, doc: &Doc<'_>) -> Option<bool> {
+        let bytes = doc.source(0, doc.lengths().bytes).ok()?;
+        Some(bytes == self.bytes)
+    }
+
+    /// Whether a document has this text; `None` where memory is refused.
+    fn is_text(&self, doc: &Doc<'_>) -> Option<bool> {
+        let text = doc.text(0, doc.lengths().scalars).ok()?;
+        Some(text.chars().eq(self.plain.text.chars.iter().copied()))
     }
 }

@@ -1,7 +1,7 @@
 //! Changes, planned plainly: from the bytes and the text of the whole document.
 
 use crate::change::RangeChange;
-use crate::escapes::{first_escape, last_escape, put};
+use crate::escapes::{Escape, first_escape, last_escape, put};
 use enc_names::Encoding;
 use encoders::{EncodeFault, EncodeMode, encode};
 use index_loader::Indexes;
@@ -42,6 +42,11 @@ fn cut(text: &Text, n: usize) -> Result<usize, ChangeFault> {
     Ok(place.to as usize)
 }
 
+/// The escape in force at a place.
+fn in_force(bytes: &[u8], at: usize) -> Escape {
+    last_escape(bytes.get(..at).unwrap_or(bytes))
+}
+
 /// The bytes of the new text in ISO-2022-JP, between the bytes in front and those behind it: from
 /// the escape in force there on, and back to the one in force at the end of what is replaced,
 /// unless an escape follows.
@@ -53,14 +58,25 @@ fn put_iso(
     right: usize,
     text: &[char],
 ) -> Result<Vec<u8>, EncodeFault> {
-    let in_force = |at: usize| last_escape(bytes.get(..at).unwrap_or(bytes));
     let mut ins = Vec::new(alloc);
-    let now = put(alloc, indexes, text, in_force(left), &mut ins)?;
+    let now = put(alloc, indexes, text, in_force(bytes, left), &mut ins)?;
+    let wanted = in_force(bytes, right);
     let behind = bytes.get(right..).unwrap_or(&[]);
-    if now != in_force(right) && first_escape(behind).is_none() {
-        ins.extend_from_slice(&in_force(right))?;
+    if now != wanted && first_escape(behind).is_none() {
+        ins.extend_from_slice(&wanted)?;
     }
     Ok(ins)
+}
+
+/// The bytes of the new text in another encoding.
+fn put_in(
+    alloc: Global,
+    indexes: &Indexes,
+    encoding: Encoding,
+    change: &RangeChange,
+) -> Result<Vec<u8>, EncodeFault> {
+    let text = change.string(alloc).ok_or(EncodeFault::OutOfMemory)?;
+    encode(alloc, encoding, indexes, EncodeMode::Fatal, &text)
 }
 
 /// The splice that makes a change of the document of these bytes and this text, or the first cause
@@ -76,10 +92,7 @@ pub fn planned(
     let (left, right) = (cut(&plain.text, i)?, cut(&plain.text, j)?);
     let ins = match plain.text.encoding {
         Encoding::Iso2022Jp => put_iso(alloc, indexes, bytes, left, right, &change.text)?,
-        encoding => {
-            let text = change.string(alloc).ok_or(ChangeFault::OutOfMemory)?;
-            encode(alloc, encoding, indexes, EncodeMode::Fatal, &text)?
-        }
+        encoding => put_in(alloc, indexes, encoding, change)?,
     };
     Ok(Plan {
         at: left as u64,

@@ -4,8 +4,8 @@ use crate::compare::compare;
 use crate::tally::CallTally;
 use decoder_core::meter;
 use index_loader::Indexes;
-use oracle::{Sample, bytes_of, length};
-use piece_rope::{DOCUMENT_LIMIT, Doc};
+use oracle::{Sample, Splice, bytes_of, length, spliced};
+use piece_rope::Doc;
 use rand::RngExt;
 use rand::rngs::SmallRng;
 use std::alloc::Global;
@@ -13,22 +13,28 @@ use std::alloc::Global;
 /// How many documents each encoding has.
 const DOCUMENTS: usize = 40;
 
-/// Puts other bytes into the document and its bytes; `None` where a call is refused.
-fn splice(
-    alloc: Global,
-    rng: &mut SmallRng,
-    sample: &Sample,
-    doc: &mut Doc<'_>,
-    bytes: &[u8],
-) -> Option<Vec<u8>> {
+/// The most bytes that a splice takes out.
+const TAKEN_OUT: usize = 3000;
+
+/// A number up to this one. The draw stands alone: what it says of its number is long.
+fn up_to(rng: &mut SmallRng, most: usize) -> usize {
+    rng.random_range(0..=most)
+}
+
+/// A splice of a document of so many bytes; `None` where memory is refused.
+fn drawn(alloc: Global, rng: &mut SmallRng, sample: &Sample, count: usize) -> Option<Splice> {
     let len = length(rng);
     let ins = bytes_of(alloc, rng, sample, len / 4)?;
-    let at = rng.random_range(0..=bytes.len());
-    let (front, rest) = bytes.split_at_checked(at)?;
-    let del = rng.random_range(0..=rest.len().min(3000));
-    let back = rest.get(del..)?;
-    doc.splice(at as u64, del as u64, &ins, &mut meter()).ok()?;
-    [front, &ins, back].concat(alloc).ok()
+    let at = up_to(rng, count);
+    let del = up_to(rng, count.saturating_sub(at).min(TAKEN_OUT));
+    Some(Splice { at, del, ins })
+}
+
+/// Makes a splice of the document and of its bytes; `None` where a call is refused.
+fn make(alloc: Global, doc: &mut Doc<'_>, bytes: &[u8], splice: &Splice) -> Option<Vec<u8>> {
+    let (at, del) = (splice.at as u64, splice.del as u64);
+    doc.splice(at, del, &splice.ins, &mut meter()).ok()?;
+    spliced(alloc, bytes, splice)
 }
 
 /// A document, spliced up to three times, with its calls compared; `None` where a call is refused.
@@ -43,7 +49,8 @@ fn one_document(
     let mut bytes = bytes_of(alloc, rng, sample, len)?;
     let mut doc = Doc::open(alloc, indexes, sample.given, &bytes, &mut meter()).ok()?;
     for _ in 0..rng.random_range(0..4usize) {
-        bytes = splice(alloc, rng, sample, &mut doc, &bytes)?;
+        let splice = drawn(alloc, rng, sample, bytes.len())?;
+        bytes = make(alloc, &mut doc, &bytes, &splice)?;
     }
     compare(alloc, rng, &doc, &bytes, tally)
 }
@@ -62,17 +69,18 @@ pub fn random_documents(
     Some(tally)
 }
 
-/// The calls on a document of as many bytes as there may be; `None` where a call is refused.
+/// The calls on a document of so many bytes; `None` where a call is refused.
 pub fn large_document(
     alloc: Global,
     indexes: &Indexes,
     rng: &mut SmallRng,
     sample: &Sample,
+    count: usize,
 ) -> Option<CallTally> {
     let mut tally = CallTally::new();
-    let mut bytes = bytes_of(alloc, rng, sample, DOCUMENT_LIMIT)?;
-    bytes.truncate(DOCUMENT_LIMIT);
-    let doc = Doc::open(alloc, indexes, sample.given, &bytes, &mut meter()).ok()?;
-    compare(alloc, rng, &doc, &bytes, &mut tally)?;
+    let drawn = bytes_of(alloc, rng, sample, count)?;
+    let bytes = drawn.get(..count)?;
+    let doc = Doc::open(alloc, indexes, sample.given, bytes, &mut meter()).ok()?;
+    compare(alloc, rng, &doc, bytes, &mut tally)?;
     Some(tally)
 }

@@ -5,7 +5,7 @@ use crate::tally::CallTally;
 use decoder_core::meter;
 use enc_names::Encoding;
 use index_loader::Indexes;
-use piece_rope::Doc;
+use piece_rope::{Doc, LONGEST_PIECE};
 use rand::rngs::SmallRng;
 use std::alloc::Global;
 
@@ -37,7 +37,7 @@ pub const LINE_ENDS: [LineEnd; 3] = [
 ];
 
 /// The least bytes of a document, which has two pieces, cut in its middle.
-const LEAST: usize = 2052;
+const LEAST: usize = LONGEST_PIECE + 4;
 
 /// How many lengths there are: the middle may be inside a character.
 const LENGTHS: usize = 32;
@@ -59,8 +59,7 @@ impl LineEnd {
                 break;
             }
         }
-        bytes.truncate(len);
-        Some(bytes)
+        Vec::from_slice(alloc, bytes.get(..len)?).ok()
     }
 }
 

@@ -13,6 +13,7 @@ use documents::{large_document, random_documents};
 use enc_names::Encoding;
 use line_ends::{LINE_ENDS, line_ends};
 use oracle::{SAMPLES, small_indexes};
+use piece_rope::DOCUMENT_LIMIT;
 use rand::SeedableRng;
 use rand::rngs::SmallRng;
 use std::io;
@@ -61,7 +62,7 @@ fn compare_all(rt: &HostRuntime) -> io::Result<bool> {
     }
     println!(rt; "Documents of 16,777,216 bytes:")?;
     for sample in SAMPLES.iter().take(LARGE) {
-        let tally = large_document(rt.alloc(), &indexes, &mut rng, sample);
+        let tally = large_document(rt.alloc(), &indexes, &mut rng, sample, DOCUMENT_LIMIT);
         all = print_tally(rt, sample.given, tally)? && all;
     }
     Ok(all)

@@ -1,4 +1,4 @@
-//! Documents, spliced one place after another.
+//! Documents, spliced one place after another, and compared with decoding from scratch.
 
 use decoder_core::meter;
 use enc_names::Encoding;
@@ -8,6 +8,23 @@ use piece_rope::Doc;
 use rand::SeedableRng;
 use rand::rngs::SmallRng;
 use std::alloc::Global;
+
+/// One encoding of each family.
+pub const FAMILIES: [Encoding; 13] = [
+    Encoding::Utf8,
+    Encoding::Utf16Be,
+    Encoding::Utf16Le,
+    Encoding::ShiftJis,
+    Encoding::EucJp,
+    Encoding::EucKr,
+    Encoding::Big5,
+    Encoding::Gb18030,
+    Encoding::Gbk,
+    Encoding::Iso2022Jp,
+    Encoding::Windows1252,
+    Encoding::XUserDefined,
+    Encoding::Replacement,
+];
 
 /// How many splices each encoding has.
 pub const SPLICES: u64 = 800;
@@ -28,7 +45,7 @@ fn agrees_behind(
 
 /// Splices of a document, one after another: how many there were, and how many of them left a
 /// document that differs from decoding from scratch; `None` where a call is refused.
-pub fn compare(alloc: Global, indexes: &Indexes, given: Encoding) -> Option<Tally<1>> {
+pub fn splices(alloc: Global, indexes: &Indexes, given: Encoding) -> Option<Tally<1>> {
     let mut rng = SmallRng::seed_from_u64(1);
     let mut bytes = Vec::new(alloc);
     let mut doc = Doc::open(alloc, indexes, given, &bytes, &mut meter()).ok()?;
