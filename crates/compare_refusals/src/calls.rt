@@ -5,6 +5,7 @@ mod decoding;
 mod desks;
 mod encoding;
 mod ends;
+mod exceptions;
 mod labels;
 mod pieces;
 mod traces;
@@ -24,6 +25,10 @@ pub enum Call {
     FromJson,
     /// `Index::parse`.
     Parse,
+    /// `Exceptions::parse`.
+    ParseExceptions,
+    /// `Indexes::put_exceptions`, which takes no memory.
+    PutExceptions,
     /// `run_piece`.
     RunPiece,
     /// `decode_whole`.
@@ -55,10 +60,12 @@ pub enum Call {
 }
 
 /// All of them, with their names, and how often each is to be refused at least.
-pub const CALLS: [(Call, &str, u64); 17] = [
+pub const CALLS: [(Call, &str, u64); 19] = [
     (Call::Names, "names", 1),
     (Call::FromJson, "from_json", 1),
     (Call::Parse, "parse", 1),
+    (Call::ParseExceptions, "Exceptions::parse", 1),
+    (Call::PutExceptions, "put_exceptions", 0),
     (Call::RunPiece, "run_piece", 1),
     (Call::DecodeWhole, "decode_whole", 1),
     (Call::DecodeFatal, "decode_fatal", 1),
@@ -93,6 +100,8 @@ impl Tried for CallTrial<'_> {
             Call::Names => labels::names(alloc, budget),
             Call::FromJson => labels::from_json(alloc, budget),
             Call::Parse => labels::parse(alloc, budget),
+            Call::ParseExceptions => exceptions::parse(alloc, budget),
+            Call::PutExceptions => exceptions::put(alloc, budget),
             Call::RunPiece => decoding::run(alloc, budget),
             Call::DecodeWhole => decoding::whole(alloc, indexes, budget),
             Call::DecodeFatal => decoding::fatal(alloc, indexes, budget),

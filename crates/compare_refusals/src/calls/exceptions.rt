@@ -1,0 +1,66 @@
+//! Exceptions of the gb18030 encoder.
+
+use crate::budget::all_but;
+use crate::outcome::{Outcome, outcome_if};
+use enc_names::Scalar;
+use index_loader::{ExceptionCause, ExceptionFault, Exceptions, Indexes};
+use std::alloc::Global;
+
+/// A file of exceptions, the code points of the two-byte forms that the revision for GB18030-2022 gave
+/// others.
+const FILE: &[u8] = b"# comment\n\
+    0xE81E\tFE59\n0xE826\tFE61\n0xE82B\tFE66\n0xE82C\tFE67\n0xE832\tFE6D\n0xE843\tFE7E\n\
+    0xE854\tFE90\n0xE864\tFEA0\n0xE78D\tA6D9\n0xE78E\tA6DA\n0xE78F\tA6DB\n0xE790\tA6DC\n\
+    0xE791\tA6DD\n0xE792\tA6DE\n0xE793\tA6DF\n0xE794\tA6EC\n0xE795\tA6ED\n0xE796\tA6F3\n";
+
+/// Some code points with their bytes by this file.
+const FOUND: [(char, Option<[u8; 2]>); 5] = [
+    ('\u{E81E}', Some([0xFE, 0x59])),
+    ('\u{E864}', Some([0xFE, 0xA0])),
+    ('\u{E78D}', Some([0xA6, 0xD9])),
+    ('\u{E796}', Some([0xA6, 0xF3])),
+    ('\u{E797}', None),
+];
+
+/// `Exceptions::parse`.
+pub fn parse(alloc: Global, budget: usize) -> Option<Outcome> {
+    let room = all_but(alloc, budget)?;
+    let first = Exceptions::parse(alloc, FILE);
+    drop(room);
+    let wanted = Exceptions::parse(alloc, FILE).ok()?;
+    Some(match first {
+        Ok(exceptions) if has_all(&exceptions) && has_all(&wanted) => Outcome::Same,
+        Err(fault) if is_refusal(fault) && has_all(&wanted) => Outcome::Refused,
+        _ => Outcome::Wrong,
+    })
+}
+
+/// `Indexes::put_exceptions`, and a look-up, in place of other exceptions.
+pub fn put(alloc: Global, budget: usize) -> Option<Outcome> {
+    let mut indexes = Indexes::new();
+    indexes.put_exceptions(Exceptions::parse(alloc, b"0xE797\tA6F4\n").ok()?);
+    let exceptions = Exceptions::parse(alloc, FILE).ok()?;
+    let room = all_but(alloc, budget)?;
+    indexes.put_exceptions(exceptions);
+    let mut all = true;
+    for (code_point, bytes) in FOUND {
+        all = all && indexes.exception_of(Scalar::from(code_point)) == bytes;
+    }
+    drop(room);
+    Some(outcome_if(all))
+}
+
+/// Whether memory was refused, which no line is to blame for.
+fn is_refusal(fault: ExceptionFault) -> bool {
+    fault.line == 0 && fault.cause == ExceptionCause::OutOfMemory
+}
+
+/// Whether these are the file's exceptions.
+fn has_all(exceptions: &Exceptions) -> bool {
+    for (code_point, bytes) in FOUND {
+        if exceptions.bytes_of(Scalar::from(code_point)) != bytes {
+            return false;
+        }
+    }
+    true
+}
