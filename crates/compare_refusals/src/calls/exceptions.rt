@@ -1,7 +1,7 @@
 //! Exceptions of the gb18030 encoder.
 
 use crate::budget::all_but;
-use crate::outcome::{Outcome, outcome_if};
+use crate::outcome::{TrialOutcome, outcome_if};
 use enc_names::Scalar;
 use index_loader::{ExceptionCause, ExceptionFault, Exceptions, Indexes};
 use std::alloc::Global;
@@ -23,20 +23,20 @@ const FOUND: [(char, Option<[u8; 2]>); 5] = [
 ];
 
 /// `Exceptions::parse`.
-pub fn parse(alloc: Global, budget: usize) -> Option<Outcome> {
+pub fn parse(alloc: Global, budget: usize) -> Option<TrialOutcome> {
     let room = all_but(alloc, budget)?;
     let first = Exceptions::parse(alloc, FILE);
     drop(room);
     let wanted = Exceptions::parse(alloc, FILE).ok()?;
     Some(match first {
-        Ok(exceptions) if has_all(&exceptions) && has_all(&wanted) => Outcome::Same,
-        Err(fault) if is_refusal(fault) && has_all(&wanted) => Outcome::Refused,
-        _ => Outcome::Wrong,
+        Ok(exceptions) if has_all(&exceptions) && has_all(&wanted) => TrialOutcome::Same,
+        Err(fault) if is_refusal(fault) && has_all(&wanted) => TrialOutcome::Refused,
+        _ => TrialOutcome::Wrong,
     })
 }
 
 /// `Indexes::put_exceptions`, and a look-up, in place of other exceptions.
-pub fn put(alloc: Global, budget: usize) -> Option<Outcome> {
+pub fn put(alloc: Global, budget: usize) -> Option<TrialOutcome> {
     let mut indexes = Indexes::new();
     indexes.put_exceptions(Exceptions::parse(alloc, b"0xE797\tA6F4\n").ok()?);
     let exceptions = Exceptions::parse(alloc, FILE).ok()?;
