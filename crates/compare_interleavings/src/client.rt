@@ -1,7 +1,7 @@
 //! One client: what it has begun, and what it has still to send.
 
 use crate::commands::line;
-use rand::RngExt;
+use crate::numbers::up_to;
 use rand::rngs::SmallRng;
 use std::alloc::{AllocError, Global};
 
@@ -39,11 +39,11 @@ impl Client {
         rng: &mut SmallRng,
         id: u64,
     ) -> Result<Vec<u8>, AllocError> {
-        if self.unsent.is_empty() || rng.random_range(0..4u32) == 0 {
+        if self.unsent.is_empty() || up_to(rng, 3) == 0 {
             let more = line(alloc, rng, id)?;
             self.unsent.extend_from_slice(more.as_bytes())?;
         }
-        let count = rng.random_range(0..160usize);
+        let count = up_to(rng, 159) as usize;
         let front = self.unsent.get(..count).unwrap_or(&self.unsent);
         let mut bytes = Vec::new(alloc);
         bytes.extend_from_slice(front)?;

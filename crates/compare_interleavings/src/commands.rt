@@ -1,6 +1,6 @@
 //! Lines that clients send: commands on a few documents, and lines that are none.
 
-use rand::RngExt;
+use crate::numbers::up_to;
 use rand::rngs::SmallRng;
 use rand::seq::IndexedRandom;
 use std::alloc::{AllocError, Global};
@@ -10,45 +10,116 @@ fn one_of<'a>(rng: &mut SmallRng, texts: &[&'a str]) -> &'a str {
     texts.choose(rng).copied().unwrap_or("")
 }
 
+/// What a command may have, beside its op.
+#[derive(Clone, Copy)]
+struct Fields {
+    id: u64,
+    doc: &'static str,
+    bytes: &'static str,
+    rev: u32,
+    at: u32,
+    del: u32,
+}
+
+impl Fields {
+    /// Fields that look random, of a command with this id.
+    fn drawn(rng: &mut SmallRng, id: u64) -> Fields {
+        let doc = one_of(rng, &["a", "b", "c"]);
+        let bytes = one_of(rng, &["", "YQ==", "YmM=", "4oI=", "YQ"]);
+        let rev = up_to(rng, 3);
+        let at = up_to(rng, 2);
+        let del = up_to(rng, 1);
+        Fields {
+            id,
+            doc,
+            bytes,
+            rev,
+            at,
+            del,
+        }
+    }
+
+    fn open(self, alloc: Global, label: &str) -> Result<String, AllocError> {
+        let Fields { id, doc, bytes, .. } = self;
+        format!(in alloc;
+            "{{\"id\":{id},\"op\":\"open\",\"doc\":\"{doc}\",\"label\":\"{label}\",\"bytes\":\"{bytes}\"}}\n"
+        )
+    }
+
+    fn close(self, alloc: Global) -> Result<String, AllocError> {
+        let Fields { id, doc, .. } = self;
+        format!(in alloc; "{{\"id\":{id},\"op\":\"close\",\"doc\":\"{doc}\"}}\n")
+    }
+
+    fn errors(self, alloc: Global) -> Result<String, AllocError> {
+        let Fields { id, doc, at, .. } = self;
+        format!(in alloc;
+            "{{\"id\":{id},\"op\":\"errors\",\"doc\":\"{doc}\",\"from\":0,\"max\":{at}}}\n"
+        )
+    }
+
+    fn text(self, alloc: Global) -> Result<String, AllocError> {
+        let Fields { id, doc, at, .. } = self;
+        format!(in alloc;
+            "{{\"id\":{id},\"op\":\"text\",\"doc\":\"{doc}\",\"from\":0,\"to\":{at}}}\n"
+        )
+    }
+
+    fn source(self, alloc: Global) -> Result<String, AllocError> {
+        let Fields { id, doc, at, .. } = self;
+        format!(in alloc;
+            "{{\"id\":{id},\"op\":\"source\",\"doc\":\"{doc}\",\"at\":0,\"len\":{at}}}\n"
+        )
+    }
+
+    /// The range of a change, in its first line.
+    fn range(self, alloc: Global) -> Result<String, AllocError> {
+        let Fields { at, del, .. } = self;
+        format!(in alloc;
+            "{{\"start\":{{\"line\":0,\"character\":{del}}},\"end\":{{\"line\":0,\"character\":{at}}}}}"
+        )
+    }
+
+    fn change(self, alloc: Global, text: &str) -> Result<String, AllocError> {
+        let range = self.range(alloc)?;
+        let Fields { id, doc, rev, .. } = self;
+        format!(in alloc;
+            "{{\"id\":{id},\"op\":\"change\",\"doc\":\"{doc}\",\"rev\":{rev},\"range\":{range},\"text\":\"{text}\"}}\n"
+        )
+    }
+
+    /// Where and in which revision a splice is made.
+    fn place(self, alloc: Global) -> Result<String, AllocError> {
+        let Fields { rev, at, del, .. } = self;
+        format!(in alloc; "\"rev\":{rev},\"at\":{at},\"del\":{del}")
+    }
+
+    fn splice(self, alloc: Global) -> Result<String, AllocError> {
+        let place = self.place(alloc)?;
+        let Fields { id, doc, bytes, .. } = self;
+        format!(in alloc;
+            "{{\"id\":{id},\"op\":\"splice\",\"doc\":\"{doc}\",{place},\"bytes\":\"{bytes}\"}}\n"
+        )
+    }
+}
+
+/// A line with its line feed that is no command.
+fn no_command(alloc: Global, rng: &mut SmallRng) -> Result<String, AllocError> {
+    let line = one_of(rng, &["\n", "[]\r\n", "{\"id\":1}\n", "{\"id\":\n"]);
+    String::from_str(alloc, line)
+}
+
 /// A line with its line feed. Most of them are commands that can be accepted.
 pub fn line(alloc: Global, rng: &mut SmallRng, id: u64) -> Result<String, AllocError> {
-    let doc = one_of(rng, &["a", "b", "c"]);
-    let bytes = one_of(rng, &["", "YQ==", "YmM=", "4oI=", "YQ"]);
-    let rev = rng.random_range(0..4u32);
-    let at = rng.random_range(0..3u32);
-    let del = rng.random_range(0..2u32);
-    match rng.random_range(0..12u32) {
-        0 | 1 => {
-            let label = one_of(rng, &["utf-8", "utf-16le", "big5", "none"]);
-            format!(in alloc;
-                "{{\"id\":{id},\"op\":\"open\",\"doc\":\"{doc}\",\"label\":\"{label}\",\"bytes\":\"{bytes}\"}}\n"
-            )
-        }
-        2 => format!(in alloc; "{{\"id\":{id},\"op\":\"close\",\"doc\":\"{doc}\"}}\n"),
-        3 => format!(in alloc;
-            "{{\"id\":{id},\"op\":\"errors\",\"doc\":\"{doc}\",\"from\":0,\"max\":{at}}}\n"
-        ),
-        4 => format!(in alloc;
-            "{{\"id\":{id},\"op\":\"text\",\"doc\":\"{doc}\",\"from\":0,\"to\":{at}}}\n"
-        ),
-        5 => format!(in alloc;
-            "{{\"id\":{id},\"op\":\"source\",\"doc\":\"{doc}\",\"at\":0,\"len\":{at}}}\n"
-        ),
-        6 => String::from_str(
-            alloc,
-            one_of(rng, &["\n", "[]\r\n", "{\"id\":1}\n", "{\"id\":\n"]),
-        ),
-        7 | 8 => {
-            let text = one_of(rng, &["", "x", "\\u00E9", "\\u8A9E"]);
-            let range = format!(in alloc;
-                "{{\"start\":{{\"line\":0,\"character\":{del}}},\"end\":{{\"line\":0,\"character\":{at}}}}}"
-            )?;
-            format!(in alloc;
-                "{{\"id\":{id},\"op\":\"change\",\"doc\":\"{doc}\",\"rev\":{rev},\"range\":{range},\"text\":\"{text}\"}}\n"
-            )
-        }
-        _ => format!(in alloc;
-            "{{\"id\":{id},\"op\":\"splice\",\"doc\":\"{doc}\",\"rev\":{rev},\"at\":{at},\"del\":{del},\"bytes\":\"{bytes}\"}}\n"
-        ),
+    let fields = Fields::drawn(rng, id);
+    match up_to(rng, 11) {
+        0 | 1 => fields.open(alloc, one_of(rng, &["utf-8", "utf-16le", "big5", "none"])),
+        2 => fields.close(alloc),
+        3 => fields.errors(alloc),
+        4 => fields.text(alloc),
+        5 => fields.source(alloc),
+        6 => no_command(alloc, rng),
+        7 | 8 => fields.change(alloc, one_of(rng, &["", "x", "\\u00E9", "\\u8A9E"])),
+        _ => fields.splice(alloc),
     }
 }

@@ -3,12 +3,12 @@
 use crate::client::Client;
 use crate::failure::PlayFailure;
 use crate::kind::{EventKind, Tally, count_reply};
+use crate::numbers::up_to;
 use desk::Desk;
 use enc_names::Labels;
 use gateway::{CONNECTIONS, Event, GateFault, Gateway, Out};
 use index_loader::Indexes;
 use memchr::memchr;
-use rand::RngExt;
 use rand::rngs::SmallRng;
 use std::alloc::Global;
 
@@ -30,23 +30,43 @@ pub fn new_gateway<'i>(alloc: Global, indexes: &'i Indexes) -> Result<Gateway<'i
     Ok(Gateway::new(alloc, desk))
 }
 
+/// What a gateway answers to an event, without what its contract says of that: no step here needs it.
+fn answer(gateway: &mut Gateway<'_>, event: Event<'_>) -> Result<Out, GateFault> {
+    gateway.event(event)
+}
+
+/// Why a connection that is open or not, or isn't there, can't open or close, if it can't.
+fn switch_fault(is_open: Option<bool>, open: bool) -> Option<GateFault> {
+    match is_open {
+        None => Some(GateFault::BadNumber),
+        Some(was) if was != open => None,
+        Some(true) => Some(GateFault::AlreadyOpen),
+        Some(false) => Some(GateFault::NotOpen),
+    }
+}
+
+/// A client for each connection, all closed.
+fn closed_clients(alloc: Global) -> Result<Vec<Client>, PlayFailure> {
+    let mut clients = Vec::new(alloc);
+    for _ in 0..CONNECTIONS {
+        clients
+            .push(Client::new(alloc))
+            .map_err(|_| PlayFailure::OutOfMemory)?;
+    }
+    Ok(clients)
+}
+
 impl<'i> GatewayPair<'i> {
     /// No connection is open but the one of the lines in order.
     pub fn new(alloc: Global, indexes: &'i Indexes) -> Result<GatewayPair<'i>, PlayFailure> {
         let mut in_order = new_gateway(alloc, indexes)?;
-        if in_order.event(Event::Open(0)).is_err() {
+        if answer(&mut in_order, Event::Open(0)).is_err() {
             return Err(PlayFailure::Different);
-        }
-        let mut clients = Vec::new(alloc);
-        for _ in 0..CONNECTIONS {
-            clients
-                .push(Client::new(alloc))
-                .map_err(|_| PlayFailure::OutOfMemory)?;
         }
         Ok(GatewayPair {
             compared: new_gateway(alloc, indexes)?,
             in_order,
-            clients,
+            clients: closed_clients(alloc)?,
             tally: Tally::new(),
             alloc,
         })
@@ -54,12 +74,17 @@ impl<'i> GatewayPair<'i> {
 
     /// One event, on a connection of any number up to one too many.
     pub fn step(&mut self, rng: &mut SmallRng, id: u64) -> Result<(), PlayFailure> {
-        let c = rng.random_range(0..=CONNECTIONS as u8);
-        match rng.random_range(0..20u32) {
+        let c = up_to(rng, CONNECTIONS as u32) as u8;
+        match up_to(rng, 19) {
             0 => self.switch(c, true),
-            1 if rng.random_range(0..3u32) == 0 => self.switch(c, false),
+            1 if up_to(rng, 2) == 0 => self.switch(c, false),
             _ => self.send(c, rng, id),
         }
+    }
+
+    /// Whether a connection is open; `None` where there is none of this number.
+    fn is_open(&self, c: u8) -> Option<bool> {
+        Some(self.clients.get(c as usize)?.open)
     }
 
     /// The connection opens or closes.
@@ -69,33 +94,48 @@ impl<'i> GatewayPair<'i> {
         } else {
             Event::Close(c)
         };
-        match (self.clients.get_mut(c as usize), self.compared.event(event)) {
-            (None, Err(GateFault::BadNumber)) => {}
-            (Some(client), Err(GateFault::AlreadyOpen)) if client.open && open => {}
-            (Some(client), Err(GateFault::NotOpen)) if !client.open && !open => {}
-            (Some(client), Ok(out)) if client.open != open => {
-                if out.taken > 0 || out.reply.is_some() {
-                    return Err(PlayFailure::Different);
-                }
-                client.set_open(open);
-                return Ok(());
-            }
-            _ => return Err(PlayFailure::Different),
+        match switch_fault(self.is_open(c), open) {
+            Some(fault) => self.refused(event, fault),
+            None => self.switched(c, event, open),
         }
-        self.tally.count(EventKind::Refused as usize);
-        Ok(())
+    }
+
+    /// An event by which a connection is to open or close.
+    fn switched(&mut self, c: u8, event: Event<'_>, open: bool) -> Result<(), PlayFailure> {
+        match answer(&mut self.compared, event) {
+            Ok(out) if out.taken == 0 && out.reply.is_none() => self.set_open(c, open),
+            _ => Err(PlayFailure::Different),
+        }
+    }
+
+    /// The connection is open or closed from now on.
+    fn set_open(&mut self, c: u8, open: bool) -> Result<(), PlayFailure> {
+        match self.clients.get_mut(c as usize) {
+            Some(client) => {
+                client.set_open(open);
+                Ok(())
+            }
+            None => Err(PlayFailure::Different),
+        }
     }
 
     /// Bytes are sent on the connection.
     fn send(&mut self, c: u8, rng: &mut SmallRng, id: u64) -> Result<(), PlayFailure> {
-        let Some(client) = self.clients.get_mut(c as usize) else {
-            return self.refused(Event::Bytes(c, b"\n"), GateFault::BadNumber);
+        let fault = match self.is_open(c) {
+            Some(true) => return self.sent(c, rng, id),
+            Some(false) => GateFault::NotOpen,
+            None => GateFault::BadNumber,
         };
-        if !client.open {
-            return self.refused(Event::Bytes(c, b"\n"), GateFault::NotOpen);
-        }
+        self.refused(Event::Bytes(c, b"\n"), fault)
+    }
+
+    /// Bytes are sent on a connection that is open.
+    fn sent(&mut self, c: u8, rng: &mut SmallRng, id: u64) -> Result<(), PlayFailure> {
+        let Some(client) = self.clients.get_mut(c as usize) else {
+            return Err(PlayFailure::Different);
+        };
         let bytes = client.next_bytes(self.alloc, rng, id)?;
-        match self.compared.event(Event::Bytes(c, &bytes)) {
+        match answer(&mut self.compared, Event::Bytes(c, &bytes)) {
             Ok(out) => self.taken(c, &bytes, &out),
             Err(_) => Err(PlayFailure::Different),
         }
@@ -103,11 +143,13 @@ impl<'i> GatewayPair<'i> {
 
     /// An event that is to be refused.
     fn refused(&mut self, event: Event<'_>, fault: GateFault) -> Result<(), PlayFailure> {
-        if self.compared.event(event).err() != Some(fault) {
-            return Err(PlayFailure::Different);
+        match answer(&mut self.compared, event) {
+            Err(found) if found == fault => {
+                self.tally.count(EventKind::Refused as usize);
+                Ok(())
+            }
+            _ => Err(PlayFailure::Different),
         }
-        self.tally.count(EventKind::Refused as usize);
-        Ok(())
     }
 
     /// Bytes of an open connection were taken.
@@ -136,7 +178,7 @@ impl<'i> GatewayPair<'i> {
         let Some(client) = self.clients.get_mut(c as usize) else {
             return Err(PlayFailure::Different);
         };
-        let wanted = match self.in_order.event(Event::Bytes(0, &client.begun)) {
+        let wanted = match answer(&mut self.in_order, Event::Bytes(0, &client.begun)) {
             Ok(out) => out.reply,
             Err(_) => None,
         };

@@ -9,6 +9,7 @@ mod commands;
 mod failure;
 mod gateway_pair;
 mod kind;
+mod numbers;
 mod replay;
 
 use failure::PlayFailure;
