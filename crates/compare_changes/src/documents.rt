@@ -23,6 +23,9 @@ const DOCUMENTS: usize = 20;
 /// How many changes each of these has, one after another.
 const CHANGES: usize = 100;
 
+/// How many changes a full document has: enough that a hundred are too large.
+const FULL_CHANGES: usize = 60;
+
 /// How many bytes a full document lacks to the most that there may be.
 pub const SPARE: usize = 3;
 
@@ -187,7 +190,7 @@ fn insert_often(
     trial: &mut MirroredDocument<'_>,
     tally: &mut Tally,
 ) -> Option<()> {
-    for _ in 0..CHANGES {
+    for _ in 0..FULL_CHANGES {
         let change = RangeChange::drawn(alloc, rng, trial.plain())?;
         if let Some(insertion) = change.insertion() {
             trial.change(alloc, &insertion, tally)?;
