@@ -183,18 +183,21 @@ pub fn full_document(
     Some(tally)
 }
 
-/// Puts something into a document again and again; `None` where a call is refused.
+/// Puts something into a document again and again, and looks at all that it has once behind them;
+/// `None` where a call is refused.
 fn insert_often(
     alloc: Global,
     rng: &mut SmallRng,
     trial: &mut MirroredDocument<'_>,
     tally: &mut Tally,
 ) -> Option<()> {
+    let mut all = true;
     for _ in 0..FULL_CHANGES {
         let change = RangeChange::drawn(alloc, rng, trial.plain())?;
         if let Some(insertion) = change.insertion() {
-            trial.change(alloc, &insertion, tally)?;
+            all = trial.made(alloc, &insertion, tally)? && all;
         }
     }
+    tally.compare(all && trial.is_held()?);
     Some(())
 }

@@ -92,8 +92,17 @@ impl MirroredDocument<'_> {
         &self.source.plain
     }
 
-    /// Makes a change, and counts whether it led to what it had to; `None` where memory is refused.
+    /// Makes a change, and counts whether it led to what it had to, with the bytes and the text that
+    /// it had to leave; `None` where memory is refused.
     pub fn change(&mut self, alloc: Global, change: &RangeChange, tally: &mut Tally) -> Option<()> {
+        let as_wanted = self.made(alloc, change, tally)?;
+        tally.compare(as_wanted && self.is_held()?);
+        Some(())
+    }
+
+    /// Makes a change, and counts it by what it led to: whether that is what it had to; `None` where
+    /// memory is refused.
+    pub fn made(&mut self, alloc: Global, change: &RangeChange, tally: &mut Tally) -> Option<bool> {
         let wanted = self.source.changed(alloc, change);
         let mut meter = meter();
         let found = changed(alloc, &mut self.doc, change, &mut meter);
@@ -105,10 +114,15 @@ impl MirroredDocument<'_> {
             }
             Err(refusal) => Some(refusal),
         };
-        tally.compare(as_wanted && self.source.is_held(&self.doc)?);
         if let Some(kind) = ChangeKind::of(refusal) {
             tally.count(kind as usize);
         }
-        Some(())
+        Some(as_wanted)
+    }
+
+    /// Whether the document has the bytes and the text that it has to; `None` where memory is
+    /// refused.
+    pub fn is_held(&self) -> Option<bool> {
+        self.source.is_held(&self.doc)
     }
 }
