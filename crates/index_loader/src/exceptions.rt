@@ -1,5 +1,5 @@
 //! The exceptions of the gb18030 encoder.
-ghost use Rattle.std.specs.Prelude.{◌≡◌, [], Ok, IfErr, OnOk};
+ghost use Rattle.std.specs.Prelude.{◌≡◌, [], Ok, IfErr, IfOk, OnOk};
 ghost use Rattle.std.specs.BTreeMap.{insert_entry};
 ghost use Rattle.std.specs.Ordering.{nat_cmp};
 ghost use Rattle.index_loader.specs.Exceptions.{FaultIs, IsParsed, exception_of, exceptions_beside, with_exception};
@@ -84,22 +84,22 @@ impl Exceptions {
         ensures err { IfErr result (λ fault. FaultIs fault.cause fault (exceptions_beside number self.old exception.0 exception.1)) }
     {
         let code_point = exception.0;
-        if self.bytes_of(code_point).is_some() {
+        let bytes = exception.1;
+        if self.insert(code_point, bytes)?.is_some() {
             return Err(ExceptionFault {
                 line: number,
                 cause: ExceptionCause::DuplicateCodePoint,
             });
         }
-        let bytes = exception.1;
-        self.insert(code_point, bytes)?;
         Ok(())
     }
 
-    /// Puts an exception at its place.
-    fn insert(&mut self, code_point: Scalar, bytes: [u8; 2]) -> Result<(), AllocError>
-        ensures { OnOk result (self.new ≡ insert_entry nat_cmp self.old code_point bytes) }
+    /// Puts an exception at its place, and returns the bytes that its code point had.
+    fn insert(&mut self, code_point: Scalar, bytes: [u8; 2]) -> Result<Option<[u8; 2]>, AllocError>
+        ensures before { IfOk result (λ before. before ≡ exception_of self.old code_point) }
+        ensures after { OnOk result (self.new ≡ insert_entry nat_cmp self.old code_point bytes) }
     {
-        self.by_code_point.insert(code_point.get(), bytes)?;
-        Ok(())
+        let before = self.by_code_point.insert(code_point.get(), bytes)?;
+        Ok(before)
     }
 }
