@@ -17,7 +17,7 @@ use crate::prefix::Prefix;
 use crate::sniffing::{UTF_16BE, UTF_16LE, sniffing_turn};
 use crate::state::AnyState;
 use decoder_core::{Handled, Handler, Utf8Decoder};
-use enc_names::{Encoding, Setting};
+use enc_names::{Bom, Encoding, Setting};
 use index_loader::Indexes;
 use std::marker::Model;
 
@@ -46,13 +46,13 @@ impl<'i> AnyDecoder<'i> {
     ///
     /// Its state behind the first bytes of a document is those bytes while they may become a byte
     /// order mark, else the encoding in force with where its own decoder stands behind the mark.
-    pub fn new(indexes: &'i Indexes, encoding: Encoding) -> Option<AnyDecoder<'i>>
-        ensures value { result ≡ decoder_in indexes.now (setting_of encoding) }
+    pub fn new(indexes: &'i Indexes, encoding: Encoding, bom: Bom) -> Option<AnyDecoder<'i>>
+        ensures value { result ≡ decoder_in indexes.now (setting_of encoding bom) }
         ensures variant { is_some result ≡ has_files indexes.now encoding }
-        ensures decode { IfSome result (λ d. (bytes : List ℕ) → places (length bytes) (mark_length (setting_of encoding) bytes) (run (any d) (any_start d) bytes) ≡ (decode indexes.now (setting_of encoding) bytes).items) }
-        ensures behind { IfSome result (λ d. (bytes : List ℕ) → (feed (any d) (any_start d) bytes).state ≡ state_behind indexes.now (setting_of encoding) bytes) }
+        ensures decode { IfSome result (λ d. (bytes : List ℕ) → places (length bytes) (mark_length (setting_of encoding bom) bytes) (run (any d) (any_start d) bytes) ≡ (decode indexes.now (setting_of encoding bom) bytes).items) }
+        ensures behind { IfSome result (λ d. (bytes : List ℕ) → (feed (any d) (any_start d) bytes).state ≡ state_behind indexes.now (setting_of encoding bom) bytes) }
     {
-        AnyDecoder::under(indexes, Setting::new(encoding))
+        AnyDecoder::under(indexes, Setting::new(encoding, bom))
     }
 
     /// The decoder under a setting; of its encoding as `new` says.

@@ -12,7 +12,7 @@ use crate::decoding::Decoding;
 use crate::fault::CodecFault;
 use crate::mark::{Sniffed, sniff};
 use decoder_core::meter;
-use enc_names::{Encoding, Place, Setting};
+use enc_names::{Bom, Encoding, Place, Setting};
 use index_loader::Indexes;
 use std::alloc::Global;
 
@@ -40,15 +40,16 @@ pub fn decode_whole(
     alloc: Global,
     indexes: &Indexes,
     encoding: Encoding,
+    bom: Bom,
     bytes: &[u8],
 ) -> Result<Decoded, CodecFault>
-    ensures encoding { IfOk result (λ d. d.encoding ≡ (decode indexes.now (setting_of encoding) bytes.now).encoding) }
-    ensures bom_len { IfOk result (λ d. d.bom_len ≡ (decode indexes.now (setting_of encoding) bytes.now).bom) }
-    ensures text { IfOk result (λ d. chars (string_bytes d.text) ≡ code_points (decode indexes.now (setting_of encoding) bytes.now).items) }
-    ensures errors { IfOk result (λ d. d.errors.items ≡ error_places (decode indexes.now (setting_of encoding) bytes.now).items) }
+    ensures encoding { IfOk result (λ d. d.encoding ≡ (decode indexes.now (setting_of encoding bom) bytes.now).encoding) }
+    ensures bom_len { IfOk result (λ d. d.bom_len ≡ (decode indexes.now (setting_of encoding bom) bytes.now).bom) }
+    ensures text { IfOk result (λ d. chars (string_bytes d.text) ≡ code_points (decode indexes.now (setting_of encoding bom) bytes.now).items) }
+    ensures errors { IfOk result (λ d. d.errors.items ≡ error_places (decode indexes.now (setting_of encoding bom) bytes.now).items) }
     ensures faults { Refused indexes.now encoding None result }
 {
-    let setting = Setting::new(encoding);
+    let setting = Setting::new(encoding, bom);
     let decoder = AnyDecoder::under(indexes, setting).ok_or(CodecFault::NoIndex)?;
     let Decoding { text, errors } = decode_any(alloc, &decoder, bytes, &mut meter())?;
     let Sniffed { encoding, bom_len } = sniff(setting, bytes);
@@ -66,12 +67,13 @@ pub fn decode_fatal(
     alloc: Global,
     indexes: &Indexes,
     encoding: Encoding,
+    bom: Bom,
     bytes: &[u8],
 ) -> Result<String, CodecFault>
-    ensures text { IfOk result (λ text. chars (string_bytes text) ≡ code_points (decode indexes.now (setting_of encoding) bytes.now).items) }
-    ensures faults { Refused indexes.now encoding (fatal_of (decode indexes.now (setting_of encoding) bytes.now).items) result }
+    ensures text { IfOk result (λ text. chars (string_bytes text) ≡ code_points (decode indexes.now (setting_of encoding bom) bytes.now).items) }
+    ensures faults { Refused indexes.now encoding (fatal_of (decode indexes.now (setting_of encoding bom) bytes.now).items) result }
 {
-    let Decoded { text, errors, .. } = decode_whole(alloc, indexes, encoding, bytes)?;
+    let Decoded { text, errors, .. } = decode_whole(alloc, indexes, encoding, bom, bytes)?;
     match errors.first() {
         Some(place) => Err(CodecFault::Malformed(*place)),
         None => Ok(text),

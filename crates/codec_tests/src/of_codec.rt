@@ -3,7 +3,7 @@
 
 use codec::{AnyDecoder, CodecFault, decode_any};
 use decoder_core::meter;
-use enc_names::Encoding;
+use enc_names::{Bom, Encoding};
 use index_loader::Indexes;
 use std::test::Fail;
 
@@ -13,7 +13,7 @@ mod sniffing;
 #[test]
 fn meter_counts_the_bytes_behind_the_mark(rt: HostRuntime) -> Result<(), Fail> {
     let indexes = Indexes::new();
-    let decoder = AnyDecoder::new(&indexes, Encoding::Utf8).ok_or(CodecFault::NoIndex)?;
+    let decoder = AnyDecoder::new(&indexes, Encoding::Utf8, Bom::Sniff).ok_or(CodecFault::NoIndex)?;
     let mut count = meter();
     let rows: [(&[u8], u64); 2] = [(b"\xEF\xBB\xBFAB", 2), (b"ABC", 5)];
     for (bytes, decoded) in rows {

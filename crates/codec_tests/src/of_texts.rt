@@ -1,7 +1,7 @@
 //! The texts that are measured, as far as no index file is needed.
 
 use codec::decode_whole;
-use enc_names::Encoding;
+use enc_names::{Bom, Encoding};
 use index_loader::Indexes;
 use oracle::texts::ordinary::{GB18030, GBK, UTF_8, UTF_16LE};
 use std::test::Fail;
@@ -9,8 +9,14 @@ use std::test::Fail;
 #[test]
 fn the_japanese_minutes_are_one_text(rt: HostRuntime) -> Result<(), Fail> {
     let indexes = Indexes::new();
-    let eight = decode_whole(rt.alloc(), &indexes, Encoding::Utf8, UTF_8)?;
-    let sixteen = decode_whole(rt.alloc(), &indexes, Encoding::Utf16Le, UTF_16LE)?;
+    let eight = decode_whole(rt.alloc(), &indexes, Encoding::Utf8, Bom::Sniff, UTF_8)?;
+    let sixteen = decode_whole(
+        rt.alloc(),
+        &indexes,
+        Encoding::Utf16Le,
+        Bom::Sniff,
+        UTF_16LE,
+    )?;
     assert!(rt; eight.errors.is_empty() && sixteen.errors.is_empty());
     let lines = sixteen.text.replace(rt.alloc(), "\r\n", "\n")?;
     assert!(rt; lines.as_str() == eight.text.as_str());

@@ -5,7 +5,7 @@ use crate::kind::{ChangeKind, Tally};
 use crate::plain_document::{After, PlainDocument};
 use crate::refusal::ChangeRefusal;
 use decoder_core::{Meter, meter};
-use enc_names::Encoding;
+use enc_names::{Bom, Encoding};
 use index_loader::Indexes;
 use oracle::Plain;
 use piece_rope::{Doc, DocFault};
@@ -80,7 +80,7 @@ impl<'i> MirroredDocument<'i> {
         given: Encoding,
         bytes: Vec<u8>,
     ) -> Option<MirroredDocument<'i>> {
-        let doc = Doc::open(alloc, indexes, given, &bytes, &mut meter()).ok()?;
+        let doc = Doc::open(alloc, indexes, given, Bom::Sniff, &bytes, &mut meter()).ok()?;
         let source = PlainDocument::of(alloc, indexes, given, bytes)?;
         Some(MirroredDocument { doc, source })
     }

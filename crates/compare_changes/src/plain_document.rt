@@ -5,7 +5,7 @@ use crate::plan::planned;
 use crate::refusal::ChangeRefusal;
 use crate::resync::until_resync;
 use codec::AnyDecoder;
-use enc_names::Encoding;
+use enc_names::{Bom, Encoding};
 use index_loader::Indexes;
 use oracle::{Plain, Text};
 use piece_rope::{DOCUMENT_LIMIT, Doc, DocFault, LONGEST_PIECE};
@@ -64,7 +64,7 @@ impl PlainDocument<'_> {
     /// The most bytes that may be decoded for a splice that leaves these: those put in, those
     /// behind it until the decoder stands where it stood there before, and four pieces' more.
     fn most_decoded(&self, plan: &Plan, new: &[u8]) -> Option<u64> {
-        let decoder = AnyDecoder::new(self.indexes, self.given)?;
+        let decoder = AnyDecoder::new(self.indexes, self.given, Bom::Sniff)?;
         let put_in = plan.ins.as_slice().len();
         let end = plan.at.saturating_add(plan.del) as usize;
         let (old, rest) = self.bytes.split_at_checked(end)?;

@@ -1,7 +1,7 @@
 //! Documents, spliced one place after another, and compared with decoding from scratch.
 
 use decoder_core::meter;
-use enc_names::Encoding;
+use enc_names::{Bom, Encoding};
 use index_loader::Indexes;
 use oracle::{Splice, Tally, agrees, splice_of, spliced};
 use piece_rope::Doc;
@@ -48,7 +48,7 @@ fn agrees_behind(
 pub fn splices(alloc: Global, indexes: &Indexes, given: Encoding) -> Option<Tally<1>> {
     let mut rng = SmallRng::seed_from_u64(1);
     let mut bytes = Vec::new(alloc);
-    let mut doc = Doc::open(alloc, indexes, given, &bytes, &mut meter()).ok()?;
+    let mut doc = Doc::open(alloc, indexes, given, Bom::Sniff, &bytes, &mut meter()).ok()?;
     let mut tally = Tally::new();
     for _ in 0..SPLICES {
         let splice = splice_of(alloc, &mut rng, bytes.len())?;

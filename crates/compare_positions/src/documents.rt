@@ -3,6 +3,7 @@
 use crate::compare::compare;
 use crate::tally::CallTally;
 use decoder_core::meter;
+use enc_names::Bom;
 use index_loader::Indexes;
 use oracle::{Sample, Splice, bytes_of, length, spliced};
 use piece_rope::Doc;
@@ -47,7 +48,15 @@ fn one_document(
 ) -> Option<()> {
     let len = length(rng);
     let mut bytes = bytes_of(alloc, rng, sample, len)?;
-    let mut doc = Doc::open(alloc, indexes, sample.given, &bytes, &mut meter()).ok()?;
+    let mut doc = Doc::open(
+        alloc,
+        indexes,
+        sample.given,
+        Bom::Sniff,
+        &bytes,
+        &mut meter(),
+    )
+    .ok()?;
     for _ in 0..rng.random_range(0..4usize) {
         let splice = drawn(alloc, rng, sample, bytes.len())?;
         bytes = make(alloc, &mut doc, &bytes, &splice)?;
@@ -80,7 +89,15 @@ pub fn large_document(
     let mut tally = CallTally::new();
     let drawn = bytes_of(alloc, rng, sample, count)?;
     let bytes = drawn.get(..count)?;
-    let doc = Doc::open(alloc, indexes, sample.given, bytes, &mut meter()).ok()?;
+    let doc = Doc::open(
+        alloc,
+        indexes,
+        sample.given,
+        Bom::Sniff,
+        bytes,
+        &mut meter(),
+    )
+    .ok()?;
     compare(alloc, rng, &doc, bytes, &mut tally)?;
     Some(tally)
 }

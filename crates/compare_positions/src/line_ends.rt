@@ -3,7 +3,7 @@
 use crate::compare::compare;
 use crate::tally::CallTally;
 use decoder_core::meter;
-use enc_names::Encoding;
+use enc_names::{Bom, Encoding};
 use index_loader::Indexes;
 use piece_rope::{Doc, LONGEST_PIECE};
 use rand::rngs::SmallRng;
@@ -76,7 +76,15 @@ fn one_document(
     let middle = (len / 2).checked_div(case.letter.len())?;
     let bytes = case.bytes(alloc, middle.saturating_sub(near), len)?;
     let indexes = Indexes::new();
-    let doc = Doc::open(alloc, &indexes, case.given, &bytes, &mut meter()).ok()?;
+    let doc = Doc::open(
+        alloc,
+        &indexes,
+        case.given,
+        Bom::Sniff,
+        &bytes,
+        &mut meter(),
+    )
+    .ok()?;
     compare(alloc, rng, &doc, &bytes, tally)
 }
 

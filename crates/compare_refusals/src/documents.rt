@@ -6,7 +6,7 @@ use crate::cases::{AT, Bytes};
 use crate::outcome::{TrialOutcome, outcome_if};
 use crate::tried::Tried;
 use decoder_core::{Meter, meter};
-use enc_names::Encoding;
+use enc_names::{Bom, Encoding};
 use index_loader::Indexes;
 use piece_rope::{Doc, DocFault};
 use std::alloc::Global;
@@ -52,7 +52,14 @@ impl<'a> DocumentSource<'a> {
     /// Opens the document.
     fn open(&self) -> Result<Doc<'a>, DocFault> {
         let bytes = &self.bytes.bytes;
-        Doc::open(self.alloc, self.indexes, self.given, bytes, &mut meter())
+        Doc::open(
+            self.alloc,
+            self.indexes,
+            self.given,
+            Bom::Sniff,
+            bytes,
+            &mut meter(),
+        )
     }
 
     /// Makes the edit.

@@ -6,7 +6,7 @@ use crate::fields;
 use crate::unplayed::Unplayed;
 use codec::{AnyDecoder, CodecFault, Decoded, decode_fatal, decode_whole};
 use decoder_core::{Item, Placed, decode_parts, meter};
-use enc_names::{Encoding, Place};
+use enc_names::{Bom, Encoding, Place};
 use index_loader::Indexes;
 use std::alloc::{AllocError, Global};
 
@@ -15,7 +15,7 @@ pub fn outcome(alloc: Global, indexes: &Indexes, given: &str) -> Result<String, 
     let (name, bytes) = given.split_once("; ").ok_or(Unplayed::Malformed)?;
     let encoding = fields::encoding(name)?;
     let bytes = fields::bytes(alloc, bytes)?;
-    match AnyDecoder::new(indexes, encoding) {
+    match AnyDecoder::new(indexes, encoding, Bom::Sniff) {
         Some(decoder) => with_decoder(alloc, indexes, encoding, &decoder, &bytes),
         None => Ok(without_decoder(alloc, indexes, encoding, &bytes)?),
     }
@@ -29,9 +29,9 @@ fn with_decoder(
     decoder: &AnyDecoder<'_>,
     bytes: &[u8],
 ) -> Result<String, Unplayed> {
-    let whole = decode_whole(alloc, indexes, encoding, bytes)?;
+    let whole = decode_whole(alloc, indexes, encoding, Bom::Sniff, bytes)?;
     let items = decode_parts(alloc, decoder, bytes, whole.bom_len, &[], &mut meter())?;
-    let fatal = decode_fatal(alloc, indexes, encoding, bytes);
+    let fatal = decode_fatal(alloc, indexes, encoding, Bom::Sniff, bytes);
     Ok(compared(alloc, decoder, bytes, &whole, &fatal, &items)?)
 }
 
@@ -63,8 +63,8 @@ fn without_decoder(
     bytes: &[u8],
 ) -> Result<String, AllocError> {
     let no_index = Some(CodecFault::NoIndex);
-    let whole = decode_whole(alloc, indexes, encoding, bytes).err();
-    let fatal = decode_fatal(alloc, indexes, encoding, bytes).err();
+    let whole = decode_whole(alloc, indexes, encoding, Bom::Sniff, bytes).err();
+    let fatal = decode_fatal(alloc, indexes, encoding, Bom::Sniff, bytes).err();
     if whole == no_index && fatal == no_index {
         String::from_str(alloc, "NoIndex")
     } else {

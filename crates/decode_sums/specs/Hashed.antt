@@ -1,6 +1,7 @@
 -- What is hashed of the texts of documents.
 use Rattle.std.specs.Prelude.{ℕ, zero, suc, List, [], ◌∷◌, ◌++◌, fold, None, Err}
 use Rattle.std.specs.Str.{encode_utf8_all}
+use Rattle.enc_names.specs.declared.bom.Bom.TheVariants.{Sniff}
 use Rattle.enc_names.specs.declared.encoding.Encoding.{Encoding}
 use Rattle.enc_names.specs.Settings.{setting_of}
 use Rattle.index_loader.specs.Files.{Files}
@@ -14,7 +15,7 @@ use Rattle.decode_sums.specs.Documents.{count_of, document_of}
 
 -- of one document: its text in UTF-8 and the byte FF, which no UTF-8 has
 abbrev pub hashed_of : Files → Encoding → List ℕ → List ℕ
-hashed_of files encoding document = encode_utf8_all (code_points (decode files (setting_of encoding) document).items) ++ 255 ∷ []
+hashed_of files encoding document = encode_utf8_all (code_points (decode files (setting_of encoding Sniff) document).items) ++ 255 ∷ []
 
 -- of the first n documents of a form
 abbrev pub hashed_below : Files → Encoding → Form → ℕ → List ℕ

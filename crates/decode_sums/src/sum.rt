@@ -4,6 +4,7 @@ ghost use Rattle.sha2.specs.Hashers.{Holds256};
 ghost use Rattle.sha2.specs.Sha256.{sha256};
 ghost use Rattle.std.specs.Str.{encode_utf8_all};
 ghost use Rattle.decoder_core.specs.Text.{code_points};
+ghost use Rattle.enc_names.specs.declared.bom.Bom.TheVariants.{Sniff};
 ghost use Rattle.enc_names.specs.Settings.{setting_of};
 ghost use Rattle.codec.specs.Decode.{decode};
 ghost use Rattle.decode_sums.specs.Documents.{count_of};
@@ -11,7 +12,7 @@ ghost use Rattle.decode_sums.specs.Hashed.{IsFault, hashed_of, hashed_below, has
 
 use crate::form::Form;
 use codec::{CodecFault, decode_whole};
-use enc_names::Encoding;
+use enc_names::{Bom, Encoding};
 use index_loader::Indexes;
 use sha2::{Digest, Sha256};
 use std::alloc::Global;
@@ -80,8 +81,8 @@ fn text_of(
     encoding: Encoding,
     document: &[u8],
 ) -> Result<String, CodecFault>
-    ensures text { IfOk result (λ text. string_bytes text ≡ encode_utf8_all (code_points (decode indexes.now (setting_of encoding) document.now).items)) }
+    ensures text { IfOk result (λ text. string_bytes text ≡ encode_utf8_all (code_points (decode indexes.now (setting_of encoding Sniff) document.now).items)) }
     ensures faults { IfErr result (λ fault. IsFault indexes.now encoding fault) }
 {
-    Ok(decode_whole(alloc, indexes, encoding, document)?.text)
+    Ok(decode_whole(alloc, indexes, encoding, Bom::Sniff, document)?.text)
 }

@@ -10,6 +10,7 @@ use Rattle.std.specs.FinMap as finite
 use Rattle.std.specs.FinMap.{get}
 use Rattle.std.specs.Cmp.Lexicographic.{nat_list_cmp_total}
 use Rattle.std.specs.Str.{bytes_eq}
+use Rattle.enc_names.specs.declared.bom.Bom.TheVariants.{Sniff}
 use Rattle.enc_names.specs.declared.encoding.Encoding.{Encoding}
 use Rattle.enc_names.specs.declared.setting.Setting.{Setting}
 use Rattle.enc_names.specs.Settings.{setting_of}
@@ -70,9 +71,9 @@ record Opened (indexes : Files) (found : Option Entry) (read : Option (List ℕ)
   free : found ≡ None
   label : labelled ≡ Some given
   text : read ≡ Some bytes
-  begin : held_after found move ≡ Some (entry (setting_of given) bytes 0)
+  begin : held_after found move ≡ Some (entry (setting_of given Sniff) bytes 0)
 
-opened-put : (indexes : Files) (given : Encoding) (bytes : List ℕ) (r : Result Entry Fault) → ((k : Entry) → r ≡ Ok k → entry (setting_of given) bytes 0 ≡ k)
+opened-put : (indexes : Files) (given : Encoding) (bytes : List ℕ) (r : Result Entry Fault) → ((k : Entry) → r ≡ Ok k → entry (setting_of given Sniff) bytes 0 ≡ k)
     → is_accepted (put (edit_reply indexes) r).reply ≡ true → Opened indexes None (Some bytes) (Some given) (put (edit_reply indexes) r).move
 opened-put indexes given bytes (Ok k) is e = record { given = given; bytes = bytes; free = refl; label = refl; text = refl; begin = ap Some (sym (is k refl)) }
 opened-put indexes given bytes (Err f) is e = cc
@@ -82,7 +83,7 @@ opened-by : (indexes : Files) (place : Bool) (found : Option Entry) (read : Opti
 opened-by indexes place found None labelled = λ e. cc
 opened-by indexes place (Some h) (Some b) labelled = λ e. cc
 opened-by indexes place None (Some b) None = λ e. cc
-opened-by indexes place None (Some b) (Some given) = opened-put indexes given b (admitted indexes place (setting_of given) b 0) (admitted-ok indexes place (setting_of given) b 0)
+opened-by indexes place None (Some b) (Some given) = opened-put indexes given b (admitted indexes place (setting_of given Sniff) b 0) (admitted-ok indexes place (setting_of given Sniff) b 0)
 
 pub opens_begin : OpensBegin
 opens_begin o p doc label text reply answers e =

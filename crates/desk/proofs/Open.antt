@@ -6,6 +6,7 @@ use Rattle.std.specs.declared.result.Result.{Result}
 use Rattle.std.specs.declared.result.Result.TheVariants.{Ok, Err}
 use Rattle.std.specs.FinMap as finite
 use Rattle.std.specs.Option.{is_some}
+use Rattle.enc_names.specs.declared.bom.Bom.TheVariants.{Sniff}
 use Rattle.enc_names.specs.declared.encoding.Encoding.{Encoding}
 use Rattle.enc_names.specs.declared.setting.Setting.{Setting}
 use Rattle.enc_names.specs.Settings.{setting_of}
@@ -27,7 +28,7 @@ use Rattle.desk.proofs.Row.{IsRow, Keeps, Answered, ContinuesBy, Decided, IsOthe
 
 -- an open whose bytes are read, whose name is free and whose label names an encoding
 pub opened_answers : (o : Office) (after : Shelf) (doc label text bytes lent : List ℕ) (given : Encoding) (setting : Setting) (reply : Reply)
-    → base64_bytes text ≡ Some bytes → lent ≡ bytes → setting ≡ setting_of given → is_some (finite.get o.documents doc) ≡ false → lookup_in o.labels label ≡ Some given
+    → base64_bytes text ≡ Some bytes → lent ≡ bytes → setting ≡ setting_of given Sniff → is_some (finite.get o.documents doc) ≡ false → lookup_in o.labels label ≡ Some given
     → IsOutcome (outcome o.documents doc (put (edit_reply o.indexes) (admitted o.indexes (has_place o.documents) setting lent 0))) reply o.documents after.named
     → after.indexes ≡ o.indexes
     → Answers o (asked_of doc (Opens label text)) reply (record { indexes = after.indexes; labels = o.labels; documents = after.named })
@@ -80,12 +81,12 @@ decided-admitted indexes place setting bytes =
 keeps-opened : (indexes : Files) (place : Bool) (found : Option Entry) (bytes : List ℕ) (given : Option Encoding) → Keeps (opened indexes place found bytes given)
 keeps-opened indexes place (Some h) bytes given = λ e. refl
 keeps-opened indexes place None bytes None = λ e. refl
-keeps-opened indexes place None bytes (Some given) = keeps-put (edit_reply indexes) (admitted indexes place (setting_of given) bytes 0) (λ k. refl)
+keeps-opened indexes place None bytes (Some given) = keeps-put (edit_reply indexes) (admitted indexes place (setting_of given Sniff) bytes 0) (λ k. refl)
 
 answered-opened : (indexes : Files) (place : Bool) (found : Option Entry) (bytes : List ℕ) (given : Option Encoding) → Answered (opened indexes place found bytes given)
 answered-opened indexes place (Some h) bytes given = λ e. cc
 answered-opened indexes place None bytes None = λ e. cc
-answered-opened indexes place None bytes (Some given) = answered-put (edit_reply indexes) (admitted indexes place (setting_of given) bytes 0) (decided-admitted indexes place (setting_of given) bytes)
+answered-opened indexes place None bytes (Some given) = answered-put (edit_reply indexes) (admitted indexes place (setting_of given Sniff) bytes 0) (decided-admitted indexes place (setting_of given Sniff) bytes)
 
 continues-opened : (indexes : Files) (place : Bool) (h : Entry) (label text : List ℕ) (bytes : Option (List ℕ)) (given : Option Encoding)
     → ContinuesBy indexes h (Opens label text) (with_bytes bytes (λ b. opened indexes place (Some h) b given))

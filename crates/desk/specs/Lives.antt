@@ -2,6 +2,7 @@
 use Rattle.std.specs.Prelude.{◌≡◌, ℕ, ◌+◌, ◌&&◌, Bool, true, false, List, [], ◌∷◌, ◌++◌, length, if◌then◌else◌, Option, Some, None, Result, Ok, Err}
 use Rattle.std.specs.Str.{bytes_eq, chars}
 use Rattle.std.specs.FinMap.{get}
+use Rattle.enc_names.specs.declared.bom.Bom.TheVariants.{Sniff}
 use Rattle.enc_names.specs.declared.encoding.Encoding.{Encoding}
 use Rattle.enc_names.specs.declared.setting.Setting.{Setting}
 use Rattle.enc_names.specs.Settings.{setting_of}
@@ -133,7 +134,7 @@ pub record Begins (o : Office) (doc label text : List ℕ) (p : Office) : Type 0
   pub free : get o.documents doc ≡ None
   pub labelled : lookup_in o.labels label ≡ Some given
   pub read : base64_bytes text ≡ Some bytes
-  pub begin : get p.documents doc ≡ Some (entry (setting_of given) bytes 0)
+  pub begin : get p.documents doc ≡ Some (entry (setting_of given Sniff) bytes 0)
 
 abbrev pub OpensBegin : Type 0
 OpensBegin = (o p : Office) (doc label text : List ℕ) (reply : Reply) → Answers o (asked_of doc (Opens label text)) reply p → is_accepted reply ≡ true

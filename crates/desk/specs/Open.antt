@@ -1,5 +1,6 @@
 -- Opening a document, and adopting one.
 use Rattle.std.specs.Prelude.{ℕ, List, if◌then◌else◌, Bool, Option, Some, None, is_some, Result, Err}
+use Rattle.enc_names.specs.declared.bom.Bom.TheVariants.{Sniff}
 use Rattle.enc_names.specs.declared.encoding.Encoding.{Encoding}
 use Rattle.enc_names.specs.declared.setting.Setting.{Setting}
 use Rattle.enc_names.specs.Settings.{setting_of}
@@ -22,7 +23,7 @@ admitted indexes place setting bytes rev =
 -- the label may name an encoding
 abbrev pub opened_as : Files → Bool → List ℕ → Option Encoding → Effect
 opened_as indexes place bytes None = refused UnknownLabel
-opened_as indexes place bytes (Some given) = put (edit_reply indexes) (admitted indexes place (setting_of given) bytes 0)
+opened_as indexes place bytes (Some given) = put (edit_reply indexes) (admitted indexes place (setting_of given Sniff) bytes 0)
 
 -- the name has to be free
 abbrev pub opened : Files → Bool → Option Entry → List ℕ → Option Encoding → Effect

@@ -13,7 +13,7 @@ use crate::fault::Fault;
 use crate::question::Question;
 use crate::reply::Reply;
 use decoder_core::OutOfMemory;
-use enc_names::{Encoding, Labels, Setting};
+use enc_names::{Bom, Encoding, Labels, Setting};
 use index_loader::Indexes;
 use std::alloc::Global;
 use std::marker::Model;
@@ -62,18 +62,18 @@ impl<'i> Desk<'i> {
         &mut self,
         name: &str,
         given: Encoding,
+        bom: Bom,
         bytes: &[u8],
         revision: u64,
     ) -> Result<(), Fault>
         requires name { (1 ≤ length name.now) × (length name.now ≤ 64) }
         requires revision { revision ≤ max_revision }
-        ensures { Adopts self.old name.now (setting_of given) bytes.now revision result self.new }
+        ensures { Adopts self.old name.now (setting_of given bom) bytes.now revision result self.new }
     {
         if self.documents.has(name) {
             return Err(Fault::NameTaken);
         }
-        self.documents
-            .open(self.alloc, name, Setting::new(given), bytes, revision)?;
+        self.documents.open(self.alloc, name, Setting::new(given, bom), bytes, revision)?;
         Ok(())
     }
 

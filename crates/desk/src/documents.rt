@@ -109,7 +109,14 @@ impl<'i> Documents<'i> {
         if self.len() >= MAX_DOCUMENTS {
             return Err(Fault::TooManyDocuments);
         }
-        let document = Doc::open(alloc, self.indexes, setting.given, bytes, &mut meter())?;
+        let document = Doc::open(
+            alloc,
+            self.indexes,
+            setting.given,
+            setting.bom,
+            bytes,
+            &mut meter(),
+        )?;
         let opened = OpenDocument { document, revision };
         let reply = opened.open_reply();
         let name = String::from_str(alloc, name)?;

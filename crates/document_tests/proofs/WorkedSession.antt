@@ -7,6 +7,7 @@ use Rattle.std.specs.FinMap as finite
 use lib.Utf8.{encode}
 use Rattle.std.specs.declared.result.Result.TheVariants.{Ok}
 use Rattle.base64.proofs.OnLiterals.{base64_on_literals}
+use Rattle.enc_names.specs.declared.bom.Bom.TheVariants.{Sniff}
 use Rattle.enc_names.specs.declared.encoding.Encoding.TheVariants.{Utf8}
 use Rattle.enc_names.specs.Labels.{name_labels}
 use Rattle.enc_names.specs.Settings.{setting_of}
@@ -45,7 +46,7 @@ no_bytes = refl
 -- ---- what is held, and what it decodes to
 
 abbrev completed : Entry
-completed = entry (setting_of Utf8) (0xE2 ∷ 0x82 ∷ 0xAC ∷ 0x41 ∷ []) 1
+completed = entry (setting_of Utf8 Sniff) (0xE2 ∷ 0x82 ∷ 0xAC ∷ 0x41 ∷ []) 1
 
 truncated_edit : edit_reply no_files truncated ≡ Edited 0 Utf8 0
 unfolding decode
@@ -72,7 +73,7 @@ unfolding splice_fault
 past_end = refl
 
 admitting : (n : ℕ) → n ≡ 0
-    → admitted no_files (nat_lt n max_documents) (setting_of Utf8) truncated.bytes 0 ≡ Ok truncated
+    → admitted no_files (nat_lt n max_documents) (setting_of Utf8 Sniff) truncated.bytes 0 ≡ Ok truncated
 unfolding has_files open_fault
 admitting n e = rw e refl
 

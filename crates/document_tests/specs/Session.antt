@@ -1,6 +1,7 @@
 -- A worked session, without index files and with the names alone as labels.
 use Rattle.std.specs.Prelude.{List, [], ◌∷◌, codes}
 use Rattle.std.specs.FinMap.{empty}
+use Rattle.enc_names.specs.declared.bom.Bom.TheVariants.{Sniff}
 use Rattle.enc_names.specs.declared.encoding.Encoding.TheVariants.{Utf8}
 use Rattle.enc_names.specs.Labels.{name_labels}
 use Rattle.enc_names.specs.Settings.{setting_of}
@@ -15,11 +16,11 @@ use Rattle.desk.specs.declared.text_mode.TextMode.TheVariants.{Replacement}
 
 -- UTF-8 E2 82 41: an error of two bytes, and A
 abbrev pub truncated : Entry
-truncated = entry (setting_of Utf8) (0xE2 ∷ 0x82 ∷ 0x41 ∷ []) 0
+truncated = entry (setting_of Utf8 Sniff) (0xE2 ∷ 0x82 ∷ 0x41 ∷ []) 0
 
 -- UTF-8 a, U+1F600, CR, LF, b
 abbrev pub pair_and_cr_lf : Entry
-pair_and_cr_lf = entry (setting_of Utf8) (0x61 ∷ 0xF0 ∷ 0x9F ∷ 0x98 ∷ 0x80 ∷ 0x0D ∷ 0x0A ∷ 0x62 ∷ []) 0
+pair_and_cr_lf = entry (setting_of Utf8 Sniff) (0x61 ∷ 0xF0 ∷ 0x9F ∷ 0x98 ∷ 0x80 ∷ 0x0D ∷ 0x0A ∷ 0x62 ∷ []) 0
 
 -- the desk behind a command
 abbrev pub after : Office → Asked → Office

@@ -5,7 +5,7 @@ ghost use Rattle.document_tests.specs.Session.{replies_to, office_without_files,
 
 use desk::ops::{Change, Close, Open, Splice, Text};
 use desk::{Command, Desk, Fault, Reply, TextMode};
-use enc_names::{Encoding, Labels};
+use enc_names::{Bom, Encoding, Labels};
 use index_loader::Indexes;
 use position_map::{Position, Range, Unit};
 use std::alloc::Global;
@@ -92,7 +92,10 @@ fn is_closed(desk: &mut Desk<'_>, doc: &str, revision: u64) -> bool {
 /// Edits of a document at the last revision but one, and at the last.
 fn is_edited_once_more(rt: &impl Abort, desk: &mut Desk<'_>) {
     let stale = Fault::Stale { rev: LAST };
-    assert_eq!(rt; desk.adopt("d", Encoding::Utf8, b"a", LAST - 1), Ok(()));
+    assert_eq!(rt;
+        desk.adopt("d", Encoding::Utf8, Bom::Sniff, b"a", LAST - 1),
+        Ok(())
+    );
     assert!(rt; is_edited(desk, &splice("d", LAST - 1, 1), LAST));
     assert!(rt; is_refused(desk, &splice("d", LAST - 1, 9), stale));
     assert!(rt; is_refused(desk, &change("d", 7), stale));
@@ -109,7 +112,10 @@ fn is_never_edited(rt: &impl Abort, desk: &mut Desk<'_>) {
         label: "utf-8",
         bytes: "",
     });
-    assert_eq!(rt; desk.adopt("e", Encoding::Utf8, b"\xE2\x82A", LAST), Ok(()));
+    assert_eq!(rt;
+        desk.adopt("e", Encoding::Utf8, Bom::Sniff, b"\xE2\x82A", LAST),
+        Ok(())
+    );
     assert!(rt; is_refused(desk, &splice("e", LAST, 0), Fault::RevisionsSpent));
     assert!(rt; has_text(desk, "e", LAST, "\u{fffd}A"));
     assert!(rt; is_refused(desk, &open, Fault::NameTaken));
@@ -131,7 +137,10 @@ fn adopt_sixty_three(rt: &impl Abort, alloc: Global, desk: &mut Desk<'_>) -> Res
     for _ in 0..63 {
         name.push_str("d")?;
         assert!(rt; 1 <= name.len() && name.len() <= 64);
-        assert_eq!(rt; desk.adopt(name.as_str(), Encoding::Utf8, b"", 0), Ok(()));
+        assert_eq!(rt;
+            desk.adopt(name.as_str(), Encoding::Utf8, Bom::Sniff, b"", 0),
+            Ok(())
+        );
     }
     Ok(())
 }
@@ -143,15 +152,24 @@ fn adoptions_refused_in_their_order(rt: HostRuntime) -> Result<(), Fail> {
     let too_large = vec![in rt.alloc(); b'a'; 16_777_217]?;
     let utf8 = Encoding::Utf8;
     adopt_sixty_three(&rt, rt.alloc(), &mut desk)?;
-    assert_eq!(&rt; desk.adopt("e", utf8, &too_large, 7), Err(Fault::TooLarge));
-    assert_eq!(&rt; desk.adopt("e", utf8, &too_large[1..], 7), Ok(()));
+    assert_eq!(&rt;
+        desk.adopt("e", utf8, Bom::Sniff, &too_large, 7),
+        Err(Fault::TooLarge)
+    );
+    assert_eq!(&rt;
+        desk.adopt("e", utf8, Bom::Sniff, &too_large[1..], 7),
+        Ok(())
+    );
     assert!(&rt; has_text(&mut desk, "e", 7, "aa"));
     let (taken, full) = (Err(Fault::NameTaken), Err(Fault::TooManyDocuments));
-    assert_eq!(&rt; desk.adopt("d", Encoding::Big5, &too_large, 7), taken);
     assert_eq!(&rt;
-        desk.adopt("f", Encoding::Big5, &too_large, 7),
+        desk.adopt("d", Encoding::Big5, Bom::Sniff, &too_large, 7),
+        taken
+    );
+    assert_eq!(&rt;
+        desk.adopt("f", Encoding::Big5, Bom::Sniff, &too_large, 7),
         Err(Fault::NoIndex)
     );
-    assert_eq!(&rt; desk.adopt("f", utf8, &too_large, 7), full);
+    assert_eq!(&rt; desk.adopt("f", utf8, Bom::Sniff, &too_large, 7), full);
     Ok(())
 }

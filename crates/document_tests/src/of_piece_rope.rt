@@ -1,7 +1,7 @@
 //! What no op shows of a document: what a splice decodes, and which splices keep the text.
 
 use decoder_core::meter;
-use enc_names::Encoding;
+use enc_names::{Bom, Encoding};
 use index_loader::Indexes;
 use piece_rope::{Doc, DocFault};
 use std::alloc::Global;

@@ -1,7 +1,7 @@
 //! What calls on positions visit in a document of the greatest length.
 
 use decoder_core::meter;
-use enc_names::Encoding;
+use enc_names::{Bom, Encoding};
 use index_loader::Indexes;
 use piece_rope::{Axis, DOCUMENT_LIMIT, Doc};
 use position_map::{
@@ -77,7 +77,14 @@ fn few_nodes_of_32769_pieces(rt: HostRuntime) -> Result<(), Fail> {
     for _ in 0..1_048_576 {
         bytes.extend_from_slice(lines)?;
     }
-    let doc = Doc::open(alloc, &indexes, Encoding::Utf8, &bytes, &mut meter())?;
+    let doc = Doc::open(
+        alloc,
+        &indexes,
+        Encoding::Utf8,
+        Bom::Sniff,
+        &bytes,
+        &mut meter(),
+    )?;
     assert_eq!(rt; doc.lengths().bytes, 16_777_216);
     assert!(rt; count_pieces(&doc) <= 32_769);
     for hundredths in 0..101 {

@@ -3,7 +3,7 @@
 use crate::indexes::small_indexes;
 use codec::{CodecFault, Prefix, decode_whole};
 use decoder_core::{Meter, meter};
-use enc_names::Encoding;
+use enc_names::{Bom, Encoding};
 use index_loader::Indexes;
 use state_memo::{
     AnyDecoder, AnyState, Ended, OutOfMemory, Outcome, OutputState, Piece, finish_of, start_of,
@@ -78,9 +78,9 @@ fn decodes(
     text: &str,
 ) -> Result<(), Fail> {
     let indexes = small_indexes(alloc)?;
-    let whole = decode_whole(alloc, &indexes, encoding, bytes)?;
+    let whole = decode_whole(alloc, &indexes, encoding, Bom::Sniff, bytes)?;
     assert_eq!(rt; whole.text.as_str(), text);
-    let decoder = AnyDecoder::new(&indexes, encoding).ok_or(CodecFault::NoIndex)?;
+    let decoder = AnyDecoder::new(&indexes, encoding, Bom::Sniff).ok_or(CodecFault::NoIndex)?;
     Ok(decodes_cut(rt, alloc, &decoder, bytes, text)?)
 }
 
@@ -134,7 +134,7 @@ fn outcome_behind(
     bytes: &[u8],
 ) -> Result<Outcome, Fail> {
     let indexes = small_indexes(alloc)?;
-    let decoder = AnyDecoder::new(&indexes, encoding).ok_or(CodecFault::NoIndex)?;
+    let decoder = AnyDecoder::new(&indexes, encoding, Bom::Sniff).ok_or(CodecFault::NoIndex)?;
     let before = outcome_from(alloc, &decoder, start_of(&decoder), before, &mut meter())?;
     Ok(outcome_from(alloc, &decoder, before.exit, bytes, &mut meter())?)
 }
@@ -268,7 +268,7 @@ fn output_state_behind_an_escape(rt: HostRuntime) -> Result<(), Fail> {
 fn utf8_sequence_cut_short_by_the_end(rt: HostRuntime) -> Result<(), Fail> {
     let alloc = rt.alloc();
     let indexes = Indexes::new();
-    let decoder = AnyDecoder::new(&indexes, Encoding::Utf8).ok_or(CodecFault::NoIndex)?;
+    let decoder = AnyDecoder::new(&indexes, Encoding::Utf8, Bom::Sniff).ok_or(CodecFault::NoIndex)?;
     let piece = Piece::new(alloc, b"\xF0\x9F\x98")?;
     let here = piece.compute(&decoder, start_of(&decoder), &mut meter())?;
     assert_eq!(&rt; here.text.as_str(), "");
@@ -328,7 +328,7 @@ fn are_remembered(rt: &impl Abort, piece: &Piece, rows: &[(Prefix, Option<&str>)
 fn a_fifth_outcome_forgets_the_one_entered_longest_ago(rt: HostRuntime) -> Result<(), Fail> {
     let alloc = rt.alloc();
     let indexes = Indexes::new();
-    let decoder = AnyDecoder::new(&indexes, Encoding::Utf8).ok_or(CodecFault::NoIndex)?;
+    let decoder = AnyDecoder::new(&indexes, Encoding::Utf8, Bom::Sniff).ok_or(CodecFault::NoIndex)?;
     let mut piece = Piece::new(alloc, b"a")?;
     let four = [Prefix::Nothing, Prefix::Ef, Prefix::EfBb, Prefix::Fe];
     remember_each(&mut piece, &decoder, &four)?;

@@ -2,6 +2,7 @@
 //! values, and places in a document's bytes.
 #![tactic(auto)]
 
+mod bom;
 mod encoding;
 mod json;
 mod labels;
@@ -9,6 +10,7 @@ mod place;
 mod scalar;
 mod setting;
 
+pub use bom::Bom;
 pub use encoding::Encoding;
 pub use json::parse_json;
 pub use labels::{LabelFault, Labels};

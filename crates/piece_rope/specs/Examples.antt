@@ -1,5 +1,6 @@
 -- Documents of the worked examples.
 use Rattle.std.specs.Prelude.{ℕ, List}
+use Rattle.enc_names.specs.declared.bom.Bom.TheVariants.{Sniff}
 use Rattle.enc_names.specs.declared.encoding.Encoding.TheVariants.{Utf8}
 use Rattle.enc_names.specs.Settings.{setting_of}
 use Rattle.enc_names.specs.declared.place.Place.{Place}
@@ -8,7 +9,7 @@ use Rattle.piece_rope.specs.Document.{Document, document}
 
 -- a document in UTF-8, with no index file
 abbrev pub in_utf8 : List ℕ → Document
-in_utf8 bytes = document no_files (setting_of Utf8) bytes
+in_utf8 bytes = document no_files (setting_of Utf8 Sniff) bytes
 
 -- the bytes from one place to another
 abbrev pub at : ℕ → ℕ → Place

@@ -1,5 +1,6 @@
 -- Documents and index files of the worked examples of kept splices.
 use Rattle.std.specs.Prelude.{ℕ, List, [], ◌∷◌}
+use Rattle.enc_names.specs.declared.bom.Bom.TheVariants.{Sniff}
 use Rattle.enc_names.specs.declared.encoding.Encoding.{Encoding}
 use Rattle.enc_names.specs.declared.encoding.Encoding.TheVariants.{Big5, Iso2022Jp, ShiftJis}
 use Rattle.enc_names.specs.Settings.{setting_of}
@@ -21,7 +22,7 @@ abbrev pub few_files : Files
 few_files = with_index (with_index (with_index no_files jis0208) katakana) big5
 
 abbrev pub in_encoding : Encoding → List ℕ → Document
-in_encoding given bytes = document few_files (setting_of given) bytes
+in_encoding given bytes = document few_files (setting_of given Sniff) bytes
 
 -- a lead byte with no trail
 abbrev pub lead : Document

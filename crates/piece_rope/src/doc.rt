@@ -23,7 +23,7 @@ use crate::limits::{DOCUMENT_LIMIT, checked_part};
 use crate::pieces::{Pieces, built, first_bytes};
 use crate::splice::prepare_splice;
 use crate::text::text_between;
-use enc_names::{Encoding, Place, Setting};
+use enc_names::{Bom, Encoding, Place, Setting};
 use index_loader::Indexes;
 use state_memo::{
     AnyDecoder, Meter, OutOfMemory, Outcome, Sum, finish_of, law_output_at_the_end, law_pieces,
@@ -74,17 +74,18 @@ impl<'i> Doc<'i> {
         alloc: Global,
         indexes: &'i Indexes,
         encoding: Encoding,
+        bom: Bom,
         bytes: &[u8],
         meter: &mut Meter,
     ) -> Result<Doc<'i>, DocFault>
-        ensures ok { IfOk result (λ doc. doc ≡ document indexes.now (setting_of encoding) bytes.now) }
+        ensures ok { IfOk result (λ doc. doc ≡ document indexes.now (setting_of encoding bom) bytes.now) }
         ensures faults { Faults (open_fault indexes.now encoding bytes.now) result }
-        ensures meter { OnOk result (min (meter.old + (length bytes.now - mark_length (setting_of encoding) bytes.now)) (2 ^ 64 - 1) ≤ meter.new) }
+        ensures meter { OnOk result (min (meter.old + (length bytes.now - mark_length (setting_of encoding bom) bytes.now)) (2 ^ 64 - 1) ≤ meter.new) }
         ensures meter_least { meter.old ≤ meter.new }
         ensures meter_most { meter.new ≤ meter.old + length bytes.now }
         ensures meter_refused { open_fault indexes.now encoding bytes.now ≢ None → meter.new ≡ meter.old }
     {
-        let setting = Setting::new(encoding);
+        let setting = Setting::new(encoding, bom);
         let decoder = AnyDecoder::under(indexes, setting).ok_or(DocFault::NoIndex)?;
         if bytes.len() > DOCUMENT_LIMIT {
             return Err(DocFault::TooLarge);

@@ -1,5 +1,6 @@
 -- Documents and index files of the worked examples of planned changes.
 use Rattle.std.specs.Prelude.{ℕ, List, [], ◌∷◌}
+use Rattle.enc_names.specs.declared.bom.Bom.TheVariants.{Sniff}
 use Rattle.enc_names.specs.declared.encoding.Encoding.{Encoding}
 use Rattle.enc_names.specs.declared.encoding.Encoding.TheVariants.{Windows1252}
 use Rattle.index_loader.specs.declared.kind.IndexKind.TheVariants.{SingleByte}
@@ -18,7 +19,7 @@ abbrev pub few_files : Files
 few_files = with_index (with_index (with_index (with_index no_files jis0208_pairs) katakana_pairs) big5) windows_1252
 
 abbrev pub in_encoding : Encoding → List ℕ → Document
-in_encoding given bytes = document few_files (setting_of given) bytes
+in_encoding given bytes = document few_files (setting_of given Sniff) bytes
 
 -- a range on the first line
 abbrev pub on_first_line : ℕ → ℕ → Range

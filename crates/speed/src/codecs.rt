@@ -3,7 +3,7 @@
 use crate::fastest::Fastest;
 use crate::samples::{Text, copies, document, samples};
 use codec::{CodecFault, decode_whole};
-use enc_names::Encoding;
+use enc_names::{Bom, Encoding};
 use encoders::{EncodeFault, EncodeMode, encode};
 use index_files::{Failure, indexes_in};
 use index_loader::Indexes;
@@ -91,7 +91,7 @@ fn fastest_decoding(
         // Freed before the clock is looked at, so that each round finds the same memory.
         last = None;
         let start = Instant::now(rt)?;
-        let decoded = match decode_whole(rt.alloc(), indexes, encoding, document) {
+        let decoded = match decode_whole(rt.alloc(), indexes, encoding, Bom::Sniff, document) {
             Ok(decoded) => decoded,
             Err(CodecFault::NoIndex) => return Ok(None),
             Err(CodecFault::OutOfMemory) => return Err(Failure::OutOfMemory),

@@ -2,6 +2,7 @@
 #![tactic(auto, unfolding(decoder_core::specs::Queue::run, decoder_core::specs::Queue::turns, decoder_core::specs::Queue::feed, decoder_core::specs::Queue::feed_for, codec::specs::Decode::decode, codec::specs::Behind::state_behind))]
 
 ghost use Rattle.std.specs.Prelude.{◌≡◌, [], ◌∷◌};
+ghost use Rattle.enc_names.specs.declared.bom.Bom.TheVariants.{Sniff};
 ghost use Rattle.enc_names.specs.declared.encoding.Encoding.TheVariants.{Utf8, Replacement, Utf16Be, Utf16Le};
 ghost use Rattle.enc_names.specs.Settings.{setting_of};
 ghost use Rattle.index_loader.specs.Files.{no_files};
@@ -15,21 +16,21 @@ ghost use Rattle.codec.specs.Decode.{decode};
 
 /// A mark puts its encoding in force, and isn't part of the text.
 fn marks()
-    ensures utf16_be { decode no_files (setting_of Utf16Le) (0xFE ∷ 0xFF ∷ 0x00 ∷ 0x41 ∷ []) ≡ record { encoding = Utf16Be; bom = 2; items = record { item = One 0x41; from = 2; to = 4 } ∷ [] } }
-    ensures utf8 { decode no_files (setting_of Replacement) (0xEF ∷ 0xBB ∷ 0xBF ∷ 0x41 ∷ []) ≡ record { encoding = Utf8; bom = 3; items = record { item = One 0x41; from = 3; to = 4 } ∷ [] } }
-    ensures utf16_le { decode no_files (setting_of Utf8) (0xFF ∷ 0xFE ∷ []) ≡ record { encoding = Utf16Le; bom = 2; items = [] } }
+    ensures utf16_be { decode no_files (setting_of Utf16Le Sniff) (0xFE ∷ 0xFF ∷ 0x00 ∷ 0x41 ∷ []) ≡ record { encoding = Utf16Be; bom = 2; items = record { item = One 0x41; from = 2; to = 4 } ∷ [] } }
+    ensures utf8 { decode no_files (setting_of Replacement Sniff) (0xEF ∷ 0xBB ∷ 0xBF ∷ 0x41 ∷ []) ≡ record { encoding = Utf8; bom = 3; items = record { item = One 0x41; from = 3; to = 4 } ∷ [] } }
+    ensures utf16_le { decode no_files (setting_of Utf8 Sniff) (0xFF ∷ 0xFE ∷ []) ≡ record { encoding = Utf16Le; bom = 2; items = [] } }
 {}
 
 /// The beginning of a mark is none.
 fn half_a_mark()
-    ensures { decode no_files (setting_of Utf8) (0xEF ∷ 0xBB ∷ []) ≡ record { encoding = Utf8; bom = 0; items = record { item = Error; from = 0; to = 2 } ∷ [] } }
+    ensures { decode no_files (setting_of Utf8 Sniff) (0xEF ∷ 0xBB ∷ []) ≡ record { encoding = Utf8; bom = 0; items = record { item = Error; from = 0; to = 2 } ∷ [] } }
 {}
 
 /// The bytes themselves while they may become a mark, and then a state of the encoding in force.
 fn states_behind_bytes()
-    ensures none { state_behind no_files (setting_of Utf8) [] ≡ Sniffing Nothing }
-    ensures half { state_behind no_files (setting_of Utf16Be) (0xEF ∷ 0xBB ∷ []) ≡ Sniffing EfBb }
-    ensures mark { state_behind no_files (setting_of Utf16Be) (0xEF ∷ 0xBB ∷ 0xBF ∷ []) ≡ in_utf8 utf8_start }
-    ensures text { state_behind no_files (setting_of Utf8) (0x41 ∷ []) ≡ in_utf8 utf8_start }
-    ensures another { state_behind no_files (setting_of Utf8) (0xFE ∷ 0xFF ∷ []) ≡ in_utf16_be utf16_start }
+    ensures none { state_behind no_files (setting_of Utf8 Sniff) [] ≡ Sniffing Nothing }
+    ensures half { state_behind no_files (setting_of Utf16Be Sniff) (0xEF ∷ 0xBB ∷ []) ≡ Sniffing EfBb }
+    ensures mark { state_behind no_files (setting_of Utf16Be Sniff) (0xEF ∷ 0xBB ∷ 0xBF ∷ []) ≡ in_utf8 utf8_start }
+    ensures text { state_behind no_files (setting_of Utf8 Sniff) (0x41 ∷ []) ≡ in_utf8 utf8_start }
+    ensures another { state_behind no_files (setting_of Utf8 Sniff) (0xFE ∷ 0xFF ∷ []) ≡ in_utf16_be utf16_start }
 {}

@@ -3,7 +3,7 @@
 use crate::indexes::small_indexes;
 use codec::{AnyDecoder, AnyState, CodecFault, Prefix};
 use decoder_core::Decoder;
-use enc_names::Encoding;
+use enc_names::{Bom, Encoding};
 use iso2022jp::OutputState;
 use std::test::Fail;
 
@@ -32,8 +32,8 @@ const BOTH: [(&[u8], &[u8], bool); 4] = [
 #[test]
 fn states_behind_a_mark_are_those_of_its_encoding(rt: HostRuntime) -> Result<(), Fail> {
     let indexes = small_indexes(rt.alloc())?;
-    let utf8 = AnyDecoder::new(&indexes, Encoding::Utf8).ok_or(CodecFault::NoIndex)?;
-    let jis = AnyDecoder::new(&indexes, Encoding::ShiftJis).ok_or(CodecFault::NoIndex)?;
+    let utf8 = AnyDecoder::new(&indexes, Encoding::Utf8, Bom::Sniff).ok_or(CodecFault::NoIndex)?;
+    let jis = AnyDecoder::new(&indexes, Encoding::ShiftJis, Bom::Sniff).ok_or(CodecFault::NoIndex)?;
     assert!(rt;
         has_begun(&jis, b"", Prefix::Nothing) && has_begun(&jis, b"\xEF\xBB", Prefix::EfBb)
     );
@@ -55,11 +55,11 @@ const OUTPUTS: [(&[u8], OutputState); 5] = [
 #[test]
 fn output_state_behind_escapes(rt: HostRuntime) -> Result<(), Fail> {
     let indexes = small_indexes(rt.alloc())?;
-    let jp = AnyDecoder::new(&indexes, Encoding::Iso2022Jp).ok_or(CodecFault::NoIndex)?;
+    let jp = AnyDecoder::new(&indexes, Encoding::Iso2022Jp, Bom::Sniff).ok_or(CodecFault::NoIndex)?;
     for (bytes, output) in OUTPUTS {
         assert!(rt; state_behind(&jp, bytes).output() == output);
     }
-    let utf8 = AnyDecoder::new(&indexes, Encoding::Utf8).ok_or(CodecFault::NoIndex)?;
+    let utf8 = AnyDecoder::new(&indexes, Encoding::Utf8, Bom::Sniff).ok_or(CodecFault::NoIndex)?;
     assert!(rt; state_behind(&utf8, b"A").output() == OutputState::Ascii);
     Ok(())
 }

@@ -5,7 +5,7 @@ use crate::budget::all_but;
 use crate::cases::repeated;
 use crate::outcome::TrialOutcome;
 use decoder_core::{Meter, meter};
-use enc_names::Encoding;
+use enc_names::{Bom, Encoding};
 use index_loader::Indexes;
 use piece_rope::{Doc, DocFault};
 use position_map::{ChangeFault, Plan, Position, Range, Unit, plan_change};
@@ -36,7 +36,15 @@ const TEXT: &str = "\u{4E9C} text \u{3042}\u{3042} text \u{4E9C}\u{4E9C}";
 /// The document; `None` where memory is refused.
 fn opened<'i>(alloc: Global, indexes: &'i Indexes) -> Option<Doc<'i>> {
     let bytes = repeated(alloc, PATTERN, LENGTH)?;
-    Doc::open(alloc, indexes, Encoding::Iso2022Jp, &bytes, &mut meter()).ok()
+    Doc::open(
+        alloc,
+        indexes,
+        Encoding::Iso2022Jp,
+        Bom::Sniff,
+        &bytes,
+        &mut meter(),
+    )
+    .ok()
 }
 
 /// The plan.

@@ -6,7 +6,7 @@ use crate::cases::repeated;
 use crate::outcome::TrialOutcome;
 use codec::{CodecFault, Decoded, decode_fatal, decode_whole};
 use decoder_core::{Decoder, Utf8Decoder, meter, run_piece};
-use enc_names::Encoding;
+use enc_names::{Bom, Encoding};
 use index_loader::Indexes;
 use std::alloc::Global;
 
@@ -26,9 +26,9 @@ const UTF_8: &[u8] = b"\xE2\x82\xAC\xE2\x82\x80\x80";
 pub fn whole(alloc: Global, indexes: &Indexes, budget: usize) -> Option<TrialOutcome> {
     let bytes = repeated(alloc, ERRORS, LENGTH)?;
     let room = all_but(alloc, budget)?;
-    let first = decode_whole(alloc, indexes, Encoding::EucKr, &bytes);
+    let first = decode_whole(alloc, indexes, Encoding::EucKr, Bom::Sniff, &bytes);
     drop(room);
-    let wanted = decode_whole(alloc, indexes, Encoding::EucKr, &bytes).ok()?;
+    let wanted = decode_whole(alloc, indexes, Encoding::EucKr, Bom::Sniff, &bytes).ok()?;
     Some(match first {
         Ok(decoded) if is_same(&decoded, &wanted) => TrialOutcome::Same,
         Err(CodecFault::OutOfMemory) => TrialOutcome::Refused,
@@ -49,9 +49,9 @@ fn is_same(decoded: &Decoded, wanted: &Decoded) -> bool {
 pub fn fatal(alloc: Global, indexes: &Indexes, budget: usize) -> Option<TrialOutcome> {
     let bytes = repeated(alloc, NO_ERRORS, LENGTH)?;
     let room = all_but(alloc, budget)?;
-    let first = decode_fatal(alloc, indexes, Encoding::EucKr, &bytes);
+    let first = decode_fatal(alloc, indexes, Encoding::EucKr, Bom::Sniff, &bytes);
     drop(room);
-    let wanted = decode_fatal(alloc, indexes, Encoding::EucKr, &bytes).ok()?;
+    let wanted = decode_fatal(alloc, indexes, Encoding::EucKr, Bom::Sniff, &bytes).ok()?;
     Some(match first {
         Ok(text) if text.as_str() == wanted.as_str() => TrialOutcome::Same,
         Err(CodecFault::OutOfMemory) => TrialOutcome::Refused,

@@ -4,7 +4,7 @@ use crate::budget::all_but;
 use crate::outcome::{TrialOutcome, outcome_if};
 use desk::ops::Stat;
 use desk::{Command, Desk, Fault, Reply};
-use enc_names::{Encoding, Labels};
+use enc_names::{Bom, Encoding, Labels};
 use index_loader::Indexes;
 use std::alloc::Global;
 
@@ -21,13 +21,14 @@ const OTHER: u64 = 3;
 fn with_other<'i>(alloc: Global, indexes: &'i Indexes) -> Option<Desk<'i>> {
     let labels = Labels::names(alloc).ok()?;
     let mut desk = Desk::new(alloc, indexes, labels).ok()?;
-    desk.adopt("other", Encoding::Utf8, b"abc", 1).ok()?;
+    desk.adopt("other", Encoding::Utf8, Bom::Sniff, b"abc", 1)
+        .ok()?;
     Some(desk)
 }
 
 /// Adopts the document.
 fn adopt_on(desk: &mut Desk<'_>) -> Result<(), Fault> {
-    desk.adopt("adopted", Encoding::ShiftJis, BYTES, REVISION)
+    desk.adopt("adopted", Encoding::ShiftJis, Bom::Sniff, BYTES, REVISION)
 }
 
 /// How long a document is, with its revision, if it is open.

@@ -4,7 +4,7 @@ use crate::budget::all_but;
 use crate::cases::repeated;
 use crate::outcome::TrialOutcome;
 use decoder_core::meter;
-use enc_names::Encoding;
+use enc_names::{Bom, Encoding};
 use index_loader::Indexes;
 use state_memo::{AnyDecoder, AnyState, Outcome as Decoded, Piece, finish_of, start_of};
 use std::alloc::Global;
@@ -40,7 +40,7 @@ pub fn new(alloc: Global, budget: usize) -> Option<TrialOutcome> {
 pub fn compute(alloc: Global, indexes: &Indexes, budget: usize) -> Option<TrialOutcome> {
     let bytes = bytes_of(alloc)?;
     let piece = Piece::new(alloc, &bytes).ok()?;
-    let decoder = AnyDecoder::new(indexes, Encoding::Iso2022Jp)?;
+    let decoder = AnyDecoder::new(indexes, Encoding::Iso2022Jp, Bom::Sniff)?;
     let outcome = computed_under(alloc, &decoder, &piece, budget)?;
     let remembers = piece.peek(start_of(&decoder)).is_some();
     Some(if piece.bytes() == bytes.as_slice() && !remembers {
@@ -72,7 +72,7 @@ fn computed_under(
 /// `finish_of`, in the state behind the piece.
 pub fn finish(alloc: Global, indexes: &Indexes, budget: usize) -> Option<TrialOutcome> {
     let bytes = bytes_of(alloc)?;
-    let decoder = AnyDecoder::new(indexes, Encoding::Iso2022Jp)?;
+    let decoder = AnyDecoder::new(indexes, Encoding::Iso2022Jp, Bom::Sniff)?;
     let state = behind(alloc, &decoder, &bytes)?;
     let room = all_but(alloc, budget)?;
     let first = finish_of(alloc, &decoder, state);

@@ -3,7 +3,7 @@
 use crate::budget::all_but;
 use crate::outcome::TrialOutcome;
 use desk::Desk;
-use enc_names::{Encoding, Labels};
+use enc_names::{Bom, Encoding, Labels};
 use gateway::{Event, Gateway, MemFeed, MemOutlet, TraceFault, trace};
 use index_loader::Indexes;
 use std::alloc::Global;
@@ -29,7 +29,8 @@ const REFUSED: [&[u8]; 3] = [
 fn with_document<'i>(alloc: Global, indexes: &'i Indexes) -> Option<Gateway<'i>> {
     let labels = Labels::names(alloc).ok()?;
     let mut desk = Desk::new(alloc, indexes, labels).ok()?;
-    desk.adopt("d", Encoding::Utf8, b"\xE2\x82A", 0).ok()?;
+    desk.adopt("d", Encoding::Utf8, Bom::Sniff, b"\xE2\x82A", 0)
+        .ok()?;
     Some(Gateway::new(alloc, desk))
 }
 

@@ -8,7 +8,7 @@ use crate::base64_text::bytes_of;
 use crate::desk::Desk;
 use crate::fault::Fault;
 use crate::reply::Reply;
-use enc_names::Setting;
+use enc_names::{Bom, Setting};
 
 /// Opens a document at revision 0.
 #[derive(Clone, Copy)]
@@ -32,7 +32,7 @@ impl Desk<'_> {
         }
         match self.labels.lookup(command.label.as_bytes()) {
             Some(given) => {
-                let setting = Setting::new(given);
+                let setting = Setting::new(given, Bom::Sniff);
                 self.documents
                     .open(self.alloc, command.doc, setting, &bytes, 0)
             }

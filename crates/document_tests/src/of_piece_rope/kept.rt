@@ -76,7 +76,14 @@ fn is_answered(
 ) -> Result<(), Fail> {
     let indexes = small_indexes(alloc)?;
     let bytes = between(alloc, front, case.bytes, back)?;
-    let mut doc = Doc::open(alloc, &indexes, case.given, &bytes, &mut meter())?;
+    let mut doc = Doc::open(
+        alloc,
+        &indexes,
+        case.given,
+        Bom::Sniff,
+        &bytes,
+        &mut meter(),
+    )?;
     is_made_or_refused(rt, &mut doc, case, front);
     Ok(is_left(rt, alloc, &doc, case, front, back)?)
 }

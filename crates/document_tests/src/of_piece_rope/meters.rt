@@ -15,7 +15,14 @@ fn raised(doc: &mut Doc<'_>, at: u64, del: u64, ins: &[u8]) -> Result<u64, DocFa
 fn one_byte_into_a_mebibyte(rt: HostRuntime) -> Result<(), Fail> {
     let indexes = Indexes::new();
     let bytes = vec![in rt.alloc(); b'a'; 1_048_576]?;
-    let mut doc = Doc::open(rt.alloc(), &indexes, Encoding::Utf8, &bytes, &mut meter())?;
+    let mut doc = Doc::open(
+        rt.alloc(),
+        &indexes,
+        Encoding::Utf8,
+        Bom::Sniff,
+        &bytes,
+        &mut meter(),
+    )?;
     for at in [0, 1, 524_288, 1_048_576] {
         let raised = raised(&mut doc, at, 0, b"a")?;
         assert!(&rt; raised <= 8193, "{raised} bytes decoded for one at {at}");
@@ -30,7 +37,14 @@ fn shift_taken_away_changes_all_behind_it(rt: HostRuntime) -> Result<(), Fail> {
     let indexes = small_indexes(rt.alloc())?;
     let given = Encoding::Iso2022Jp;
     let bytes = behind_letters(rt.alloc(), 5000, &[0x5C])?;
-    let mut doc = Doc::open(rt.alloc(), &indexes, given, &bytes, &mut meter())?;
+    let mut doc = Doc::open(
+        rt.alloc(),
+        &indexes,
+        given,
+        Bom::Sniff,
+        &bytes,
+        &mut meter(),
+    )?;
     doc.splice(0, 0, &[0x1B, 0x28, 0x4A], &mut meter())?;
     has_text(&rt, &doc, 5000, 5001, "\u{A5}")?;
     let raised = raised(&mut doc, 0, 3, &[])?;
@@ -42,7 +56,14 @@ fn shift_taken_away_changes_all_behind_it(rt: HostRuntime) -> Result<(), Fail> {
 #[test]
 fn splice_far_past_the_end_decodes_nothing(rt: HostRuntime) -> Result<(), Fail> {
     let indexes = Indexes::new();
-    let mut doc = Doc::open(rt.alloc(), &indexes, Encoding::Utf8, b"a", &mut meter())?;
+    let mut doc = Doc::open(
+        rt.alloc(),
+        &indexes,
+        Encoding::Utf8,
+        Bom::Sniff,
+        b"a",
+        &mut meter(),
+    )?;
     let mut spent = meter();
     let refused = doc.splice(u64::MAX, 1, &[], &mut spent).err();
     assert_eq!(&rt; refused, Some(DocFault::OutOfRange));
@@ -60,7 +81,14 @@ fn remembered_states(rt: HostRuntime) -> Result<(), Fail> {
         bytes.extend_from_slice(&[0x41, 0x00])?;
     }
     let given = Encoding::Utf16Le;
-    let mut doc = Doc::open(rt.alloc(), &indexes, given, &bytes, &mut meter())?;
+    let mut doc = Doc::open(
+        rt.alloc(),
+        &indexes,
+        given,
+        Bom::Sniff,
+        &bytes,
+        &mut meter(),
+    )?;
     doc.splice(4, 0, &[0x00], &mut meter())?;
     let raised = raised(&mut doc, 4, 1, &[])?;
     assert!(&rt; raised <= 8192, "{raised} bytes decoded");
