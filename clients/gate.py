@@ -150,9 +150,10 @@ class Gate:
         """Sends a command, and returns the members of its reply. Raises `Fault` for a refusal."""
         return self.send(op, **fields).get()
 
-    def open(self, name: str, label: str, content: bytes) -> "Document":
-        """Opens a document of these bytes, one that is larger than a line has room for by parts."""
-        return Document(self, name, label, content)
+    def open(self, name: str, label: str, content: bytes, bom: str = "sniff") -> "Document":
+        """Opens a document of these bytes, one that is larger than a line has room for by parts. Where `bom` is "keep", a
+        byte order mark isn't looked for, and its bytes are text like others."""
+        return Document(self, name, label, content, bom)
 
     def close(self) -> None:
         """Ends the connection, and a program that was started for it."""
@@ -174,12 +175,12 @@ class Edit:
 
 
 class Document:
-    """A document of `gate`: its bytes, revision, encoding in force and the length of its byte order mark, as they are
-    now."""
+    """A document of `gate`: its bytes, revision, encoding in force and the length of its byte order mark, which is 0
+    where a mark is kept as text, as they are now."""
 
-    def __init__(self, gate: Gate, name: str, label: str, content: bytes, room: int = ROOM):
+    def __init__(self, gate: Gate, name: str, label: str, content: bytes, bom: str = "sniff", room: int = ROOM):
         self._gate, self.name, self.bytes = gate, name, content
-        self._take(gate.ask("open", doc=name, label=label, bytes=_base64(content[:room])))
+        self._take(gate.ask("open", doc=name, label=label, bytes=_base64(content[:room]), bom=bom))
         for at in range(room, len(content), room):
             part = _base64(content[at : at + room])
             self._take(gate.ask("splice", doc=name, rev=self.rev, at=at, bytes=part, **{"del": 0}))

@@ -64,6 +64,15 @@ class Examples(unittest.TestCase):
         path = self.file("a", b"\x82\xa0")
         self.assertEqual(self.run_example("convert.py", INDEXES, "shift_jis", "euc-jp", path).stdout, b"\xa4\xa2")
 
+    def test_convert_leaves_a_mark_out_or_converts_it(self):
+        path = self.file("a", b"\xef\xbb\xbfA")
+        # A mark found is UTF-8's, whatever label is given; one kept is in that label's encoding, here FE FF in UTF-16BE.
+        self.assertEqual(self.run_example("convert.py", INDEXES, "windows-1252", "utf-16be", path).stdout, b"\0A")
+        self.assertEqual(self.run_example("convert.py", "--keep-mark", INDEXES, "utf-8", "utf-16be", path).stdout, b"\xfe\xff\0A")
+        ran = self.run_example("convert.py", "--keep-mark", INDEXES, "utf-8", "windows-1252", path)
+        message = ", line 1, character 1: Unencodable code_point=65279 index=0"
+        self.assertEqual((ran.returncode, ran.stdout, ran.stderr.decode()), (1, b"", f"{path}{message}\n"))
+
     def test_convert_refuses_with_the_place(self):
         for label, target, content, message in [
             ("utf-8", "windows-1252", "a\nbあ".encode(), ", line 2, character 2: Unencodable code_point=12354 index=3"),

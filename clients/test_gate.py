@@ -75,6 +75,22 @@ class Documents(unittest.TestCase):
         document = Document(self.gate, "d", "utf-8", content, room=7)
         self.assertEqual((document.text(), document.source(), document.errors()), (content.decode(), content, []))
 
+    def test_a_mark_that_is_kept_is_text(self):
+        content = b"\xef\xbb\xbfA"
+        found = self.gate.open("found", "windows-1252", content)
+        self.assertEqual((found.text(), found.encoding, found.bom), ("A", "UTF-8", 3))
+        kept = self.gate.open("kept", "utf-8", content, bom="keep")
+        self.assertEqual((kept.text(), kept.encoding, kept.bom), ("\ufeffA", "UTF-8", 0))
+        kept.undo(kept.change("\ufeffx"))
+        self.assertEqual((kept.bytes, kept.source(), kept.bom), (content, content, 0))
+        with self.assertRaises(Fault) as refused:
+            self.gate.open("neither", "utf-8", content, bom="drop")
+        self.assertEqual((refused.exception.name, refused.exception.members), ("BadRequest", {"field": "bom"}))
+
+    def test_parts_of_a_kept_mark(self):
+        document = Document(self.gate, "d", "utf-8", b"\xef\xbb\xbfA", bom="keep", room=1)
+        self.assertEqual((document.text(), document.bom, document.errors()), ("\ufeffA", 0, []))
+
     def test_more_commands_than_the_window(self):
         document = self.gate.open("d", "utf-8", b"a" * 1000)
         replies = [self.gate.send("text", doc="d", **{"from": at, "to": 1000}) for at in range(4 * WINDOW)]

@@ -1,9 +1,11 @@
 #!/usr/bin/env python3
 """Converts a file to another encoding, on standard output.
 
-    examples/convert.py INDEXES FROM TO FILE
+    examples/convert.py [--keep-mark] INDEXES FROM TO FILE
 
-A file with an error, or with a character that the other encoding lacks, is refused with its place."""
+A file with an error, or with a character that the other encoding lacks, is refused with its place. A byte order mark says
+which encoding the file has, and is left out; with --keep-mark the file is in FROM whatever it begins with, and a mark
+is converted like the text behind it."""
 import os
 import pathlib
 import sys
@@ -14,9 +16,9 @@ sys.path.insert(0, str(TOP / "clients"))
 from gate import Fault, Gate
 
 
-def main(indexes, label, target, path):
+def main(bom, indexes, label, target, path):
     with Gate.start(PROGRAM, "stdio", "--indexes", indexes) as gate:
-        document = gate.open("file", label, pathlib.Path(path).read_bytes())
+        document = gate.open("file", label, pathlib.Path(path).read_bytes(), bom)
         errors = document.errors()
         if errors:
             sys.exit(f"{path}: {len(errors)} errors, the first at bytes {errors[0][0]} to {errors[0][1]}")
@@ -29,6 +31,8 @@ def main(indexes, label, target, path):
             sys.exit(f"{path}, line {line + 1}, character {character + 1}: {fault}")
 
 
-if len(sys.argv) != 5:
+words = sys.argv[1:]
+rest = [it for it in words if it != "--keep-mark"]
+if len(rest) != 4:
     sys.exit(__doc__)
-main(*sys.argv[1:])
+main("keep" if "--keep-mark" in words else "sniff", *rest)

@@ -34,8 +34,8 @@ def fault(name):
     return b'{"fault":"%s","id":1}' % name
 
 
-def opens(content, name=b"new", label=b"utf-8"):
-    return b'{"id":1,"op":"open","doc":"%s","label":"%s","bytes":"%s"}' % (name, label, content)
+def opens(content, name=b"new", label=b"utf-8", more=b""):
+    return b'{"id":1,"op":"open","doc":"%s","label":"%s","bytes":"%s"%s}' % (name, label, content, more)
 
 
 def levels(depth):
@@ -131,6 +131,12 @@ LINES = [
     ("a document of 16,777,216 bytes", *by_parts(LARGEST, None)),
     ("a document of 16,777,217 bytes", *by_parts(LARGEST + 1, fault(b"TooLarge"))),
     ("a label of a megabyte", opens(b"", label=b"x" * (1 << 20)), fault(b"UnknownLabel")),
+    ("a mark that is neither looked for nor kept", opens(b"77u/", more=b',"bom":"drop"'), bad("bom", 1)),
+    ("a mark kept with U+0000 behind it", opens(b"77u/", more=b',"bom":"keep\\u0000"'), bad("bom", 1)),
+    ("a mark kept by a megabyte of text", opens(b"77u/", more=b',"bom":"%s"' % (b"keep" * (1 << 18))), bad("bom", 1)),
+    ("a mark kept at 100 levels", opens(b"77u/", more=b',"bom":%s"keep"%s' % (b"[" * 100, b"]" * 100)), bad("bom", 1)),
+    ("a mark of null, beside base64 that is none", opens(b"Q", more=b',"bom":null'), bad("bom", 1)),
+    ("a mark kept, in an encoding that isn't the mark's", opens(b"77u/", label=b"utf-16be", more=b',"bom":"keep"'), b'{"bom":0,"encoding":"UTF-16BE","id":1,"rev":0}'),
     ("a list of 1,001 changes", changes(b'{"text":"x"}', 1001), bad("changes", 1)),
     ("a list of a million numbers", changes(b"0", 1000000), bad("changes", 1)),
     ("a list of 1,000 changes, of which the last is none", changes(b'{"text":"x"}', 999, b"{}"), bad("changes", 1)),

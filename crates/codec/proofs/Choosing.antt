@@ -25,6 +25,7 @@ use Rattle.codec.specs.Coding.{coding, coding_run}
 use Rattle.codec.specs.Decode.{decode, run_in}
 use Rattle.codec.specs.Mark.{Mark, mark_of, mark_under, in_force, mark_length}
 use Rattle.codec.specs.Sniffing.{prefix_under}
+use Rattle.codec.proofs.Looking.{by_bom}
 
 -- a decoder does what is wanted of it
 abbrev pub Is : (List ℕ → List Ended) → (List ℕ → AnyState) → Standing → Type 0
@@ -98,17 +99,18 @@ absent files setting there = none (decoder_in files setting) ((chosen files sett
 
 -- ---- behind a byte order mark
 
-by_mark : (P : Option Mark → Type 0) (bytes : List ℕ) → P (Some (record { encoding = Utf8; len = 3 }))
-    → P (Some (record { encoding = Utf16Be; len = 2 })) → P (Some (record { encoding = Utf16Le; len = 2 })) → P None → P (mark_of bytes)
-by_mark P bytes utf8 utf16_be utf16_le none =
-    by_if P (starts_with eqb bytes (0xEF ∷ 0xBB ∷ 0xBF ∷ [])) utf8
-    (by_if P (starts_with eqb bytes (0xFE ∷ 0xFF ∷ [])) utf16_be (by_if P (starts_with eqb bytes (0xFF ∷ 0xFE ∷ [])) utf16_le none))
+by_mark : (P : Option Mark → Type 0) (setting : Setting) (bytes : List ℕ) → P (Some (record { encoding = Utf8; len = 3 }))
+    → P (Some (record { encoding = Utf16Be; len = 2 })) → P (Some (record { encoding = Utf16Le; len = 2 })) → P None → P (mark_under setting bytes)
+by_mark P setting bytes utf8 utf16_be utf16_le none =
+    by_bom P setting.bom (mark_of bytes) none
+    (by_if P (starts_with eqb bytes (0xEF ∷ 0xBB ∷ 0xBF ∷ [])) utf8
+    (by_if P (starts_with eqb bytes (0xFE ∷ 0xFF ∷ [])) utf16_be (by_if P (starts_with eqb bytes (0xFF ∷ 0xFE ∷ [])) utf16_le none)))
 
 module _ (files : Files) (setting : Setting) (d : AnyDecoding) (does : IsUnder files setting d) where
   -- the decoder in force is that of the encoding in force
   forced : (bytes : List ℕ) → let e = in_force setting bytes in Is (run_in files e) (state_in files e) (in_force_of d (mark_under setting bytes))
   forced bytes =
-      by_mark (λ mark. let e = unwrap_or (option_map (λ (m : Mark). m.encoding) mark) setting.given in Is (run_in files e) (state_in files e) (in_force_of d mark)) bytes
+      by_mark (λ mark. let e = unwrap_or (option_map (λ (m : Mark). m.encoding) mark) setting.given in Is (run_in files e) (state_in files e) (in_force_of d mark)) setting bytes
       (refl, refl) (refl, refl) (refl, refl) does.own
 
   pub decodes : (bytes : List ℕ) → places (length bytes) (mark_length setting bytes) (run_behind d bytes (mark_under d.setting bytes)) ≡ (decode files setting bytes).items

@@ -1,13 +1,16 @@
 -- What a decoder does that looks for a byte order mark first.
-use Rattle.std.proofs.Common.{◌≡◌, refl, sym, subst, ◌∙◌, ℕ, false, ◌==◌, List, [], ◌∷◌, ◌++◌, Some, None, inl, inr}
+use Rattle.std.proofs.Common.{◌≡◌, refl, sym, subst, ◌∙◌, ℕ, false, ◌==◌, List, [], ◌∷◌, ◌++◌, Option, Some, None, option_map, inl, inr}
 use Rattle.std.proofs.lemmas.Bool.Decides.{eqb_tells}
+use Rattle.std.specs.Option.{unwrap_or}
+use Rattle.enc_names.specs.declared.bom.Bom.{Bom}
+use Rattle.enc_names.specs.declared.bom.Bom.TheVariants.{Sniff, Keep}
 use Rattle.decoder_core.specs.Utf8.{utf8_start}
 use Rattle.decoder_core.specs.Utf16.{utf16_start}
 use Rattle.codec.specs.declared.prefix.Prefix.{Prefix}
 use Rattle.codec.specs.declared.prefix.Prefix.TheVariants.{Nothing, Ef, EfBb, Fe, Ff}
 use Rattle.codec.specs.declared.state.AnyState.{AnyState}
 use Rattle.codec.specs.declared.state.AnyState.TheVariants.{Sniffing as in_sniffing, Utf8 as in_utf8, Utf16Be as in_utf16_be, Utf16Le as in_utf16_le}
-use Rattle.codec.specs.Mark.{mark_of}
+use Rattle.codec.specs.Mark.{Mark, mark_of, if_sniffed}
 use Rattle.codec.specs.Sniffing.{spelt, prefix_of, sniffing}
 
 by_byte : (P : ℕ → Type 0) (k b : ℕ) → P k → ((b == k) ≡ false → (k == b) ≡ false → P b) → P b
@@ -15,6 +18,18 @@ by_byte P k b hit miss = elim (eqb_tells b k) [
   | inl same ↦ subst P (sym same.1) hit
   | inr other ↦ elim (eqb_tells k b) [ inl same ↦ absurd (other.1 (sym same.1)) | inr turned ↦ miss other.0 turned.0 ]
 ]
+
+-- what holds of nothing and of what is found holds of what counts
+pub by_bom : {A : Type 0} (P : Option A → Type 0) (bom : Bom) (found : Option A) → P None → P found → P (if_sniffed bom found)
+by_bom P Sniff found none some = some
+by_bom P Keep found none some = none
+
+-- where no mark is looked for, the encoding's own decoder begins at once
+pub begun : {A : Type 0} (start : AnyState) (at : AnyState → A) (wanted : Option Prefix → Option Mark → A) (bom : Bom) (prefix : Option Prefix) (mark : Option Mark)
+    → at (in_sniffing Nothing) ≡ wanted prefix mark → at start ≡ wanted None None
+    → at (unwrap_or (option_map in_sniffing (if_sniffed bom (Some Nothing))) start) ≡ wanted (if_sniffed bom prefix) (if_sniffed bom mark)
+begun start at wanted Sniff prefix mark looked own = looked
+begun start at wanted Keep prefix mark looked own = own
 
 -- what looks like the beginning of a mark is none
 pub spelt-looks : (p : Prefix) → (prefix_of (spelt p) ≡ Some p) × (mark_of (spelt p) ≡ None)

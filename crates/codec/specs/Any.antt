@@ -1,4 +1,4 @@
--- One decoder for all encodings: each encoding's own decoder, as one among them all, behind the look for a byte order mark.
+-- One decoder for all encodings: each encoding's own decoder, as one among them all, behind the look for a byte order mark if there is one.
 use Rattle.std.specs.Prelude.{List, ℕ, drop, Option, Some, None, option_map}
 use Rattle.std.specs.Option.{unwrap_or}
 use Rattle.enc_names.specs.declared.encoding.Encoding.{Encoding}
@@ -20,7 +20,7 @@ use Rattle.codec.specs.declared.own.OwnDecoder.{OwnDecoder}
 use Rattle.codec.specs.declared.own.OwnDecoder.TheVariants as by
 use Rattle.codec.specs.Coding.{Coding, coding, coding_run, coding_state}
 use Rattle.codec.specs.Lifted.{lifted}
-use Rattle.codec.specs.Mark.{Mark}
+use Rattle.codec.specs.Mark.{Mark, if_sniffed}
 use Rattle.codec.specs.Sniffed.{sniffed}
 
 -- the output state of ISO-2022-JP, which is ASCII in every other encoding
@@ -113,9 +113,10 @@ given_start d = (standing_of d).start
 abbrev pub any : AnyDecoding → Table AnyState
 any d = sniffed (given_start d.own) (given d.own)
 
--- the state before the first byte under a setting, where `own` is the first one of the encoding given: each looks for a byte order mark
+-- the state before the first byte under a setting, where `own` is the first one of the encoding given: that of the look for a mark, if
+-- one is looked for
 abbrev pub start_under : Setting → AnyState → AnyState
-start_under setting own = state.Sniffing Nothing
+start_under setting own = unwrap_or (option_map state.Sniffing (if_sniffed setting.bom (Some Nothing))) own
 
 abbrev pub any_start : AnyDecoding → AnyState
 any_start d = start_under d.setting (given_start d.own)

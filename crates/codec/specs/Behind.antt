@@ -14,8 +14,8 @@ use Rattle.codec.specs.Sniffing.{prefix_under}
 abbrev pub state_in : Files → Encoding → List ℕ → AnyState
 state_in files encoding = (standing (indexes_of files encoding)).state
 
--- the bytes themselves while they are a proper prefix of a byte order mark, else the encoding in force with the state of its own decoder
--- behind the mark
+-- the bytes themselves while they are a proper prefix of a byte order mark that is looked for, else the encoding in force with the state of
+-- its own decoder behind the mark
 unfoldable pub state_behind : Files → Setting → List ℕ → AnyState
 state_behind files setting bytes =
     unwrap_or (option_map Sniffing (prefix_under setting bytes)) (state_in files (in_force setting bytes) (drop (mark_length setting bytes) bytes))

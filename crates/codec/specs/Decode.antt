@@ -1,4 +1,4 @@
--- Decoding of bytes (Encoding Standard, "decode").
+-- Decoding of bytes (Encoding Standard, "decode"; where marks are kept, without its "BOM sniff").
 use Rattle.std.specs.Prelude.{ℕ, List, length, drop, slice_get, Option}
 use Rattle.enc_names.specs.declared.encoding.Encoding.{Encoding}
 use Rattle.enc_names.specs.declared.setting.Setting.{Setting}
@@ -21,7 +21,7 @@ pub record Decoded : Type 0 where
 abbrev pub run_in : Files → Encoding → List ℕ → List Ended
 run_in files encoding bytes = coding_run (coding (indexes_of files encoding)) bytes
 
--- a look at the first bytes, and then the run behind the mark
+-- a look for a byte order mark under the setting, and then the run behind it
 unfoldable pub decode : Files → Setting → List ℕ → Decoded
 decode files setting bytes = record {
   encoding = in_force setting bytes;

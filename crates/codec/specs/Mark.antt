@@ -2,6 +2,8 @@
 use Rattle.std.specs.Prelude.{ℕ, eqb, List, [], ◌∷◌, if◌then◌else◌, Option, Some, None, option_map}
 use Rattle.std.specs.List.{starts_with}
 use Rattle.std.specs.Option.{unwrap_or}
+use Rattle.enc_names.specs.declared.bom.Bom.{Bom}
+use Rattle.enc_names.specs.declared.bom.Bom.TheVariants.{Sniff, Keep}
 use Rattle.enc_names.specs.declared.encoding.Encoding.{Encoding}
 use Rattle.enc_names.specs.declared.encoding.Encoding.TheVariants.{Utf8, Utf16Be, Utf16Le}
 use Rattle.enc_names.specs.declared.setting.Setting.{Setting}
@@ -15,9 +17,14 @@ mark_of bytes =
     else if starts_with eqb bytes (0xFF ∷ 0xFE ∷ []) then Some (record { encoding = Utf16Le; len = 2 })
     else None
 
--- the mark that counts under a setting: each looks for one
+-- what a look for a mark finds: nothing where marks are kept
+abbrev pub if_sniffed : {A : Type 0} → Bom → Option A → Option A
+if_sniffed Sniff found = found
+if_sniffed Keep found = None
+
+-- the mark that counts under a setting
 abbrev pub mark_under : Setting → List ℕ → Option Mark
-mark_under setting bytes = mark_of bytes
+mark_under setting bytes = if_sniffed setting.bom (mark_of bytes)
 
 -- the encoding in force: that of the mark, or else the one given
 abbrev pub in_force : Setting → List ℕ → Encoding

@@ -12,6 +12,7 @@ use Rattle.codec.specs.declared.prefix.Prefix.{Prefix}
 use Rattle.codec.specs.declared.prefix.Prefix.TheVariants.{Nothing, Ef, EfBb, Fe, Ff}
 use Rattle.codec.specs.declared.state.AnyState.{AnyState}
 use Rattle.codec.specs.declared.state.AnyState.TheVariants.{Sniffing as in_sniffing, Utf8 as in_utf8, Utf16Be as in_utf16_be, Utf16Le as in_utf16_le}
+use Rattle.codec.specs.Mark.{if_sniffed}
 
 -- the bytes of a proper prefix of a mark
 abbrev pub spelt : Prefix → List ℕ
@@ -25,9 +26,9 @@ spelt Ff = 0xFF ∷ []
 abbrev pub prefix_of : List ℕ → Option Prefix
 prefix_of bytes = find (λ p. bytes_eq (spelt p) bytes) (Nothing ∷ Ef ∷ EfBb ∷ Fe ∷ Ff ∷ [])
 
--- the same where a mark counts under the setting
+-- the same where a mark is looked for under the setting
 abbrev pub prefix_under : Setting → List ℕ → Option Prefix
-prefix_under setting bytes = prefix_of bytes
+prefix_under setting bytes = if_sniffed setting.bom (prefix_of bytes)
 
 -- no mark: the bytes are read again, from the first state of the encoding given
 abbrev pub restarts : AnyState → List ℕ → Turn AnyState

@@ -17,8 +17,8 @@ use decoder_core::{Meter, OutOfMemory, Utf8Decoder};
 use enc_names::Encoding;
 use std::alloc::Global;
 
-/// Decodes bytes as a whole by the decoder of their encoding, or by that of their byte order mark.
-/// The meter counts the bytes behind the mark.
+/// Decodes bytes as a whole by the decoder of their encoding, or by that of their byte order mark
+/// where one counts. The meter counts the bytes behind it.
 pub fn decode_any(
     alloc: Global,
     decoder: &AnyDecoder<'_>,
@@ -29,7 +29,7 @@ pub fn decode_any(
     ensures meter { Counted meter.old meter.new (length bytes.now - mark_length decoder.now.setting bytes.now) result }
 {
     law_standing();
-    match Mark::of(bytes) {
+    match Mark::under(decoder.setting(), bytes) {
         Some(mark) => decode_marked(alloc, mark, bytes, meter),
         None => decode_own(alloc, decoder, bytes, meter),
     }

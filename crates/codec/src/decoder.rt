@@ -21,11 +21,11 @@ use enc_names::{Bom, Encoding, Setting};
 use index_loader::Indexes;
 use std::marker::Model;
 
-/// The decoder of an encoding, whichever it is (Encoding Standard, "decode"), which first looks
-/// for a byte order mark: UTF-8 or UTF-16 is in force behind theirs, whatever encoding is given. It
-/// borrows the indexes that the encoding given needs. Each encoding's decoder does here in its own
-/// states what it does alone; in a state that none of these encodings has it is finished. Contracts
-/// see the decoder of the encoding given, and the setting.
+/// The decoder of an encoding, whichever it is (Encoding Standard, "decode"). If the setting says so
+/// it first looks for a byte order mark: UTF-8 or UTF-16 is in force behind theirs, whatever encoding
+/// is given. It borrows the indexes that the encoding given needs. Each encoding's decoder does here
+/// in its own states what it does alone; in a state that none of these encodings has it is finished.
+/// Contracts see the decoder of the encoding given, and the setting.
 #[derive(Drop)]
 pub struct AnyDecoder<'i> {
     own: OwnDecoder<'i>,
@@ -45,9 +45,11 @@ impl<'i> AnyDecoder<'i> {
     /// no memory.
     ///
     /// Its state behind the first bytes of a document is those bytes while they may become a byte
-    /// order mark, else the encoding in force with where its own decoder stands behind the mark.
+    /// order mark that is looked for, else the encoding in force with where its own decoder stands
+    /// behind the mark. With `Keep` it is that of the encoding's own decoder behind any bytes.
     pub fn new(indexes: &'i Indexes, encoding: Encoding, bom: Bom) -> Option<AnyDecoder<'i>>
         ensures value { result ≡ decoder_in indexes.now (setting_of encoding bom) }
+        ensures setting { IfSome result (λ d. d.setting ≡ setting_of encoding bom) }
         ensures variant { is_some result ≡ has_files indexes.now encoding }
         ensures decode { IfSome result (λ d. (bytes : List ℕ) → places (length bytes) (mark_length (setting_of encoding bom) bytes) (run (any d) (any_start d) bytes) ≡ (decode indexes.now (setting_of encoding bom) bytes).items) }
         ensures behind { IfSome result (λ d. (bytes : List ℕ) → (feed (any d) (any_start d) bytes).state ≡ state_behind indexes.now (setting_of encoding bom) bytes) }
@@ -58,6 +60,7 @@ impl<'i> AnyDecoder<'i> {
     /// The decoder under a setting; of its encoding as `new` says.
     pub fn under(indexes: &'i Indexes, setting: Setting) -> Option<AnyDecoder<'i>>
         ensures value { result ≡ decoder_in indexes.now setting }
+        ensures setting { IfSome result (λ d. d.setting ≡ setting) }
         ensures variant { is_some result ≡ has_files indexes.now setting.given }
         ensures decode { IfSome result (λ d. (bytes : List ℕ) → places (length bytes) (mark_length setting bytes) (run (any d) (any_start d) bytes) ≡ (decode indexes.now setting bytes).items) }
         ensures behind { IfSome result (λ d. (bytes : List ℕ) → (feed (any d) (any_start d) bytes).state ≡ state_behind indexes.now setting bytes) }
@@ -71,6 +74,13 @@ impl<'i> AnyDecoder<'i> {
         ensures { result.now ≡ self.now.own }
     {
         &self.own
+    }
+
+    /// The setting by which it reads.
+    pub(crate) fn setting(&self) -> Setting
+        ensures { result ≡ self.now.setting }
+    {
+        self.setting
     }
 }
 
@@ -90,7 +100,10 @@ impl<'i> Handler for AnyDecoder<'i> {
     ghost initial = { any_start };
 
     fn start_state(&self) -> AnyState {
-        AnyState::Sniffing(Prefix::Nothing)
+        match self.setting.bom {
+            Bom::Sniff => AnyState::Sniffing(Prefix::Nothing),
+            Bom::Keep => self.own.given_start(),
+        }
     }
 
     fn turn(&self, state: AnyState, byte: Option<u8>) -> Handled<AnyState> {

@@ -1,8 +1,8 @@
 //! Byte order marks.
 ghost use Rattle.std.specs.Prelude.{◌≡◌, ◌≤◌, length, IfSome};
-ghost use Rattle.codec.specs.Mark.{mark_of, in_force, mark_length};
+ghost use Rattle.codec.specs.Mark.{mark_of, mark_under, in_force, mark_length};
 
-use enc_names::{Encoding, Setting};
+use enc_names::{Bom, Encoding, Setting};
 
 /// A byte order mark.
 #[derive(Clone, Copy)]
@@ -15,7 +15,7 @@ pub(crate) struct Mark {
 
 impl Mark {
     /// The mark that the bytes begin with.
-    pub(crate) fn of(bytes: &[u8]) -> Option<Mark>
+    fn of(bytes: &[u8]) -> Option<Mark>
         ensures value { result ≡ mark_of bytes.now }
         ensures within { IfSome result (λ mark. mark.len ≤ length bytes.now) }
     {
@@ -39,6 +39,17 @@ impl Mark {
         }
         None
     }
+
+    /// The mark that counts under a setting.
+    pub(crate) fn under(setting: Setting, bytes: &[u8]) -> Option<Mark>
+        ensures value { result ≡ mark_under setting bytes.now }
+        ensures within { IfSome result (λ mark. mark.len ≤ length bytes.now) }
+    {
+        match setting.bom {
+            Bom::Sniff => Mark::of(bytes),
+            Bom::Keep => None,
+        }
+    }
 }
 
 /// What the start of some bytes says.
@@ -46,17 +57,17 @@ impl Mark {
 pub struct Sniffed {
     /// The encoding in force.
     pub encoding: Encoding,
-    /// The number of bytes of the byte order mark, 0 where there is none.
+    /// The number of bytes of the byte order mark, 0 where there is none or marks are kept.
     pub bom_len: u64,
 }
 
-/// Looks for a byte order mark, whose encoding takes the place of the given one (Encoding
-/// Standard, "BOM sniff").
+/// Looks for a byte order mark, if the setting says so: its encoding takes the place of the given
+/// one (Encoding Standard, "BOM sniff").
 pub fn sniff(setting: Setting, bytes: &[u8]) -> Sniffed
     ensures encoding { result.encoding ≡ in_force setting bytes.now }
     ensures bom_len { result.bom_len ≡ mark_length setting bytes.now }
 {
-    match Mark::of(bytes) {
+    match Mark::under(setting, bytes) {
         Some(mark) => Sniffed {
             encoding: mark.encoding,
             bom_len: mark.len as u64,

@@ -21,7 +21,7 @@ use std::alloc::Global;
 pub struct Decoded {
     /// The encoding in force.
     pub encoding: Encoding,
-    /// The number of bytes of the byte order mark, 0 where there is none.
+    /// The number of bytes of the byte order mark, 0 where there is none or marks are kept.
     pub bom_len: u64,
     /// The text behind the mark, with U+FFFD for each error.
     pub text: String,
@@ -29,8 +29,8 @@ pub struct Decoded {
     pub errors: Vec<Place>,
 }
 
-/// Decodes bytes (Encoding Standard, "decode", error mode "replacement"). Refused with `NoIndex`
-/// where the encoding given can't be decoded.
+/// Decodes bytes (Encoding Standard, "decode", error mode "replacement"); with `Keep` no byte order
+/// mark is looked for. Refused with `NoIndex` where the encoding given can't be decoded.
 ///
 /// Bytes that come in parts, however they are cut, have the same items: [`AnyDecoder`] is a
 /// `Decoder`, and for each of those `decode_parts` answers the places of the run over all bytes, of
@@ -61,8 +61,9 @@ pub fn decode_whole(
     })
 }
 
-/// Decodes bytes to their text (Encoding Standard, "decode", error mode "fatal"). Refused with
-/// `NoIndex` where the encoding given can't be decoded, then with `Malformed` at the first error.
+/// Decodes bytes to their text (Encoding Standard, "decode", error mode "fatal"), as `decode_whole`
+/// reads them. Refused with `NoIndex` where the encoding given can't be decoded, then with `Malformed`
+/// at the first error.
 pub fn decode_fatal(
     alloc: Global,
     indexes: &Indexes,

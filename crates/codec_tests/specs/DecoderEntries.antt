@@ -2,11 +2,13 @@
 use Rattle.std.specs.Prelude.{ℕ, [], ◌∷◌, ◌==◌, Option, Some, None, if◌then◌else◌}
 use Rattle.enc_names.specs.declared.encoding.Encoding.TheVariants.{Windows1252}
 use Rattle.index_loader.specs.declared.kind.IndexKind.TheVariants.{SingleByte}
-use Rattle.index_loader.specs.Index.{code_point_of}
+use Rattle.index_loader.specs.Index.{Loaded, code_point_of}
+
+abbrev pub windows_1252 : Loaded
+windows_1252 = record { kind = SingleByte Windows1252; pairs = (0, 0x20AC) ∷ (59, 0xBB) ∷ (63, 0xBF) ∷ [] }
 
 abbrev pub windows_1252_entries : ℕ → Option ℕ
-windows_1252_entries =
-    code_point_of (record { kind = SingleByte Windows1252; pairs = (0, 0x20AC) ∷ (59, 0xBB) ∷ (63, 0xBF) ∷ [] })
+windows_1252_entries = code_point_of windows_1252
 
 abbrev pub jis0208_entries : ℕ → Option ℕ
 jis0208_entries pointer =

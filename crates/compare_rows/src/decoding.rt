@@ -1,37 +1,38 @@
-//! Rows of bytes that are decoded: `ENCODING; BYTES -> IN FORCE; ITEMS`. Behind the encoding in
-//! force stands the length of the byte order mark. An item is its code points, or `error`, with its
-//! place.
+//! Rows of bytes that are decoded: `ENCODING; BYTES -> IN FORCE; ITEMS`. Behind the encoding stands
+//! `keep` where a byte order mark is kept, and behind that in force the length of the mark. An item is
+//! its code points, or `error`, with its place.
 
 use crate::fields;
 use crate::unplayed::Unplayed;
 use codec::{AnyDecoder, CodecFault, Decoded, decode_fatal, decode_whole};
 use decoder_core::{Item, Placed, decode_parts, meter};
-use enc_names::{Bom, Encoding, Place};
+use enc_names::{Place, Setting};
 use index_loader::Indexes;
 use std::alloc::{AllocError, Global};
 
 /// What the bytes of a row decode to.
 pub fn outcome(alloc: Global, indexes: &Indexes, given: &str) -> Result<String, Unplayed> {
-    let (name, bytes) = given.split_once("; ").ok_or(Unplayed::Malformed)?;
-    let encoding = fields::encoding(name)?;
+    let (words, bytes) = given.split_once("; ").ok_or(Unplayed::Malformed)?;
+    let setting = fields::setting(words)?;
     let bytes = fields::bytes(alloc, bytes)?;
-    match AnyDecoder::new(indexes, encoding, Bom::Sniff) {
-        Some(decoder) => with_decoder(alloc, indexes, encoding, &decoder, &bytes),
-        None => Ok(without_decoder(alloc, indexes, encoding, &bytes)?),
+    match AnyDecoder::new(indexes, setting.given, setting.bom) {
+        Some(decoder) => with_decoder(alloc, indexes, setting, &decoder, &bytes),
+        None => Ok(without_decoder(alloc, indexes, setting, &bytes)?),
     }
 }
 
-/// What bytes in an encoding decode to that has this decoder.
+/// What bytes decode to that are read by this decoder.
 fn with_decoder(
     alloc: Global,
     indexes: &Indexes,
-    encoding: Encoding,
+    setting: Setting,
     decoder: &AnyDecoder<'_>,
     bytes: &[u8],
 ) -> Result<String, Unplayed> {
-    let whole = decode_whole(alloc, indexes, encoding, Bom::Sniff, bytes)?;
+    let Setting { given, bom } = setting;
+    let whole = decode_whole(alloc, indexes, given, bom, bytes)?;
     let items = decode_parts(alloc, decoder, bytes, whole.bom_len, &[], &mut meter())?;
-    let fatal = decode_fatal(alloc, indexes, encoding, Bom::Sniff, bytes);
+    let fatal = decode_fatal(alloc, indexes, given, bom, bytes);
     Ok(compared(alloc, decoder, bytes, &whole, &fatal, &items)?)
 }
 
@@ -59,12 +60,13 @@ fn compared(
 fn without_decoder(
     alloc: Global,
     indexes: &Indexes,
-    encoding: Encoding,
+    setting: Setting,
     bytes: &[u8],
 ) -> Result<String, AllocError> {
     let no_index = Some(CodecFault::NoIndex);
-    let whole = decode_whole(alloc, indexes, encoding, Bom::Sniff, bytes).err();
-    let fatal = decode_fatal(alloc, indexes, encoding, Bom::Sniff, bytes).err();
+    let Setting { given, bom } = setting;
+    let whole = decode_whole(alloc, indexes, given, bom, bytes).err();
+    let fatal = decode_fatal(alloc, indexes, given, bom, bytes).err();
     if whole == no_index && fatal == no_index {
         String::from_str(alloc, "NoIndex")
     } else {

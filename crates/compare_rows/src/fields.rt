@@ -1,7 +1,7 @@
-//! How encodings, states, bytes and texts are written in rows.
+//! How encodings, settings, states, bytes and texts are written in rows.
 
 use crate::unplayed::Unplayed;
-use enc_names::Encoding;
+use enc_names::{Bom, Encoding, Setting};
 use iso2022jp::OutputState;
 use std::alloc::{AllocError, Global};
 
@@ -13,6 +13,15 @@ pub fn encoding(name: &str) -> Result<Encoding, Unplayed> {
         }
     }
     Err(Unplayed::Malformed)
+}
+
+/// The setting with the encoding of this name given; a byte order mark is kept where `keep` stands
+/// behind the name.
+pub fn setting(words: &str) -> Result<Setting, Unplayed> {
+    match words.strip_suffix(" keep") {
+        Some(name) => Ok(Setting::new(encoding(name)?, Bom::Keep)),
+        None => Ok(Setting::new(encoding(words)?, Bom::Sniff)),
+    }
 }
 
 /// The output state of this name.

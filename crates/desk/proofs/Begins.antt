@@ -10,7 +10,7 @@ use Rattle.std.specs.FinMap as finite
 use Rattle.std.specs.FinMap.{get}
 use Rattle.std.specs.Cmp.Lexicographic.{nat_list_cmp_total}
 use Rattle.std.specs.Str.{bytes_eq}
-use Rattle.enc_names.specs.declared.bom.Bom.TheVariants.{Sniff}
+use Rattle.enc_names.specs.declared.bom.Bom.{Bom}
 use Rattle.enc_names.specs.declared.encoding.Encoding.{Encoding}
 use Rattle.enc_names.specs.declared.setting.Setting.{Setting}
 use Rattle.enc_names.specs.Settings.{setting_of}
@@ -65,30 +65,30 @@ admitted-ok indexes place setting bytes rev k e =
 -- ---- an open
 
 -- an accepted open, as it is decided
-record Opened (indexes : Files) (found : Option Entry) (read : Option (List ℕ)) (labelled : Option Encoding) (move : Move) : Type 0 where
+record Opened (indexes : Files) (found : Option Entry) (read : Option (List ℕ)) (labelled : Option Encoding) (bom : Bom) (move : Move) : Type 0 where
   given : Encoding
   bytes : List ℕ
   free : found ≡ None
   label : labelled ≡ Some given
   text : read ≡ Some bytes
-  begin : held_after found move ≡ Some (entry (setting_of given Sniff) bytes 0)
+  begin : held_after found move ≡ Some (entry (setting_of given bom) bytes 0)
 
-opened-put : (indexes : Files) (given : Encoding) (bytes : List ℕ) (r : Result Entry Fault) → ((k : Entry) → r ≡ Ok k → entry (setting_of given Sniff) bytes 0 ≡ k)
-    → is_accepted (put (edit_reply indexes) r).reply ≡ true → Opened indexes None (Some bytes) (Some given) (put (edit_reply indexes) r).move
-opened-put indexes given bytes (Ok k) is e = record { given = given; bytes = bytes; free = refl; label = refl; text = refl; begin = ap Some (sym (is k refl)) }
-opened-put indexes given bytes (Err f) is e = cc
+opened-put : (indexes : Files) (given : Encoding) (bom : Bom) (bytes : List ℕ) (r : Result Entry Fault) → ((k : Entry) → r ≡ Ok k → entry (setting_of given bom) bytes 0 ≡ k)
+    → is_accepted (put (edit_reply indexes) r).reply ≡ true → Opened indexes None (Some bytes) (Some given) bom (put (edit_reply indexes) r).move
+opened-put indexes given bom bytes (Ok k) is e = record { given = given; bytes = bytes; free = refl; label = refl; text = refl; begin = ap Some (sym (is k refl)) }
+opened-put indexes given bom bytes (Err f) is e = cc
 
-opened-by : (indexes : Files) (place : Bool) (found : Option Entry) (read : Option (List ℕ)) (labelled : Option Encoding)
-    → (let t = with_bytes read (λ b. opened indexes place found b labelled) in is_accepted t.reply ≡ true → Opened indexes found read labelled t.move)
-opened-by indexes place found None labelled = λ e. cc
-opened-by indexes place (Some h) (Some b) labelled = λ e. cc
-opened-by indexes place None (Some b) None = λ e. cc
-opened-by indexes place None (Some b) (Some given) = opened-put indexes given b (admitted indexes place (setting_of given Sniff) b 0) (admitted-ok indexes place (setting_of given Sniff) b 0)
+opened-by : (indexes : Files) (place : Bool) (found : Option Entry) (read : Option (List ℕ)) (labelled : Option Encoding) (bom : Bom)
+    → (let t = with_bytes read (λ b. opened indexes place found b labelled bom) in is_accepted t.reply ≡ true → Opened indexes found read labelled bom t.move)
+opened-by indexes place found None labelled bom = λ e. cc
+opened-by indexes place (Some h) (Some b) labelled bom = λ e. cc
+opened-by indexes place None (Some b) None bom = λ e. cc
+opened-by indexes place None (Some b) (Some given) bom = opened-put indexes given bom b (admitted indexes place (setting_of given bom) b 0) (admitted-ok indexes place (setting_of given bom) b 0)
 
 pub opens_begin : OpensBegin
-opens_begin o p doc label text reply answers e =
-    let c = asked_of doc (Opens label text) in
-    let by = opened-by o.indexes (has_place o.documents) (get o.documents doc) (base64_bytes text) (lookup_in o.labels label) (accepted_here o p c reply answers e) in record {
+opens_begin o p doc label text bom reply answers e =
+    let c = asked_of doc (Opens label text bom) in
+    let by = opened-by o.indexes (has_place o.documents) (get o.documents doc) (base64_bytes text) (lookup_in o.labels label) bom (accepted_here o p c reply answers e) in record {
       given = by.given;
       bytes = by.bytes;
       free = by.free;

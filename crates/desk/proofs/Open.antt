@@ -6,7 +6,7 @@ use Rattle.std.specs.declared.result.Result.{Result}
 use Rattle.std.specs.declared.result.Result.TheVariants.{Ok, Err}
 use Rattle.std.specs.FinMap as finite
 use Rattle.std.specs.Option.{is_some}
-use Rattle.enc_names.specs.declared.bom.Bom.TheVariants.{Sniff}
+use Rattle.enc_names.specs.declared.bom.Bom.{Bom}
 use Rattle.enc_names.specs.declared.encoding.Encoding.{Encoding}
 use Rattle.enc_names.specs.declared.setting.Setting.{Setting}
 use Rattle.enc_names.specs.Settings.{setting_of}
@@ -27,12 +27,12 @@ use Rattle.desk.specs.declared.reply.Reply.TheVariants.{Refused}
 use Rattle.desk.proofs.Row.{IsRow, Keeps, Answered, ContinuesBy, Decided, IsOther, Caused, caused-if, decided-if, decided-unless, keeps-with_bytes, keeps-put, answered-with_bytes, answered-put}
 
 -- an open whose bytes are read, whose name is free and whose label names an encoding
-pub opened_answers : (o : Office) (after : Shelf) (doc label text bytes lent : List ℕ) (given : Encoding) (setting : Setting) (reply : Reply)
-    → base64_bytes text ≡ Some bytes → lent ≡ bytes → setting ≡ setting_of given Sniff → is_some (finite.get o.documents doc) ≡ false → lookup_in o.labels label ≡ Some given
+pub opened_answers : (o : Office) (after : Shelf) (doc label text bytes lent : List ℕ) (given : Encoding) (bom : Bom) (setting : Setting) (reply : Reply)
+    → base64_bytes text ≡ Some bytes → lent ≡ bytes → setting ≡ setting_of given bom → is_some (finite.get o.documents doc) ≡ false → lookup_in o.labels label ≡ Some given
     → IsOutcome (outcome o.documents doc (put (edit_reply o.indexes) (admitted o.indexes (has_place o.documents) setting lent 0))) reply o.documents after.named
     → after.indexes ≡ o.indexes
-    → Answers o (asked_of doc (Opens label text)) reply (record { indexes = after.indexes; labels = o.labels; documents = after.named })
-opened_answers o after doc label text bytes lent given setting reply read same setting_is free named step indexes = record {
+    → Answers o (asked_of doc (Opens label text bom)) reply (record { indexes = after.indexes; labels = o.labels; documents = after.named })
+opened_answers o after doc label text bytes lent given bom setting reply read same setting_is free named step indexes = record {
   step = rw (read, free, named)
       (subst (λ s. IsOutcome (outcome o.documents doc (put (edit_reply o.indexes) (admitted o.indexes (has_place o.documents) s bytes 0))) reply o.documents after.named) setting_is
       (subst (λ b. IsOutcome (outcome o.documents doc (put (edit_reply o.indexes) (admitted o.indexes (has_place o.documents) setting b 0))) reply o.documents after.named) same step));
@@ -78,25 +78,25 @@ decided-admitted indexes place setting bytes =
     (decided-if P place _ _ (decided-unless P (open_fault indexes setting.given bytes) _ (caused-open indexes setting.given bytes) (λ e. cc)) tt)
     tt
 
-keeps-opened : (indexes : Files) (place : Bool) (found : Option Entry) (bytes : List ℕ) (given : Option Encoding) → Keeps (opened indexes place found bytes given)
-keeps-opened indexes place (Some h) bytes given = λ e. refl
-keeps-opened indexes place None bytes None = λ e. refl
-keeps-opened indexes place None bytes (Some given) = keeps-put (edit_reply indexes) (admitted indexes place (setting_of given Sniff) bytes 0) (λ k. refl)
+keeps-opened : (indexes : Files) (place : Bool) (found : Option Entry) (bytes : List ℕ) (given : Option Encoding) (bom : Bom) → Keeps (opened indexes place found bytes given bom)
+keeps-opened indexes place (Some h) bytes given bom = λ e. refl
+keeps-opened indexes place None bytes None bom = λ e. refl
+keeps-opened indexes place None bytes (Some given) bom = keeps-put (edit_reply indexes) (admitted indexes place (setting_of given bom) bytes 0) (λ k. refl)
 
-answered-opened : (indexes : Files) (place : Bool) (found : Option Entry) (bytes : List ℕ) (given : Option Encoding) → Answered (opened indexes place found bytes given)
-answered-opened indexes place (Some h) bytes given = λ e. cc
-answered-opened indexes place None bytes None = λ e. cc
-answered-opened indexes place None bytes (Some given) = answered-put (edit_reply indexes) (admitted indexes place (setting_of given Sniff) bytes 0) (decided-admitted indexes place (setting_of given Sniff) bytes)
+answered-opened : (indexes : Files) (place : Bool) (found : Option Entry) (bytes : List ℕ) (given : Option Encoding) (bom : Bom) → Answered (opened indexes place found bytes given bom)
+answered-opened indexes place (Some h) bytes given bom = λ e. cc
+answered-opened indexes place None bytes None bom = λ e. cc
+answered-opened indexes place None bytes (Some given) bom = answered-put (edit_reply indexes) (admitted indexes place (setting_of given bom) bytes 0) (decided-admitted indexes place (setting_of given bom) bytes)
 
-continues-opened : (indexes : Files) (place : Bool) (h : Entry) (label text : List ℕ) (bytes : Option (List ℕ)) (given : Option Encoding)
-    → ContinuesBy indexes h (Opens label text) (with_bytes bytes (λ b. opened indexes place (Some h) b given))
-continues-opened indexes place h label text None given = refl
-continues-opened indexes place h label text (Some b) given = refl
+continues-opened : (indexes : Files) (place : Bool) (h : Entry) (label text : List ℕ) (bytes : Option (List ℕ)) (given : Option Encoding) (bom : Bom)
+    → ContinuesBy indexes h (Opens label text bom) (with_bytes bytes (λ b. opened indexes place (Some h) b given bom))
+continues-opened indexes place h label text None given bom = refl
+continues-opened indexes place h label text (Some b) given bom = refl
 
-pub row : (indexes : Files) (labels : LabelTable) (label text : List ℕ) → IsRow indexes labels (Opens label text)
-row indexes labels label text = record {
-  keeps = λ place found. keeps-with_bytes (base64_bytes text) _ (λ b. keeps-opened indexes place found b (lookup_in labels label));
-  answered = λ place found. answered-with_bytes (base64_bytes text) _ (λ b. answered-opened indexes place found b (lookup_in labels label));
-  continues = λ place h. continues-opened indexes place h label text (base64_bytes text) (lookup_in labels label);
+pub row : (indexes : Files) (labels : LabelTable) (label text : List ℕ) (bom : Bom) → IsRow indexes labels (Opens label text bom)
+row indexes labels label text bom = record {
+  keeps = λ place found. keeps-with_bytes (base64_bytes text) _ (λ b. keeps-opened indexes place found b (lookup_in labels label) bom);
+  answered = λ place found. answered-with_bytes (base64_bytes text) _ (λ b. answered-opened indexes place found b (lookup_in labels label) bom);
+  continues = λ place h. continues-opened indexes place h label text (base64_bytes text) (lookup_in labels label) bom;
   placed = λ o found. refl;
 }

@@ -27,7 +27,7 @@ use Rattle.desk.proofs.Stat as stat
 use Rattle.desk.proofs.Text as text
 
 pub row : (indexes : Files) (labels : LabelTable) (ask : Ask) → IsRow indexes labels ask
-row indexes labels (Opens label bytes) = open_.row indexes labels label bytes
+row indexes labels (Opens label bytes bom) = open_.row indexes labels label bytes bom
 row indexes labels Closes = close.row indexes labels
 row indexes labels (Splices rev at del bytes) = splice.row indexes labels rev at del bytes
 row indexes labels (ChangesText rev unit range text) = change.row indexes labels rev unit range text

@@ -26,7 +26,7 @@ NoneWanting (e ∷ es) = (e.reply ≢ Refused OutOfMemory) × NoneWanting es
 
 -- at an open, whether there is a place for one more document
 abbrev pub place_at : Office → Ask → Option Bool
-place_at o (Opens label bytes) = Some (has_place o.documents)
+place_at o (Opens label bytes bom) = Some (has_place o.documents)
 place_at o ask = None
 
 -- what was asked of the document d, with the places at its opens

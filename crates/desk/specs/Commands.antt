@@ -1,5 +1,6 @@
 -- The commands: what a client asks of the desk. Texts are lists of UTF-8 bytes.
 use Rattle.std.specs.Prelude.{ℕ, List, map, Option}
+use Rattle.enc_names.specs.declared.bom.Bom.{Bom}
 use Rattle.position_map.specs.declared.position.Range.{Range}
 use Rattle.position_map.specs.declared.unit.Unit.{Unit as TextUnit}
 use Rattle.encoders.specs.declared.mode.EncodeMode.{EncodeMode}
@@ -19,8 +20,8 @@ change_of c = record { range = c.range; text = c.text.now }
 
 -- what is asked at the name of a document
 pub data Ask : Type 0 where
-  -- label bytes
-  Opens : List ℕ → List ℕ → Ask
+  -- label bytes bom
+  Opens : List ℕ → List ℕ → Bom → Ask
   Closes : Ask
   -- rev at del bytes
   Splices : ℕ → ℕ → ℕ → List ℕ → Ask
@@ -55,7 +56,7 @@ abbrev pub asked_of : List ℕ → Ask → Asked
 asked_of doc ask = record { doc = doc; ask = ask }
 
 abbrev pub asked : Command → Asked
-asked (Open c) = asked_of c.doc.now (Opens c.label.now c.bytes.now)
+asked (Open c) = asked_of c.doc.now (Opens c.label.now c.bytes.now c.bom)
 asked (Close c) = asked_of c.doc.now Closes
 asked (Splice c) = asked_of c.doc.now (Splices c.rev c.at c.del c.bytes.now)
 asked (Change c) = asked_of c.doc.now (ChangesText c.rev c.unit c.range c.text.now)

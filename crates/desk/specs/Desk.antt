@@ -42,7 +42,7 @@ has_place documents = nat_lt (len documents) max_documents
 
 -- What is asked, by the index files and labels, whether there is a place for one more document, and the entry found at the name.
 abbrev pub effect : Files → LabelTable → Bool → Option Entry → Ask → Effect
-effect indexes labels place found (Opens label bytes) = with_bytes (base64_bytes bytes) (λ b. opened indexes place found b (lookup_in labels label))
+effect indexes labels place found (Opens label bytes bom) = with_bytes (base64_bytes bytes) (λ b. opened indexes place found b (lookup_in labels label) bom)
 effect indexes labels place found Closes = of_document found closed
 effect indexes labels place found (Splices rev at del bytes) = with_bytes (base64_bytes bytes) (λ ins. of_document found (splice_effect indexes rev at del ins))
 effect indexes labels place found (ChangesText rev unit range text) = of_document found (change_effect indexes rev unit range text)

@@ -2,7 +2,7 @@
 use Rattle.std.specs.Prelude.{◌≡◌, ℕ, ◌+◌, ◌&&◌, Bool, true, false, List, [], ◌∷◌, ◌++◌, length, if◌then◌else◌, Option, Some, None, Result, Ok, Err}
 use Rattle.std.specs.Str.{bytes_eq, chars}
 use Rattle.std.specs.FinMap.{get}
-use Rattle.enc_names.specs.declared.bom.Bom.TheVariants.{Sniff}
+use Rattle.enc_names.specs.declared.bom.Bom.{Bom}
 use Rattle.enc_names.specs.declared.encoding.Encoding.{Encoding}
 use Rattle.enc_names.specs.declared.setting.Setting.{Setting}
 use Rattle.enc_names.specs.Settings.{setting_of}
@@ -127,18 +127,18 @@ Lives = (d : List ℕ) (o p : Office) (acts : List Act) (begin : Entry) → get 
 
 -- ---- where lives begin and end
 
--- An accepted open begins a life at revision 0, with the encoding that the label names and the bytes of the base64 text.
-pub record Begins (o : Office) (doc label text : List ℕ) (p : Office) : Type 0 where
+-- An accepted open begins a life at revision 0, under the setting of the encoding that the label names and of what becomes of a mark, with the bytes of the base64 text.
+pub record Begins (o : Office) (doc label text : List ℕ) (bom : Bom) (p : Office) : Type 0 where
   pub given : Encoding
   pub bytes : List ℕ
   pub free : get o.documents doc ≡ None
   pub labelled : lookup_in o.labels label ≡ Some given
   pub read : base64_bytes text ≡ Some bytes
-  pub begin : get p.documents doc ≡ Some (entry (setting_of given Sniff) bytes 0)
+  pub begin : get p.documents doc ≡ Some (entry (setting_of given bom) bytes 0)
 
 abbrev pub OpensBegin : Type 0
-OpensBegin = (o p : Office) (doc label text : List ℕ) (reply : Reply) → Answers o (asked_of doc (Opens label text)) reply p → is_accepted reply ≡ true
-    → Begins o doc label text p
+OpensBegin = (o p : Office) (doc label text : List ℕ) (bom : Bom) (reply : Reply) → Answers o (asked_of doc (Opens label text bom)) reply p → is_accepted reply ≡ true
+    → Begins o doc label text bom p
 
 abbrev pub done : Result (Unit {0}) Fault
 done = Ok tt

@@ -1,6 +1,6 @@
 -- Opening a document, and adopting one.
 use Rattle.std.specs.Prelude.{ℕ, List, if◌then◌else◌, Bool, Option, Some, None, is_some, Result, Err}
-use Rattle.enc_names.specs.declared.bom.Bom.TheVariants.{Sniff}
+use Rattle.enc_names.specs.declared.bom.Bom.{Bom}
 use Rattle.enc_names.specs.declared.encoding.Encoding.{Encoding}
 use Rattle.enc_names.specs.declared.setting.Setting.{Setting}
 use Rattle.enc_names.specs.Settings.{setting_of}
@@ -21,13 +21,13 @@ admitted indexes place setting bytes rev =
     else Err NoIndex
 
 -- the label may name an encoding
-abbrev pub opened_as : Files → Bool → List ℕ → Option Encoding → Effect
-opened_as indexes place bytes None = refused UnknownLabel
-opened_as indexes place bytes (Some given) = put (edit_reply indexes) (admitted indexes place (setting_of given Sniff) bytes 0)
+abbrev pub opened_as : Files → Bool → List ℕ → Option Encoding → Bom → Effect
+opened_as indexes place bytes None bom = refused UnknownLabel
+opened_as indexes place bytes (Some given) bom = put (edit_reply indexes) (admitted indexes place (setting_of given bom) bytes 0)
 
 -- the name has to be free
-abbrev pub opened : Files → Bool → Option Entry → List ℕ → Option Encoding → Effect
-opened indexes place found bytes given = if is_some found then refused NameTaken else opened_as indexes place bytes given
+abbrev pub opened : Files → Bool → Option Entry → List ℕ → Option Encoding → Bom → Effect
+opened indexes place found bytes given bom = if is_some found then refused NameTaken else opened_as indexes place bytes given bom
 
 -- a document taken over with its revision, or why it is refused
 abbrev pub adopted : Files → Bool → Option Entry → Setting → List ℕ → ℕ → Result Entry Fault

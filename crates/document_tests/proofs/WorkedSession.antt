@@ -105,7 +105,7 @@ two_entries = finite.get-insert nat_list_cmp_total one name completed name
 abbrev office : Names → Office
 office documents = record { indexes = no_files; labels = name_labels; documents = documents }
 
-opens : answer_of (office nothing) (a (Opens (codes "utf-8") (codes "4oJB"))) ≡ record { reply = Edited 0 Utf8 0; documents = one }
+opens : answer_of (office nothing) (a (Opens (codes "utf-8") (codes "4oJB") Sniff)) ≡ record { reply = Edited 0 Utf8 0; documents = one }
 opens =
     ap (λ b. outcome nothing name (with_bytes b (λ x. opened no_files (has_place nothing) (finite.get nothing name) x (Some Utf8)))) opened_bytes
     ∙ ap (λ found. outcome nothing name (opened no_files (has_place nothing) found truncated.bytes (Some Utf8))) no_entry
@@ -173,4 +173,4 @@ from_reads_truncated : replies_to (office one) (drop 1 session) ≡ drop 1 sessi
 from_reads_truncated = step (office one) (a (Reads 0 2 Replacement)) (drop 2 session) _ one (drop 2 session_replies) reads_truncated from_lists_errors
 
 pub session_worked : replies_to office_without_files session ≡ session_replies
-session_worked = step (office nothing) (a (Opens (codes "utf-8") (codes "4oJB"))) (drop 1 session) _ one (drop 1 session_replies) opens from_reads_truncated
+session_worked = step (office nothing) (a (Opens (codes "utf-8") (codes "4oJB") Sniff)) (drop 1 session) _ one (drop 1 session_replies) opens from_reads_truncated

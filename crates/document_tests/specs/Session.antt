@@ -41,7 +41,7 @@ a = asked_of (codes "a")
 -- a truncated sequence is completed by a splice: E2 82 41, then E2 82 AC 41
 abbrev pub session : List Asked
 session =
-    a (Opens (codes "utf-8") (codes "4oJB"))
+    a (Opens (codes "utf-8") (codes "4oJB") Sniff)
     ∷ a (Reads 0 2 Replacement)
     ∷ a (ListsErrors 0 10)
     ∷ a (Splices 0 2 0 (codes "rA=="))

@@ -111,6 +111,7 @@ fn is_never_edited(rt: &impl Abort, desk: &mut Desk<'_>) {
         doc: "e",
         label: "utf-8",
         bytes: "",
+        bom: Bom::Sniff,
     });
     assert_eq!(rt;
         desk.adopt("e", Encoding::Utf8, Bom::Sniff, b"\xE2\x82A", LAST),

@@ -9,6 +9,7 @@ use std::process::Abort;
 use std::test::Fail;
 
 mod kept;
+mod marks;
 mod meters;
 
 /// So many bytes `a` and then these.

@@ -1,5 +1,6 @@
 //! Worked lines: their requests, computed on the definition.
 ghost use Rattle.std.specs.Prelude.{◌≡◌, ◌∷◌, [], codes, Ok, Err, Some, None};
+ghost use Rattle.enc_names.specs.declared.bom.Bom.TheVariants.{Sniff, Keep};
 ghost use Rattle.desk.specs.Commands.{asked_of, Opens, Closes, Splices, ChangesText, Reads, ReadsBytes, Encodes, ListsErrors, ListsLines, FindsPosition, FindsOffset, FindsPlace, Measures};
 ghost use Rattle.line_protocol.specs.Request.{request_of_line, position_of, range_of};
 ghost use Rattle.position_map.specs.declared.unit.Unit.TheVariants.{Utf8, Utf16, Utf32};
@@ -57,10 +58,30 @@ fn commands_of_positions()
         ≡ Err (BadRequest (Some 3) field.Unit) }
 {}
 
-fn commands()
-    ensures open { request_of_line (codes
+/// A byte order mark is looked for where the field is absent; `null` and every other text are faults
+/// of it, which come behind those of the bytes.
+fn opens()
+    ensures absent { request_of_line (codes
         "{\"id\":1,\"op\":\"open\",\"doc\":\"a\",\"label\":\"utf-8\",\"bytes\":\"4oJB\"}")
-        ≡ Ok (1, asked_of (codes "a") (Opens (codes "utf-8") (codes "4oJB"))) }
+        ≡ Ok (1, asked_of (codes "a") (Opens (codes "utf-8") (codes "4oJB") Sniff)) }
+    ensures sniff { request_of_line (codes
+        "{\"id\":1,\"op\":\"open\",\"doc\":\"a\",\"label\":\"utf-8\",\"bytes\":\"4oJB\",\"bom\":\"sniff\"}")
+        ≡ Ok (1, asked_of (codes "a") (Opens (codes "utf-8") (codes "4oJB") Sniff)) }
+    ensures keep { request_of_line (codes
+        "{\"id\":1,\"op\":\"open\",\"doc\":\"a\",\"label\":\"utf-8\",\"bytes\":\"77u/QQ==\",\"bom\":\"keep\"}")
+        ≡ Ok (1, asked_of (codes "a") (Opens (codes "utf-8") (codes "77u/QQ==") Keep)) }
+    ensures null_bom { request_of_line (codes
+        "{\"id\":1,\"op\":\"open\",\"doc\":\"a\",\"label\":\"utf-8\",\"bytes\":\"\",\"bom\":null}")
+        ≡ Err (BadRequest (Some 1) field.Bom) }
+    ensures other_bom { request_of_line (codes
+        "{\"id\":1,\"op\":\"open\",\"doc\":\"a\",\"label\":\"utf-8\",\"bytes\":\"\",\"bom\":\"Keep\"}")
+        ≡ Err (BadRequest (Some 1) field.Bom) }
+    ensures bytes_first { request_of_line (codes
+        "{\"id\":1,\"op\":\"open\",\"doc\":\"a\",\"label\":\"utf-8\",\"bytes\":7,\"bom\":7}")
+        ≡ Err (BadRequest (Some 1) field.Bytes) }
+{}
+
+fn commands()
     ensures close { request_of_line (codes "{\"id\":7,\"op\":\"close\",\"doc\":\"a\"}")
         ≡ Ok (7, asked_of (codes "a") Closes) }
     ensures splice { request_of_line (codes

@@ -9,6 +9,8 @@ use Rattle.serde_json.specs.Find.{get, as_number, as_u64, as_str, as_array, as_o
 use Rattle.serde_json.specs.View.{view}
 use Rattle.serde_json.specs.declared.value.Value.{Value}
 use Rattle.enc_names.specs.Json.{json_of}
+use Rattle.enc_names.specs.declared.bom.Bom.{Bom}
+use Rattle.enc_names.specs.declared.bom.Bom.TheVariants.{Sniff, Keep}
 use Rattle.desk.specs.Commands.{Asked, TextChange, asked_of, Opens, Closes, Splices, ChangesText, MakesChanges, Reads, ReadsBytes, Encodes, ListsErrors, ListsLines, FindsPosition, FindsOffset, FindsPlace, Measures, asked}
 use Rattle.desk.specs.declared.command.Command.{Command}
 use Rattle.position_map.specs.declared.position.Position.{Position}
@@ -94,6 +96,19 @@ or_fatal (Some d) = option_and_then as_encode_mode (as_str d)
 abbrev pub encode_mode_at : Data → Option EncodeMode
 encode_mode_at d = or_fatal (get (codes "mode") d)
 
+abbrev pub as_bom : List ℕ → Option Bom
+as_bom text =
+    if bytes_eq text (codes "sniff") then Some Sniff
+    else (if bytes_eq text (codes "keep") then Some Keep else None)
+
+abbrev pub or_sniff : Option Data → Option Bom
+or_sniff None = Some Sniff
+or_sniff (Some d) = option_and_then as_bom (as_str d)
+
+-- what becomes of a byte order mark, which is looked for where the field is absent
+abbrev pub bom_at : Data → Option Bom
+bom_at d = or_sniff (get (codes "bom") d)
+
 -- a unit by its name in LSP
 abbrev pub as_unit : List ℕ → Option TextUnit
 as_unit text =
@@ -176,7 +191,8 @@ open_command d = do
   doc ← need field.Doc (name_at d)
   label ← need field.Label (text_at d (codes "label"))
   bytes ← need field.Bytes (text_at d (codes "bytes"))
-  Ok (asked_of doc (Opens label bytes))
+  bom ← need field.Bom (bom_at d)
+  Ok (asked_of doc (Opens label bytes bom))
 
 abbrev pub close_command : Data → Result Asked Field
 close_command d = do

@@ -23,6 +23,7 @@ use Rattle.piece_rope.proofs.Counting.{here-contents}
 
 -- what is said of one decoder's states
 pub record StateLaws (files : Files) (setting : Setting) (d : AnyDecoding) : Type 0 where
+  pub start : any_start d ≡ state_behind files setting []
   pub behind : (bytes : List ℕ) → (feed (any d) (any_start d) bytes).state ≡ state_behind files setting bytes
   pub output : (bytes : List ℕ) → output_of (state_behind files setting bytes) ≡ output_behind files setting bytes
   pub parts : (s : AnyState) (p q : List ℕ) → (feed (any d) s (p ++ q)).state ≡ (feed (any d) (feed (any d) s p).state q).state
@@ -106,12 +107,8 @@ module _ (doc : Document) (d : AnyDecoding) (laws : StateLaws doc.indexes doc.se
         chain-outputs (base + (here_of x).sum.bytes) (p ++ q) (feed (any d) s q).state ps after chain.2 size_here (whole ∙ sym (append_assoc p q (bytes_of ps))),
       )
 
-  start : any_start d ≡ state []
-  unfolding state_behind
-  start = refl
-
   pub body-outputs : (ps : List Entry) (end : AnyState) → IsRope d ps end → doc.bytes ≡ bytes_of ps → HaveOutputs doc 0 (map here_of ps)
-  body-outputs ps end rope whole = chain-outputs 0 [] (any_start d) ps start rope.chain refl whole
+  body-outputs ps end rope whole = chain-outputs 0 [] (any_start d) ps laws.start rope.chain refl whole
 
   -- of the end
   pub end-outputs : (ps : List Entry) (tail : Outcome) → IsRope d ps tail.exit → doc.bytes ≡ bytes_of ps → contents_of tail ≡ ending_of d tail.exit → HasOutputs doc (length doc.bytes) tail.items

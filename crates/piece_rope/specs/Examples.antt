@@ -1,6 +1,6 @@
 -- Documents of the worked examples.
 use Rattle.std.specs.Prelude.{ℕ, List}
-use Rattle.enc_names.specs.declared.bom.Bom.TheVariants.{Sniff}
+use Rattle.enc_names.specs.declared.bom.Bom.TheVariants.{Sniff, Keep}
 use Rattle.enc_names.specs.declared.encoding.Encoding.TheVariants.{Utf8}
 use Rattle.enc_names.specs.Settings.{setting_of}
 use Rattle.enc_names.specs.declared.place.Place.{Place}
@@ -10,6 +10,10 @@ use Rattle.piece_rope.specs.Document.{Document, document}
 -- a document in UTF-8, with no index file
 abbrev pub in_utf8 : List ℕ → Document
 in_utf8 bytes = document no_files (setting_of Utf8 Sniff) bytes
+
+-- the same whose byte order marks are kept
+abbrev pub in_utf8_keeping : List ℕ → Document
+in_utf8_keeping bytes = document no_files (setting_of Utf8 Keep) bytes
 
 -- the bytes from one place to another
 abbrev pub at : ℕ → ℕ → Place

@@ -35,8 +35,8 @@ use sum_tree::Finder;
 
 /// A document: its bytes and the setting by which they are read, beside the indexes that it was
 /// opened with. Whatever is asked of it is answered as decoding its bytes from scratch answers it
-/// (Encoding Standard, "decode"), with a byte order mark looked for each time. Contracts see these
-/// three alone.
+/// (Encoding Standard, "decode"), with a byte order mark looked for each time unless the setting
+/// keeps marks. Contracts see these three alone.
 #[derive(Drop)]
 pub struct Doc<'i> {
     indexes: &'i Indexes,
@@ -66,9 +66,9 @@ impl<'i> Doc<'i> {
     ghost use Rattle.piece_rope.specs.Kept.{Resyncs};
 
     /// A document of these bytes, in the encoding given where no byte order mark puts another in
-    /// force. Refused with `NoIndex` where an index file of the encoding given isn't there, then
-    /// with `TooLarge` above `DOCUMENT_LIMIT` bytes. The meter counts the bytes decoded: those behind the
-    /// byte order mark, and perhaps those of the mark.
+    /// force; with `Keep` none does. Refused with `NoIndex` where an index file of the encoding given
+    /// isn't there, then with `TooLarge` above `DOCUMENT_LIMIT` bytes. The meter counts the bytes
+    /// decoded: those behind the byte order mark, and perhaps those of the mark.
     #[tactic(auto, unfolding(crate::specs::Edits::open_fault))]
     pub fn open(
         alloc: Global,
@@ -221,7 +221,7 @@ impl<'i> Doc<'i> {
         sniff(self.setting, first_bytes(&self.pieces)).encoding
     }
 
-    /// The number of bytes of the byte order mark, 0 where there is none.
+    /// The number of bytes of the byte order mark, 0 where there is none or marks are kept.
     #[tactic(auto, unfolding(crate::specs::Decode::decode))]
     pub fn bom_len(&self) -> u64
         ensures { result ≡ (decoded self.now).bom }

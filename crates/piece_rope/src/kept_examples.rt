@@ -3,7 +3,7 @@
 
 ghost use Rattle.std.specs.Prelude.{◌≡◌, [], ◌∷◌, true, false};
 ghost use Rattle.piece_rope.specs.Edits.{is_kept};
-ghost use Rattle.piece_rope.specs.Examples.{in_utf8};
+ghost use Rattle.piece_rope.specs.Examples.{in_utf8, in_utf8_keeping};
 ghost use Rattle.piece_rope.specs.KeptExamples.{lead, letter, accented, shifted, unreturned};
 
 /// A lead byte swallows the letter behind it; one in front of it stays.
@@ -37,8 +37,10 @@ fn behind_a_kana()
     ensures switched { is_kept unreturned 5 0 (0x1B ∷ 0x28 ∷ 0x42 ∷ 0x41 ∷ 0x1B ∷ 0x24 ∷ 0x42 ∷ []) 1 1 (0x41 ∷ []) ≡ true }
 {}
 
-/// U+FEFF at the start of the bytes is a byte order mark and none of the text; a second one is text.
+/// U+FEFF at the start of the bytes is a byte order mark and none of the text, unless marks are kept;
+/// a second one is text.
 fn byte_order_marks()
     ensures mark { is_kept (in_utf8 (0x41 ∷ [])) 0 1 (0xEF ∷ 0xBB ∷ 0xBF ∷ 0x78 ∷ []) 0 1 (0xFEFF ∷ 0x78 ∷ []) ≡ false }
+    ensures kept { is_kept (in_utf8_keeping (0x41 ∷ [])) 0 1 (0xEF ∷ 0xBB ∷ 0xBF ∷ 0x78 ∷ []) 0 1 (0xFEFF ∷ 0x78 ∷ []) ≡ true }
     ensures second { is_kept (in_utf8 (0xEF ∷ 0xBB ∷ 0xBF ∷ [])) 3 0 (0xEF ∷ 0xBB ∷ 0xBF ∷ []) 0 0 (0xFEFF ∷ []) ≡ true }
 {}

@@ -1,6 +1,6 @@
 -- Documents and index files of the worked examples of planned changes.
 use Rattle.std.specs.Prelude.{ℕ, List, [], ◌∷◌}
-use Rattle.enc_names.specs.declared.bom.Bom.TheVariants.{Sniff}
+use Rattle.enc_names.specs.declared.bom.Bom.TheVariants.{Sniff, Keep}
 use Rattle.enc_names.specs.declared.encoding.Encoding.{Encoding}
 use Rattle.enc_names.specs.declared.encoding.Encoding.TheVariants.{Windows1252}
 use Rattle.index_loader.specs.declared.kind.IndexKind.TheVariants.{SingleByte}
@@ -20,6 +20,10 @@ few_files = with_index (with_index (with_index (with_index no_files jis0208_pair
 
 abbrev pub in_encoding : Encoding → List ℕ → Document
 in_encoding given bytes = document few_files (setting_of given Sniff) bytes
+
+-- the same whose byte order marks are kept
+abbrev pub keeping : Encoding → List ℕ → Document
+keeping given bytes = document few_files (setting_of given Keep) bytes
 
 -- a range on the first line
 abbrev pub on_first_line : ℕ → ℕ → Range

@@ -7,7 +7,7 @@ ghost use Rattle.position_map.specs.declared.change_fault.ChangeFault.TheVariant
 ghost use Rattle.position_map.specs.declared.position.Range.{Range};
 ghost use Rattle.position_map.specs.declared.unit.Unit.TheVariants.{Utf8 as by_utf8, Utf16};
 ghost use Rattle.position_map.specs.Plan.{planned, is_behind};
-ghost use Rattle.position_map.specs.PlanExamples.{in_encoding, on_first_line};
+ghost use Rattle.position_map.specs.PlanExamples.{in_encoding, keeping, on_first_line};
 
 /// Big5 `88 62`: one item of two code points. Between them is no cut, whatever is put in; an end
 /// inside one of them is told first, as is a range that starts behind its end.
@@ -87,10 +87,13 @@ fn no_bytes()
     ensures second { planned (in_encoding Iso2022Jp (0x41 ∷ [])) (Some (on_first_line 1 1)) Utf16 (0x3042 ∷ 0x1F600 ∷ []) ≡ Err (Unencodable (record { index = 1; code_point = 0x1F600 })) }
 {}
 
-/// Without a range the whole text is replaced, and the byte order mark stays.
+/// Without a range the whole text is replaced, and the byte order mark stays; a mark that is kept is
+/// part of the text.
 fn whole_text()
     ensures unmarked { planned (in_encoding Utf8 (0x41 ∷ [])) None Utf16 (0xFEFF ∷ 0x78 ∷ [])
         ≡ Ok (record { at = 0; del = 1; ins = 0xEF ∷ 0xBB ∷ 0xBF ∷ 0x78 ∷ []; i = 0; j = 1 }) }
     ensures marked { planned (in_encoding Utf8 (0xEF ∷ 0xBB ∷ 0xBF ∷ [])) None Utf16 (0xFEFF ∷ [])
         ≡ Ok (record { at = 3; del = 0; ins = 0xEF ∷ 0xBB ∷ 0xBF ∷ []; i = 0; j = 0 }) }
+    ensures kept { planned (keeping Utf8 (0xEF ∷ 0xBB ∷ 0xBF ∷ [])) None Utf16 (0xFEFF ∷ 0x78 ∷ [])
+        ≡ Ok (record { at = 0; del = 3; ins = 0xEF ∷ 0xBB ∷ 0xBF ∷ 0x78 ∷ []; i = 0; j = 1 }) }
 {}

@@ -1,18 +1,21 @@
 //! Worked examples, as equations over the definitions that computing them proves.
-#![tactic(auto, unfolding(decoder_core::specs::Queue::run, decoder_core::specs::Queue::turns, decoder_core::specs::Queue::feed, decoder_core::specs::Queue::feed_for, codec::specs::Decode::decode, codec::specs::Behind::state_behind))]
+#![tactic(auto, unfolding(decoder_core::specs::Queue::run, decoder_core::specs::Queue::turns, decoder_core::specs::Queue::feed, decoder_core::specs::Queue::feed_for, codec::specs::Decode::decode, codec::specs::Behind::state_behind, index_loader::specs::Kinds::slot_of))]
 
-ghost use Rattle.std.specs.Prelude.{◌≡◌, [], ◌∷◌};
-ghost use Rattle.enc_names.specs.declared.bom.Bom.TheVariants.{Sniff};
-ghost use Rattle.enc_names.specs.declared.encoding.Encoding.TheVariants.{Utf8, Replacement, Utf16Be, Utf16Le};
+ghost use Rattle.std.specs.Prelude.{◌≡◌, ℕ, List, [], ◌∷◌, length};
+ghost use Rattle.enc_names.specs.declared.bom.Bom.TheVariants.{Sniff, Keep};
+ghost use Rattle.enc_names.specs.declared.encoding.Encoding.{Encoding};
+ghost use Rattle.enc_names.specs.declared.encoding.Encoding.TheVariants.{Utf8, Replacement, Utf16Be, Utf16Le, Windows1252};
 ghost use Rattle.enc_names.specs.Settings.{setting_of};
-ghost use Rattle.index_loader.specs.Files.{no_files};
+ghost use Rattle.index_loader.specs.Files.{Files, no_files, with_index};
 ghost use Rattle.decoder_core.specs.declared.item.Item.TheVariants.{One, Error};
+ghost use Rattle.decoder_core.specs.Placed.{places};
 ghost use Rattle.decoder_core.specs.Utf8.{utf8_start};
 ghost use Rattle.decoder_core.specs.Utf16.{utf16_start};
 ghost use Rattle.codec.specs.declared.prefix.Prefix.TheVariants.{Nothing, EfBb};
 ghost use Rattle.codec.specs.declared.state.AnyState.TheVariants.{Sniffing, Utf8 as in_utf8, Utf16Be as in_utf16_be};
-ghost use Rattle.codec.specs.Behind.{state_behind};
-ghost use Rattle.codec.specs.Decode.{decode};
+ghost use Rattle.codec.specs.Behind.{state_behind, state_in};
+ghost use Rattle.codec.specs.Decode.{decode, run_in};
+ghost use Rattle.codec_tests.specs.DecoderEntries.{windows_1252};
 
 /// A mark puts its encoding in force, and isn't part of the text.
 fn marks()
@@ -24,6 +27,20 @@ fn marks()
 /// The beginning of a mark is none.
 fn half_a_mark()
     ensures { decode no_files (setting_of Utf8 Sniff) (0xEF ∷ 0xBB ∷ []) ≡ record { encoding = Utf8; bom = 0; items = record { item = Error; from = 0; to = 2 } ∷ [] } }
+{}
+
+/// A mark that is kept is text, or whatever its bytes are in the encoding given.
+fn kept_marks()
+    ensures utf8 { decode no_files (setting_of Utf8 Keep) (0xEF ∷ 0xBB ∷ 0xBF ∷ 0x41 ∷ []) ≡ record { encoding = Utf8; bom = 0; items = record { item = One 0xFEFF; from = 0; to = 3 } ∷ record { item = One 0x41; from = 3; to = 4 } ∷ [] } }
+    ensures utf16_le { decode no_files (setting_of Utf16Le Keep) (0xFF ∷ 0xFE ∷ []) ≡ record { encoding = Utf16Le; bom = 0; items = record { item = One 0xFEFF; from = 0; to = 2 } ∷ [] } }
+    ensures windows_1252 { decode (with_index no_files windows_1252) (setting_of Windows1252 Keep) (0xEF ∷ 0xBB ∷ 0xBF ∷ []) ≡ record { encoding = Windows1252; bom = 0; items = record { item = Error; from = 0; to = 1 } ∷ record { item = One 0xBB; from = 1; to = 2 } ∷ record { item = One 0xBF; from = 2; to = 3 } ∷ [] } }
+{}
+
+/// Where marks are kept, any bytes give the run of the encoding given from the first byte on, and
+/// the state behind them is that of its own decoder.
+fn keeping()
+    ensures decode { (files : Files) (given : Encoding) (bytes : List ℕ) → decode files (setting_of given Keep) bytes ≡ record { encoding = given; bom = 0; items = places (length bytes) 0 (run_in files given bytes) } }
+    ensures state { (files : Files) (given : Encoding) (bytes : List ℕ) → state_behind files (setting_of given Keep) bytes ≡ state_in files given bytes }
 {}
 
 /// The bytes themselves while they may become a mark, and then a state of the encoding in force.

@@ -19,12 +19,14 @@ pub struct Open<'a> {
     pub label: &'a str,
     /// The document's bytes in base64 (RFC 4648, section 4).
     pub bytes: &'a str,
+    /// What becomes of a byte order mark.
+    pub bom: Bom,
 }
 
 impl Desk<'_> {
     /// Opens a document under a name that is free.
     pub(crate) fn open(&mut self, command: &Open<'_>) -> Result<Reply, Fault>
-        ensures { Answers self.old (asked_of command.now.doc.now (Opens command.now.label.now command.now.bytes.now)) (reply_of result) self.new }
+        ensures { Answers self.old (asked_of command.now.doc.now (Opens command.now.label.now command.now.bytes.now command.now.bom)) (reply_of result) self.new }
     {
         let bytes = bytes_of(self.alloc, command.bytes)?;
         if self.documents.has(command.doc) {
@@ -32,7 +34,7 @@ impl Desk<'_> {
         }
         match self.labels.lookup(command.label.as_bytes()) {
             Some(given) => {
-                let setting = Setting::new(given, Bom::Sniff);
+                let setting = Setting::new(given, command.bom);
                 self.documents
                     .open(self.alloc, command.doc, setting, &bytes, 0)
             }

@@ -11,25 +11,24 @@ fn raised(doc: &mut Doc<'_>, at: u64, del: u64, ins: &[u8]) -> Result<u64, DocFa
     Ok(meter.decoded())
 }
 
-#[test]
-fn one_byte_into_a_mebibyte(rt: HostRuntime) -> Result<(), Fail> {
+/// A letter is put into a mebibyte of letters in front, near it, in the middle and behind.
+fn one_byte_each(rt: &impl Abort, alloc: Global, bom: Bom) -> Result<(), Fail> {
     let indexes = Indexes::new();
-    let bytes = vec![in rt.alloc(); b'a'; 1_048_576]?;
-    let mut doc = Doc::open(
-        rt.alloc(),
-        &indexes,
-        Encoding::Utf8,
-        Bom::Sniff,
-        &bytes,
-        &mut meter(),
-    )?;
+    let bytes = vec![in alloc; b'a'; 1_048_576]?;
+    let mut doc = Doc::open(alloc, &indexes, Encoding::Utf8, bom, &bytes, &mut meter())?;
     for at in [0, 1, 524_288, 1_048_576] {
         let raised = raised(&mut doc, at, 0, b"a")?;
-        assert!(&rt; raised <= 8193, "{raised} bytes decoded for one at {at}");
+        assert!(rt; raised <= 8193, "{raised} bytes decoded for one at {at}");
     }
-    assert_eq!(&rt; doc.lengths().scalars, 1_048_580);
-    assert!(&rt; pieces_are_sized(&doc));
+    assert_eq!(rt; doc.lengths().scalars, 1_048_580);
+    assert!(rt; pieces_are_sized(&doc));
     Ok(())
+}
+
+#[test]
+fn one_byte_into_a_mebibyte(rt: HostRuntime) -> Result<(), Fail> {
+    one_byte_each(&rt, rt.alloc(), Bom::Sniff)?;
+    one_byte_each(&rt, rt.alloc(), Bom::Keep)
 }
 
 #[test]

@@ -178,6 +178,7 @@ fn field_name(field: Field) -> &'static str
         Field::Doc => "doc",
         Field::Label => "label",
         Field::Bytes => "bytes",
+        Field::Bom => "bom",
         Field::Rev => "rev",
         Field::At => "at",
         Field::Del => "del",

@@ -68,7 +68,13 @@ fn open(value: &Value) -> Result<Command<'_>, Field>
     let doc = fields::name(value).ok_or(Field::Doc)?;
     let label = fields::text(value, "label").ok_or(Field::Label)?;
     let bytes = fields::text(value, "bytes").ok_or(Field::Bytes)?;
-    Ok(Command::Open(ops::Open { doc, label, bytes }))
+    let bom = fields::bom(value).ok_or(Field::Bom)?;
+    Ok(Command::Open(ops::Open {
+        doc,
+        label,
+        bytes,
+        bom,
+    }))
 }
 
 /// The command `close`, or the first faulty field.

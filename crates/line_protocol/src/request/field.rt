@@ -10,6 +10,7 @@ pub enum Field {
     Doc,
     Label,
     Bytes,
+    Bom,
     Rev,
     At,
     Del,

@@ -1,9 +1,10 @@
 //! The fields of an object, each by its kind. An absent field and one of another kind are alike.
 ghost use Rattle.std.specs.Prelude.{◌≡◌, option_map};
 ghost use Rattle.serde_json.specs.View.{view};
-ghost use Rattle.line_protocol.specs.Request.{number_at, text_at, name_at, text_mode_at, encode_mode_at, as_unit, unit_at, place_unit_at, position_at, range_at};
+ghost use Rattle.line_protocol.specs.Request.{number_at, text_at, name_at, bom_at, text_mode_at, encode_mode_at, as_unit, unit_at, place_unit_at, position_at, range_at};
 
 use desk::{PlaceUnit, TextMode};
+use enc_names::Bom;
 use encoders::EncodeMode;
 use position_map::{Position, Range, Unit};
 use serde_json::Value;
@@ -38,6 +39,20 @@ pub(super) fn name(value: &Value) -> Option<&str>
         return None;
     }
     Some(name)
+}
+
+/// What becomes of a byte order mark, which is looked for where the field is absent.
+pub(super) fn bom(value: &Value) -> Option<Bom>
+    ensures { result ≡ bom_at (view value.now) }
+{
+    let Some(bom) = value.get("bom") else {
+        return Some(Bom::Sniff);
+    };
+    match bom.as_str()? {
+        "sniff" => Some(Bom::Sniff),
+        "keep" => Some(Bom::Keep),
+        _ => None,
+    }
 }
 
 /// The mode of a text, which is replacement where it is absent.

@@ -1,6 +1,7 @@
 use Rattle.std.proofs.Common.{◌≡◌, ap, sym, subst, ◌∙◌, ℕ, List, length, Option, option_map}
 use Rattle.std.specs.Option.{unwrap_or}
 use Rattle.std.proofs.lemmas.Result.{IfOk-weaker}
+use Rattle.enc_names.specs.declared.setting.Setting.{Setting}
 use Rattle.decoder_core.specs.declared.placed.Placed.{Placed}
 use Rattle.decoder_core.specs.Placed.{places}
 use Rattle.decoder_core.specs.Queue.{run}
@@ -19,10 +20,10 @@ sniffed d bytes mark law e = ap (items_behind d bytes) e ∙ sym (ap (places (le
 
 pub returns-in-Some-clause-ok : goal.returns-in-Some-clause-ok
 returns-in-Some-clause-ok c =
-    let same = sniffed c.args.decoder.now c.args.bytes.now _ (c.law_standing.ensures.run c.args.decoder.now c.args.bytes.now) c.in-Some.ensures.value in
+    let same = sniffed c.args.decoder.now c.args.bytes.now _ (c.law_standing.ensures.run c.args.decoder.now c.args.bytes.now) (c.in-Some.ensures.value ∙ ap (λ (s : Setting). mark_under s c.args.bytes.now) c.setting.ensures) in
     IfOk-weaker c.decode_marked.result _ _ (λ d is. subst (λ items. IsDecoding items d) same is) c.decode_marked.ensures.ok
 
 pub returns-in-None-clause-ok : goal.returns-in-None-clause-ok
 returns-in-None-clause-ok c =
-    let same = sniffed c.args.decoder.now c.args.bytes.now _ (c.law_standing.ensures.run c.args.decoder.now c.args.bytes.now) c.in-None.ensures.value in
+    let same = sniffed c.args.decoder.now c.args.bytes.now _ (c.law_standing.ensures.run c.args.decoder.now c.args.bytes.now) (c.in-None.ensures.value ∙ ap (λ (s : Setting). mark_under s c.args.bytes.now) c.setting.ensures) in
     IfOk-weaker c.decode_own.result _ _ (λ d is. subst (λ items. IsDecoding items d) same is) c.decode_own.ensures.ok

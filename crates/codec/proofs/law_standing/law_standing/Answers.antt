@@ -15,7 +15,7 @@ use Rattle.codec.specs.Any.{AnyDecoding, Standing, any, given_start, standing, s
 use Rattle.codec.specs.Mark.{mark_of}
 use Rattle.codec.specs.Sniffing.{spelt, prefix_of, sniffing}
 use Rattle.codec.specs.SniffedLaws.{sniffing-answer}
-use Rattle.codec.proofs.Looking.{spelt-looks, looked}
+use Rattle.codec.proofs.Looking.{begun, spelt-looks, looked}
 use Rattle.codec.proofs.law_standing.law_standing.Goals as goal
 
 -- the one decoder does from a state on what is wanted
@@ -73,16 +73,19 @@ run-on c d p q =
     ∙ ap (λ (a : Answer). told a (length left) (run (any d) (sniffing (given_start d.own) p (front q)).state left)) (sniffing-answer (given_start d.own) p (front q))
 
 pub returns-clause-run : goal.returns-clause-run
-returns-clause-run c d =
+returns-clause-run c d bytes =
     let bare : (q : List ℕ) → mark_of q ≡ None → run (any d) (given_start d.own) q ≡ run_behind d q (mark_of q) =
     λ q none. (own c d).run q ∙ ap (run_behind d q) (sym none) in
-    looked (given_start d.own) (run (any d)) (λ q. run_behind d q (mark_of q)) (λ p b q. run-on c d p (b ∷ q))
+    begun (given_start d.own) (λ s. run (any d) s bytes) (λ prefix mark. run_behind d bytes mark) d.setting.bom (prefix_of bytes) (mark_of bytes)
+    (looked (given_start d.own) (run (any d)) (λ q. run_behind d q (mark_of q)) (λ p b q. run-on c d p (b ∷ q))
     (λ p. run-on c d p [] ∙ ap (run (any d) (given_start d.own)) (append-nil (spelt p)) ∙ bare (spelt p) (spelt-looks p).1)
-    (utf8 c d).run (utf16_be c d).run (utf16_le c d).run (λ q _ none. bare q none)
+    (utf8 c d).run (utf16_be c d).run (utf16_le c d).run (λ q _ none. bare q none) bytes)
+    ((own c d).run bytes)
 
 pub returns-clause-state : goal.returns-clause-state
-returns-clause-state c d =
-    looked (given_start d.own) (λ s q. (feed (any d) s q).state) (λ q. stands_behind d q (prefix_of q) (mark_of q))
+returns-clause-state c d bytes =
+    begun (given_start d.own) (λ s. (feed (any d) s bytes).state) (stands_behind d bytes) d.setting.bom (prefix_of bytes) (mark_of bytes)
+    (looked (given_start d.own) (λ s q. (feed (any d) s q).state) (λ q. stands_behind d q (prefix_of q) (mark_of q))
     (λ p b q.
     let t = sniffing (given_start d.own) p (Some b) in
     let left = queue_after (any d) (state.Sniffing p) (b ∷ q) in
@@ -92,4 +95,5 @@ returns-clause-state c d =
     ap (λ (f : Fed AnyState). f.state) (c.law_all_runs.ensures.feed_empty d (state.Sniffing p))
     ∙ ap (λ (o : Option Prefix). stands_behind d (spelt p) o (mark_of (spelt p))) (sym (spelt-looks p).0))
     (utf8 c d).state (utf16_be c d).state (utf16_le c d).state
-    (λ q no_prefix none. (own c d).state q ∙ ap (stands_behind d q None) (sym none) ∙ ap (λ (p : Option Prefix). stands_behind d q p (mark_of q)) (sym no_prefix))
+    (λ q no_prefix none. (own c d).state q ∙ ap (stands_behind d q None) (sym none) ∙ ap (λ (p : Option Prefix). stands_behind d q p (mark_of q)) (sym no_prefix)) bytes)
+    ((own c d).state bytes)

@@ -1,12 +1,13 @@
-use Rattle.std.proofs.Common.{◌≡◌, ap, subst, ◌∙◌, Some, Option}
+use Rattle.std.proofs.Common.{◌≡◌, ap, sym, subst, ◌∙◌, ℕ, List, [], Some, Option}
 use Rattle.std.specs.Option.{IfSome}
 use Rattle.enc_names.specs.declared.setting.Setting.{Setting}
 use Rattle.index_loader.specs.Files.{Files}
 use Rattle.index_loader.specs.Index.{Loaded}
-use Rattle.decoder_core.specs.Queue.{Fed}
+use Rattle.decoder_core.specs.Queue.{Fed, feed}
 use Rattle.codec.specs.declared.state.AnyState.{AnyState}
 use Rattle.codec.specs.declared.state.AnyState.TheVariants.{Iso2022Jp as in_iso_2022_jp}
-use Rattle.codec.specs.Any.{AnyDecoding, decoder_in}
+use Rattle.codec.specs.Any.{AnyDecoding, any, any_start, decoder_in}
+use Rattle.codec.specs.Behind.{state_behind}
 use Rattle.codec.proofs.Choosing.{IsUnder, chosen, behind}
 use Rattle.codec.proofs.OutputStates.{IsoLaws, output_of_state, output_at_mark, mark_fits, decoded_in_force, output_at_byte, output_at_last}
 use Rattle.codec.proofs.output_laws.law_output_at_the_end.Goals as goal
@@ -26,13 +27,16 @@ returns c =
       runs = λ d lift. among.runs jis0208 d in_iso_2022_jp lift;
       feeds = λ d lift. among.feeds jis0208 d in_iso_2022_jp lift;
     } in
+    let stands : (files : Files) (setting : Setting) (d : AnyDecoding) (bytes : List ℕ) → decoder_in files setting ≡ Some d → (feed (any d) (any_start d) bytes).state ≡ state_behind files setting bytes =
+    λ files setting d bytes is. c.law_standing.ensures.state d bytes ∙ behind files setting d (does_there files setting d is) bytes in
     record {
       state = output_of_state;
       mark = output_at_mark;
       mark_fits = mark_fits;
       there = λ files setting. (chosen files setting).0;
       in_force = decoded_in_force;
-      behind = λ files setting d bytes is. c.law_standing.ensures.state d bytes ∙ behind files setting d (does_there files setting d is) bytes;
+      start = λ files setting d is. sym (ap (λ (f : Fed AnyState). f.state) (c.law_all_runs.ensures.feed_empty d (any_start d))) ∙ stands files setting d [] is;
+      behind = stands;
       parts = λ d s p q. ap (λ (f : Fed AnyState). f.state) (c.law_all_runs.ensures.feed_parts d s p q);
       byte = output_at_byte laws;
       end = output_at_last laws;

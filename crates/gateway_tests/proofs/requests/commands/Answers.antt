@@ -3,10 +3,6 @@ use Rattle.std.specs.Str.{is_utf8, chars}
 use Rattle.serde_json.proofs.OnLiterals.{serde_json_on_literals}
 use Rattle.gateway_tests.proofs.requests.commands.Goals as goal
 
-pub returns-clause-open : goal.returns-clause-open
-unfolding is_utf8 chars serde_json_on_literals
-returns-clause-open c = refl
-
 pub returns-clause-close : goal.returns-clause-close
 unfolding is_utf8 chars serde_json_on_literals
 returns-clause-close c = refl

@@ -7,4 +7,4 @@ use Rattle.position_map.proofs.plan_examples.whole_text.Goals as goal
 
 pub returns : goal.returns
 unfolding planned replacing text_of decode output_behind run turns feed feed_for encode
-returns c = record { unmarked = refl; marked = refl }
+returns c = record { unmarked = refl; marked = refl; kept = refl }

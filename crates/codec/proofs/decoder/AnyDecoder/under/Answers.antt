@@ -9,6 +9,12 @@ use Rattle.codec.proofs.decoder.AnyDecoder.under.Goals as goal
 pub returns-clause-variant : goal.returns-clause-variant
 returns-clause-variant c = rw c.choose.ensures (chosen c.args.indexes.now c.args.setting).0
 
+pub returns-clause-setting : goal.returns-clause-setting
+returns-clause-setting c =
+    let files = c.args.indexes.now in
+    let setting = c.args.setting in
+    rw c.choose.ensures (IfSome_then (decoder_in files setting) (chosen files setting).1 (λ d does. does.setting_is))
+
 pub returns-clause-decode : goal.returns-clause-decode
 returns-clause-decode c =
     let files = c.args.indexes.now in

@@ -16,6 +16,7 @@ returns-clause-outputs c =
     let there = is_there files setting (law.there files setting) c.self.invariant.can in
     let d = there.decoder in
     let laws : StateLaws files setting d = record {
+      start = law.start files setting d there.chosen;
       behind = λ bytes. law.behind files setting d bytes there.chosen;
       output = law.state files setting;
       parts = law.parts d;
