@@ -35,7 +35,7 @@ macro_rules! line {
 }
 
 /// The sessions.
-pub const SESSIONS: [Session; 6] = [
+pub const SESSIONS: [Session; 8] = [
     Session {
         name: "a byte order mark is taken away",
         steps: &MARK,
@@ -59,6 +59,14 @@ pub const SESSIONS: [Session; 6] = [
     Session {
         name: "a deletion between shifts",
         steps: &BETWEEN,
+    },
+    Session {
+        name: "a list of changes",
+        steps: &LIST,
+    },
+    Session {
+        name: "a list refused at its end",
+        steps: &REFUSED_LIST,
     },
 ];
 
@@ -195,5 +203,35 @@ const BETWEEN: [SessionStep; 6] = [
     line!(
         "{\"id\":6,\"op\":\"source\",\"doc\":\"e\",\"at\":0,\"len\":12}\n",
         "{\"bytes\":\"GyRCJCIbKEJBGyRC\",\"id\":6,\"rev\":1}\n"
+    ),
+];
+
+const LIST: [SessionStep; 3] = [
+    line!(
+        "{\"id\":1,\"op\":\"open\",\"doc\":\"d\",\"label\":\"utf-8\",\"bytes\":\"YfCfmIANCmI=\"}\n",
+        "{\"bom\":0,\"encoding\":\"UTF-8\",\"id\":1,\"rev\":0}\n"
+    ),
+    line!(
+        "{\"id\":9,\"op\":\"changes\",\"doc\":\"d\",\"rev\":0,\"changes\":[{\"range\":{\"start\":{\"line\":0,\"character\":1},\"end\":{\"line\":0,\"character\":3}},\"text\":\"x\"},{\"range\":{\"start\":{\"line\":1,\"character\":0},\"end\":{\"line\":1,\"character\":1}},\"text\":\"yz\"}]}\n",
+        "{\"applied\":2,\"bom\":0,\"encoding\":\"UTF-8\",\"id\":9,\"rev\":1}\n"
+    ),
+    line!(
+        "{\"id\":3,\"op\":\"source\",\"doc\":\"d\",\"at\":0,\"len\":6}\n",
+        "{\"bytes\":\"YXgNCnl6\",\"id\":3,\"rev\":1}\n"
+    ),
+];
+
+const REFUSED_LIST: [SessionStep; 3] = [
+    line!(
+        "{\"id\":1,\"op\":\"open\",\"doc\":\"d\",\"label\":\"utf-8\",\"bytes\":\"YfCfmIANCmI=\"}\n",
+        "{\"bom\":0,\"encoding\":\"UTF-8\",\"id\":1,\"rev\":0}\n"
+    ),
+    line!(
+        "{\"id\":10,\"op\":\"changes\",\"doc\":\"d\",\"rev\":0,\"changes\":[{\"text\":\"a\u{1F600}\"},{\"range\":{\"start\":{\"line\":0,\"character\":2},\"end\":{\"line\":0,\"character\":2}},\"text\":\"x\"}]}\n",
+        "{\"change\":1,\"fault\":\"SplitsCharacter\",\"id\":10}\n"
+    ),
+    line!(
+        "{\"id\":3,\"op\":\"text\",\"doc\":\"d\",\"from\":0,\"to\":5}\n",
+        "{\"id\":3,\"rev\":0,\"text\":\"a\u{1F600}\\r\\nb\"}\n"
     ),
 ];
