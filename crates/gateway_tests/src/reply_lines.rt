@@ -2,8 +2,10 @@
 ghost use Rattle.std.specs.Prelude.{◌≡◌, ◌++◌, ◌∷◌, [], codes, Some, None};
 ghost use Rattle.enc_names.specs.declared.encoding.Encoding.TheVariants.{Iso2022Jp, Utf8};
 ghost use Rattle.line_protocol.specs.Replies.{reply_text, refusal_text};
+ghost use Rattle.desk.specs.declared.change_cause.ChangeCause.TheVariants.{Plan};
 ghost use Rattle.desk.specs.declared.fault.Fault.TheVariants as fault;
-ghost use Rattle.desk.specs.declared.reply.Reply.TheVariants.{Edited, Changed, Closed, Text, Errors, Lines, Position, Offset, Stat, Refused};
+ghost use Rattle.position_map.specs.declared.change_fault.ChangeFault.TheVariants as change_fault;
+ghost use Rattle.desk.specs.declared.reply.Reply.TheVariants.{Edited, Changed, ChangesMade, Closed, Text, Errors, Lines, Position, Offset, Stat, Refused};
 ghost use Rattle.desk.specs.declared.reply.Reply.TheVariants as replies;
 ghost use Rattle.line_protocol.specs.declared.request.field.Field.TheVariants as field;
 ghost use Rattle.line_protocol.specs.declared.request.refusal.Refusal.TheVariants as refusal;
@@ -64,6 +66,16 @@ fn replies_to_changes()
     ensures encoder { reply_text 4 (Refused fault.NoEncoder) ≡ codes "{\"fault\":\"NoEncoder\",\"id\":4}\n" }
     ensures unencodable { reply_text 4 (Refused (fault.Unencodable 12354 0))
         ≡ codes "{\"code_point\":12354,\"fault\":\"Unencodable\",\"id\":4,\"index\":0}\n" }
+{}
+
+/// The number of the change that is refused takes the place of its key.
+fn replies_to_lists()
+    ensures made { reply_text 9 (ChangesMade 2 0 Utf8 1)
+        ≡ codes "{\"applied\":2,\"bom\":0,\"encoding\":\"UTF-8\",\"id\":9,\"rev\":1}\n" }
+    ensures plan { reply_text 10 (Refused (fault.InChange 1 (Plan change_fault.SplitsCharacter)))
+        ≡ codes "{\"change\":1,\"fault\":\"SplitsCharacter\",\"id\":10}\n" }
+    ensures unencodable { reply_text 4 (Refused (fault.InChange 3 (Plan (change_fault.Unencodable (record { index = 0; code_point = 12354 })))))
+        ≡ codes "{\"change\":3,\"code_point\":12354,\"fault\":\"Unencodable\",\"id\":4,\"index\":0}\n" }
 {}
 
 fn refused_lines()

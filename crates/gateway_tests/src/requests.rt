@@ -1,8 +1,8 @@
 //! Worked lines: their requests, computed on the definition.
 ghost use Rattle.std.specs.Prelude.{◌≡◌, ◌∷◌, [], codes, Ok, Err, Some, None};
 ghost use Rattle.enc_names.specs.declared.bom.Bom.TheVariants.{Sniff, Keep};
-ghost use Rattle.desk.specs.Commands.{asked_of, Opens, Closes, Splices, ChangesText, Reads, ReadsBytes, Encodes, ListsErrors, ListsLines, FindsPosition, FindsOffset, FindsPlace, Measures};
-ghost use Rattle.line_protocol.specs.Request.{request_of_line, position_of, range_of};
+ghost use Rattle.desk.specs.Commands.{asked_of, Opens, Closes, Splices, ChangesText, MakesChanges, Reads, ReadsBytes, Encodes, ListsErrors, ListsLines, FindsPosition, FindsOffset, FindsPlace, Measures};
+ghost use Rattle.line_protocol.specs.Request.{request_of_line, position_of, range_of, text_change};
 ghost use Rattle.position_map.specs.declared.unit.Unit.TheVariants.{Utf8, Utf16, Utf32};
 ghost use Rattle.desk.specs.declared.place_unit.PlaceUnit.TheVariants as place_unit;
 ghost use Rattle.encoders.specs.declared.mode.EncodeMode.TheVariants as encode_mode;
@@ -120,6 +120,22 @@ fn changes()
     ensures last { request_of_line (codes
         "{\"id\":9,\"op\":\"change\",\"doc\":\"d\",\"rev\":0,\"range\":{\"end\":{\"character\":3,\"line\":0},\"start\":7,\"rangeLength\":1,\"start\":{\"line\":4,\"character\":1,\"line\":0}},\"text\":\"x\"}")
         ≡ Ok (9, asked_of (codes "d") (ChangesText 0 Utf16 (Some (range_of (position_of 0 1) (position_of 0 3))) (codes "x"))) }
+{}
+
+/// A list of changes is read element by element.
+fn lists_of_changes()
+    ensures two { request_of_line (codes
+        "{\"id\":9,\"op\":\"changes\",\"doc\":\"d\",\"rev\":0,\"changes\":[{\"range\":{\"start\":{\"line\":0,\"character\":1},\"end\":{\"line\":0,\"character\":3}},\"text\":\"x\"},{\"range\":null,\"text\":\"yz\"}]}")
+        ≡ Ok (9, asked_of (codes "d") (MakesChanges 0 Utf16
+            (text_change (Some (range_of (position_of 0 1) (position_of 0 3))) (codes "x") ∷ text_change None (codes "yz") ∷ []))) }
+    ensures none { request_of_line (codes "{\"id\":9,\"op\":\"changes\",\"doc\":\"d\",\"rev\":1,\"unit\":\"utf-8\",\"changes\":[]}")
+        ≡ Ok (9, asked_of (codes "d") (MakesChanges 1 Utf8 [])) }
+    ensures absent { request_of_line (codes "{\"id\":1,\"op\":\"changes\",\"doc\":\"d\",\"rev\":0}")
+        ≡ Err (BadRequest (Some 1) field.Changes) }
+    ensures second { request_of_line (codes "{\"id\":1,\"op\":\"changes\",\"doc\":\"d\",\"rev\":0,\"changes\":[{\"text\":\"x\"},{\"text\":7}]}")
+        ≡ Err (BadRequest (Some 1) field.Changes) }
+    ensures range { request_of_line (codes "{\"id\":1,\"op\":\"changes\",\"doc\":\"d\",\"rev\":0,\"changes\":[{\"range\":{},\"text\":\"x\"}]}")
+        ≡ Err (BadRequest (Some 1) field.Changes) }
 {}
 
 /// Whatever is wrong in a range, it is `range` that is named.
