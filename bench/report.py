@@ -16,8 +16,12 @@ UNITS = {"instructions": "thousands of instructions", "us": "microseconds"}
 TITLES = {
     "edits": "Edits: a splice, a text of 100 code points, and the splice that takes it back",
     "changes": "Changes: a range change by line and character, and the one that takes it back",
+    "lists_of_one": "Lists of one change, and the one that takes it back",
+    "lists_of_ten": "Lists of ten changes, and the one that takes them back",
     "positions": "Positions: an offset of a position and a position of an offset",
     "pages": "Pages: 1,000 lines, and 1,000 code points encoded in UTF-8",
+    "ends": "At the end: ten lines, errors, 100 bytes and 100 code points, and a splice at the front with the one that takes it back",
+    "rests": "The whole rest decoded anew: a byte order mark in front (in UTF-16 one byte), and the splice that takes it back, with a short text behind each",
     "bulk": "Bulk: a document opened, an eighth of its bytes in code points as text and as UTF-8, its errors",
 }
 

@@ -13,7 +13,7 @@ import time
 
 from sessions import KINDS, SAMPLES
 
-SIZES = {"64K": 65_536, "256K": 262_144, "1M": 1_048_576, "2M": 2_097_152}
+SIZES = {"64K": 65_536, "256K": 262_144, "1M": 1_048_576, "2M": 2_097_152, "16M": 16_777_216}
 
 
 # Counts instructions alone: no cache, no profile. The C library's copies and fills run by vector loops, since an
@@ -58,7 +58,7 @@ def main():
     words.add_argument("--labels", required=True)
     words.add_argument("--kinds", nargs="*", choices=KINDS, default=list(KINDS))
     words.add_argument("--encodings", nargs="*", choices=SAMPLES, default=list(SAMPLES))
-    words.add_argument("--sizes", nargs="*", choices=SIZES, default=list(SIZES))
+    words.add_argument("--sizes", nargs="*", choices=SIZES, default=["64K", "256K", "1M", "2M"])
     words.add_argument("--times", type=int, default=5, help="runs of each session, of which the fastest counts")
     words.add_argument("--instructions", action="store_true", help="count instructions, over a tenth of the rounds")
     chosen = words.parse_args()

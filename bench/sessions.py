@@ -122,11 +122,73 @@ def bulk(label, size, count):
     return session.bytes()
 
 
+def lists(label, size, count, length):
+    """Lists of so many changes by line and character, each list taken back by the next."""
+    data, session = opened(label, size)
+    lines = len(line_starts(label, data))
+    rng = random.Random(f"lists {label} {size}")
+    for _ in range(count):
+        places = [{"line": rng.randrange(lines), "character": 0} for _ in range(length)]
+        behind = [{**place, "character": 2} for place in places]
+        # The same line may come twice: what was put in last goes first.
+        session.edit("changes", doc="d", changes=[{"range": {"start": it, "end": it}, "text": "ab"} for it in places])
+        taken = [{"range": {"start": it, "end": end}, "text": ""} for it, end in zip(places, behind)]
+        session.edit("changes", doc="d", changes=taken[::-1])
+    return session.bytes()
+
+
+def lists_of_one(label, size, count):
+    """Lists of one change, as editors send them after each key."""
+    return lists(label, size, count, 1)
+
+
+def lists_of_ten(label, size, count):
+    """Lists of ten changes."""
+    return lists(label, size, count, 10)
+
+
+def ends(label, size, count):
+    """What may grow with the document: a page of lines, of errors, of bytes and of text at its end, and a splice at its
+    front, taken back by the next."""
+    data, session = opened(label, size)
+    lines = len(line_starts(label, data))
+    letter = b"a\0" if label == "utf-16le" else b"a"
+    # No text here has more than four bytes a code point.
+    late = len(data) // 4
+    for _ in range(count):
+        session.add("lines", doc="d", **{"from": lines - 10, "max": 10})
+        session.add("errors", doc="d", **{"from": 0, "max": 10})
+        session.add("source", doc="d", at=len(data) - 100, len=100)
+        session.add("text", doc="d", **{"from": late, "to": late + 100})
+        session.edit("splice", doc="d", at=0, **{"del": 0}, bytes=b64(letter))
+        session.edit("splice", doc="d", at=0, **{"del": len(letter)}, bytes="")
+    return session.bytes()
+
+
+def rests(label, size, count):
+    """Edits that change how the whole rest is decoded: a byte in front, or a byte order mark in front, taken back by the
+    next, each behind a short text."""
+    data, session = opened(label, size)
+    front = b"a" if label == "utf-16le" else b"\xef\xbb\xbf"
+    for _ in range(count):
+        session.edit("splice", doc="d", at=0, **{"del": 0}, bytes=b64(front))
+        session.add("text", doc="d", **{"from": 0, "to": 10})
+        session.edit("splice", doc="d", at=0, **{"del": len(front)}, bytes="")
+        session.add("text", doc="d", **{"from": 0, "to": 10})
+    return session.bytes()
+
+
+# The most bytes of a document that one line has room for, and some to spare.
+PART = 2 << 20
+
+
 def opened(label, size):
-    """The bytes of a document, and a session that opens it and has its text made."""
+    """The bytes of a document, and a session that opens it, by parts where it is long, and has its text made."""
     data = document(label, size)
     session = Session()
-    session.add("open", doc="d", label=label, bytes=b64(data))
+    session.add("open", doc="d", label=label, bytes=b64(data[:PART]))
+    for at in range(PART, len(data), PART):
+        session.edit("splice", doc="d", at=at, **{"del": 0}, bytes=b64(data[at : at + PART]))
     session.add("text", doc="d", **{"from": 0, "to": 1})
     return data, session
 
@@ -147,6 +209,10 @@ Rounds = namedtuple("Rounds", "gate peer")
 KINDS = {
     "edits": (edits, Rounds(2000, 50)),
     "changes": (changes, Rounds(2000, 30)),
+    "lists_of_one": (lists_of_one, Rounds(2000, 30)),
+    "lists_of_ten": (lists_of_ten, Rounds(200, 3)),
+    "ends": (ends, Rounds(500, 20)),
+    "rests": (rests, Rounds(10, 10)),
     "positions": (positions, Rounds(5000, 5000)),
     "pages": (pages, Rounds(200, 200)),
     "bulk": (bulk, Rounds(10, 10)),

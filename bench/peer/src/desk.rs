@@ -1,6 +1,6 @@
 //! Commands and replies: names, documents, the order of refusals.
 
-use crate::change::{code_points_before, is_kept, place_of, plan};
+use crate::change::{code_points_before, is_kept, place_of, plan, Plan};
 use crate::document::Document;
 use crate::encode::encode;
 use crate::positions::{Counts, Missed, Unit};
@@ -100,7 +100,9 @@ fn position(value: &Value) -> Option<Position> {
     Some((part("line")? as usize, part("character")? as usize))
 }
 
-fn range(object: &Object) -> Result<Option<(Position, Position)>, Fault> {
+type Range = Option<(Position, Position)>;
+
+fn range(object: &Object) -> Result<Range, Fault> {
     match object.get("range") {
         None | Some(Value::Null) => Ok(None),
         Some(value) => {
@@ -135,6 +137,7 @@ impl Desk {
             "close" => self.close(object),
             "splice" => self.splice(object),
             "change" => self.change(object),
+            "changes" => self.changes(object),
             "text" => self.text(object),
             "source" => self.source(object),
             "encode" => self.encode(object),
@@ -197,6 +200,7 @@ impl Desk {
             return Err("TooLarge".into());
         }
         document.splice(at, del, &bytes);
+        document.revision += 1;
         Ok(headed(document, vec![]))
     }
 
@@ -206,36 +210,34 @@ impl Desk {
         let put = text(object, "text")?;
         let document = self.get(name)?;
         edited(document, rev)?;
-        let decoded = document.decoded();
-        let (from, to) = match range {
-            None => (Counts::default(), decoded.tables.whole()),
-            Some((start, end)) => {
-                if start > end {
-                    return Err("OutOfRange".into());
-                }
-                let place = |(line, character)| {
-                    decoded
-                        .tables
-                        .of_position(&decoded.text, line, character, unit)
-                        .map_err(missed)
-                };
-                (place(start)?, place(end)?)
-            }
-        };
-        let plan = plan(document, from.utf32, to.utf32, put)?;
-        if document.bytes().len() - plan.del + plan.bytes.len() > DOCUMENT {
-            return Err("TooLarge".into());
-        }
-        if !is_kept(document, &plan, from.utf8, to.utf8, put) {
-            return Err("NotKept".into());
-        }
-        document.splice(plan.at, plan.del, &plan.bytes);
+        let plan = changed(document, unit, range, put)?;
+        document.revision += 1;
         let more = vec![
             ("at", plan.at.into()),
             ("del", plan.del.into()),
             ("ins", plan.bytes.len().into()),
         ];
         Ok(headed(document, more))
+    }
+
+    fn changes(&mut self, object: &Object) -> Answer {
+        let (name, rev, unit) = (name(object)?, number(object, "rev")?, unit(object)?);
+        let listed = object.get("changes").and_then(Value::as_array);
+        let listed = listed.filter(|list| list.len() <= 1000);
+        let changes = listed.map(|list| list.iter().map(listed_change).collect::<Option<Vec<_>>>());
+        let changes = changes.flatten().ok_or_else(|| wrong("changes"))?;
+        let document = self.get(name)?;
+        edited(document, rev)?;
+        let before = document.bytes().to_vec();
+        for (number, (range, put)) in changes.iter().enumerate() {
+            if let Err(mut fault) = changed(document, unit, *range, put) {
+                document.restore(before);
+                fault.fields.push(("change", number.into()));
+                return Err(fault);
+            }
+        }
+        document.revision += 1;
+        Ok(headed(document, vec![("applied", changes.len().into())]))
     }
 
     fn text(&mut self, object: &Object) -> Answer {
@@ -402,6 +404,41 @@ impl Desk {
         ]);
         Ok(answer)
     }
+}
+
+/// A change of a list.
+fn listed_change(value: &Value) -> Option<(Range, &str)> {
+    let object = value.as_object()?;
+    Some((range(object).ok()?, text(object, "text").ok()?))
+}
+
+/// Replaces a range of the text, and returns how.
+fn changed(document: &mut Document, unit: Unit, range: Range, put: &str) -> Result<Plan, Fault> {
+    let decoded = document.decoded();
+    let (from, to) = match range {
+        None => (Counts::default(), decoded.tables.whole()),
+        Some((start, end)) => {
+            if start > end {
+                return Err("OutOfRange".into());
+            }
+            let place = |(line, character)| {
+                decoded
+                    .tables
+                    .of_position(&decoded.text, line, character, unit)
+                    .map_err(missed)
+            };
+            (place(start)?, place(end)?)
+        }
+    };
+    let plan = plan(document, from.utf32, to.utf32, put)?;
+    if document.bytes().len() - plan.del + plan.bytes.len() > DOCUMENT {
+        return Err("TooLarge".into());
+    }
+    if !is_kept(document, &plan, from.utf8, to.utf8, put) {
+        return Err("NotKept".into());
+    }
+    document.splice(plan.at, plan.del, &plan.bytes);
+    Ok(plan)
 }
 
 /// Whether an edit names the revision now and another may follow.

@@ -47,7 +47,12 @@ impl Document {
     /// Replaces `del` bytes from `at` on, which are there.
     pub fn splice(&mut self, at: usize, del: usize, bytes: &[u8]) {
         self.bytes.splice(at..at + del, bytes.iter().copied());
-        self.revision += 1;
+        self.is_decoded = false;
+    }
+
+    /// The bytes as they were, where a later part of an edit is refused.
+    pub fn restore(&mut self, bytes: Vec<u8>) {
+        self.bytes = bytes;
         self.is_decoded = false;
     }
 
