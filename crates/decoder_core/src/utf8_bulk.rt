@@ -34,8 +34,8 @@ fn block_run(bytes: &[u8]) -> usize
     valid_run(&bytes[..block_end(bytes)])
 }
 
-/// Where the block ends: before a character that would go on behind 1024 bytes, since a test of a
-/// part that ends inside a character looks for the fault byte by byte.
+/// Where the block ends: before a character that would go on behind 1024 bytes, or behind the bytes
+/// at hand, since a test of a part that ends inside a character looks for the fault byte by byte.
 #[inline(always)]
 fn block_end(bytes: &[u8]) -> usize
     ensures within { result ≤ length bytes.now }
@@ -46,7 +46,20 @@ fn block_end(bytes: &[u8]) -> usize
         Some([_, _, last, _]) if !is_trail(*last) => 1023,
         Some([_, before, _, _]) if !is_trail(*before) => 1022,
         Some(_) => 1021,
-        None => bytes.len().min(1024),
+        None => whole_end(bytes).min(1024),
+    }
+}
+
+/// Where the last character ends that isn't cut short by the end of the bytes.
+#[inline(always)]
+fn whole_end(bytes: &[u8]) -> usize
+    ensures { result ≤ length bytes.now }
+{
+    match bytes {
+        [.., 0xC0..=0xFF] => bytes.len() - 1,
+        [.., 0xE0..=0xFF, _] => bytes.len() - 2,
+        [.., 0xF0..=0xFF, _, _] => bytes.len() - 3,
+        _ => bytes.len(),
     }
 }
 

@@ -3,8 +3,9 @@ pub mod Fronts
 pub mod Lone
 pub mod Measures
 pub mod Passing
+pub mod Progress
 pub mod Putting
 pub mod TextSums
-pub mod Threes
+pub mod UnitRuns
 pub mod UnitSums
 pub mod UnitMasks

@@ -4,7 +4,6 @@ use Rattle.std.proofs.Math.Utf8.{encode}
 use Rattle.std.proofs.lemmas.Bool.{lt-ltb, le-ltb}
 use Rattle.std.proofs.lemmas.List.{take-append-drop, drop-drop}
 use Rattle.std.proofs.lemmas.Str.{length-encode}
-use Rattle.std.proofs.lemmas.Simd.{take_more_put_chunk}
 use Rattle.std.specs.Simd.Lanes.{put_chunk}
 use Rattle.lane_utf.specs.Utf16.{utf16_form}
 use Rattle.lane_utf.specs.Widths.{utf8_width, utf16_width}
@@ -24,6 +23,18 @@ put_first zero y (x ∷ xs) ys = refl
 put_first (suc at) y (x ∷ xs) ys =
     let e : suc at + 1 ≡ suc (at + 1) = omega arith in
     ap (λ k. x ∷ k) (put_first at y xs ys) ∙ ap (λ n. put_chunk n (x ∷ slice_set xs at y) ys) (sym e)
+
+-- two lists in a row
+pub put_append : (at : ℕ) (bytes xs ys : List ℕ) → put_chunk at bytes (xs ++ ys) ≡ put_chunk (at + length xs) (put_chunk at bytes xs) ys
+put_append at bytes [] ys =
+    let same : at + 0 ≡ at = omega arith in
+    rw same (ap (λ b. put_chunk at b ys) (sym (put_none at bytes)))
+put_append at bytes (x ∷ xs) ys =
+    let more : at + 1 + length xs ≡ at + suc (length xs) = omega arith in
+    put_first at x bytes (xs ++ ys)
+    ∙ put_append (at + 1) (slice_set bytes at x) xs ys
+    ∙ ap (λ k. put_chunk k (put_chunk (at + 1) (slice_set bytes at x) xs) ys) more
+    ∙ ap (λ b. put_chunk (at + suc (length xs)) b ys) (sym (put_first at x bytes xs))
 
 pub encode_one : (c : ℕ) → c < 128 → encode c ≡ c ∷ []
 unfolding encode
@@ -95,16 +106,52 @@ drop_more_put (suc at) (x ∷ xs) ys =
     let e : suc at + length ys ≡ suc (at + length ys) = omega arith in
     rw e (drop_more_put at xs ys)
 
+take_whole : (xs : List ℕ) → take (length xs) xs ≡ xs
+take_whole [] = refl
+take_whole (x ∷ xs) = ap (λ k. x ∷ k) (take_whole xs)
+
+length-take : (m : ℕ) (xs : List ℕ) → m ≤ length xs → length (take m xs) ≡ m
+length-take zero xs some = refl
+length-take (suc m) [] some = absurd (omega (arith, some))
+length-take (suc m) (x ∷ xs) some = ap suc (length-take m xs (omega (arith, some)))
+
+beyond : (n k : ℕ) (xs ys : List ℕ) → k ≤ n → drop k xs ≡ drop k ys → drop n xs ≡ drop n ys
+beyond n k xs ys less same =
+    let all : k + (n - k) ≡ n = omega (arith, less) in
+    subst (λ i. drop i xs ≡ drop i ys) all (sym (drop-drop (n - k) k xs) ∙ ap (drop (n - k)) same ∙ drop-drop (n - k) k ys)
+
+take_front_put : (m : ℕ) (out ys : List ℕ) → m ≤ length ys → m ≤ length out → take m (put_chunk 0 out ys) ≡ take m ys
+take_front_put zero out ys some room = refl
+take_front_put (suc m) [] ys some room = absurd (omega (arith, room))
+take_front_put (suc m) (x ∷ xs) [] some room = absurd (omega (arith, some))
+take_front_put (suc m) (x ∷ xs) (y ∷ ys) some room = ap (λ k. y ∷ k) (take_front_put m xs ys (omega (arith, some)) (omega (arith, room)))
+
+take_part_put : (written m : ℕ) (out ys : List ℕ) → m ≤ length ys → written + m ≤ length out → take (written + m) (put_chunk written out ys) ≡ take written out ++ take m ys
+take_part_put zero m out ys some room =
+    let none : 0 + m ≡ m = omega arith in
+    rw none (take_front_put m out ys some (omega (arith, room)))
+take_part_put (suc at) m [] ys some room = absurd (omega (arith, room))
+take_part_put (suc at) m (x ∷ xs) ys some room =
+    let more : suc at + m ≡ suc (at + m) = omega arith in
+    rw more (ap (λ k. x ∷ k) (take_part_put at m xs ys some (omega (arith, room))))
+
+-- The first m items of a list are written, and those behind them stand where others are still to come.
+pub front_goes_on : (whole : List ℕ) (written : ℕ) (out old tail ys rest : List ℕ) (m : ℕ) → IsWriting whole written out old tail
+    → length whole ≤ length out → tail ≡ take m ys ++ rest → m ≤ length ys → length ys ≤ length tail → IsWriting whole (written + m) (put_chunk written out ys) old rest
+front_goes_on whole written out old tail ys rest m w room e some wide =
+    let long : length tail ≡ m + length rest = ap length e ∙ length-append (take m ys) rest ∙ ap (λ n. n + length rest) (length-take m ys some) in
+    record {
+      so_far = ap (λ t. t ++ rest) (take_part_put written m out ys some (omega (arith, w.count, long, room)))
+          ∙ append_assoc (take written out) (take m ys) rest ∙ ap (λ t. take written out ++ t) (sym e) ∙ w.so_far;
+      count = omega (arith, w.count, long);
+      kept = beyond (length whole) (written + length ys) _ out (omega (arith, w.count, wide)) (drop_more_put written out ys) ∙ w.kept;
+    }
+
 pub writing_goes_on : (whole : List ℕ) (written : ℕ) (out old tail ys rest : List ℕ) → IsWriting whole written out old tail
     → length whole ≤ length out → tail ≡ ys ++ rest → IsWriting whole (written + length ys) (put_chunk written out ys) old rest
 writing_goes_on whole written out old tail ys rest w room e =
     let long : length tail ≡ length ys + length rest = ap length e ∙ length-append ys rest in
-    record {
-      so_far = ap (λ t. t ++ rest) (take_more_put_chunk written out ys (written + length ys) refl (omega (arith, w, long)))
-          ∙ append_assoc (take written out) ys rest ∙ ap (λ t. take written out ++ t) (sym e) ∙ w.so_far;
-      count = omega (arith, w, long);
-      kept = drop_more_put written out ys ∙ sym (drop-drop (length ys) written out) ∙ ap (drop (length ys)) w.kept ∙ drop-drop (length ys) written old;
-    }
+    front_goes_on whole written out old tail ys rest (length ys) w room (e ∙ ap (λ k. k ++ rest) (sym (take_whole ys))) (omega arith) (omega (arith, long))
 
 -- a code point is written
 pub room_for : (whole : List ℕ) (written : ℕ) (out old tail rest : List ℕ) (c room : ℕ) → IsWriting whole written out old tail
@@ -129,7 +176,7 @@ pub writing_ends : (whole : List ℕ) (written : ℕ) (out old : List ℕ) → I
 writing_ends whole written out old w =
     let all : take written out ≡ whole = sym (append_none (take written out)) ∙ w.so_far in
     let end : written ≡ length whole = omega (arith, w.count) in
-    sym (take-append-drop written out) ∙ ap (λ t. t ++ drop written out) all ∙ ap (λ t. whole ++ t) (w.kept ∙ ap (λ k. drop k old) end)
+    sym (take-append-drop written out) ∙ ap (λ t. t ++ drop written out) all ∙ ap (λ t. whole ++ t) (ap (λ k. drop k out) end ∙ w.kept)
 
 -- a code point's units are written
 pub form_low : (c : ℕ) → c < 65536 → utf16_form c ≡ c ∷ []

@@ -1,19 +1,13 @@
 -- Masks of units, and what they say of pairs.
-use Rattle.std.proofs.Common.{◌≡◌, refl, sym, ap, ap₂, ◌∙◌, ℕ, zero, suc, ◌+◌, ◌-◌, ◌*◌, ◌<◌, ◌≤◌, ◌%◌, ◌^◌, not, nat_lt, Bool, true, false, cond, ◌==◌, ◌&&◌, ◌||◌, leb, ltb, List, [], ◌∷◌, ◌++◌, length, map, take, drop, get_or, Some, None, arith, bit_and, bit_or}
+use Rattle.std.proofs.Common.{◌≡◌, refl, sym, ap, ap₂, ◌∙◌, ℕ, zero, suc, ◌+◌, ◌-◌, ◌*◌, ◌≤◌, ◌%◌, ◌^◌, Bool, true, false, cond, ◌==◌, ◌&&◌, ◌||◌, leb, ltb, List, [], ◌∷◌, ◌++◌, length, map, take, drop, get_or, Some, arith, bit_and, bit_or, subst, ◌/◌}
 use Rattle.std.proofs.lemmas.Bool.Decides.{nat_tests}
-use Rattle.std.proofs.Math.Utf8.{encodes}
-use Rattle.std.proofs.lemmas.Bool.{leb-true, leb-false, le-ltb, lt-ltb}
 use Rattle.std.proofs.lemmas.List.{length-map, drop_more, length-drop, get_or-drop}
-use Rattle.std.proofs.lemmas.Str.{encodes-append, encodes-IsAscii}
-use Rattle.std.specs.Str.{IsAscii}
 use Rattle.std.proofs.lemmas.Simd.{mask_l-mod, chunk-drop, length-chunk}
 use Rattle.lane_utf.specs.Scan.{lone_from, Matched}
-use Rattle.lane_utf.specs.Utf16.{is_lead, is_trail, first_lone, code_points}
+use Rattle.lane_utf.specs.Utf16.{is_lead, is_surrogate, is_trail, first_lone}
 use Rattle.lane_utf.specs.Weights.{has_two, has_three, unit_weight}
 use Rattle.lane_utf.specs.Widths.{total_width}
-use Rattle.lane_utf.proofs.Fronts.{single_front}
 use Rattle.lane_utf.proofs.Lone.{scanned}
-use Rattle.lane_utf.proofs.UnitSums.{by_test}
 use lib.Lanes.{mask_l, top}
 
 -- a lane of a comparison
@@ -22,6 +16,12 @@ at_most a b = cond (leb a b) 65535 0
 
 abbrev pub below : ℕ → ℕ → ℕ
 below a b = cond (ltb a b) 65535 0
+
+abbrev pub same_lane : ℕ → ℕ → ℕ
+same_lane a b = cond (a == b) 65535 0
+
+abbrev pub shifted : ℕ → ℕ → ℕ
+shifted a b = a / 2 ^ b
 
 pub top_one : (a : Bool) → top 15 (cond a 65535 0) ≡ a
 top_one true = refl
@@ -75,6 +75,21 @@ matched (suc n) x (u ∷ us) h e =
     let s = same_bits (is_trail u) (is_lead x) _ _ e in
     (s.0, matched n u us (omega (arith, h)) s.1)
 
+-- units without surrogates match behind a unit that leads no pair
+neither : (lead trail : Bool) (m : ℕ) → cond (lead || trail) 1 0 + 2 * m ≡ 0 → (lead ≡ false) × (trail ≡ false) × (m ≡ 0)
+neither true trail m e = absurd (omega (arith, e))
+neither false true m e = absurd (omega (arith, e))
+neither false false m e = (refl, refl, omega (arith, e))
+
+pub unpaired : (v : List ℕ) → mask_l (map is_surrogate v) ≡ 0 → Matched false v
+unpaired [] e = tt
+unpaired (u ∷ us) e =
+    let n = neither (is_lead u) (is_trail u) _ e in
+    (n.1, subst (λ b. Matched b us) (sym n.0) (unpaired us n.2))
+
+pub surrogate-by_bits : (u : ℕ) → (u / 2 ^ 11 == 27) ≡ is_surrogate u
+surrogate-by_bits u = grind (arith, nat_tests)
+
 -- over units that match, the scan goes on
 abbrev pub last_leads : Bool → List ℕ → Bool
 last_leads after_lead [] = after_lead
@@ -119,35 +134,6 @@ goes_on us at some room m =
     sym (ap (lone_from (is_lead (get_or us (at - 1) 0)) at) (chunk-drop at 32 us)
     ∙ past_matched (is_lead (get_or us (at - 1) 0)) at block (drop (at + 32) us) m
     ∙ ap₂ (λ k n. lone_from k (at + n) (drop (at + 32) us)) last long)
-
--- ASCII units
-not_below : (u : ℕ) → leb 128 u ≡ not (nat_lt u 128)
-not_below u = by_test (leb 128 u)
-    (λ t. t ∙ sym (ap not (le-ltb u 128 (leb-true 128 u t))))
-    (λ t. t ∙ sym (ap not (lt-ltb u 128 (leb-false 128 u t))))
-
-pub top_high : (u : ℕ) → top 15 (at_most 128 u) ≡ not (nat_lt u 128)
-top_high u = top_one (leb 128 u) ∙ not_below u
-
-pub ascii_units : (n : ℕ) (us : List ℕ) → n ≤ length us → IsAscii (take n us) → first_lone us ≡ None
-    → (first_lone (drop n us) ≡ None) × (code_points us ≡ take n us ++ code_points (drop n us))
-ascii_units zero us h a e = (e, refl)
-ascii_units (suc n) [] h a e = absurd (omega (arith, h))
-ascii_units (suc n) (u ∷ us) h a e =
-    let low : u < 128 = a 0 in
-    let lead : is_lead u ≡ false = not_lead u low in
-    let front = single_front u us (omega (arith, low)) e lead in
-    let more = ascii_units n us (omega (arith, h)) (λ i. a (suc i)) front.paired in
-    (more.0, front.first ∙ ap (λ k. u ∷ k) more.1)
-  where
-    not_lead : (u : ℕ) → u < 128 → is_lead u ≡ false
-    not_lead u h = grind (arith, nat_tests)
-
-pub ascii_bytes : (n : ℕ) (us : List ℕ) → n ≤ length us → IsAscii (take n us) → first_lone us ≡ None
-    → encodes (code_points us) ≡ take n us ++ encodes (code_points (drop n us))
-ascii_bytes n us h a e =
-    ap encodes (ascii_units n us h a e).1 ∙ encodes-append (take n us) (code_points (drop n us))
-    ∙ ap (λ k. k ++ encodes (code_points (drop n us))) (encodes-IsAscii (take n us) a)
 
 pub has_some : (us : List ℕ) → false ≡ (length us == 0) → 1 ≤ length us
 has_some [] e = cc

@@ -24,6 +24,13 @@ pub units-bound : (us : List ℕ) → total_width unit_weight us ≤ 3 * length 
 units-bound [] = omega arith
 units-bound (u ∷ us) = omega (arith, weight-le u, units-bound us)
 
+weight-some : (u : ℕ) → 1 ≤ unit_weight u
+weight-some u = grind (arith, nat_tests)
+
+pub units-least : (us : List ℕ) → length us ≤ total_width unit_weight us
+units-least [] = omega arith
+units-least (u ∷ us) = omega (arith, weight-some u, units-least us)
+
 pub by_test : {A : Type 0} (b : Bool) → (b ≡ true → A) → (b ≡ false → A) → A
 by_test true p q = p refl
 by_test false p q = q refl

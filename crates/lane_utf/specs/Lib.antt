@@ -1,9 +1,10 @@
 pub mod Conversions
 pub mod Front
 pub mod Next
+pub mod Progress
 pub mod Scan
 pub mod Selected
-pub mod Threes
+pub mod UnitRuns
 pub mod Utf16
 pub mod Weights
 pub mod Widths

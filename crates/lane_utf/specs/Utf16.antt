@@ -9,6 +9,10 @@ is_lead unit = nat_le 0xD800 unit && nat_lt unit 0xDC00
 abbrev pub is_trail : ℕ → Bool
 is_trail unit = nat_le 0xDC00 unit && nat_lt unit 0xE000
 
+-- one of both
+abbrev pub is_surrogate : ℕ → Bool
+is_surrogate unit = is_lead unit || is_trail unit
+
 -- the units of a code point (D91, table 3-5), and those of a list, in a row
 abbrev pub utf16_form : ℕ → List ℕ
 utf16_form c = if nat_lt c 0x10000 then c ∷ []

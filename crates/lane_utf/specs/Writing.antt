@@ -2,8 +2,8 @@
 use Rattle.std.specs.Prelude.{◌≡◌, ℕ, ◌+◌, List, ◌++◌, length, take, drop}
 
 -- A whole is written over the front of a slice: so much of it stands there, tail is still to come, and what stood
--- behind is as it was.
+-- behind the whole is as it was.
 pub record IsWriting (whole : List ℕ) (written : ℕ) (out old tail : List ℕ) : Type 0 where
   pub so_far : take written out ++ tail ≡ whole
   pub count : written + length tail ≡ length whole
-  pub kept : drop written out ≡ drop written old
+  pub kept : drop (length whole) out ≡ drop (length whole) old

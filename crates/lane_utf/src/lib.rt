@@ -10,6 +10,7 @@ mod select;
 mod surrogates;
 mod to_utf16;
 mod to_utf8;
+mod unit_runs;
 mod utf8_length;
 mod valid;
 

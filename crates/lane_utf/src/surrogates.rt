@@ -1,7 +1,7 @@
 //! Surrogates that are in no pair.
 ghost use Rattle.std.specs.Prelude.{◌≡◌, ◌+◌, ◌-◌, ◌≤◌, true, length, map, slice_index, take, drop, None, IfSome};
 ghost use Rattle.lane_utf.specs.Scan.{lone_from, Matched};
-ghost use Rattle.lane_utf.specs.Utf16.{is_lead, is_trail, first_lone};
+ghost use Rattle.lane_utf.specs.Utf16.{is_lead, is_surrogate, is_trail, first_lone};
 ghost use lib.Lanes.{mask_l};
 
 use std::simd::prelude::*;
@@ -33,9 +33,24 @@ fn is_matched(units: &[u16], at: usize) -> bool
     requires within { at + 32 ≤ length units.now }
     ensures { result ≡ true → Matched (is_lead (slice_index units.now (at - 1))) (take 32 (drop at units.now)) }
 {
-    let here = trails(u16x32::from_slice(&units[at..]));
+    let lanes = u16x32::from_slice(&units[at..]);
+    if surrogates(lanes) == 0 {
+        return !is_lead(units[at - 1]);
+    }
+    let here = trails(lanes);
     let before = leads(u16x32::from_slice(&units[at - 1..]));
     here == before
+}
+
+/// The lanes that are surrogates: most texts have none, and this is seen by one comparison.
+#[inline(always)]
+fn surrogates<const N: usize>(lanes: Simd<u16, N>) -> u64
+    requires { N ≤ 64 }
+    ensures { result ≡ mask_l (map is_surrogate lanes.entry) }
+{
+    (lanes >> Simd::splat(11))
+        .simd_eq(Simd::splat(0xD800 >> 11))
+        .to_bitmask()
 }
 
 /// The lanes that lead a pair.

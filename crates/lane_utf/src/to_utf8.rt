@@ -1,17 +1,18 @@
 //! From UTF-16 to UTF-8.
-ghost use Rattle.std.specs.Prelude.{◌≡◌, ◌+◌, ◌<◌, ◌≤◌, true, length, drop, take, is_ok, OnOk, None, if◌then◌else◌};
+ghost use Rattle.std.specs.Prelude.{◌≡◌, ◌+◌, ◌<◌, ◌≤◌, ℕ, List, true, length, drop, is_ok, OnOk, None, if◌then◌else◌};
 ghost use Rattle.std.specs.Char.{encode_utf8, IsScalar};
 ghost use Rattle.std.specs.Simd.Lanes.{put_chunk};
-ghost use Rattle.std.specs.Str.{encode_utf8_all, all_scalars, IsAscii};
+ghost use Rattle.std.specs.Str.{encode_utf8_all, all_scalars};
 ghost use Rattle.lane_utf.specs.Conversions.{over_front, utf8_answer};
 ghost use Rattle.lane_utf.specs.Front.{IsFront};
-ghost use Rattle.lane_utf.specs.Threes.{AreThrees};
+ghost use Rattle.lane_utf.specs.Progress.{HasRoom, IsUpTo};
 ghost use Rattle.lane_utf.specs.Utf16.{code_points, first_lone, utf16_forms};
 ghost use Rattle.lane_utf.specs.Widths.{utf8_width};
 
 use crate::faults::ToUtf8Fault;
 use crate::surrogates::{first_lone_surrogate, is_lead};
-use crate::utf8_length::{third_bytes, utf8_length};
+use crate::unit_runs::{ones_front, put_ones, put_threes, put_twos, threes_front, twos_front};
+use crate::utf8_length::utf8_length;
 use std::simd::prelude::*;
 
 /// Writes the UTF-8 form of the units (Unicode, chapter 3, D91 and D92) over the front of `bytes`,
@@ -40,91 +41,98 @@ fn convert(units: &[u16], bytes: &mut [u8]) -> Result<usize, ToUtf8Fault>
     ensures written { bytes.new ≡ (if is_ok result
         then over_front (encode_utf8_all (code_points units.now)) bytes.old else bytes.old) }
 {
-    let needed = utf8_length(units);
-    if bytes.len() < needed {
-        return Err(ToUtf8Fault::NeedsRoom(needed));
+    // Three bytes a unit are always enough, and then the length needn't be known before.
+    if bytes.len() / 3 < units.len() {
+        let needed = utf8_length(units);
+        if bytes.len() < needed {
+            return Err(ToUtf8Fault::NeedsRoom(needed));
+        }
     }
-    write(units, bytes);
-    Ok(needed)
+    Ok(write(units, bytes))
 }
 
-/// Writes the UTF-8 form, for which there is room: ASCII units by blocks of sixteen, units of three
-/// bytes by blocks of eight, others code point by code point until the next block.
-fn write(units: &[u16], bytes: &mut [u8])
+/// How many units were read, and how many bytes written.
+#[derive(Clone, Copy)]
+struct Reached {
+    read: usize,
+    written: usize,
+}
+
+/// Writes the UTF-8 form, for which there is room, and returns its length: run by run, and the last
+/// units one by one.
+fn write(units: &[u16], bytes: &mut [u8]) -> usize
     requires paired { first_lone units.now ≡ None }
     requires room { length (encode_utf8_all (code_points units.now)) ≤ length bytes.old }
-    ensures { bytes.new ≡ over_front (encode_utf8_all (code_points units.now)) bytes.old }
+    ensures length { result ≡ length (encode_utf8_all (code_points units.now)) }
+    ensures bytes { bytes.new ≡ over_front (encode_utf8_all (code_points units.now)) bytes.old }
 {
-    let mut read = 0;
-    let mut written = 0;
-    let mut tested = 0;
-    'units: while read < units.len() {
-        if read >= tested && units.len() - read >= 16 {
-            if is_ascii_block(units, read) {
-                narrow(units, read, bytes, written);
-                read += 16;
-                written += 16;
-                continue;
-            }
-            if is_three_block(units, read) {
-                put_threes(units, read, bytes, written);
-                read += 8;
-                written += 24;
-                continue;
-            }
-            tested = read + 8;
-        }
-        let (code_point, width) = front(units, read);
-        written = put_scalar(bytes, written, code_point);
-        read += width;
+    let mut reached = Reached {
+        read: 0,
+        written: 0,
+    };
+    'runs: while units.len() - reached.read >= 24 {
+        reached = put_run(units, reached, bytes);
     }
+    'rest: while reached.read < units.len() {
+        reached = put_front(units, reached, bytes);
+    }
+    reached.written
 }
 
-/// Whether the next sixteen units are ASCII.
+/// Writes the units at the front that take as many bytes as the first one, up to eight. What is
+/// stored behind them is written over by the units that follow: three vectors of units are left, so
+/// that even the widest store ends among what is to be written.
 #[inline(always)]
-fn is_ascii_block(units: &[u16], at: usize) -> bool
-    requires { at + 16 ≤ length units.now }
-    ensures { result ≡ true → IsAscii (take 16 (drop at units.now)) }
+fn put_run(units: &[u16], from: Reached, bytes: &mut [u8]) -> Reached
+    requires left { from.read + 24 ≤ length units.now }
+    requires paired { first_lone (drop from.read units.now) ≡ None }
+    requires room { HasRoom units.now from (length bytes.old) }
+    ensures more { from.read < result.read }
+    ensures up_to { (old : List ℕ) → IsUpTo units.now bytes.old old from → IsUpTo units.now bytes.new old result }
 {
-    u16x16::from_slice(&units[at..])
-        .simd_ge(u16x16::splat(0x80))
-        .to_bitmask()
-        == 0
+    let Reached { read, written } = from;
+    let lanes = u16x8::from_slice(&units[read..]);
+    let count = ones_front(lanes);
+    if count > 0 {
+        put_ones(lanes, bytes, written);
+        return Reached {
+            read: read + count,
+            written: written + count,
+        };
+    }
+    let count = threes_front(lanes);
+    if count > 0 {
+        put_threes(lanes, bytes, written);
+        return Reached {
+            read: read + count,
+            written: written + 3 * count,
+        };
+    }
+    let count = twos_front(lanes);
+    if count > 0 {
+        put_twos(lanes, bytes, written);
+        return Reached {
+            read: read + count,
+            written: written + 2 * count,
+        };
+    }
+    put_front(units, from, bytes)
 }
 
-/// Writes the next sixteen units, each of which is ASCII, as bytes.
+/// Writes the code point at the front.
 #[inline(always)]
-fn narrow(units: &[u16], read: usize, bytes: &mut [u8], written: usize)
-    requires units { read + 16 ≤ length units.now }
-    requires bytes { written + 16 ≤ length bytes.old }
-    requires ascii { IsAscii (take 16 (drop read units.now)) }
-    ensures { bytes.new ≡ put_chunk written bytes.old (take 16 (drop read units.now)) }
+fn put_front(units: &[u16], from: Reached, bytes: &mut [u8]) -> Reached
+    requires within { from.read < length units.now }
+    requires paired { first_lone (drop from.read units.now) ≡ None }
+    requires room { HasRoom units.now from (length bytes.old) }
+    ensures more { from.read < result.read }
+    ensures up_to { (old : List ℕ) → IsUpTo units.now bytes.old old from → IsUpTo units.now bytes.new old result }
 {
-    let bytes_of: u8x16 = u16x16::from_slice(&units[read..]).cast();
-    bytes_of.copy_to_slice(&mut bytes[written..]);
-}
-
-/// Whether each of the next eight units stands for three bytes.
-#[inline(always)]
-fn is_three_block(units: &[u16], at: usize) -> bool
-    requires { at + 8 ≤ length units.now }
-    ensures { result ≡ true → AreThrees (take 8 (drop at units.now)) }
-{
-    third_bytes(u16x8::from_slice(&units[at..])) == 0xFF
-}
-
-/// Writes the next eight units, each of which stands for three bytes.
-#[inline(always)]
-fn put_threes(units: &[u16], read: usize, bytes: &mut [u8], written: usize)
-    requires units { read + 8 ≤ length units.now }
-    requires bytes { written + 24 ≤ length bytes.old }
-    requires threes { AreThrees (take 8 (drop read units.now)) }
-    ensures { bytes.new ≡ put_chunk written bytes.old (encode_utf8_all (take 8 (drop read units.now))) }
-{
-    let mut at = 0;
-    'block: while at < 8 {
-        put_three(bytes, written + 3 * at, u32::from(units[read + at]));
-        at += 1;
+    let (code_point, width) = front(units, from.read);
+    let written = put_scalar(bytes, from.written, code_point);
+    Reached {
+        read: from.read + width,
+        written,
     }
 }
 

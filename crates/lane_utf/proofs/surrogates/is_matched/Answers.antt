@@ -1,6 +1,17 @@
+use Rattle.std.proofs.Common.{◌≡◌, ◌∙◌, Bool, true, false, not, refl, subst, sym, take, drop}
 use Rattle.std.proofs.lemmas.Bool.{eqb-true}
-use Rattle.lane_utf.proofs.UnitMasks.{matched_at}
+use Rattle.lane_utf.specs.Scan.{Matched}
+use Rattle.lane_utf.proofs.UnitMasks.{matched_at, unpaired}
 use Rattle.lane_utf.proofs.surrogates.is_matched.Goals as goal
+
+not_true : (b : Bool) → not b ≡ true → b ≡ false
+not_true true e = cc
+not_true false e = refl
+
+pub returns-then-surrogates-eq0 : goal.returns-then-surrogates-eq0
+returns-then-surrogates-eq0 c e =
+    subst (λ b. Matched b (take 32 (drop c.args.at c.args.units.now))) (sym (not_true c.is_lead.result e) ∙ c.is_lead.ensures)
+    (unpaired (take 32 (drop c.args.at c.args.units.now)) (sym c.surrogates.ensures ∙ c.if-surrogates-eq0.true))
 
 pub returns : goal.returns
 returns c e =

@@ -1,0 +1,15 @@
+use Rattle.std.proofs.Common.{ap}
+use Rattle.std.specs.Str.{encode_utf8_all}
+use Rattle.lane_utf.proofs.Progress.{scalar_room, scalar_up_to}
+use Rattle.lane_utf.proofs.to_utf8.put_front.Goals as goal
+
+pub put_scalar-written-requires-clause-room : goal.put_scalar-written-requires-clause-room
+put_scalar-written-requires-clause-room c =
+    let f = c.front-code_point in
+    scalar_room _ _ f.result.0 c.args.from.written _ (ap encode_utf8_all f.ensures.first) c.requires.room
+
+pub returns-clause-up_to : goal.returns-clause-up_to
+returns-clause-up_to c old u =
+    let f = c.front-code_point in
+    scalar_up_to c.args.units.now c.args.bytes.now old c.put_scalar-written.new.bytes c.args.from f.result.0 f.result.1 c.put_scalar-written.result
+    c.requires.within c.requires.room f.ensures c.put_scalar-written.ensures.end c.put_scalar-written.ensures.bytes u
