@@ -17,9 +17,10 @@ use multibyte_decoders::{
 
 /// The laws of the one decoder's runs from the first byte; the call does nothing.
 ///
-/// Behind the byte order mark, or from the first byte where there is none, the one decoder does what
+/// Behind the byte order mark, or from the first byte where none counts, the one decoder does what
 /// the decoder in force does alone: it gives the items of its run (`run`) and stands where that one
-/// stands (`state`), unless the bytes are a proper prefix of a mark, which is its state then.
+/// stands (`state`), unless the bytes are a proper prefix of a mark that is looked for, which is its
+/// state then.
 pub(crate) fn law_standing()
     ensures run { (d : AnyDecoding) (bytes : List ℕ) → run (any d) (any_start d) bytes ≡ run_behind d bytes (mark_under d.setting bytes) }
     ensures state { (d : AnyDecoding) (bytes : List ℕ) → (feed (any d) (any_start d) bytes).state ≡ stands_behind d bytes (prefix_under d.setting bytes) (mark_under d.setting bytes) }

@@ -8,10 +8,10 @@ use iso2022jp::{Iso2022JpState, OutputState};
 use multibyte_decoders::{EucJpState, Gb18030State, PairState};
 
 /// Where the decoder stands between two bytes: the bytes themselves while they may become a byte
-/// order mark, else which encoding is in force and where its own decoder stands.
+/// order mark that is looked for, else which encoding is in force and where its own decoder stands.
 #[derive(Clone, Copy, PartialEq, Eq, Debug)]
 pub enum AnyState {
-    /// The bytes so far are the beginning of a byte order mark.
+    /// The bytes so far are the beginning of a byte order mark that is looked for.
     Sniffing(Prefix),
     /// In UTF-8.
     Utf8(Utf8State),

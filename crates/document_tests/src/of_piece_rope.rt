@@ -1,4 +1,5 @@
-//! What no op shows of a document: what a splice decodes, and which splices keep the text.
+//! What no op shows of a document: what a splice decodes, which splices keep the text, and that a
+//! copy keeps byte order marks as the document does.
 
 use decoder_core::meter;
 use enc_names::{Bom, Encoding};
