@@ -1,13 +1,14 @@
 -- How many code points are ASCII: as many as bytes.
-use Rattle.std.proofs.Common.{◌≡◌, refl, sym, ap, ◌∙◌, ℕ, ◌+◌, ◌*◌, ◌/◌, ◌<◌, ◌≤◌, Bool, true, false, List, [], ◌∷◌, ◌++◌, length, drop, get_or, arith, nat_lt, cond, add-one}
+use Rattle.std.proofs.Common.{◌≡◌, refl, sym, ap, ◌∙◌, ℕ, ◌+◌, ◌*◌, ◌/◌, ◌<◌, ◌≤◌, Bool, true, false, List, [], ◌∷◌, ◌++◌, length, take, drop, get_or, arith, nat_lt, cond, add-one}
 use Rattle.std.proofs.Math.Seq.{drop-cons}
 use Rattle.std.proofs.Math.Utf8.{next, encode}
 use Rattle.std.proofs.lemmas.Bool.{le-ltb}
-use Rattle.std.proofs.lemmas.List.{length-drop}
+use Rattle.std.proofs.lemmas.List.{length-drop, take-append-drop}
 use Rattle.std.proofs.lemmas.Str.{encodes-chars}
 use Rattle.std.specs.Str.{chars, encode_utf8_all, IsUtf8}
 use Rattle.decoder_core.specs.declared.bulk.Stride.TheVariants.{Pairs}
 use Rattle.decoder_core.specs.Bulk.{width_of, run_width}
+use Rattle.lane_utf.specs.Widths.{total_width}
 use Rattle.state_memo.proofs.Leads.{by_cond}
 
 abbrev pub one_ascii : ℕ → ℕ
@@ -26,6 +27,12 @@ few (b ∷ bs) = omega (arith, few bs, one (nat_lt b 0x80))
     one true = omega arith
     one false = omega arith
 
+-- as a sum of their weights
+pub ascii-total : (bs : List ℕ) → total_width one_ascii bs ≡ ascii_in bs
+unfolding ascii_in
+ascii-total [] = refl
+ascii-total (b ∷ bs) = ap (λ (n : ℕ). one_ascii b + n) (ascii-total bs)
+
 -- the next byte
 pub ascii-next : (bs : List ℕ) (i : ℕ) → i < length bs → ascii_in (drop i bs) ≡ one_ascii (get_or bs i 0) + ascii_in (drop (i + 1) bs)
 unfolding ascii_in
@@ -34,7 +41,7 @@ ascii-next bs i some = ap ascii_in (drop-cons bs i 0 some) ∙ ap (λ (n : ℕ).
 pub ascii-end : (bs : List ℕ) (i : ℕ) → length bs ≤ i → ascii_in (drop i bs) ≡ 0
 ascii-end bs i past = omega (arith, few (drop i bs), length-drop i bs, past)
 
-ascii-append : (bs ds : List ℕ) → ascii_in (bs ++ ds) ≡ ascii_in bs + ascii_in ds
+pub ascii-append : (bs ds : List ℕ) → ascii_in (bs ++ ds) ≡ ascii_in bs + ascii_in ds
 unfolding ascii_in
 ascii-append [] ds = omega arith
 ascii-append (b ∷ bs) ds = omega (arith, ascii-append bs ds)
@@ -64,3 +71,9 @@ ascii-all (c ∷ cs) = omega (arith, ascii-append (encode c) (encode_utf8_all cs
 
 pub ascii-pairs : (text : List ℕ) → IsUtf8 text → run_width Pairs (chars text) + ascii_in text ≡ 2 * length (chars text)
 ascii-pairs text spelt = ap (λ (bs : List ℕ). run_width Pairs (chars text) + ascii_in bs) (sym (encodes-chars text spelt)) ∙ ascii-all (chars text)
+
+-- what is left behind a block
+pub ascii-block : (rest block behind : List ℕ) (n count whole : ℕ) → block ≡ take n rest → behind ≡ drop n rest → count + ascii_in rest ≡ whole → (count + total_width one_ascii block) + ascii_in behind ≡ whole
+ascii-block rest block behind n count whole block_is behind_is held =
+    let parts : rest ≡ block ++ behind = sym (take-append-drop n rest) ∙ ap (λ (bs : List ℕ). bs ++ drop n rest) (sym block_is) ∙ ap (λ (bs : List ℕ). block ++ bs) (sym behind_is) in
+    omega (arith, held, ap ascii_in parts, ascii-append block behind, ascii-total block)

@@ -10,5 +10,5 @@ pub mod Marks
 pub mod Numbers
 pub mod Places
 pub mod Splitting
-pub mod Stretches
+pub mod Walking
 pub mod Walks

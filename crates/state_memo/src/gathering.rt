@@ -1,9 +1,10 @@
 //! The sink in which a piece's outcome is gathered.
-ghost use Rattle.std.specs.Prelude.{◌≡◌, ◌≤◌, ◌+◌, [], ◌∷◌, ◌++◌, ◌≢◌, length, pos, fold, IfOk, IfSome, OnOk, OnErr};
+ghost use Rattle.std.specs.Prelude.{◌≡◌, ◌≤◌, ◌+◌, [], ◌∷◌, ◌++◌, ◌^◌, pos, ◌+ℤ◌, ◌<ℤ◌, fold, IfOk, OnOk, OnErr};
 ghost use Rattle.std.specs.Str.{chars};
+ghost use Rattle.decoder_core.specs.Bulk.{run_width};
 ghost use Rattle.decoder_core.specs.Text.{item_code_points};
 ghost use Rattle.state_memo.specs.Facts.{IsDone};
-ghost use Rattle.state_memo.specs.Gathering.{Gathered, with_shown, with_item, with_ended, with_more, plain_items};
+ghost use Rattle.state_memo.specs.Gathering.{Gathered, with_shown, with_item, with_ended, with_more, plain_items_from};
 ghost use Rattle.state_memo.specs.Outcome.{contents_of};
 ghost use Rattle.state_memo.specs.Runs.{items_of_run};
 ghost use Rattle.state_memo.specs.Sums.{sum_of};
@@ -13,11 +14,12 @@ use crate::items::OpenRuns;
 use crate::kind::ItemKind;
 use crate::outcome::{Outcome, Text};
 use crate::outputs::Outputs;
-use crate::plain::{even_front, even_run, first_place, run_from};
+use crate::plain::{even_run, first_place};
 use crate::run::Run;
 use codec::{AnyState, TextBlocks};
 use decoder_core::{Ended, Item, OutOfMemory, Sink, Stride};
 use iso2022jp::OutputState;
+use lane_utf::count_scalars;
 use std::alloc::{AllocError, Global};
 use std::marker::Model;
 
@@ -60,12 +62,10 @@ impl Gathering {
             return Err(AllocError);
         };
         self.text.reserve()?;
+        self.items.reserve(1)?;
         let (kept, written) = (item, item);
-        let run = self
-            .items
-            .place(Run::one(ItemKind::of(kept, output), last))?;
         put_item(&mut self.text, written);
-        self.items.set_last(run);
+        self.items.put(Run::one(ItemKind::of(kept, output), last));
         Ok(())
     }
 
@@ -74,9 +74,28 @@ impl Gathering {
         ensures ok { OnOk result (self.new ≡ with_more self.old (chars text.now) (items_of_run run)) }
         ensures err { OnErr result (self.new ≡ self.old) }
     {
-        let run = self.items.place(run)?;
+        self.items.reserve(1)?;
         self.text.put_text(text)?;
-        self.items.set_last(run);
+        self.items.put(run);
+        Ok(())
+    }
+
+    /// Takes a text whose code points are items without gaps from that place on, each as long as
+    /// it is. Its runs are as many as its code points at most.
+    fn take_runs(
+        &mut self,
+        text: &str,
+        from: i32,
+        stride: Stride,
+        output: OutputState,
+    ) -> Result<(), OutOfMemory>
+        requires { (from +ℤ pos (run_width stride (chars text.now))) <ℤ pos (2 ^ 31) }
+        ensures ok { OnOk result (self.new ≡ with_more self.old (chars text.now) (plain_items_from stride from output (chars text.now))) }
+        ensures err { OnErr result (self.new ≡ self.old) }
+    {
+        self.items.reserve(count_scalars(text))?;
+        self.text.put_text(text)?;
+        self.items.put_plain(text, from, stride, output);
         Ok(())
     }
 
@@ -133,18 +152,10 @@ impl<S: Outputs> Sink<S> for Gathering {
             self.take_run(text, run)?;
             return Ok(());
         }
-        let Some(mut at) = first_place(text, end, stride) else {
+        let Some(from) = first_place(text, end, stride) else {
             return Err(AllocError);
         };
-        let mut rest = text;
-        'rest: while let Some(front) = even_front(rest, stride) {
-            let Some(run) = run_from(at, front.width, front.more, output) else {
-                return Err(AllocError);
-            };
-            self.take_run(front.text, run)?;
-            at = i64::from(run.last);
-            rest = front.behind;
-        }
+        self.take_runs(text, from, stride, output)?;
         Ok(())
     }
 }

@@ -1,10 +1,17 @@
 //! Items in order.
-ghost use Rattle.std.specs.Prelude.{◌≡◌, ◌++◌, ◌-◌, ◌^◌, ◌<◌, ℕ, [], length, slice_get, IfOk, option_map};
+ghost use Rattle.std.specs.Prelude.{◌≡◌, ◌++◌, ◌+◌, ◌-◌, ◌^◌, ◌<◌, ◌≤◌, ℕ, [], length, slice_get, IfOk, OnOk, option_map, pos, ◌+ℤ◌, ◌<ℤ◌, vec_len, vec_capacity};
+ghost use Rattle.std.specs.Str.{chars};
+ghost use Rattle.decoder_core.specs.Bulk.{run_width};
+ghost use Rattle.state_memo.specs.Gathering.{plain_items_from};
 ghost use Rattle.state_memo.specs.Items.{all_scalars, errors_in, scalars_before, item_of};
 ghost use Rattle.state_memo.specs.Runs.{items_of_run, items_of_runs, items_under_way};
 
 use crate::ended::Ended;
-use crate::run::Run;
+use crate::kind::ItemKind;
+use crate::plain::{scalar_len, widths_of};
+use crate::run::{Run, end_behind};
+use decoder_core::Stride;
+use iso2022jp::OutputState;
 use std::alloc::{AllocError, Global};
 use std::marker::Model;
 use std::rc::Rc;
@@ -27,33 +34,99 @@ impl OpenRuns {
         }
     }
 
-    /// Makes room for the items of a run behind the others, and returns the run that is the last
-    /// one with them.
+    /// Makes room for the items of so many runs.
     // In the loop over the bytes.
     #[inline(always)]
-    pub(crate) fn place(&mut self, run: Run) -> Result<Run, AllocError>
+    pub(crate) fn reserve(&mut self, runs: usize) -> Result<(), AllocError>
         ensures same { items_under_way self.new.closed.items self.new.last ≡ items_under_way self.old.closed.items self.old.last }
-        ensures next { IfOk result (λ next. items_of_runs self.new.closed.items ++ items_of_run next ≡ items_under_way self.old.closed.items self.old.last ++ items_of_run run) }
+        ensures room { OnOk result (vec_len self.new.closed + runs ≤ vec_capacity self.new.closed) }
+    {
+        self.closed.reserve(runs)
+    }
+
+    /// Puts a run behind the others, for which there is room, and returns the run that is the last
+    /// one with it.
+    // In the loop over the bytes.
+    #[inline(always)]
+    fn place(&mut self, run: Run) -> Run
+        requires { vec_len self.old.closed < vec_capacity self.old.closed }
+        ensures items { items_of_runs self.new.closed.items ++ items_of_run result ≡ items_under_way self.old.closed.items self.old.last ++ items_of_run run }
+        ensures last { result.last ≡ run.last }
+        ensures kind { result.kind ≡ run.kind }
+        ensures few { vec_len self.new.closed ≤ vec_len self.old.closed + 1 }
+        ensures capacity { vec_capacity self.new.closed ≡ vec_capacity self.old.closed }
     {
         let Some(last) = self.last else {
-            return Ok(run);
+            return run;
         };
         let (kept, next) = (last, run);
         if let Some(longer) = last.with(run) {
-            return Ok(longer);
+            return longer;
         }
-        self.closed.push(kept).map_err(AllocError::from)?;
-        self.last = None;
-        Ok(next)
+        self.closed.push_reserved(kept);
+        next
     }
 
-    /// Takes a run for which room was made.
+    /// Takes a run behind the others, for which there is room.
     // In the loop over the bytes.
     #[inline(always)]
-    pub(crate) fn set_last(&mut self, run: Run)
-        ensures { items_under_way self.new.closed.items self.new.last ≡ items_of_runs self.old.closed.items ++ items_of_run run }
+    pub(crate) fn put(&mut self, run: Run)
+        requires { vec_len self.old.closed < vec_capacity self.old.closed }
+        ensures { items_under_way self.new.closed.items self.new.last ≡ items_under_way self.old.closed.items self.old.last ++ items_of_run run }
     {
-        self.last = Some(run);
+        let last = self.place(run);
+        self.last = Some(last);
+    }
+
+    /// Takes the items that are the code points of a text, for which there is room, in one walk
+    /// over it.
+    pub(crate) fn put_plain(&mut self, text: &str, from: i32, stride: Stride, output: OutputState)
+        requires room { vec_len self.old.closed + length (chars text.now) ≤ vec_capacity self.old.closed }
+        requires fits { (from +ℤ pos (run_width stride (chars text.now))) <ℤ pos (2 ^ 31) }
+        ensures { items_under_way self.new.closed.items self.new.last ≡ items_under_way self.old.closed.items self.old.last ++ plain_items_from stride from output (chars text.now) }
+    {
+        let bytes = text.as_bytes();
+        if bytes.is_empty() {
+            return;
+        }
+        let kind = ItemKind::one(output);
+        let widths = widths_of(stride);
+        let mut at = scalar_len(bytes[0]);
+        let mut last = end_behind(from, widths[at - 1]);
+        let first = self.place(Run::one(kind, last));
+        // Variables of their own, so that each has a register.
+        let mut more = first.more;
+        let mut step = first.step;
+        'items: while at < bytes.len() {
+            let len = scalar_len(bytes[at]);
+            let width = widths[len - 1];
+            let ended = last;
+            last = end_behind(last, width);
+            at += len;
+            if step == width && more < u16::MAX {
+                more += 1;
+                continue;
+            }
+            if more == 0 {
+                // Where one item stands, the next says how far apart they end.
+                step = width;
+                more = 1;
+                continue;
+            }
+            self.closed.push_reserved(Run {
+                last: ended,
+                more,
+                step,
+                kind,
+            });
+            more = 0;
+        }
+        self.last = Some(Run {
+            last,
+            more,
+            step,
+            kind,
+        });
     }
 
     /// The items, which take no more memory than they need.

@@ -1,11 +1,12 @@
 //! Texts whose code points are items without gaps.
-ghost use Rattle.std.specs.Prelude.{◌≡◌, ◌≤◌, ◌+◌, ◌*◌, ◌++◌, ℕ, List, nat_lt, if◌then◌else◌, IfSome, IfNone, length, pos, ◌-ℤ◌, ◌+ℤ◌};
+ghost use Rattle.std.specs.Prelude.{◌≡◌, ◌≤◌, ◌+◌, ◌-◌, ◌*◌, ◌^◌, ℕ, nat_lt, if◌then◌else◌, slice_index, IfSome, length, pos, ◌-ℤ◌, ◌+ℤ◌, ◌<ℤ◌};
 ghost use Rattle.std.specs.Char.{len_utf8};
-ghost use Rattle.std.specs.Str.{chars, continuation_len, IsUtf8};
+ghost use Rattle.std.specs.Str.{chars, continuation_len};
 ghost use Rattle.decoder_core.specs.declared.bulk.Stride.{Stride};
 ghost use Rattle.decoder_core.specs.declared.bulk.Stride.TheVariants.{Pairs};
 ghost use Rattle.decoder_core.specs.Bulk.{width_of, run_width};
-ghost use Rattle.state_memo.specs.Gathering.{plain_items, plain_items_from, IsEven};
+ghost use Rattle.lane_utf.specs.Widths.{total_width};
+ghost use Rattle.state_memo.specs.Gathering.{plain_items, IsEven};
 ghost use Rattle.state_memo.specs.Runs.{items_of_run};
 
 use crate::kind::ItemKind;
@@ -13,6 +14,9 @@ use crate::run::Run;
 use decoder_core::Stride;
 use iso2022jp::OutputState;
 use lane_utf::{count_scalars, count_utf16};
+
+/// How many bytes are looked at together for ASCII.
+const BLOCK: usize = 128;
 
 /// The run of the items that are the code points of a text, where each is as long as the others; the
 /// last one ends there.
@@ -44,76 +48,14 @@ fn even_width(text: &str, stride: Stride) -> Option<u8>
     }
 }
 
-/// Code points at the front of a text whose items are all equally long, and the text behind them.
-#[derive(Clone, Copy)]
-pub(crate) struct Stretch<'t> {
-    /// The code points: one or more.
-    pub(crate) text: &'t str,
-    /// What stands behind them.
-    pub(crate) behind: &'t str,
-    /// How many there are but for one.
-    pub(crate) more: u16,
-    /// How long each item is.
-    pub(crate) width: u8,
-}
-
-/// The code points at the front of a text whose items are as long as the first one's, as many as
-/// one run takes. An empty text has none.
-pub(crate) fn even_front(text: &str, stride: Stride) -> Option<Stretch<'_>>
-    ensures none { IfNone result (length text.now ≡ 0) }
-    ensures parts { IfSome result (λ front. text.now ≡ front.text.now ++ front.behind.now) }
-    ensures front { IfSome result (λ front. IsUtf8 front.text.now) }
-    ensures behind { IfSome result (λ front. IsUtf8 front.behind.now) }
-    ensures even { IfSome result (λ front. IsEven stride front.width (chars front.text.now)) }
-    ensures count { IfSome result (λ front. length (chars front.text.now) ≡ front.more + 1) }
-{
-    let bytes = text.as_bytes();
-    if bytes.is_empty() {
-        return None;
-    }
-    let first = scalar_len(bytes[0]);
-    let width = len_width(stride, first);
-    let mut end = first;
-    let mut more = 0;
-    'same: while end < bytes.len() {
-        let len = scalar_len(bytes[end]);
-        if len_width(stride, len) != width || more == u16::MAX {
-            break;
-        }
-        end += len;
-        more += 1;
-    }
-    let (text, behind) = text.split_at(end);
-    Some(Stretch {
-        text,
-        behind,
-        more,
-        width,
-    })
-}
-
-/// The run of so many items and one more, each so long, of which the first one begins there.
-pub(crate) fn run_from(from: i64, width: u8, more: u16, output: OutputState) -> Option<Run>
-    ensures last { IfSome result (λ run. run.last ≡ from +ℤ pos ((more + 1) * width)) }
-    ensures items { IfSome result (λ run. (stride : Stride) (cs : List ℕ) → IsEven stride width cs → length cs ≡ more + 1
-        → items_of_run run ≡ plain_items_from stride from output cs) }
-{
-    let long = (i64::from(more) + 1) * i64::from(width);
-    let last = i32::try_from(from.checked_add(long)?).ok()?;
-    Some(Run {
-        last,
-        more,
-        step: width,
-        kind: ItemKind::one(output),
-    })
-}
-
 /// Where the first of the items begins that are the code points of a text.
-pub(crate) fn first_place(text: &str, end: i64, stride: Stride) -> Option<i64>
-    ensures { IfSome result (λ from. from ≡ end -ℤ pos (run_width stride (chars text.now))) }
+pub(crate) fn first_place(text: &str, end: i64, stride: Stride) -> Option<i32>
+    ensures from { IfSome result (λ from. from ≡ end -ℤ pos (run_width stride (chars text.now))) }
+    ensures fits { IfSome result (λ from. (from +ℤ pos (run_width stride (chars text.now))) <ℤ pos (2 ^ 31)) }
 {
-    let width = run_width(text, stride)?;
-    end.checked_sub(i64::try_from(width).ok()?)
+    let last = i32::try_from(end).ok()?;
+    let width = i32::try_from(run_width(text, stride)?).ok()?;
+    last.checked_sub(width)
 }
 
 /// The length in bytes of the items that are the code points of a text.
@@ -137,9 +79,24 @@ fn run_width(text: &str, stride: Stride) -> Option<usize>
 fn count_ascii(text: &str) -> usize
     ensures { run_width Pairs (chars text.now) + result ≡ 2 * length (chars text.now) }
 {
-    let bytes = text.as_bytes();
     let mut count = 0;
-    'bytes: for byte in bytes {
+    let mut rest = text.as_bytes();
+    'parts: while !rest.is_empty() {
+        let (block, behind) = rest.split_at(rest.len().min(BLOCK));
+        count += usize::from(count_in_block(block));
+        rest = behind;
+    }
+    count
+}
+
+/// The number of ASCII bytes of a block, which are so few that a byte holds it: they are counted
+/// sixteen at a time.
+fn count_in_block(block: &[u8]) -> u8
+    requires { length block.now ≤ 128 }
+    ensures { result ≡ total_width (λ b. if nat_lt b 0x80 then 1 else 0) block.now }
+{
+    let mut count = 0;
+    'bytes: for byte in block {
         count += one_ascii(*byte);
     }
     count
@@ -148,7 +105,7 @@ fn count_ascii(text: &str) -> usize
 /// 1 for an ASCII byte, and 0 for another one.
 // In the loop over the bytes.
 #[inline(always)]
-fn one_ascii(byte: u8) -> usize
+fn one_ascii(byte: u8) -> u8
     ensures { result ≡ (if nat_lt byte 0x80 then 1 else 0) }
 {
     if byte < 0x80 { 1 } else { 0 }
@@ -157,7 +114,7 @@ fn one_ascii(byte: u8) -> usize
 /// The length in UTF-8 of the code point that begins with this byte.
 // In the loop over the code points.
 #[inline(always)]
-fn scalar_len(lead: u8) -> usize
+pub(crate) fn scalar_len(lead: u8) -> usize
     ensures { result ≡ continuation_len lead + 1 }
 {
     match lead {
@@ -168,9 +125,19 @@ fn scalar_len(lead: u8) -> usize
     }
 }
 
+/// The lengths in bytes of the items that are code points of one to four bytes in UTF-8.
+pub(crate) fn widths_of(stride: Stride) -> [u8; 4]
+    ensures { (c : ℕ) → slice_index result (len_utf8 c - 1) ≡ width_of stride c }
+{
+    [
+        len_width(stride, 1),
+        len_width(stride, 2),
+        len_width(stride, 3),
+        len_width(stride, 4),
+    ]
+}
+
 /// The length in bytes of the item that is a code point of this length in UTF-8.
-// In the loop over the code points.
-#[inline(always)]
 fn len_width(stride: Stride, len: usize) -> u8
     requires { len ≤ 4 }
     ensures { (c : ℕ) → len ≡ len_utf8 c → result ≡ width_of stride c }

@@ -1,5 +1,5 @@
 //! Runs of items.
-ghost use Rattle.std.specs.Prelude.{◌≡◌, ◌+◌, ◌-◌, ◌*◌, ◌<◌, ◌≤◌, ◌++◌, [], ◌∷◌, slice_get, Some, IfSome, IfNone, pos, ◌+ℤ◌, ◌-ℤ◌};
+ghost use Rattle.std.specs.Prelude.{◌≡◌, ◌+◌, ◌-◌, ◌*◌, ◌^◌, ◌<◌, ◌≤◌, ◌++◌, [], ◌∷◌, slice_get, Some, IfSome, IfNone, pos, ◌+ℤ◌, ◌<ℤ◌, ◌-ℤ◌};
 ghost use Rattle.state_memo.specs.Items.{scalars_before, item_of, all_scalars, errors_in};
 ghost use Rattle.state_memo.specs.Runs.{items_of_run, item_of_kind, scalars_of};
 
@@ -19,12 +19,24 @@ pub struct Run {
     pub kind: ItemKind,
 }
 
+/// The end of an item so long behind one that ends there.
+// In the loop over the bytes.
+#[inline(always)]
+pub(crate) fn end_behind(last: i32, width: u8) -> i32
+    requires { (last +ℤ pos width) <ℤ pos (2 ^ 31) }
+    ensures { result ≡ last +ℤ pos width }
+{
+    last + i32::from(width)
+}
+
 impl Run {
     /// One item.
     // In the loop over the bytes.
     #[inline(always)]
     pub(crate) fn one(kind: ItemKind, last: i32) -> Run
-        ensures { items_of_run result ≡ item_of_kind kind last ∷ [] }
+        ensures items { items_of_run result ≡ item_of_kind kind last ∷ [] }
+        ensures last { result.last ≡ last }
+        ensures kind { result.kind ≡ kind }
     {
         Run {
             last,
@@ -79,7 +91,9 @@ impl Run {
         requires gap { next.last -ℤ pos (next.more * next.step) ≡ self.last +ℤ pos step }
         requires front { 0 < self.more → step ≡ self.step }
         requires back { 0 < next.more → step ≡ next.step }
-        ensures { items_of_run result ≡ items_of_run self ++ items_of_run next }
+        ensures items { items_of_run result ≡ items_of_run self ++ items_of_run next }
+        ensures last { result.last ≡ next.last }
+        ensures kind { result.kind ≡ self.kind }
     {
         Run {
             last: next.last,
@@ -93,7 +107,9 @@ impl Run {
     // In the loop over the bytes.
     #[inline(always)]
     pub(crate) fn with(self, next: Run) -> Option<Run>
-        ensures { IfSome result (λ r. items_of_run r ≡ items_of_run self ++ items_of_run next) }
+        ensures items { IfSome result (λ r. items_of_run r ≡ items_of_run self ++ items_of_run next) }
+        ensures last { IfSome result (λ r. r.last ≡ next.last) }
+        ensures kind { IfSome result (λ r. r.kind ≡ next.kind) }
     {
         let (first, second) = (self, next);
         if next.kind != self.kind {

@@ -1,6 +1,9 @@
-use Rattle.std.proofs.Common.{◌≡◌, ◌+◌, drop}
+use Rattle.std.proofs.Common.{◌≡◌, ◌+◌, length}
 use Rattle.state_memo.proofs.AsciiBytes.{ascii_in}
 use Rattle.state_memo.proofs.plain.count_ascii.Given as goal
 
-abbrev pub invariant-bytes : goal.invariant-bytes
-invariant-bytes l = l.count + ascii_in (drop l.byte-index l.bytes) ≡ ascii_in l.bytes
+abbrev pub invariant-parts : goal.invariant-parts
+invariant-parts l = l.count + ascii_in l.rest ≡ ascii_in l.fn.text
+
+abbrev pub decreases-parts : goal.decreases-parts
+decreases-parts l = length l.rest

@@ -3,7 +3,7 @@ use Rattle.std.specs.Str.{chars}
 use Rattle.decoder_core.specs.Text.{item_code_points}
 use Rattle.state_memo.specs.declared.ended.Ended.{Ended}
 use Rattle.state_memo.specs.Items.{kept_item}
-use Rattle.state_memo.specs.Runs.{items_under_way}
+use Rattle.state_memo.specs.Runs.{items_of_run, items_under_way}
 use Rattle.state_memo.proofs.Gathered.{taken-is}
 use Rattle.state_memo.proofs.gathering.Gathering.take.Goals as goal
 
@@ -11,8 +11,8 @@ pub returns-clause-ok : goal.returns-clause-ok
 returns-clause-ok c =
     let last : to_z w32 (of_z w32 c.in-Ok.last) ≡ c.args.end = search rules in
     let old = items_under_way c.self.inside.items.closed.items c.self.inside.items.last in
-    taken-is c.args.self.now (chars c.self.inside.text.bytes) (chars c.put_item.new.text.bytes) (item_code_points c.args.item) old (items_under_way c.set_last.new.self.closed.items c.set_last.new.self.last)
+    taken-is c.args.self.now (chars c.self.inside.text.bytes) (chars c.put_item.new.text.bytes) (item_code_points c.args.item) old (items_under_way c.put.new.self.closed.items c.put.new.self.last)
     (kept_item c.args.item c.args.end c.args.output ∷ []) c.self.view_is
     (c.put_item.ensures ∙ ap (λ (b : List ℕ). chars b ++ item_code_points c.args.item) c.in_ok-reserve.ensures.bytes)
-    (c.set_last.ensures ∙ c.in_ok-run.ensures.next
-    ∙ ap (λ (is : List Ended). old ++ is) (c.one.ensures ∙ ap (λ (i : Ended). i ∷ []) (c.of.ensures (to_z w32 (of_z w32 c.in-Ok.last)) ∙ ap (λ (l : ℤ). kept_item c.args.item l c.args.output) last)))
+    (c.put.ensures ∙ ap (λ (is : List Ended). is ++ items_of_run c.one.result) c.in_ok-reserve-2.ensures.same
+    ∙ ap (λ (is : List Ended). old ++ is) (c.one.ensures.items ∙ ap (λ (i : Ended). i ∷ []) (c.of.ensures (to_z w32 (of_z w32 c.in-Ok.last)) ∙ ap (λ (l : ℤ). kept_item c.args.item l c.args.output) last)))

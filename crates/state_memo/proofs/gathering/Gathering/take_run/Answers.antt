@@ -1,6 +1,7 @@
-use Rattle.std.proofs.Common.{ap, ◌∙◌}
+use Rattle.std.proofs.Common.{ap, ◌∙◌, List, ◌++◌}
 use Rattle.std.specs.Str.{chars}
 use Rattle.std.proofs.lemmas.Str.{chars-append}
+use Rattle.state_memo.specs.declared.ended.Ended.{Ended}
 use Rattle.state_memo.specs.Runs.{items_of_run, items_under_way}
 use Rattle.state_memo.proofs.Gathered.{taken-is}
 use Rattle.state_memo.proofs.gathering.Gathering.take_run.Goals as goal
@@ -8,6 +9,6 @@ use Rattle.state_memo.proofs.gathering.Gathering.take_run.Goals as goal
 pub returns-clause-ok : goal.returns-clause-ok
 returns-clause-ok c =
     taken-is c.args.self.now (chars c.self.inside.text.bytes) (chars c.put_text.new.self.bytes) (chars c.args.text.now)
-    (items_under_way c.self.inside.items.closed.items c.self.inside.items.last) (items_under_way c.set_last.new.self.closed.items c.set_last.new.self.last) (items_of_run c.args.run) c.self.view_is
+    (items_under_way c.self.inside.items.closed.items c.self.inside.items.last) (items_under_way c.put.new.self.closed.items c.put.new.self.last) (items_of_run c.args.run) c.self.view_is
     (ap chars c.in_ok-put_text.ensures.ok ∙ chars-append c.self.inside.text.bytes c.args.text.now c.in_ok-put_text.ensures.utf8)
-    (c.set_last.ensures ∙ c.in_ok-run.ensures.next)
+    (c.put.ensures ∙ ap (λ (is : List Ended). is ++ items_of_run c.args.run) c.in_ok-reserve.ensures.same)

@@ -1,0 +1,236 @@
+-- A text's items, taken in one walk over its code points.
+use Rattle.std.proofs.Common.{◌≡◌, refl, sym, ap, subst, ◌∙◌, ℕ, zero, suc, ◌+◌, ◌-◌, ◌<◌, ◌≤◌, List, [], ◌∷◌, ◌++◌, append_assoc, append-nil, length, length-append, drop, get_or, arith, ℤ, pos, ◌+ℤ◌, ◌-ℤ◌, ◌<ℤ◌, false}
+use Rattle.std.proofs.lemmas.Grind.{flat_map-append}
+use Rattle.std.proofs.lemmas.Int.{ints}
+use Rattle.std.proofs.lemmas.List.{get_or-drop, length-drop}
+use Rattle.std.proofs.lemmas.Str.{chars_past_char, drop_past_char, length-encode, len_utf8_bounds, IsUtf8-past_char}
+use Rattle.std.proofs.Math.Utf8.{encode}
+use Rattle.std.proofs.StrCases.{chars_of_empty}
+use Rattle.std.specs.Char.{len_utf8}
+use Rattle.std.specs.Str.{chars, continuation_len, IsUtf8}
+use Rattle.decoder_core.specs.declared.bulk.Stride.{Stride}
+use Rattle.decoder_core.specs.declared.item.Item.TheVariants.{One}
+use Rattle.decoder_core.specs.Bulk.{width_of, run_width}
+use Rattle.iso2022jp.specs.declared.output.OutputState.{OutputState}
+use Rattle.state_memo.specs.declared.ended.Ended.{Ended}
+use Rattle.state_memo.specs.declared.kind.ItemKind.{ItemKind}
+use Rattle.state_memo.specs.declared.run.Run.{Run}
+use Rattle.state_memo.specs.Gathering.{plain_items_from}
+use Rattle.state_memo.specs.Items.{kept_item}
+use Rattle.state_memo.specs.Runs.{item_of_kind, items_until, items_of_run, items_of_runs}
+use Rattle.state_memo.proofs.Leads.{IsNext, next-is}
+use Rattle.state_memo.proofs.Splitting.{until-step}
+
+-- ---- one of four
+
+pub one-of-four : (a b c d len v : ℕ) → (1 ≡ len → a ≡ v) → (2 ≡ len → b ≡ v) → (3 ≡ len → c ≡ v) → (4 ≡ len → d ≡ v) → 1 ≤ len → len ≤ 4 → get_or (a ∷ b ∷ c ∷ d ∷ []) (len - 1) 0 ≡ v
+one-of-four a b c d zero v ea eb ec ed some few = absurd (omega (arith, some))
+one-of-four a b c d (suc zero) v ea eb ec ed some few = ea refl
+one-of-four a b c d (suc (suc zero)) v ea eb ec ed some few = eb refl
+one-of-four a b c d (suc (suc (suc zero))) v ea eb ec ed some few = ec refl
+one-of-four a b c d (suc (suc (suc (suc zero)))) v ea eb ec ed some few = ed refl
+one-of-four a b c d (suc (suc (suc (suc (suc n))))) v ea eb ec ed some few = absurd (omega (arith, few))
+
+-- ---- the items one by one
+
+run-append : (stride : Stride) (cs ds : List ℕ) → run_width stride (cs ++ ds) ≡ run_width stride cs + run_width stride ds
+run-append stride [] ds = omega arith
+run-append stride (c ∷ cs) ds = omega (arith, run-append stride cs ds)
+
+-- one item more
+items-more : (stride : Stride) (from : ℤ) (output : OutputState) (cs : List ℕ) (c : ℕ)
+    → plain_items_from stride from output (cs ++ c ∷ []) ≡ plain_items_from stride from output cs ++ kept_item (One c) (from +ℤ pos (run_width stride cs + width_of stride c)) output ∷ []
+items-more stride from output [] c = ap (λ (n : ℕ). kept_item (One c) (from +ℤ pos n) output ∷ []) (none (width_of stride c))
+  where
+    none : (n : ℕ) → n ≡ 0 + n
+    none n = omega arith
+items-more stride from output (d ∷ cs) c =
+    let end = from +ℤ pos (width_of stride d) in
+    ap (λ (is : List Ended). kept_item (One d) end output ∷ is)
+    (items-more stride end output cs c
+    ∙ ap (λ (z : ℤ). plain_items_from stride end output cs ++ kept_item (One c) z output ∷ []) (far from (width_of stride d) (run_width stride cs) (width_of stride c)))
+  where
+    far : (from : ℤ) (a b c : ℕ) → (from +ℤ pos a) +ℤ pos (b + c) ≡ from +ℤ pos ((a + b) + c)
+    far from a b c = omega (arith, ints)
+
+-- an item that goes on with a run
+until-more : (kind : ItemKind) (step width more : ℕ) (last : ℤ) → (0 < more → step ≡ width)
+    → items_until kind width (last +ℤ pos width) (suc (suc more)) ≡ items_until kind step last (suc more) ++ item_of_kind kind (last +ℤ pos width) ∷ []
+until-more kind step width more last same =
+    ap (λ (l : ℤ). items_until kind width l (suc more) ++ item_of_kind kind (last +ℤ pos width) ∷ []) (back last width)
+    ∙ ap (λ (is : List Ended). is ++ item_of_kind kind (last +ℤ pos width) ∷ []) (sym (until-step kind last more step width same))
+  where
+    back : (last : ℤ) (n : ℕ) → (last +ℤ pos n) -ℤ pos n ≡ last
+    back last n = omega (arith, ints)
+
+-- ---- the walk
+
+-- behind no byte
+pub at-start : (from : ℤ) → from ≡ from +ℤ pos 0
+at-start from = omega (arith, ints)
+
+pub no-more : (n : ℕ) → 0 + n ≡ n
+no-more n = omega arith
+
+-- so many bytes at the front are code points whose items were taken: those of the closed runs, and the last `more` and one of the run that is open
+pub record IsWalked (stride : Stride) (kind : ItemKind) (output : OutputState) (text : List ℕ) (from : ℤ) (before : List Ended) (capacity at : ℕ) (closed : List Run) (count : ℕ) (last : ℤ) (more step : ℕ) : Type 0 where
+  pub within : at ≤ length text
+  pub spelt : IsUtf8 (drop at text)
+  pub front : List ℕ
+  pub parts : chars text ≡ front ++ chars (drop at text)
+  pub place : last ≡ from +ℤ pos (run_width stride front)
+  pub items : items_of_runs closed ++ items_until kind step last (suc more) ≡ before ++ plain_items_from stride from output front
+  pub room : count + length (chars (drop at text)) ≤ capacity
+
+-- the code point that stands behind so many bytes
+next-there : (text : List ℕ) (at lead : ℕ) → IsUtf8 (drop at text) → at < length text → lead ≡ get_or text at 0 → IsNext (drop at text) lead
+next-there text at lead spelt some lead_is =
+    next-is (drop at text) lead spelt (omega (arith, length-drop at text, some)) (lead_is ∙ ap (get_or_zero text) (here at) ∙ sym (get_or-drop at text 0 0))
+  where
+    get_or_zero : List ℕ → ℕ → ℕ
+    get_or_zero text n = get_or text n 0
+
+    here : (n : ℕ) → n ≡ n + 0
+    here n = omega arith
+
+fits : (text rest : List ℕ) (at c : ℕ) → drop at text ≡ encode c ++ rest → at + len_utf8 c ≤ length text
+fits text rest at c parts =
+    let all : length text - at ≡ len_utf8 c + length rest = sym (length-drop at text) ∙ ap length parts ∙ length-append (encode c) rest ∙ ap (λ (n : ℕ). n + length rest) (length-encode c) in
+    let some = (len_utf8_bounds c).0 in
+    omega (arith, all, some)
+
+module _ (text : List ℕ) (at lead len : ℕ) (spelt : IsUtf8 (drop at text)) (some : at < length text) (lead_is : lead ≡ get_or text at 0) (len_is : len ≡ continuation_len lead + 1) where
+  pub next : IsNext (drop at text) lead
+  next = next-there text at lead spelt some lead_is
+
+  long : len ≡ len_utf8 next.code_point
+  long = len_is ∙ next.len
+
+  behind : drop (at + len) text ≡ next.rest
+  behind = ap (λ (n : ℕ). drop (at + n) text) long ∙ drop_past_char text next.rest at next.code_point next.parts
+
+  pub next-within : at + len ≤ length text
+  next-within = omega (arith, long, fits text next.rest at next.code_point next.parts)
+
+  pub next-len : (1 ≤ len) × (len ≤ 4)
+  next-len = let b = len_utf8_bounds next.code_point in (omega (arith, long, b.0), omega (arith, long, b.1))
+
+  next-spelt : IsUtf8 (drop (at + len) text)
+  next-spelt = rw behind (IsUtf8-past_char (drop at text) next.rest next.code_point spelt next.parts)
+
+  pub next-parts : chars (drop at text) ≡ next.code_point ∷ chars (drop (at + len) text)
+  next-parts = chars_past_char (drop at text) next.rest next.code_point spelt next.parts ∙ ap (λ (bs : List ℕ). next.code_point ∷ chars bs) (sym behind)
+
+  -- there is room for its run
+  pub walked-some : (count capacity : ℕ) → count + length (chars (drop at text)) ≤ capacity → count < capacity
+  walked-some count capacity room = omega (arith, ap length next-parts, room)
+
+  -- how long its item is, by the lengths of items
+  pub next-width : (stride : Stride) (widths : List ℕ) → ((c : ℕ) → get_or widths (len_utf8 c - 1) 0 ≡ width_of stride c) → get_or widths (len - 1) 0 ≡ width_of stride next.code_point
+  next-width stride widths widths_are = ap (λ (n : ℕ). get_or widths (n - 1) 0) long ∙ widths_are next.code_point
+
+  module _ (stride : Stride) (width : ℕ) (width_is : width ≡ width_of stride next.code_point) (from last limit : ℤ) (front : List ℕ) (parts : chars text ≡ front ++ chars (drop at text)) (place : last ≡ from +ℤ pos (run_width stride front)) where
+    whole : run_width stride (chars text) ≡ run_width stride front + (width + run_width stride (chars (drop (at + len) text)))
+    whole =
+        ap (run_width stride) (parts ∙ ap (λ (cs : List ℕ). front ++ cs) next-parts)
+        ∙ run-append stride front (next.code_point ∷ chars (drop (at + len) text))
+        ∙ ap (λ (n : ℕ). run_width stride front + (n + run_width stride (chars (drop (at + len) text)))) (sym width_is)
+
+    pub next-fits : (from +ℤ pos (run_width stride (chars text))) <ℤ limit → (last +ℤ pos width) <ℤ limit
+    next-fits fits = by from last limit (run_width stride (chars text)) (run_width stride front) width (run_width stride (chars (drop (at + len) text))) whole place fits
+      where
+        by : (from last limit : ℤ) (all front width rest : ℕ) → all ≡ front + (width + rest) → last ≡ from +ℤ pos front → (from +ℤ pos all) <ℤ limit → (last +ℤ pos width) <ℤ limit
+        by from last limit all front width rest e f g = omega (arith, ints, e, f, g)
+
+    next-front : chars text ≡ (front ++ next.code_point ∷ []) ++ chars (drop (at + len) text)
+    next-front = parts ∙ ap (λ (cs : List ℕ). front ++ cs) next-parts ∙ sym (append_assoc front (next.code_point ∷ []) (chars (drop (at + len) text)))
+
+    next-place : last +ℤ pos width ≡ from +ℤ pos (run_width stride (front ++ next.code_point ∷ []))
+    next-place = by from last (run_width stride front) width (width_of stride next.code_point) (run_width stride (front ++ next.code_point ∷ [])) place width_is (run-append stride front (next.code_point ∷ []))
+      where
+        by : (from last : ℤ) (front width wide all : ℕ) → last ≡ from +ℤ pos front → width ≡ wide → all ≡ front + (wide + 0) → last +ℤ pos width ≡ from +ℤ pos all
+        by from last front width wide all e f g = omega (arith, ints, e, f, g)
+
+    module _ (kind : ItemKind) (output : OutputState) (one : (end : ℤ) → item_of_kind kind end ≡ record { scalars = 1; end = end; error = false; output = output }) where
+      -- the items in front of it, and it
+      next-items : (before taken : List Ended) → taken ≡ before ++ plain_items_from stride from output front
+          → taken ++ item_of_kind kind (last +ℤ pos width) ∷ [] ≡ before ++ plain_items_from stride from output (front ++ next.code_point ∷ [])
+      next-items before taken taken_is =
+          ap (λ (is : List Ended). is ++ item_of_kind kind (last +ℤ pos width) ∷ []) taken_is
+          ∙ append_assoc before (plain_items_from stride from output front) (item_of_kind kind (last +ℤ pos width) ∷ [])
+          ∙ ap (λ (i : Ended). before ++ (plain_items_from stride from output front ++ i ∷ [])) (one (last +ℤ pos width))
+          ∙ ap (λ (z : ℤ). before ++ (plain_items_from stride from output front ++ kept_item (One next.code_point) z output ∷ [])) (by from last (run_width stride front) width (width_of stride next.code_point) place width_is)
+          ∙ ap (λ (is : List Ended). before ++ is) (sym (items-more stride from output front next.code_point))
+        where
+          by : (from last : ℤ) (front width wide : ℕ) → last ≡ from +ℤ pos front → width ≡ wide → last +ℤ pos width ≡ from +ℤ pos (front + wide)
+          by from last front width wide e f = omega (arith, ints, e, f)
+
+      one-less : length (chars (drop at text)) ≡ suc (length (chars (drop (at + len) text)))
+      one-less = ap length next-parts
+
+      -- the first item
+      pub walked-first : (before : List Ended) (capacity room count : ℕ) (closed : List Run) (first : Run) → first.kind ≡ kind → first.last ≡ last +ℤ pos width
+          → items_of_runs closed ++ items_of_run first ≡ before ++ item_of_kind kind (last +ℤ pos width) ∷ [] → front ≡ [] → room + length (chars (drop at text)) ≤ capacity → count ≤ room + 1
+          → IsWalked stride kind output text from before capacity (at + len) closed count (last +ℤ pos width) first.more first.step
+      walked-first before capacity room count closed first kind_is last_is items_are none some few = record {
+        within = next-within;
+        spelt = next-spelt;
+        front = front ++ next.code_point ∷ [];
+        parts = next-front;
+        place = next-place;
+        items = ap (λ (k : ItemKind). items_of_runs closed ++ items_until k first.step (last +ℤ pos width) (suc first.more)) (sym kind_is)
+            ∙ ap (λ (l : ℤ). items_of_runs closed ++ items_until first.kind first.step l (suc first.more)) (sym last_is)
+            ∙ items_are
+            ∙ next-items before before (sym (ap (λ (cs : List ℕ). before ++ plain_items_from stride from output cs) none ∙ append-nil before));
+        room = omega (arith, one-less, some, few);
+      }
+
+      module _ (before : List Ended) (capacity count more step : ℕ) (closed : List Run) (spelt_there : IsUtf8 (drop at text))
+          (items : items_of_runs closed ++ items_until kind step last (suc more) ≡ before ++ plain_items_from stride from output front) (room : count + length (chars (drop at text)) ≤ capacity) where
+        -- an item that goes on with the open run
+        pub walked-on : (then_more then_step : ℕ) → then_more ≡ more + 1 → then_step ≡ width → (0 < more → step ≡ width) → IsWalked stride kind output text from before capacity (at + len) closed count (last +ℤ pos width) then_more then_step
+        walked-on then_more then_step more_is step_is same = record {
+          within = next-within;
+          spelt = next-spelt;
+          front = front ++ next.code_point ∷ [];
+          parts = next-front;
+          place = next-place;
+          items = ap (λ (n : ℕ). items_of_runs closed ++ items_until kind then_step (last +ℤ pos width) (suc n)) (more_is ∙ one_more more)
+              ∙ ap (λ (n : ℕ). items_of_runs closed ++ items_until kind n (last +ℤ pos width) (suc (suc more))) step_is
+              ∙ ap (λ (is : List Ended). items_of_runs closed ++ is) (until-more kind step width more last same)
+              ∙ sym (append_assoc (items_of_runs closed) (items_until kind step last (suc more)) (item_of_kind kind (last +ℤ pos width) ∷ []))
+              ∙ next-items before (items_of_runs closed ++ items_until kind step last (suc more)) items;
+          room = omega (arith, one-less, room);
+        }
+          where
+            one_more : (n : ℕ) → n + 1 ≡ suc n
+            one_more n = omega arith
+
+        -- an item that begins a run
+        pub walked-new : (run : Run) (then : List Run) (then_count then_capacity : ℕ) → run ≡ record { last = last; more = more; step = step; kind = kind } → then ≡ closed ++ run ∷ [] → then_count ≡ count + 1 → then_capacity ≡ capacity
+            → IsWalked stride kind output text from before then_capacity (at + len) then then_count (last +ℤ pos width) 0 step
+        walked-new run then then_count then_capacity run_is then_is count_is capacity_is = record {
+          within = next-within;
+          spelt = next-spelt;
+          front = front ++ next.code_point ∷ [];
+          parts = next-front;
+          place = next-place;
+          items = ap (λ (rs : List Run). items_of_runs rs ++ item_of_kind kind (last +ℤ pos width) ∷ []) then_is
+              ∙ ap (λ (is : List Ended). is ++ item_of_kind kind (last +ℤ pos width) ∷ []) (flat_map-append items_of_run closed (run ∷ []) ∙ ap (λ (is : List Ended). items_of_runs closed ++ is) (append-nil (items_of_run run)) ∙ ap (λ (r : Run). items_of_runs closed ++ items_of_run r) run_is)
+              ∙ next-items before (items_of_runs closed ++ items_until kind step last (suc more)) items;
+          room = omega (arith, one-less, room, count_is, capacity_is);
+        }
+
+-- all of the text
+pub walked-whole : (stride : Stride) (kind : ItemKind) (output : OutputState) (text : List ℕ) (from : ℤ) (before : List Ended) (capacity at : ℕ) (closed : List Run) (count : ℕ) (last : ℤ) (more step : ℕ)
+    → IsWalked stride kind output text from before capacity at closed count last more step → length text ≤ at → items_of_runs closed ++ items_until kind step last (suc more) ≡ before ++ plain_items_from stride from output (chars text)
+walked-whole stride kind output text from before capacity at closed count last more step held past =
+    let none : length (drop at text) ≡ 0 = omega (arith, length-drop at text, past) in
+    held.items ∙ ap (λ (cs : List ℕ). before ++ plain_items_from stride from output cs) (sym (held.parts ∙ ap (λ (cs : List ℕ). held.front ++ cs) (chars_of_empty (drop at text) none) ∙ append-nil held.front))
+
+-- the same place, written in another way
+pub walked-at : (stride : Stride) (kind : ItemKind) (output : OutputState) (text : List ℕ) (from : ℤ) (before : List Ended) (capacity at then_at : ℕ) (closed : List Run) (count : ℕ) (last then : ℤ) (more step : ℕ) → then ≡ last → then_at ≡ at
+    → IsWalked stride kind output text from before capacity at closed count last more step → IsWalked stride kind output text from before capacity then_at closed count then more step
+walked-at stride kind output text from before capacity at then_at closed count last then more step e f held =
+    subst (λ (z : ℤ). IsWalked stride kind output text from before capacity then_at closed count z more step) (sym e)
+    (subst (λ (n : ℕ). IsWalked stride kind output text from before capacity n closed count last more step) (sym f) held)

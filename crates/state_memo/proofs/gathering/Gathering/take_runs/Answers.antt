@@ -1,0 +1,20 @@
+use Rattle.std.proofs.Common.{◌≡◌, ap, ◌∙◌, ℤ, List, ◌++◌, to_z, of_z, w32}
+use Rattle.std.specs.Str.{chars}
+use Rattle.std.proofs.Math.Facts.{to_z-of_z}
+use Rattle.std.proofs.lemmas.Str.{chars-append}
+use Rattle.state_memo.specs.declared.ended.Ended.{Ended}
+use Rattle.state_memo.specs.Gathering.{plain_items_from}
+use Rattle.state_memo.specs.Runs.{items_under_way}
+use Rattle.state_memo.proofs.Gathered.{taken-is}
+use Rattle.state_memo.proofs.gathering.Gathering.take_runs.Goals as goal
+
+pub returns-clause-ok : goal.returns-clause-ok
+returns-clause-ok c =
+    let from : to_z w32 (of_z w32 c.args.from) ≡ c.args.from = to_z-of_z {w = w32} c.ranges.from in
+    let old = items_under_way c.self.inside.items.closed.items c.self.inside.items.last in
+    let text = chars c.args.text.now in
+    taken-is c.args.self.now (chars c.self.inside.text.bytes) (chars c.put_text.new.self.bytes) (chars c.args.text.now)
+    (items_under_way c.self.inside.items.closed.items c.self.inside.items.last) (items_under_way c.put_plain.new.self.closed.items c.put_plain.new.self.last) (plain_items_from c.args.stride c.args.from c.args.output (chars c.args.text.now)) c.self.view_is
+    (ap chars c.in_ok-put_text.ensures.ok ∙ chars-append c.self.inside.text.bytes c.args.text.now c.in_ok-put_text.ensures.utf8)
+    (c.put_plain.ensures ∙ ap (λ (is : List Ended). is ++ plain_items_from c.args.stride (to_z w32 (of_z w32 c.args.from)) c.args.output text) c.in_ok-reserve.ensures.same
+    ∙ ap (λ (z : ℤ). old ++ plain_items_from c.args.stride z c.args.output text) from)
