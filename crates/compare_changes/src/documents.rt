@@ -4,7 +4,7 @@ use crate::change::{RangeChange, UNITS, new_text};
 use crate::kind::Tally;
 use crate::mirrored_document::MirroredDocument;
 use crate::numbers::up_to;
-use enc_names::Encoding;
+use enc_names::{Bom, Setting};
 use index_loader::Indexes;
 use oracle::{Plain, Sample, bytes_of, length};
 use position_map::{Position, Range, Unit};
@@ -13,6 +13,9 @@ use std::alloc::Global;
 
 /// How many small documents each encoding has.
 const SMALL: usize = 40;
+
+/// Of so many documents one keeps its byte order mark.
+const KEPT: usize = 4;
 
 /// The most bytes of a small document.
 const SMALL_LENGTH: usize = 20;
@@ -51,15 +54,25 @@ fn borders(alloc: Global, plain: &Plain, unit: Unit) -> Option<Vec<Position>> {
 #[derive(Clone, Copy)]
 struct SmallDocument<'a> {
     indexes: &'a Indexes,
-    given: Encoding,
+    setting: Setting,
     bytes: &'a [u8],
+}
+
+/// The setting of the document of this number.
+fn setting_of(sample: &Sample, number: usize) -> Setting {
+    let bom = if number % KEPT == 0 {
+        Bom::Keep
+    } else {
+        Bom::Sniff
+    };
+    Setting::new(sample.given, bom)
 }
 
 impl<'a> SmallDocument<'a> {
     /// The document as it was; `None` where a call is refused.
     fn opened(self, alloc: Global) -> Option<MirroredDocument<'a>> {
         let bytes = Vec::from_slice(alloc, self.bytes).ok()?;
-        MirroredDocument::open(alloc, self.indexes, self.given, bytes)
+        MirroredDocument::open(alloc, self.indexes, self.setting, bytes)
     }
 }
 
@@ -107,12 +120,12 @@ fn small_documents(
     sample: &Sample,
     tally: &mut Tally,
 ) -> Option<()> {
-    for _ in 0..SMALL {
+    for number in 0..SMALL {
         let len = up_to(rng, SMALL_LENGTH);
         let bytes = bytes_of(alloc, rng, sample, len)?;
         let document = SmallDocument {
             indexes,
-            given: sample.given,
+            setting: setting_of(sample, number),
             bytes: &bytes,
         };
         for unit in &UNITS {
@@ -122,18 +135,20 @@ fn small_documents(
     Some(())
 }
 
-/// A document with changes one after another; `None` where a call is refused.
+/// The document of this number with changes one after another; `None` where a call is refused.
 fn one_document(
     alloc: Global,
     indexes: &Indexes,
     rng: &mut SmallRng,
     sample: &Sample,
+    number: usize,
     tally: &mut Tally,
 ) -> Option<()> {
     let len = length(rng);
     let len = len.saturating_mul(up_to(rng, 2).saturating_add(1));
     let bytes = bytes_of(alloc, rng, sample, len)?;
-    let mut trial = MirroredDocument::open(alloc, indexes, sample.given, bytes)?;
+    let setting = setting_of(sample, number);
+    let mut trial = MirroredDocument::open(alloc, indexes, setting, bytes)?;
     change_often(alloc, rng, &mut trial, tally)
 }
 
@@ -160,8 +175,8 @@ pub fn changes(
 ) -> Option<Tally> {
     let mut tally = Tally::new();
     small_documents(alloc, indexes, rng, sample, &mut tally)?;
-    for _ in 0..DOCUMENTS {
-        one_document(alloc, indexes, rng, sample, &mut tally)?;
+    for number in 0..DOCUMENTS {
+        one_document(alloc, indexes, rng, sample, number, &mut tally)?;
     }
     Some(tally)
 }
@@ -178,7 +193,8 @@ pub fn full_document(
     let mut tally = Tally::new();
     let drawn = bytes_of(alloc, rng, sample, count.saturating_add(SPARE))?;
     let bytes = Vec::from_slice(alloc, drawn.get(..count)?).ok()?;
-    let mut trial = MirroredDocument::open(alloc, indexes, sample.given, bytes)?;
+    let setting = Setting::new(sample.given, Bom::Sniff);
+    let mut trial = MirroredDocument::open(alloc, indexes, setting, bytes)?;
     insert_often(alloc, rng, &mut trial, &mut tally)?;
     Some(tally)
 }

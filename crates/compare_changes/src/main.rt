@@ -18,7 +18,7 @@ mod resync;
 mod splices;
 
 use documents::{SPARE, changes, full_document};
-use enc_names::Encoding;
+use enc_names::{Bom, Encoding, Setting};
 use index_loader::Indexes;
 use kind::{Tally, is_telling};
 use oracle::{SAMPLES, Sample, small_indexes};
@@ -81,11 +81,11 @@ fn compare_changes(rt: &HostRuntime, indexes: &Indexes) -> io::Result<bool> {
 }
 
 /// Compares splices in each family of encodings, prints how many agree, and says whether all do.
-fn compare_splices(rt: &HostRuntime, indexes: &Indexes) -> io::Result<bool> {
+fn compare_splices(rt: &HostRuntime, indexes: &Indexes, bom: Bom) -> io::Result<bool> {
     let mut all = true;
     for given in &FAMILIES {
         let name = given.name();
-        let Some(tally) = splices(rt.alloc(), indexes, *given) else {
+        let Some(tally) = splices(rt.alloc(), indexes, Setting::new(*given, bom)) else {
             println!(rt; "{name:<14} a call was refused")?;
             all = false;
             continue;
@@ -104,7 +104,9 @@ fn compare(rt: &HostRuntime) -> io::Result<bool> {
         return Err(io::ErrorKind::OutOfMemory)?;
     };
     let changes = compare_changes(rt, &indexes)?;
-    Ok(compare_splices(rt, &indexes)? && changes)
+    let sniffed = compare_splices(rt, &indexes, Bom::Sniff)?;
+    println!(rt; "Byte order marks kept:")?;
+    Ok(compare_splices(rt, &indexes, Bom::Keep)? && sniffed && changes)
 }
 
 fn main(rt: HostRuntime) -> ExitCode {

@@ -5,7 +5,7 @@ use crate::kind::{ChangeKind, Tally};
 use crate::plain_document::{After, PlainDocument};
 use crate::refusal::ChangeRefusal;
 use decoder_core::{Meter, meter};
-use enc_names::{Bom, Encoding};
+use enc_names::Setting;
 use index_loader::Indexes;
 use oracle::Plain;
 use piece_rope::{Doc, DocFault};
@@ -73,15 +73,16 @@ fn changed(
 }
 
 impl<'i> MirroredDocument<'i> {
-    /// A document of these bytes; `None` where a call is refused.
+    /// A document of these bytes under a setting; `None` where a call is refused.
     pub fn open(
         alloc: Global,
         indexes: &'i Indexes,
-        given: Encoding,
+        setting: Setting,
         bytes: Vec<u8>,
     ) -> Option<MirroredDocument<'i>> {
-        let doc = Doc::open(alloc, indexes, given, Bom::Sniff, &bytes, &mut meter()).ok()?;
-        let source = PlainDocument::of(alloc, indexes, given, bytes)?;
+        let Setting { given, bom } = setting;
+        let doc = Doc::open(alloc, indexes, given, bom, &bytes, &mut meter()).ok()?;
+        let source = PlainDocument::of(alloc, indexes, setting, bytes)?;
         Some(MirroredDocument { doc, source })
     }
 }

@@ -5,7 +5,7 @@ use crate::plan::planned;
 use crate::refusal::ChangeRefusal;
 use crate::resync::until_resync;
 use codec::AnyDecoder;
-use enc_names::{Bom, Encoding};
+use enc_names::Setting;
 use index_loader::Indexes;
 use oracle::{Plain, Text};
 use piece_rope::{DOCUMENT_LIMIT, Doc, DocFault, LONGEST_PIECE};
@@ -16,7 +16,7 @@ use std::alloc::Global;
 #[derive(Drop)]
 pub struct PlainDocument<'i> {
     indexes: &'i Indexes,
-    given: Encoding,
+    setting: Setting,
     bytes: Vec<u8>,
     /// Everything about the text.
     pub plain: Plain,
@@ -46,14 +46,14 @@ impl<'i> PlainDocument<'i> {
     pub fn of(
         alloc: Global,
         indexes: &'i Indexes,
-        given: Encoding,
+        setting: Setting,
         bytes: Vec<u8>,
     ) -> Option<PlainDocument<'i>> {
-        let text = Text::of(alloc, indexes, given, &bytes)?;
+        let text = Text::of(alloc, indexes, setting, &bytes)?;
         let plain = Plain::of(alloc, text, bytes.len())?;
         Some(PlainDocument {
             indexes,
-            given,
+            setting,
             bytes,
             plain,
         })
@@ -64,7 +64,7 @@ impl PlainDocument<'_> {
     /// The most bytes that may be decoded for a splice that leaves these: those put in, those
     /// behind it until the decoder stands where it stood there before, and four pieces' more.
     fn most_decoded(&self, plan: &Plan, new: &[u8]) -> Option<u64> {
-        let decoder = AnyDecoder::new(self.indexes, self.given, Bom::Sniff)?;
+        let decoder = AnyDecoder::under(self.indexes, self.setting)?;
         let put_in = plan.ins.as_slice().len();
         let end = plan.at.saturating_add(plan.del) as usize;
         let (old, rest) = self.bytes.split_at_checked(end)?;
@@ -88,7 +88,9 @@ impl PlainDocument<'_> {
         if bytes.len() > DOCUMENT_LIMIT {
             return Err(ChangeRefusal::Unmade(DocFault::TooLarge));
         }
-        let text = Text::of(alloc, self.indexes, self.given, &bytes).ok_or(DocFault::OutOfMemory)?;
+        let text = Text::of(alloc, self.indexes, self.setting, &bytes).ok_or(
+            DocFault::OutOfMemory,
+        )?;
         let chars = self
             .chars_behind(alloc, &plan, change)
             .ok_or(DocFault::OutOfMemory)?;

@@ -2,6 +2,7 @@
 
 use crate::spots::Spots;
 use crate::tally::CallTally;
+use enc_names::Setting;
 use oracle::{Plain, Text};
 use piece_rope::Doc;
 use position_map::{
@@ -120,16 +121,17 @@ impl Comparison<'_> {
     }
 }
 
-/// Compares each call on a document of these bytes, near the borders of its pieces and at numbers
+/// Compares each call on a document of these bytes under a setting, near the borders of its pieces and at numbers
 /// drawn beside these; `None` where memory is refused.
 pub fn compare(
     alloc: Global,
     rng: &mut SmallRng,
     doc: &Doc<'_>,
+    setting: Setting,
     bytes: &[u8],
     tally: &mut CallTally,
 ) -> Option<()> {
-    let text = Text::of(alloc, doc.indexes(), doc.given(), bytes)?;
+    let text = Text::of(alloc, doc.indexes(), setting, bytes)?;
     let plain = Plain::of(alloc, text, bytes.len())?;
     let spots = Spots::of(alloc, rng, doc)?;
     tally.pass(spots.borders, spots.cut);

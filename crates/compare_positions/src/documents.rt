@@ -3,7 +3,7 @@
 use crate::compare::compare;
 use crate::tally::CallTally;
 use decoder_core::meter;
-use enc_names::Bom;
+use enc_names::{Bom, Setting};
 use index_loader::Indexes;
 use oracle::{Sample, Splice, bytes_of, length, spliced};
 use piece_rope::Doc;
@@ -13,6 +13,9 @@ use std::alloc::Global;
 
 /// How many documents each encoding has.
 const DOCUMENTS: usize = 40;
+
+/// Of so many documents one keeps its byte order mark.
+const KEPT: usize = 4;
 
 /// The most bytes that a splice takes out.
 const TAKEN_OUT: usize = 3000;
@@ -44,24 +47,18 @@ fn one_document(
     indexes: &Indexes,
     rng: &mut SmallRng,
     sample: &Sample,
+    bom: Bom,
     tally: &mut CallTally,
 ) -> Option<()> {
     let len = length(rng);
     let mut bytes = bytes_of(alloc, rng, sample, len)?;
-    let mut doc = Doc::open(
-        alloc,
-        indexes,
-        sample.given,
-        Bom::Sniff,
-        &bytes,
-        &mut meter(),
-    )
-    .ok()?;
+    let mut doc = Doc::open(alloc, indexes, sample.given, bom, &bytes, &mut meter()).ok()?;
     for _ in 0..rng.random_range(0..4usize) {
         let splice = drawn(alloc, rng, sample, bytes.len())?;
         bytes = make(alloc, &mut doc, &bytes, &splice)?;
     }
-    compare(alloc, rng, &doc, &bytes, tally)
+    let setting = Setting::new(sample.given, bom);
+    compare(alloc, rng, &doc, setting, &bytes, tally)
 }
 
 /// The calls on random documents; `None` where a call is refused.
@@ -72,8 +69,13 @@ pub fn random_documents(
     sample: &Sample,
 ) -> Option<CallTally> {
     let mut tally = CallTally::new();
-    for _ in 0..DOCUMENTS {
-        one_document(alloc, indexes, rng, sample, &mut tally)?;
+    for number in 0..DOCUMENTS {
+        let bom = if number % KEPT == 0 {
+            Bom::Keep
+        } else {
+            Bom::Sniff
+        };
+        one_document(alloc, indexes, rng, sample, bom, &mut tally)?;
     }
     Some(tally)
 }
@@ -89,15 +91,9 @@ pub fn large_document(
     let mut tally = CallTally::new();
     let drawn = bytes_of(alloc, rng, sample, count)?;
     let bytes = drawn.get(..count)?;
-    let doc = Doc::open(
-        alloc,
-        indexes,
-        sample.given,
-        Bom::Sniff,
-        bytes,
-        &mut meter(),
-    )
-    .ok()?;
-    compare(alloc, rng, &doc, bytes, &mut tally)?;
+    let bom = Bom::Sniff;
+    let doc = Doc::open(alloc, indexes, sample.given, bom, bytes, &mut meter()).ok()?;
+    let setting = Setting::new(sample.given, bom);
+    compare(alloc, rng, &doc, setting, bytes, &mut tally)?;
     Some(tally)
 }

@@ -3,7 +3,7 @@
 use crate::compare::compare;
 use crate::tally::CallTally;
 use decoder_core::meter;
-use enc_names::{Bom, Encoding};
+use enc_names::{Bom, Encoding, Setting};
 use index_loader::Indexes;
 use piece_rope::{Doc, LONGEST_PIECE};
 use rand::rngs::SmallRng;
@@ -76,16 +76,10 @@ fn one_document(
     let middle = (len / 2).checked_div(case.letter.len())?;
     let bytes = case.bytes(alloc, middle.saturating_sub(near), len)?;
     let indexes = Indexes::new();
-    let doc = Doc::open(
-        alloc,
-        &indexes,
-        case.given,
-        Bom::Sniff,
-        &bytes,
-        &mut meter(),
-    )
-    .ok()?;
-    compare(alloc, rng, &doc, &bytes, tally)
+    let bom = Bom::Sniff;
+    let doc = Doc::open(alloc, &indexes, case.given, bom, &bytes, &mut meter()).ok()?;
+    let setting = Setting::new(case.given, bom);
+    compare(alloc, rng, &doc, setting, &bytes, tally)
 }
 
 /// The calls on documents with a line end at each place round the border of two pieces; `None`

@@ -1,15 +1,16 @@
 //! Documents, compared with decoding from scratch.
 
 use codec::decode_whole;
-use enc_names::{Bom, Encoding};
+use enc_names::Setting;
 use piece_rope::{Axis, Doc, LONGEST_PIECE, SHORTEST_PIECE};
 use std::alloc::Global;
 use sum_tree::visits;
 
-/// The document answers everything as decoding these bytes from scratch does; `None` where memory
-/// is refused.
-pub fn agrees(alloc: Global, doc: &Doc<'_>, given: Encoding, bytes: &[u8]) -> Option<bool> {
-    let scratch = decode_whole(alloc, doc.indexes(), given, Bom::Sniff, bytes).ok()?;
+/// The document answers everything as decoding these bytes from scratch under a setting does; `None`
+/// where memory is refused.
+pub fn agrees(alloc: Global, doc: &Doc<'_>, setting: Setting, bytes: &[u8]) -> Option<bool> {
+    let Setting { given, bom } = setting;
+    let scratch = decode_whole(alloc, doc.indexes(), given, bom, bytes).ok()?;
     let lengths = doc.lengths();
     let text = doc.text(0, lengths.scalars).ok()?;
     let errors = doc.errors(0, lengths.errors).ok()?;

@@ -2,7 +2,7 @@
 
 use codec::{AnyDecoder, Sniffed, sniff};
 use decoder_core::{Item, decode_parts, meter};
-use enc_names::{Bom, Encoding, Place, Setting};
+use enc_names::{Encoding, Place, Setting};
 use index_loader::Indexes;
 use std::alloc::Global;
 
@@ -21,9 +21,8 @@ pub struct Text {
 }
 
 impl Text {
-    /// The text of these bytes; `None` where an index file isn't there or memory is refused.
-    pub fn of(alloc: Global, indexes: &Indexes, given: Encoding, bytes: &[u8]) -> Option<Text> {
-        let setting = Setting::new(given, Bom::Sniff);
+    /// The text of these bytes under a setting; `None` where an index file isn't there or memory is refused.
+    pub fn of(alloc: Global, indexes: &Indexes, setting: Setting, bytes: &[u8]) -> Option<Text> {
         let decoder = AnyDecoder::under(indexes, setting)?;
         let Sniffed { encoding, bom_len } = sniff(setting, bytes);
         let items = decode_parts(alloc, &decoder, bytes, bom_len, &[], &mut meter()).ok()?;

@@ -3,6 +3,7 @@
 
 use super::*;
 use crate::indexes::small_indexes;
+use enc_names::Setting;
 use oracle::agrees;
 
 /// A splice of some bytes, and the code points that it is to replace.
@@ -60,7 +61,8 @@ fn is_left(
     back: usize,
 ) -> Result<(), DocFault> {
     let wanted = between(alloc, front, case.left.unwrap_or(case.bytes), back)?;
-    let same = agrees(alloc, doc, case.given, &wanted);
+    let setting = Setting::new(case.given, Bom::Sniff);
+    let same = agrees(alloc, doc, setting, &wanted);
     let shows = case.shows;
     assert_eq!(rt; same, Some(true), "{shows}, behind {front} letters");
     Ok(())
