@@ -15,7 +15,7 @@ use Rattle.decoder_core.specs.declared.bulk.Stride.TheVariants.{Pairs, Bytes}
 use Rattle.decoder_core.specs.declared.item.Item.TheVariants.{One}
 use Rattle.decoder_core.specs.AsciiRuns.{TakesAscii}
 use Rattle.decoder_core.specs.Bulk.{IsBulk, width_of, run_width, plain_from}
-use Rattle.decoder_core.specs.Fronts.{TakesByte, TakesPair, IsFront}
+use Rattle.decoder_core.specs.Fronts.{TakesByte, TakesPair, IsFront, IsPairPut}
 use Rattle.decoder_core.specs.Queue.{Table, Falls, Fed, feed}
 use Rattle.decoder_core.specs.Shown.{Shown, shown_from}
 use Rattle.decoder_core.proofs.Running.{feed-nil, feed-append}
@@ -198,3 +198,22 @@ module _ {S : Type 0} (table : Table S) (f : Falls table) (s : S) where
   front-read stride bytes block new at written c got width end same bulk next scalar room large end_is new_is =
       let front : IsFront table s stride bytes at got width = subst (λ (x : ℕ). IsFront table s stride bytes at x width) (sym same) next in
       front-more stride bytes block new at written got width end bulk front scalar room large end_is new_is
+
+  -- a pair that was put
+  pub pair-put : (bytes block new : List ℕ) (at written end : ℕ) → IsBulk table s bytes (record { taken = at; written = written; stride = Pairs }) block → IsPairPut table s bytes at block new written end
+      → written + 4 ≤ 1024 → length block ≡ 1024 → IsBulk table s bytes (record { taken = at + 2; written = end; stride = Pairs }) new
+  pair-put bytes block new at written end bulk put room large = front-more Pairs bytes block new at written put.code_point 2 end bulk put.front put.scalar room large put.ends put.bytes_put
+
+  pub pair-few : (bytes block new : List ℕ) (at written end : ℕ) → IsPairPut table s bytes at block new written end → written ≤ 2 * at → end ≤ 2 * (at + 2)
+  pair-few bytes block new at written end put few = few-pairs written at put.code_point put.code_point 2 end refl few put.front.wide put.ends
+
+-- what was put is the code point that was got
+pub put-is : {S : Type 0} (table : Table S) (s : S) (bytes : List ℕ) (at : ℕ) (before after : List ℕ) (written end c got : ℕ) → got ≡ c → (128 ≤ c → IsFront table s Pairs bytes at c 2) → 128 ≤ got → IsScalar got
+    → end ≡ written + len_utf8 got → after ≡ put_chunk written before (encode_utf8 got) → IsPairPut table s bytes at before after written end
+put-is table s bytes at before after written end c got same front high scalar ends put = record {
+  code_point = got;
+  front = subst (λ (x : ℕ). IsFront table s Pairs bytes at x 2) (sym same) (front (omega (arith, high, same)));
+  scalar = scalar;
+  ends = ends;
+  bytes_put = put;
+}

@@ -67,7 +67,7 @@ pub trait Handler {
     }
 
     /// Which characters the decoder takes in bulk in a state where all ASCII bytes are their own
-    /// code points.
+    /// code points, or none; in the latter `Pairs` are taken without ASCII between them.
     #[inline(always)]
     fn characters(&self) -> Characters {
         Characters::Ascii

@@ -1,10 +1,10 @@
-//! Runs of pairs of bytes, and of ASCII between them, in bulk.
-ghost use Rattle.std.specs.Prelude.{◌+◌, ◌<◌, ◌≤◌, IfSome, length};
+//! Runs of pairs of bytes in bulk, with ASCII between them or without.
+ghost use Rattle.std.specs.Prelude.{◌≡◌, ◌+◌, ◌<◌, ◌≤◌, IfNone, IfSome, length};
 ghost use Rattle.decoder_core.specs.declared.ascii_runs.AsciiRuns.TheVariants.{All};
 ghost use Rattle.decoder_core.specs.declared.bulk.Stride.TheVariants.{Pairs};
 ghost use Rattle.decoder_core.specs.AsciiRuns.{TakesAscii};
 ghost use Rattle.decoder_core.specs.Bulk.{IsBulk};
-ghost use Rattle.decoder_core.specs.Fronts.{IsFront};
+ghost use Rattle.decoder_core.specs.Fronts.{IsFront, IsPairPut};
 
 use crate::bulk::{Bulk, Stride};
 use crate::handler::Handler;
@@ -28,10 +28,10 @@ pub(crate) fn take_pairs<H: Handler>(
     requires { TakesAscii (H.table handler.now) state All }
     ensures { IsBulk (H.table handler.now) state bytes.now result text.new }
 {
-    let end = bytes.len().min(MOST);
+    let most = bytes.len().min(MOST);
     let mut taken = 0;
     let mut written = 0;
-    'pairs: while taken + 1 < end {
+    'pairs: while taken + 1 < most {
         let lead = bytes[taken];
         if lead < 0x80 {
             // A long run of ASCII is taken by itself. Looked for now and then, it costs nothing.
@@ -42,19 +42,10 @@ pub(crate) fn take_pairs<H: Handler>(
             taken += 1;
             continue;
         }
-        let Some(code_point) = pair_at(handler, state, bytes, taken) else {
+        let Some(end) = put_pair(handler, state, bytes, taken, text, written) else {
             break;
         };
-        let code_point = code_point.get();
-        if 0x800 <= code_point && code_point < 0x1_0000 {
-            // Most have three bytes of UTF-8: that is asked first, and then nothing else.
-            written = put_scalar(text, written, code_point);
-        } else if code_point < 0x80 {
-            // One byte of UTF-8 stands for one byte in the source, and here it would for two.
-            break;
-        } else {
-            written = put_scalar(text, written, code_point);
-        }
+        written = end;
         taken += 2;
     }
     Bulk {
@@ -62,6 +53,63 @@ pub(crate) fn take_pairs<H: Handler>(
         written,
         stride: Stride::Pairs,
     }
+}
+
+/// Takes the pairs at the front, as far as the block takes them, in a state in which no byte is a
+/// character by itself.
+// Once in some hundred bytes: its loop has the registers to itself.
+#[inline(never)]
+pub(crate) fn take_pairs_alone<H: Handler>(
+    handler: &H,
+    state: H::State,
+    bytes: &[u8],
+    text: &mut [u8; 1024],
+) -> Bulk
+    ensures { IsBulk (H.table handler.now) state bytes.now result text.new }
+{
+    let most = bytes.len().min(MOST);
+    let mut taken = 0;
+    let mut written = 0;
+    'pairs: while taken + 1 < most {
+        let Some(end) = put_pair(handler, state, bytes, taken, text, written) else {
+            break;
+        };
+        written = end;
+        taken += 2;
+    }
+    Bulk {
+        taken,
+        written,
+        stride: Stride::Pairs,
+    }
+}
+
+/// Writes the code point of the pair at an index behind what was written, and returns where it
+/// ends; nothing is written where the pair isn't one item.
+#[inline(always)]
+fn put_pair<H: Handler>(
+    handler: &H,
+    state: H::State,
+    bytes: &[u8],
+    at: usize,
+    text: &mut [u8; 1024],
+    written: usize,
+) -> Option<usize>
+    requires within { at + 1 < length bytes.now }
+    requires room { written + 4 ≤ 1024 }
+    ensures some { IfSome result (λ end. IsPairPut (H.table handler.now) state bytes.now at text.old text.new written end) }
+    ensures none { IfNone result (text.new ≡ text.old) }
+{
+    let code_point = pair_at(handler, state, bytes, at)?.get();
+    if 0x800 <= code_point && code_point < 0x1_0000 {
+        // Most have three bytes of UTF-8: that is asked first, and then nothing else.
+        return Some(put_scalar(text, written, code_point));
+    }
+    if code_point < 0x80 {
+        // One byte of UTF-8 stands for one byte in the source, and here it would for two.
+        return None;
+    }
+    Some(put_scalar(text, written, code_point))
 }
 
 /// The code point of the pair at an index, which is one item where it isn't ASCII.

@@ -11,7 +11,7 @@ use crate::decoder::{Decoder, Simple, Step};
 use crate::few::Few;
 use crate::handler::{Answer, Handled, Handler};
 use crate::items::Items;
-use crate::pair_bulk::take_pairs;
+use crate::pair_bulk::{take_pairs, take_pairs_alone};
 use crate::run_bulk::{begins_ascii, run_bulk};
 
 impl<H: Handler> Decoder for H {
@@ -37,6 +37,7 @@ impl<H: Handler> Decoder for H {
     #[inline(always)]
     fn bulk(&self, state: H::State, bytes: &[u8], text: &mut [u8; 1024]) -> Bulk {
         match (self.ascii_runs(state), self.characters()) {
+            (AsciiRuns::None, Characters::Pairs) => take_pairs_alone(self, state, bytes, text),
             (AsciiRuns::None, _) => self.take_bulk(state, bytes, text),
             // A long run of ASCII at the front is taken by itself.
             (AsciiRuns::All, Characters::Bytes) if !begins_ascii(bytes) => {

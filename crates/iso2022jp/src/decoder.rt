@@ -4,14 +4,15 @@ ghost use Rattle.index_loader.specs.Index.{code_point_of};
 ghost use Rattle.decoder_core.specs.Steps.{bytes_of};
 ghost use Rattle.decoder_core.specs.Holding.{falls_of, counts_of};
 ghost use Rattle.iso2022jp.specs.Exact.{iso_2022_jp_exact};
-ghost use Rattle.iso2022jp.specs.Iso2022Jp.{iso_2022_jp, iso_2022_jp_start, pair_item, ready_byte, escaped, state_end};
+ghost use Rattle.iso2022jp.specs.Iso2022Jp.{iso_2022_jp, iso_2022_jp_start, is_pair_byte, one_or_error, pair_item, ready_byte, escaped, state_end};
 ghost use Rattle.iso2022jp.specs.Iso2022JpLaws.{iso_2022_jp_holding};
 
 use crate::items::{ascii_item, katakana_item, one_or_error, roman_item};
 use crate::output::{OutputState, escape_to};
 use crate::state::{DecoderState, Iso2022JpState};
 use decoder_core::forms::{finish, give, hold, restore};
-use decoder_core::{AsciiRuns, Few, Handled, Handler, Item};
+use decoder_core::{AsciiRuns, Characters, Few, Handled, Handler, Item};
+use enc_names::Scalar;
 use index_loader::Index;
 use std::marker::Model;
 
@@ -41,18 +42,34 @@ impl<'i> Iso2022JpDecoder<'i> {
         Iso2022JpDecoder { jis0208 }
     }
 
+    /// The code point of a lead byte and the byte after it.
+    // In the loop over the bytes.
+    #[inline(always)]
+    fn code_point(&self, lead: u8, byte: u8) -> Option<Scalar>
+        ensures { pair_item (code_point_of self.now) lead byte ≡ one_or_error result }
+    {
+        if !is_pair_byte(byte) {
+            return None;
+        }
+        let row = u32::from(lead.saturating_sub(0x21));
+        self.jis0208.code_point(row * 94 + u32::from(byte - 0x21))
+    }
+
     /// The item of a lead byte and the byte after it.
     fn pair(&self, lead: u8, byte: u8) -> Item
         ensures { result ≡ pair_item (code_point_of self.now) lead byte }
     {
-        match byte {
-            0x21..=0x7E => {
-                let row = u32::from(lead.saturating_sub(0x21));
-                one_or_error(self.jis0208.code_point(row * 94 + u32::from(byte - 0x21)))
-            }
-            _ => Item::Error,
-        }
+        one_or_error(self.code_point(lead, byte))
     }
+}
+
+/// Whether the byte is one of a pair.
+// In the loop over the bytes.
+#[inline(always)]
+fn is_pair_byte(byte: u8) -> bool
+    ensures { result ≡ is_pair_byte byte }
+{
+    0x21 <= byte && byte <= 0x7E
 }
 
 /// A byte other than 1B that is read in the output state.
@@ -65,7 +82,9 @@ fn ready(state: Iso2022JpState, output: OutputState, byte: u8) -> Handled<Iso202
         (OutputState::Ascii, _) => give(state, ascii_item(byte)),
         (OutputState::Roman, _) => give(state, roman_item(byte)),
         (OutputState::Katakana, _) => give(state, katakana_item(byte)),
-        (OutputState::Jis0208, 0x21..=0x7E) => hold(state.entering(DecoderState::Trail(byte))),
+        (OutputState::Jis0208, _) if is_pair_byte(byte) => hold(state.entering(DecoderState::Trail(
+            byte,
+        ))),
         (OutputState::Jis0208, _) => give(state, Item::Error),
     }
 }
@@ -113,6 +132,21 @@ impl<'i> Handler for Iso2022JpDecoder<'i> {
         match (state.state, state.flag) {
             (DecoderState::Ready(OutputState::Ascii), false) => AsciiRuns::WithoutEscapes,
             _ => AsciiRuns::None,
+        }
+    }
+
+    #[inline(always)]
+    fn characters(&self) -> Characters {
+        Characters::Pairs
+    }
+
+    // In the loop over the bytes. Behind an escape the flag is set until the first pair is read.
+    #[inline(always)]
+    fn known_pair(&self, state: Iso2022JpState, lead: u8, trail: u8) -> Option<Scalar> {
+        match (state.state, state.flag) {
+            (DecoderState::Ready(OutputState::Jis0208), false) if is_pair_byte(lead) =>
+                self.code_point(lead, trail),
+            _ => None,
         }
     }
 

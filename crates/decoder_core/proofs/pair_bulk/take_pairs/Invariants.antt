@@ -10,4 +10,4 @@ invariant-pairs g l = record {
 }
 
 abbrev pub decreases-pairs : goal.decreases-pairs
-decreases-pairs g l = l.end - l.taken
+decreases-pairs g l = l.most - l.taken
