@@ -112,28 +112,32 @@ last_of after zero (u ∷ us) h = refl
 last_of after (suc n) (u ∷ us) h = last_of (is_lead u) n us (omega (arith, h))
 
 -- the same along a slice
-pub matched_at : (us : List ℕ) (at a b : ℕ) → 1 ≤ at → at + 32 ≤ length us → a ≡ mask_l (map is_trail (take 32 (drop at us))) → b ≡ mask_l (map is_lead (take 32 (drop (at - 1) us)))
-    → a ≡ b → Matched (is_lead (get_or us (at - 1) 0)) (take 32 (drop at us))
-matched_at us at a b some room t l e =
+pub matched_at : (us : List ℕ) (n at a b : ℕ) → 1 ≤ at → at + n ≤ length us → a ≡ mask_l (map is_trail (take n (drop at us))) → b ≡ mask_l (map is_lead (take n (drop (at - 1) us)))
+    → a ≡ b → Matched (is_lead (get_or us (at - 1) 0)) (take n (drop at us))
+matched_at us n at a b some room t l e =
     let back : at - 1 + 1 ≡ at = omega arith in
-    let before : drop (at - 1) us ≡ get_or us (at - 1) 0 ∷ drop at us = drop_more us (at - 1) 0 (omega arith) ∙ ap (λ k. get_or us (at - 1) 0 ∷ drop k us) back in
-    matched 32 (get_or us (at - 1) 0) (drop at us) (omega (arith, room, length-drop at us)) (sym t ∙ e ∙ l ∙ ap (λ k. mask_l (map is_lead (take 32 k))) before)
+    let before : drop (at - 1) us ≡ get_or us (at - 1) 0 ∷ drop at us =
+    drop_more us (at - 1) 0 (omega (arith, some, room)) ∙ ap (λ k. get_or us (at - 1) 0 ∷ drop k us) back in
+    matched n (get_or us (at - 1) 0) (drop at us) (omega (arith, room, length-drop at us)) (sym t ∙ e ∙ l ∙ ap (λ k. mask_l (map is_lead (take n k))) before)
 
 pub begins : (us : List ℕ) → 1 ≤ length us → is_trail (get_or us 0 0) ≡ false → lone_from (is_lead (get_or us 0 0)) 1 (drop 1 us) ≡ first_lone us
 begins [] h e = absurd (omega (arith, h))
 begins (u ∷ us) h e = sym (ap (λ k. cond k (Some 0) (lone_from (is_lead u) 1 us)) e) ∙ scanned (u ∷ us)
 
-pub goes_on : (us : List ℕ) (at : ℕ) → 1 ≤ at → at + 32 ≤ length us → Matched (is_lead (get_or us (at - 1) 0)) (take 32 (drop at us))
-    → lone_from (is_lead (get_or us (at + 32 - 1) 0)) (at + 32) (drop (at + 32) us) ≡ lone_from (is_lead (get_or us (at - 1) 0)) at (drop at us)
-goes_on us at some room m =
-    let block = take 32 (drop at us) in
-    let long : length block ≡ 32 = length-chunk at 32 us room in
-    let place : at + 31 ≡ at + 32 - 1 = omega arith in
-    let last : last_leads (is_lead (get_or us (at - 1) 0)) block ≡ is_lead (get_or us (at + 32 - 1) 0) =
-    last_of (is_lead (get_or us (at - 1) 0)) 31 (drop at us) (omega (arith, room, length-drop at us)) ∙ ap is_lead (get_or-drop at us 31 0) ∙ ap (λ k. is_lead (get_or us k 0)) place in
-    sym (ap (lone_from (is_lead (get_or us (at - 1) 0)) at) (chunk-drop at 32 us)
-    ∙ past_matched (is_lead (get_or us (at - 1) 0)) at block (drop (at + 32) us) m
-    ∙ ap₂ (λ k n. lone_from k (at + n) (drop (at + 32) us)) last long)
+pub goes_on : (us : List ℕ) (n at : ℕ) → 1 ≤ n → 1 ≤ at → at + n ≤ length us → Matched (is_lead (get_or us (at - 1) 0)) (take n (drop at us))
+    → lone_from (is_lead (get_or us (at + n - 1) 0)) (at + n) (drop (at + n) us) ≡ lone_from (is_lead (get_or us (at - 1) 0)) at (drop at us)
+goes_on us n at lanes some room m =
+    let block = take n (drop at us) in
+    let long : length block ≡ n = length-chunk at n us room in
+    let whole : suc (n - 1) ≡ n = omega (arith, lanes) in
+    let place : at + (n - 1) ≡ at + n - 1 = omega (arith, lanes) in
+    let last : last_leads (is_lead (get_or us (at - 1) 0)) block ≡ is_lead (get_or us (at + n - 1) 0) =
+    ap (λ k. last_leads (is_lead (get_or us (at - 1) 0)) (take k (drop at us))) (sym whole)
+    ∙ last_of (is_lead (get_or us (at - 1) 0)) (n - 1) (drop at us) (omega (arith, lanes, room, length-drop at us)) ∙ ap is_lead (get_or-drop at us (n - 1) 0)
+    ∙ ap (λ k. is_lead (get_or us k 0)) place in
+    sym (ap (lone_from (is_lead (get_or us (at - 1) 0)) at) (chunk-drop at n us)
+    ∙ past_matched (is_lead (get_or us (at - 1) 0)) at block (drop (at + n) us) m
+    ∙ ap₂ (λ k l. lone_from k (at + l) (drop (at + n) us)) last long)
 
 pub has_some : (us : List ℕ) → false ≡ (length us == 0) → 1 ≤ length us
 has_some [] e = cc

@@ -14,7 +14,7 @@ mod unit_runs;
 mod utf8_length;
 mod valid;
 
-pub use counts::{count_scalars, count_utf16};
+pub use counts::{TextCounts, count_both, count_scalars, count_utf16};
 pub use faults::ToUtf8Fault;
 pub use lane_ascii::NeedsRoom;
 pub use places::{nth_scalar, nth_utf16};

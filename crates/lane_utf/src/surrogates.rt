@@ -20,25 +20,29 @@ pub fn first_lone_surrogate(units: &[u16]) -> Option<usize>
         return Some(0);
     }
     let mut at = 1;
-    'whole: while units.len() - at >= 32 && is_matched(units, at) {
+    'whole: while units.len() - at >= 32 && is_matched::<32>(units, at) {
         at += 32;
+    }
+    'steps: while units.len() - at >= 8 && is_matched::<8>(units, at) {
+        at += 8;
     }
     scan(units, at, is_lead(units[at - 1]))
 }
 
-/// Whether each of the next 32 units trails a pair exactly where the one before it leads one.
+/// Whether each of the next N units trails a pair exactly where the one before it leads one.
 #[inline(always)]
-fn is_matched(units: &[u16], at: usize) -> bool
+fn is_matched<const N: usize>(units: &[u16], at: usize) -> bool
+    requires few { N ≤ 64 }
     requires before { 1 ≤ at }
-    requires within { at + 32 ≤ length units.now }
-    ensures { result ≡ true → Matched (is_lead (slice_index units.now (at - 1))) (take 32 (drop at units.now)) }
+    requires within { at + N ≤ length units.now }
+    ensures { result ≡ true → Matched (is_lead (slice_index units.now (at - 1))) (take N (drop at units.now)) }
 {
-    let lanes = u16x32::from_slice(&units[at..]);
+    let lanes = Simd::<u16, N>::from_slice(&units[at..]);
     if surrogates(lanes) == 0 {
         return !is_lead(units[at - 1]);
     }
     let here = trails(lanes);
-    let before = leads(u16x32::from_slice(&units[at - 1..]));
+    let before = leads(Simd::<u16, N>::from_slice(&units[at - 1..]));
     here == before
 }
 
@@ -48,9 +52,8 @@ fn surrogates<const N: usize>(lanes: Simd<u16, N>) -> u64
     requires { N ≤ 64 }
     ensures { result ≡ mask_l (map is_surrogate lanes.entry) }
 {
-    (lanes >> Simd::splat(11))
-        .simd_eq(Simd::splat(0xD800 >> 11))
-        .to_bitmask()
+    let highest = lanes >> Simd::splat(11);
+    highest.simd_eq(Simd::splat(0xD800 >> 11)).to_bitmask()
 }
 
 /// The lanes that lead a pair.

@@ -100,21 +100,24 @@ fn put_run(units: &[u16], from: Reached, bytes: &mut [u8]) -> Reached
             written: written + count,
         };
     }
-    let count = threes_front(lanes);
-    if count > 0 {
-        put_threes(lanes, bytes, written);
-        return Reached {
-            read: read + count,
-            written: written + 3 * count,
-        };
-    }
-    let count = twos_front(lanes);
-    if count > 0 {
-        put_twos(lanes, bytes, written);
-        return Reached {
-            read: read + count,
-            written: written + 2 * count,
-        };
+    if units[read] < 0x800 {
+        let count = twos_front(lanes);
+        if count > 0 {
+            put_twos(lanes, bytes, written);
+            return Reached {
+                read: read + count,
+                written: written + 2 * count,
+            };
+        }
+    } else {
+        let count = threes_front(lanes);
+        if count > 0 {
+            put_threes(lanes, bytes, written);
+            return Reached {
+                read: read + count,
+                written: written + 3 * count,
+            };
+        }
     }
     put_front(units, from, bytes)
 }

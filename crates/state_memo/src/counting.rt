@@ -9,17 +9,18 @@ ghost use Rattle.state_memo.specs.Sums.{sum_of};
 use crate::items::ItemRuns;
 use crate::sum::Sum;
 use lane_ascii::count_line_ends;
-use lane_utf::{count_scalars, count_utf16};
+use lane_utf::count_both;
 
-/// The numbers of a part of a document of so many bytes, by one pass of each kernel over the text.
+/// The numbers of a part of a document of so many bytes, by two passes over the text.
 pub(crate) fn sum_of(bytes: usize, text: &str, items: &ItemRuns) -> Sum
     requires { length (chars text.now) ≡ all_scalars items.now }
     ensures { result ≡ sum_of bytes (chars text.now) items.now }
 {
+    let counts = count_both(text);
     Sum {
         bytes: bytes as u64,
-        scalars: count_scalars(text) as u64,
-        utf16: count_utf16(text) as u64,
+        scalars: counts.scalars as u64,
+        utf16: counts.utf16 as u64,
         utf8: text.len() as u64,
         errors: items.count_errors(),
         marks: count_marks(text, false),

@@ -13,10 +13,17 @@ pub whole-preserved : goal.whole-preserved
 whole-preserved c = record {
   some = omega arith;
   within = omega arith;
-  same = goes_on c.args.units.now c.whole.at c.whole.invariant.some (omega arith) (c.is_matched.ensures c.if-is_matched.true) ∙ c.whole.invariant.same;
+  same = goes_on c.args.units.now 32 c.whole.at (omega arith) c.whole.invariant.some (omega arith) (c.is_matched.ensures c.if-is_matched.true) ∙ c.whole.invariant.same;
+}
+
+pub steps-preserved : goal.steps-preserved
+steps-preserved c = record {
+  some = omega arith;
+  within = omega arith;
+  same = goes_on c.args.units.now 8 c.steps.at (omega arith) c.steps.invariant.some (omega arith) (c.is_matched-in-steps.ensures c.if-is_matched-2.true) ∙ c.steps.invariant.same;
 }
 
 pub returns-clause-front : goal.returns-clause-front
 returns-clause-front c =
     front_of c.args.units.now c.scan.result
-    (c.scan.ensures ∙ ap (λ k. lone_from k c.whole.at (drop c.whole.at c.args.units.now)) c.is_lead.ensures ∙ c.whole.invariant.same)
+    (c.scan.ensures ∙ ap (λ k. lone_from k c.steps.at (drop c.steps.at c.args.units.now)) c.is_lead.ensures ∙ c.steps.invariant.same)

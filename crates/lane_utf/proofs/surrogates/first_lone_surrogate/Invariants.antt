@@ -12,3 +12,13 @@ invariant-whole l = record {
 
 abbrev pub decreases-whole : goal.decreases-whole
 decreases-whole l = length l.units - l.at
+
+abbrev pub invariant-steps : goal.invariant-steps
+invariant-steps l = record {
+  some : 1 ≤ l.at;
+  within : l.at ≤ length l.units;
+  same : lone_from (is_lead (get_or l.units (l.at - 1) 0)) l.at (drop l.at l.units) ≡ first_lone l.units;
+}
+
+abbrev pub decreases-steps : goal.decreases-steps
+decreases-steps l = length l.units - l.at

@@ -9,11 +9,11 @@ not_true true e = cc
 not_true false e = refl
 
 pub returns-then-surrogates-eq0 : goal.returns-then-surrogates-eq0
-returns-then-surrogates-eq0 c e =
-    subst (λ b. Matched b (take 32 (drop c.args.at c.args.units.now))) (sym (not_true c.is_lead.result e) ∙ c.is_lead.ensures)
-    (unpaired (take 32 (drop c.args.at c.args.units.now)) (sym c.surrogates.ensures ∙ c.if-surrogates-eq0.true))
+returns-then-surrogates-eq0 g c e =
+    subst (λ b. Matched b (take g.row.N (drop c.args.at c.args.units.now))) (sym (not_true c.is_lead.result e) ∙ c.is_lead.ensures)
+    (unpaired (take g.row.N (drop c.args.at c.args.units.now)) (sym c.surrogates.ensures ∙ c.if-surrogates-eq0.true))
 
 pub returns : goal.returns
-returns c e =
-    matched_at c.args.units.now c.args.at c.trails-here.result c.leads-before.result c.requires.before c.requires.within c.trails-here.ensures c.leads-before.ensures
+returns g c e =
+    matched_at c.args.units.now g.row.N c.args.at c.trails-here.result c.leads-before.result c.requires.before c.requires.within c.trails-here.ensures c.leads-before.ensures
     (eqb-true _ _ e)

@@ -4,8 +4,8 @@ use Rattle.lane_utf.specs.Utf16.{is_surrogate}
 use Rattle.lane_utf.proofs.UnitMasks.{shifted, same_lane, mask_of_units, top_one, surrogate-by_bits}
 use Rattle.lane_utf.proofs.surrogates.surrogates.Goals as goal
 
-pub overflow_shr-result : goal.overflow_shr-result
-overflow_shr-result g c = shifts_fit_splat 16 c.args.lanes g.row.N 11 (lit< tt)
+pub overflow_shr-highest : goal.overflow_shr-highest
+overflow_shr-highest g c = shifts_fit_splat 16 c.args.lanes g.row.N 11 (lit< tt)
 
 pub returns : goal.returns
 returns g c =

@@ -15,15 +15,15 @@ returns-then-count-gt0-clause-up_to c old u =
 pub put_threes-requires : goal.put_threes-requires
 put_threes-requires c = omega (arith, run_room c.args.units.now c.args.from (length c.args.bytes.now) c.type_inv.units c.requires.left c.requires.paired c.requires.room)
 
-pub returns-then-count-gt0-2-clause-up_to : goal.returns-then-count-gt0-2-clause-up_to
-returns-then-count-gt0-2-clause-up_to c old u =
+pub returns-then-count-gt0-3-clause-up_to : goal.returns-then-count-gt0-3-clause-up_to
+returns-then-count-gt0-3-clause-up_to c old u =
     run_up_to has_three three_forms 3 threes c.args.units.now c.args.bytes.now old c.put_threes.new.bytes c.args.from c.threes_front-count.result (3 * c.threes_front-count.result)
     c.type_inv.units c.requires.left c.requires.room c.threes_front-count.ensures.run refl c.put_threes.ensures u
 
 pub put_twos-requires : goal.put_twos-requires
 put_twos-requires c = omega (arith, run_room c.args.units.now c.args.from (length c.args.bytes.now) c.type_inv.units c.requires.left c.requires.paired c.requires.room)
 
-pub returns-then-count-gt0-3-clause-up_to : goal.returns-then-count-gt0-3-clause-up_to
-returns-then-count-gt0-3-clause-up_to c old u =
+pub returns-then-count-gt0-2-clause-up_to : goal.returns-then-count-gt0-2-clause-up_to
+returns-then-count-gt0-2-clause-up_to c old u =
     run_up_to is_two two_forms 2 twos c.args.units.now c.args.bytes.now old c.put_twos.new.bytes c.args.from c.twos_front-count.result (2 * c.twos_front-count.result)
     c.type_inv.units c.requires.left c.requires.room c.twos_front-count.ensures.run refl c.put_twos.ensures u
