@@ -126,8 +126,11 @@ fn changes()
 fn lists_of_changes()
     ensures two { request_of_line (codes
         "{\"id\":9,\"op\":\"changes\",\"doc\":\"d\",\"rev\":0,\"changes\":[{\"range\":{\"start\":{\"line\":0,\"character\":1},\"end\":{\"line\":0,\"character\":3}},\"text\":\"x\"},{\"range\":null,\"text\":\"yz\"}]}")
-        ≡ Ok (9, asked_of (codes "d") (MakesChanges 0 Utf16
-            (text_change (Some (range_of (position_of 0 1) (position_of 0 3))) (codes "x") ∷ text_change None (codes "yz") ∷ []))) }
+        ≡ Ok (
+          9,
+          asked_of (codes "d") (MakesChanges 0 Utf16
+              (text_change (Some (range_of (position_of 0 1) (position_of 0 3))) (codes "x") ∷ text_change None (codes "yz") ∷ [])),
+        ) }
     ensures none { request_of_line (codes "{\"id\":9,\"op\":\"changes\",\"doc\":\"d\",\"rev\":1,\"unit\":\"utf-8\",\"changes\":[]}")
         ≡ Ok (9, asked_of (codes "d") (MakesChanges 1 Utf8 [])) }
     ensures absent { request_of_line (codes "{\"id\":1,\"op\":\"changes\",\"doc\":\"d\",\"rev\":0}")
