@@ -17,7 +17,7 @@ use Rattle.encoders.specs.Steps.{Put}
 use Rattle.piece_rope.specs.declared.fault.DocFault.{DocFault}
 use Rattle.piece_rope.specs.declared.fault.DocFault.TheVariants as cause
 use Rattle.piece_rope.specs.Document.{Document, decoded, text_of}
-use Rattle.piece_rope.specs.Edits.{text_fault, splice_fault, kept_fault, is_kept, first_of}
+use Rattle.piece_rope.specs.Edits.{text_fault, range_fault, splice_fault, kept_fault, is_kept, first_of}
 use Rattle.piece_rope.specs.Outputs.{output_at}
 use Rattle.position_map.specs.declared.change_fault.ChangeFault.{ChangeFault}
 use Rattle.position_map.specs.declared.change_fault.ChangeFault.TheVariants as change
@@ -126,7 +126,7 @@ caused-kept true = λ e. cc
 caused-kept false = λ e. cc
 
 caused-text : (d : Document) (i j : ℕ) → Caused (text_fault d i j)
-unfolding text_fault
+unfolding range_fault
 caused-text d i j = caused-if (nat_le i j && nat_le j (length (text_of d))) _ _ (λ e. cc) (λ e. cc)
 
 caused-plan : (d : Document) (text : List ℕ) (plan : Plan) → Caused (plan_fault d text plan)
@@ -181,6 +181,7 @@ decided-alone (Err (because.Splice cause.OutOfMemory)) p = absurd p
 -- what an accepted change leaves: the setting, and the bytes of the planned splice
 pub leaves : (d : Document) (unit : TextUnit) (range : Option Range) (text : List ℕ) (x : Applied Plan) → changed unit range text d ≡ Ok x
     → x.document ≡ record d { bytes = with_change d.indexes d.setting unit range text d.bytes }
+unfolding planned replacing
 leaves d unit range text x ok =
     let is = changed-ok d unit range text x ok in
     ap (λ (y : Applied Plan). y.document) (sym is.left) ∙ ap (λ (r : Result Plan ChangeFault). record d { bytes = with_planned d.bytes r }) (sym is.is_plan)

@@ -3,14 +3,14 @@ use Rattle.std.proofs.Common.{ℕ, nat_le, length, refl}
 use Rattle.enc_names.specs.Labels.{LabelTable}
 use Rattle.index_loader.specs.Files.{Files}
 use Rattle.piece_rope.specs.Document.{Document, errors_of}
-use Rattle.piece_rope.specs.Edits.{errors_fault}
+use Rattle.piece_rope.specs.Edits.{errors_fault, number_fault}
 use Rattle.desk.specs.Commands.{ListsErrors}
 use Rattle.desk.specs.Documents.{document_of}
 use Rattle.desk.specs.Errors.{errors_reply}
 use Rattle.desk.proofs.Row.{IsRow, question, IsOther, Caused, caused-if, decided-unless}
 
 caused-errors : (d : Document) (from : ℕ) → Caused (errors_fault d from)
-unfolding errors_fault
+unfolding number_fault
 caused-errors d from = caused-if (nat_le from (length (errors_of d))) _ _ (λ e. cc) (λ e. cc)
 
 pub row : (indexes : Files) (labels : LabelTable) (from max : ℕ) → IsRow indexes labels (ListsErrors from max)

@@ -31,6 +31,7 @@ use Rattle.desk.proofs.Edits.{at_revision-ok}
 use Rattle.desk.proofs.Moves.{held_after, reply_is}
 use Rattle.desk.proofs.Change.{changed-ok, alone-ok, leaves}
 use Rattle.desk.proofs.Changes.{goes, leaves_all}
+use Rattle.desk.proofs.Several.{idle-is}
 
 -- no fault stands, and so the text is kept
 kept-ok : (fault : Option DocFault) (b : Bool) → first_of fault (unless_kept b) ≡ None → b ≡ true
@@ -103,9 +104,9 @@ rewrites_all unit n [] d x e = let same = e in cc
 rewrites_all unit n (c ∷ cs) d x e =
     let by = goes unit n c cs d x e in (by.first.document, rewrites unit c d by.first by.made, rewrites_all unit (n + 1) cs by.first.document x by.rest)
 
--- an entry with this document's setting and bytes has the document
-again : (indexes : Files) (d : Document) (rev : ℕ) → d.indexes ≡ indexes → document_of indexes (entry d.setting d.bytes rev) ≡ d
-again indexes d rev e = ap (λ i. document i d.setting d.bytes) (sym e)
+-- an entry with this document's setting and bytes has the document, where no edit of it is under way
+again : (indexes : Files) (d : Document) (rev : ℕ) → d.indexes ≡ indexes → d.earlier ≡ None → document_of indexes (entry d.setting d.bytes rev) ≡ d
+again indexes d rev e idle = ap (λ i. document i d.setting d.bytes) (sym e) ∙ idle-is d idle
 
 pub law_lists_keep_text : ListsKeepText
 law_lists_keep_text o p doc rev unit cs reply answers e =
@@ -113,13 +114,15 @@ law_lists_keep_text o p doc rev unit cs reply answers e =
     let by = decided-by o.indexes rev (changed_all unit 0 cs) changes_reply (get o.documents doc) (accepted_here o p c reply answers e) in
     let d = document_of o.indexes by.before in
     let x = by.applied in
-    let files : x.document.indexes ≡ o.indexes = ap (λ (y : Document). y.indexes) (leaves_all unit 0 cs d x by.is_applied) in record {
+    let left = leaves_all unit 0 cs d x by.is_applied in
+    let files : x.document.indexes ≡ o.indexes = ap (λ (y : Document). y.indexes) left in
+    let idle : x.document.earlier ≡ None = ap (λ (y : Document). y.earlier) left in record {
       before = by.before;
       after = raised by.before x.document;
       found = by.is_found;
       held = held_here o p c reply answers e ∙ by.held;
       revision = refl;
-      rewritten = subst (RewritesAll unit cs d) (sym (again o.indexes x.document (by.before.revision + 1) files)) (rewrites_all unit 0 cs d x by.is_applied);
+      rewritten = subst (RewritesAll unit cs d) (sym (again o.indexes x.document (by.before.revision + 1) files idle)) (rewrites_all unit 0 cs d x by.is_applied);
     }
 
 -- ---- a list is its changes
@@ -159,7 +162,8 @@ module _ (indexes : Files) (unit : TextUnit) where
       let y = by.first in
       let k = raised h y.document in
       let g = entry y.document.setting y.document.bytes h.revision in
-      let found : Doc g ≡ y.document = again indexes y.document h.revision (ap (λ (d : Document). d.indexes) (leaves (Doc h) unit c.range c.text y by.made)) in (
+      let left = leaves (Doc h) unit c.range c.text y by.made in
+      let found : Doc g ≡ y.document = again indexes y.document h.revision (ap (λ (d : Document). d.indexes) left) (ap (λ (d : Document). d.earlier) left) in (
         change_reply y.done y.document (h.revision + 1),
         k,
         step h lt c ∙ ap (λ r. put_applied h change_reply (alone r)) by.made,
@@ -174,8 +178,10 @@ module _ (indexes : Files) (unit : TextUnit) where
       let by = put-by h k e.0 _ (sym (step h lt c) ∙ e.2) in
       let g : Entry = record k { revision = h.revision } in
       let rest = all (n + 1) cs g last lt e.3 in
-      let files = ap (λ (d : Document). d.indexes) (leaves (Doc h) unit c.range c.text by.put by.is_made) in
-      let found : Doc g ≡ by.put.document = ap (λ (m : Entry). document_of indexes (record m { revision = h.revision })) by.left ∙ again indexes by.put.document h.revision files in
+      let left = leaves (Doc h) unit c.range c.text by.put by.is_made in
+      let files = ap (λ (d : Document). d.indexes) left in
+      let idle = ap (λ (d : Document). d.earlier) left in
+      let found : Doc g ≡ by.put.document = ap (λ (m : Entry). document_of indexes (record m { revision = h.revision })) by.left ∙ again indexes by.put.document h.revision files idle in
       (rest.0, ap (then_rest n (changed_all unit (n + 1) cs)) by.is_made ∙ ap (changed_all unit (n + 1) cs) (sym found) ∙ rest.1)
 
 same_entry : (found : Option Entry) (h k : Entry) → found ≡ Some h → found ≡ Some k → h ≡ k

@@ -18,6 +18,7 @@ mod Place
 mod Position
 mod Row
 mod Rows
+mod Several
 mod Source
 mod Splice
 mod Stat

@@ -8,7 +8,7 @@ use Rattle.std.proofs.lemmas.Bool.Decides.{nat_tests}
 use Rattle.std.proofs.lemmas.List.{length-take-le}
 use Rattle.decoder_core.specs.declared.placed.Placed.{Placed}
 use Rattle.decoder_core.specs.Text.{item_code_points, code_points}
-use Rattle.piece_rope.specs.Document.{Document, decoded, text_of}
+use Rattle.piece_rope.specs.Document.{Document, decoded, text_of, decoded_text}
 use Rattle.position_map.specs.Places.{scalar_of_byte, place_of}
 use Rattle.position_map.specs.Positions.{along, converted}
 use Rattle.position_map.specs.Widths.{width}
@@ -92,7 +92,7 @@ within_items bytes ps at n e =
     omega (arith, few, is)
 
 pub byte_within : (d : Document) (at : ℕ) (answer : Result ℕ PosFault) → answer ≡ scalar_of_byte (length d.bytes) (decoded d).items at → IfOk answer (λ n. n ≤ length (text_of d))
-unfolding text_of
+unfolding decoded_text
 byte_within d at (Ok n) e = within_items (length d.bytes) (decoded d).items at n (sym e)
 byte_within d at (Err fault) e = tt
 

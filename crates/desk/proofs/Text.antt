@@ -10,7 +10,7 @@ use Rattle.enc_names.specs.declared.place.Place.{Place}
 use Rattle.enc_names.specs.Labels.{LabelTable}
 use Rattle.index_loader.specs.Files.{Files}
 use Rattle.piece_rope.specs.Document.{Document, text_of, first_error}
-use Rattle.piece_rope.specs.Edits.{text_fault}
+use Rattle.piece_rope.specs.Edits.{text_fault, range_fault}
 use Rattle.piece_rope.specs.declared.fault.DocFault.TheVariants as cause
 use Rattle.desk.specs.Commands.{Reads}
 use Rattle.desk.specs.Documents.{Entry, document_of, unless}
@@ -24,7 +24,7 @@ use Rattle.desk.specs.declared.text_mode.TextMode.TheVariants.{Replacement, Fata
 use Rattle.desk.proofs.Row.{IsRow, question, Decided, IsOther, Caused, caused-if, decided-unless, and_no}
 
 pub caused-text : (d : Document) (from to : ℕ) → Caused (text_fault d from to)
-unfolding text_fault
+unfolding range_fault
 caused-text d from to = caused-if (nat_le from to && nat_le to (length (text_of d))) _ _ (λ e. cc) (λ e. cc)
 
 decided-in_mode : (mode : TextMode) (first : Option Place) (answer : Result Reply Fault) → Decided IsOther answer → Decided IsOther (in_mode mode first answer)
@@ -49,7 +49,7 @@ refused_in Fatal None fault = refl
 refused_in Fatal (Some place) fault = refl
 
 outside : (indexes : Files) (h : Entry) (from to : ℕ) → (nat_le from to && nat_le to (length (text_of (document_of indexes h)))) ≡ false → text_reply indexes h from to Fatal ≡ Err OutOfRange
-unfolding text_fault
+unfolding range_fault
 outside indexes h from to e =
     let d = document_of indexes h in
     let text = Text h.revision (encode_utf8_all (take (to - from) (drop from (text_of d)))) in
@@ -68,7 +68,7 @@ ends_past indexes h from to less =
 
 pub is_malformed : (indexes : Files) (h : Entry) (from to : ℕ) (place : Place) → from ≤ to → to ≤ length (text_of (document_of indexes h)) → first_error (document_of indexes h) ≡ Some place
     → text_reply indexes h from to Fatal ≡ Err (Malformed place)
-unfolding text_fault
+unfolding range_fault
 is_malformed indexes h from to place order within first =
     let d = document_of indexes h in
     let text = Text h.revision (encode_utf8_all (take (to - from) (drop from (text_of d)))) in

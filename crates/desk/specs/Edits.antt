@@ -20,6 +20,10 @@ at_revision h rev answer =
     then (if nat_lt h.revision max_revision then answer else Err RevisionsSpent)
     else Err (Stale h.revision)
 
+-- but for its bytes a document is as it was
+abbrev pub OnlyBytes : Document → Document → Type 0
+OnlyBytes old new = new ≡ record old { bytes = new.bytes }
+
 -- the document that an edit left, at the next revision
 abbrev pub raised : Entry → Document → Entry
 raised h d = entry d.setting d.bytes (h.revision + 1)

@@ -1,5 +1,5 @@
 -- What the open documents stand for. Nothing here has to be believed.
-use Rattle.std.specs.Prelude.{◌≡◌, List, String, map, string_bytes}
+use Rattle.std.specs.Prelude.{◌≡◌, List, String, None, map, string_bytes}
 use Rattle.std.specs.List.{All}
 use Rattle.std.specs.Map.{values_of}
 use Rattle.std.specs.declared.alloc.Global.{Global}
@@ -16,6 +16,10 @@ entry_of k = record { setting = k.document.setting; bytes = k.document.bytes; re
 abbrev pub names : List (String Global × OpenDocument) → Names
 names es = from_entries (map (λ e. (string_bytes e.0, entry_of e.1)) es)
 
--- each document was opened with these index files
+-- a document was opened with these index files, and no edit of several parts of it is under way
+pub record IsOpened (indexes : Files) (k : OpenDocument) : Type 0 where
+  pub files : k.document.indexes ≡ indexes
+  pub idle : k.document.earlier ≡ None
+
 abbrev pub AllOpened : Files → List (String Global × OpenDocument) → Type 0
-AllOpened indexes es = All (λ k. k.document.indexes ≡ indexes) (values_of es)
+AllOpened indexes es = All (IsOpened indexes) (values_of es)

@@ -1,5 +1,5 @@
 //! Edits of a document: one form for all of them.
-ghost use Rattle.std.specs.Prelude.{◌≡◌, ℕ, true, OnErr, Result};
+ghost use Rattle.std.specs.Prelude.{◌≡◌, ℕ, true, None, OnErr, Result};
 ghost use Rattle.piece_rope.specs.Document.{Document};
 ghost use Rattle.desk.specs.Accepted.{is_accepted};
 ghost use Rattle.desk.specs.Edits.{Applied, Applies};
@@ -28,10 +28,13 @@ pub trait Edit {
     fn rev(&self) -> u64
         ensures { result ≡ named self.now };
 
-    /// Changes a document, or leaves it as it is.
+    /// Changes a document, or leaves it as it is. No edit of several parts is under way before, and
+    /// none behind it.
     fn apply(&self, alloc: Global, document: &mut Doc<'_>) -> Result<Self::Done, Fault>
+        requires { document.old.earlier ≡ None }
         ensures step { Applies (applied self.now document.old) result document.new }
         ensures indexes { document.new.indexes ≡ document.old.indexes }
+        ensures idle { document.new.earlier ≡ None }
         ensures err { OnErr result (document.new ≡ document.old) };
 
     /// The reply to the edit that left this document, at this revision.

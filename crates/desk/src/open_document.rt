@@ -1,5 +1,5 @@
 //! One open document and its revision. What it answers to an op is in that op's file.
-ghost use Rattle.std.specs.Prelude.{◌≡◌, true, Ok, IfOk, OnErr};
+ghost use Rattle.std.specs.Prelude.{◌≡◌, true, Ok, None, IfOk, OnErr};
 ghost use Rattle.desk.specs.Accepted.{is_accepted};
 ghost use Rattle.desk.specs.Documents.{edit_reply, edited_reply};
 ghost use Rattle.desk.specs.Edits.{at_revision, edited, Makes};
@@ -26,11 +26,13 @@ pub struct OpenDocument<'i> {
 impl OpenDocument<'_> {
     /// Makes an edit and raises the revision by one, or changes nothing.
     pub fn edit<E: Edit>(&mut self, alloc: Global, edit: &E) -> Result<Reply, Fault>
+        requires { self.old.document.earlier ≡ None }
         ensures step { Makes
             (edited self.old.document.indexes (E.named edit.now) (E.applied edit.now) E.answer (entry_of self.old))
             result (entry_of self.new) }
         ensures accepted { IfOk result (λ reply. is_accepted reply ≡ true) }
         ensures indexes { self.new.document.indexes ≡ self.old.document.indexes }
+        ensures idle { self.new.document.earlier ≡ None }
         ensures err { OnErr result (self.new ≡ self.old) }
     {
         self.check_revision(edit.rev())?;

@@ -6,7 +6,7 @@ use Rattle.enc_names.specs.declared.encoding.Encoding.TheVariants.{Utf8}
 use Rattle.index_loader.specs.Files.{no_files}
 use Rattle.decoder_core.specs.Queue.{run, turns}
 use Rattle.piece_rope.specs.Decode.{decode}
-use Rattle.piece_rope.specs.Document.{text_of, errors_of}
+use Rattle.piece_rope.specs.Document.{decoded_text, decoded_errors}
 use Rattle.position_map.specs.Lines.{lines_of}
 use Rattle.position_map.specs.Places.{scalar_of_byte}
 use Rattle.position_map.specs.Positions.{offset_of, position_of, converted}
@@ -22,33 +22,33 @@ use Rattle.desk.specs.declared.place_unit.PlaceUnit.TheVariants.{Byte, Text}
 use Rattle.desk.specs.declared.reply.Reply.TheVariants.{Stat, Lines, Position, Offset, Place}
 
 pub stat_worked : stat_reply no_files pair_and_cr_lf ≡ Stat 0 Utf8 Utf8 0 8 0 2 8 6 5
-unfolding text_of errors_of decode run turns lines_of
+unfolding decoded_text decoded_errors decode run turns lines_of
 stat_worked = refl
 
 pub lines_worked : lines_reply no_files pair_and_cr_lf 0 10 ≡ Ok (Lines 0 2 (record { start = 0; end = 2 } ∷ record { start = 4; end = 5 } ∷ []))
-unfolding text_of decode run turns lines_of
+unfolding decoded_text decode run turns lines_of
 lines_worked = refl
 
 pub position_worked : position_reply no_files pair_and_cr_lf 3 Utf16 ≡ Ok (Position 0 0 3)
-unfolding text_of decode run turns lines_of position_of
+unfolding decoded_text decode run turns lines_of position_of
 position_worked = refl
 
 pub offset_worked : offset_reply no_files pair_and_cr_lf 0 99 Utf16 ≡ Ok (Offset 0 2)
-unfolding text_of decode run turns lines_of offset_of
+unfolding decoded_text decode run turns lines_of offset_of
 offset_worked = refl
 
 pub split_worked : place_reply no_files pair_and_cr_lf (Text Utf16) 2 ≡ Err SplitsCharacter
-unfolding text_of decode run turns converted
+unfolding decoded_text decode run turns converted
 split_worked = refl
 
 pub inside_worked : place_reply no_files truncated Byte 1 ≡ Ok (Place 0 (Some (record { from = 0; to = 2 })) 0 0 0)
-unfolding text_of decode run turns scalar_of_byte
+unfolding decoded_text decode run turns scalar_of_byte
 inside_worked = refl
 
 pub end_worked : place_reply no_files truncated Byte 3 ≡ Ok (Place 0 None 4 2 2)
-unfolding text_of decode run turns scalar_of_byte
+unfolding decoded_text decode run turns scalar_of_byte
 end_worked = refl
 
 pub past_worked : place_reply no_files truncated Byte 4 ≡ Err OutOfRange
-unfolding text_of decode run turns scalar_of_byte
+unfolding decoded_text decode run turns scalar_of_byte
 past_worked = refl

@@ -14,8 +14,8 @@ use Rattle.enc_names.specs.Settings.{setting_of}
 use Rattle.index_loader.specs.Files.{no_files, has_files}
 use Rattle.decoder_core.specs.Queue.{run, turns}
 use Rattle.piece_rope.specs.Decode.{decode}
-use Rattle.piece_rope.specs.Document.{text_of, errors_of}
-use Rattle.piece_rope.specs.Edits.{open_fault, splice_fault, text_fault, errors_fault}
+use Rattle.piece_rope.specs.Document.{decoded_text, decoded_errors}
+use Rattle.piece_rope.specs.Edits.{open_fault, splice_fault, range_fault, number_fault}
 use Rattle.desk.specs.Close.{closed}
 use Rattle.desk.specs.Commands.{Asked, Opens, Closes, Splices, Reads, ListsErrors}
 use Rattle.desk.specs.Desk.{Office, Outcome, max_documents, outcome, answer_of, has_place}
@@ -53,15 +53,15 @@ unfolding decode
 truncated_edit = refl
 
 truncated_text : text_reply no_files truncated 0 2 Replacement ≡ Ok (Text 0 (0xEF ∷ 0xBF ∷ 0xBD ∷ 0x41 ∷ []))
-unfolding text_fault text_of decode run turns encode
+unfolding range_fault decoded_text decode run turns encode
 truncated_text = refl
 
 truncated_errors : errors_reply no_files truncated 0 10 ≡ Ok (Errors 0 1 (record { from = 0; to = 2 } ∷ []))
-unfolding errors_fault errors_of decode run turns
+unfolding number_fault decoded_errors decode run turns
 truncated_errors = refl
 
 completed_text : text_reply no_files completed 0 2 Replacement ≡ Ok (Text 1 (0xE2 ∷ 0x82 ∷ 0xAC ∷ 0x41 ∷ []))
-unfolding text_fault text_of decode run turns encode
+unfolding range_fault decoded_text decode run turns encode
 completed_text = refl
 
 completing : splice_effect no_files 0 2 0 (0xAC ∷ []) truncated ≡ record { reply = Edited 0 Utf8 1; move = Puts completed }

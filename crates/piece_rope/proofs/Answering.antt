@@ -9,7 +9,7 @@ use Rattle.state_memo.specs.declared.sum.Sum.{Sum}
 use Rattle.state_memo.specs.Facts.{IsSumOf}
 use Rattle.state_memo.specs.Items.{errors_in, is_an_error}
 use Rattle.state_memo.specs.Sums.{joined}
-use Rattle.piece_rope.specs.Document.{Document, text_of, errors_of, decoded}
+use Rattle.piece_rope.specs.Document.{Document, text_of, decoded_text, errors_of, decoded_errors, decoded}
 use Rattle.piece_rope.specs.Entry.{Entry, here_of, texts_of, items_of, sums_of}
 use Rattle.piece_rope.specs.Made.{AreEnded, AreMade, IsWhole, body_of, tail_of, count_body}
 
@@ -30,7 +30,7 @@ made-text base is (p ∷ ps) (own, rest, split, here, more) =
     ap code_points split ∙ code_points-append own rest ∙ ap (λ (cs : List ℕ). cs ++ code_points rest) (sym here.text) ∙ ap (λ (cs : List ℕ). (here_of p).text ++ cs) (made-text (base + (here_of p).sum.bytes) rest ps more)
 
 pub text-whole : (doc : Document) (ps : List Entry) (tail : Outcome) → IsWhole doc (map here_of ps) tail → text_of doc ≡ texts_of ps ++ tail.text
-unfolding text_of
+unfolding decoded_text
 text-whole doc ps tail whole =
     ap code_points (sym (take-append-drop (count_body doc) (decoded doc).items))
     ∙ code_points-append (body_of doc) (tail_of doc)
@@ -71,7 +71,7 @@ made-errors base is (p ∷ ps) (own, rest, split, here, more) =
     )
 
 pub errors-whole : (doc : Document) (ps : List Entry) (tail : Outcome) → IsWhole doc (map here_of ps) tail → length (errors_of doc) ≡ errors_in (items_of ps ++ tail.items)
-unfolding errors_of
+unfolding decoded_errors
 errors-whole doc ps tail whole =
     omega (
       arith,

@@ -4,7 +4,7 @@ use Rattle.std.proofs.Common.{ℕ, ◌+◌, ◌*◌, ◌≤◌, Bool, true, fals
 use Rattle.enc_names.specs.declared.place.Place.{Place}
 use Rattle.state_memo.specs.Decoding.{Item, One, Two, Error, Placed, item_code_points, code_points, error_place, error_places, marks, one_if, utf8_width, utf16_width, total_width}
 use Rattle.piece_rope.specs.Bounds.{HasFew}
-use Rattle.piece_rope.specs.Document.{Document, decoded, text_of, errors_of}
+use Rattle.piece_rope.specs.Document.{Document, decoded, decoded_text, decoded_errors}
 
 item_few : (i : Item) → length (item_code_points i) ≤ 2
 item_few (One c) = omega arith
@@ -50,7 +50,7 @@ marks_few f [] = omega arith
 marks_few f (c ∷ cs) = marks_step ((c == 0x0D) || ((c == 0x0A) && not f)) (c == 0x0D) c cs (marks_few (c == 0x0D) cs)
 
 pub has_few : (d : Document) → length (decoded d).items ≤ length d.bytes → HasFew d
-unfolding text_of errors_of
+unfolding decoded_text decoded_errors
 has_few d few =
     let text = code_points (decoded d).items in
     let scalars : length text ≤ 2 * length d.bytes = omega (arith, few, scalars_few (decoded d).items) in

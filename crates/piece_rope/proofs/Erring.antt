@@ -11,7 +11,7 @@ use Rattle.state_memo.specs.declared.run.Run.{Run}
 use Rattle.state_memo.specs.declared.sum.Sum.{Sum}
 use Rattle.state_memo.specs.Items.{errors_in, is_an_error}
 use Rattle.state_memo.specs.Runs.{item_of_kind, items_of_run, items_of_runs, items_until}
-use Rattle.piece_rope.specs.Document.{Document, decoded, errors_of}
+use Rattle.piece_rope.specs.Document.{Document, decoded, errors_of, decoded_errors}
 use Rattle.piece_rope.specs.Entry.{Entry, entry_sum, here_of, sums_of}
 use Rattle.piece_rope.specs.Errors.{all_errors, errors_at, errors_from, last_at, last_from, place_if}
 use Rattle.piece_rope.specs.Made.{AreEnded, AreMade, IsWhole, body_of, tail_of, count_body, ends_at}
@@ -91,7 +91,7 @@ made-places base from is (p ∷ ps) (own, rest, split, here, more) f =
     )
 
 pub errors-are : (doc : Document) (ps : List Entry) (tail : Outcome) → IsWhole doc (map here_of ps) tail → (sums_of ps).bytes ≡ length doc.bytes → errors_of doc ≡ all_errors (decoded doc).bom ps tail
-unfolding errors_of
+unfolding decoded_errors
 errors-are doc ps tail whole bytes =
     let bom = (decoded doc).bom in
     let cut = take-append-drop (count_body doc) (decoded doc).items in

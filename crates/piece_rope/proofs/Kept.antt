@@ -1,5 +1,5 @@
 -- The numbers that a document keeps are its own.
-use Rattle.std.proofs.Common.{◌≡◌, refl, sym, ap, ◌∙◌, ℕ, ◌+◌, ◌^◌, ◌<◌, ◌≤◌, false, List, [], ◌∷◌, ◌++◌, length, slice_get, Some, arith, append-nil, rules}
+use Rattle.std.proofs.Common.{◌≡◌, refl, sym, ap, ◌∙◌, ℕ, ◌+◌, ◌^◌, ◌<◌, ◌≤◌, false, List, [], ◌∷◌, ◌++◌, length, slice_get, Option, Some, arith, append-nil, rules}
 use Rattle.enc_names.specs.declared.setting.Setting.{Setting}
 use Rattle.index_loader.specs.Files.{Files}
 use Rattle.state_memo.specs.Decoding.{mark_of, mark_length, marks, total_width, utf16_width, utf8_width}
@@ -30,9 +30,9 @@ pub record HasLengths (d : Document) (s : Sum) : Type 0 where
   pub marks : s.marks ≡ marks false (text_of d)
   pub few : s.marks + 1 < 2 ^ 64
 
-pub kept-lengths : (files : Files) (setting : Setting) (ps : List Entry) (tail : Outcome) → IsKept files setting ps tail
-    → HasLengths (document files setting (bytes_of ps)) (joined (sums_of ps) tail.sum)
-kept-lengths files setting ps tail kept =
+pub kept-lengths : (files : Files) (setting : Setting) (ps : List Entry) (tail : Outcome) (earlier : Option (List ℕ)) → IsKept files setting ps tail
+    → HasLengths (record (document files setting (bytes_of ps)) { earlier = earlier }) (joined (sums_of ps) tail.sum)
+kept-lengths files setting ps tail earlier kept =
     let doc : Document = document files setting (bytes_of ps) in
     let text = sym (text-whole doc ps tail kept.whole) in
     let n = kept.numbers in

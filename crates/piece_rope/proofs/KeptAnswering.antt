@@ -15,7 +15,7 @@ use Rattle.piece_rope.specs.declared.fault.DocFault.TheVariants.{NoIndex, OutOfR
 use Rattle.piece_rope.specs.Document.{Document, document, text_of}
 use Rattle.piece_rope.specs.Chain.{bytes_of}
 use Rattle.piece_rope.specs.Edit.{edited}
-use Rattle.piece_rope.specs.Edits.{document_limit, spliced, spliced_document, kept_fault, is_kept, text_fault, splice_fault, first_of, named, replaced, KeptAnswers}
+use Rattle.piece_rope.specs.Edits.{document_limit, spliced, spliced_document, kept_fault, is_kept, text_fault, range_fault, splice_fault, first_of, named, replaced, KeptAnswers}
 use Rattle.piece_rope.specs.Entry.{Entry, here_of}
 use Rattle.piece_rope.specs.Made.{IsWhole}
 use Rattle.piece_rope.specs.Kept.{IsKept}
@@ -30,7 +30,7 @@ both true false e f = cc
 both false c e f = cc
 
 pub range-there : (d : Document) (i j : ℕ) → i ≤ j → j ≤ length (text_of d) → text_fault d i j ≡ None
-unfolding text_fault
+unfolding range_fault
 range-there d i j order within =
     let e = both (nat_le i j) (nat_le j (length (text_of d))) (le-leb i j order) (le-leb j (length (text_of d)) within) in
     rw e refl
@@ -70,24 +70,24 @@ kept-is d after at del ins i j r put old new is new_is old_is decides =
 
 -- the document with the bytes of a splice
 edited-doc : (doc self : Document) → doc ≡ self → (bytes ins : List ℕ) (at del : ℕ) → bytes ≡ spliced doc.bytes at del ins
-    → document doc.indexes doc.setting bytes ≡ spliced_document self at del ins
+    → record doc { bytes = bytes } ≡ spliced_document self at del ins
 edited-doc doc self same bytes ins at del own =
-    ap (λ (bs : List ℕ). document doc.indexes doc.setting bs) own ∙ ap (λ (x : Document). spliced_document x at del ins) same
+    ap (λ (bs : List ℕ). record doc { bytes = bs }) own ∙ ap (λ (x : Document). spliced_document x at del ins) same
 
 -- once a splice is ready no cause is left, and what was compared is what is asked
-pub kept-answer : (files : Files) (setting : Setting) (ps : List Entry) (tail : Outcome) (e : Edit) (self : Document) (at del : ℕ) (ins : List ℕ) (i j : ℕ) (r : Bool) (put : List ℕ)
-    → document files setting (bytes_of ps) ≡ self → IsKept files setting ps tail → IsReady files setting ps at del ins e
+pub kept-answer : (files : Files) (setting : Setting) (ps : List Entry) (tail : Outcome) (e : Edit) (earlier : Option (List ℕ)) (self : Document) (at del : ℕ) (ins : List ℕ) (i j : ℕ) (r : Bool) (put : List ℕ)
+    → record (document files setting (bytes_of ps)) { earlier = earlier } ≡ self → IsKept files setting ps tail → IsReady files setting ps at del ins e
     → splice_fault (bytes_of ps) at del ins ≡ None → i ≤ j → j ≤ length (text_of self)
     → Decides r (text_in (edited_parts ps e) ≡ replaced (text_in (parts_of ps tail)) i j put)
     → (kept_fault self at del ins i j ≡ None) × (r ≡ is_kept self at del ins i j put)
-kept-answer files setting ps tail e self at del ins i j r put view kept ready fault order within decides =
-    let doc : Document = document files setting (bytes_of ps) in
-    let after : Document = document files setting (bytes_of (edited ps e)) in
-    let text = parts-whole doc ps tail kept.whole ∙ ap text_of view in
+kept-answer files setting ps tail e earlier self at del ins i j r put view kept ready fault order within decides =
+    let doc : Document = record (document files setting (bytes_of ps)) { earlier = earlier } in
+    let after : Document = record doc { bytes = bytes_of (edited ps e) } in
+    let text = parts-whole (document files setting (bytes_of ps)) ps tail kept.whole ∙ ap text_of view in
     let is = edited-doc doc self view (bytes_of (edited ps e)) ins at del ready.bytes in
     let cut = ap (λ (x : Document). splice_fault x.bytes at del ins) (sym view) ∙ fault in (
       no-cause self at del ins i j order within cut,
-      kept-is self after at del ins i j r put (text_in (parts_of ps tail)) (text_in (edited_parts ps e)) is (parts-whole after (edited ps e) e.tail ready.kept.whole) text decides,
+      kept-is self after at del ins i j r put (text_in (parts_of ps tail)) (text_in (edited_parts ps e)) is (parts-whole (document files setting (bytes_of (edited ps e))) (edited ps e) e.tail ready.kept.whole) text decides,
     )
 
 -- ends from one state give one text

@@ -20,6 +20,26 @@ spliced bytes at del ins = take at bytes ++ ins ++ drop (at + del) bytes
 abbrev pub spliced_document : Document → ℕ → ℕ → List ℕ → Document
 spliced_document d at del ins = record d { bytes = spliced d.bytes at del ins }
 
+-- ---- edits of several parts
+
+-- one is under way, and the document can come back to what it is now
+abbrev pub begun : Document → Document
+begun d = record d { earlier = Some d.bytes }
+
+-- none is under way any more
+abbrev pub settled : Document → Document
+settled d = record d { earlier = None }
+
+abbrev pub earlier_or : List ℕ → Option (List ℕ) → List ℕ
+earlier_or bytes None = bytes
+earlier_or bytes (Some earlier) = earlier
+
+-- the document as it was before the edit that is under way, if there is one
+abbrev pub rolled_back : Document → Document
+rolled_back d = record d { bytes = earlier_or d.bytes d.earlier; earlier = None }
+
+-- ---- refusals
+
 -- The first cause, in the fixed order, that refuses a call.
 unfoldable pub open_fault : Files → Encoding → List ℕ → Option DocFault
 open_fault files encoding bytes =
@@ -34,11 +54,18 @@ splice_fault bytes at del ins =
 unfoldable pub source_fault : List ℕ → ℕ → ℕ → Option DocFault
 source_fault bytes at len = if nat_le (at + len) (length bytes) then None else Some OutOfRange
 
-unfoldable pub text_fault : Document → ℕ → ℕ → Option DocFault
-text_fault d i j = if nat_le i j && nat_le j (length (text_of d)) then None else Some OutOfRange
+-- what refuses a range of so many, and a number among so many
+unfoldable pub range_fault : ℕ → ℕ → ℕ → Option DocFault
+range_fault count i j = if nat_le i j && nat_le j count then None else Some OutOfRange
 
-unfoldable pub errors_fault : Document → ℕ → Option DocFault
-errors_fault d from = if nat_le from (length (errors_of d)) then None else Some OutOfRange
+unfoldable pub number_fault : ℕ → ℕ → Option DocFault
+number_fault count from = if nat_le from count then None else Some OutOfRange
+
+abbrev pub text_fault : Document → ℕ → ℕ → Option DocFault
+text_fault d i j = range_fault (length (text_of d)) i j
+
+abbrev pub errors_fault : Document → ℕ → Option DocFault
+errors_fault d from = number_fault (length (errors_of d)) from
 
 -- the cause that an answer names; want of memory is none, and may stand in place of any answer that names none
 abbrev pub named : DocFault → Option DocFault

@@ -11,6 +11,7 @@ ghost use Rattle.piece_rope.specs.Sizes.{AreSized, AreCounted, longest, shortest
 
 mod kept;
 mod law_bounds;
+mod several;
 
 use crate::bytes::push_bytes;
 use crate::entered::Entered;
@@ -20,6 +21,7 @@ use crate::fresh::{Fresh, fresh_pieces};
 use crate::install::install_edit;
 use crate::lengths::{Lengths, whole_sum};
 use crate::limits::{DOCUMENT_LIMIT, checked_part};
+use crate::log::Log;
 use crate::pieces::{Pieces, built, first_bytes};
 use crate::splice::prepare_splice;
 use crate::text::text_between;
@@ -43,26 +45,27 @@ pub struct Doc<'i> {
     setting: Setting,
     pieces: Pieces,
     tail: Outcome,
+    log: Log,
     alloc: Global,
 }
 
 impl<'i> Model for Doc<'i> {
     ghost use Rattle.piece_rope.specs.Chain.{bytes_of};
-    ghost use Rattle.piece_rope.specs.Document.{Document, document};
-    ghost use Rattle.piece_rope.specs.Kept.{IsKept};
+    ghost use Rattle.piece_rope.specs.Document.{Document};
+    ghost use Rattle.piece_rope.specs.Log.{IsHeld, earlier_of};
 
     ghost Value = { Document };
 
-    ghost view = { λ d. document d.indexes.now d.setting (bytes_of d.pieces.items) };
+    ghost view = { λ d. record { indexes = d.indexes.now; setting = d.setting; bytes = bytes_of d.pieces.items; earlier = earlier_of d.pieces.items d.log } };
 
-    ghost invariant = { λ d. IsKept d.indexes.now d.setting d.pieces.items d.tail };
+    ghost invariant = { λ d. IsHeld d.indexes.now d.setting d.pieces d.tail d.log };
 }
 
 impl<'i> Doc<'i> {
     ghost use Rattle.enc_names.specs.Settings.{setting_of};
     ghost use Rattle.state_memo.specs.Decoding.{mark_length};
     ghost use Rattle.piece_rope.specs.Document.{document, text_of, errors_of, first_error, decoded};
-    ghost use Rattle.piece_rope.specs.Edits.{Faults, spliced_document, open_fault, splice_fault, source_fault, text_fault, errors_fault};
+    ghost use Rattle.piece_rope.specs.Edits.{Faults, settled, spliced_document, open_fault, splice_fault, source_fault, text_fault, errors_fault};
     ghost use Rattle.piece_rope.specs.Kept.{Resyncs};
 
     /// A document of these bytes, in the encoding given where no byte order mark puts another in
@@ -100,14 +103,16 @@ impl<'i> Doc<'i> {
             setting,
             pieces,
             tail,
+            log: None,
             alloc,
         })
     }
 
     /// The same document once more. The two share what the pieces hold and remember: nothing is
-    /// decoded, and neither bytes nor text are copied. An edit of one leaves the other as it is.
+    /// decoded, and neither bytes nor text are copied. An edit of one leaves the other as it is. Of
+    /// an edit of several parts that is under way the copy has what was made, and no way back.
     pub fn copy(&self) -> Result<Doc<'i>, OutOfMemory>
-        ensures { IfOk result (λ doc. doc ≡ self.now) }
+        ensures { IfOk result (λ doc. doc ≡ settled self.now) }
     {
         let pieces = self.pieces.copy(self.alloc)?;
         let tail = self.tail.clone()?;
@@ -116,6 +121,7 @@ impl<'i> Doc<'i> {
             setting: self.setting,
             pieces,
             tail,
+            log: None,
             alloc: self.alloc,
         })
     }
@@ -144,13 +150,14 @@ impl<'i> Doc<'i> {
         let edit = prepare_splice(
             self.alloc, indexes, setting, pieces, tail, at, del, ins, meter,
         )?;
-        install_edit(&mut self.pieces, &mut self.tail, edit)?;
+        let log = &mut self.log;
+        install_edit(self.alloc, &mut self.pieces, &mut self.tail, log, edit)?;
         Ok(())
     }
 
     /// The code points `i..j` of the text. Refused with `OutOfRange` where `i` is above `j` or `j`
     /// past the text.
-    #[tactic(auto, unfolding(crate::specs::Edits::text_fault))]
+    #[tactic(auto, unfolding(crate::specs::Edits::range_fault))]
     pub fn text(&self, i: u64, j: u64) -> Result<String, DocFault>
         ensures ok { IfOk result (λ text. string_bytes text ≡ encode_utf8_all (take (j - i) (drop i (text_of self.now)))) }
         ensures chars { IfOk result (λ text. chars (string_bytes text) ≡ take (j - i) (drop i (text_of self.now))) }
@@ -184,7 +191,7 @@ impl<'i> Doc<'i> {
 
     /// The places of the errors from number `from` on, at most `max` of them. Refused with
     /// `OutOfRange` where `from` is above their number.
-    #[tactic(auto, unfolding(crate::specs::Edits::errors_fault))]
+    #[tactic(auto, unfolding(crate::specs::Edits::number_fault))]
     pub fn errors(&self, from: u64, max: u64) -> Result<Vec<Place>, DocFault>
         ensures ok { IfOk result (λ places. places.items ≡ take max (drop from (errors_of self.now))) }
         ensures faults { Faults (errors_fault self.now from) result }

@@ -2,15 +2,18 @@
 ghost use Rattle.std.specs.Prelude.{◌≡◌, ◌+◌, ◌-◌, ◌≤◌, ◌++◌, length, take, drop, OnOk, OnErr};
 ghost use Rattle.piece_rope.specs.Chain.{AreRenewed, renewed};
 ghost use Rattle.piece_rope.specs.Edit.{edited};
+ghost use Rattle.piece_rope.specs.Log.{IsSameLog, Logs, room_of};
 ghost use Rattle.piece_rope.specs.Sizes.{CanJoin};
 
 use crate::edit::Edit;
 use crate::entered::Entered;
+use crate::log::{Log, log_edit};
 use crate::pieces::{Pieces, put_piece, take_piece};
 use state_memo::{OutOfMemory, Outcome};
+use std::alloc::Global;
 
 /// Takes the pieces `first..last` out.
-fn remove_range(pieces: &mut Pieces, first: usize, last: usize)
+pub(crate) fn remove_range(pieces: &mut Pieces, first: usize, last: usize)
     requires order { first ≤ last }
     requires within { last ≤ length pieces.old.items }
     requires old { CanJoin pieces.old.items }
@@ -25,7 +28,7 @@ fn remove_range(pieces: &mut Pieces, first: usize, last: usize)
 }
 
 /// Puts pieces in at `first`.
-fn insert_all(pieces: &mut Pieces, first: usize, fresh: Vec<Entered>)
+pub(crate) fn insert_all(pieces: &mut Pieces, first: usize, fresh: Vec<Entered>)
     requires within { first ≤ length pieces.old.items }
     requires room { length fresh.items ≤ pieces.old.spare }
     requires join { CanJoin (take first pieces.old.items ++ (fresh.items ++ drop first pieces.old.items)) }
@@ -53,7 +56,8 @@ fn install(
     requires room { length fresh.items ≤ pieces.old.spare }
     requires old { CanJoin pieces.old.items }
     requires new { CanJoin (take first pieces.old.items ++ (fresh.items ++ renewed (drop last pieces.old.items) renewals.items)) }
-    ensures { pieces.new.items ≡ take first pieces.old.items ++ (fresh.items ++ renewed (drop last pieces.old.items) renewals.items) }
+    ensures items { pieces.new.items ≡ take first pieces.old.items ++ (fresh.items ++ renewed (drop last pieces.old.items) renewals.items) }
+    ensures room { room_of pieces.new ≡ room_of pieces.old }
 {
     // There are fewer than 2^64 pieces.
     let _count = pieces.len();
@@ -62,11 +66,13 @@ fn install(
     insert_all(pieces, first, fresh);
 }
 
-/// Makes an edit: its pieces in place, and its end behind them. Where memory is refused nothing
-/// changes.
+/// Makes an edit: its pieces in place, and its end behind them, and what it takes to take it back in
+/// the log, where there is one. Where memory is refused nothing changes.
 pub(crate) fn install_edit(
+    alloc: Global,
     pieces: &mut Pieces,
     tail: &mut Outcome,
+    log: &mut Log,
     edit: Edit,
 ) -> Result<(), OutOfMemory>
     requires order { edit.first ≤ edit.last }
@@ -78,7 +84,12 @@ pub(crate) fn install_edit(
     ensures tail { OnOk result (tail.new ≡ edit.tail) }
     ensures pieces_kept { OnErr result (pieces.new.items ≡ pieces.old.items) }
     ensures tail_kept { OnErr result (tail.new ≡ tail.old) }
+    ensures room { room_of pieces.old ≤ room_of pieces.new }
+    ensures log { OnOk result (Logs pieces.old.items tail.old edit log.old log.new) }
+    ensures log_kept { OnErr result (IsSameLog log.old log.new) }
 {
+    pieces.reserve(edit.fresh.len())?;
+    log_edit(alloc, log, pieces, tail, &edit)?;
     let Edit {
         first,
         last,
@@ -86,7 +97,6 @@ pub(crate) fn install_edit(
         renewals,
         tail: end,
     } = edit;
-    pieces.reserve(fresh.len())?;
     install(pieces, first, last, fresh, renewals);
     *tail = end;
     Ok(())

@@ -18,12 +18,14 @@ mod kept_examples;
 mod later;
 mod lengths;
 mod limits;
+mod log;
 mod pieces;
 mod rest;
 mod scalars;
 mod span;
 mod splice;
 mod text;
+mod undo;
 mod window;
 
 pub use doc::Doc;

@@ -5,7 +5,7 @@ use Rattle.std.proofs.lemmas.Bool.Decides.{nat_tests}
 use Rattle.std.proofs.lemmas.List.Elements.{All-head, All-tail}
 use Rattle.piece_rope.specs.Decode.{Ended as Turned, Ascii, Placed, places, item_code_points, code_points, decode, run_in, in_force, mark_length}
 use Rattle.piece_rope.specs.Outcomes.{Ended, Outcome, Sum, total_of, item_of}
-use Rattle.piece_rope.specs.Document.{Document, decoded, text_of}
+use Rattle.piece_rope.specs.Document.{Document, decoded, text_of, decoded_text}
 use Rattle.piece_rope.specs.Made.{AreEnded, AreMade, ends_at}
 use Rattle.piece_rope.specs.Outputs.{output_at, HasOutputs, HaveOutputs}
 use Rattle.position_map.specs.declared.item_cuts.Cut.{Cut}
@@ -200,7 +200,7 @@ outputs_split d (x ∷ front) o back base h =
     subst (λ b. HasOutputs d b o.items) e (outputs_split d front o back (base + x.sum.bytes) h.1)
 
 all_scalars-text : (d : Pieced) → IsPieced d → length (text_of d.doc) ≡ (total_of (d.pieces ++ d.tail ∷ [])).scalars
-unfolding text_of
+unfolding decoded_text
 all_scalars-text d w = made_count (d.pieces ++ d.tail ∷ []) 0 (items_of d) w.made
 
 pub cut_found : (d : Pieced) (n m : ℕ) (s : Sum) (o : Outcome) → IsPlaced d m s o → IsPieced d → m ≡ n - 1 → 0 < n → n ≤ length (text_of d.doc) → cut_behind s.bytes o.items (n - s.scalars) ≡ cut_of d.doc n

@@ -8,7 +8,7 @@ use lib.Signed.{le_z}
 use Rattle.piece_rope.specs.Decode.{Placed, item_code_points, code_points}
 use Rattle.piece_rope.specs.Search.{Axis, Byte}
 use Rattle.piece_rope.specs.Outcomes.{Ended, Outcome, Sum, total_of, all_scalars, scalars_before}
-use Rattle.piece_rope.specs.Document.{decoded, text_of}
+use Rattle.piece_rope.specs.Document.{decoded, text_of, decoded_text}
 use Rattle.position_map.specs.declared.fault.PosFault.TheVariants.{OutOfRange}
 use Rattle.position_map.specs.declared.point.Point.{Point}
 use Rattle.position_map.specs.declared.unit.Unit.{Unit as TextUnit}
@@ -221,7 +221,7 @@ until_is d at s o next rest l1 l2 w f e x y small =
 
 -- at the end of the bytes it is all code points
 all_until : (d : Pieced) (at : ℕ) → IsPieced d → at ≡ length d.doc.bytes → scalars_until at (items_of d) ≡ length (text_of d.doc)
-unfolding text_of
+unfolding decoded_text
 all_until d at w e = made_all at (d.pieces ++ d.tail ∷ []) 0 (items_of d) w.made (omega (arith, bytes-append d.pieces (d.tail ∷ []), w.bytes, w.no_bytes, e))
 
 pick_le : (b : Bool) (n : ℕ) → cond b n 0 ≤ n
@@ -234,7 +234,7 @@ until_le at (p ∷ ps) = omega (arith, until-cons at p ps, until_le at ps, lengt
 
 -- no more code points end before a byte than there are
 until_text : (d : Pieced) (at : ℕ) → scalars_until at (items_of d) ≤ length (text_of d.doc)
-unfolding text_of
+unfolding decoded_text
 until_text d at = until_le at (items_of d)
 
 -- the piece that begins where those before it end, or the tail

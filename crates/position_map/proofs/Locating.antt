@@ -5,7 +5,7 @@ use Rattle.std.specs.Option.{unwrap_or}
 use Rattle.piece_rope.specs.Decode.{Placed, item_code_points, code_points}
 use Rattle.piece_rope.specs.Search.{Axis, Byte, Scalar, Utf16 as by_utf16, Utf8 as by_utf8, Mark, measure}
 use Rattle.piece_rope.specs.Outcomes.{Ended, Outcome, Sum, IsSumOf, total_of, joined}
-use Rattle.piece_rope.specs.Document.{Document, decoded, text_of}
+use Rattle.piece_rope.specs.Document.{Document, decoded, text_of, decoded_text}
 use Rattle.position_map.specs.Found.{IsFoundOutcome}
 use Rattle.position_map.specs.Located.{IsLocated, IsOfText, reach}
 use Rattle.piece_rope.specs.Made.{AreMade}
@@ -42,7 +42,7 @@ made-text (o ∷ os) base ps m =
 
 -- the text is that of the pieces and the tail
 pub whole-text : (d : Document) (os : List Outcome) (tail : Outcome) → IsWhole d os tail → text_of d ≡ texts (os ++ tail ∷ [])
-unfolding text_of
+unfolding decoded_text
 whole-text d os tail w = made-text (os ++ tail ∷ []) 0 (decoded d).items w.made
 
 pub sum-total : Joins → (os : List Outcome) → IsSumOf (texts os) (items os) (total_of os)

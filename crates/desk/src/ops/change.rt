@@ -4,6 +4,7 @@ ghost use Rattle.desk.specs.Commands.{asked_of, ChangesText};
 ghost use Rattle.desk.specs.Desk.{Answers};
 ghost use Rattle.desk.specs.Documents.{reply_of};
 ghost use Rattle.desk.specs.Change.{MakesChange, alone, changed, change_reply};
+ghost use Rattle.desk.specs.Edits.{OnlyBytes};
 
 use crate::change_cause::ChangeCause;
 use crate::desk::Desk;
@@ -81,7 +82,7 @@ pub(crate) fn make_change(
     text: &str,
 ) -> Result<Plan, ChangeCause>
     ensures step { MakesChange (changed unit range text.now document.old) result document.new }
-    ensures indexes { document.new.indexes ≡ document.old.indexes }
+    ensures kept { OnlyBytes document.old document.new }
     ensures err { OnErr result (document.new ≡ document.old) }
 {
     let plan = plan_change(alloc, document, range, unit, text, &mut visits())?;

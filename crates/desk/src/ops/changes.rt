@@ -4,7 +4,7 @@ ghost use Rattle.desk.specs.Commands.{MakesChanges, asked_of, change_of};
 ghost use Rattle.desk.specs.Desk.{Answers};
 ghost use Rattle.desk.specs.Documents.{reply_of};
 ghost use Rattle.desk.specs.Changes.{changed_all, changes_reply};
-ghost use Rattle.desk.specs.Edits.{Applies};
+ghost use Rattle.desk.specs.Edits.{Applies, OnlyBytes};
 
 use crate::desk::Desk;
 use crate::edit::Edit;
@@ -61,17 +61,20 @@ impl Edit for Changes<'_> {
         self.rev
     }
 
-    // One change is made or refused as a whole. More are made on a copy, so that the document stays
-    // as it is until all are made.
+    // One change is made or refused as a whole. Of more, those before one that is refused are taken
+    // back.
     fn apply(&self, alloc: Global, document: &mut Doc<'_>) -> Result<u64, Fault> {
         let changes = self.changes.as_slice();
         if changes.len() <= 1 {
             return make_changes(alloc, document, self.unit, changes);
         }
-        let mut copy = document.copy()?;
-        let made = make_changes(alloc, &mut copy, self.unit, changes)?;
-        *document = copy;
-        Ok(made)
+        document.begin();
+        let made = make_changes(alloc, document, self.unit, changes);
+        match made {
+            Ok(_) => document.commit(),
+            Err(_) => document.roll_back(),
+        }
+        made
     }
 
     fn reply(&self, done: &u64, document: &Doc<'_>, rev: u64) -> Reply {
@@ -92,7 +95,7 @@ fn make_changes(
     changes: &[ContentChange<'_>],
 ) -> Result<u64, Fault>
     ensures step { Applies (changed_all unit 0 (map change_of changes.now) document.old) result document.new }
-    ensures indexes { document.new.indexes ≡ document.old.indexes }
+    ensures kept { OnlyBytes document.old document.new }
     ensures few { length changes.now ≤ 1 → OnErr result (document.new ≡ document.old) }
 {
     'changes: for (number, change) in changes.iter().enumerate() {

@@ -3,7 +3,6 @@
 
 use super::*;
 use crate::indexes::small_indexes;
-use enc_names::Setting;
 use oracle::agrees;
 
 /// A splice of some bytes, and the code points that it is to replace.

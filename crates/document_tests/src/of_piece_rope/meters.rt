@@ -4,13 +4,6 @@ use super::*;
 use crate::indexes::small_indexes;
 use oracle::pieces_are_sized;
 
-/// How far the splice raises the meter.
-fn raised(doc: &mut Doc<'_>, at: u64, del: u64, ins: &[u8]) -> Result<u64, DocFault> {
-    let mut meter = meter();
-    doc.splice(at, del, ins, &mut meter)?;
-    Ok(meter.decoded())
-}
-
 /// A letter is put into a mebibyte of letters in front, near it, in the middle and behind.
 fn one_byte_each(rt: &impl Abort, alloc: Global, bom: Bom) -> Result<(), Fail> {
     let indexes = Indexes::new();

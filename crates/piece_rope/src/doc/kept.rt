@@ -19,7 +19,7 @@ impl<'i> Doc<'i> {
     /// code points `i..j` replaced by `text`. Refused with `OutOfRange` also where `i` is above `j`
     /// or `j` past the text, and with `NotKept` last. Of the text only what the edit can have
     /// changed is compared, and the pieces that hold the ends of the range.
-    #[tactic(auto, unfolding(crate::specs::Edits::text_fault))]
+    #[tactic(auto, unfolding(crate::specs::Edits::range_fault))]
     pub fn splice_kept(
         &mut self,
         at: u64,
@@ -53,7 +53,8 @@ impl<'i> Doc<'i> {
         if !kept {
             return Err(DocFault::NotKept);
         }
-        install_edit(&mut self.pieces, &mut self.tail, edit)?;
+        let log = &mut self.log;
+        install_edit(self.alloc, &mut self.pieces, &mut self.tail, log, edit)?;
         Ok(())
     }
 }

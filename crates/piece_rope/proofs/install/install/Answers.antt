@@ -27,8 +27,8 @@ insert_all-requires-2-clause-join c =
     subst (λ (xs : List Entry). CanJoin xs)
     (sym (ap (λ (xs : List Entry). take first xs ++ (fresh ++ drop first xs)) now ∙ put-in ps fresh behind first (omega (arith, c.requires.order, c.requires.within)))) c.requires.new
 
-pub returns : goal.returns
-returns c =
+pub returns-clause-items : goal.returns-clause-items
+returns-clause-items c =
     let ps = c.args.pieces.now.items in
     let rs = c.args.renewals.items in
     let fresh = c.args.fresh.items in

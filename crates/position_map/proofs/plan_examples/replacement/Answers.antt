@@ -2,7 +2,7 @@ use Rattle.std.proofs.Common.{◌≡◌, refl, sym, ap, ◌∙◌, ℕ, zero, su
 use Rattle.std.specs.Option.{option_map, ok_or}
 use Rattle.enc_names.specs.declared.encoding.Encoding.TheVariants.{Replacement}
 use Rattle.piece_rope.specs.Decode.{decode, run, turns}
-use Rattle.piece_rope.specs.Document.{Document, text_of}
+use Rattle.piece_rope.specs.Document.{Document, text_of, decoded_text}
 use Rattle.position_map.specs.declared.change_fault.ChangeFault.TheVariants.{NoEncoder}
 use Rattle.position_map.specs.declared.fault.PosFault.{PosFault}
 use Rattle.position_map.specs.declared.fault.PosFault.TheVariants.{SplitsCharacter}
@@ -21,7 +21,7 @@ letter = in_encoding Replacement (0x41 ∷ [])
 
 -- its text is one code point of one unit, so an end is before or behind it
 end_at : (line character : ℕ) → (offset_of (text_of letter) Utf16 (record { line = line; character = character }) ≡ Ok 0) ⊎ (offset_of (text_of letter) Utf16 (record { line = line; character = character }) ≡ Ok 1)
-unfolding text_of decode run turns lines_of offset_of
+unfolding decoded_text decode run turns lines_of offset_of
 end_at zero zero = inl refl
 end_at zero (suc n) =
     let past : along Utf16 (0xFFFD ∷ []) (suc n) ≡ Some 1 = along_step Utf16 0xFFFD [] (suc n) (omega arith) in
@@ -63,7 +63,7 @@ over_range range text order =
     by_ends range text order (end_at range.start.line range.start.character) (end_at range.end.line range.end.character)
 
 over_text : (text : List ℕ) → planned letter None Utf16 text ≡ Err NoEncoder
-unfolding planned replacing text_of decode run turns
+unfolding planned replacing decoded_text decode run turns
 over_text text = refl
 
 pub returns : goal.returns

@@ -12,7 +12,7 @@ pub invariant_of-self-2 : goal.invariant_of-self-2
 invariant_of-self-2 g c =
     let found = opened_found _ c.args.name.now c.self.inside.named.entries c.in-Some.found.now c.self.invariant c.in-Some.ensures.value in
     rw (c.get_mut.follows.holds c.edit.new.self).0
-    (opened_set _ c.args.name.now c.edit.new.self c.self.inside.named.entries c.self.invariant (c.edit.ensures.indexes ∙ found))
+    (opened_set _ c.args.name.now c.edit.new.self c.self.inside.named.entries c.self.invariant (record { files = c.edit.ensures.indexes ∙ found.files; idle = c.edit.ensures.idle }))
 
 pub returns-clause-step : goal.returns-clause-step
 returns-clause-step g c =

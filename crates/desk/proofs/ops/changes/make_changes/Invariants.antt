@@ -1,12 +1,13 @@
 use Rattle.std.proofs.Common.{◌≡◌, drop, map}
 use Rattle.desk.specs.Changes.{changed_all}
 use Rattle.desk.specs.Commands.{change_of}
+use Rattle.desk.specs.Edits.{OnlyBytes}
 use Rattle.desk.proofs.ops.changes.make_changes.Given as goal
 
 -- what is left to make is the same on the document so far
 abbrev pub invariant-changes : goal.invariant-changes
 invariant-changes l = record {
   rest : changed_all l.unit l.number (map change_of (drop l.number l.changes)) l.document ≡ changed_all l.unit 0 (map change_of l.changes) l.fn.document;
-  indexes : l.document.indexes ≡ l.fn.document.indexes;
+  kept : OnlyBytes l.fn.document l.document;
   first : l.number ≡ 0 → l.document ≡ l.fn.document;
 }

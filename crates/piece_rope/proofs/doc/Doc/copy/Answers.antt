@@ -1,7 +1,10 @@
+use Rattle.std.proofs.Common.{ap}
+use Rattle.piece_rope.specs.Document.{Document}
+use Rattle.piece_rope.specs.Edits.{settled}
 use Rattle.piece_rope.proofs.doc.Doc.copy.Goals as goal
 
 pub invariant_of-result : goal.invariant_of-result
-invariant_of-result c = rw (c.in_ok-pieces.ensures, c.in_ok-tail.ensures.cases) c.self.invariant
+invariant_of-result c = record { kept = rw (c.in_ok-pieces.ensures, c.in_ok-tail.ensures.cases) c.self.invariant.kept; back = tt }
 
 pub returns : goal.returns
-returns c = rw c.in_ok-pieces.ensures c.self.view_is
+returns c = rw c.in_ok-pieces.ensures (ap (λ (d : Document). settled d) c.self.view_is)

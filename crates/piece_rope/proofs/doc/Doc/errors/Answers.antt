@@ -12,7 +12,7 @@ pub errors_between-requires-clause-within : goal.errors_between-requires-clause-
 errors_between-requires-clause-within c =
     let ps = c.self.inside.pieces.items in
     let tail = c.self.inside.tail in
-    let kept = c.self.invariant in
+    let kept = c.self.invariant.kept in
     let self = c.args.self.now in
     let doc : Document = document c.self.inside.indexes.now c.self.inside.setting (bytes_of ps) in
     let own : errors_of self ≡ all_errors (decoded self).bom ps tail =
@@ -25,7 +25,7 @@ pub returns-clause-ok : goal.returns-clause-ok
 returns-clause-ok c =
     let ps = c.self.inside.pieces.items in
     let tail = c.self.inside.tail in
-    let kept = c.self.invariant in
+    let kept = c.self.invariant.kept in
     let self = c.args.self.now in
     let doc : Document = document c.self.inside.indexes.now c.self.inside.setting (bytes_of ps) in
     let own : errors_of self ≡ all_errors (decoded self).bom ps tail =

@@ -13,7 +13,7 @@ returns-clause-outputs c =
     let ps = c.self.inside.pieces.items in
     let doc : Document = document files setting (bytes_of ps) in
     let law = c.law_output_at_the_end.ensures in
-    let there = is_there files setting (law.there files setting) c.self.invariant.can in
+    let there = is_there files setting (law.there files setting) c.self.invariant.kept.can in
     let d = there.decoder in
     let laws : StateLaws files setting d = record {
       start = law.start files setting d there.chosen;
@@ -25,4 +25,4 @@ returns-clause-outputs c =
     } in
     subst (λ (doc : Document). HaveOutputs doc 0 (map here_of c.finder.result)) c.self.view_is
     (subst (λ (es : List Entry). HaveOutputs doc 0 (map here_of es)) (sym c.finder.ensures)
-    (body-outputs doc d laws (omega (arith, c.self.invariant.within)) ps c.self.inside.tail.exit (c.self.invariant.rope d there.chosen) refl))
+    (body-outputs doc d laws (omega (arith, c.self.invariant.kept.within)) ps c.self.inside.tail.exit (c.self.invariant.kept.rope d there.chosen) refl))

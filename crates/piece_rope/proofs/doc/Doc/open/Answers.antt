@@ -32,6 +32,9 @@ invariant_of-result c =
     let rope = new-rope d c.start_of.result exit c.args.bytes.now ps c.start_of.ensures f.bytes f.chain f.exit f.small f.wide f.few in
     let scratch = decoder-known _ c.under.result c.in_ok-decoder.ensures.ok_part c.under.ensures.decode in
     let own = subst (λ (s : AnyState). IsRope d ps s) (sym (ending-exit d exit tail c.in_ok-tail.ensures)) rope in
-    subst (λ (xs : List Entry). IsKept c.args.indexes.now c.new-setting.result xs tail) (sym c.in_ok-pieces.ensures)
-    (kept-rope c.args.indexes.now c.new-setting.result d ps tail laws (item_laws d e.runs e.shown e.near) (sym c.under.ensures.value ∙ c.in_ok-decoder.ensures.ok_part) (sym c.under.ensures.variant ∙ ap is_some c.in_ok-decoder.ensures.ok_part)
-    (omega (arith, ap length f.bytes, c.if-bytes-gt-DOCUMENT_LIMIT.false)) own (ending-own d exit tail c.in_ok-tail.ensures) scratch e.joined)
+    record {
+      kept = subst (λ (xs : List Entry). IsKept c.args.indexes.now c.new-setting.result xs tail) (sym c.in_ok-pieces.ensures)
+          (kept-rope c.args.indexes.now c.new-setting.result d ps tail laws (item_laws d e.runs e.shown e.near) (sym c.under.ensures.value ∙ c.in_ok-decoder.ensures.ok_part) (sym c.under.ensures.variant ∙ ap is_some c.in_ok-decoder.ensures.ok_part)
+          (omega (arith, ap length f.bytes, c.if-bytes-gt-DOCUMENT_LIMIT.false)) own (ending-own d exit tail c.in_ok-tail.ensures) scratch e.joined);
+      back = tt;
+    }

@@ -12,7 +12,7 @@ returns-clause-outputs c =
     let ps = c.self.inside.pieces.items in
     let doc : Document = document files setting (bytes_of ps) in
     let law = c.law_output_at_the_end.ensures in
-    let there = is_there files setting (law.there files setting) c.self.invariant.can in
+    let there = is_there files setting (law.there files setting) c.self.invariant.kept.can in
     let d = there.decoder in
     let laws : StateLaws files setting d = record {
       start = law.start files setting d there.chosen;
@@ -23,4 +23,4 @@ returns-clause-outputs c =
       end = λ p. law.end files setting d p there.chosen;
     } in
     subst (λ (doc : Document). HasOutputs doc (length doc.bytes) c.self.inside.tail.items) c.self.view_is
-    (end-outputs doc d laws (omega (arith, c.self.invariant.within)) ps c.self.inside.tail (c.self.invariant.rope d there.chosen) refl (c.self.invariant.tail_is d there.chosen))
+    (end-outputs doc d laws (omega (arith, c.self.invariant.kept.within)) ps c.self.inside.tail (c.self.invariant.kept.rope d there.chosen) refl (c.self.invariant.kept.tail_is d there.chosen))
