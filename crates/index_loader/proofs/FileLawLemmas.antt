@@ -11,13 +11,14 @@ use lib.Utf8.{scalar}
 use Rattle.index_loader.proofs.LineLemmas.{fault-stays}
 use Rattle.index_loader.proofs.Members.{Has, contains-has, has-contains, has-get_or}
 use Rattle.index_loader.specs.declared.fault.IndexCause.{IndexCause}
-use Rattle.index_loader.specs.declared.fault.IndexCause.TheVariants.{BadPointer, BadCodePoint, PointerTooLarge, BadRanges, DuplicatePointer, OutOfMemory}
+use Rattle.index_loader.specs.declared.fault.IndexCause.TheVariants.{BadRanges, DuplicatePointer}
 use Rattle.index_loader.specs.declared.fault.IndexFault.{IndexFault}
 use Rattle.index_loader.specs.declared.kind.IndexKind.{IndexKind}
-use Rattle.index_loader.specs.File.{FaultIs, IsReading, has_needed_rows, if_complete, pairs_from, pairs_with}
+use Rattle.index_loader.specs.File.{IsReading, has_needed_rows, if_complete, is_out_of_memory, pairs_from, pairs_with}
 use Rattle.index_loader.specs.Index.{Loaded, is_ranges}
 use Rattle.index_loader.specs.FileLaws.{AreParsed, IsEntry, IsFaulty, IsFirstFault, Repeats, reading_at}
 use Rattle.index_loader.specs.Lines.{lines_of, allows, code_point_in, scalar_in, fields_of, is_skipped, number_in, pair_behind, pair_in, pair_of_text, pair_with, refusal_of, stripped}
+use Rattle.index_loader.specs.Numbered.{FaultIs}
 use Rattle.index_loader.specs.Pairs.{Pairs, code_point_at, inserted}
 use Rattle.index_loader.specs.Rows.{IsRising}
 use Rattle.index_loader.specs.Scalars.{as_scalar}
@@ -341,14 +342,10 @@ pub reading-pairs : (kind : IndexKind) (bytes : List ℕ) (r : Result Loaded Ind
 reading-pairs kind bytes (Ok index) reading = parsed-pairs kind (lines_of bytes) index.pairs (from-complete kind _ index.pairs reading.0)
 reading-pairs kind bytes (Err fault) reading = tt
 
-fault-parsed : (cause : IndexCause) (fault : IndexFault) (parsed : Result Pairs IndexFault) → FaultIs cause fault parsed → 0 < fault.line → parsed ≡ Err fault
-fault-parsed BadPointer fault parsed is lt = is
-fault-parsed BadCodePoint fault parsed is lt = is
-fault-parsed PointerTooLarge fault parsed is lt = is
-fault-parsed BadRanges fault parsed is lt = is
-fault-parsed DuplicatePointer fault parsed is lt = is
-fault-parsed OutOfMemory fault parsed is lt = absurd (omega arith)
+fault-parsed : (refused : Bool) (fault : IndexFault) (parsed : Result Pairs IndexFault) → FaultIs refused fault.line fault parsed → 0 < fault.line → parsed ≡ Err fault
+fault-parsed true fault parsed is lt = absurd (omega arith)
+fault-parsed false fault parsed is lt = is
 
 pub reading-fault : (kind : IndexKind) (bytes : List ℕ) (r : Result Loaded IndexFault) → IsReading kind bytes r → IfErr r (λ fault. 0 < fault.line → IsFirstFault kind (lines_of bytes) fault)
 reading-fault kind bytes (Ok index) reading = tt
-reading-fault kind bytes (Err fault) reading = λ lt. first-fault kind (lines_of bytes) fault (from-incomplete kind _ fault (fault-parsed fault.cause fault _ reading lt) lt)
+reading-fault kind bytes (Err fault) reading = λ lt. first-fault kind (lines_of bytes) fault (from-incomplete kind _ fault (fault-parsed (is_out_of_memory fault.cause) fault _ reading lt) lt)

@@ -5,12 +5,13 @@ use Rattle.std.proofs.lemmas.Bool.{false≢true, leb-true}
 use Rattle.index_loader.proofs.NumberedLemmas.{faulty, stays}
 use Rattle.index_loader.proofs.Places.{code_point-in_table, inserted-in_table}
 use Rattle.index_loader.specs.declared.fault.IndexCause.{IndexCause}
-use Rattle.index_loader.specs.declared.fault.IndexCause.TheVariants.{BadPointer, BadCodePoint, PointerTooLarge, BadRanges, DuplicatePointer, OutOfMemory}
+use Rattle.index_loader.specs.declared.fault.IndexCause.TheVariants.{BadRanges, DuplicatePointer}
 use Rattle.index_loader.specs.declared.fault.IndexFault.{IndexFault}
 use Rattle.index_loader.specs.declared.kind.IndexKind.{IndexKind}
-use Rattle.index_loader.specs.File.{FaultIs, IsLineCause, has_needed_rows, if_complete, pairs_beside, pairs_from, pairs_parsed, with_line}
+use Rattle.index_loader.specs.File.{has_needed_rows, if_complete, is_out_of_memory, pairs_beside, pairs_from, pairs_parsed, with_line}
 use Rattle.index_loader.specs.Lines.{allows, allows_row, greatest_pointer, lines_of}
 use Rattle.index_loader.specs.Index.{is_ranges}
+use Rattle.index_loader.specs.Numbered.{FaultIs}
 use Rattle.index_loader.specs.Pairs.{Pairs}
 use Rattle.index_loader.specs.Table.{pairs_in, table_len}
 
@@ -54,13 +55,8 @@ allowed-place kind pointer code_point allowed =
     allowed
 
 -- a line's fault is no want of memory
-pub fault-of_line : (parsed : Result Pairs IndexFault) (line : ℕ) (cause : IndexCause) → IsLineCause cause → parsed ≡ Err (record { line = line; cause = cause }) → FaultIs cause (record { line = line; cause = cause }) parsed
-fault-of_line parsed line BadPointer of is = is
-fault-of_line parsed line BadCodePoint of is = is
-fault-of_line parsed line PointerTooLarge of is = is
-fault-of_line parsed line BadRanges of is = is
-fault-of_line parsed line DuplicatePointer of is = is
-fault-of_line parsed line OutOfMemory of is = absurd of
+pub fault-of_line : (parsed : Result Pairs IndexFault) (line : ℕ) (cause : IndexCause) → is_out_of_memory cause ≡ false → parsed ≡ Err (record { line = line; cause = cause }) → FaultIs (is_out_of_memory cause) line (record { line = line; cause = cause }) parsed
+fault-of_line parsed line cause of is = rw of is
 
 -- the file as a whole
 pub parsed-complete : (kind : IndexKind) (bytes : List ℕ) (pairs : Pairs) → pairs_from kind (Ok []) 1 (lines_of bytes) ≡ Ok pairs → false ≡ (is_ranges kind && not (has_needed_rows pairs)) → pairs_parsed kind bytes ≡ Ok pairs

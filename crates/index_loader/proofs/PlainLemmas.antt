@@ -42,11 +42,11 @@ no-front [] all = refl
 no-front (x ∷ xs) all = let e : (x == 0x20) ≡ false = all 0 0 (omega arith) in rw e refl
 
 -- where there is no space, none is stripped
-stripped-same : (xs : List ℕ) → All IsNoSpace xs → stripped xs ≡ xs
+pub stripped-same : (xs : List ℕ) → All IsNoSpace xs → stripped xs ≡ xs
 stripped-same xs all =
     rw (no-front xs all, no-front (reverse xs) (All-permutation IsNoSpace _ _ (IsPermutation-reverse xs) all)) (reverse-reverse xs)
 
-no-spaces : (base : ℕ) (xs : List ℕ) → base ≤ 16 → list_all (λ b. is_digit b base) xs ≡ true → All IsNoSpace xs
+pub no-spaces : (base : ℕ) (xs : List ℕ) → base ≤ 16 → list_all (λ b. is_digit b base) xs ≡ true → All IsNoSpace xs
 no-spaces base xs small all = All-from_get_or IsNoSpace xs 0 (λ j lt. digit-other base _ 0x20 small refl (digit-at base xs j all lt))
 
 not-empty : (xs : List ℕ) → 0 < length xs → (length xs == 0) ≡ false
@@ -57,7 +57,7 @@ numeral-of : (base : ℕ) (xs : List ℕ) → 0 < length xs → list_all (λ b. 
 numeral-of base xs some all = rw (not-empty xs some, all) refl
 
 -- a text with a number is one of digits
-digits-of : (base : ℕ) (xs : List ℕ) (n : ℕ) → number_in base xs ≡ Some n → list_all (λ b. is_digit b base) xs ≡ true
+pub digits-of : (base : ℕ) (xs : List ℕ) (n : ℕ) → number_in base xs ≡ Some n → list_all (λ b. is_digit b base) xs ≡ true
 digits-of base [] n is = refl
 digits-of base (x ∷ xs) n is =
     ⊎_elim
@@ -71,11 +71,21 @@ before-tab base text m j small within all lt =
     let l : length (take m text) ≡ m = length-take-le m text within in
     digit-other base _ 0x09 small refl (rw (← e) (digit-at base (take m text) j all (omega arith)))
 
+-- digits up to the end of the text are its one field
+pub fields-alone : (base : ℕ) (text : List ℕ) (m : ℕ) → base ≤ 16 → m ≡ length text → list_all (λ b. is_digit b base) (take m text) ≡ true → fields_of text ≡ text ∷ []
+fields-alone base text m small is all =
+    parts-none (λ b. b == 0x09) text (no-place (λ b. b == 0x09) text (λ j lt. before-tab base text m j small (omega arith) all (omega arith)))
+
+-- and digits up to a TAB the first
+pub fields-before : (base : ℕ) (text : List ℕ) (m : ℕ) → base ≤ 16 → m < length text → get_or text m 0 ≡ 0x09 → list_all (λ b. is_digit b base) (take m text) ≡ true → fields_of text ≡ take m text ∷ fields_of (drop (m + 1) text)
+fields-before base text m small within tab all =
+    parts-some (λ b. b == 0x09) text m 0 (first-place (λ b. b == 0x09) text m within (λ j lt. before-tab base text m j small (omega arith) all lt) (rw tab refl))
+
 -- digits up to the end of the text
 pub number-alone : (base : ℕ) (text : List ℕ) (m n : ℕ) → base ≤ 16 → 0 < m → m ≡ length text → list_all (λ b. is_digit b base) (take m text) ≡ true → n ≡ digits_value base (take m text) → IsNumberFirst base (fields_of text) n []
 number-alone base text m n small some is all value = record {
   digits = text;
-  first = parts-none (λ b. b == 0x09) text (no-place (λ b. b == 0x09) text (λ j lt. before-tab base text m j small (omega arith) all (omega arith)));
+  first = fields-alone base text m small is all;
   numeral = let e : take m text ≡ text = rw is (take-length text) in rw (value, e) (numeral-of base text (omega arith) (rw (← e) all));
 }
 
@@ -83,7 +93,7 @@ number-alone base text m n small some is all value = record {
 pub number-before : (base : ℕ) (text : List ℕ) (m n : ℕ) → base ≤ 16 → 0 < m → m < length text → get_or text m 0 ≡ 0x09 → list_all (λ b. is_digit b base) (take m text) ≡ true → n ≡ digits_value base (take m text) → IsNumberFirst base (fields_of text) n (fields_of (drop (m + 1) text))
 number-before base text m n small some within tab all value = record {
   digits = take m text;
-  first = parts-some (λ b. b == 0x09) text m 0 (first-place (λ b. b == 0x09) text m within (λ j lt. before-tab base text m j small (omega arith) all lt) (rw tab refl));
+  first = fields-before base text m small within tab all;
   numeral = let l : length (take m text) ≡ m = length-take-le m text (omega arith) in rw value (numeral-of base (take m text) (omega arith) all);
 }
 
@@ -107,7 +117,7 @@ number-with base fields n behind b is first =
     rw e first
 
 -- a code point in digits behind `0x`
-code_point-plain : (others : List (List ℕ)) (digits : List ℕ) (n c : ℕ) → number_in 16 digits ≡ Some n → as_scalar n ≡ Some c → code_point_in ((0x30 ∷ 0x78 ∷ digits) ∷ others) ≡ Some c
+pub code_point-plain : (others : List (List ℕ)) (digits : List ℕ) (n c : ℕ) → number_in 16 digits ≡ Some n → as_scalar n ≡ Some c → code_point_in ((0x30 ∷ 0x78 ∷ digits) ∷ others) ≡ Some c
 code_point-plain others digits n c numeral scalar =
     let same = stripped-same (0x30 ∷ 0x78 ∷ digits) (All-cons IsNoSpace 0x30 (0x78 ∷ digits) refl (All-cons IsNoSpace 0x78 digits refl (no-spaces 16 digits (omega arith) (digits-of 16 digits n numeral)))) in
     rw (same, numeral) scalar

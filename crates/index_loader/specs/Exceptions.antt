@@ -1,6 +1,6 @@
 -- The exceptions of the gb18030 encoder: code points with the two bytes that it writes before it looks into its index. Their file is this project's own; its lines are
 -- cut, numbered and skipped as those of an index file.
-use Rattle.std.specs.Prelude.{◌≡◌, ⊤, ℕ, ◌==◌, ◌/◌, ◌%◌, nat_le, Bool, ◌&&◌, ◌||◌, List, [], ◌∷◌, length, Option, Some, None, is_some, Result, Ok, Err, if◌then◌else◌, option_and_then}
+use Rattle.std.specs.Prelude.{◌≡◌, ℕ, ◌==◌, ◌/◌, ◌%◌, nat_le, Bool, true, false, ◌&&◌, ◌||◌, List, [], ◌∷◌, length, Option, Some, None, is_some, Result, Ok, Err, if◌then◌else◌, option_and_then}
 use Rattle.std.specs.BTreeMap.{insert_entry, is_at}
 use Rattle.std.specs.Map.{lookup}
 use Rattle.std.specs.Ordering.{nat_cmp}
@@ -9,7 +9,7 @@ use Rattle.index_loader.specs.declared.fault.ExceptionCause.{ExceptionCause}
 use Rattle.index_loader.specs.declared.fault.ExceptionCause.TheVariants.{BadCodePoint, BadBytes, DuplicateCodePoint, OutOfMemory}
 use Rattle.index_loader.specs.declared.fault.ExceptionFault.{ExceptionFault}
 use Rattle.index_loader.specs.Lines.{lines_of, number_in, scalar_in, stripped, unless_skipped}
-use Rattle.index_loader.specs.Numbered.{read_from}
+use Rattle.index_loader.specs.Numbered.{FaultIs, read_from}
 
 -- code points, each with its two bytes, in the order of the code points
 abbrev pub ExceptionTable : Type 0
@@ -78,17 +78,12 @@ exceptions_from above number lines = read_from with_exception above number lines
 abbrev pub exceptions_parsed : List ℕ → Result ExceptionTable ExceptionFault
 exceptions_parsed bytes = exceptions_from (Ok []) 1 (lines_of bytes)
 
--- a cause that a line can have
-abbrev pub IsLineCause : ExceptionCause → Type 0
-IsLineCause OutOfMemory = ⊥
-IsLineCause _ = ⊤
-
--- the fault is the file's first, or memory was refused
-abbrev pub FaultIs : ExceptionCause → ExceptionFault → Result ExceptionTable ExceptionFault → Type 0
-FaultIs OutOfMemory fault parsed = fault.line ≡ 0
-FaultIs _ fault parsed = parsed ≡ Err fault
+-- memory was refused; any other cause is a line's
+abbrev pub is_out_of_memory : ExceptionCause → Bool
+is_out_of_memory OutOfMemory = true
+is_out_of_memory _ = false
 
 -- what a reading of the file answers: its exceptions, or a fault
 abbrev pub IsParsed : List ℕ → Result ExceptionTable ExceptionFault → Type 0
 IsParsed bytes (Ok exceptions) = exceptions_parsed bytes ≡ Ok exceptions
-IsParsed bytes (Err fault) = FaultIs fault.cause fault (exceptions_parsed bytes)
+IsParsed bytes (Err fault) = FaultIs (is_out_of_memory fault.cause) fault.line fault (exceptions_parsed bytes)

@@ -1,5 +1,5 @@
 -- What an index file holds (Encoding Standard, "Indexes").
-use Rattle.std.specs.Prelude.{◌≡◌, ℕ, ◌==◌, Bool, false, not, ◌&&◌, List, [], Option, Some, None, is_some, Result, Ok, Err, if◌then◌else◌, ⊤}
+use Rattle.std.specs.Prelude.{◌≡◌, ℕ, ◌==◌, Bool, true, false, not, ◌&&◌, List, [], Option, Some, None, is_some, Result, Ok, Err, if◌then◌else◌}
 use Rattle.index_loader.specs.declared.fault.IndexCause.{IndexCause}
 use Rattle.index_loader.specs.declared.fault.IndexCause.TheVariants.{BadRanges, DuplicatePointer, OutOfMemory}
 use Rattle.index_loader.specs.declared.fault.IndexFault.{IndexFault}
@@ -7,7 +7,7 @@ use Rattle.index_loader.specs.declared.kind.IndexKind.{IndexKind}
 use Rattle.index_loader.specs.Index.{Loaded, is_ranges}
 use Rattle.index_loader.specs.Kinds.{home_of}
 use Rattle.index_loader.specs.Lines.{lines_of, pair_on}
-use Rattle.index_loader.specs.Numbered.{read_from}
+use Rattle.index_loader.specs.Numbered.{FaultIs, read_from}
 use Rattle.index_loader.specs.Pairs.{Pairs, code_point_at, inserted}
 
 -- a pair beside those of the lines above, unless one of these has its pointer
@@ -48,17 +48,12 @@ if_complete kind (Ok pairs) =
 abbrev pub pairs_parsed : IndexKind → List ℕ → Result Pairs IndexFault
 pairs_parsed kind bytes = if_complete kind (pairs_from kind (Ok []) 1 (lines_of bytes))
 
--- a cause that a line can have
-abbrev pub IsLineCause : IndexCause → Type 0
-IsLineCause OutOfMemory = ⊥
-IsLineCause _ = ⊤
-
--- the fault is the file's first, or memory was refused
-abbrev pub FaultIs : IndexCause → IndexFault → Result Pairs IndexFault → Type 0
-FaultIs OutOfMemory fault parsed = fault.line ≡ 0
-FaultIs _ fault parsed = parsed ≡ Err fault
+-- memory was refused; any other cause is a line's
+abbrev pub is_out_of_memory : IndexCause → Bool
+is_out_of_memory OutOfMemory = true
+is_out_of_memory _ = false
 
 -- what a reading of the file answers: an index of its pairs, or a fault
 abbrev pub IsReading : IndexKind → List ℕ → Result Loaded IndexFault → Type 0
 IsReading kind bytes (Ok index) = (pairs_parsed kind bytes ≡ Ok index.pairs) × (index.kind ≡ home_of kind)
-IsReading kind bytes (Err fault) = FaultIs fault.cause fault (pairs_parsed kind bytes)
+IsReading kind bytes (Err fault) = FaultIs (is_out_of_memory fault.cause) fault.line fault (pairs_parsed kind bytes)

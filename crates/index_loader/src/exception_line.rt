@@ -1,12 +1,13 @@
 //! Lines of a file of exceptions.
-ghost use Rattle.std.specs.Prelude.{◌≡◌, ℕ, min, IfErr, option_copied};
-ghost use Rattle.index_loader.specs.Exceptions.{IsLineCause, as_pair, bytes_behind, bytes_in, exception_in, exception_on};
+ghost use Rattle.std.specs.Prelude.{◌≡◌, ℕ, false, min, IfErr, IfSome, Ok, Some, option_copied};
+ghost use Rattle.index_loader.specs.Exceptions.{as_pair, bytes_behind, bytes_in, exception_in, exception_on, is_out_of_memory};
 ghost use Rattle.index_loader.specs.Lines.{fields_of};
 ghost use Rattle.index_loader.specs.Split.{parts_behind};
 
 use crate::fault::ExceptionCause;
 use crate::field::{number_in, scalar_in, stripped};
 use crate::line::{is_skipped, split_at_byte, without_cr};
+use crate::plain::plain_number;
 use enc_names::Scalar;
 
 /// The two bytes of a number, where gb18030 has such. It stands for every number that counts as it
@@ -33,6 +34,27 @@ fn bytes_in(text: &[u8]) -> Option<[u8; 2]>
     as_pair(number_in(16, text)?)
 }
 
+/// The two bytes of four digits with nothing around them, in front of a TAB or of the text's end.
+fn plain_bytes(text: &[u8]) -> Option<[u8; 2]>
+    ensures { IfSome result (λ bytes. bytes_behind (fields_of text.now) ≡ Some bytes) }
+{
+    if text.len() > 4 && text[4] == b'\t' {
+        return bytes_in(&text[..4]);
+    }
+    bytes_in(text)
+}
+
+/// The exception of a line in the form that most have, or `None` where it may have another: a code
+/// point in digits behind `0x`, a TAB, and four digits. Such a line is read in one pass.
+fn plain_exception(text: &[u8]) -> Option<(Scalar, [u8; 2])>
+    ensures { IfSome result (λ exception. exception_in (fields_of text.now) ≡ Ok (Some exception)) }
+{
+    let digits = text.strip_prefix(b"0x")?;
+    let (number, behind) = plain_number(16, digits)?;
+    let bytes = plain_bytes(behind?)?;
+    Some((Scalar::new(number)?, bytes))
+}
+
 /// The bytes in the first field of what stands behind the code point.
 fn bytes_behind(behind: Option<&[u8]>) -> Option<[u8; 2]>
     ensures { result ≡ bytes_behind (parts_behind 0x09 (option_copied behind.entry)) }
@@ -44,7 +66,7 @@ fn bytes_behind(behind: Option<&[u8]>) -> Option<[u8; 2]>
 /// The exception in the fields of a line, or the first cause why there is none.
 fn exception_in(text: &[u8]) -> Result<Option<(Scalar, [u8; 2])>, ExceptionCause>
     ensures value { result ≡ exception_in (fields_of text.now) }
-    ensures cause { IfErr result IsLineCause }
+    ensures cause { IfErr result (λ cause. is_out_of_memory cause ≡ false) }
 {
     let (first, behind) = split_at_byte(text, b'\t');
     let code_point = scalar_in(stripped(first)).ok_or(ExceptionCause::BadCodePoint)?;
@@ -55,11 +77,14 @@ fn exception_in(text: &[u8]) -> Result<Option<(Scalar, [u8; 2])>, ExceptionCause
 /// What a line holds: nothing, an exception, or the first cause why it is refused.
 pub(crate) fn exception_on(line: &[u8]) -> Result<Option<(Scalar, [u8; 2])>, ExceptionCause>
     ensures value { result ≡ exception_on line.now }
-    ensures cause { IfErr result IsLineCause }
+    ensures cause { IfErr result (λ cause. is_out_of_memory cause ≡ false) }
 {
     let text = without_cr(line);
     if is_skipped(text) {
         return Ok(None);
     }
-    exception_in(text)
+    match plain_exception(text) {
+        Some(exception) => Ok(Some(exception)),
+        None => exception_in(text),
+    }
 }

@@ -2,7 +2,8 @@
 ghost use Rattle.std.specs.Prelude.{◌≡◌, [], Ok, IfErr, IfOk, OnOk};
 ghost use Rattle.std.specs.BTreeMap.{insert_entry};
 ghost use Rattle.std.specs.Ordering.{nat_cmp};
-ghost use Rattle.index_loader.specs.Exceptions.{FaultIs, IsParsed, exception_of, exceptions_beside, with_exception};
+ghost use Rattle.index_loader.specs.Exceptions.{IsParsed, exception_of, exceptions_beside, is_out_of_memory, with_exception};
+ghost use Rattle.index_loader.specs.Numbered.{FaultIs};
 
 use crate::exception_line::exception_on;
 use crate::fault::{ExceptionCause, ExceptionFault};
@@ -66,7 +67,7 @@ impl Exceptions {
     /// Puts what a line of this number holds beside what those above do.
     fn put_line(&mut self, number: u64, line: &[u8]) -> Result<(), ExceptionFault>
         ensures ok { OnOk result (with_exception number self.old line.now ≡ Ok self.new) }
-        ensures err { IfErr result (λ fault. FaultIs fault.cause fault (with_exception number self.old line.now)) }
+        ensures err { IfErr result (λ fault. FaultIs (is_out_of_memory fault.cause) fault.line fault (with_exception number self.old line.now)) }
     {
         match exception_on(line) {
             Ok(None) => Ok(()),
@@ -81,25 +82,23 @@ impl Exceptions {
     /// Puts the exception of the line of this number beside those above.
     fn put(&mut self, number: u64, exception: (Scalar, [u8; 2])) -> Result<(), ExceptionFault>
         ensures ok { OnOk result (exceptions_beside number self.old exception.0 exception.1 ≡ Ok self.new) }
-        ensures err { IfErr result (λ fault. FaultIs fault.cause fault (exceptions_beside number self.old exception.0 exception.1)) }
+        ensures err { IfErr result (λ fault. FaultIs (is_out_of_memory fault.cause) fault.line fault (exceptions_beside number self.old exception.0 exception.1)) }
     {
-        let code_point = exception.0;
-        let bytes = exception.1;
-        if self.insert(code_point, bytes)?.is_some() {
+        if self.replace(exception.0, exception.1)?.is_some() {
+            let cause = ExceptionCause::DuplicateCodePoint;
             return Err(ExceptionFault {
                 line: number,
-                cause: ExceptionCause::DuplicateCodePoint,
+                cause,
             });
         }
         Ok(())
     }
 
-    /// Puts an exception at its place, and returns the bytes that its code point had.
-    fn insert(&mut self, code_point: Scalar, bytes: [u8; 2]) -> Result<Option<[u8; 2]>, AllocError>
-        ensures before { IfOk result (λ before. before ≡ exception_of self.old code_point) }
-        ensures after { OnOk result (self.new ≡ insert_entry nat_cmp self.old code_point bytes) }
+    /// Gives a code point its bytes, by one search, and returns those that it had.
+    fn replace(&mut self, code_point: Scalar, bytes: [u8; 2]) -> Result<Option<[u8; 2]>, AllocError>
+        ensures old { IfOk result (λ old. old ≡ exception_of self.old code_point) }
+        ensures new { OnOk result (self.new ≡ insert_entry nat_cmp self.old code_point bytes) }
     {
-        let before = self.by_code_point.insert(code_point.get(), bytes)?;
-        Ok(before)
+        Ok(self.by_code_point.insert(code_point.get(), bytes)?)
     }
 }

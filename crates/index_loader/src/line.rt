@@ -1,8 +1,8 @@
 //! Lines of an index file.
-ghost use Rattle.std.specs.Prelude.{◌≡◌, ℕ, ◌<◌, ◌==◌, min, ◌∷◌, length, position, IfErr, IfOk, IfSome, IsTrue, option_copied};
+ghost use Rattle.std.specs.Prelude.{◌≡◌, ℕ, ◌<◌, ◌==◌, false, min, ◌∷◌, length, position, IfErr, IfOk, IfSome, IsTrue, option_copied};
 ghost use Rattle.std.specs.List.{slice_split};
 ghost use Rattle.std.specs.Str.Lines.{strip_carriage_return};
-ghost use Rattle.index_loader.specs.File.{IsLineCause};
+ghost use Rattle.index_loader.specs.File.{is_out_of_memory};
 ghost use Rattle.index_loader.specs.Lines.{allows, code_point_in, fields_of, is_skipped, pair_in, pair_on, pair_with};
 ghost use Rattle.index_loader.specs.Split.{parts_behind};
 
@@ -70,7 +70,7 @@ fn pair_with(
 ) -> Result<Option<(u32, Scalar)>, IndexCause>
     ensures value { (n : ℕ) → pointer ≡ min n 0xFFFF_FFFF → result ≡ pair_with kind n code_point }
     ensures allowed { IfOk result (λ o. IfSome o (λ pair. IsTrue (allows kind pair.0 pair.1))) }
-    ensures cause { IfErr result IsLineCause }
+    ensures cause { IfErr result (λ cause. is_out_of_memory cause ≡ false) }
 {
     let code_point = code_point.ok_or(IndexCause::BadCodePoint)?;
     if is_allowed(kind, pointer, code_point) {
@@ -94,7 +94,7 @@ fn code_point_behind(behind: Option<&[u8]>) -> Option<Scalar>
 pub(crate) fn pair_on(kind: IndexKind, line: &[u8]) -> Result<Option<(u32, Scalar)>, IndexCause>
     ensures value { result ≡ pair_on kind line.now }
     ensures allowed { IfOk result (λ o. IfSome o (λ pair. IsTrue (allows kind pair.0 pair.1))) }
-    ensures cause { IfErr result IsLineCause }
+    ensures cause { IfErr result (λ cause. is_out_of_memory cause ≡ false) }
 {
     let text = without_cr(line);
     if is_skipped(text) {
@@ -110,7 +110,7 @@ pub(crate) fn pair_on(kind: IndexKind, line: &[u8]) -> Result<Option<(u32, Scala
 fn pair_in_fields(kind: IndexKind, text: &[u8]) -> Result<Option<(u32, Scalar)>, IndexCause>
     ensures value { result ≡ pair_in kind (fields_of text.now) }
     ensures allowed { IfOk result (λ o. IfSome o (λ pair. IsTrue (allows kind pair.0 pair.1))) }
-    ensures cause { IfErr result IsLineCause }
+    ensures cause { IfErr result (λ cause. is_out_of_memory cause ≡ false) }
 {
     let (first, behind) = split_at_byte(text, b'\t');
     let pointer = number_in(10, stripped(first)).ok_or(IndexCause::BadPointer)?;

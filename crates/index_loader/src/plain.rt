@@ -36,7 +36,7 @@ fn leading_number(base: u32, text: &[u8]) -> (u32, usize)
 
 /// The number in front of a TAB or of the text's end, where nothing but digits stands before it,
 /// and what stands behind the TAB.
-fn plain_number(base: u32, text: &[u8]) -> Option<(u32, Option<&[u8]>)>
+pub(crate) fn plain_number(base: u32, text: &[u8]) -> Option<(u32, Option<&[u8]>)>
     requires low { 2 ≤ base }
     requires high { base ≤ 16 }
     ensures { IfSome result (λ found. IsNumberFirst base (fields_of text.now) found.0 (parts_behind 0x09 (option_copied found.1))) }

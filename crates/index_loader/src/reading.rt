@@ -1,8 +1,9 @@
 //! The reading of an index file.
-ghost use Rattle.std.specs.Prelude.{◌≡◌, ◌<◌, ◌&&◌, not, [], Ok, Err, IfErr, IfOk, None, OnOk, length, slice_index_or};
-ghost use Rattle.index_loader.specs.File.{FaultIs, IsLineCause, has_needed_rows, is_number, pairs_beside, pairs_from, with_line};
+ghost use Rattle.std.specs.Prelude.{◌≡◌, ◌<◌, ◌&&◌, false, not, [], Ok, Err, IfErr, IfOk, None, OnOk, length, slice_index_or};
+ghost use Rattle.index_loader.specs.File.{has_needed_rows, is_number, is_out_of_memory, pairs_beside, pairs_from, with_line};
 ghost use Rattle.index_loader.specs.Index.{is_ranges};
 ghost use Rattle.index_loader.specs.Lines.{lines_of};
+ghost use Rattle.index_loader.specs.Numbered.{FaultIs};
 ghost use Rattle.index_loader.specs.Table.{pairs_in, table_len};
 
 use crate::fault::{IndexCause, IndexFault};
@@ -34,7 +35,7 @@ fn put_pair(
     ensures len { length table.new ≡ length table.old }
     ensures ok { OnOk result (pairs_beside number (pairs_in table.old) (pointer, code_point) ≡ Ok (pairs_in table.new)) }
     ensures err { IfErr result (λ fault. pairs_beside number (pairs_in table.old) (pointer, code_point) ≡ Err fault) }
-    ensures cause { IfErr result (λ fault. IsLineCause fault.cause) }
+    ensures cause { IfErr result (λ fault. is_out_of_memory fault.cause ≡ false) }
 {
     if table.code_point(pointer).is_some() {
         let cause = IndexCause::DuplicatePointer;
@@ -53,7 +54,7 @@ fn put_line(table: &mut Table, kind: IndexKind, number: u64, line: &[u8]) -> Res
     ensures len { length table.new ≡ length table.old }
     ensures ok { OnOk result (with_line kind number (pairs_in table.old) line.now ≡ Ok (pairs_in table.new)) }
     ensures err { IfErr result (λ fault. with_line kind number (pairs_in table.old) line.now ≡ Err fault) }
-    ensures cause { IfErr result (λ fault. IsLineCause fault.cause) }
+    ensures cause { IfErr result (λ fault. is_out_of_memory fault.cause ≡ false) }
 {
     match pair_on(kind, line) {
         Ok(None) => Ok(()),
@@ -69,7 +70,7 @@ fn put_line(table: &mut Table, kind: IndexKind, number: u64, line: &[u8]) -> Res
 pub(crate) fn read_table(alloc: Global, kind: IndexKind, bytes: &[u8]) -> Result<Table, IndexFault>
     ensures len { IfOk result (λ table. length table ≡ table_len kind) }
     ensures ok { IfOk result (λ table. pairs_from kind (Ok []) 1 (lines_of bytes.now) ≡ Ok (pairs_in table)) }
-    ensures fault { IfErr result (λ fault. FaultIs fault.cause fault (pairs_from kind (Ok []) 1 (lines_of bytes.now))) }
+    ensures fault { IfErr result (λ fault. FaultIs (is_out_of_memory fault.cause) fault.line fault (pairs_from kind (Ok []) 1 (lines_of bytes.now))) }
 {
     let mut table = Table::new(alloc, table_len(kind))?;
     let mut rest = Some(bytes);

@@ -1,8 +1,8 @@
 use Rattle.std.proofs.Common.{◌≡◌, ◌+◌, ℕ, List, ◌∷◌, Ok, Option, option_copied, Bor, ap, ◌∙◌}
 use Rattle.std.proofs.lemmas.Result.{err_from_is_err_and}
-use Rattle.index_loader.specs.Exceptions.{exceptions_from, exceptions_parsed}
+use Rattle.index_loader.specs.Exceptions.{exceptions_from, exceptions_parsed, is_out_of_memory, with_exception}
 use Rattle.index_loader.specs.Split.{parts_behind}
-use Rattle.index_loader.proofs.ExceptionLemmas.{fault-of_file}
+use Rattle.index_loader.proofs.NumberedLemmas.{fault-of_file}
 use Rattle.index_loader.proofs.exceptions.Exceptions.parse.Goals as goal
 
 pub returns-in_err-put_line : goal.returns-in_err-put_line
@@ -17,4 +17,4 @@ returns-in_err-put_line c =
     c.loop-rest.invariant.parsed
     ∙ ap (λ (rest : Option (Bor (List ℕ))). exceptions_from (Ok above) number (parts_behind 0x0A (option_copied rest))) c.in-Some.is
     ∙ ap (λ (rest : List (List ℕ)). exceptions_from (Ok above) number rest) c.split_at_byte.ensures.parts in
-    rw (p.1, p.2) (fault-of_file (exceptions_parsed c.args.bytes.now) above number line lines fault.cause fault parsed c.in_err-put_line.ensures.err)
+    rw (p.1, p.2) (fault-of_file with_exception (exceptions_parsed c.args.bytes.now) above number line lines (is_out_of_memory fault.cause) fault.line fault parsed c.in_err-put_line.ensures.err)
