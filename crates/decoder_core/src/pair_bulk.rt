@@ -31,13 +31,15 @@ pub(crate) fn take_pairs<H: Handler>(
     let most = bytes.len().min(MOST);
     let mut taken = 0;
     let mut written = 0;
+    let mut behind_pair = true;
     'pairs: while taken + 1 < most {
         let lead = bytes[taken];
         if lead < 0x80 {
-            // A long run of ASCII is taken by itself. Looked for now and then, it costs nothing.
-            if taken % 16 == 0 && begins_ascii(&bytes[taken..]) {
+            // A long run of ASCII is taken by itself. It is looked for where it would begin.
+            if behind_pair && begins_ascii(&bytes[taken..]) {
                 break;
             }
+            behind_pair = false;
             written = put_scalar(text, written, u32::from(lead));
             taken += 1;
             continue;
@@ -47,6 +49,7 @@ pub(crate) fn take_pairs<H: Handler>(
         };
         written = end;
         taken += 2;
+        behind_pair = true;
     }
     Bulk {
         taken,
