@@ -16,13 +16,18 @@ UNITS = {"instructions": "thousands of instructions", "us": "microseconds"}
 TITLES = {
     "edits": "Edits: a splice, a text of 100 code points, and the splice that takes it back",
     "changes": "Changes: a range change by line and character, and the one that takes it back",
-    "lists_of_one": "Lists of one change, and the one that takes it back",
-    "lists_of_ten": "Lists of ten changes, and the one that takes them back",
     "positions": "Positions: an offset of a position and a position of an offset",
     "pages": "Pages: 1,000 lines, and 1,000 code points encoded in UTF-8",
-    "ends": "At the end: ten lines, errors, 100 bytes and 100 code points, and a splice at the front with the one that takes it back",
-    "rests": "The whole rest decoded anew: a byte order mark in front (in UTF-16 one byte), and the splice that takes it back, with a short text behind each",
     "bulk": "Bulk: a document opened, an eighth of its bytes in code points as text and as UTF-8, its errors",
+    "lists-of-1": "Lists of one change by line and character, and the list that takes it back",
+    "lists-of-10": "Lists of ten changes by line and character, and the list that takes them back",
+    "line-starts": "The first line of a page of lines that starts anywhere",
+    "error-starts": "The first error of a page of errors that starts anywhere, with an error on each line",
+    "last-bytes": "The last 1,000 bytes",
+    "last-text": "The last 1,000 code points",
+    "front": "A splice of a letter at the front, and the one that takes it back",
+    "one-byte": "A splice of one byte at the front of UTF-16, and the one that takes it back",
+    "mark": "A byte order mark put in front, and taken away",
 }
 
 
@@ -40,8 +45,9 @@ def main():
         parts += ["## Decoding and encoding alone", codecs(*map(rates_in, given.codecs))]
     page.write_text(front + "\n\n".join([BEGIN, machine(), *parts]) + "\n\n" + back)
     for rows in files:
-        if unit_of(rows) == "us":
-            draw([row for row in rows if row["kind"] == "edits"])
+        edits = [row for row in rows if row["kind"] == "edits" and row["ratio"]]
+        if unit_of(rows) == "us" and edits:
+            draw(edits)
 
 
 def rows_of(name):
@@ -68,16 +74,20 @@ def machine():
 
 
 def table(kind, rows, unit):
-    """What gate takes by size, and at the greatest size the peer, the ratio, and both programs' memory if measured."""
+    """What gate takes by size and its memory; at the greatest size that it was measured with, the peer, and the ratio."""
     sizes = sorted({int(row["bytes"]) for row in rows})
-    memory = {"gate_MB": "MB", "peer_MB": "peer's MB"} if unit == "us" else {}
-    heads = ["encoding", *(f"{size // 1024} KiB" for size in sizes), "peer", "peer over gate", *memory.values()]
+    met = max((int(row["bytes"]) for row in rows if row["ratio"]), default=None)
+    heads = [f"{size // 1024} KiB" for size in sizes]
+    # Name of the column, name of the figure, and the size that it is of.
+    further = [("peer", f"peer_{unit}", met), ("peer over gate", "ratio", met)] if met else []
+    if unit == "us":
+        further += [("MB", "gate_MB", sizes[-1])] + ([("peer's MB", "peer_MB", met)] if met else [])
+    heads = ["encoding", *heads, *(head for head, _, _ in further)]
     lines = [f"### {TITLES[kind]}", "", line(heads), line(["---"] + ["---:"] * (len(heads) - 1))]
     for encoding in dict.fromkeys(row["encoding"] for row in rows):
         own = {int(row["bytes"]): row for row in rows if row["encoding"] == encoding}
-        last = own[sizes[-1]]
-        further = (last[name] for name in (f"peer_{unit}", "ratio", *memory))
-        lines.append(line([encoding, *(own[size][f"gate_{unit}"] for size in sizes), *further]))
+        figures = [(f"gate_{unit}", size) for size in sizes] + [(name, size) for _, name, size in further]
+        lines.append(line([encoding, *(own[size][name] for name, size in figures)]))
     return "\n".join(lines)
 
 

@@ -1,7 +1,8 @@
 #!/usr/bin/env python3
 """Runs gate and the peer in turn on the same sessions, compares every reply, and prints what each took.
 
-By time, or by the instructions that valgrind counts: these are the same in each run, however busy the machine is.
+By time, or by the instructions that valgrind counts: these are the same in each run, however busy the machine is. What
+the peer doesn't know, and documents that are too long for it, gate alone is measured with; with --no-peer so is all.
 """
 
 import argparse
@@ -11,9 +12,7 @@ import sys
 import tempfile
 import time
 
-from sessions import KINDS, SAMPLES
-
-SIZES = {"64K": 65_536, "256K": 262_144, "1M": 1_048_576, "2M": 2_097_152, "16M": 16_777_216}
+from sessions import KINDS, PEER_SIZES, SAMPLES, SIZES
 
 
 # Counts instructions alone: no cache, no profile. The C library's copies and fills run by vector loops, since an
@@ -54,11 +53,12 @@ def main():
     words = argparse.ArgumentParser(description=__doc__)
     words.add_argument("--gate", default="../crates/gate/out/gate")
     words.add_argument("--peer", default="peer/target/release/peer")
+    words.add_argument("--no-peer", action="store_true", help="measure gate alone")
     words.add_argument("--indexes", required=True)
     words.add_argument("--labels", required=True)
     words.add_argument("--kinds", nargs="*", choices=KINDS, default=list(KINDS))
     words.add_argument("--encodings", nargs="*", choices=SAMPLES, default=list(SAMPLES))
-    words.add_argument("--sizes", nargs="*", choices=SIZES, default=["64K", "256K", "1M", "2M"])
+    words.add_argument("--sizes", nargs="*", choices=SIZES, default=list(SIZES))
     words.add_argument("--times", type=int, default=5, help="runs of each session, of which the fastest counts")
     words.add_argument("--instructions", action="store_true", help="count instructions, over a tenth of the rounds")
     chosen = words.parse_args()
@@ -66,25 +66,45 @@ def main():
     unit = "instructions" if chosen.instructions else "us"
     print("kind", "encoding", "bytes", f"gate_{unit}", f"peer_{unit}", "ratio", "gate_MB", "peer_MB", sep="\t")
     meter = Meter(counted, 1, 10) if chosen.instructions else Meter(timed, chosen.times, 1)
-    for kind in chosen.kinds:
-        for encoding in chosen.encodings:
-            for size in chosen.sizes:
-                compare(kind, encoding, SIZES[size], gate, [chosen.peer], meter)
+    for name in chosen.kinds:
+        kind = KINDS[name]
+        for encoding in (known for known in chosen.encodings if known in kind.encodings):
+            for size in (known for known in chosen.sizes if known in kind.sizes):
+                case = Case(name, encoding, size)
+                met = kind.rounds.peer and size in PEER_SIZES and not chosen.no_peer
+                compare(case, gate, [chosen.peer] if met else None, meter)
 
 
-def compare(kind, encoding, size, gate, peer, meter):
-    """One line: the cost of a round, beyond the start and the open, and peak memory."""
-    session, rounds = KINDS[kind]
+class Case:
+    """A kind of session in an encoding, over a document of a size."""
+
+    def __init__(self, kind, encoding, size):
+        self.kind, self.encoding, self.bytes = kind, encoding, SIZES[size]
+
+    def session(self, rounds):
+        return KINDS[self.kind].session(self.encoding, self.bytes, rounds)
+
+    def __str__(self):
+        return f"{self.kind} {self.encoding} {self.bytes}"
+
+
+def compare(case, gate, peer, meter):
+    """One line: the cost of a round, beyond the start and the open, and peak memory; of gate alone without a peer."""
     # gate's rounds are short: it takes more of them, of which the peer's are the first.
-    many, few = (max(1, count // meter.rounds_by) for count in rounds)
-    before = meter.measure([gate, peer], session(encoding, size, 0))
-    ours = meter.measure([gate], session(encoding, size, many))[0]
-    theirs = meter.measure([peer], session(encoding, size, few))[0]
-    tell_difference(kind, encoding, size, ours.replies, theirs.replies)
-    took = (ours.cost - before[0].cost) / many, (theirs.cost - before[1].cost) / few
-    figures = [f"{took[0]:.1f}", f"{took[1]:.1f}", f"{took[1] / took[0]:.2f}"]
-    memory = [f"{run.peak:.1f}" for run in (ours, theirs)]
-    print(kind, encoding, size, *figures, *memory, sep="\t", flush=True)
+    many, few = (max(1, count // meter.rounds_by) for count in KINDS[case.kind].rounds)
+    before = meter.measure([gate, peer] if peer else [gate], case.session(0))
+    ours = meter.measure([gate], case.session(many))[0]
+    tell_refusal(case, ours.replies)
+    took = (ours.cost - before[0].cost) / many
+    # What the peer took, how many times gate's cost that is, and the peer's memory.
+    theirs = ratio = peak = ""
+    if peer:
+        run = meter.measure([peer], case.session(few))[0]
+        tell_difference(case, ours.replies, run.replies)
+        cost = (run.cost - before[1].cost) / few
+        theirs, ratio, peak = f"{cost:.1f}", f"{cost / took:.2f}", f"{run.peak:.1f}"
+    figures = [f"{took:.1f}", theirs, ratio, f"{ours.peak:.1f}", peak]
+    print(case.kind, case.encoding, case.bytes, *figures, sep="\t", flush=True)
 
 
 class Run:
@@ -112,14 +132,21 @@ class Meter:
         return runs
 
 
-def tell_difference(kind, encoding, size, ours, theirs):
+def tell_refusal(case, replies):
+    """Ends the program where a command was refused: what is measured would be the refusals."""
+    for number, reply in enumerate(replies.splitlines(), 1):
+        if b'"fault":' in reply:
+            sys.exit(f"{case}, reply {number}\ngate: {reply[:200]!r}")
+
+
+def tell_difference(case, ours, theirs):
     """Ends the program where the peer's replies aren't the first of gate's."""
     if ours.startswith(theirs):
         return
     for line, (our, their) in enumerate(zip(ours.splitlines(), theirs.splitlines())):
         if our != their:
-            sys.exit(f"{kind} {encoding} {size}, reply {line + 1}\ngate: {our[:200]!r}\npeer: {their[:200]!r}")
-    sys.exit(f"{kind} {encoding} {size}: gate has fewer replies than the peer")
+            sys.exit(f"{case}, reply {line + 1}\ngate: {our[:200]!r}\npeer: {their[:200]!r}")
+    sys.exit(f"{case}: gate has fewer replies than the peer")
 
 
 if __name__ == "__main__":

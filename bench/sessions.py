@@ -18,15 +18,27 @@ SAMPLES = {
 }
 
 
-def document(label, size, seed=1):
-    """Bytes of about this size that decode without errors, cut into lines."""
+# An error of each encoding, behind which a line end is decoded as ever.
+ERRORS = {"utf-16le": b"\x00\xd8", "windows-1251": b"\x98"}
+ANY_ERROR = b"\xff"
+
+# The most bytes of a document, and how many a document here lacks to them, for what its session puts in.
+LIMIT, SPARE = 16_777_216, 4096
+
+# How many bytes of a document a line has room for: a longer document comes by parts.
+PART = 2_097_152
+
+
+def document(label, size, seed=1, error=b""):
+    """Bytes of about this size, cut into lines; they decode without errors, but for one of these at each line's end."""
     text, codec = SAMPLES[label]
+    size = min(size, LIMIT - SPARE)
     words = text.split(" ")
     rng = random.Random(f"{label} {size} {seed}")
     parts, length = [], 0
     while length < size:
-        line = " ".join(rng.choice(words) for _ in range(rng.randrange(3, 15))) + "\r\n"
-        part = line.encode(codec, "ignore")
+        line = " ".join(rng.choice(words) for _ in range(rng.randrange(3, 15)))
+        part = line.encode(codec, "ignore") + error + "\r\n".encode(codec)
         parts.append(part)
         length += len(part)
     # The last line that would pass the size is left out.
@@ -122,69 +134,84 @@ def bulk(label, size, count):
     return session.bytes()
 
 
-def lists(label, size, count, length):
+def lists(of):
     """Lists of so many changes by line and character, each list taken back by the next."""
+
+    def session_of(label, size, count):
+        data, session = opened(label, size)
+        lines = len(line_starts(label, data))
+        rng = random.Random(f"lists of {of} {label} {size}")
+        for _ in range(count):
+            # Each change is planned on the result of the one before: those of different lines don't meet.
+            starts = [{"line": line, "character": 0} for line in rng.sample(range(lines), of)]
+            ends = [{**start, "character": 2} for start in starts]
+            put = [{"range": {"start": start, "end": start}, "text": "ab"} for start in starts]
+            taken = [{"range": {"start": start, "end": end}, "text": ""} for start, end in zip(starts, ends)]
+            session.edit("changes", doc="d", changes=put)
+            session.edit("changes", doc="d", changes=taken)
+        return session.bytes()
+
+    return session_of
+
+
+def line_starts_asked(label, size, count):
+    """The first line of a page that starts anywhere."""
     data, session = opened(label, size)
     lines = len(line_starts(label, data))
-    rng = random.Random(f"lists {label} {size}")
+    rng = random.Random(f"line starts {label} {size}")
     for _ in range(count):
-        places = [{"line": rng.randrange(lines), "character": 0} for _ in range(length)]
-        behind = [{**place, "character": 2} for place in places]
-        # The same line may come twice: what was put in last goes first.
-        session.edit("changes", doc="d", changes=[{"range": {"start": it, "end": it}, "text": "ab"} for it in places])
-        taken = [{"range": {"start": it, "end": end}, "text": ""} for it, end in zip(places, behind)]
-        session.edit("changes", doc="d", changes=taken[::-1])
+        session.add("lines", doc="d", **{"from": rng.randrange(lines), "max": 1})
     return session.bytes()
 
 
-def lists_of_one(label, size, count):
-    """Lists of one change, as editors send them after each key."""
-    return lists(label, size, count, 1)
+def error_starts_asked(label, size, count):
+    """The first error of a page that starts anywhere, in a document with an error on each line."""
+    data, session = opened(label, size, ERRORS.get(label, ANY_ERROR))
+    errors = len(line_starts(label, data))
+    rng = random.Random(f"error starts {label} {size}")
+    for _ in range(count):
+        session.add("errors", doc="d", **{"from": rng.randrange(errors), "max": 1})
+    return session.bytes()
 
 
-def lists_of_ten(label, size, count):
-    """Lists of ten changes."""
-    return lists(label, size, count, 10)
-
-
-def ends(label, size, count):
-    """What may grow with the document: a page of lines, of errors, of bytes and of text at its end, and a splice at its
-    front, taken back by the next."""
+def last_bytes(label, size, count):
+    """The last thousand bytes."""
     data, session = opened(label, size)
-    lines = len(line_starts(label, data))
-    letter = b"a\0" if label == "utf-16le" else b"a"
-    # No text here has more than four bytes a code point.
-    late = len(data) // 4
     for _ in range(count):
-        session.add("lines", doc="d", **{"from": lines - 10, "max": 10})
-        session.add("errors", doc="d", **{"from": 0, "max": 10})
-        session.add("source", doc="d", at=len(data) - 100, len=100)
-        session.add("text", doc="d", **{"from": late, "to": late + 100})
-        session.edit("splice", doc="d", at=0, **{"del": 0}, bytes=b64(letter))
-        session.edit("splice", doc="d", at=0, **{"del": len(letter)}, bytes="")
+        session.add("source", doc="d", at=len(data) - 1000, len=1000)
     return session.bytes()
 
 
-def rests(label, size, count):
-    """Edits that change how the whole rest is decoded: a byte in front, or a byte order mark in front, taken back by the
-    next, each behind a short text."""
+def last_text(label, size, count):
+    """The last thousand code points."""
     data, session = opened(label, size)
-    front = b"a" if label == "utf-16le" else b"\xef\xbb\xbf"
+    end = len(data.decode(SAMPLES[label][1]))
     for _ in range(count):
-        session.edit("splice", doc="d", at=0, **{"del": 0}, bytes=b64(front))
-        session.add("text", doc="d", **{"from": 0, "to": 10})
-        session.edit("splice", doc="d", at=0, **{"del": len(front)}, bytes="")
-        session.add("text", doc="d", **{"from": 0, "to": 10})
+        session.add("text", doc="d", **{"from": end - 1000, "to": end})
     return session.bytes()
 
 
-# The most bytes of a document that one line has room for, and some to spare.
-PART = 2 << 20
+def put_in_front(letter_of):
+    """Splices of the same bytes at the front, each taken back by the next."""
+
+    def session_of(label, size, count):
+        _, session = opened(label, size)
+        put = letter_of(label)
+        for _ in range(count):
+            session.edit("splice", doc="d", at=0, **{"del": 0}, bytes=b64(put))
+            session.edit("splice", doc="d", at=0, **{"del": len(put)}, bytes="")
+        return session.bytes()
+
+    return session_of
 
 
-def opened(label, size):
+def letter(label):
+    return "a".encode("utf-16-le" if label == "utf-16le" else "ascii")
+
+
+def opened(label, size, error=b""):
     """The bytes of a document, and a session that opens it, by parts where it is long, and has its text made."""
-    data = document(label, size)
+    data = document(label, size, error=error)
     session = Session()
     session.add("open", doc="d", label=label, bytes=b64(data[:PART]))
     for at in range(PART, len(data), PART):
@@ -204,16 +231,36 @@ def line_starts(label, data):
     return places
 
 
-# How many rounds each program takes: the peer's are the first of gate's.
+SIZES = {"64K": 65_536, "256K": 262_144, "1M": 1_048_576, "2M": 2_097_152, "16M": LIMIT}
+# The sizes of documents that the peer, which decodes all of one after each edit, is measured with.
+PEER_SIZES = ("64K", "256K", "1M", "2M")
+# Those at which what grows with a document shows.
+GROWING = ("64K", "2M", "16M")
+
+# How many rounds each program takes: the peer's are the first of gate's, and none of what it doesn't know.
 Rounds = namedtuple("Rounds", "gate peer")
+# What its session is, its rounds, and the sizes and encodings that it is measured with.
+Kind = namedtuple("Kind", "session rounds sizes encodings", defaults=(PEER_SIZES, tuple(SAMPLES)))
+
+
+def of_gate(session, rounds, encodings=tuple(SAMPLES)):
+    """A kind that gate alone is measured with."""
+    return Kind(session, Rounds(rounds, 0), GROWING, encodings)
+
+
 KINDS = {
-    "edits": (edits, Rounds(2000, 50)),
-    "changes": (changes, Rounds(2000, 30)),
-    "lists_of_one": (lists_of_one, Rounds(2000, 30)),
-    "lists_of_ten": (lists_of_ten, Rounds(200, 3)),
-    "ends": (ends, Rounds(500, 20)),
-    "rests": (rests, Rounds(10, 10)),
-    "positions": (positions, Rounds(5000, 5000)),
-    "pages": (pages, Rounds(200, 200)),
-    "bulk": (bulk, Rounds(10, 10)),
+    "edits": Kind(edits, Rounds(2000, 50)),
+    "changes": Kind(changes, Rounds(2000, 30), (*PEER_SIZES, "16M")),
+    "positions": Kind(positions, Rounds(5000, 5000)),
+    "pages": Kind(pages, Rounds(200, 200)),
+    "bulk": Kind(bulk, Rounds(10, 10)),
+    "lists-of-1": Kind(lists(1), Rounds(2000, 30), GROWING),
+    "lists-of-10": Kind(lists(10), Rounds(500, 3), GROWING),
+    "line-starts": of_gate(line_starts_asked, 20_000),
+    "error-starts": of_gate(error_starts_asked, 20_000),
+    "last-bytes": of_gate(last_bytes, 10_000),
+    "last-text": of_gate(last_text, 10_000),
+    "front": of_gate(put_in_front(letter), 1000),
+    "one-byte": of_gate(put_in_front(lambda label: b"a"), 20, ("utf-16le",)),
+    "mark": of_gate(put_in_front(lambda label: b"\xef\xbb\xbf"), 20),
 }
