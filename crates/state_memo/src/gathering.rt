@@ -1,5 +1,5 @@
 //! The sink in which a piece's outcome is gathered.
-ghost use Rattle.std.specs.Prelude.{◌≡◌, ◌≤◌, ◌+◌, [], ◌∷◌, ◌++◌, ◌^◌, pos, ◌+ℤ◌, ◌<ℤ◌, fold, IfOk, OnOk, OnErr};
+ghost use Rattle.std.specs.Prelude.{◌≡◌, ◌≤◌, ◌+◌, [], ◌∷◌, ◌++◌, ◌^◌, pos, ◌+ℤ◌, ◌<ℤ◌, length, fold, IfOk, OnOk, OnErr};
 ghost use Rattle.std.specs.Str.{chars};
 ghost use Rattle.decoder_core.specs.Bulk.{run_width};
 ghost use Rattle.decoder_core.specs.Text.{item_code_points};
@@ -80,20 +80,22 @@ impl Gathering {
         Ok(())
     }
 
-    /// Takes a text whose code points are items without gaps from that place on, each as long as
-    /// it is. Its runs are as many as its code points at most.
+    /// Takes a text of so many code points, which are items without gaps from that place on. Its
+    /// runs are as many at most.
     fn take_runs(
         &mut self,
         text: &str,
+        count: usize,
         from: i32,
         stride: Stride,
         output: OutputState,
     ) -> Result<(), OutOfMemory>
-        requires { (from +ℤ pos (run_width stride (chars text.now))) <ℤ pos (2 ^ 31) }
+        requires count { count ≡ length (chars text.now) }
+        requires fits { (from +ℤ pos (run_width stride (chars text.now))) <ℤ pos (2 ^ 31) }
         ensures ok { OnOk result (self.new ≡ with_more self.old (chars text.now) (plain_items_from stride from output (chars text.now))) }
         ensures err { OnErr result (self.new ≡ self.old) }
     {
-        self.items.reserve(count_scalars(text))?;
+        self.items.reserve(count)?;
         self.text.put_text(text)?;
         self.items.put_plain(text, from, stride, output);
         Ok(())
@@ -148,14 +150,15 @@ impl<S: Outputs> Sink<S> for Gathering {
 
     fn plain(&mut self, text: &str, end: i64, stride: Stride, after: S) -> Result<(), OutOfMemory> {
         let output = after.output_state();
-        if let Some(run) = even_run(text, end, stride, output) {
+        let count = count_scalars(text);
+        if let Some(run) = even_run(text, count, end, stride, output) {
             self.take_run(text, run)?;
             return Ok(());
         }
-        let Some(from) = first_place(text, end, stride) else {
+        let Some(from) = first_place(text, count, end, stride) else {
             return Err(AllocError);
         };
-        self.take_runs(text, from, stride, output)?;
+        self.take_runs(text, count, from, stride, output)?;
         Ok(())
     }
 }

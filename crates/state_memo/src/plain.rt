@@ -13,19 +13,26 @@ use crate::kind::ItemKind;
 use crate::run::Run;
 use decoder_core::Stride;
 use iso2022jp::OutputState;
-use lane_utf::{count_scalars, count_utf16};
+use lane_utf::count_utf16;
 
 /// How many bytes are looked at together for ASCII.
 const BLOCK: usize = 128;
 
-/// The run of the items that are the code points of a text, where each is as long as the others; the
-/// last one ends there.
-pub(crate) fn even_run(text: &str, end: i64, stride: Stride, output: OutputState) -> Option<Run>
+/// The run of the items that are the code points of a text, which are so many, where each is as long
+/// as the others; the last one ends there.
+pub(crate) fn even_run(
+    text: &str,
+    count: usize,
+    end: i64,
+    stride: Stride,
+    output: OutputState,
+) -> Option<Run>
+    requires { count ≡ length (chars text.now) }
     ensures { IfSome result (λ run. items_of_run run ≡ plain_items stride end output (chars text.now)) }
 {
-    let step = even_width(text, stride)?;
+    let step = even_width(text, count, stride)?;
     let last = i32::try_from(end).ok()?;
-    let more = u16::try_from(count_scalars(text).checked_sub(1)?).ok()?;
+    let more = u16::try_from(count.checked_sub(1)?).ok()?;
     Some(Run {
         last,
         more,
@@ -35,10 +42,10 @@ pub(crate) fn even_run(text: &str, end: i64, stride: Stride, output: OutputState
 }
 
 /// The length of each item, where all are seen at once to be as short as can be.
-fn even_width(text: &str, stride: Stride) -> Option<u8>
+fn even_width(text: &str, count: usize, stride: Stride) -> Option<u8>
+    requires { count ≡ length (chars text.now) }
     ensures { IfSome result (λ width. IsEven stride width (chars text.now)) }
 {
-    let count = count_scalars(text);
     match stride {
         Stride::Utf8 if text.len() == count => Some(1),
         Stride::Utf16 if count_utf16(text) == count => Some(2),
@@ -48,18 +55,20 @@ fn even_width(text: &str, stride: Stride) -> Option<u8>
     }
 }
 
-/// Where the first of the items begins that are the code points of a text.
-pub(crate) fn first_place(text: &str, end: i64, stride: Stride) -> Option<i32>
+/// Where the first of the items begins that are the code points of a text, which are so many.
+pub(crate) fn first_place(text: &str, count: usize, end: i64, stride: Stride) -> Option<i32>
+    requires { count ≡ length (chars text.now) }
     ensures from { IfSome result (λ from. from ≡ end -ℤ pos (run_width stride (chars text.now))) }
     ensures fits { IfSome result (λ from. (from +ℤ pos (run_width stride (chars text.now))) <ℤ pos (2 ^ 31)) }
 {
     let last = i32::try_from(end).ok()?;
-    let width = i32::try_from(run_width(text, stride)?).ok()?;
+    let width = i32::try_from(run_width(text, count, stride)?).ok()?;
     last.checked_sub(width)
 }
 
 /// The length in bytes of the items that are the code points of a text.
-fn run_width(text: &str, stride: Stride) -> Option<usize>
+fn run_width(text: &str, count: usize, stride: Stride) -> Option<usize>
+    requires { count ≡ length (chars text.now) }
     ensures { IfSome result (λ width. width ≡ run_width stride (chars text.now)) }
 {
     match stride {
@@ -68,10 +77,8 @@ fn run_width(text: &str, stride: Stride) -> Option<usize>
             let width = count_utf16(text).checked_mul(2)?;
             Some(width)
         }
-        Stride::Pairs => count_scalars(text)
-            .checked_mul(2)?
-            .checked_sub(count_ascii(text)),
-        Stride::Bytes => Some(count_scalars(text)),
+        Stride::Pairs => count.checked_mul(2)?.checked_sub(count_ascii(text)),
+        Stride::Bytes => Some(count),
     }
 }
 

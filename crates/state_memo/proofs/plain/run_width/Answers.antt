@@ -10,4 +10,4 @@ pub returns-in_ok-width-in-Utf16 : goal.returns-in_ok-width-in-Utf16
 returns-in_ok-width-in-Utf16 c = utf16-width c.args.stride (chars c.args.text.now) c.count_utf16.result c.in_ok-width-in-Utf16.width c.in-Utf16.is c.count_utf16.ensures (c.in_ok-width-in-Utf16.ensures.1)
 
 pub returns-in-Bytes : goal.returns-in-Bytes
-returns-in-Bytes c = bytes-width c.args.stride (chars c.args.text.now) c.count_scalars-in-Bytes.result c.in-Bytes.is c.count_scalars-in-Bytes.ensures
+returns-in-Bytes c = bytes-width c.args.stride (chars c.args.text.now) c.args.count c.in-Bytes.is c.requires
