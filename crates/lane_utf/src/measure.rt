@@ -22,14 +22,13 @@ pub(crate) trait Measure {
     ghost small: { (b : ℕ) → weight b ≤ 2 };
 }
 
-/// The lanes that begin a code point: all but trailing bytes, of which the highest bits are 10.
+/// The lanes that begin a code point.
 #[inline(always)]
 fn code_points<const N: usize>(lanes: Simd<u8, N>) -> u64
     requires { N ≤ 64 }
     ensures { result ≡ mask_l (map begins_code_point lanes.entry) }
 {
-    let highest = lanes & Simd::splat(0xC0);
-    highest.simd_ne(Simd::splat(0x80)).to_bitmask()
+    (lanes.simd_lt(Simd::splat(0x80)) | lanes.simd_ge(Simd::splat(0xC0))).to_bitmask()
 }
 
 /// The lanes that begin a code point of four bytes.
