@@ -25,7 +25,7 @@ impl Fields {
     /// Fields that look random, of a command with this id.
     fn drawn(rng: &mut SmallRng, id: u64) -> Fields {
         let doc = one_of(rng, &["a", "b", "c"]);
-        let bytes = one_of(rng, &["", "YQ==", "YmM=", "4oI=", "YQ"]);
+        let bytes = one_of(rng, &["", "YQ==", "YmM=", "4oI=", "77u/", "YQ"]);
         let rev = up_to(rng, 3);
         let at = up_to(rng, 2);
         let del = up_to(rng, 1);
@@ -39,10 +39,11 @@ impl Fields {
         }
     }
 
-    fn open(self, alloc: Global, label: &str) -> Result<String, AllocError> {
+    /// With more behind its fields.
+    fn open(self, alloc: Global, label: &str, more: &str) -> Result<String, AllocError> {
         let Fields { id, doc, bytes, .. } = self;
         format!(in alloc;
-            "{{\"id\":{id},\"op\":\"open\",\"doc\":\"{doc}\",\"label\":\"{label}\",\"bytes\":\"{bytes}\"}}\n"
+            "{{\"id\":{id},\"op\":\"open\",\"doc\":\"{doc}\",\"label\":\"{label}\",\"bytes\":\"{bytes}\"{more}}}\n"
         )
     }
 
@@ -103,6 +104,14 @@ impl Fields {
     }
 }
 
+/// What an `open` may say of a byte order mark: nothing, one of the two, or neither.
+const BOMS: [&'static str; 4] = [
+    "",
+    ",\"bom\":\"sniff\"",
+    ",\"bom\":\"keep\"",
+    ",\"bom\":null",
+];
+
 /// A line with its line feed that is no command.
 fn no_command(alloc: Global, rng: &mut SmallRng) -> Result<String, AllocError> {
     let line = one_of(rng, &["\n", "[]\r\n", "{\"id\":1}\n", "{\"id\":\n"]);
@@ -113,13 +122,19 @@ fn no_command(alloc: Global, rng: &mut SmallRng) -> Result<String, AllocError> {
 pub fn line(alloc: Global, rng: &mut SmallRng, id: u64) -> Result<String, AllocError> {
     let fields = Fields::drawn(rng, id);
     match up_to(rng, 11) {
-        0 | 1 => fields.open(alloc, one_of(rng, &["utf-8", "utf-16le", "big5", "none"])),
+        0 | 1 => {
+            let label = one_of(rng, &["utf-8", "utf-16le", "big5", "none"]);
+            fields.open(alloc, label, one_of(rng, &BOMS))
+        }
         2 => fields.close(alloc),
         3 => fields.errors(alloc),
         4 => fields.text(alloc),
         5 => fields.source(alloc),
         6 => no_command(alloc, rng),
-        7 | 8 => fields.change(alloc, one_of(rng, &["", "x", "\\u00E9", "\\u8A9E"])),
+        7 | 8 => fields.change(
+            alloc,
+            one_of(rng, &["", "x", "\\uFEFFx", "\\u00E9", "\\u8A9E"]),
+        ),
         _ => fields.splice(alloc),
     }
 }
