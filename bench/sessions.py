@@ -249,7 +249,7 @@ def of_gate(session, rounds, encodings=tuple(SAMPLES)):
 
 
 KINDS = {
-    "edits": Kind(edits, Rounds(2000, 50)),
+    "edits": Kind(edits, Rounds(2000, 50), (*PEER_SIZES, "16M")),
     "changes": Kind(changes, Rounds(2000, 30), (*PEER_SIZES, "16M")),
     "positions": Kind(positions, Rounds(5000, 5000)),
     "pages": Kind(pages, Rounds(200, 200)),
