@@ -107,8 +107,8 @@ office documents = record { indexes = no_files; labels = name_labels; documents 
 
 opens : answer_of (office nothing) (a (Opens (codes "utf-8") (codes "4oJB") Sniff)) ≡ record { reply = Edited 0 Utf8 0; documents = one }
 opens =
-    ap (λ b. outcome nothing name (with_bytes b (λ x. opened no_files (has_place nothing) (finite.get nothing name) x (Some Utf8)))) opened_bytes
-    ∙ ap (λ found. outcome nothing name (opened no_files (has_place nothing) found truncated.bytes (Some Utf8))) no_entry
+    ap (λ b. outcome nothing name (with_bytes b (λ x. opened no_files (has_place nothing) (finite.get nothing name) x (Some Utf8) Sniff))) opened_bytes
+    ∙ ap (λ found. outcome nothing name (opened no_files (has_place nothing) found truncated.bytes (Some Utf8) Sniff)) no_entry
     ∙ ap (λ r. outcome nothing name (put (edit_reply no_files) r)) (admitting _ (finite.len-empty (slice_cmp nat_cmp) Entry))
     ∙ ap (λ r. record { reply = r; documents = one }) truncated_edit
 
