@@ -14,9 +14,6 @@ use std::alloc::Global;
 /// How many small documents each encoding has.
 const SMALL: usize = 40;
 
-/// Of so many documents one keeps its byte order mark.
-const KEPT: usize = 4;
-
 /// The most bytes of a small document.
 const SMALL_LENGTH: usize = 20;
 
@@ -56,16 +53,6 @@ struct SmallDocument<'a> {
     indexes: &'a Indexes,
     setting: Setting,
     bytes: &'a [u8],
-}
-
-/// The setting of the document of this number.
-fn setting_of(sample: &Sample, number: usize) -> Setting {
-    let bom = if number % KEPT == 0 {
-        Bom::Keep
-    } else {
-        Bom::Sniff
-    };
-    Setting::new(sample.given, bom)
 }
 
 impl<'a> SmallDocument<'a> {
@@ -125,7 +112,7 @@ fn small_documents(
         let bytes = bytes_of(alloc, rng, sample, len)?;
         let document = SmallDocument {
             indexes,
-            setting: setting_of(sample, number),
+            setting: sample.setting(number),
             bytes: &bytes,
         };
         for unit in &UNITS {
@@ -147,7 +134,7 @@ fn one_document(
     let len = length(rng);
     let len = len.saturating_mul(up_to(rng, 2).saturating_add(1));
     let bytes = bytes_of(alloc, rng, sample, len)?;
-    let setting = setting_of(sample, number);
+    let setting = sample.setting(number);
     let mut trial = MirroredDocument::open(alloc, indexes, setting, bytes)?;
     change_often(alloc, rng, &mut trial, tally)
 }

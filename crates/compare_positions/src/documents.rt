@@ -14,9 +14,6 @@ use std::alloc::Global;
 /// How many documents each encoding has.
 const DOCUMENTS: usize = 40;
 
-/// Of so many documents one keeps its byte order mark.
-const KEPT: usize = 4;
-
 /// The most bytes that a splice takes out.
 const TAKEN_OUT: usize = 3000;
 
@@ -47,17 +44,17 @@ fn one_document(
     indexes: &Indexes,
     rng: &mut SmallRng,
     sample: &Sample,
-    bom: Bom,
+    setting: Setting,
     tally: &mut CallTally,
 ) -> Option<()> {
     let len = length(rng);
     let mut bytes = bytes_of(alloc, rng, sample, len)?;
-    let mut doc = Doc::open(alloc, indexes, sample.given, bom, &bytes, &mut meter()).ok()?;
+    let Setting { given, bom } = setting;
+    let mut doc = Doc::open(alloc, indexes, given, bom, &bytes, &mut meter()).ok()?;
     for _ in 0..rng.random_range(0..4usize) {
         let splice = drawn(alloc, rng, sample, bytes.len())?;
         bytes = make(alloc, &mut doc, &bytes, &splice)?;
     }
-    let setting = Setting::new(sample.given, bom);
     compare(alloc, rng, &doc, setting, &bytes, tally)
 }
 
@@ -70,12 +67,8 @@ pub fn random_documents(
 ) -> Option<CallTally> {
     let mut tally = CallTally::new();
     for number in 0..DOCUMENTS {
-        let bom = if number % KEPT == 0 {
-            Bom::Keep
-        } else {
-            Bom::Sniff
-        };
-        one_document(alloc, indexes, rng, sample, bom, &mut tally)?;
+        let setting = sample.setting(number);
+        one_document(alloc, indexes, rng, sample, setting, &mut tally)?;
     }
     Some(tally)
 }

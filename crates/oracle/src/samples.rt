@@ -1,6 +1,9 @@
 //! What the documents are made of.
 
-use enc_names::Encoding;
+use enc_names::{Bom, Encoding, Setting};
+
+/// Of so many documents one keeps its byte order mark.
+const KEPT: usize = 4;
 
 /// Bytes that mean something in one encoding: characters, errors, shifts and line ends.
 pub struct Sample {
@@ -8,6 +11,18 @@ pub struct Sample {
     pub given: Encoding,
     /// The bytes, the last of them a line end.
     pub fragments: &'static [&'static [u8]],
+}
+
+impl Sample {
+    /// The setting of the document of this number.
+    pub fn setting(&self, number: usize) -> Setting {
+        let bom = if number % KEPT == 0 {
+            Bom::Keep
+        } else {
+            Bom::Sniff
+        };
+        Setting::new(self.given, bom)
+    }
 }
 
 /// Bytes that documents in every encoding have among their own.
