@@ -16,7 +16,7 @@ abbrev pub line : List ℕ → List ℕ → List ℕ
 line pointer code_point = pointer ++ 0x09 ∷ code_point ++ 0x0A ∷ []
 
 -- files and their faults
-pub record Faults : Type 0 where
+pub record FileFaults : Type 0 where
   pub twice : pairs_parsed windows_1252 (line (codes "0") (codes "0x20AC") ++ line (codes "0") (codes "0x81")) ≡ Err (record { line = 2; cause = DuplicatePointer })
   pub large : pairs_parsed windows_1252 (line (codes "128") (codes "0x81")) ≡ Err (record { line = 1; cause = PointerTooLarge })
   pub surrogate : pairs_parsed windows_1252 (line (codes "0") (codes "0xD800")) ≡ Err (record { line = 1; cause = BadCodePoint })
@@ -91,7 +91,7 @@ abbrev pub both_jis : Files
 both_jis = with_index jis0208 (of_kind Jis0212 108 0x02D8)
 
 -- which files are held, and which encodings have all of theirs
-pub record Held : Type 0 where
+pub record FilesHeld : Type 0 where
   pub none_needed : has_files no_files Utf8 ≡ true
   pub by_rule : has_files no_files XUserDefined ≡ true
   pub none : has_files no_files ShiftJis ≡ false

@@ -2,11 +2,11 @@
 //! the definitions. What the program answers over such files is tried on it as it was built, by
 //! tests/test_program.py and tools/hostile.
 ghost use Rattle.base_tests.specs.ExceptionFiles.{ExceptionFaults, ParsedExceptions};
-ghost use Rattle.base_tests.specs.IndexFiles.{Faults, Held, LookUps, ParsedFiles};
+ghost use Rattle.base_tests.specs.IndexFiles.{FileFaults, FilesHeld, LookUps, ParsedFiles};
 
 /// The worked examples hold, by computing.
 fn examples()
-    ensures faults { Faults }
+    ensures faults { FileFaults }
     ensures parsed_files { ParsedFiles }
     ensures look_ups { LookUps }
     ensures exception_faults { ExceptionFaults }
@@ -16,7 +16,7 @@ fn examples()
 /// Which files are held, and which encodings have all of theirs.
 #[tactic(auto, unfolding(index_loader::specs::Files::has_files, index_loader::specs::Kinds::slot_of))]
 fn files_held()
-    ensures { Held }
+    ensures { FilesHeld }
 {}
 
 #[test]

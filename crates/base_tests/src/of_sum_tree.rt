@@ -1,6 +1,6 @@
 //! The tree of sums against a plain vector, by items of a weight.
 
-use oracle::tree::{Axis, Item, Items, Load, built, light, put, swap, take};
+use oracle::tree::{Items, Load, LoadAxis, WeightedItem, built, light, put, swap, take};
 use rand::rngs::SmallRng;
 use rand::{RngExt, SeedableRng};
 use std::alloc::Global;
@@ -9,7 +9,7 @@ use std::test::Fail;
 use sum_tree::{SumTree, visits};
 
 /// The sum with one more item.
-fn with(sum: Load, item: &Item) -> Load {
+fn with(sum: Load, item: &WeightedItem) -> Load {
     Load {
         count: sum.count.saturating_add(1),
         weight: sum.weight.saturating_add(item.weight),
@@ -17,7 +17,7 @@ fn with(sum: Load, item: &Item) -> Load {
 }
 
 /// The sum of these items.
-fn load_of(items: &[Item]) -> Load {
+fn load_of(items: &[WeightedItem]) -> Load {
     let mut load = Load {
         count: 0,
         weight: 0,
@@ -30,7 +30,7 @@ fn load_of(items: &[Item]) -> Load {
 
 /// The first item behind which the weight is above the target, its place and the sum in front of it;
 /// the end where there is none.
-fn plain_find(items: &[Item], target: u64) -> (usize, Load, Option<Item>) {
+fn plain_find(items: &[WeightedItem], target: u64) -> (usize, Load, Option<WeightedItem>) {
     let mut before = load_of(&[]);
     for (i, item) in items.iter().enumerate() {
         let behind = with(before, item);
@@ -43,20 +43,26 @@ fn plain_find(items: &[Item], target: u64) -> (usize, Load, Option<Item>) {
 }
 
 /// Whether this item has this place, and this sum in front of it.
-fn is_at(items: &Items, i: usize, item: &Item, before: Load) -> bool {
+fn is_at(items: &Items, i: usize, item: &WeightedItem, before: Load) -> bool {
     i < items.len() && items.get(i) == item && items.prefix(i, &mut visits()) == before
 }
 
 /// Whether a search by weight finds what it should.
-fn finds(items: &Items, target: u64, (i, before, item): (usize, Load, Option<Item>)) -> bool {
-    let (sum, element) = items.finder().find(&Axis::Weight, target, &mut visits());
+fn finds(
+    items: &Items,
+    target: u64,
+    (i, before, item): (usize, Load, Option<WeightedItem>),
+) -> bool {
+    let (sum, element) = items
+        .finder()
+        .find(&LoadAxis::Weight, target, &mut visits());
     sum == before
         && element.copied() == item
-        && items.seek(&Axis::Weight, target, &mut visits()) == (i, before)
+        && items.seek(&LoadAxis::Weight, target, &mut visits()) == (i, before)
 }
 
 /// The tree has these items, their sums and their places.
-fn same(rt: &impl Abort, items: &Items, wanted: &[Item], target: u64) {
+fn same(rt: &impl Abort, items: &Items, wanted: &[WeightedItem], target: u64) {
     assert!(rt; items.len() == wanted.len() && items.total() == load_of(wanted));
     let mut before = load_of(&[]);
     for (i, item) in wanted.iter().enumerate() {
@@ -84,7 +90,7 @@ fn edit_both(
     rt: &impl Abort,
     rng: &mut SmallRng,
     items: &mut Items,
-    wanted: &mut Vec<Item>,
+    wanted: &mut Vec<WeightedItem>,
     most: u32,
 ) -> Result<(), Fail> {
     let item = light(rng.random_range(0..65536usize));
@@ -110,7 +116,7 @@ fn edit_both(
 fn edits_against_a_vector(rt: HostRuntime) -> Result<(), Fail> {
     let mut rng = SmallRng::seed_from_u64(3);
     let mut items: Items = SumTree::new(rt.alloc());
-    let mut wanted: Vec<Item> = Vec::new(rt.alloc());
+    let mut wanted: Vec<WeightedItem> = Vec::new(rt.alloc());
     items.reserve(4000)?;
     for round in 0..6000 {
         let most = if round < 3000 { 3 } else { 5 };
@@ -159,7 +165,7 @@ fn inserts_without_memory(rt: HostRuntime) -> Result<(), Fail> {
 fn built_of_many(rt: HostRuntime) -> Result<(), Fail> {
     for n in [0, 1, 2, 3, 4, 5, 6, 7, 8, 100, 4097] {
         let mut rng = SmallRng::seed_from_u64(4);
-        let mut items: Vec<Item> = Vec::new(rt.alloc());
+        let mut items: Vec<WeightedItem> = Vec::new(rt.alloc());
         for _ in 0..n {
             items.push(light(rng.random_range(0..65536usize)))?;
         }

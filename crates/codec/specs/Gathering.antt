@@ -9,13 +9,13 @@ use Rattle.decoder_core.specs.Shown.{Shown}
 use Rattle.decoder_core.specs.Text.{item_code_points, error_place}
 
 -- the UTF-8 bytes written so far, and how many more can be written before memory is asked for
-pub record Written : Type 0 where
+pub record WrittenText : Type 0 where
   pub bytes : List ℕ
   pub room : ℕ
 
 -- the text so far in UTF-8, the places of the errors so far among all the bytes, the number of bytes before those that are decoded, and the
 -- end of the last item, counted from the first that is decoded
-pub record Gathered : Type 0 where
+pub record GatheredText : Type 0 where
   pub text : List ℕ
   pub errors : List Place
   pub base : ℕ
@@ -26,7 +26,7 @@ abbrev pub index_of : ℕ → ℤ → ℕ
 index_of base end = saturate_unsigned w64 (pos base +ℤ end)
 
 -- with one more item
-abbrev pub with_item : Gathered → Item → ℤ → Gathered
+abbrev pub with_item : GatheredText → Item → ℤ → GatheredText
 with_item g item end = record {
   text = g.text ++ encode_utf8_all (item_code_points item);
   errors = g.errors ++ error_place item (record { from = index_of g.base g.end; to = index_of g.base end });
@@ -34,9 +34,9 @@ with_item g item end = record {
   end = end;
 }
 
-abbrev pub with_shown : {S : Type 0} → Gathered → Shown S → Gathered
+abbrev pub with_shown : {S : Type 0} → GatheredText → Shown S → GatheredText
 with_shown g shown = with_item g shown.item shown.end
 
 -- with one more item of a run, of whose bytes `read` were read
-abbrev pub with_ended : ℕ → Gathered → Ended → Gathered
+abbrev pub with_ended : ℕ → GatheredText → Ended → GatheredText
 with_ended read g e = with_item g e.item (pos read -ℤ pos e.back)

@@ -5,7 +5,7 @@ ghost use Rattle.decoder_core.specs.Queue.{run};
 ghost use Rattle.decoder_core.specs.Placed.{places};
 ghost use Rattle.codec.specs.Decoding.{IsDecoding};
 
-use crate::gathering::Gathering;
+use crate::gathering::TextGathering;
 use decoder_core::{Decoder, Meter, OutOfMemory, law_one_run, run_piece};
 use enc_names::Place;
 use std::alloc::Global;
@@ -32,7 +32,7 @@ pub fn decode_by<D: Decoder>(
     ensures ok { IfOk result (IsDecoding (places (length bytes.now) skip (run (D.table decoder.now) (D.initial decoder.now) (drop skip bytes.now)))) }
     ensures meter { Counted meter.old meter.new (length bytes.now - skip) result }
 {
-    let mut gathering = Gathering::new(alloc, skip as u64);
+    let mut gathering = TextGathering::new(alloc, skip as u64);
     let rest = &bytes[skip..];
     let state = run_piece(decoder, decoder.start(), rest, &mut gathering, meter)?;
     let last = decoder.finish(state);

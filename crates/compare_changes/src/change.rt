@@ -1,7 +1,7 @@
 //! Changes that look random.
 
 use crate::numbers::{one_number, up_to};
-use oracle::Plain;
+use oracle::WalkedText;
 use position_map::{Position, Range, Unit};
 use rand::rngs::SmallRng;
 use rand::seq::IndexedRandom;
@@ -128,7 +128,7 @@ fn shifted(rng: &mut SmallRng, position: Position) -> Position {
 }
 
 /// The position of an offset, at times shifted.
-fn position(rng: &mut SmallRng, plain: &Plain, offset: usize, unit: Unit) -> Option<Position> {
+fn position(rng: &mut SmallRng, plain: &WalkedText, offset: usize, unit: Unit) -> Option<Position> {
     let position = plain.to_position(offset as u64, unit).ok()?;
     Some(shifted(rng, position))
 }
@@ -143,7 +143,7 @@ fn offsets(rng: &mut SmallRng, count: usize) -> Option<(usize, usize)> {
 }
 
 /// A range, mostly of few code points, and now and then one whose start is behind its end.
-fn range(rng: &mut SmallRng, plain: &Plain, unit: Unit) -> Option<Range> {
+fn range(rng: &mut SmallRng, plain: &WalkedText, unit: Unit) -> Option<Range> {
     let (from, to) = offsets(rng, plain.text.chars.len())?;
     let start = position(rng, plain, from, unit)?;
     let end = position(rng, plain, to, unit)?;
@@ -158,7 +158,7 @@ fn range(rng: &mut SmallRng, plain: &Plain, unit: Unit) -> Option<Range> {
 
 impl RangeChange {
     /// A change of this text; `None` where memory is refused.
-    pub fn drawn(alloc: Global, rng: &mut SmallRng, plain: &Plain) -> Option<RangeChange> {
+    pub fn drawn(alloc: Global, rng: &mut SmallRng, plain: &WalkedText) -> Option<RangeChange> {
         let unit = *UNITS.as_slice().choose(rng)?;
         let range = if up_to(rng, 63) == 0 {
             None

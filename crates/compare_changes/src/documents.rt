@@ -6,7 +6,7 @@ use crate::mirrored_document::MirroredDocument;
 use crate::numbers::up_to;
 use enc_names::{Bom, Setting};
 use index_loader::Indexes;
-use oracle::{Plain, Sample, bytes_of, length};
+use oracle::{Sample, WalkedText, bytes_of, length};
 use position_map::{Position, Range, Unit};
 use rand::rngs::SmallRng;
 use std::alloc::Global;
@@ -31,7 +31,7 @@ pub const SPARE: usize = 3;
 
 /// The position of each code point and of the end, and of each also one a unit further on; `None`
 /// where memory is refused.
-fn borders(alloc: Global, plain: &Plain, unit: Unit) -> Option<Vec<Position>> {
+fn borders(alloc: Global, plain: &WalkedText, unit: Unit) -> Option<Vec<Position>> {
     let mut borders = Vec::new(alloc);
     for offset in 0..=plain.text.chars.len() {
         let position = plain.to_position(offset as u64, unit).ok()?;

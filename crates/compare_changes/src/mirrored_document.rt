@@ -7,7 +7,7 @@ use crate::refusal::ChangeRefusal;
 use decoder_core::{Meter, meter};
 use enc_names::Setting;
 use index_loader::Indexes;
-use oracle::Plain;
+use oracle::WalkedText;
 use piece_rope::{Doc, DocFault};
 use position_map::{ChangeFault, Plan, plan_change};
 use std::alloc::Global;
@@ -89,7 +89,7 @@ impl<'i> MirroredDocument<'i> {
 
 impl MirroredDocument<'_> {
     /// The text, with everything about it.
-    pub fn plain(&self) -> &Plain {
+    pub fn plain(&self) -> &WalkedText {
         &self.source.plain
     }
 

@@ -7,7 +7,7 @@ use crate::resync::until_resync;
 use codec::AnyDecoder;
 use enc_names::Setting;
 use index_loader::Indexes;
-use oracle::{Plain, Text};
+use oracle::{PlacedText, WalkedText};
 use piece_rope::{DOCUMENT_LIMIT, Doc, DocFault, LONGEST_PIECE};
 use position_map::Plan;
 use std::alloc::Global;
@@ -19,7 +19,7 @@ pub struct PlainDocument<'i> {
     setting: Setting,
     bytes: Vec<u8>,
     /// Everything about the text.
-    pub plain: Plain,
+    pub plain: WalkedText,
 }
 
 /// What a change leads to.
@@ -30,7 +30,7 @@ pub struct After {
     /// The bytes.
     pub bytes: Vec<u8>,
     /// Their text.
-    pub text: Text,
+    pub text: PlacedText,
     /// The most bytes that may be decoded for it.
     pub decoded: u64,
 }
@@ -49,8 +49,8 @@ impl<'i> PlainDocument<'i> {
         setting: Setting,
         bytes: Vec<u8>,
     ) -> Option<PlainDocument<'i>> {
-        let text = Text::of(alloc, indexes, setting, &bytes)?;
-        let plain = Plain::of(alloc, text, bytes.len())?;
+        let text = PlacedText::of(alloc, indexes, setting, &bytes)?;
+        let plain = WalkedText::of(alloc, text, bytes.len())?;
         Some(PlainDocument {
             indexes,
             setting,
@@ -88,7 +88,7 @@ impl PlainDocument<'_> {
         if bytes.len() > DOCUMENT_LIMIT {
             return Err(ChangeRefusal::Unmade(DocFault::TooLarge));
         }
-        let text = Text::of(alloc, self.indexes, self.setting, &bytes).ok_or(
+        let text = PlacedText::of(alloc, self.indexes, self.setting, &bytes).ok_or(
             DocFault::OutOfMemory,
         )?;
         let chars = self
@@ -109,8 +109,8 @@ impl PlainDocument<'_> {
     }
 
     /// Takes what a change led to; `None` where memory is refused.
-    pub fn take(&mut self, alloc: Global, bytes: Vec<u8>, text: Text) -> Option<()> {
-        self.plain = Plain::of(alloc, text, bytes.len())?;
+    pub fn take(&mut self, alloc: Global, bytes: Vec<u8>, text: PlacedText) -> Option<()> {
+        self.plain = WalkedText::of(alloc, text, bytes.len())?;
         self.bytes = bytes;
         Some(())
     }

@@ -5,12 +5,12 @@ use crate::escapes::{Escape, first_escape, last_escape, put};
 use enc_names::Encoding;
 use encoders::{EncodeFault, EncodeMode, encode};
 use index_loader::Indexes;
-use oracle::{Plain, Text};
+use oracle::{PlacedText, WalkedText};
 use position_map::{ChangeFault, Plan, PlannedBytes, Position, Range, Unit};
 use std::alloc::Global;
 
 /// The offset of a position.
-fn offset(plain: &Plain, position: Position, unit: Unit) -> Result<usize, ChangeFault> {
+fn offset(plain: &WalkedText, position: Position, unit: Unit) -> Result<usize, ChangeFault> {
     match plain.to_offset(position, unit) {
         Ok(offset) => Ok(offset as usize),
         Err(_) => Err(ChangeFault::SplitsCharacter),
@@ -18,7 +18,7 @@ fn offset(plain: &Plain, position: Position, unit: Unit) -> Result<usize, Change
 }
 
 /// The code points between which a change replaces the text.
-fn ends(plain: &Plain, change: &RangeChange) -> Result<(usize, usize), ChangeFault> {
+fn ends(plain: &WalkedText, change: &RangeChange) -> Result<(usize, usize), ChangeFault> {
     let Some(Range { start, end }) = change.range else {
         return Ok((0, plain.text.chars.len()));
     };
@@ -31,7 +31,7 @@ fn ends(plain: &Plain, change: &RangeChange) -> Result<(usize, usize), ChangeFau
 
 /// The byte in front of code point `n`: the end of the item of the one before it, and at the start
 /// the end of the byte order mark; refused between two code points of one item.
-fn cut(text: &Text, n: usize) -> Result<usize, ChangeFault> {
+fn cut(text: &PlacedText, n: usize) -> Result<usize, ChangeFault> {
     let before = n.checked_sub(1).and_then(|last| text.places.get(last));
     let Some(place) = before else {
         return Ok(text.bom_len as usize);
@@ -85,7 +85,7 @@ pub fn planned(
     alloc: Global,
     indexes: &Indexes,
     bytes: &[u8],
-    plain: &Plain,
+    plain: &WalkedText,
     change: &RangeChange,
 ) -> Result<Plan, ChangeFault> {
     let (i, j) = ends(plain, change)?;

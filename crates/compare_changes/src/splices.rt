@@ -3,7 +3,7 @@
 use decoder_core::meter;
 use enc_names::{Encoding, Setting};
 use index_loader::Indexes;
-use oracle::{Splice, Tally, agrees, splice_of, spliced};
+use oracle::{DrawnSplice, Tally, agrees, splice_of, spliced};
 use piece_rope::Doc;
 use rand::SeedableRng;
 use rand::rngs::SmallRng;
@@ -36,7 +36,7 @@ fn agrees_behind(
     doc: &mut Doc<'_>,
     setting: Setting,
     bytes: &[u8],
-    splice: &Splice,
+    splice: &DrawnSplice,
 ) -> Option<bool> {
     let (at, del) = (splice.at as u64, splice.del as u64);
     doc.splice(at, del, &splice.ins, &mut meter()).ok()?;

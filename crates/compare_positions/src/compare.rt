@@ -3,7 +3,7 @@
 use crate::spots::Spots;
 use crate::tally::CallTally;
 use enc_names::Setting;
-use oracle::{Plain, Text};
+use oracle::{PlacedText, WalkedText};
 use piece_rope::Doc;
 use position_map::{
     PosFault, Position, Unit, byte_to_scalar, convert, line, line_count, scalar_to_place,
@@ -20,7 +20,7 @@ const UNITS: [Unit; 3] = [Unit::Utf8, Unit::Utf16, Unit::Utf32];
 #[derive(Drop)]
 struct Comparison<'a> {
     doc: &'a Doc<'a>,
-    plain: &'a Plain,
+    plain: &'a WalkedText,
     tally: &'a mut CallTally,
 }
 
@@ -131,8 +131,8 @@ pub fn compare(
     bytes: &[u8],
     tally: &mut CallTally,
 ) -> Option<()> {
-    let text = Text::of(alloc, doc.indexes(), setting, bytes)?;
-    let plain = Plain::of(alloc, text, bytes.len())?;
+    let text = PlacedText::of(alloc, doc.indexes(), setting, bytes)?;
+    let plain = WalkedText::of(alloc, text, bytes.len())?;
     let spots = Spots::of(alloc, rng, doc)?;
     tally.pass(spots.borders, spots.cut);
     let mut comparison = Comparison {

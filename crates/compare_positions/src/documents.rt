@@ -5,7 +5,7 @@ use crate::tally::CallTally;
 use decoder_core::meter;
 use enc_names::{Bom, Setting};
 use index_loader::Indexes;
-use oracle::{Sample, Splice, bytes_of, length, spliced};
+use oracle::{DrawnSplice, Sample, bytes_of, length, spliced};
 use piece_rope::Doc;
 use rand::RngExt;
 use rand::rngs::SmallRng;
@@ -23,16 +23,16 @@ fn up_to(rng: &mut SmallRng, most: usize) -> usize {
 }
 
 /// A splice of a document of so many bytes; `None` where memory is refused.
-fn drawn(alloc: Global, rng: &mut SmallRng, sample: &Sample, count: usize) -> Option<Splice> {
+fn drawn(alloc: Global, rng: &mut SmallRng, sample: &Sample, count: usize) -> Option<DrawnSplice> {
     let len = length(rng);
     let ins = bytes_of(alloc, rng, sample, len / 4)?;
     let at = up_to(rng, count);
     let del = up_to(rng, count.saturating_sub(at).min(TAKEN_OUT));
-    Some(Splice { at, del, ins })
+    Some(DrawnSplice { at, del, ins })
 }
 
 /// Makes a splice of the document and of its bytes; `None` where a call is refused.
-fn make(alloc: Global, doc: &mut Doc<'_>, bytes: &[u8], splice: &Splice) -> Option<Vec<u8>> {
+fn make(alloc: Global, doc: &mut Doc<'_>, bytes: &[u8], splice: &DrawnSplice) -> Option<Vec<u8>> {
     let (at, del) = (splice.at as u64, splice.del as u64);
     doc.splice(at, del, &splice.ins, &mut meter()).ok()?;
     spliced(alloc, bytes, splice)

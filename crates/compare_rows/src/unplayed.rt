@@ -1,7 +1,7 @@
 //! Why a row can't be played.
 
 use codec::CodecFault;
-use index_files::Failure;
+use index_files::ProgramFailure;
 use std::alloc::AllocError;
 
 /// Why a row can't be played. It is copied, so that nothing has to be dropped where it is passed on.
@@ -15,10 +15,10 @@ pub enum Unplayed {
 
 impl Unplayed {
     /// The same as why the program ends.
-    pub fn failure(self) -> Failure {
+    pub fn failure(self) -> ProgramFailure {
         match self {
-            Unplayed::Malformed => Failure::Mistake("a row that isn't written as rows are"),
-            Unplayed::OutOfMemory => Failure::OutOfMemory,
+            Unplayed::Malformed => ProgramFailure::Mistake("a row that isn't written as rows are"),
+            Unplayed::OutOfMemory => ProgramFailure::OutOfMemory,
         }
     }
 }

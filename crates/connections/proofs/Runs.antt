@@ -7,7 +7,7 @@ use Rattle.desk.specs.Desk.{Office}
 use Rattle.connections.specs.Lines.{complete}
 use Rattle.connections.specs.Traffic.{Received, Traffic}
 use Rattle.connections.specs.Events.{line_at, with_line}
-use Rattle.connections.specs.Serving.{Serves, Breaks, SameOthers, Ran, RanUntil, Runs}
+use Rattle.connections.specs.Serving.{Serves, Breaks, SameOthers, Ran, RanUntil, RunGives}
 use Rattle.connections.specs.Delivery.{Begun, Pumped, PumpedUntil, Pumps}
 
 -- connection c opened
@@ -63,7 +63,7 @@ module _ (c : ℕ) (t u v w : Traffic) (l m x y : Option (List ℕ)) (opened : O
     others = others p.delivered.others;
   }
 
-  pub runs : {A : Type 0} (r : Result A RunFault) → Pumps r c u v l m x y → Runs r c t w l m x y
+  pub runs : {A : Type 0} (r : Result A RunFault) → Pumps r c u v l m x y → RunGives r c t w l m x y
   runs (Ok _) = ran
   runs (Err NotFree) = λ no. absurd no
   runs (Err Read) = ran

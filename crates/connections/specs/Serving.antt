@@ -55,12 +55,12 @@ pub record RanUntil (c : ℕ) (old new : Traffic) (left rest before after : Opti
   pub others : SameOthers old new c
 
 -- what a run does, by its answer
-abbrev pub Runs : {A : Type 0} → Result A RunFault → ℕ → Traffic → Traffic → Option (List ℕ) → Option (List ℕ) → Option (List ℕ) → Option (List ℕ) → Type 0
-Runs (Ok x) c old new left rest before after = Ran c old new left rest before after
-Runs (Err NotFree) c old new left rest before after = new ≡ old
-Runs (Err Read) c old new left rest before after = Ran c old new left rest before after
-Runs (Err Write) c old new left rest before after = RanUntil c old new left rest before after
-Runs (Err TooManyReads) c old new left rest before after = Ran c old new left rest before after
+abbrev pub RunGives : {A : Type 0} → Result A RunFault → ℕ → Traffic → Traffic → Option (List ℕ) → Option (List ℕ) → Option (List ℕ) → Option (List ℕ) → Type 0
+RunGives (Ok x) c old new left rest before after = Ran c old new left rest before after
+RunGives (Err NotFree) c old new left rest before after = new ≡ old
+RunGives (Err Read) c old new left rest before after = Ran c old new left rest before after
+RunGives (Err Write) c old new left rest before after = RanUntil c old new left rest before after
+RunGives (Err TooManyReads) c old new left rest before after = Ran c old new left rest before after
 
 -- ---- the devices' numbers, by a run's answer
 

@@ -5,7 +5,7 @@ ghost use Rattle.devices.specs.Devices.{failures_after};
 ghost use Rattle.devices.specs.Reading.{EndsAt};
 ghost use Rattle.connections.specs.Events.{connections, gate_fault, Opening, Bringing, Happens, with_line};
 ghost use Rattle.connections.specs.Traffic.{Received};
-ghost use Rattle.connections.specs.Serving.{Runs, ends_of, read_failures_of, write_failures_of, IsReadUp};
+ghost use Rattle.connections.specs.Serving.{RunGives, ends_of, read_failures_of, write_failures_of, IsReadUp};
 ghost use Rattle.connections.specs.Delivery.{IsOpen, WritesReply, Delivers, DeliversFront, Pumps, progress_ends_of};
 
 use crate::gateway::{Event, Gateway, Out};
@@ -36,7 +36,7 @@ pub fn run<R: Feed, W: Outlet>(
 ) -> Result<(), RunFault>
     ensures not_free { (result ≡ Err RunFault.NotFree) ↔ IsSome (gate_fault gateway.old.lines (Opening c)) }
     ensures untouched { result ≡ Err RunFault.NotFree → (reader.new ≡ reader.old) × (writer.new ≡ writer.old) }
-    ensures runs { Runs result c gateway.old gateway.new (R.left reader.old) (R.left reader.new) (W.written writer.old) (W.written writer.new) }
+    ensures runs { RunGives result c gateway.old gateway.new (R.left reader.old) (R.left reader.new) (W.written writer.old) (W.written writer.new) }
     ensures end { OnOk result (IsAtEnd (R.left reader.new)) }
     ensures ends { R.ends reader.new ≡ R.ends reader.old + ends_of result }
     ensures reads { IsReadUp result (R.reads reader.old) (R.reads reader.new) }

@@ -5,7 +5,7 @@ use Rattle.std.proofs.lemmas.List.{take_min}
 use Rattle.enc_names.specs.Labels.{LabelTable}
 use Rattle.index_loader.specs.Files.{Files}
 use Rattle.piece_rope.specs.Document.{text_of}
-use Rattle.position_map.specs.Lines.{Line as Bounds, lines_of}
+use Rattle.position_map.specs.Lines.{LineSpan as Bounds, lines_of}
 use Rattle.desk.specs.Commands.{ListsLines}
 use Rattle.desk.specs.Documents.{document_of}
 use Rattle.desk.specs.Lines.{line_of, page_of, lines_reply}

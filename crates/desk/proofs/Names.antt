@@ -22,7 +22,7 @@ use Rattle.std.proofs.lemmas.Map.Views.{IfSome-lookup_from_All, All-values-inser
 use Rattle.std.proofs.lemmas.Map.Text.{is_eq-slice_cmp, btree_map_updates_text}
 use Rattle.index_loader.specs.Files.{Files}
 use Rattle.desk.specs.declared.open_document.OpenDocument.{OpenDocument}
-use Rattle.desk.specs.OpenDocuments.{entry_of, names, AllOpened, IsOpened}
+use Rattle.desk.specs.OpenDocuments.{entry_of, names, AllOpened, IsIdle}
 
 abbrev pub Entries : Type 0
 Entries = List (String Global × OpenDocument)
@@ -109,18 +109,18 @@ entry_some bs es k some = get_named bs es ∙ ap (option_map entry_of) (sym some
 
 -- what is found was opened with the same index files, and is in no edit
 pub opened_found : (indexes : Files) (bs : List ℕ) (es : Entries) (k : OpenDocument) → AllOpened indexes es → Some k ≡ lookup (at_text bs) es
-    → IsOpened indexes k
+    → IsIdle indexes k
 opened_found indexes bs es k all some =
-    let P : OpenDocument → Type 0 = IsOpened indexes in
+    let P : OpenDocument → Type 0 = IsIdle indexes in
     subst (λ o. IfSome o P) (sym some) (IfSome-lookup_from_All P (at_text bs) es all)
 
-pub opened_insert : (indexes : Files) (name : String Global) (k : OpenDocument) (es : Entries) → AllOpened indexes es → IsOpened indexes k
+pub opened_insert : (indexes : Files) (name : String Global) (k : OpenDocument) (es : Entries) → AllOpened indexes es → IsIdle indexes k
     → AllOpened indexes (tree.insert_entry string_cmp es name k)
-opened_insert indexes name k es all same = All-values-insert_entry string_cmp name k (IsOpened indexes) es all same
+opened_insert indexes name k es all same = All-values-insert_entry string_cmp name k (IsIdle indexes) es all same
 
 pub opened_removed : (indexes : Files) (bs : List ℕ) (es : Entries) → AllOpened indexes es → AllOpened indexes (remove_entry (at_text bs) es)
-opened_removed indexes bs es all = All-map-remove_entry (at_text bs) (λ e. e.1) (IsOpened indexes) es all
+opened_removed indexes bs es all = All-map-remove_entry (at_text bs) (λ e. e.1) (IsIdle indexes) es all
 
-pub opened_set : (indexes : Files) (bs : List ℕ) (k : OpenDocument) (es : Entries) → AllOpened indexes es → IsOpened indexes k
+pub opened_set : (indexes : Files) (bs : List ℕ) (k : OpenDocument) (es : Entries) → AllOpened indexes es → IsIdle indexes k
     → AllOpened indexes (set_value (at_text bs) es k)
-opened_set indexes bs k es all same = All-values-set_value (at_text bs) (IsOpened indexes) es k all same
+opened_set indexes bs k es all same = All-values-set_value (at_text bs) (IsIdle indexes) es k all same

@@ -2,7 +2,7 @@
 use Rattle.std.specs.Prelude.{ℕ, nat_le, List, length, take, drop, map, if◌then◌else◌, Result, Ok, Err}
 use Rattle.index_loader.specs.Files.{Files}
 use Rattle.piece_rope.specs.Document.{text_of}
-use Rattle.position_map.specs.Lines.{Line as Bounds, lines_of}
+use Rattle.position_map.specs.Lines.{LineSpan as Bounds, lines_of}
 use Rattle.desk.specs.Documents.{Entry, document_of}
 use Rattle.desk.specs.declared.fault.Fault.{Fault}
 use Rattle.desk.specs.declared.fault.Fault.TheVariants.{OutOfRange}
@@ -10,11 +10,11 @@ use Rattle.desk.specs.declared.line.Line.{Line}
 use Rattle.desk.specs.declared.reply.Reply.{Reply}
 use Rattle.desk.specs.declared.reply.Reply.TheVariants.{Lines}
 
-abbrev pub line_of : Bounds → Line
+abbrev pub line_of : Bounds → LineSpan
 line_of l = record { start = l.start; end = l.end }
 
 -- at most max lines of a text, the first being number `from`
-abbrev pub page_of : List ℕ → ℕ → ℕ → List Line
+abbrev pub page_of : List ℕ → ℕ → ℕ → List LineSpan
 page_of text from max = map line_of (take max (drop from (lines_of text)))
 
 -- `from` may be the number of lines

@@ -17,9 +17,9 @@ abbrev pub names : List (String Global × OpenDocument) → Names
 names es = from_entries (map (λ e. (string_bytes e.0, entry_of e.1)) es)
 
 -- a document was opened with these index files, and no edit of several parts of it is under way
-pub record IsOpened (indexes : Files) (k : OpenDocument) : Type 0 where
+pub record IsIdle (indexes : Files) (k : OpenDocument) : Type 0 where
   pub files : k.document.indexes ≡ indexes
   pub idle : k.document.earlier ≡ None
 
 abbrev pub AllOpened : Files → List (String Global × OpenDocument) → Type 0
-AllOpened indexes es = All (IsOpened indexes) (values_of es)
+AllOpened indexes es = All (IsIdle indexes) (values_of es)

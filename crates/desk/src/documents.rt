@@ -8,7 +8,7 @@ ghost use Rattle.desk.specs.Documents.{edit_reply, reply_of};
 ghost use Rattle.desk.specs.Edits.{edited};
 ghost use Rattle.desk.specs.Effects.{of_document, put, replied};
 ghost use Rattle.desk.specs.Open.{admitted};
-ghost use Rattle.desk.specs.OpenDocuments.{AllOpened, IsOpened, entry_of, names};
+ghost use Rattle.desk.specs.OpenDocuments.{AllOpened, IsIdle, entry_of, names};
 ghost use Rattle.index_loader.specs.Files.{Files};
 
 use crate::edit::Edit;
@@ -159,7 +159,7 @@ impl<'i> Documents<'i> {
 
     /// Puts a document, opened with the same index files, at its name.
     fn insert(&mut self, name: String, opened: OpenDocument<'i>) -> Result<(), AllocError>
-        requires { IsOpened self.old.indexes opened }
+        requires { IsIdle self.old.indexes opened }
         ensures ok { OnOk result (self.new ≡ record { indexes = self.old.indexes; named = map.insert self.old.named (string_bytes name) (entry_of opened.entry) }) }
         ensures err { OnErr result (self.new ≡ self.old) }
     {

@@ -15,7 +15,7 @@ use Rattle.enc_names.specs.Names.{name_of, encodings}
 -- ---- its shape; other fields are ignored
 
 -- an encoding of the file, as it is spelt there
-pub record Listed : Type 0 where
+pub record ListedEncoding : Type 0 where
   pub name : List ℕ
   pub labels : List (List ℕ)
 
@@ -31,15 +31,15 @@ list_at d field f = option_and_then (each f) (option_and_then as_array (get fiel
 abbrev pub text_at : Data → List ℕ → Option (List ℕ)
 text_at d field = option_and_then as_str (get field d)
 
-abbrev pub listed_of : Data → Option Listed
+abbrev pub listed_of : Data → Option ListedEncoding
 listed_of d =
     option_and_then (λ name. option_map (λ labels. record { name = name; labels = labels }) (list_at d (codes "labels") as_str)) (text_at d (codes "name"))
 
-abbrev pub group_of : Data → Option (List Listed)
+abbrev pub group_of : Data → Option (List ListedEncoding)
 group_of d = list_at d (codes "encodings") listed_of
 
 -- the file's groups, or None where the shape is another
-abbrev pub groups_of : Data → Option (List (List Listed))
+abbrev pub groups_of : Data → Option (List (List ListedEncoding))
 groups_of d = option_and_then (each group_of) (as_array d)
 
 -- ---- its labels
@@ -61,7 +61,7 @@ abbrev pub label_of : Option Encoding → List ℕ → LabelTable
 label_of None label = []
 label_of (Some e) label = (label, e) ∷ []
 
-abbrev pub labels_listed : Listed → LabelTable
+abbrev pub labels_listed : ListedEncoding → LabelTable
 labels_listed listed = flat_map (label_of (encoding_named listed.name)) listed.labels
 
 -- the labels in the file's order, those of unknown encodings left out

@@ -12,7 +12,7 @@ use Rattle.connections.specs.CitedLaws.{LinesCut}
 use Rattle.connections.specs.Lines.{complete, unfinished, has_end, before_end}
 use Rattle.connections.specs.Traffic.{Traffic}
 use Rattle.gateway.specs.Trace.{is_skipped, IsBad, PrintsLine, PrintsAll, text_lines, StopsAtBad, StopsInPrint, StopsForMemory}
-use Rattle.gateway.specs.TraceLines.{Begun, Known, MayBe, Goes, PlaysLine}
+use Rattle.gateway.specs.TraceLines.{BegunTrace, Known, MayBe, Goes, PlaysLine}
 use Rattle.gateway.specs.Tracing.{FeedsOn, Feeds, Anything, FeedStops, numbered_fault}
 
 pub prints-append : (t u v : Traffic) (xs ys : List (List ℕ)) (a b : List ℕ) → PrintsAll t xs a u → PrintsAll u ys b v → PrintsAll t (xs ++ ys) (a ++ b) v
@@ -128,7 +128,7 @@ more-lines : (cuts : LinesCut) (line bytes later : List ℕ) → has_end bytes �
 more-lines cuts line bytes later e =
     lines-append cuts line bytes later ∙ ap (λ l. l ++ text_lines (unfinished line bytes) later) (cuts.complete_without line bytes e) ∙ ap (λ l. text_lines l later) (cuts.unfinished_without line bytes e)
 
-pub more-stops : (cuts : LinesCut) (f : LineFault) (bytes : List ℕ) (t : Traffic) (x : Option (List ℕ)) (p : TracePlace) (q : Begun) → has_end bytes ≡ false → Goes {A = Unit {0}} (Err f) p.begun bytes q
+pub more-stops : (cuts : LinesCut) (f : LineFault) (bytes : List ℕ) (t : Traffic) (x : Option (List ℕ)) (p : TracePlace) (q : BegunTrace) → has_end bytes ≡ false → Goes {A = Unit {0}} (Err f) p.begun bytes q
     → FeedStops (numbered_fault f p.number) bytes t t x x p
 more-stops cuts Bad bytes t x p q e bad = λ line m. record {
   first = [];
@@ -169,7 +169,7 @@ module _ (cuts : LinesCut) (bytes : List ℕ) (k : ℕ) (e : has_end bytes ≡ t
   ended-here : (line : List ℕ) → text_lines line bytes ≡ (line ++ before_end bytes) ∷ complete [] rest ++ unfinished line bytes ∷ []
   ended-here line = ap (λ l. l ++ unfinished line bytes ∷ []) (ap (complete line) cut ∙ cuts.complete_at_end line (before_end bytes) rest (cuts.before_without bytes))
 
-  pub end-stops : (f : LineFault) (t : Traffic) (x : Option (List ℕ)) (p : TracePlace) (q : Begun) → Goes {A = Unit {0}} (Err f) p.begun (take k bytes) q
+  pub end-stops : (f : LineFault) (t : Traffic) (x : Option (List ℕ)) (p : TracePlace) (q : BegunTrace) → Goes {A = Unit {0}} (Err f) p.begun (take k bytes) q
       → FeedStops (numbered_fault f p.number) bytes t t x x p
   end-stops Bad t x p q bad = λ line m. record {
     first = [];
@@ -196,7 +196,7 @@ module _ (cuts : LinesCut) (bytes : List ℕ) (k : ℕ) (e : has_end bytes ≡ t
     prints = (refl, refl);
   }
 
-  module _ (t u : Traffic) (x y : Option (List ℕ)) (p : TracePlace) (q : Begun) (goes : (line : List ℕ) → MayBe p.begun line → MayBe q (line ++ take k bytes)) where
+  module _ (t u : Traffic) (x y : Option (List ℕ)) (p : TracePlace) (q : BegunTrace) (goes : (line : List ℕ) → MayBe p.begun line → MayBe q (line ++ take k bytes)) where
     ended : (line : List ℕ) → MayBe p.begun line → MayBe q (line ++ before_end bytes)
     ended line m = rw front (goes line m)
 

@@ -8,11 +8,11 @@ use Rattle.connections.specs.Events.{Happening}
 use Rattle.gateway.specs.Trace.{is_skipped, event_on, IsBad, PrintStops, PrintsLine}
 
 -- its bytes; or that it is a comment, whose bytes aren't kept
-pub data Begun : Type 0 where
-  Known : List ℕ → Begun
-  Comment : Begun
+pub data BegunTrace : Type 0 where
+  Known : List ℕ → BegunTrace
+  Comment : BegunTrace
 
-abbrev pub begun_of : Bool → List ℕ → Begun
+abbrev pub begun_of : Bool → List ℕ → BegunTrace
 begun_of true xs = Comment
 begun_of false xs = Known xs
 
@@ -21,12 +21,12 @@ is_comment [] = false
 is_comment (b ∷ bs) = b == 35
 
 -- The line that is begun may be this one. A comment may be any.
-abbrev pub MayBe : Begun → List ℕ → Type 0
+abbrev pub MayBe : BegunTrace → List ℕ → Type 0
 MayBe (Known xs) line = line ≡ xs
 MayBe Comment line = (is_skipped line ≡ true) × (0 < length line)
 
 -- bytes went on with the line; or it is bad, whatever comes after them; or it isn't skipped, and memory ran out
-abbrev pub Goes : {A : Type 0} → Result A LineFault → Begun → List ℕ → Begun → Type 0
+abbrev pub Goes : {A : Type 0} → Result A LineFault → BegunTrace → List ℕ → BegunTrace → Type 0
 Goes (Ok x) old bytes new = (line : List ℕ) → MayBe old line → MayBe new (line ++ bytes)
 Goes (Err Bad) old bytes new = (line more : List ℕ) → MayBe old line → IsBad ((line ++ bytes) ++ more)
 Goes (Err Write) old bytes new = ⊥

@@ -13,7 +13,7 @@ use std::test::Fail;
 
 /// A question about a document, and its replies behind no line, behind one, and so on.
 #[derive(Clone, Copy)]
-struct Question<'a> {
+struct StoppedSession<'a> {
     line: &'a str,
     replies: &'a str,
 }
@@ -24,11 +24,11 @@ struct Play<'a> {
     way: Way,
     input: &'a str,
     output: &'a str,
-    questions: &'a [Question<'a>],
+    questions: &'a [StoppedSession<'a>],
 }
 
 /// The byte at 2 of the document of the stored session, by its lines.
-const BYTE_OF_SESSION: Question<'static> = Question {
+const BYTE_OF_SESSION: StoppedSession<'static> = StoppedSession {
     line: "{\"id\":0,\"op\":\"source\",\"doc\":\"a\",\"at\":2,\"len\":1}\n",
     replies: "\
 {\"fault\":\"NoDocument\",\"id\":0}
@@ -63,7 +63,7 @@ const TO_TWO_CLIENTS: &str = "\
 ";
 
 /// The first byte of the first client's document.
-const BYTE_OF_FIRST: Question<'static> = Question {
+const BYTE_OF_FIRST: StoppedSession<'static> = StoppedSession {
     line: "{\"id\":0,\"op\":\"source\",\"doc\":\"a\",\"at\":0,\"len\":1}\n",
     replies: "\
 {\"fault\":\"NoDocument\",\"id\":0}
@@ -78,7 +78,7 @@ const BYTE_OF_FIRST: Question<'static> = Question {
 };
 
 /// The bytes of the second client's document.
-const BYTES_OF_SECOND: Question<'static> = Question {
+const BYTES_OF_SECOND: StoppedSession<'static> = StoppedSession {
     line: "{\"id\":0,\"op\":\"source\",\"doc\":\"b\",\"at\":0,\"len\":2}\n",
     replies: "\
 {\"fault\":\"NoDocument\",\"id\":0}
@@ -223,7 +223,7 @@ fn stop_run(
     rt: &impl Abort,
     alloc: Global,
     (input, output): (&str, &str),
-    questions: &[Question<'_>],
+    questions: &[StoppedSession<'_>],
 ) -> Result<(), Fail> {
     let it = Play {
         way: Way::Run,
@@ -239,7 +239,7 @@ fn stop_trace(
     rt: &impl Abort,
     alloc: Global,
     (lines, replies): (&str, &str),
-    questions: &[Question<'_>],
+    questions: &[StoppedSession<'_>],
 ) -> Result<(), Fail> {
     let input = traced(alloc, lines)?;
     let output = printed(alloc, replies)?;

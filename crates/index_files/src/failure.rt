@@ -1,7 +1,7 @@
 //! Why a program over index files ends early.
 ghost use Rattle.std.specs.Prelude.{◌≡◌};
 ghost use Rattle.index_files.specs.Ending.{of_folder, status_of};
-ghost use Rattle.index_files.specs.declared.failure.Failure.TheVariants as failure;
+ghost use Rattle.index_files.specs.declared.failure.ProgramFailure.TheVariants as failure;
 
 use crate::fault::{FolderFault, IndexFileFault};
 use std::alloc::AllocError;
@@ -9,7 +9,7 @@ use std::{fmt, io};
 
 /// Why a program over index files ends early. Displayed as a line of text without its line end.
 #[derive(Debug, Drop)]
-pub enum Failure {
+pub enum ProgramFailure {
     /// The words or a file aren't as the program reads them: what is wrong.
     Mistake(&'static str),
     /// The file of this name can't be read.
@@ -22,54 +22,55 @@ pub enum Failure {
     OutOfMemory,
 }
 
-impl Failure {
+impl ProgramFailure {
     /// The exit status: 2 for a mistake in the words or the files, and else 1.
     pub fn status(&self) -> u8
         ensures { result ≡ status_of self.now }
     {
         match self {
-            Failure::Mistake(_) | Failure::CannotRead(_) | Failure::Index(_) => 2,
-            Failure::Device(_) | Failure::OutOfMemory => 1,
+            ProgramFailure::Mistake(_) | ProgramFailure::CannotRead(_) | ProgramFailure::Index(_) =>
+                2,
+            ProgramFailure::Device(_) | ProgramFailure::OutOfMemory => 1,
         }
     }
 }
 
-impl fmt::Display for Failure {
+impl fmt::Display for ProgramFailure {
     fn fmt<W: fmt::Write>(&self, f: &mut fmt::Formatter<W>) -> fmt::Result {
         match self {
-            Failure::Mistake(text) => f.write_str(text),
-            Failure::CannotRead(name) => write!(f, "cannot read {name}"),
-            Failure::Index(fault) => write!(f, "{fault}"),
-            Failure::Device(error) => write!(f, "{error}"),
-            Failure::OutOfMemory => f.write_str("out of memory"),
+            ProgramFailure::Mistake(text) => f.write_str(text),
+            ProgramFailure::CannotRead(name) => write!(f, "cannot read {name}"),
+            ProgramFailure::Index(fault) => write!(f, "{fault}"),
+            ProgramFailure::Device(error) => write!(f, "{error}"),
+            ProgramFailure::OutOfMemory => f.write_str("out of memory"),
         }
     }
 }
 
-impl From<FolderFault> for Failure {
+impl From<FolderFault> for ProgramFailure {
     ghost from_gives = { λ fault it. it ≡ of_folder fault };
 
-    fn from(fault: FolderFault) -> Failure {
+    fn from(fault: FolderFault) -> ProgramFailure {
         match fault {
-            FolderFault::CannotRead(name) => Failure::CannotRead(name),
-            FolderFault::Index(fault) => Failure::Index(fault),
-            FolderFault::OutOfMemory => Failure::OutOfMemory,
+            FolderFault::CannotRead(name) => ProgramFailure::CannotRead(name),
+            FolderFault::Index(fault) => ProgramFailure::Index(fault),
+            FolderFault::OutOfMemory => ProgramFailure::OutOfMemory,
         }
     }
 }
 
-impl From<io::Error> for Failure {
+impl From<io::Error> for ProgramFailure {
     ghost from_gives = { λ error it. it ≡ failure.Device error };
 
-    fn from(error: io::Error) -> Failure {
-        Failure::Device(error)
+    fn from(error: io::Error) -> ProgramFailure {
+        ProgramFailure::Device(error)
     }
 }
 
-impl From<AllocError> for Failure {
+impl From<AllocError> for ProgramFailure {
     ghost from_gives = { λ _ it. it ≡ failure.OutOfMemory };
 
-    fn from(_: AllocError) -> Failure {
-        Failure::OutOfMemory
+    fn from(_: AllocError) -> ProgramFailure {
+        ProgramFailure::OutOfMemory
     }
 }

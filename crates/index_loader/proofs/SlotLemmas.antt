@@ -8,7 +8,7 @@ use Rattle.index_loader.specs.Exceptions.{ExceptionTable}
 use Rattle.index_loader.specs.Files.{index_of}
 use Rattle.index_loader.specs.Index.{Loaded}
 use Rattle.index_loader.specs.Kinds.{home_of, slot_of}
-use Rattle.index_loader.specs.Slots.{IsKept, kind_at, pairs_kept}
+use Rattle.index_loader.specs.Slots.{AreInTheirSlots, kind_at, pairs_kept}
 use Rattle.index_loader.proofs.KindPlaces.{kind-at}
 
 -- the pairs at a place
@@ -20,7 +20,7 @@ pairs-at slots k =
     rw (get_or_past slots k None past) (get_or_past (pairs_kept slots) k None (rw (length-map slots (λ slot. option_map (λ index. index.pairs) slot)) past)))
     (cases_lt k (length slots))
 
-kept-put_within : (slots : List (Option Loaded)) (index : Loaded) (slot : ℕ) → IsKept slots → kind_at slot ≡ index.kind → slot < length slots → IsKept (set slots slot (Some index))
+kept-put_within : (slots : List (Option Loaded)) (index : Loaded) (slot : ℕ) → AreInTheirSlots slots → kind_at slot ≡ index.kind → slot < length slots → AreInTheirSlots (set slots slot (Some index))
 kept-put_within slots index slot kept home within k other is =
     ⊎_elim
     (λ (same : k ≡ slot).
@@ -31,7 +31,7 @@ kept-put_within slots index slot kept home within k other is =
     (cases_eq k slot)
 
 -- an index put at the place of its kind
-pub kept-put : (slots : List (Option Loaded)) (index : Loaded) (slot : ℕ) → IsKept slots → home_of index.kind ≡ index.kind → slot_of index.kind ≡ Some slot → IsKept (set slots slot (Some index))
+pub kept-put : (slots : List (Option Loaded)) (index : Loaded) (slot : ℕ) → AreInTheirSlots slots → home_of index.kind ≡ index.kind → slot_of index.kind ≡ Some slot → AreInTheirSlots (set slots slot (Some index))
 kept-put slots index slot kept home place =
     let home : kind_at slot ≡ index.kind = kind-at index.kind slot place ∙ home in
     ⊎_elim
@@ -43,7 +43,7 @@ pub pairs-put : (slots : List (Option Loaded)) (slot : ℕ) (index : Loaded) →
 pairs-put slots slot index = map-set (λ slot. option_map (λ index. index.pairs) slot) slots slot (Some index)
 
 -- the index at the place of a kind
-index-there : (exceptions : ExceptionTable) (slots : List (Option Loaded)) (kind : IndexKind) (slot : ℕ) (index : Loaded) → IsKept slots → slot_of kind ≡ Some slot → get_or slots slot None ≡ Some index → index_of (record { slots = pairs_kept slots; exceptions = exceptions }) kind ≡ Some index
+index-there : (exceptions : ExceptionTable) (slots : List (Option Loaded)) (kind : IndexKind) (slot : ℕ) (index : Loaded) → AreInTheirSlots slots → slot_of kind ≡ Some slot → get_or slots slot None ≡ Some index → index_of (record { slots = pairs_kept slots; exceptions = exceptions }) kind ≡ Some index
 index-there exceptions slots kind slot index kept place is =
     let home : index.kind ≡ home_of kind = kept slot index is ∙ kind-at kind slot place in
     let pairs : get_or (pairs_kept slots) slot None ≡ Some index.pairs = pairs-at slots slot ∙ ap (λ o. option_map (λ index. index.pairs) o) is in
@@ -55,7 +55,7 @@ index-absent exceptions slots kind slot place is =
     rw (place, pairs) refl
 
 -- what a look at a place finds
-pub index-at : (exceptions : ExceptionTable) (slots : List (Option Loaded)) (kind : IndexKind) (slot : ℕ) (found : Option (Bor Loaded)) → IsKept slots → slot_of kind ≡ Some slot → option_copied found ≡ get_or slots slot None → MatchOption found (index_of (record { slots = pairs_kept slots; exceptions = exceptions }) kind ≡ None) (λ index. index_of (record { slots = pairs_kept slots; exceptions = exceptions }) kind ≡ Some index.now)
+pub index-at : (exceptions : ExceptionTable) (slots : List (Option Loaded)) (kind : IndexKind) (slot : ℕ) (found : Option (Bor Loaded)) → AreInTheirSlots slots → slot_of kind ≡ Some slot → option_copied found ≡ get_or slots slot None → MatchOption found (index_of (record { slots = pairs_kept slots; exceptions = exceptions }) kind ≡ None) (λ index. index_of (record { slots = pairs_kept slots; exceptions = exceptions }) kind ≡ Some index.now)
 index-at exceptions slots kind slot None kept place is = index-absent exceptions slots kind slot place (sym is)
 index-at exceptions slots kind slot (Some index) kept place is = index-there exceptions slots kind slot index.now kept place (sym is)
 

@@ -15,5 +15,5 @@ unfoldable pub kind_at : ℕ → IndexKind
 kind_at slot = slice_index_or kinds slot Jis0208
 
 -- an index stands at the place of its kind
-abbrev pub IsKept : List (Option Loaded) → Type 0
-IsKept slots = (k : ℕ) (index : Loaded) → slice_index_or slots k None ≡ Some index → index.kind ≡ kind_at k
+abbrev pub AreInTheirSlots : List (Option Loaded) → Type 0
+AreInTheirSlots slots = (k : ℕ) (index : Loaded) → slice_index_or slots k None ≡ Some index → index.kind ≡ kind_at k

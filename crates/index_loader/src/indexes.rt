@@ -26,11 +26,11 @@ impl Model for Indexes {
     ghost Value = { Files };
 
     ghost use Rattle.std.specs.Prelude.{[], unwrap_or};
-    ghost use Rattle.index_loader.specs.Slots.{IsKept, pairs_kept};
+    ghost use Rattle.index_loader.specs.Slots.{AreInTheirSlots, pairs_kept};
 
     ghost view = { λ s. record { slots = pairs_kept s.slots; exceptions = unwrap_or s.exceptions [] } };
 
-    ghost invariant = { λ s. IsKept s.slots };
+    ghost invariant = { λ s. AreInTheirSlots s.slots };
 }
 
 impl Indexes {

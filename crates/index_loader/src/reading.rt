@@ -9,7 +9,7 @@ ghost use Rattle.index_loader.specs.Table.{pairs_in, table_len};
 use crate::fault::{IndexCause, IndexFault};
 use crate::kind::IndexKind;
 use crate::line::{pair_on, split_at_byte};
-use crate::table::Table;
+use crate::table::PointerTable;
 use enc_names::Scalar;
 use std::alloc::Global;
 
@@ -26,7 +26,7 @@ fn table_len(kind: IndexKind) -> usize
 
 /// Puts a pair of the line with this number into the table.
 fn put_pair(
-    table: &mut Table,
+    table: &mut PointerTable,
     number: u64,
     pointer: u32,
     code_point: Scalar,
@@ -49,7 +49,12 @@ fn put_pair(
 }
 
 /// Puts the pair that a line holds, if it holds one, into the table.
-fn put_line(table: &mut Table, kind: IndexKind, number: u64, line: &[u8]) -> Result<(), IndexFault>
+fn put_line(
+    table: &mut PointerTable,
+    kind: IndexKind,
+    number: u64,
+    line: &[u8],
+) -> Result<(), IndexFault>
     requires { length table.old ≡ table_len kind }
     ensures len { length table.new ≡ length table.old }
     ensures ok { OnOk result (with_line kind number (pairs_in table.old) line.now ≡ Ok (pairs_in table.new)) }
@@ -67,12 +72,16 @@ fn put_line(table: &mut Table, kind: IndexKind, number: u64, line: &[u8]) -> Res
 }
 
 /// The table of what the lines of a file hold.
-pub(crate) fn read_table(alloc: Global, kind: IndexKind, bytes: &[u8]) -> Result<Table, IndexFault>
+pub(crate) fn read_table(
+    alloc: Global,
+    kind: IndexKind,
+    bytes: &[u8],
+) -> Result<PointerTable, IndexFault>
     ensures len { IfOk result (λ table. length table ≡ table_len kind) }
     ensures ok { IfOk result (λ table. pairs_from kind (Ok []) 1 (lines_of bytes.now) ≡ Ok (pairs_in table)) }
     ensures fault { IfErr result (λ fault. FaultIs (is_out_of_memory fault.cause) fault.line fault (pairs_from kind (Ok []) 1 (lines_of bytes.now))) }
 {
-    let mut table = Table::new(alloc, table_len(kind))?;
+    let mut table = PointerTable::new(alloc, table_len(kind))?;
     let mut rest = Some(bytes);
     let mut number = 0;
     while let Some(text) = rest {
@@ -85,7 +94,7 @@ pub(crate) fn read_table(alloc: Global, kind: IndexKind, bytes: &[u8]) -> Result
 }
 
 /// Whether the table has this code point at this pointer.
-fn has_pair(table: &Table, pointer: u32, code_point: u32) -> bool
+fn has_pair(table: &PointerTable, pointer: u32, code_point: u32) -> bool
     ensures { result ≡ is_number (slice_index_or table.now pointer None) code_point }
 {
     match table.code_point(pointer) {
@@ -96,14 +105,14 @@ fn has_pair(table: &Table, pointer: u32, code_point: u32) -> bool
 
 /// Whether the rows that the ranges need stand there: the first behind ASCII and the first of the
 /// planes above.
-fn has_needed_rows(table: &Table) -> bool
+fn has_needed_rows(table: &PointerTable) -> bool
     ensures { result ≡ has_needed_rows (pairs_in table.now) }
 {
     has_pair(table, 0, 0x80) && has_pair(table, 189_000, 0x10000)
 }
 
 /// Whether a file of this kind lacks rows that it needs.
-pub(crate) fn lacks_rows(kind: IndexKind, table: &Table) -> bool
+pub(crate) fn lacks_rows(kind: IndexKind, table: &PointerTable) -> bool
     ensures { result ≡ (is_ranges kind && not (has_needed_rows (pairs_in table.now))) }
 {
     kind.is_ranges() && !has_needed_rows(table)

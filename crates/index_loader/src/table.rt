@@ -8,11 +8,11 @@ use std::marker::Model;
 
 /// The code point of each pointer from 0 on, where there is one. Contracts see the list of places.
 #[derive(Drop)]
-pub(crate) struct Table {
+pub(crate) struct PointerTable {
     places: Vec<Option<Scalar>>,
 }
 
-impl Model for Table {
+impl Model for PointerTable {
     ghost use Rattle.std.specs.Prelude.{ℕ, List, Option};
 
     ghost Value = { List (Option ℕ) };
@@ -20,13 +20,13 @@ impl Model for Table {
     ghost view = { λ t. t.places.items };
 }
 
-impl Table {
+impl PointerTable {
     /// A table of so many places without a code point.
-    pub(crate) fn new(alloc: Global, len: usize) -> Result<Table, AllocError>
+    pub(crate) fn new(alloc: Global, len: usize) -> Result<PointerTable, AllocError>
         ensures { IfOk result (λ table. table ≡ replicate len None) }
     {
         let places = vec![in alloc; None; len]?;
-        Ok(Table { places })
+        Ok(PointerTable { places })
     }
 
     /// The code point of a pointer.

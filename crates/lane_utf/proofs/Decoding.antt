@@ -5,7 +5,7 @@ use Rattle.std.proofs.lemmas.Bool.{ltb-true, ltb-false}
 use Rattle.std.proofs.lemmas.List.{get_or-drop, length-drop, take-append-drop}
 use Rattle.std.proofs.lemmas.Str.{chars_past_char, chars-append, chars-IsAscii, IsUtf8-drop, IsUtf8-from_ascii, IsCharBoundary-from_take}
 use Rattle.std.specs.Str.{chars, IsUtf8, IsAscii}
-use Rattle.lane_utf.specs.Next.{IsNext}
+use Rattle.lane_utf.specs.Next.{IsUtf8Front}
 use Rattle.lane_utf.specs.Utf16.{utf16_form, utf16_forms}
 use Rattle.lane_utf.specs.Widths.{total_width, utf16_width}
 use Rattle.lane_utf.proofs.Putting.{encode_one, encode_two, encode_three, encode_four, form_low}
@@ -37,12 +37,12 @@ head bytes (cs, (s, e)) h = go cs s e
 
 -- what the bytes are, by the ranges of the code point
 data Shape (bytes : List ℕ) : Type 0 where
-  one : (c : ℕ) (rest : List ℕ) → c < 128 → bytes ≡ c ∷ rest → IsNext bytes c 1 → Shape bytes
-  two : (c : ℕ) (rest : List ℕ) → 128 ≤ c → c < 2048 → bytes ≡ (192 + c / 64) ∷ (128 + c % 64) ∷ rest → IsNext bytes c 2 → Shape bytes
-  three : (c : ℕ) (rest : List ℕ) → 2048 ≤ c → c < 65536 → bytes ≡ (224 + c / 4096) ∷ (128 + c / 64 % 64) ∷ (128 + c % 64) ∷ rest → IsNext bytes c 3 → Shape bytes
-  four : (c : ℕ) (rest : List ℕ) → 65536 ≤ c → c < 1114112 → bytes ≡ (240 + c / 262144) ∷ (128 + c / 4096 % 64) ∷ (128 + c / 64 % 64) ∷ (128 + c % 64) ∷ rest → IsNext bytes c 4 → Shape bytes
+  one : (c : ℕ) (rest : List ℕ) → c < 128 → bytes ≡ c ∷ rest → IsUtf8Front bytes c 1 → Shape bytes
+  two : (c : ℕ) (rest : List ℕ) → 128 ≤ c → c < 2048 → bytes ≡ (192 + c / 64) ∷ (128 + c % 64) ∷ rest → IsUtf8Front bytes c 2 → Shape bytes
+  three : (c : ℕ) (rest : List ℕ) → 2048 ≤ c → c < 65536 → bytes ≡ (224 + c / 4096) ∷ (128 + c / 64 % 64) ∷ (128 + c % 64) ∷ rest → IsUtf8Front bytes c 3 → Shape bytes
+  four : (c : ℕ) (rest : List ℕ) → 65536 ≤ c → c < 1114112 → bytes ≡ (240 + c / 262144) ∷ (128 + c / 4096 % 64) ∷ (128 + c / 64 % 64) ∷ (128 + c % 64) ∷ rest → IsUtf8Front bytes c 4 → Shape bytes
 
-next_of : (bytes rest : List ℕ) (c n : ℕ) → scalar c ≡ true → 1 ≤ n → n ≤ length bytes → chars bytes ≡ c ∷ chars rest → IsUtf8 rest → drop n bytes ≡ rest → IsNext bytes c n
+next_of : (bytes rest : List ℕ) (c n : ℕ) → scalar c ≡ true → 1 ≤ n → n ≤ length bytes → chars bytes ≡ c ∷ chars rest → IsUtf8 rest → drop n bytes ≡ rest → IsUtf8Front bytes c n
 next_of bytes rest c n s some within first text behind =
     record { scalar = s; some = some; within = within; first = first ∙ ap (λ k. c ∷ chars k) (sym behind); text = subst IsUtf8 (sym behind) text }
 
@@ -73,10 +73,10 @@ shape bytes u h =
 byte_of : (bytes ys : List ℕ) (k b : ℕ) → bytes ≡ ys → get_or ys k 0 ≡ b → get_or bytes k 0 ≡ b
 byte_of bytes ys k b e f = ap (λ xs. get_or xs k 0) e ∙ f
 
-renamed : (bytes : List ℕ) (c d n : ℕ) → c ≡ d → IsNext bytes c n → IsNext bytes d n
-renamed bytes c d n e x = subst (λ k. IsNext bytes k n) e x
+renamed : (bytes : List ℕ) (c d n : ℕ) → c ≡ d → IsUtf8Front bytes c n → IsUtf8Front bytes d n
+renamed bytes c d n e x = subst (λ k. IsUtf8Front bytes k n) e x
 
-pub next_one : (bytes : List ℕ) → IsUtf8 bytes → 0 < length bytes → get_or bytes 0 0 < 128 → IsNext bytes (get_or bytes 0 0) 1
+pub next_one : (bytes : List ℕ) → IsUtf8 bytes → 0 < length bytes → get_or bytes 0 0 < 128 → IsUtf8Front bytes (get_or bytes 0 0) 1
 next_one bytes u h low = elim (shape bytes u h) [
   | one c rest l e x ↦ renamed bytes c _ 1 (sym (byte_of bytes _ 0 c e refl)) x
   | two c rest l m e x ↦ absurd (omega (arith, low, byte_of bytes _ 0 (192 + c / 64) e refl))
@@ -85,7 +85,7 @@ next_one bytes u h low = elim (shape bytes u h) [
 ]
 
 pub next_two : (bytes : List ℕ) → IsUtf8 bytes → 0 < length bytes → 128 ≤ get_or bytes 0 0 → get_or bytes 0 0 < 224
-    → IsNext bytes (get_or bytes 0 0 % 32 * 64 + get_or bytes 1 0 % 64) 2
+    → IsUtf8Front bytes (get_or bytes 0 0 % 32 * 64 + get_or bytes 1 0 % 64) 2
 next_two bytes u h low high = elim (shape bytes u h) [
   | one c rest l e x ↦ absurd (omega (arith, low, l, byte_of bytes _ 0 c e refl))
   | two c rest l m e x ↦ renamed bytes c _ 2 (omega (arith, l, m, byte_of bytes _ 0 (192 + c / 64) e refl, byte_of bytes _ 1 (128 + c % 64) e refl)) x
@@ -94,7 +94,7 @@ next_two bytes u h low high = elim (shape bytes u h) [
 ]
 
 pub next_three : (bytes : List ℕ) → IsUtf8 bytes → 0 < length bytes → 224 ≤ get_or bytes 0 0 → get_or bytes 0 0 < 240
-    → IsNext bytes (get_or bytes 0 0 % 16 * 4096 + get_or bytes 1 0 % 64 * 64 + get_or bytes 2 0 % 64) 3
+    → IsUtf8Front bytes (get_or bytes 0 0 % 16 * 4096 + get_or bytes 1 0 % 64 * 64 + get_or bytes 2 0 % 64) 3
 next_three bytes u h low high = elim (shape bytes u h) [
   | one c rest l e x ↦ absurd (omega (arith, low, l, byte_of bytes _ 0 c e refl))
   | two c rest l m e x ↦ absurd (omega (arith, low, l, m, byte_of bytes _ 0 (192 + c / 64) e refl))
@@ -103,7 +103,7 @@ next_three bytes u h low high = elim (shape bytes u h) [
 ]
 
 pub next_four : (bytes : List ℕ) → IsUtf8 bytes → 0 < length bytes → 240 ≤ get_or bytes 0 0
-    → IsNext bytes (get_or bytes 0 0 % 8 * 262144 + get_or bytes 1 0 % 64 * 4096 + get_or bytes 2 0 % 64 * 64 + get_or bytes 3 0 % 64) 4
+    → IsUtf8Front bytes (get_or bytes 0 0 % 8 * 262144 + get_or bytes 1 0 % 64 * 4096 + get_or bytes 2 0 % 64 * 64 + get_or bytes 3 0 % 64) 4
 next_four bytes u h low = elim (shape bytes u h) [
   | one c rest l e x ↦ absurd (omega (arith, low, l, byte_of bytes _ 0 c e refl))
   | two c rest l m e x ↦ absurd (omega (arith, low, l, m, byte_of bytes _ 0 (192 + c / 64) e refl))
@@ -153,20 +153,20 @@ first_here bytes at = let e : at ≡ at + 0 = omega arith in ap (λ k. get_or by
 some_behind : (bytes : List ℕ) (at : ℕ) → at < length bytes → 0 < length (drop at bytes)
 some_behind bytes at h = omega (arith, h, length-drop at bytes)
 
-pub one_at : (bytes : List ℕ) (at a : ℕ) → IsUtf8 (drop at bytes) → at < length bytes → a ≡ get_or bytes at 0 → a < 128 → IsNext (drop at bytes) a 1
+pub one_at : (bytes : List ℕ) (at a : ℕ) → IsUtf8 (drop at bytes) → at < length bytes → a ≡ get_or bytes at 0 → a < 128 → IsUtf8Front (drop at bytes) a 1
 one_at bytes at a u h is low =
     let e = is ∙ first_here bytes at in
     renamed _ _ a 1 (sym e) (next_one (drop at bytes) u (some_behind bytes at h) (omega (arith, e, low)))
 
 pub two_at : (bytes : List ℕ) (at a b : ℕ) → IsUtf8 (drop at bytes) → at < length bytes → a ≡ get_or bytes at 0 → b ≡ get_or bytes (at + 1) 0 → 128 ≤ a → a < 224
-    → IsNext (drop at bytes) (a % 32 * 64 + b % 64) 2
+    → IsUtf8Front (drop at bytes) (a % 32 * 64 + b % 64) 2
 two_at bytes at a b u h is second low high =
     let e = is ∙ first_here bytes at in
     let f = second ∙ here bytes at 1 in
     renamed _ _ _ 2 (sym (ap₂ (λ x y. x % 32 * 64 + y % 64) e f)) (next_two (drop at bytes) u (some_behind bytes at h) (omega (arith, e, low)) (omega (arith, e, high)))
 
 pub three_at : (bytes : List ℕ) (at a b c : ℕ) → IsUtf8 (drop at bytes) → at < length bytes → a ≡ get_or bytes at 0 → b ≡ get_or bytes (at + 1) 0 → c ≡ get_or bytes (at + 2) 0
-    → 224 ≤ a → a < 240 → IsNext (drop at bytes) (a % 16 * 4096 + b % 64 * 64 + c % 64) 3
+    → 224 ≤ a → a < 240 → IsUtf8Front (drop at bytes) (a % 16 * 4096 + b % 64 * 64 + c % 64) 3
 three_at bytes at a b c u h is second third low high =
     let e = is ∙ first_here bytes at in
     let f = second ∙ here bytes at 1 in
@@ -175,7 +175,7 @@ three_at bytes at a b c u h is second third low high =
     (next_three (drop at bytes) u (some_behind bytes at h) (omega (arith, e, low)) (omega (arith, e, high)))
 
 pub four_at : (bytes : List ℕ) (at a b c d : ℕ) → IsUtf8 (drop at bytes) → at < length bytes → a ≡ get_or bytes at 0 → b ≡ get_or bytes (at + 1) 0 → c ≡ get_or bytes (at + 2) 0
-    → d ≡ get_or bytes (at + 3) 0 → 240 ≤ a → IsNext (drop at bytes) (a % 8 * 262144 + b % 64 * 4096 + c % 64 * 64 + d % 64) 4
+    → d ≡ get_or bytes (at + 3) 0 → 240 ≤ a → IsUtf8Front (drop at bytes) (a % 8 * 262144 + b % 64 * 4096 + c % 64 * 64 + d % 64) 4
 four_at bytes at a b c d u h is second third fourth low =
     let e = is ∙ first_here bytes at in
     let f = second ∙ here bytes at 1 in

@@ -2,7 +2,7 @@
 use Rattle.std.proofs.Common.{◌≡◌, refl, sym, ap, subst, ◌∙◌, ℕ, ◌+◌, ◌<◌, ◌≤◌, Bool, true, false, not, ◌&&◌, ◌||◌, List, [], ◌∷◌, None, cond, length, drop, arith, get_or, Fits, w16, nat_lt, nat_le}
 use Rattle.std.proofs.lemmas.Bool.Decides.{nat_tests}
 use Rattle.std.proofs.lemmas.List.{drop_more, get_or-drop}
-use Rattle.lane_utf.specs.Front.{IsFront}
+use Rattle.lane_utf.specs.Front.{IsUtf16Front}
 use Rattle.lane_utf.specs.Utf16.{is_lead, is_trail, is_lone, begins_with_trail, first_lone, first_lone_after, code_points, pair_code_point}
 use Rattle.lane_utf.proofs.Lone.{no_first, trail_leads_none}
 
@@ -38,7 +38,7 @@ pair_scalar u v e f =
     let t = trail_bounds v f in
     above_scalar (pair_code_point u v) (omega (arith, l, t)) (omega (arith, l, t))
 
-pub single_front : (u : ℕ) (us : List ℕ) → u < 65536 → first_lone (u ∷ us) ≡ None → is_lead u ≡ false → IsFront (u ∷ us) u 1
+pub single_front : (u : ℕ) (us : List ℕ) → u < 65536 → first_lone (u ∷ us) ≡ None → is_lead u ≡ false → IsUtf16Front (u ∷ us) u 1
 single_front u us h e lead =
     let n = no_first (is_lone false u us) (first_lone_after (is_lead u) us) e in
     let trail = (not_lone (is_lead u) (is_trail u) (begins_with_trail us) n.0).1 lead in
@@ -50,7 +50,7 @@ single_front u us h e lead =
       paired = rw lead at n.1;
     }
 
-pub pair_front : (u : ℕ) (us : List ℕ) → first_lone (u ∷ us) ≡ None → is_lead u ≡ true → IsFront (u ∷ us) (pair_code_point u (get_or us 0 0)) 2
+pub pair_front : (u : ℕ) (us : List ℕ) → first_lone (u ∷ us) ≡ None → is_lead u ≡ true → IsUtf16Front (u ∷ us) (pair_code_point u (get_or us 0 0)) 2
 pair_front u [] e lead = absurd cc ((not_lone (is_lead u) (is_trail u) false (no_first (is_lone false u []) None e).0).0 lead)
 pair_front u (v ∷ us) e lead =
     let n = no_first (is_lone false u (v ∷ us)) (first_lone_after (is_lead u) (v ∷ us)) e in
@@ -77,22 +77,22 @@ single_trails u us e lead =
 
 -- the same at an index
 pub single_at : (us : List ℕ) (at c : ℕ) → at < length us → ((k : ℕ) → Fits w16 (get_or us k 0)) → first_lone (drop at us) ≡ None
-    → c ≡ get_or us at 0 → is_lead (get_or us at 0) ≡ false → IsFront (drop at us) c 1
+    → c ≡ get_or us at 0 → is_lead (get_or us at 0) ≡ false → IsUtf16Front (drop at us) c 1
 single_at us at c h fits e is lead =
     let more = drop_more us at 0 h in
     let paired : first_lone (get_or us at 0 ∷ drop (at + 1) us) ≡ None = ap first_lone (sym more) ∙ e in
-    subst (λ r. IsFront (drop at us) r 1) (sym is)
-    (subst (λ xs. IsFront xs (get_or us at 0) 1) (sym more) (single_front (get_or us at 0) (drop (at + 1) us) (fits at).fits paired lead))
+    subst (λ r. IsUtf16Front (drop at us) r 1) (sym is)
+    (subst (λ xs. IsUtf16Front xs (get_or us at 0) 1) (sym more) (single_front (get_or us at 0) (drop (at + 1) us) (fits at).fits paired lead))
 
 pub pair_at : (us : List ℕ) (at u v : ℕ) → at < length us → first_lone (drop at us) ≡ None
-    → u ≡ get_or us at 0 → v ≡ get_or us (at + 1) 0 → is_lead (get_or us at 0) ≡ true → IsFront (drop at us) (pair_code_point u v) 2
+    → u ≡ get_or us at 0 → v ≡ get_or us (at + 1) 0 → is_lead (get_or us at 0) ≡ true → IsUtf16Front (drop at us) (pair_code_point u v) 2
 pair_at us at u v h e is second lead =
     let more = drop_more us at 0 h in
     let paired : first_lone (get_or us at 0 ∷ drop (at + 1) us) ≡ None = ap first_lone (sym more) ∙ e in
     let here : at + 1 + 0 ≡ at + 1 = omega arith in
     let trail : get_or (drop (at + 1) us) 0 0 ≡ v = get_or-drop (at + 1) us 0 0 ∙ ap (λ k. get_or us k 0) here ∙ sym second in
     let front = pair_front (get_or us at 0) (drop (at + 1) us) paired lead in
-    let named : IsFront (get_or us at 0 ∷ drop (at + 1) us) (pair_code_point u v) 2 =
-    subst (λ t. IsFront (get_or us at 0 ∷ drop (at + 1) us) (pair_code_point u t) 2) trail
-    (subst (λ r. IsFront (get_or us at 0 ∷ drop (at + 1) us) (pair_code_point r (get_or (drop (at + 1) us) 0 0)) 2) (sym is) front) in
-    subst (λ xs. IsFront xs (pair_code_point u v) 2) (sym more) named
+    let named : IsUtf16Front (get_or us at 0 ∷ drop (at + 1) us) (pair_code_point u v) 2 =
+    subst (λ t. IsUtf16Front (get_or us at 0 ∷ drop (at + 1) us) (pair_code_point u t) 2) trail
+    (subst (λ r. IsUtf16Front (get_or us at 0 ∷ drop (at + 1) us) (pair_code_point r (get_or (drop (at + 1) us) 0 0)) 2) (sym is) front) in
+    subst (λ xs. IsUtf16Front xs (pair_code_point u v) 2) (sym more) named

@@ -10,7 +10,7 @@ use Rattle.std.proofs.lemmas.Str.{length-encode, encodes-append}
 use Rattle.std.specs.List.{prefix_len}
 use Rattle.std.specs.Simd.Lanes.{Each1, put_chunk}
 use Rattle.lane_utf.specs.declared.to_utf8.Reached.{Reached}
-use Rattle.lane_utf.specs.Front.{IsFront}
+use Rattle.lane_utf.specs.Front.{IsUtf16Front}
 use Rattle.lane_utf.specs.Progress.{HasRoom, IsUpTo}
 use Rattle.lane_utf.specs.UnitRuns.{is_one, is_two, one_forms, two_forms, three_forms, trail_byte}
 use Rattle.lane_utf.specs.Utf16.{is_lead, first_lone, code_points}
@@ -33,7 +33,7 @@ scalar_room tail rest c written room e h =
     let long : length tail ≡ length (encode c) + length rest = ap length e ∙ length-append (encode c) rest in
     omega (arith, long, length-encode c, h)
 
-pub scalar_up_to : (units out old new : List ℕ) (from : Reached) (c n end : ℕ) → from.read < length units → HasRoom units from (length out) → IsFront (drop from.read units) c n
+pub scalar_up_to : (units out old new : List ℕ) (from : Reached) (c n end : ℕ) → from.read < length units → HasRoom units from (length out) → IsUtf16Front (drop from.read units) c n
     → end ≡ from.written + utf8_width c → new ≡ put_chunk from.written out (encode c) → IsUpTo units out old from → IsUpTo units new old (record { read = from.read + n; written = end })
 scalar_up_to units out old new from c n end some room f at is u =
     let behind = drop-drop n from.read units in

@@ -4,7 +4,7 @@ use Rattle.std.specs.Char.{IsScalar}
 use Rattle.lane_utf.specs.Utf16.{code_points, first_lone}
 
 -- the units begin with the code point c, which takes n of them
-pub record IsFront (units : List ℕ) (c n : ℕ) : Type 0 where
+pub record IsUtf16Front (units : List ℕ) (c n : ℕ) : Type 0 where
   pub scalar : IsScalar c
   pub some : 1 ≤ n
   pub within : n ≤ length units

@@ -4,7 +4,7 @@ use Rattle.std.specs.Char.{IsScalar}
 use Rattle.std.specs.Str.{IsUtf8, chars}
 
 -- the bytes begin with the code point c, which takes n of them
-pub record IsNext (bytes : List ℕ) (c n : ℕ) : Type 0 where
+pub record IsUtf8Front (bytes : List ℕ) (c n : ℕ) : Type 0 where
   pub scalar : IsScalar c
   pub some : 1 ≤ n
   pub within : n ≤ length bytes

@@ -4,7 +4,7 @@ ghost use Rattle.std.specs.Char.{IsScalar};
 ghost use Rattle.std.specs.Simd.Lanes.{put_chunk};
 ghost use Rattle.std.specs.Str.{chars, IsAscii, IsUtf8};
 ghost use Rattle.lane_utf.specs.Conversions.{over_front, utf16_answer};
-ghost use Rattle.lane_utf.specs.Next.{IsNext};
+ghost use Rattle.lane_utf.specs.Next.{IsUtf8Front};
 ghost use Rattle.lane_utf.specs.Utf16.{utf16_form, utf16_forms};
 ghost use Rattle.lane_utf.specs.Widths.{utf16_width, total_width};
 
@@ -85,7 +85,7 @@ fn widen(bytes: &[u8], read: usize, units: &mut [u16], written: usize)
 fn next(bytes: &[u8], at: usize) -> (u32, usize)
     requires within { at < length bytes.now }
     requires text { IsUtf8 (drop at bytes.now) }
-    ensures { IsNext (drop at bytes.now) result.0 result.1 }
+    ensures { IsUtf8Front (drop at bytes.now) result.0 result.1 }
 {
     let first = u32::from(bytes[at]);
     if first < 0x80 {

@@ -4,7 +4,7 @@ ghost use Rattle.std.specs.Char.{encode_utf8, IsScalar};
 ghost use Rattle.std.specs.Simd.Lanes.{put_chunk};
 ghost use Rattle.std.specs.Str.{encode_utf8_all, all_scalars};
 ghost use Rattle.lane_utf.specs.Conversions.{over_front, utf8_answer};
-ghost use Rattle.lane_utf.specs.Front.{IsFront};
+ghost use Rattle.lane_utf.specs.Front.{IsUtf16Front};
 ghost use Rattle.lane_utf.specs.Progress.{HasRoom, IsUpTo};
 ghost use Rattle.lane_utf.specs.Utf16.{code_points, first_lone, utf16_forms};
 ghost use Rattle.lane_utf.specs.Widths.{utf8_width};
@@ -157,7 +157,7 @@ fn put_three(bytes: &mut [u8], at: usize, c: u32)
 fn front(units: &[u16], at: usize) -> (u32, usize)
     requires within { at < length units.now }
     requires paired { first_lone (drop at units.now) ≡ None }
-    ensures { IsFront (drop at units.now) result.0 result.1 }
+    ensures { IsUtf16Front (drop at units.now) result.0 result.1 }
 {
     let unit = u32::from(units[at]);
     if !is_lead(units[at]) {

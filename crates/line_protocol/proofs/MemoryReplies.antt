@@ -11,7 +11,7 @@ use Rattle.desk.specs.declared.reply.Reply.TheVariants.{Edited, Changed, Changes
 use Rattle.line_protocol.specs.declared.request.refusal.Refusal.{Refusal}
 use Rattle.line_protocol.specs.Replies.{reply_text, memory_text}
 use Rattle.line_protocol.specs.Request.{request_of_line}
-use Rattle.line_protocol.specs.Step.{Step, IsStep, taken, ran_out, Replies, step_by, step_of, line_limit, too_long_text}
+use Rattle.line_protocol.specs.Step.{LineStep, IsStep, taken, ran_out, Replies, step_by, step_of, line_limit, too_long_text}
 
 memory_same : bytes_eq memory_text memory_text ≡ true
 unfolding escape_byte
@@ -31,11 +31,11 @@ changes_nothing id reply e = refl
 
 module _ (only : OnlyChangesChange) (old new : Office) where
   by_request : (r : Result (ℕ × Asked) Refusal) → step_by old r ≡ record { text = memory_text; office = new } → new ≡ old
-  by_request (Err refusal) e = sym (ap (λ (s : Step). s.office) e)
+  by_request (Err refusal) e = sym (ap (λ (s : LineStep). s.office) e)
   by_request (Ok request) e =
       let office : Names → Office = λ d. record { indexes = old.indexes; labels = old.labels; documents = d } in
-      let kept = only old request.1 (changes_nothing request.0 (answer_of old request.1).reply (ap (λ (s : Step). s.text) e)) in
-      sym (ap (λ (s : Step). s.office) e) ∙ ap office kept
+      let kept = only old request.1 (changes_nothing request.0 (answer_of old request.1).reply (ap (λ (s : LineStep). s.text) e)) in
+      sym (ap (λ (s : LineStep). s.office) e) ∙ ap office kept
 
   by_step : (line : List ℕ) → IsStep old (step_of old line) memory_text new → new ≡ old
   by_step line (taken e) = by_request (request_of_line line) e

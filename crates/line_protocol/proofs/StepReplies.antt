@@ -19,7 +19,7 @@ use Rattle.desk.specs.Documents.{Names}
 use Rattle.desk.specs.Desk.{Office, Outcome, Answers, answer_of}
 use Rattle.desk.specs.Accepted.{reports_change}
 use Rattle.line_protocol.proofs.DroppedLines.{memory_answers}
-use Rattle.line_protocol.specs.Step.{Step, IsStep, taken, ran_out, Replies, answered, step_by, step_of, line_limit}
+use Rattle.line_protocol.specs.Step.{LineStep, IsStep, taken, ran_out, Replies, answered, step_by, step_of, line_limit}
 
 -- ---- the desk's answer
 
@@ -31,7 +31,7 @@ same_office old new p q r =
 same_step : (old new : Office) (id : ℕ) (outcome : Outcome) (reply : Reply) (text : List ℕ) → text ≡ reply_text id reply → outcome ≡ record { reply = reply; documents = new.documents }
     → new.indexes ≡ old.indexes → new.labels ≡ old.labels → answered old id outcome ≡ record { text = text; office = new }
 same_step old new id outcome reply text e o p q =
-    let step : List ℕ → Files → LabelTable → Step = λ t i l. record { text = t; office = record { indexes = i; labels = l; documents = new.documents } } in
+    let step : List ℕ → Files → LabelTable → LineStep = λ t i l. record { text = t; office = record { indexes = i; labels = l; documents = new.documents } } in
     ap (answered old id) o ∙ ap (λ t. step t old.indexes old.labels) (sym e) ∙ ap (λ i. step text i old.labels) (sym p) ∙ ap (λ l. step text new.indexes l) (sym q)
 
 -- the desk answered, and its reply was written
@@ -59,7 +59,7 @@ long_keeps (replies.Place rev place utf8 utf16 utf32) long = refl
 long_keeps (Stat rev given encoding bom bytes errors lines utf8 utf16 utf32) long = refl
 
 -- the desk answered, and memory didn't suffice to write its reply
-pub unwritten_reply_step : (old new : Office) (step : Step) (reply : Reply) (text : List ℕ) → text ≡ memory_text → (is_short reply ≡ true → ⊥) → (reports_change reply ≡ false → new ≡ old)
+pub unwritten_reply_step : (old new : Office) (step : LineStep) (reply : Reply) (text : List ℕ) → text ≡ memory_text → (is_short reply ≡ true → ⊥) → (reports_change reply ≡ false → new ≡ old)
     → IsStep old step text new
 unwritten_reply_step old new step reply text e long kept = ran_out e (kept (long_keeps reply (false_from_ne_true _ long)))
 
@@ -67,7 +67,7 @@ unwritten_reply_step old new step reply text e long kept = ran_out e (kept (long
 
 -- a line is refused, and the desk stays
 refused_step : (o : Office) (r : Refusal) (text : List ℕ) → text ≡ refusal_text r → IsStep o (step_by o (Err r)) text o
-refused_step o r text e = taken (ap (λ x. let s : Step = record { text = x; office = o } in s) (sym e))
+refused_step o r text e = taken (ap (λ x. let s : LineStep = record { text = x; office = o } in s) (sym e))
 
 -- the desk answered a request, and its reply was written
 pub parsed_step : (old new : Office) (d : Data) (id : ℕ) (command : Command) (reply : Reply) (text : List ℕ) → IsRequest d (Ok (id, command)) → text ≡ reply_text id reply

@@ -15,28 +15,28 @@ abbrev pub too_long_text : List ℕ
 too_long_text = refusal_text LineTooLong
 
 -- a reply's text, and the desk after it
-pub record Step : Type 0 where
+pub record LineStep : Type 0 where
   pub text : List ℕ
   pub office : Office
 
 -- the desk answered the request with this number
-abbrev pub answered : Office → ℕ → Outcome → Step
+abbrev pub answered : Office → ℕ → Outcome → LineStep
 answered o id outcome = record {
   text = reply_text id outcome.reply;
   office = record { indexes = o.indexes; labels = o.labels; documents = outcome.documents };
 }
 
 -- what a request does, or the refusal of its line
-abbrev pub step_by : Office → Result (ℕ × Asked) Refusal → Step
+abbrev pub step_by : Office → Result (ℕ × Asked) Refusal → LineStep
 step_by o (Ok request) = answered o request.0 (answer_of o request.1)
 step_by o (Err refusal) = record { text = refusal_text refusal; office = o }
 
 -- what a line does that is not too long
-abbrev pub step_of : Office → List ℕ → Step
+abbrev pub step_of : Office → List ℕ → LineStep
 step_of o line = step_by o (request_of_line line)
 
 -- How a reply and the desk after it came about: they are those of the step; or memory ran out, which the reply says, and nothing changed.
-pub data IsStep (old : Office) (step : Step) (text : List ℕ) (new : Office) : Type 0 where
+pub data IsStep (old : Office) (step : LineStep) (text : List ℕ) (new : Office) : Type 0 where
   taken : step ≡ record { text = text; office = new } → IsStep old step text new
   ran_out : text ≡ memory_text → new ≡ old → IsStep old step text new
 

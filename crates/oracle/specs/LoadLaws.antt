@@ -3,8 +3,8 @@ use Rattle.std.specs.Prelude.{◌≡◌, ℕ, ◌≤◌, refl}
 use Rattle.std.proofs.Common.{arith}
 use Rattle.sum_tree.specs.Sums.{MonoidLaws}
 use Rattle.oracle.specs.declared.tree.load.Load.{Load}
-use Rattle.oracle.specs.declared.tree.load.Axis.{Axis}
-use Rattle.oracle.specs.declared.tree.load.Axis.TheVariants.{Count, Weight}
+use Rattle.oracle.specs.declared.tree.load.LoadAxis.{LoadAxis}
+use Rattle.oracle.specs.declared.tree.load.LoadAxis.TheVariants.{Count, Weight}
 use Rattle.oracle.specs.Loads.{load, no_load, joined, IsSmall, number}
 
 same : (a b c d : ℕ) → a ≡ b → c ≡ d → load a c ≡ load b d
@@ -26,10 +26,10 @@ small_right a b h = record { count = omega (arith, h.count); weight = omega (ari
 pub small_none : IsSmall no_load
 small_none = record { count = omega arith; weight = omega arith }
 
-pub number_none : (d : Axis) → number d no_load ≡ 0
+pub number_none : (d : LoadAxis) → number d no_load ≡ 0
 number_none Count = refl
 number_none Weight = refl
 
-pub number_rises : (d : Axis) (a b : Load) → number d a ≤ number d (joined a b)
+pub number_rises : (d : LoadAxis) (a b : Load) → number d a ≤ number d (joined a b)
 number_rises Count a b = omega arith
 number_rises Weight a b = omega arith

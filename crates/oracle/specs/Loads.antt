@@ -1,8 +1,8 @@
 -- Loads of lists of items.
 use Rattle.std.specs.Prelude.{ℕ, ◌+◌, ◌<◌, ◌^◌}
 use Rattle.oracle.specs.declared.tree.load.Load.{Load}
-use Rattle.oracle.specs.declared.tree.load.Axis.{Axis}
-use Rattle.oracle.specs.declared.tree.load.Axis.TheVariants.{Count, Weight}
+use Rattle.oracle.specs.declared.tree.load.LoadAxis.{LoadAxis}
+use Rattle.oracle.specs.declared.tree.load.LoadAxis.TheVariants.{Count, Weight}
 
 abbrev pub load : ℕ → ℕ → Load
 load count weight = record { count = count; weight = weight }
@@ -21,6 +21,6 @@ pub record IsSmall (l : Load) : Type 0 where
   pub weight : l.weight < 2 ^ 64
 
 -- a number of a load
-abbrev pub number : Axis → Load → ℕ
+abbrev pub number : LoadAxis → Load → ℕ
 number Count l = l.count
 number Weight l = l.weight

@@ -1,24 +1,24 @@
 //! Lines, positions and places, computed plainly over a whole text.
 
 use crate::ruler::Ruler;
-use crate::text::Text;
+use crate::text::PlacedText;
 use enc_names::Place;
 use position_map::{PosFault, Position, Unit};
 use std::alloc::Global;
 
 /// Where a line starts and ends, in code points.
 #[derive(Clone, Copy)]
-struct Line {
+struct LineOfText {
     start: usize,
     end: usize,
 }
 
 /// A text with everything that is asked of it, found by walks from its start to its end.
 #[derive(Drop)]
-pub struct Plain {
+pub struct WalkedText {
     /// The text.
-    pub text: Text,
-    lines: Vec<Line>,
+    pub text: PlacedText,
+    lines: Vec<LineOfText>,
     /// The line of each offset.
     line_at: Vec<usize>,
     /// How many code points end at each byte or before it.
@@ -29,7 +29,7 @@ pub struct Plain {
 }
 
 /// The lines, cut at CR LF, CR and LF.
-fn lines_of(alloc: Global, text: &[char]) -> Option<Vec<Line>> {
+fn lines_of(alloc: Global, text: &[char]) -> Option<Vec<LineOfText>> {
     let mut lines = Vec::new(alloc);
     let mut start = 0;
     let mut last = ' ';
@@ -38,19 +38,19 @@ fn lines_of(alloc: Global, text: &[char]) -> Option<Vec<Line>> {
             // The line ended at the CR.
             start = n + 1;
         } else if *c == '\n' || *c == '\r' {
-            lines.push(Line { start, end: n }).ok()?;
+            lines.push(LineOfText { start, end: n }).ok()?;
             start = n + 1;
         }
         last = *c;
     }
     let end = text.len();
-    lines.push(Line { start, end }).ok()?;
+    lines.push(LineOfText { start, end }).ok()?;
     Some(lines)
 }
 
 /// The number of the last line that starts at or before each offset of a text of so many code
 /// points.
-fn lines_at(alloc: Global, lines: &[Line], count: usize) -> Option<Vec<usize>> {
+fn lines_at(alloc: Global, lines: &[LineOfText], count: usize) -> Option<Vec<usize>> {
     let mut line_at = Vec::new(alloc);
     let mut line: usize = 0;
     for offset in 0..=count {
@@ -79,11 +79,11 @@ fn untils(alloc: Global, places: &[Place], bytes: usize) -> Option<Vec<u64>> {
     Some(ends)
 }
 
-impl Plain {
+impl WalkedText {
     /// Everything about the text of so many bytes; `None` where memory is refused.
-    pub fn of(alloc: Global, text: Text, bytes: usize) -> Option<Plain> {
+    pub fn of(alloc: Global, text: PlacedText, bytes: usize) -> Option<WalkedText> {
         let lines = lines_of(alloc, &text.chars)?;
-        Some(Plain {
+        Some(WalkedText {
             line_at: lines_at(alloc, &lines, text.chars.len())?,
             until: untils(alloc, &text.places, bytes)?,
             utf8: Ruler::of(alloc, &text.chars, Unit::Utf8)?,

@@ -15,7 +15,7 @@ const BYTES: [u8; 40] = [
 
 /// At `at`, `del` bytes are taken out and `ins` is put in.
 #[derive(Drop)]
-pub struct Splice {
+pub struct DrawnSplice {
     /// Where.
     pub at: usize,
     /// How many bytes are taken out.
@@ -62,18 +62,18 @@ fn number_taken_out(rng: &mut SmallRng, left: usize) -> usize
 }
 
 /// A splice of a document of so many bytes; `None` where memory is refused.
-pub fn splice_of(alloc: Global, rng: &mut SmallRng, length: usize) -> Option<Splice>
+pub fn splice_of(alloc: Global, rng: &mut SmallRng, length: usize) -> Option<DrawnSplice>
     ensures fits { IfSome result (λ splice. splice.at + splice.del ≤ length) }
 {
     let count = number_put_in(rng);
     let ins = bytes(alloc, rng, count)?;
     let at = rng.random_range(0..=length);
     let del = number_taken_out(rng, length - at);
-    Some(Splice { at, del, ins })
+    Some(DrawnSplice { at, del, ins })
 }
 
 /// The bytes behind the splice; `None` where memory is refused.
-pub fn spliced(alloc: Global, bytes: &[u8], splice: &Splice) -> Option<Vec<u8>>
+pub fn spliced(alloc: Global, bytes: &[u8], splice: &DrawnSplice) -> Option<Vec<u8>>
     ensures { IfSome result (λ new. new.items ≡ spliced bytes.now splice.now.at splice.now.del splice.now.ins.items) }
 {
     let mut new = Vec::new(alloc);

@@ -9,7 +9,7 @@ use std::alloc::Global;
 /// What decoding bytes from scratch gives: the encoding in force, the code points, and of each the
 /// place of its item.
 #[derive(Drop)]
-pub struct Text {
+pub struct PlacedText {
     /// The encoding in force.
     pub encoding: Encoding,
     /// The length of the byte order mark, 0 where there is none.
@@ -20,13 +20,18 @@ pub struct Text {
     pub places: Vec<Place>,
 }
 
-impl Text {
+impl PlacedText {
     /// The text of these bytes under a setting; `None` where an index file isn't there or memory is refused.
-    pub fn of(alloc: Global, indexes: &Indexes, setting: Setting, bytes: &[u8]) -> Option<Text> {
+    pub fn of(
+        alloc: Global,
+        indexes: &Indexes,
+        setting: Setting,
+        bytes: &[u8],
+    ) -> Option<PlacedText> {
         let decoder = AnyDecoder::under(indexes, setting)?;
         let Sniffed { encoding, bom_len } = sniff(setting, bytes);
         let items = decode_parts(alloc, &decoder, bytes, bom_len, &[], &mut meter()).ok()?;
-        let mut text = Text {
+        let mut text = PlacedText {
             encoding,
             bom_len,
             chars: Vec::new(alloc),

@@ -4,6 +4,6 @@ mod item;
 mod items;
 mod load;
 
-pub use item::{Item, light};
+pub use item::{WeightedItem, light};
 pub use items::{Items, built, put, swap, take};
-pub use load::{Axis, Load};
+pub use load::{Load, LoadAxis};

@@ -9,7 +9,7 @@ use Rattle.index_loader.specs.Files.{Files}
 use Rattle.state_memo.specs.Decoding.{AnyDecoding}
 use Rattle.state_memo.specs.Outcome.{Contents, contents_of, ending_of}
 use Rattle.state_memo.specs.declared.outcome.Outcome.{Outcome}
-use Rattle.piece_rope.specs.declared.edit.Edit.{Edit}
+use Rattle.piece_rope.specs.declared.edit.PreparedEdit.{PreparedEdit}
 use Rattle.piece_rope.specs.declared.fault.DocFault.{DocFault}
 use Rattle.piece_rope.specs.declared.fault.DocFault.TheVariants.{NoIndex, OutOfRange, TooLarge, NotKept, OutOfMemory}
 use Rattle.piece_rope.specs.Document.{Document, document, text_of}
@@ -75,7 +75,7 @@ edited-doc doc self same bytes ins at del own =
     ap (λ (bs : List ℕ). record doc { bytes = bs }) own ∙ ap (λ (x : Document). spliced_document x at del ins) same
 
 -- once a splice is ready no cause is left, and what was compared is what is asked
-pub kept-answer : (files : Files) (setting : Setting) (ps : List Entry) (tail : Outcome) (e : Edit) (earlier : Option (List ℕ)) (self : Document) (at del : ℕ) (ins : List ℕ) (i j : ℕ) (r : Bool) (put : List ℕ)
+pub kept-answer : (files : Files) (setting : Setting) (ps : List Entry) (tail : Outcome) (e : PreparedEdit) (earlier : Option (List ℕ)) (self : Document) (at del : ℕ) (ins : List ℕ) (i j : ℕ) (r : Bool) (put : List ℕ)
     → record (document files setting (bytes_of ps)) { earlier = earlier } ≡ self → IsKept files setting ps tail → IsReady files setting ps at del ins e
     → splice_fault (bytes_of ps) at del ins ≡ None → i ≤ j → j ≤ length (text_of self)
     → Decides r (text_in (edited_parts ps e) ≡ replaced (text_in (parts_of ps tail)) i j put)

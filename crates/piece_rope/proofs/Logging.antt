@@ -6,7 +6,7 @@ use Rattle.enc_names.specs.declared.setting.Setting.{Setting}
 use Rattle.index_loader.specs.Files.{Files}
 use Rattle.state_memo.specs.declared.outcome.Outcome.{Outcome}
 use Rattle.sum_tree.specs.Listed.{Listed}
-use Rattle.piece_rope.specs.declared.edit.Edit.{Edit}
+use Rattle.piece_rope.specs.declared.edit.PreparedEdit.{PreparedEdit}
 use Rattle.piece_rope.specs.declared.log.LoggedEdit.{LoggedEdit}
 use Rattle.piece_rope.specs.Chain.{AreRenewed, bytes_of}
 use Rattle.piece_rope.specs.Edit.{edited}
@@ -65,7 +65,7 @@ part-of ps first behind order =
     ∙ ap (λ (qs : List Entry). take first ps ++ qs) (take-append-drop (behind - first) (drop first ps))
     ∙ take-append-drop first ps
 
-module _ (ps : List Entry) (edit : Edit) (order : edit.first ≤ edit.last) (within : edit.last + length edit.renewals.items ≤ length ps)
+module _ (ps : List Entry) (edit : PreparedEdit) (order : edit.first ≤ edit.last) (within : edit.last + length edit.renewals.items ≤ length ps)
     (are : AreRenewed (drop edit.last ps) edit.renewals.items) (put : ℕ) (put_is : put ≡ length edit.fresh.items + length edit.renewals.items) where
   abbrev front : List Entry
   front = take edit.first ps
@@ -103,7 +103,7 @@ module _ (ps : List Entry) (edit : Edit) (order : edit.first ≤ edit.last) (wit
 -- ---- a document that can come back
 
 -- behind an edit it comes back to the same
-module _ (files : Files) (setting : Setting) (old new : Listed Entry) (tail : Outcome) (edit : Edit) (new_tail : Outcome) (new_is : new.items ≡ edited old.items edit)
+module _ (files : Files) (setting : Setting) (old new : Listed Entry) (tail : Outcome) (edit : PreparedEdit) (new_tail : Outcome) (new_is : new.items ≡ edited old.items edit)
     (wider : room_of old ≤ room_of new) (join : CanJoin old.items) where
   returned : (es : List LoggedEdit) (e : LoggedEdit) → TakesBack old.items tail edit e → before_all new.items (es ++ e ∷ []) ≡ before_all old.items es
   returned es e back =

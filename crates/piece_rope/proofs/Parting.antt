@@ -6,7 +6,7 @@ use Rattle.std.proofs.lemmas.Option.{slice_get_past}
 use Rattle.std.specs.Str.{encode_utf8_all, chars, IsUtf8}
 use Rattle.std.proofs.lemmas.Str.{encodes-append, encodes-chars}
 use Rattle.state_memo.specs.declared.outcome.Outcome.{Outcome}
-use Rattle.piece_rope.specs.declared.edit.Edit.{Edit}
+use Rattle.piece_rope.specs.declared.edit.PreparedEdit.{PreparedEdit}
 use Rattle.piece_rope.specs.Chain.{renew, renewed}
 use Rattle.piece_rope.specs.Edit.{edited}
 use Rattle.piece_rope.specs.Entry.{Entry, here_of, texts_of}
@@ -77,7 +77,7 @@ renewed-past [] (r ∷ rs) tail n l w = absurd (omega (arith, w))
 renewed-past (x ∷ xs) (r ∷ rs) tail zero l w = absurd (omega (arith, l))
 renewed-past (x ∷ xs) (r ∷ rs) tail (suc n) l w = renewed-past xs rs tail n (omega (arith, l)) (omega (arith, w))
 
-module _ (ps : List Entry) (e : Edit) (fits : IsPrepared ps e) where
+module _ (ps : List Entry) (e : PreparedEdit) (fits : IsPrepared ps e) where
   first-length : length (take e.first ps) ≡ e.first
   first-length = length-take-le e.first ps (omega (arith, fits.order, fits.within))
 
@@ -211,5 +211,5 @@ bytes-next-part os n o bytes at utf8 own =
 pub bytes-past : (os : List Outcome) (n : ℕ) → slice_get os n ≡ None → encode_utf8_all (text_in (drop n os)) ≡ []
 bytes-past os n at = ap encode_utf8_all (text-past os n at)
 
-pub few-parts : (ps : List Entry) (e : Edit) → IsPrepared ps e → length (edited_parts ps e) ≤ 4294967297
+pub few-parts : (ps : List Entry) (e : PreparedEdit) → IsPrepared ps e → length (edited_parts ps e) ≤ 4294967297
 few-parts ps e fits = omega (arith, parts-length (edited ps e) e.tail, fits.few)

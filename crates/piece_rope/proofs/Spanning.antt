@@ -2,7 +2,7 @@
 use Rattle.std.proofs.Common.{◌≡◌, refl, sym, ap, ◌∙◌, ℕ, zero, suc, ◌+◌, ◌-◌, ◌≤◌, List, [], ◌∷◌, ◌++◌, take, drop, length, arith, append_assoc, append-nil, length-append, take-append-drop}
 use Rattle.std.proofs.lemmas.List.{length-take-le, drop-drop, take-append-le}
 use Rattle.state_memo.specs.declared.outcome.Outcome.{Outcome}
-use Rattle.piece_rope.specs.declared.edit.Edit.{Edit}
+use Rattle.piece_rope.specs.declared.edit.PreparedEdit.{PreparedEdit}
 use Rattle.piece_rope.specs.Compare.{IsSpan}
 use Rattle.piece_rope.specs.Edit.{edited}
 use Rattle.piece_rope.specs.Entry.{Entry, here_of, texts_of}
@@ -40,7 +40,7 @@ texts-grow ps n m l =
       length-append (texts_of (take n ps)) (texts_of (take (m - n) (drop n ps))),
     )
 
-module _ (ps : List Entry) (e : Edit) (fits : IsPrepared ps e) where
+module _ (ps : List Entry) (e : PreparedEdit) (fits : IsPrepared ps e) where
   abbrev pub changed : ℕ
   changed = e.last + length e.renewals.items
 

@@ -1,7 +1,7 @@
 -- An edit that is made ready before anything changes.
 use Rattle.std.specs.Prelude.{◌≡◌, ℕ, ◌+◌, ◌*◌, ◌-◌, ◌<◌, ◌≤◌, List, ◌++◌, take, drop, length}
 use Rattle.state_memo.specs.Decoding.{feed, AnyDecoding, AnyState, any, any_start}
-use Rattle.piece_rope.specs.declared.edit.Edit.{Edit}
+use Rattle.piece_rope.specs.declared.edit.PreparedEdit.{PreparedEdit}
 use Rattle.piece_rope.specs.Entry.{Entry}
 use Rattle.piece_rope.specs.Chain.{Chain, state_after, renewed}
 use Rattle.piece_rope.specs.Sizes.{HasSizes, longest}
@@ -13,7 +13,7 @@ pub record IsRope (d : AnyDecoding) (ps : List Entry) (end : AnyState) : Type 0 
   pub sizes : HasSizes ps
 
 -- the pieces once the edit is made
-abbrev pub edited : List Entry → Edit → List Entry
+abbrev pub edited : List Entry → PreparedEdit → List Entry
 edited ps e = take e.first ps ++ (e.fresh.items ++ renewed (drop e.last ps) e.renewals.items)
 
 -- bytes from `at` to `to` give way to others

@@ -5,7 +5,7 @@ use Rattle.enc_names.specs.declared.setting.Setting.{Setting}
 use Rattle.index_loader.specs.Files.{Files}
 use Rattle.state_memo.specs.declared.outcome.Outcome.{Outcome}
 use Rattle.sum_tree.specs.Listed.{Listed}
-use Rattle.piece_rope.specs.declared.edit.Edit.{Edit}
+use Rattle.piece_rope.specs.declared.edit.PreparedEdit.{PreparedEdit}
 use Rattle.piece_rope.specs.declared.log.LoggedEdit.{LoggedEdit}
 use Rattle.piece_rope.specs.Chain.{bytes_of}
 use Rattle.piece_rope.specs.Edit.{edited}
@@ -43,13 +43,13 @@ abbrev pub room_of : Listed Entry → ℕ
 room_of ps = length ps.items + ps.spare
 
 -- an edit of pieces that is taken back by this entry
-pub record TakesBack (ps : List Entry) (tail : Outcome) (edit : Edit) (e : LoggedEdit) : Type 0 where
+pub record TakesBack (ps : List Entry) (tail : Outcome) (edit : PreparedEdit) (e : LoggedEdit) : Type 0 where
   pub within : e.first + e.put ≤ length (edited ps edit)
   pub pieces : before_edit (edited ps edit) e ≡ ps
   pub tail_is : e.tail ≡ tail
 
 -- the log has one entry more, for this edit, where there is a log
-abbrev pub Logs : List Entry → Outcome → Edit → Option (Vec LoggedEdit Global) → Option (Vec LoggedEdit Global) → Type 0
+abbrev pub Logs : List Entry → Outcome → PreparedEdit → Option (Vec LoggedEdit Global) → Option (Vec LoggedEdit Global) → Type 0
 Logs ps tail edit None None = Unit {0}
 Logs ps tail edit (Some old) (Some new) = (e : LoggedEdit) × (new.items ≡ old.items ++ e ∷ []) × TakesBack ps tail edit e
 Logs ps tail edit old new = ⊥

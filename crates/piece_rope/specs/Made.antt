@@ -39,11 +39,6 @@ abbrev pub AreMade : ℕ → List Placed → List Outcome → Type 0
 AreMade base ps [] = ps ≡ []
 AreMade base ps (o ∷ os) = (here : List Placed) × (rest : List Placed) × (ps ≡ here ++ rest) × IsMade base here o × AreMade (base + o.sum.bytes) rest os
 
--- each piece has so many bytes
-abbrev pub AreAtLeast : ℕ → List Outcome → Type 0
-AreAtLeast least [] = Unit {0}
-AreAtLeast least (o ∷ os) = (least ≤ o.sum.bytes) × AreAtLeast least os
-
 -- how many items the end of the bytes gives
 abbrev pub ended_by : Option AnyDecoding → List ℕ → ℕ
 ended_by None bytes = 0

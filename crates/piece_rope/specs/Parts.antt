@@ -4,7 +4,7 @@ use Rattle.state_memo.specs.Decoding.{AnyState}
 use Rattle.state_memo.specs.Memo.{same_state}
 use Rattle.state_memo.specs.declared.outcome.Outcome.{Outcome}
 use Rattle.piece_rope.specs.Chain.{renewed}
-use Rattle.piece_rope.specs.declared.edit.Edit.{Edit}
+use Rattle.piece_rope.specs.declared.edit.PreparedEdit.{PreparedEdit}
 use Rattle.piece_rope.specs.Edit.{edited}
 use Rattle.piece_rope.specs.Entry.{Entry, here_of}
 
@@ -17,19 +17,19 @@ abbrev pub text_in : List Outcome → List ℕ
 text_in os = flat_map (λ (o : Outcome). o.text) os
 
 -- the parts once an edit is made
-abbrev pub edited_parts : List Entry → Edit → List Outcome
+abbrev pub edited_parts : List Entry → PreparedEdit → List Outcome
 edited_parts ps e = parts_of (edited ps e) e.tail
 
 -- those of them that are behind the pieces made anew
-abbrev pub later_parts : List Entry → Edit → List Outcome
+abbrev pub later_parts : List Entry → PreparedEdit → List Outcome
 later_parts ps e = parts_of (renewed (drop e.last ps) e.renewals.items) e.tail
 
 -- the pieces that are made anew, and those that are renewed
-abbrev pub made_pieces : List Entry → Edit → List Entry
+abbrev pub made_pieces : List Entry → PreparedEdit → List Entry
 made_pieces ps e = e.fresh.items ++ renewed (take (length e.renewals.items) (drop e.last ps)) e.renewals.items
 
 -- an edit that was prepared over these pieces
-pub record IsPrepared (ps : List Entry) (e : Edit) : Type 0 where
+pub record IsPrepared (ps : List Entry) (e : PreparedEdit) : Type 0 where
   pub order : e.first ≤ e.last
   pub within : e.last + length e.renewals.items ≤ length ps
   pub few_old : length ps ≤ 4294967296

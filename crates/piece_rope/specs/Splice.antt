@@ -3,7 +3,7 @@ use Rattle.std.specs.Prelude.{◌≡◌, ℕ, List, drop, Some}
 use Rattle.enc_names.specs.declared.setting.Setting.{Setting}
 use Rattle.index_loader.specs.Files.{Files}
 use Rattle.state_memo.specs.Decoding.{AnyDecoding, decoder_in}
-use Rattle.piece_rope.specs.declared.edit.Edit.{Edit}
+use Rattle.piece_rope.specs.declared.edit.PreparedEdit.{PreparedEdit}
 use Rattle.piece_rope.specs.Chain.{AreRenewed, bytes_of}
 use Rattle.piece_rope.specs.Edit.{edited}
 use Rattle.piece_rope.specs.Edits.{spliced}
@@ -13,7 +13,7 @@ use Rattle.piece_rope.specs.Parts.{IsPrepared}
 use Rattle.piece_rope.specs.Sizes.{CanJoin}
 
 -- its pieces are those of a document with the bytes spliced, and can be put in place
-pub record IsReady (files : Files) (setting : Setting) (ps : List Entry) (at del : ℕ) (ins : List ℕ) (e : Edit) : Type 0 where
+pub record IsReady (files : Files) (setting : Setting) (ps : List Entry) (at del : ℕ) (ins : List ℕ) (e : PreparedEdit) : Type 0 where
   pub prepared : IsPrepared ps e
   pub renewals : AreRenewed (drop e.last ps) e.renewals.items
   pub old : CanJoin ps

@@ -19,7 +19,7 @@ use std::alloc::Global;
 /// New pieces for those at `first..last`, what the first of those behind become, and what the end
 /// of the bytes gives behind all of them.
 #[derive(Drop)]
-pub(crate) struct Edit {
+pub(crate) struct PreparedEdit {
     pub first: usize,
     pub last: usize,
     pub fresh: Vec<Entered>,
@@ -73,7 +73,7 @@ pub(crate) fn prepare(
     to: usize,
     ins: &[u8],
     meter: &mut Meter,
-) -> Result<Edit, OutOfMemory>
+) -> Result<PreparedEdit, OutOfMemory>
     requires rope { IsRope decoder.now pieces.now.items end }
     requires counted { AreCounted pieces.now.items }
     requires size { length (bytes_of pieces.now.items) < 2 ^ 63 }
@@ -101,7 +101,7 @@ pub(crate) fn prepare(
     let later = renewals_from(alloc, decoder, pieces, window.last, behind, old_end, meter)?;
     let Later { renewals, exit } = later;
     let tail = finish_of(alloc, decoder, exit)?;
-    Ok(Edit {
+    Ok(PreparedEdit {
         first: window.first,
         last: window.last,
         fresh: made,

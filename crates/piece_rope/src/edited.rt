@@ -2,7 +2,7 @@
 ghost use Rattle.std.specs.Prelude.{◌≡◌, slice_get, option_copied};
 ghost use Rattle.piece_rope.specs.Parts.{IsPrepared, parts_of, edited_parts, later_parts};
 
-use crate::edit::Edit;
+use crate::edit::PreparedEdit;
 use crate::pieces::Pieces;
 use state_memo::Outcome;
 
@@ -11,7 +11,7 @@ use state_memo::Outcome;
 #[derive(Clone, Copy)]
 pub(crate) struct Edited<'a> {
     pub pieces: &'a Pieces,
-    pub edit: &'a Edit,
+    pub edit: &'a PreparedEdit,
     ghost prepared: { IsPrepared pieces.now.items edit.now },
 }
 

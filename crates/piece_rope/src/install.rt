@@ -5,7 +5,7 @@ ghost use Rattle.piece_rope.specs.Edit.{edited};
 ghost use Rattle.piece_rope.specs.Log.{IsSameLog, Logs, room_of};
 ghost use Rattle.piece_rope.specs.Sizes.{CanJoin};
 
-use crate::edit::Edit;
+use crate::edit::PreparedEdit;
 use crate::entered::Entered;
 use crate::log::{Log, log_edit};
 use crate::pieces::{Pieces, put_piece, take_piece};
@@ -73,7 +73,7 @@ pub(crate) fn install_edit(
     pieces: &mut Pieces,
     tail: &mut Outcome,
     log: &mut Log,
-    edit: Edit,
+    edit: PreparedEdit,
 ) -> Result<(), OutOfMemory>
     requires order { edit.first ≤ edit.last }
     requires within { edit.last + length edit.renewals.items ≤ length pieces.old.items }
@@ -90,7 +90,7 @@ pub(crate) fn install_edit(
 {
     pieces.reserve(edit.fresh.len())?;
     log_edit(alloc, log, pieces, tail, &edit)?;
-    let Edit {
+    let PreparedEdit {
         first,
         last,
         fresh,

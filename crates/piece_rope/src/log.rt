@@ -6,7 +6,7 @@ ghost use Rattle.piece_rope.specs.Edit.{edited};
 ghost use Rattle.piece_rope.specs.Sizes.{CanJoin};
 ghost use Rattle.piece_rope.specs.Log.{IsSameLog, Logs, TakesBack};
 
-use crate::edit::Edit;
+use crate::edit::PreparedEdit;
 use crate::entered::Entered;
 use crate::pieces::Pieces;
 use state_memo::{OutOfMemory, Outcome};
@@ -56,7 +56,7 @@ fn entry_for(
     alloc: Global,
     pieces: &Pieces,
     tail: &Outcome,
-    edit: &Edit,
+    edit: &PreparedEdit,
 ) -> Result<LoggedEdit, OutOfMemory>
     requires order { edit.now.first ≤ edit.now.last }
     requires within { edit.now.last + length edit.now.renewals.items ≤ length pieces.now.items }
@@ -85,7 +85,7 @@ pub(crate) fn log_edit(
     log: &mut Log,
     pieces: &Pieces,
     tail: &Outcome,
-    edit: &Edit,
+    edit: &PreparedEdit,
 ) -> Result<(), OutOfMemory>
     requires order { edit.now.first ≤ edit.now.last }
     requires within { edit.now.last + length edit.now.renewals.items ≤ length pieces.now.items }

@@ -7,7 +7,7 @@ ghost use Rattle.piece_rope.specs.Kept.{IsKept, Resyncs};
 ghost use Rattle.piece_rope.specs.Sizes.{longest};
 ghost use Rattle.piece_rope.specs.Splice.{IsReady};
 
-use crate::edit::{Edit, prepare};
+use crate::edit::{PreparedEdit, prepare};
 use crate::fault::DocFault;
 use crate::limits::checked_cut;
 use crate::pieces::Pieces;
@@ -28,7 +28,7 @@ pub(crate) fn prepare_splice(
     del: u64,
     ins: &[u8],
     meter: &mut Meter,
-) -> Result<Edit, DocFault>
+) -> Result<PreparedEdit, DocFault>
     requires { IsKept indexes.now setting pieces.now.items tail.now }
     ensures ready { IfOk result (IsReady indexes.now setting pieces.now.items at del ins.now) }
     ensures faults { Faults (splice_fault (bytes_of pieces.now.items) at del ins.now) result }

@@ -11,7 +11,7 @@ use Rattle.piece_rope.specs.Made.{IsMade, AreMade, body_of, tail_of, count_body}
 use Rattle.piece_rope.specs.Outputs.{HasOutputs, HaveOutputs}
 use Rattle.piece_rope.specs.Chain.{bytes_of}
 use Rattle.piece_rope.specs.Sizes.{AreSized, AreCounted, shortest}
-use Rattle.position_map.specs.Whole.{IsWhole, AreAtLeast, AreAtMost, pieces_most}
+use Rattle.position_map.specs.Whole.{AreAllPieces, AreAtLeast, AreAtMost, pieces_most}
 
 made-last : (os : List Outcome) (tail : Outcome) (base end : ℕ) (ps qs : List Placed) → AreMade base ps os → end ≡ base + (total_of os).bytes → IsMade end qs tail → AreMade base (ps ++ qs) (os ++ tail ∷ [])
 made-last [] tail base end ps qs m e t =
@@ -57,7 +57,7 @@ few-pieces d (x ∷ y ∷ es) b w =
     omega (arith, length-heres (x ∷ y ∷ es), sized-count (x ∷ y ∷ es) (w two), ap length b)
 
 pub whole-of : (d : Document) (es : List Entry) (tail : Outcome) → AreMade 0 (body_of d) (map here_of es) → bytes_of es ≡ d.bytes → AreSized 1 es → (2 ≤ length es → AreSized shortest es) → AreCounted es
-    → IsMade (length d.bytes) (tail_of d) tail → tail.sum.bytes ≡ 0 → HaveOutputs d 0 (map here_of es) → HasOutputs d (length d.bytes) tail.items → IsWhole d (map here_of es) tail
+    → IsMade (length d.bytes) (tail_of d) tail → tail.sum.bytes ≡ 0 → HaveOutputs d 0 (map here_of es) → HasOutputs d (length d.bytes) tail.items → AreAllPieces d (map here_of es) tail
 whole-of d es tail made b small wide counted ended none outputs last =
     let all : (total_of (map here_of es)).bytes ≡ length d.bytes = total-heres es counted ∙ ap length b in
     let items : body_of d ++ tail_of d ≡ (decoded d).items = take-append-drop (count_body d) (decoded d).items in
@@ -77,7 +77,7 @@ at_most-found most [] o back h = h.0
 at_most-found most (x ∷ xs) o back h = at_most-found most xs o back h.1
 
 -- a piece that is found is short
-pub found-short : (axis : Axis) (target : ℕ) (d : Document) (os : List Outcome) (tail : Outcome) (s : Sum) (o : Outcome) → IsWhole d os tail → IsFoundOutcome axis target os s (Some o) → o.sum.bytes ≤ 2048
+pub found-short : (axis : Axis) (target : ℕ) (d : Document) (os : List Outcome) (tail : Outcome) (s : Sum) (o : Outcome) → AreAllPieces d os tail → IsFoundOutcome axis target os s (Some o) → o.sum.bytes ≤ 2048
 found-short axis target d os tail s o w f = at_most-found 2048 f.front o f.back (subst (AreAtMost 2048) f.split w.short)
 
 map-append : (xs ys : List Entry) → map here_of (xs ++ ys) ≡ map here_of xs ++ map here_of ys

@@ -14,11 +14,11 @@ use Rattle.position_map.specs.declared.position.Position.{Position}
 use Rattle.position_map.specs.declared.unit.Unit.{Unit as TextUnit}
 use Rattle.position_map.specs.declared.unit.Unit.TheVariants.{Utf8, Utf16, Utf32}
 use Rattle.position_map.specs.Along.{IsAlongFront}
-use Rattle.position_map.specs.Fronts.{IsFront, IsFrontOf}
+use Rattle.position_map.specs.Fronts.{IsTextFront, IsFrontOf}
 use Rattle.position_map.specs.Lines.{lines_of}
 use Rattle.position_map.specs.Located.{IsLocated, IsOfText, reach, axis_of, sum_in}
 use Rattle.position_map.specs.Marked.{IsLineStart, IsLineEnd}
-use Rattle.position_map.specs.Points.{IsEnd}
+use Rattle.position_map.specs.Points.{IsTextEnd}
 use Rattle.position_map.specs.Positions.{along, between, offset_at, offset_of, converted}
 use Rattle.position_map.specs.Widths.{width}
 use Rattle.position_map.proofs.Alongs.{along-append, along_within, along_line, past_line, line_width}
@@ -96,14 +96,14 @@ front_not_past u a text here s n w ea ew l h all =
     ]
 
 -- a front fits where the text does
-pub front_fits : (u : TextUnit) (text part : List ℕ) (s : Sum) (e : Point) → IsFront text s part → IsEnd u text e → (s.scalars + length part ≤ e.scalars) × (sum_in u s + width u part ≤ e.units)
+pub front_fits : (u : TextUnit) (text part : List ℕ) (s : Sum) (e : Point) → IsTextFront text s part → IsTextEnd u text e → (s.scalars + length part ≤ e.scalars) × (sum_in u s + width u part ≤ e.units)
 front_fits u text part s e f end = (
   omega (arith, ap length f.split, length-append (f.front ++ part) f.back, length-append f.front part, f.sum.scalars, end.scalars),
   omega (arith, ap (width u) f.split, width-append u (f.front ++ part) f.back, width-append u f.front part, sum_width u f.front f.items s f.sum, end.units),
 )
 
 -- the units of a front
-pub front_units : (u : TextUnit) (text part : List ℕ) (s : Sum) → IsFront text s part → sum_in u s + width u part ≡ width u (take (s.scalars + length part) text)
+pub front_units : (u : TextUnit) (text part : List ℕ) (s : Sum) → IsTextFront text s part → sum_in u s + width u part ≡ width u (take (s.scalars + length part) text)
 front_units u text part s f =
     let at : s.scalars + length part ≡ length (f.front ++ part) = omega (arith, length-append f.front part, f.sum.scalars) in
     let cut : take (s.scalars + length part) text ≡ f.front ++ part = ap (take (s.scalars + length part)) f.split ∙ take_at (f.front ++ part) f.back (s.scalars + length part) (sym at) in
@@ -167,6 +167,6 @@ offset_past u text at p q s e l =
     past_line u text p.scalars q.scalars at.character h e.point.within (omega (arith, s.point.units, e.point.units, l)) in
     ap (λ o. ok_or o SplitsCharacter) (sym a) ∙ ap (λ o. offset_at text u o at.character) (sym here)
 
-pub offset_none : (u : TextUnit) (text : List ℕ) (at : Position) (q : Point) → length (lines_of text) ≤ at.line → IsEnd u text q → Ok q.scalars ≡ offset_of text u at
+pub offset_none : (u : TextUnit) (text : List ℕ) (at : Position) (q : Point) → length (lines_of text) ≤ at.line → IsTextEnd u text q → Ok q.scalars ≡ offset_of text u at
 unfolding offset_of
 offset_none u text at q h e = ap Ok e.scalars ∙ ap (λ o. offset_at text u o at.character) (sym (slice_get_past (lines_of text) at.line h))

@@ -16,12 +16,12 @@ use Rattle.position_map.specs.Found.{IsFoundOutcome}
 use Rattle.piece_rope.specs.Made.{AreEnded, EndWithin, IsMade, AreMade, ends_at}
 use Rattle.position_map.specs.Whole.{AreAtLeast}
 use Rattle.position_map.specs.Places.{scalars_until, scalar_of_byte}
-use Rattle.position_map.specs.Points.{IsEnd}
-use Rattle.position_map.specs.Whole.{Pieced, IsWhole}
+use Rattle.position_map.specs.Points.{IsTextEnd}
+use Rattle.position_map.specs.Whole.{Pieced, AreAllPieces}
 use Rattle.position_map.proofs.Cases.{by_test}
 
 abbrev pub IsPieced : Pieced → Type 0
-IsPieced d = IsWhole d.doc d.pieces d.tail
+IsPieced d = AreAllPieces d.doc d.pieces d.tail
 
 abbrev pub items_of : Pieced → List Placed
 items_of d = (decoded d.doc).items
@@ -281,7 +281,7 @@ within_bytes d at v h e =
     let t : nat_le at (length d.doc.bytes) ≡ true = grind (arith, nat_tests) in
     ap (λ n. Ok n) e ∙ ap (λ b. cond b (Ok (scalars_until at (items_of d))) (Err OutOfRange)) (sym t)
 
-pub scalar_at_end : (u : TextUnit) (d : Pieced) (at : ℕ) (s : Sum) (r : Option (Bor Outcome)) (e : Point) → IsPieced d → r ≡ None → IsFoundOutcome Byte at d.pieces s (option_copied r) → at ≤ length d.doc.bytes → IsEnd u (text_of d.doc) e
+pub scalar_at_end : (u : TextUnit) (d : Pieced) (at : ℕ) (s : Sum) (r : Option (Bor Outcome)) (e : Point) → IsPieced d → r ≡ None → IsFoundOutcome Byte at d.pieces s (option_copied r) → at ≤ length d.doc.bytes → IsTextEnd u (text_of d.doc) e
     → Ok e.scalars ≡ scalar_of_byte (length d.doc.bytes) (items_of d) at
 scalar_at_end u d at s r e w is g h end =
     let f : IsFoundOutcome Byte at d.pieces s None = subst (λ (v : Option (Bor Outcome)). IsFoundOutcome Byte at d.pieces s (option_copied v)) is g in

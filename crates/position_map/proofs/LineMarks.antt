@@ -4,16 +4,16 @@ use Rattle.std.specs.List.{slice_get}
 use Rattle.std.specs.Option.{option_map}
 use Rattle.std.proofs.lemmas.Bool.Decides.{nat_tests}
 use Rattle.std.proofs.lemmas.List.Sums.{sum_by-cons}
-use Rattle.position_map.specs.Lines.{Line, lines_from, lines_of}
+use Rattle.position_map.specs.Lines.{LineSpan, lines_from, lines_of}
 use Rattle.lane_ascii.specs.Marks.{cr, lf, is_mark, one_if, marks, ends_cr}
 use Rattle.piece_rope.specs.Outcomes.{begins_lf}
 use Rattle.position_map.specs.Marked.{IsMark, start_of, end_of}
 
-abbrev pub line : ℕ → ℕ → Line
+abbrev pub line : ℕ → ℕ → LineSpan
 line start end = record { start = start; end = end }
 
 -- the lines, one code point at a time
-abbrev pub lines_after : Bool → ℕ → ℕ → List ℕ → List Line
+abbrev pub lines_after : Bool → ℕ → ℕ → List ℕ → List LineSpan
 lines_after f s n [] = line s n ∷ []
 lines_after f s n (c ∷ cs) =
     cond (is_mark f c) (line s n ∷ lines_after (c == cr) (n + 1) (n + 1) cs) (lines_after (c == cr) (cond (c == lf) (n + 1) s) (n + 1) cs)
@@ -32,7 +32,7 @@ one_end true y s n = refl
 one_end false true s n = refl
 one_end false false s n = refl
 
-pick : (x y z : Bool) (p : Line) (two one none : List Line) (after : Bool → List Line) (other : Bool → Bool → List Line)
+pick : (x y z : Bool) (p : LineSpan) (two one none : List LineSpan) (after : Bool → List LineSpan) (other : Bool → Bool → List LineSpan)
     → (z ≡ true → two ≡ after true) → one ≡ after false → (z ≡ false → after true ≡ after false) → none ≡ other false false
     → cond (x && z) (p ∷ two) (cond (x || y) (p ∷ one) none) ≡ cond (x || (y && not false)) (p ∷ after x) (other x y)
 pick true y true p two one none after other a b c d = ap (λ t. p ∷ t) (a refl)
@@ -40,7 +40,7 @@ pick true y false p two one none after other a b c d = ap (λ t. p ∷ t) (b ∙
 pick false true z p two one none after other a b c d = ap (λ t. p ∷ t) b
 pick false false z p two one none after other a b c d = d
 
-flag_free : (w z : Bool) (a b : List Line) → z ≡ false → cond (w || (z && not true)) a b ≡ cond (w || (z && not false)) a b
+flag_free : (w z : Bool) (a b : List LineSpan) → z ≡ false → cond (w || (z && not true)) a b ≡ cond (w || (z && not false)) a b
 flag_free w true a b e = cc
 flag_free w false a b e = refl
 
@@ -61,7 +61,7 @@ lines_same s n (c ∷ d ∷ rest) =
     (lines_same s (n + 1) (d ∷ rest))
 
 -- an entry of a list behind one that may be there
-get_past : {B : Type 0} (v : Line → B) (b : Bool) (p : Line) (xs ys : List Line) (k : ℕ) (w : Option B) → (b ≡ true → option_map v (slice_get xs k) ≡ w)
+get_past : {B : Type 0} (v : LineSpan → B) (b : Bool) (p : LineSpan) (xs ys : List LineSpan) (k : ℕ) (w : Option B) → (b ≡ true → option_map v (slice_get xs k) ≡ w)
     → (b ≡ false → option_map v (slice_get ys k) ≡ w) → option_map v (slice_get (cond b (p ∷ xs) ys) (one_if b + k)) ≡ w
 get_past v true p xs ys k w h g =
     let e : 1 + k ≡ suc k = omega arith in
@@ -156,7 +156,7 @@ next_start_after f s n (x ∷ xs) c back h =
     (λ _. next_start_after (x == cr) (n + 1) (n + 1) xs c back h ∙ same)
     (λ _. next_start_after (x == cr) (cond (x == lf) (n + 1) s) (n + 1) xs c back h ∙ same)
 
-length_cond : (b : Bool) (p : Line) (xs ys : List Line) (k : ℕ) → length xs ≡ k + 1 → length ys ≡ k + 1 → length (cond b (p ∷ xs) ys) ≡ one_if b + k + 1
+length_cond : (b : Bool) (p : LineSpan) (xs ys : List LineSpan) (k : ℕ) → length xs ≡ k + 1 → length ys ≡ k + 1 → length (cond b (p ∷ xs) ys) ≡ one_if b + k + 1
 length_cond true p xs ys k h g = omega arith
 length_cond false p xs ys k h g = omega arith
 
@@ -167,22 +167,22 @@ length_after f s n (x ∷ xs) =
     length_cond (is_mark f x) (line s n) (lines_after (x == cr) (n + 1) (n + 1) xs) (lines_after (x == cr) (cond (x == lf) (n + 1) s) (n + 1) xs) (marks (x == cr) xs)
     (length_after (x == cr) (n + 1) (n + 1) xs) (length_after (x == cr) (cond (x == lf) (n + 1) s) (n + 1) xs)
 
-abbrev pub begun : ℕ → List Line → ℕ
-begun offset ls = count_by (λ (l : Line). nat_le l.start offset) ls
+abbrev pub begun : ℕ → List LineSpan → ℕ
+begun offset ls = count_by (λ (l : LineSpan). nat_le l.start offset) ls
 
-begun_cond : (o : ℕ) (b : Bool) (p : Line) (xs ys : List Line) (k : ℕ) → (b ≡ true → begun o (p ∷ xs) ≡ k) → (b ≡ false → begun o ys ≡ k) → begun o (cond b (p ∷ xs) ys) ≡ k
+begun_cond : (o : ℕ) (b : Bool) (p : LineSpan) (xs ys : List LineSpan) (k : ℕ) → (b ≡ true → begun o (p ∷ xs) ≡ k) → (b ≡ false → begun o ys ≡ k) → begun o (cond b (p ∷ xs) ys) ≡ k
 begun_cond o true p xs ys k h g = h refl
 begun_cond o false p xs ys k h g = g refl
 
-begun_not : (o : ℕ) (p : Line) (xs : List Line) → o < p.start → begun o xs ≡ 0 → begun o (p ∷ xs) ≡ 0
+begun_not : (o : ℕ) (p : LineSpan) (xs : List LineSpan) → o < p.start → begun o xs ≡ 0 → begun o (p ∷ xs) ≡ 0
 begun_not o p xs h e =
     let t : nat_le p.start o ≡ false = grind (arith, nat_tests) in
-    sum_by-cons (λ (l : Line). cond (nat_le l.start o) 1 0) p xs ∙ ap (λ b. cond b 1 0 + begun o xs) t ∙ ap (λ m. 0 + m) e
+    sum_by-cons (λ (l : LineSpan). cond (nat_le l.start o) 1 0) p xs ∙ ap (λ b. cond b 1 0 + begun o xs) t ∙ ap (λ m. 0 + m) e
 
-begun_one : (o : ℕ) (p : Line) (xs : List Line) (k : ℕ) → p.start ≤ o → begun o xs ≡ k → begun o (p ∷ xs) ≡ 1 + k
+begun_one : (o : ℕ) (p : LineSpan) (xs : List LineSpan) (k : ℕ) → p.start ≤ o → begun o xs ≡ k → begun o (p ∷ xs) ≡ 1 + k
 begun_one o p xs k h e =
     let t : nat_le p.start o ≡ true = grind (arith, nat_tests) in
-    sum_by-cons (λ (l : Line). cond (nat_le l.start o) 1 0) p xs ∙ ap (λ b. cond b 1 0 + begun o xs) t ∙ ap (λ m. 1 + m) e
+    sum_by-cons (λ (l : LineSpan). cond (nat_le l.start o) 1 0) p xs ∙ ap (λ b. cond b 1 0 + begun o xs) t ∙ ap (λ m. 1 + m) e
 
 below_cond : (o : ℕ) (b : Bool) (x y : ℕ) → o < x → o < y → o < cond b x y
 below_cond o true x y h g = h
@@ -234,7 +234,7 @@ one_begun f s n (x ∷ xs) h =
     let flag : one_if (f && (x == lf)) ≡ one_if (x == lf) = ap one_if w.1 in
     omega (arith, list, flag, begun_either (x == lf) s n xs h))
 
-begun_count : (o : ℕ) (b : Bool) (p : Line) (xs ys : List Line) (k e : ℕ) → p.start ≤ o → begun o xs + e ≡ k + 1 → begun o ys + e ≡ k + 1 → begun o (cond b (p ∷ xs) ys) + e ≡ one_if b + k + 1
+begun_count : (o : ℕ) (b : Bool) (p : LineSpan) (xs ys : List LineSpan) (k e : ℕ) → p.start ≤ o → begun o xs + e ≡ k + 1 → begun o ys + e ≡ k + 1 → begun o (cond b (p ∷ xs) ys) + e ≡ one_if b + k + 1
 begun_count o true p xs ys k e l h g = omega (arith, begun_one o p xs (begun o xs) l refl)
 begun_count o false p xs ys k e l h g = omega arith
 
@@ -316,7 +316,7 @@ some_same : {x y : ℕ} → Some x ≡ Some y → x ≡ y
 some_same h = cc
 
 -- a line by its two ends
-pub line_is : (o : Option Line) (s e : ℕ) → option_map start_of o ≡ Some s → option_map end_of o ≡ Some e → o ≡ Some (line s e)
+pub line_is : (o : Option LineSpan) (s e : ℕ) → option_map start_of o ≡ Some s → option_map end_of o ≡ Some e → o ≡ Some (line s e)
 line_is None s e h g = cc
 line_is (Some l) s e h g =
     let a : l.start ≡ s = some_same h in
@@ -324,48 +324,48 @@ line_is (Some l) s e h g =
     ap (λ (v : ℕ). Some (line v l.end)) a ∙ ap (λ v. Some (line s v)) b
 
 -- a line ends at its start or behind it
-some_line_same : {x y : Line} → Some x ≡ Some y → x ≡ y
+some_line_same : {x y : LineSpan} → Some x ≡ Some y → x ≡ y
 some_line_same h = cc
 
-no_line_here : {y : Line} → None ≡ Some y → ⊥
+no_line_here : {y : LineSpan} → None ≡ Some y → ⊥
 no_line_here h = cc
 
-line_cond : (b : Bool) (p : Line) (xs ys : List Line) (P : Line → Type 0) → P p → ((k : ℕ) (l : Line) → slice_get xs k ≡ Some l → P l) → ((k : ℕ) (l : Line) → slice_get ys k ≡ Some l → P l)
-    → (k : ℕ) (l : Line) → slice_get (cond b (p ∷ xs) ys) k ≡ Some l → P l
+line_cond : (b : Bool) (p : LineSpan) (xs ys : List LineSpan) (P : LineSpan → Type 0) → P p → ((k : ℕ) (l : LineSpan) → slice_get xs k ≡ Some l → P l) → ((k : ℕ) (l : LineSpan) → slice_get ys k ≡ Some l → P l)
+    → (k : ℕ) (l : LineSpan) → slice_get (cond b (p ∷ xs) ys) k ≡ Some l → P l
 line_cond true p xs ys P h f g zero l e = subst P (some_line_same e) h
 line_cond true p xs ys P h f g (suc k) l e = f k l e
 line_cond false p xs ys P h f g k l e = g k l e
 
-ordered_after : (f : Bool) (s n : ℕ) (text : List ℕ) → s ≤ n → (k : ℕ) (l : Line) → slice_get (lines_after f s n text) k ≡ Some l → l.start ≤ l.end
-ordered_after f s n [] h zero l e = let P : Line → Type 0 = λ (v : Line). v.start ≤ v.end in subst P (some_line_same e) h
+ordered_after : (f : Bool) (s n : ℕ) (text : List ℕ) → s ≤ n → (k : ℕ) (l : LineSpan) → slice_get (lines_after f s n text) k ≡ Some l → l.start ≤ l.end
+ordered_after f s n [] h zero l e = let P : LineSpan → Type 0 = λ (v : LineSpan). v.start ≤ v.end in subst P (some_line_same e) h
 ordered_after f s n [] h (suc k) l e = absurd (no_line_here e)
 ordered_after f s n (x ∷ xs) h k l e =
     let next : n + 1 ≤ n + 1 = omega arith in
     let past : s ≤ n + 1 = omega arith in
-    line_cond (is_mark f x) (line s n) (lines_after (x == cr) (n + 1) (n + 1) xs) (lines_after (x == cr) (cond (x == lf) (n + 1) s) (n + 1) xs) (λ (v : Line). v.start ≤ v.end) h
+    line_cond (is_mark f x) (line s n) (lines_after (x == cr) (n + 1) (n + 1) xs) (lines_after (x == cr) (cond (x == lf) (n + 1) s) (n + 1) xs) (λ (v : LineSpan). v.start ≤ v.end) h
     (ordered_after (x == cr) (n + 1) (n + 1) xs next) (ordered_after (x == cr) (cond (x == lf) (n + 1) s) (n + 1) xs (cond_le (n + 1) (x == lf) (n + 1) s next past)) k l e
 
-pub ordered : (text : List ℕ) (k : ℕ) (l : Line) → slice_get (lines_of text) k ≡ Some l → l.start ≤ l.end
+pub ordered : (text : List ℕ) (k : ℕ) (l : LineSpan) → slice_get (lines_of text) k ≡ Some l → l.start ≤ l.end
 unfolding lines_of
 ordered text k l e =
     let none : 0 ≤ 0 = omega arith in
     ordered_after false 0 0 text none k l (ap (λ ls. slice_get ls k) (sym (lines_same 0 0 text)) ∙ e)
 
 -- no line ends in front of where the search for it begins
-line_after-end : (f : Bool) (s n : ℕ) (text : List ℕ) (k : ℕ) (l : Line) → slice_get (lines_after f s n text) k ≡ Some l → n ≤ l.end
-line_after-end f s n [] zero l e = let P : Line → Type 0 = λ (v : Line). n ≤ v.end in let h : n ≤ n = omega arith in subst P (some_line_same e) h
+line_after-end : (f : Bool) (s n : ℕ) (text : List ℕ) (k : ℕ) (l : LineSpan) → slice_get (lines_after f s n text) k ≡ Some l → n ≤ l.end
+line_after-end f s n [] zero l e = let P : LineSpan → Type 0 = λ (v : LineSpan). n ≤ v.end in let h : n ≤ n = omega arith in subst P (some_line_same e) h
 line_after-end f s n [] (suc k) l e = absurd (no_line_here e)
 line_after-end f s n (x ∷ xs) k l e =
-    line_cond (is_mark f x) (line s n) (lines_after (x == cr) (n + 1) (n + 1) xs) (lines_after (x == cr) (cond (x == lf) (n + 1) s) (n + 1) xs) (λ (v : Line). n ≤ v.end) (omega arith)
+    line_cond (is_mark f x) (line s n) (lines_after (x == cr) (n + 1) (n + 1) xs) (lines_after (x == cr) (cond (x == lf) (n + 1) s) (n + 1) xs) (λ (v : LineSpan). n ≤ v.end) (omega arith)
     (λ j m h. let r = line_after-end (x == cr) (n + 1) (n + 1) xs j m h in omega (arith, r))
     (λ j m h. let r = line_after-end (x == cr) (cond (x == lf) (n + 1) s) (n + 1) xs j m h in omega (arith, r)) k l e
 
-get_behind : (b : Bool) (p : Line) (xs ys : List Line) (k : ℕ) (l : Line) (Q : Type 0) → slice_get (cond b (p ∷ xs) ys) (one_if b + k) ≡ Some l → (slice_get xs k ≡ Some l → Q) → (slice_get ys k ≡ Some l → Q) → Q
+get_behind : (b : Bool) (p : LineSpan) (xs ys : List LineSpan) (k : ℕ) (l : LineSpan) (Q : Type 0) → slice_get (cond b (p ∷ xs) ys) (one_if b + k) ≡ Some l → (slice_get xs k ≡ Some l → Q) → (slice_get ys k ≡ Some l → Q) → Q
 get_behind true p xs ys k l Q e g h = let one : suc k ≡ 1 + k = omega arith in g (ap (λ i. slice_get (p ∷ xs) i) one ∙ e)
 get_behind false p xs ys k l Q e g h = let none : k ≡ 0 + k = omega arith in h (ap (λ i. slice_get ys i) none ∙ e)
 
 -- the line of a place that isn't between CR and LF
-here_after : (f : Bool) (s n : ℕ) (front back : List ℕ) → s ≤ n → (ends_cr f front && begins_lf back) ≡ false → (l : Line)
+here_after : (f : Bool) (s n : ℕ) (front back : List ℕ) → s ≤ n → (ends_cr f front && begins_lf back) ≡ false → (l : LineSpan)
     → slice_get (lines_after f s n (front ++ back)) (marks f front) ≡ Some l → (l.start ≤ n + length front) × (n + length front ≤ l.end)
 here_after f s n [] back h b l e =
     let first : Some (l.start) ≡ Some (cond (f && begins_lf back) (n + 1) s) = sym (ap (option_map start_of) e) ∙ first_start_after f s n back in
@@ -381,7 +381,7 @@ here_after f s n (x ∷ xs) back h b l e =
     (λ g. to (here_after (x == cr) (n + 1) (n + 1) xs back next b l g))
     (λ g. to (here_after (x == cr) (cond (x == lf) (n + 1) s) (n + 1) xs back (cond_le (n + 1) (x == lf) (n + 1) s next past) b l g))
 
-pub line_here : (front back : List ℕ) → (ends_cr false front && begins_lf back) ≡ false → (l : Line) → slice_get (lines_of (front ++ back)) (marks false front) ≡ Some l
+pub line_here : (front back : List ℕ) → (ends_cr false front && begins_lf back) ≡ false → (l : LineSpan) → slice_get (lines_of (front ++ back)) (marks false front) ≡ Some l
     → (l.start ≤ length front) × (length front ≤ l.end)
 unfolding lines_of
 line_here front back b l e =

@@ -9,7 +9,7 @@ use Rattle.piece_rope.specs.Document.{Document, decoded, text_of, decoded_text}
 use Rattle.position_map.specs.Found.{IsFoundOutcome}
 use Rattle.position_map.specs.Located.{IsLocated, IsOfText, reach}
 use Rattle.piece_rope.specs.Made.{AreMade}
-use Rattle.position_map.specs.Whole.{IsWhole}
+use Rattle.position_map.specs.Whole.{AreAllPieces}
 
 abbrev pub text_in : Outcome → List ℕ
 text_in o = o.text
@@ -41,7 +41,7 @@ made-text (o ∷ os) base ps m =
     ap code_points m.2 ∙ code_points-append m.0 m.1 ∙ ap (λ t. t ++ code_points m.1) (sym m.3.text) ∙ ap (λ t. text_in o ++ t) (made-text os (base + o.sum.bytes) m.1 m.4)
 
 -- the text is that of the pieces and the tail
-pub whole-text : (d : Document) (os : List Outcome) (tail : Outcome) → IsWhole d os tail → text_of d ≡ texts (os ++ tail ∷ [])
+pub whole-text : (d : Document) (os : List Outcome) (tail : Outcome) → AreAllPieces d os tail → text_of d ≡ texts (os ++ tail ∷ [])
 unfolding decoded_text
 whole-text d os tail w = made-text (os ++ tail ∷ []) 0 (decoded d).items w.made
 
@@ -57,7 +57,7 @@ measured by_utf16 cs is s n x l h = omega (arith, x.utf16)
 measured by_utf8 cs is s n x l h = omega (arith, x.utf8)
 measured Mark cs is s n x l h = omega (arith, x.marks)
 
-located-piece : Joins → (axis : Axis) (target : ℕ) (d : Document) (os : List Outcome) (tail : Outcome) (s : Sum) (o : Outcome) → IsOfText axis → IsWhole d os tail
+located-piece : Joins → (axis : Axis) (target : ℕ) (d : Document) (os : List Outcome) (tail : Outcome) (s : Sum) (o : Outcome) → IsOfText axis → AreAllPieces d os tail
     → IsFoundOutcome axis target os s (Some o) → IsLocated axis target (text_of d) s o.text
 located-piece joins axis target d os tail s o of_text w f =
     let before : IsSumOf (texts f.front) (items f.front) s = subst (λ v. IsSumOf (texts f.front) (items f.front) v) (sym f.sum) (sum-total joins f.front) in
@@ -71,7 +71,7 @@ located-piece joins axis target d os tail s o of_text w f =
       high = inr (measured axis (texts f.front ++ o.text) (items f.front ++ o.items) (joined s o.sum) target (joins (texts f.front) o.text (items f.front) o.items s o.sum before o.summed) f.high of_text);
     }
 
-located-tail : Joins → (axis : Axis) (target : ℕ) (d : Document) (os : List Outcome) (tail : Outcome) (s : Sum) → IsWhole d os tail
+located-tail : Joins → (axis : Axis) (target : ℕ) (d : Document) (os : List Outcome) (tail : Outcome) (s : Sum) → AreAllPieces d os tail
     → IsFoundOutcome axis target os s None → IsLocated axis target (text_of d) s tail.text
 located-tail joins axis target d os tail s w f =
     let all : os ≡ f.front = f.split ∙ ap (λ xs. f.front ++ xs) (f.ends refl) ∙ append-nil f.front in
@@ -87,7 +87,7 @@ located-tail joins axis target d os tail s w f =
 
 -- by what a search answers
 pub located-by : Joins → (axis : Axis) (target : ℕ) (d : Document) (os : List Outcome) (tail : Outcome) (s : Sum) (r : Option (Bor Outcome)) (b h : Bor Outcome) (t : List ℕ)
-    → IsOfText axis → IsWhole d os tail → IsFoundOutcome axis target os s (option_copied r) → b.now ≡ tail → h ≡ unwrap_or r b → t ≡ h.now.text → IsLocated axis target (text_of d) s t
+    → IsOfText axis → AreAllPieces d os tail → IsFoundOutcome axis target os s (option_copied r) → b.now ≡ tail → h ≡ unwrap_or r b → t ≡ h.now.text → IsLocated axis target (text_of d) s t
 located-by joins axis target d os tail s None b h t of_text w f last same text =
     let here : t ≡ tail.text = text ∙ ap (λ (v : Bor Outcome). v.now.text) same ∙ ap text_in last in
     subst (λ v. IsLocated axis target (text_of d) s v) (sym here) (located-tail joins axis target d os tail s w f)

@@ -7,7 +7,7 @@ use Rattle.std.proofs.lemmas.List.{take_at, drop_at}
 use Rattle.std.proofs.lemmas.Bool.Decides.{nat_tests}
 use Rattle.lane_ascii.specs.Marks.{cr, lf, is_mark, one_if, marks, ends_cr}
 use Rattle.piece_rope.specs.Outcomes.{begins_lf}
-use Rattle.position_map.specs.declared.mark.Mark.{Mark}
+use Rattle.position_map.specs.declared.mark.LineMark.{LineMark}
 use Rattle.position_map.specs.declared.next_line.NextLine.{NextLine}
 use Rattle.position_map.specs.declared.point.Point.{Point}
 use Rattle.position_map.specs.declared.unit.Unit.TheVariants.{Utf8}
@@ -15,7 +15,7 @@ use Rattle.position_map.specs.Cuts.{IsScalarCut, IsRestBehind}
 use Rattle.position_map.specs.Lines.{lines_of}
 use Rattle.position_map.specs.Marked.{IsMarkAt, IsMarkCut, IsLineStart, start_of, end_of}
 use Rattle.position_map.specs.NextLines.{IsNextLine, IsAhead}
-use Rattle.position_map.specs.Points.{IsEnd, IsBehind}
+use Rattle.position_map.specs.Points.{IsTextEnd, IsBehind}
 use Rattle.position_map.specs.Widths.{width}
 use Rattle.position_map.proofs.LineMarks.{marks-append, ends_cr-append, IsMark-end, IsMark-next, first_start, last_end, line_count, line_is}
 use Rattle.position_map.proofs.Pointing.{first_is, regroup, point-from}
@@ -46,7 +46,7 @@ first_mark f [] c more h g = still_mark f (c == cr) (c == lf) h g
 first_mark f (x ∷ xs) c more h g = h
 
 -- a mark found in the rest of the piece
-pub mark_ahead : (text : List ℕ) (n : ℕ) (x : NextLine) (fs rs : List ℕ) (m : Mark) → IsNextLine text n x → IsMarkCut false (chars x.rest.now) 0 fs rs → IsBehind Utf8 x.start.scalars x.start.units fs m.at
+pub mark_ahead : (text : List ℕ) (n : ℕ) (x : NextLine) (fs rs : List ℕ) (m : LineMark) → IsNextLine text n x → IsMarkCut false (chars x.rest.now) 0 fs rs → IsBehind Utf8 x.start.scalars x.start.units fs m.at
     → chars m.rest.now ≡ rs → IsMarkAt Utf8 text n m
 mark_ahead text n x fs rs m l k p r =
     let first = first_is (ends_cr false fs) rs k.is in
@@ -72,7 +72,7 @@ mark_ahead text n x fs rs m l k p r =
     }
 
 -- the rest fits where the text does
-pub ahead_fits : (text : List ℕ) (n : ℕ) (x : NextLine) (fs rs : List ℕ) (e : Point) → IsNextLine text n x → chars x.rest.now ≡ fs ++ rs → IsEnd Utf8 text e
+pub ahead_fits : (text : List ℕ) (n : ℕ) (x : NextLine) (fs rs : List ℕ) (e : Point) → IsNextLine text n x → chars x.rest.now ≡ fs ++ rs → IsTextEnd Utf8 text e
     → (x.start.scalars + length fs ≤ e.scalars) × (x.start.units + width Utf8 fs ≤ e.units)
 ahead_fits text n x fs rs e l cut end = (
   omega (arith, ap length l.split, length-append l.front (chars x.rest.now ++ l.far), length-append (chars x.rest.now) l.far, ap length cut, length-append fs rs, l.at, end.scalars),
@@ -131,7 +131,7 @@ flag_at false a s e = let h : a + 1 ≡ s = some_same e in omega (arith, h)
     some_same h = cc
 
 -- the line behind a mark
-pub line_ahead : (text : List ℕ) (n : ℕ) (m : Mark) (x : NextLine) → IsMarkAt Utf8 text n m → IsLineStart Utf8 text (n + 1) x.start → IsRestBehind (chars m.rest.now) (x.start.scalars - m.at.scalars) (chars x.rest.now)
+pub line_ahead : (text : List ℕ) (n : ℕ) (m : LineMark) (x : NextLine) → IsMarkAt Utf8 text n m → IsLineStart Utf8 text (n + 1) x.start → IsRestBehind (chars m.rest.now) (x.start.scalars - m.at.scalars) (chars x.rest.now)
     → IsNextLine text (n + 1) x
 line_ahead text n m x h s r =
     let b : Bool = (h.c == cr) && begins_lf (h.near ++ h.far) in
@@ -161,7 +161,7 @@ pub rest_none : (cs rest : List ℕ) (n : ℕ) → rest ≡ [] → IsRestBehind 
 rest_none cs rest n e = record { far = λ more. (drop n (cs ++ more), ap (λ t. t ++ drop n (cs ++ more)) (sym e)) }
 
 -- the line that comes next, by its two ends
-pub line_found : (text : List ℕ) (n : ℕ) (x : NextLine) (m : Mark) → IsNextLine text n x → IsMarkAt Utf8 text n m → slice_get (lines_of text) n ≡ Some (record { start = x.start.scalars; end = m.at.scalars })
+pub line_found : (text : List ℕ) (n : ℕ) (x : NextLine) (m : LineMark) → IsNextLine text n x → IsMarkAt Utf8 text n m → slice_get (lines_of text) n ≡ Some (record { start = x.start.scalars; end = m.at.scalars })
 line_found text n x m l h = line_is (slice_get (lines_of text) n) x.start.scalars m.at.scalars l.is (IsMark-end text n h.front h.c (h.near ++ h.far) h.mark ∙ ap Some (sym h.at))
 
 -- the last line
@@ -169,7 +169,7 @@ record IsLast (text : List ℕ) (n s e : ℕ) : Type 0 where
   number : n ≡ marks false text
   is : slice_get (lines_of text) n ≡ Some (record { start = s; end = e })
 
-last_line : (text : List ℕ) (n : ℕ) (x : NextLine) (e : Point) → IsNextLine text n x → marks false text ≤ n → IsEnd Utf8 text e → IsLast text n x.start.scalars e.scalars
+last_line : (text : List ℕ) (n : ℕ) (x : NextLine) (e : Point) → IsNextLine text n x → marks false text ≤ n → IsTextEnd Utf8 text e → IsLast text n x.start.scalars e.scalars
 last_line text n x e l h end =
     let number : n ≡ marks false text = omega (arith, h, l.count, ap (marks false) l.split, marks-append false l.front (chars x.rest.now ++ l.far)) in
     record {
@@ -177,13 +177,13 @@ last_line text n x e l h end =
       is = line_is (slice_get (lines_of text) n) x.start.scalars e.scalars l.is (ap (λ k. option_map end_of (slice_get (lines_of text) k)) number ∙ last_end text ∙ ap Some (sym end.scalars));
     }
 
-pub last_found : (text : List ℕ) (n : ℕ) (x : NextLine) (e : Point) → IsNextLine text n x → marks false text ≤ n → IsEnd Utf8 text e → slice_get (lines_of text) n ≡ Some (record { start = x.start.scalars; end = e.scalars })
+pub last_found : (text : List ℕ) (n : ℕ) (x : NextLine) (e : Point) → IsNextLine text n x → marks false text ≤ n → IsTextEnd Utf8 text e → slice_get (lines_of text) n ≡ Some (record { start = x.start.scalars; end = e.scalars })
 last_found text n x e l h end = (last_line text n x e l h end).is
 
 pub none_ahead : (text : List ℕ) (n : ℕ) → marks false text ≤ n → length (lines_of text) ≤ n + 1
 none_ahead text n h = omega (arith, h, line_count text)
 
-pub ahead_room : (text : List ℕ) (n : ℕ) (m : Mark) (p : Point) → IsMarkAt Utf8 text n m → IsLineStart Utf8 text (n + 1) p → m.at.scalars ≤ p.scalars
+pub ahead_room : (text : List ℕ) (n : ℕ) (m : LineMark) (p : Point) → IsMarkAt Utf8 text n m → IsLineStart Utf8 text (n + 1) p → m.at.scalars ≤ p.scalars
 ahead_room text n m p h s =
     omega (arith, h.at, flag_at ((h.c == cr) && begins_lf (h.near ++ h.far)) (length h.front) p.scalars (sym (IsMark-next text n h.front h.c (h.near ++ h.far) h.mark) ∙ s.is))
 

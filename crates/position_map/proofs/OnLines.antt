@@ -14,7 +14,7 @@ use Rattle.position_map.specs.declared.unit.Unit.{Unit as TextUnit}
 use Rattle.position_map.specs.declared.unit.Unit.TheVariants.{Utf8}
 use Rattle.position_map.specs.Cuts.{IsScalarCut}
 use Rattle.position_map.specs.Fronts.{IsOnLine}
-use Rattle.position_map.specs.Lines.{Line, lines_of}
+use Rattle.position_map.specs.Lines.{LineSpan, lines_of}
 use Rattle.position_map.specs.Located.{IsLocated, sum_in}
 use Rattle.position_map.specs.Marked.{IsMark, IsLineStart, start_of, end_of}
 use Rattle.position_map.specs.Positions.{between, line_at, character_at, position_of}
@@ -39,7 +39,7 @@ on_here : (u : TextUnit) (text a b : List ℕ) (offset : ℕ) → text ≡ a ++ 
     → IsOnLine u text offset (record { line = marks false a; units = width u a })
 on_here u text a b offset split at flag =
     let begun_at : begun (length a) (lines_of (a ++ b)) ≡ marks false a + 1 = omega (arith, lines_begun a b, ap one_if flag) in
-    let here : (l : Line) → slice_get (lines_of text) (marks false a) ≡ Some l → (l.start ≤ length a) × (length a ≤ l.end) = λ l e. line_here a b flag l (ap (λ t. slice_get (lines_of t) (marks false a)) (sym split) ∙ e) in
+    let here : (l : LineSpan) → slice_get (lines_of text) (marks false a) ≡ Some l → (l.start ≤ length a) × (length a ≤ l.end) = λ l e. line_here a b flag l (ap (λ t. slice_get (lines_of t) (marks false a)) (sym split) ∙ e) in
     let count : begun offset (lines_of text) ≡ marks false a + 1 = ap (λ t. begun offset (lines_of t)) split ∙ ap (λ o. begun o (lines_of (a ++ b))) at ∙ begun_at in
     record {
       line = omega (arith, count);
@@ -65,7 +65,7 @@ on_split u text a b offset split at flag =
     let begun_at : begun (length a) (lines_of (a ++ b)) + 1 ≡ marks false a + 1 = omega (arith, lines_begun a b, ap one_if flag) in
     let count : begun offset (lines_of text) ≡ marks false a = omega (arith, ap (λ t. begun offset (lines_of t)) split, ap (λ o. begun o (lines_of (a ++ b))) at, begun_at) in
     let number : marks false a - 1 ≡ marks false start = omega (arith, marks_are) in
-    let ends : (l : Line) → slice_get (lines_of text) (marks false a - 1) ≡ Some l → l.end ≡ length start =
+    let ends : (l : LineSpan) → slice_get (lines_of text) (marks false a - 1) ≡ Some l → l.end ≡ length start =
     λ l e. some_same (sym (ap (option_map end_of) e) ∙ ap (λ k. option_map end_of (slice_get (lines_of text) k)) number ∙ IsMark-end text (marks false start) start cr b mark) in (
       omega (arith, marks_are),
       omega (arith, wide),
@@ -145,7 +145,7 @@ none_past text offset s here l h all =
       | inr g ↦ omega (arith, g, h, l.sum.scalars, length-append l.front here)
     ]
 
-some_start : (o : Option Line) (k : ℕ) → option_map start_of o ≡ Some k → (l : Line) × (o ≡ Some l) × (l.start ≡ k)
+some_start : (o : Option LineSpan) (k : ℕ) → option_map start_of o ≡ Some k → (l : LineSpan) × (o ≡ Some l) × (l.start ≡ k)
 some_start None k e = cc
 some_start (Some l) k e = (l, refl, some_same e)
 

@@ -8,7 +8,7 @@ use Rattle.position_map.specs.declared.position.Position.{Position}
 use Rattle.position_map.specs.declared.unit.Unit.{Unit as TextUnit}
 use Rattle.position_map.specs.declared.fault.PosFault.{PosFault}
 use Rattle.position_map.specs.declared.fault.PosFault.TheVariants.{SplitsCharacter}
-use Rattle.position_map.specs.Lines.{Line, lines_from, lines_of}
+use Rattle.position_map.specs.Lines.{LineSpan, lines_from, lines_of}
 use Rattle.position_map.specs.Plan.{is_behind}
 use Rattle.position_map.specs.Positions.{along, between, offset_on, offset_at, offset_of}
 use Rattle.position_map.specs.Widths.{width_of}
@@ -18,15 +18,15 @@ use Rattle.position_map.proofs.Cases.{by_le, same_some, none_some}
 -- ---- lines
 
 -- lines in their order, between two offsets
-abbrev Ascending : ℕ → ℕ → List Line → Type 0
+abbrev Ascending : ℕ → ℕ → List LineSpan → Type 0
 Ascending from to [] = Unit {0}
 Ascending from to (l ∷ ls) = (from ≤ l.start) × (l.start ≤ l.end) × (l.end ≤ to) × Ascending l.end to ls
 
-ascending-from : (a b to : ℕ) (ls : List Line) → a ≤ b → Ascending b to ls → Ascending a to ls
+ascending-from : (a b to : ℕ) (ls : List LineSpan) → a ≤ b → Ascending b to ls → Ascending a to ls
 ascending-from a b to [] h w = tt
 ascending-from a b to (l ∷ ls) h w = (omega (arith, h, w.0), w.1, w.2, w.3)
 
-mark-lines : (b : Bool) (a from to : ℕ) (xs ys : List Line) → Ascending from to xs → Ascending from to ys → Ascending from to (cond b xs ys)
+mark-lines : (b : Bool) (a from to : ℕ) (xs ys : List LineSpan) → Ascending from to xs → Ascending from to ys → Ascending from to (cond b xs ys)
 mark-lines true a from to xs ys h g = h
 mark-lines false a from to xs ys h g = g
 
@@ -43,17 +43,17 @@ lines-ascend start at to (c ∷ d ∷ rest) h g =
     (omega arith, h, omega (arith, g), ascending-from at (at + 1) to (lines_from (at + 1) (at + 1) (d ∷ rest)) (omega arith) (lines-ascend (at + 1) (at + 1) to (d ∷ rest) (omega arith) (omega (arith, g))))
     (lines-ascend start (at + 1) to (d ∷ rest) (omega (arith, h)) (omega (arith, g))))
 
-ascending-line : (from to : ℕ) (ls : List Line) (k : ℕ) (l : Line) → Ascending from to ls → slice_get ls k ≡ Some l → (from ≤ l.start) × (l.start ≤ l.end) × (l.end ≤ to)
+ascending-line : (from to : ℕ) (ls : List LineSpan) (k : ℕ) (l : LineSpan) → Ascending from to ls → slice_get ls k ≡ Some l → (from ≤ l.start) × (l.start ≤ l.end) × (l.end ≤ to)
 ascending-line from to [] k l w h = absurd (none_some h)
-ascending-line from to (x ∷ ls) zero l w h = subst (λ (y : Line). (from ≤ y.start) × (y.start ≤ y.end) × (y.end ≤ to)) (same_some h) (w.0, w.1, w.2)
+ascending-line from to (x ∷ ls) zero l w h = subst (λ (y : LineSpan). (from ≤ y.start) × (y.start ≤ y.end) × (y.end ≤ to)) (same_some h) (w.0, w.1, w.2)
 ascending-line from to (x ∷ ls) (suc k) l w h =
     let r = ascending-line x.end to ls k l w.3 h in
     (omega (arith, r.0, w.0, w.1), r.1, r.2)
 
-ascending-lines : (from to : ℕ) (ls : List Line) (k m : ℕ) (a b : Line) → Ascending from to ls → k < m → slice_get ls k ≡ Some a → slice_get ls m ≡ Some b → a.end ≤ b.start
+ascending-lines : (from to : ℕ) (ls : List LineSpan) (k m : ℕ) (a b : LineSpan) → Ascending from to ls → k < m → slice_get ls k ≡ Some a → slice_get ls m ≡ Some b → a.end ≤ b.start
 ascending-lines from to [] k m a b w lt h g = absurd (none_some h)
 ascending-lines from to (x ∷ ls) k zero a b w lt h g = absurd (omega (arith, lt))
-ascending-lines from to (x ∷ ls) zero (suc m) a b w lt h g = subst (λ (y : Line). y.end ≤ b.start) (same_some h) (ascending-line x.end to ls m b w.3 g).0
+ascending-lines from to (x ∷ ls) zero (suc m) a b w lt h g = subst (λ (y : LineSpan). y.end ≤ b.start) (same_some h) (ascending-line x.end to ls m b w.3 g).0
 ascending-lines from to (x ∷ ls) (suc k) (suc m) a b w lt h g = ascending-lines x.end to ls k m a b w.3 (omega (arith, lt)) h g
 
 text-lines : (text : List ℕ) → Ascending 0 (length text) (lines_of text)
@@ -108,7 +108,7 @@ okay x = Ok x
 same_ok : {x y : ℕ} → okay x ≡ okay y → x ≡ y
 same_ok h = cc
 
-on_line : (text : List ℕ) (u : TextUnit) (l : Line) (n i : ℕ) → offset_on text u l n ≡ Ok i → (k : ℕ) × (along u (between text l.start l.end) n ≡ Some k) × (i ≡ l.start + k)
+on_line : (text : List ℕ) (u : TextUnit) (l : LineSpan) (n i : ℕ) → offset_on text u l n ≡ Ok i → (k : ℕ) × (along u (between text l.start l.end) n ≡ Some k) × (i ≡ l.start + k)
 on_line text u l n i h = by_option (along u (between text l.start l.end) n) refl
   where
     by_option : (o : Option ℕ) → along u (between text l.start l.end) n ≡ o → (k : ℕ) × (along u (between text l.start l.end) n ≡ Some k) × (i ≡ l.start + k)
@@ -119,14 +119,14 @@ on_line text u l n i h = by_option (along u (between text l.start l.end) n) refl
         let is : Err SplitsCharacter ≡ okay i = sym (ap (λ o. ok_or (option_map (λ k. l.start + k) o) SplitsCharacter) e) ∙ h in
         absurd cc
 
-line-room : (text : List ℕ) (u : TextUnit) (l : Line) (n i : ℕ) → l.start ≤ l.end → offset_on text u l n ≡ Ok i → (l.start ≤ i) × (i ≤ l.end)
+line-room : (text : List ℕ) (u : TextUnit) (l : LineSpan) (n i : ℕ) → l.start ≤ l.end → offset_on text u l n ≡ Ok i → (l.start ≤ i) × (i ≤ l.end)
 line-room text u l n i order h =
     let p = on_line text u l n i h in
     let within = (along_place u (between text l.start l.end) n p.0 p.1).within in
     let few = length-take (l.end - l.start) (drop l.start text) in
     (omega (arith, p.2), omega (arith, p.2, within, few, order))
 
-offset-room : (text : List ℕ) (u : TextUnit) (p : Position) (i : ℕ) (o : Option Line) → slice_get (lines_of text) p.line ≡ o → offset_at text u o p.character ≡ Ok i → i ≤ length text
+offset-room : (text : List ℕ) (u : TextUnit) (p : Position) (i : ℕ) (o : Option LineSpan) → slice_get (lines_of text) p.line ≡ o → offset_at text u o p.character ≡ Ok i → i ≤ length text
 offset-room text u p i None at h = omega (arith, sym (same_ok h))
 offset-room text u p i (Some l) at h =
     let w = ascending-line 0 (length text) (lines_of text) p.line l (text-lines text) at in
@@ -153,7 +153,7 @@ in_order p q h =
     (λ lt. earlier_line (omega (arith, lt)))
     (λ le. same_line (grind (arith, nat_tests, h, le)) (grind (arith, nat_tests, h, le)))
 
-ordered-offsets : (text : List ℕ) (u : TextUnit) (p q : Position) (i j : ℕ) (a b : Option Line) → slice_get (lines_of text) p.line ≡ a → slice_get (lines_of text) q.line ≡ b → InOrder p q
+ordered-offsets : (text : List ℕ) (u : TextUnit) (p q : Position) (i j : ℕ) (a b : Option LineSpan) → slice_get (lines_of text) p.line ≡ a → slice_get (lines_of text) q.line ≡ b → InOrder p q
     → offset_at text u a p.character ≡ Ok i → offset_at text u b q.character ≡ Ok j → i ≤ j
 ordered-offsets text u p q i j a None at bt order h g = omega (arith, offset-room text u p i a at h, sym (same_ok g))
 ordered-offsets text u p q i j None (Some m) at bt (earlier_line lt) h g = absurd (missing (lines_of text) p.line q.line m (omega (arith, lt)) at bt)
@@ -165,7 +165,7 @@ ordered-offsets text u p q i j (Some l) (Some m) at bt (earlier_line lt) h g =
     omega (arith, (line-room text u l p.character i one.1 h).1, ascending-lines 0 (length text) (lines_of text) p.line q.line l m w lt at bt, (line-room text u m q.character j two.1 g).0)
 ordered-offsets text u p q i j (Some l) (Some m) at bt (same_line e le) h g =
     let same : l ≡ m = same_some (sym at ∙ ap (slice_get (lines_of text)) e ∙ bt) in
-    let here : offset_on text u l q.character ≡ Ok j = ap (λ (x : Line). offset_on text u x q.character) same ∙ g in
+    let here : offset_on text u l q.character ≡ Ok j = ap (λ (x : LineSpan). offset_on text u x q.character) same ∙ g in
     let one = on_line text u l p.character i h in
     let two = on_line text u l q.character j here in
     omega (arith, one.2, two.2, along-ascends u (between text l.start l.end) p.character q.character one.0 two.0 le one.1 two.1)

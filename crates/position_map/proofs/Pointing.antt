@@ -11,21 +11,21 @@ use Rattle.lane_ascii.specs.Marks.{cr, lf, is_mark, one_if, marks, ends_cr}
 use Rattle.piece_rope.specs.Search.{Scalar, Mark as by_mark}
 use Rattle.piece_rope.specs.Outcomes.{Ended, Sum, IsSumOf, begins_lf}
 use Rattle.position_map.specs.declared.ending.Ending.TheVariants.{Two, One, Open}
-use Rattle.position_map.specs.declared.mark.Mark.{Mark}
+use Rattle.position_map.specs.declared.mark.LineMark.{LineMark}
 use Rattle.position_map.specs.declared.point.Point.{Point}
 use Rattle.position_map.specs.declared.unit.Unit.{Unit as TextUnit}
 use Rattle.position_map.specs.declared.unit.Unit.TheVariants.{Utf8, Utf16, Utf32}
 use Rattle.position_map.specs.Cuts.{IsScalarCut}
 use Rattle.position_map.specs.LineEnds.{ending_of}
-use Rattle.position_map.specs.Lines.{Line, lines_of}
+use Rattle.position_map.specs.Lines.{LineSpan, lines_of}
 use Rattle.position_map.specs.Located.{IsLocated, sum_in}
 use Rattle.position_map.specs.Marked.{IsMarkAt, IsMarkCut, IsLineStart, IsLineEnd, start_of, end_of, begins_mark}
-use Rattle.position_map.specs.Points.{IsPoint, IsEnd, IsBehind}
+use Rattle.position_map.specs.Points.{IsPoint, IsTextEnd, IsBehind}
 use Rattle.position_map.specs.Widths.{width}
 use Rattle.position_map.proofs.LineMarks.{marks-append, ends_cr-append, IsMark-end, IsMark-next, last_end, first_start, line_count, line_is}
 use Rattle.position_map.proofs.Widths.{width-append, width-take_le, width-scalars, width-ascii}
 
-pub end-scalars : (u : TextUnit) (text : List ℕ) (n : ℕ) → u ≡ Utf32 → n ≡ length text → IsEnd u text (record { scalars = n; units = n })
+pub end-scalars : (u : TextUnit) (text : List ℕ) (n : ℕ) → u ≡ Utf32 → n ≡ length text → IsTextEnd u text (record { scalars = n; units = n })
 end-scalars u text n e h = record { scalars = h; units = h ∙ sym (width-scalars text) ∙ ap (λ v. width v text) (sym e) }
 
 pub sum_width : (u : TextUnit) (cs : List ℕ) (is : List Ended) (s : Sum) → IsSumOf cs is s → sum_in u s ≡ width u cs
@@ -50,7 +50,7 @@ pub regroup : (text a b c d : List ℕ) → text ≡ a ++ ((b ++ c) ++ d) → te
 regroup text a b c d e = e ∙ ap (λ t. a ++ t) (append_assoc b c d) ∙ sym (append_assoc a b (c ++ d))
 
 -- a front of a part of the text fits where the text does
-pub part_fits : (u : TextUnit) (text a here back front rest : List ℕ) (is : List Ended) (s : Sum) (e : Point) → text ≡ a ++ (here ++ back) → here ≡ front ++ rest → IsSumOf a is s → IsEnd u text e
+pub part_fits : (u : TextUnit) (text a here back front rest : List ℕ) (is : List Ended) (s : Sum) (e : Point) → text ≡ a ++ (here ++ back) → here ≡ front ++ rest → IsSumOf a is s → IsTextEnd u text e
     → (s.scalars + length front ≤ e.scalars) × (sum_in u s + width u front ≤ e.units)
 part_fits u text a here back front rest is s e split cut x end = (
   omega (arith, ap length split, length-append a (here ++ back), length-append here back, ap length cut, length-append front rest, x.scalars, end.scalars),
@@ -61,7 +61,7 @@ pub first_is : (f : Bool) (back : List ℕ) → begins_mark f back ≡ true → 
 first_is f [] e = cc
 first_is f (c ∷ near) e = (c, near, refl, e)
 
-pub mark_found : (u : TextUnit) (text : List ℕ) (n : ℕ) (s : Sum) (here fs rs : List ℕ) (units : ℕ) (m : Mark) → IsLocated by_mark n text s here → IsMarkCut s.cr_last here (n - s.marks) fs rs
+pub mark_found : (u : TextUnit) (text : List ℕ) (n : ℕ) (s : Sum) (here fs rs : List ℕ) (units : ℕ) (m : LineMark) → IsLocated by_mark n text s here → IsMarkCut s.cr_last here (n - s.marks) fs rs
     → units ≡ sum_in u s → IsBehind u s.scalars units fs m.at → chars m.rest.now ≡ rs → IsMarkAt u text n m
 mark_found u text n s here fs rs units m l k same p r =
     let first = first_is (ends_cr s.cr_last fs) rs k.is in
@@ -155,7 +155,7 @@ is_ending u f c (d ∷ rest) true h e =
     record { ending = c ∷ d ∷ []; back = rest; split = refl; len = refl; wide = omega (arith, width-ascii u c (mark_is_ascii f c h), width-ascii u d small) }
 
 -- where the line behind a mark starts
-pub line_start_behind : (u : TextUnit) (text : List ℕ) (n : ℕ) (m : Mark) (h : IsMarkAt u text n m) (b : Bool) (p : Point) → b ≡ ((h.c == cr) && begins_lf (h.near ++ h.far))
+pub line_start_behind : (u : TextUnit) (text : List ℕ) (n : ℕ) (m : LineMark) (h : IsMarkAt u text n m) (b : Bool) (p : Point) → b ≡ ((h.c == cr) && begins_lf (h.near ++ h.far))
     → p.scalars ≡ m.at.scalars + (1 + one_if b) → p.units ≡ m.at.units + (1 + one_if b) → IsLineStart u text (n + 1) p
 line_start_behind u text n m h b p e x y =
     let w = is_ending u (ends_cr false h.front) h.c (h.near ++ h.far) b h.mark.is e in
@@ -169,7 +169,7 @@ line_start_behind u text n m h b p e x y =
     }
 
 -- a point is within the text's end
-pub point-within : (u : TextUnit) (text : List ℕ) (p e : Point) → IsPoint u text p → IsEnd u text e → (p.scalars ≤ e.scalars) × (p.units ≤ e.units)
+pub point-within : (u : TextUnit) (text : List ℕ) (p e : Point) → IsPoint u text p → IsTextEnd u text e → (p.scalars ≤ e.scalars) × (p.units ≤ e.units)
 point-within u text p e x y = (omega (arith, x.within, y.scalars), omega (arith, x.units, y.units, width-take_le u text p.scalars))
 
 -- the LF that may follow a line end that its piece leaves open
@@ -177,7 +177,7 @@ open_is_cr : (c : ℕ) (near : List ℕ) → ending_of (c ∷ near) ≡ Open →
 open_is_cr c [] e = (open_cr (c == cr) e, refl)
 open_is_cr c (d ∷ near) e = absurd (not_open (c == cr) (d == lf) e)
 
-pub open_line_feed : (u : TextUnit) (text : List ℕ) (n : ℕ) (m : Mark) (h : IsMarkAt u text n m) (b : Bool) → ending_of (chars m.rest.now) ≡ Open → b ≡ begins_lf (drop (m.at.scalars + 1) text)
+pub open_line_feed : (u : TextUnit) (text : List ℕ) (n : ℕ) (m : LineMark) (h : IsMarkAt u text n m) (b : Bool) → ending_of (chars m.rest.now) ≡ Open → b ≡ begins_lf (drop (m.at.scalars + 1) text)
     → b ≡ ((h.c == cr) && begins_lf (h.near ++ h.far))
 open_line_feed u text n m h b o e =
     let w = open_is_cr h.c h.near (sym (ap ending_of h.rest) ∙ o) in
@@ -212,14 +212,14 @@ ending_one c (d ∷ near) far e = by_both (c == cr) (d == lf) e
     by_both true false e = refl
     by_both false g e = refl
 
-pub whole_ending_two : (u : TextUnit) (text : List ℕ) (n : ℕ) (m : Mark) (h : IsMarkAt u text n m) → ending_of (chars m.rest.now) ≡ Two → true ≡ ((h.c == cr) && begins_lf (h.near ++ h.far))
+pub whole_ending_two : (u : TextUnit) (text : List ℕ) (n : ℕ) (m : LineMark) (h : IsMarkAt u text n m) → ending_of (chars m.rest.now) ≡ Two → true ≡ ((h.c == cr) && begins_lf (h.near ++ h.far))
 whole_ending_two u text n m h e = ending_two h.c h.near h.far (sym (ap ending_of h.rest) ∙ e)
 
-pub whole_ending_one : (u : TextUnit) (text : List ℕ) (n : ℕ) (m : Mark) (h : IsMarkAt u text n m) → ending_of (chars m.rest.now) ≡ One → false ≡ ((h.c == cr) && begins_lf (h.near ++ h.far))
+pub whole_ending_one : (u : TextUnit) (text : List ℕ) (n : ℕ) (m : LineMark) (h : IsMarkAt u text n m) → ending_of (chars m.rest.now) ≡ One → false ≡ ((h.c == cr) && begins_lf (h.near ++ h.far))
 whole_ending_one u text n m h e = ending_one h.c h.near h.far (sym (ap ending_of h.rest) ∙ e)
 
 -- in front of a line end there is room for it
-pub line_end_room : (u : TextUnit) (text : List ℕ) (n : ℕ) (m : Mark) → IsMarkAt u text n m → m.at.scalars + 1 ≤ length text
+pub line_end_room : (u : TextUnit) (text : List ℕ) (n : ℕ) (m : LineMark) → IsMarkAt u text n m → m.at.scalars + 1 ≤ length text
 line_end_room u text n m h = omega (arith, h.at, ap length h.mark.split, length-append h.front (h.c ∷ (h.near ++ h.far)))
 
 pub bool_one : (b : Bool) → bool_byte b ≡ one_if b
@@ -227,7 +227,7 @@ bool_one true = refl
 bool_one false = refl
 
 -- the point behind a line end is within the text
-pub behind_room : (u : TextUnit) (text : List ℕ) (n k : ℕ) (m : Mark) (h : IsMarkAt u text n m) (b : Bool) (e : Point) → b ≡ ((h.c == cr) && begins_lf (h.near ++ h.far)) → k ≡ bool_byte b → IsEnd u text e
+pub behind_room : (u : TextUnit) (text : List ℕ) (n k : ℕ) (m : LineMark) (h : IsMarkAt u text n m) (b : Bool) (e : Point) → b ≡ ((h.c == cr) && begins_lf (h.near ++ h.far)) → k ≡ bool_byte b → IsTextEnd u text e
     → (m.at.scalars + (1 + k) ≤ e.scalars) × (m.at.units + (1 + k) ≤ e.units)
 behind_room u text n k m h b e is one end =
     let same = one ∙ bool_one b in
@@ -246,20 +246,20 @@ pub IsLineStart-at : (u : TextUnit) (text : List ℕ) (n k : ℕ) (p : Point) �
 IsLineStart-at u text n k p l e = subst (λ j. IsLineStart u text j p) e l
 
 -- a mark ends its line
-pub line_end_at : (u : TextUnit) (text : List ℕ) (n : ℕ) (m : Mark) → IsMarkAt u text n m → IsLineEnd u text n m.at
+pub line_end_at : (u : TextUnit) (text : List ℕ) (n : ℕ) (m : LineMark) → IsMarkAt u text n m → IsLineEnd u text n m.at
 line_end_at u text n m h = record {
   point = h.point;
   is = IsMark-end text n h.front h.c (h.near ++ h.far) h.mark ∙ ap Some (sym h.at);
 }
 
 -- the text's end, as a point
-pub end-point : (u : TextUnit) (text : List ℕ) (p : Point) → IsEnd u text p → IsPoint u text p
+pub end-point : (u : TextUnit) (text : List ℕ) (p : Point) → IsTextEnd u text p → IsPoint u text p
 end-point u text p e =
     let all : take p.scalars text ≡ text = take_all p.scalars text (omega (arith, e.scalars)) in
     record { within = omega (arith, e.scalars); units = e.units ∙ ap (width u) (sym all) }
 
 -- the last line ends with the text
-pub last_line_end : (u : TextUnit) (text : List ℕ) (n : ℕ) (p : Point) → IsEnd u text p → marks false text ≤ n → n < length (lines_of text) → IsLineEnd u text n p
+pub last_line_end : (u : TextUnit) (text : List ℕ) (n : ℕ) (p : Point) → IsTextEnd u text p → marks false text ≤ n → n < length (lines_of text) → IsLineEnd u text n p
 last_line_end u text n p e h l =
     let same : n ≡ marks false text = omega (arith, line_count text) in
     record {
@@ -270,7 +270,7 @@ last_line_end u text n p e h l =
 pub line_both : (u : TextUnit) (text : List ℕ) (n : ℕ) (p q : Point) → IsLineStart u text n p → IsLineEnd u text n q → slice_get (lines_of text) n ≡ Some (record { start = p.scalars; end = q.scalars })
 line_both u text n p q s e = line_is (slice_get (lines_of text) n) p.scalars q.scalars s.is e.is
 
-some_line : (o : Option Line) (k : ℕ) → option_map start_of o ≡ Some k → (l : Line) × (o ≡ Some l)
+some_line : (o : Option LineSpan) (k : ℕ) → option_map start_of o ≡ Some k → (l : LineSpan) × (o ≡ Some l)
 some_line None k e = cc
 some_line (Some l) k e = (l, refl)
 

@@ -3,12 +3,12 @@ use Rattle.std.specs.Prelude.{◌≡◌, ℕ, ◌+◌, ◌<◌, ◌≤◌, List,
 use Rattle.piece_rope.specs.Outcomes.{Ended, Sum, IsSumOf}
 use Rattle.position_map.specs.declared.on_line.OnLine.{OnLine}
 use Rattle.position_map.specs.declared.unit.Unit.{Unit as TextUnit}
-use Rattle.position_map.specs.Lines.{Line, lines_of}
+use Rattle.position_map.specs.Lines.{LineSpan, lines_of}
 use Rattle.position_map.specs.Positions.{along, line_at}
 use Rattle.position_map.specs.Widths.{width}
 
 -- a part of a text in front of some place: the numbers of what stands before the part, and the part
-pub record IsFront (text : List ℕ) (before : Sum) (part : List ℕ) : Type 0 where
+pub record IsTextFront (text : List ℕ) (before : Sum) (part : List ℕ) : Type 0 where
   pub front : List ℕ
   pub items : List Ended
   pub back : List ℕ
@@ -17,12 +17,12 @@ pub record IsFront (text : List ℕ) (before : Sum) (part : List ℕ) : Type 0 w
 
 -- the code points that take `n` units
 pub record IsFrontOf (unit : TextUnit) (text : List ℕ) (n : ℕ) (before : Sum) (part : List ℕ) : Type 0 where
-  pub is : IsFront text before part
+  pub is : IsTextFront text before part
   pub along : along unit text n ≡ Some (before.scalars + length part)
 
 -- the line of an offset, and the units before the offset or the line's end, whichever comes first
 pub record IsOnLine (unit : TextUnit) (text : List ℕ) (offset : ℕ) (p : OnLine) : Type 0 where
   pub line : p.line ≡ line_at text offset
   pub has : p.line < length (lines_of text)
-  pub within : (l : Line) → slice_get (lines_of text) p.line ≡ Some l → l.start ≤ min offset l.end
-  pub units : (l : Line) → slice_get (lines_of text) p.line ≡ Some l → p.units ≡ width unit (take (min offset l.end) text)
+  pub within : (l : LineSpan) → slice_get (lines_of text) p.line ≡ Some l → l.start ≤ min offset l.end
+  pub units : (l : LineSpan) → slice_get (lines_of text) p.line ≡ Some l → p.units ≡ width unit (take (min offset l.end) text)

@@ -3,13 +3,13 @@ use Rattle.std.specs.Prelude.{ℕ, ◌+◌, ◌==◌, ◌||◌, ◌&&◌, List, 
 use Rattle.lane_ascii.specs.Marks.{cr, lf}
 
 -- where a line starts and where it ends without its line end, in code points from the text's start
-pub record Line : Type 0 where
+pub record LineSpan : Type 0 where
   pub start : ℕ
   pub end : ℕ
 
 -- The lines of a text whose first code point is number `at`, inside a line that starts at `start`: cut at CR LF, at CR, at LF,
 -- in this preference.
-abbrev pub lines_from : ℕ → ℕ → List ℕ → List Line
+abbrev pub lines_from : ℕ → ℕ → List ℕ → List LineSpan
 lines_from start at [] = record { start = start; end = at } ∷ []
 lines_from start at (c ∷ []) =
     if (c == cr) || (c == lf)
@@ -23,5 +23,5 @@ lines_from start at (c ∷ d ∷ rest) =
     else lines_from start (at + 1) (d ∷ rest))
 
 -- the line table
-unfoldable pub lines_of : List ℕ → List Line
+unfoldable pub lines_of : List ℕ → List LineSpan
 lines_of text = lines_from 0 0 text

@@ -3,10 +3,10 @@ use Rattle.std.specs.Prelude.{◌≡◌, ℕ, Bool, true, false, List, [], ◌�
 use Rattle.std.specs.Option.{option_map}
 use Rattle.std.specs.Str.{chars}
 use Rattle.lane_ascii.specs.Marks.{is_mark, marks, ends_cr}
-use Rattle.position_map.specs.declared.mark.Mark.{Mark}
+use Rattle.position_map.specs.declared.mark.LineMark.{LineMark}
 use Rattle.position_map.specs.declared.point.Point.{Point}
 use Rattle.position_map.specs.declared.unit.Unit.{Unit as TextUnit}
-use Rattle.position_map.specs.Lines.{Line, lines_of}
+use Rattle.position_map.specs.Lines.{LineSpan, lines_of}
 use Rattle.position_map.specs.Points.{IsPoint}
 
 -- whether a mark stands first, where the flag says that a CR stands in front
@@ -27,7 +27,7 @@ pub record IsMark (text : List ℕ) (n : ℕ) (front : List ℕ) (c : ℕ) (back
   pub is : is_mark (ends_cr false front) c ≡ true
 
 -- where mark `n` stands; `near` is what is behind it in its piece
-pub record IsMarkAt (unit : TextUnit) (text : List ℕ) (n : ℕ) (m : Mark) : Type 0 where
+pub record IsMarkAt (unit : TextUnit) (text : List ℕ) (n : ℕ) (m : LineMark) : Type 0 where
   pub front : List ℕ
   pub c : ℕ
   pub near : List ℕ
@@ -37,10 +37,10 @@ pub record IsMarkAt (unit : TextUnit) (text : List ℕ) (n : ℕ) (m : Mark) : T
   pub point : IsPoint unit text m.at
   pub rest : chars m.rest.now ≡ c ∷ near
 
-abbrev pub start_of : Line → ℕ
+abbrev pub start_of : LineSpan → ℕ
 start_of l = l.start
 
-abbrev pub end_of : Line → ℕ
+abbrev pub end_of : LineSpan → ℕ
 end_of l = l.end
 
 -- where line `n` starts, and where it ends

@@ -114,7 +114,7 @@ IsPlanned wanted (Err OutOfMemory) = ⊤
 IsPlanned wanted (Err fault) = wanted ≡ Err fault
 
 -- what the splice takes out is there, and so is the range
-pub record Fits (d : Document) (p : Plan) : Type 0 where
+pub record FitsText (d : Document) (p : Plan) : Type 0 where
   pub bytes : p.at + p.del ≤ length d.bytes
   pub order : p.i ≤ p.j
   pub within : p.j ≤ length (text_of d)

@@ -9,7 +9,7 @@ pub record IsPoint (unit : TextUnit) (text : List ℕ) (p : Point) : Type 0 wher
   pub units : p.units ≡ width unit (take p.scalars text)
 
 -- the text's end
-pub record IsEnd (unit : TextUnit) (text : List ℕ) (p : Point) : Type 0 where
+pub record IsTextEnd (unit : TextUnit) (text : List ℕ) (p : Point) : Type 0 where
   pub scalars : p.scalars ≡ length text
   pub units : p.units ≡ width unit text
 

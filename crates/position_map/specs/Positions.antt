@@ -6,7 +6,7 @@ use Rattle.position_map.specs.declared.fault.PosFault.{PosFault}
 use Rattle.position_map.specs.declared.fault.PosFault.TheVariants.{OutOfRange, SplitsCharacter}
 use Rattle.position_map.specs.declared.position.Position.{Position}
 use Rattle.position_map.specs.Widths.{width_of, width}
-use Rattle.position_map.specs.Lines.{Line, lines_of}
+use Rattle.position_map.specs.Lines.{LineSpan, lines_of}
 
 -- the code points `i..j`
 abbrev pub between : List ℕ → ℕ → ℕ → List ℕ
@@ -20,11 +20,11 @@ along unit (c ∷ cs) n =
     else (if nat_lt n (width_of unit c) then None else option_map (λ k. k + 1) (along unit cs (n - width_of unit c)))
 
 -- the offset of a character on a line; past the line's length it is the line's end
-abbrev pub offset_on : List ℕ → TextUnit → Line → ℕ → Result ℕ PosFault
+abbrev pub offset_on : List ℕ → TextUnit → LineSpan → ℕ → Result ℕ PosFault
 offset_on text unit l character = ok_or (option_map (λ k. l.start + k) (along unit (between text l.start l.end) character)) SplitsCharacter
 
 -- on a line past the last it is the text's end
-abbrev pub offset_at : List ℕ → TextUnit → Option Line → ℕ → Result ℕ PosFault
+abbrev pub offset_at : List ℕ → TextUnit → Option LineSpan → ℕ → Result ℕ PosFault
 offset_at text unit None character = Ok (length text)
 offset_at text unit (Some l) character = offset_on text unit l character
 
@@ -34,10 +34,10 @@ offset_of text unit p = offset_at text unit (slice_get (lines_of text) p.line) p
 
 -- the number of the last line that starts at or before the offset
 abbrev pub line_at : List ℕ → ℕ → ℕ
-line_at text offset = count_by (λ (l : Line). nat_le l.start offset) (lines_of text) - 1
+line_at text offset = count_by (λ (l : LineSpan). nat_le l.start offset) (lines_of text) - 1
 
 -- the units from a line's start to the offset, or to the line's end, whichever comes first
-abbrev pub character_at : List ℕ → TextUnit → Option Line → ℕ → ℕ
+abbrev pub character_at : List ℕ → TextUnit → Option LineSpan → ℕ → ℕ
 character_at text unit None offset = 0
 character_at text unit (Some l) offset = width unit (between text l.start (min offset l.end))
 

@@ -28,7 +28,7 @@ abbrev pub AreAtMost : ℕ → List Outcome → Type 0
 AreAtMost most [] = Unit {0}
 AreAtMost most (o ∷ os) = (o.sum.bytes ≤ most) × AreAtMost most os
 
-pub record IsWhole (d : Document) (os : List Outcome) (tail : Outcome) : Type 0 where
+pub record AreAllPieces (d : Document) (os : List Outcome) (tail : Outcome) : Type 0 where
   pub made : AreMade 0 (decoded d).items (os ++ tail ∷ [])
   pub bytes : (total_of os).bytes ≡ length d.bytes
   pub no_bytes : tail.sum.bytes ≡ 0

@@ -2,7 +2,7 @@
 ghost use Rattle.std.specs.Prelude.{◌≡◌, ℕ, ◌+◌, ◌*◌, ◌^◌, ◌<◌, ◌≤◌, IfOk, length};
 ghost use Rattle.std.specs.Str.{chars};
 ghost use Rattle.piece_rope.specs.Document.{text_of};
-ghost use Rattle.position_map.specs.Plan.{Fits, IsPlanned, is_behind, planned, replacing};
+ghost use Rattle.position_map.specs.Plan.{FitsText, IsPlanned, is_behind, planned, replacing};
 ghost use Rattle.position_map.specs.Whole.{pieces_most};
 
 use crate::change_fault::ChangeFault;
@@ -34,7 +34,7 @@ pub fn plan_change(
     visits: &mut Visits,
 ) -> Result<Plan, ChangeFault>
     ensures plan { IsPlanned (planned doc.now range unit (chars text.now)) result }
-    ensures fits { IfOk result (Fits doc.now) }
+    ensures fits { IfOk result (FitsText doc.now) }
     ensures most { (d : ℕ) → pieces_most doc.now < 2 ^ d → visits.new ≤ visits.old + (10 * d + 20) }
     ensures kept { visits.old ≤ visits.new }
 {
@@ -68,7 +68,7 @@ fn replace(
     requires order { i ≤ j }
     requires within { j ≤ length (text_of doc.now) }
     ensures plan { IsPlanned (replacing doc.now (chars text.now) i j) result }
-    ensures fits { IfOk result (Fits doc.now) }
+    ensures fits { IfOk result (FitsText doc.now) }
     ensures most { (d : ℕ) → pieces_most doc.now < 2 ^ d → visits.new ≤ visits.old + 2 * (d + 2) }
     ensures kept { visits.old ≤ visits.new }
 {

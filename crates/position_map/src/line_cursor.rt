@@ -11,7 +11,7 @@ ghost use Rattle.position_map.specs.NextLines.{IsNextLine, IsAhead};
 ghost use Rattle.position_map.specs.Whole.{pieces_most};
 
 use crate::cuts::{split_at_mark, split_at_scalar};
-use crate::mark::Mark;
+use crate::mark::LineMark;
 use crate::marks::{line_behind, mark};
 use crate::next_line::NextLine;
 use crate::parts::Parts;
@@ -113,7 +113,7 @@ fn next_mark<'d>(
     n: u64,
     at: NextLine<'d>,
     visits: &mut Visits,
-) -> Option<Mark<'d>>
+) -> Option<LineMark<'d>>
     requires { IsNextLine (text_of parts.now.doc) n at }
     ensures place { MatchOption result (marks false (text_of parts.now.doc) ≤ n) (IsMarkAt Utf8 (text_of parts.now.doc) n) }
     ensures most { (d : ℕ) → length parts.now.pieces < 2 ^ d → visits.new ≤ visits.old + (d + 2) }
@@ -125,13 +125,18 @@ fn next_mark<'d>(
         None => mark(parts, Unit::Utf8, n, visits),
         Some((front, rest)) => {
             let at = point_behind(scalars, units, front, Unit::Utf8);
-            Some(Mark { at, rest })
+            Some(LineMark { at, rest })
         }
     }
 }
 
 // The line behind mark `n`.
-fn line_after<'d>(parts: &Parts<'d, '_>, n: u64, m: Mark<'d>, visits: &mut Visits) -> NextLine<'d>
+fn line_after<'d>(
+    parts: &Parts<'d, '_>,
+    n: u64,
+    m: LineMark<'d>,
+    visits: &mut Visits,
+) -> NextLine<'d>
     requires mark { IsMarkAt Utf8 (text_of parts.now.doc) n m }
     ensures next { IsNextLine (text_of parts.now.doc) (n + 1) result }
     ensures most { (d : ℕ) → length parts.now.pieces < 2 ^ d → visits.new ≤ visits.old + (d + 2) }

@@ -9,7 +9,7 @@ ghost use Rattle.position_map.specs.Marked.{IsMarkAt, IsLineStart};
 use crate::cuts::{ending_of, split_at_mark, split_at_scalar};
 use crate::ending::Ending;
 use crate::locate::{locate, sum_in};
-use crate::mark::Mark;
+use crate::mark::LineMark;
 use crate::parts::Parts;
 use crate::point::{Point, point_behind};
 use crate::unit::Unit;
@@ -21,7 +21,7 @@ pub(crate) fn mark<'d>(
     unit: Unit,
     n: u64,
     visits: &mut Visits,
-) -> Option<Mark<'d>>
+) -> Option<LineMark<'d>>
     ensures place { MatchOption result (marks false (text_of parts.now.doc) ≤ n) (IsMarkAt unit (text_of parts.now.doc) n) }
     ensures most { (d : ℕ) → length parts.now.pieces < 2 ^ d → visits.new ≤ visits.old + (d + 2) }
     ensures kept { visits.old ≤ visits.new }
@@ -32,7 +32,7 @@ pub(crate) fn mark<'d>(
         None => None,
         Some((front, rest)) => {
             let at = point_behind(before.scalars, sum_in(before, unit), front, unit);
-            Some(Mark { at, rest })
+            Some(LineMark { at, rest })
         }
     }
 }
@@ -51,7 +51,7 @@ pub(crate) fn line_feed_at(parts: &Parts<'_, '_>, n: u64, visits: &mut Visits) -
 }
 
 // Whether the line end at a mark is CR LF.
-fn is_cr_lf(parts: &Parts<'_, '_>, m: &Mark<'_>, visits: &mut Visits) -> bool
+fn is_cr_lf(parts: &Parts<'_, '_>, m: &LineMark<'_>, visits: &mut Visits) -> bool
     requires room { m.now.at.scalars + 1 < 2 ^ 64 }
     ensures is { (unit : TextUnit) (n : ℕ) (h : IsMarkAt unit (text_of parts.now.doc) n m.now) → result ≡ ((h.c == cr) && begins_lf (h.near ++ h.far)) }
     ensures most { (d : ℕ) → length parts.now.pieces < 2 ^ d → visits.new ≤ visits.old + (d + 2) }
@@ -69,7 +69,7 @@ pub(crate) fn line_behind(
     parts: &Parts<'_, '_>,
     unit: Unit,
     n: u64,
-    m: &Mark<'_>,
+    m: &LineMark<'_>,
     visits: &mut Visits,
 ) -> Point
     requires mark { IsMarkAt unit (text_of parts.now.doc) n m.now }

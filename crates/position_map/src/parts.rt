@@ -6,8 +6,8 @@ ghost use Rattle.piece_rope.specs.Sizes.{longest};
 ghost use Rattle.position_map.specs.Found.{IsFoundOutcome};
 ghost use Rattle.position_map.specs.ItemCuts.{cut_of};
 ghost use Rattle.position_map.specs.Lines.{lines_of};
-ghost use Rattle.position_map.specs.Points.{IsEnd};
-ghost use Rattle.position_map.specs.Whole.{AreLengths, IsWhole};
+ghost use Rattle.position_map.specs.Points.{IsTextEnd};
+ghost use Rattle.position_map.specs.Whole.{AreLengths, AreAllPieces};
 
 use crate::item_cuts::Cut;
 use crate::point::Point;
@@ -31,20 +31,20 @@ impl<'d, 'i> Model for Parts<'d, 'i> {
     ghost use Rattle.piece_rope.specs.Entry.{here_of};
     ghost use Rattle.piece_rope.specs.Sizes.{longest};
     ghost use Rattle.position_map.specs.Whole.{AreLengths};
-    ghost use Rattle.position_map.specs.Whole.{Pieced, IsWhole};
+    ghost use Rattle.position_map.specs.Whole.{Pieced, AreAllPieces};
 
     ghost Value = { Pieced };
 
     ghost view = { λ p. record { doc = p.doc.now; pieces = map here_of p.finder; tail = p.tail.now } };
 
-    ghost invariant = { λ p. IsWhole p.doc.now (map here_of p.finder) p.tail.now × AreLengths p.doc.now p.lengths };
+    ghost invariant = { λ p. AreAllPieces p.doc.now (map here_of p.finder) p.tail.now × AreLengths p.doc.now p.lengths };
 }
 
 impl<'d, 'i> Parts<'d, 'i> {
     // The parts of a document.
     pub(crate) fn of(doc: &'d Doc<'i>) -> Parts<'d, 'i>
         ensures doc { result.doc ≡ doc.now }
-        ensures whole { IsWhole doc.now result.pieces result.tail }
+        ensures whole { AreAllPieces doc.now result.pieces result.tail }
     {
         Parts {
             doc,
@@ -57,7 +57,7 @@ impl<'d, 'i> Parts<'d, 'i> {
     // What the end of the bytes gives.
     pub(crate) fn tail(&self) -> &'d Outcome
         ensures tail { result.now ≡ self.now.tail }
-        ensures whole { IsWhole self.now.doc self.now.pieces self.now.tail }
+        ensures whole { AreAllPieces self.now.doc self.now.pieces self.now.tail }
     {
         self.tail
     }
@@ -65,7 +65,7 @@ impl<'d, 'i> Parts<'d, 'i> {
     // The number of bytes.
     pub(crate) fn bytes(&self) -> u64
         ensures bytes { result ≡ length self.now.doc.bytes }
-        ensures whole { IsWhole self.now.doc self.now.pieces self.now.tail }
+        ensures whole { AreAllPieces self.now.doc self.now.pieces self.now.tail }
     {
         self.lengths.bytes
     }
@@ -73,7 +73,7 @@ impl<'d, 'i> Parts<'d, 'i> {
     // The number of lines.
     pub(crate) fn line_count(&self) -> u64
         ensures lines { result ≡ length (lines_of (text_of self.now.doc)) }
-        ensures whole { IsWhole self.now.doc self.now.pieces self.now.tail }
+        ensures whole { AreAllPieces self.now.doc self.now.pieces self.now.tail }
     {
         self.lengths.lines
     }
@@ -98,7 +98,7 @@ impl<'d, 'i> Parts<'d, 'i> {
 
     // The text's end.
     pub(crate) fn end(&self, unit: Unit) -> Point
-        ensures { IsEnd unit (text_of self.now.doc) result }
+        ensures { IsTextEnd unit (text_of self.now.doc) result }
     {
         let scalars = self.lengths.scalars;
         let units = match unit {

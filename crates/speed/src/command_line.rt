@@ -14,7 +14,7 @@ const TREE: &str = "tree";
 
 /// What the program is to do.
 #[derive(Clone, Copy)]
-pub enum Measure<'a> {
+pub enum Measurement<'a> {
     /// List all that it measures.
     List,
     /// Measure the lane kernels.
@@ -26,18 +26,18 @@ pub enum Measure<'a> {
 }
 
 /// The job of the words; the program's name isn't one of them.
-pub fn job_of(alloc: Global, words: &[String]) -> Result<Measure<'_>, Error> {
+pub fn job_of(alloc: Global, words: &[String]) -> Result<Measurement<'_>, Error> {
     let matches = command(alloc)?.try_get_matches_from(words)?;
     if let Some(given) = matches.subcommand_matches(CODECS) {
-        return Ok(Measure::Codecs(given.get_str("indexes")));
+        return Ok(Measurement::Codecs(given.get_str("indexes")));
     }
     if matches.subcommand_matches(LANES).is_some() {
-        return Ok(Measure::Lanes);
+        return Ok(Measurement::Lanes);
     }
     if matches.subcommand_matches(TREE).is_some() {
-        return Ok(Measure::Tree);
+        return Ok(Measurement::Tree);
     }
-    Ok(Measure::List)
+    Ok(Measurement::List)
 }
 
 /// The command line's form. Each part goes into the next call, so that none is left over where memory

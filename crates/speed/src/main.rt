@@ -11,31 +11,31 @@ mod samples;
 mod text_kernels;
 mod tree;
 
-use command_line::{Measure, job_of};
-use index_files::Failure;
+use command_line::{Measurement, job_of};
+use index_files::ProgramFailure;
 use std::process::ExitCode;
 use std::{env, io};
 
 /// Lists what is measured, and how to ask.
-fn list(rt: &HostRuntime) -> Result<(), Failure> {
+fn list(rt: &HostRuntime) -> Result<(), ProgramFailure> {
     lanes::list(rt)?;
     codecs::list(rt)?;
     tree::list(rt)
 }
 
 /// Does a job.
-fn perform(rt: &HostRuntime, job: Measure<'_>) -> Result<(), Failure> {
+fn perform(rt: &HostRuntime, job: Measurement<'_>) -> Result<(), ProgramFailure> {
     match job {
-        Measure::List => list(rt),
-        Measure::Lanes => lanes::measure(rt),
-        Measure::Codecs(Some(folder)) => codecs::measure(rt, folder),
-        Measure::Codecs(None) => codecs::list(rt),
-        Measure::Tree => tree::measure(rt),
+        Measurement::List => list(rt),
+        Measurement::Lanes => lanes::measure(rt),
+        Measurement::Codecs(Some(folder)) => codecs::measure(rt, folder),
+        Measurement::Codecs(None) => codecs::list(rt),
+        Measurement::Tree => tree::measure(rt),
     }
 }
 
 /// Does a job, prints why it ends early where it does, and returns the exit status.
-fn performed(rt: &HostRuntime, job: Measure<'_>) -> u8 {
+fn performed(rt: &HostRuntime, job: Measurement<'_>) -> u8 {
     match perform(rt, job) {
         Ok(()) => 0,
         Err(failure) => {
@@ -65,7 +65,7 @@ fn attempt(rt: &HostRuntime) -> u8 {
             Err(error) => told(rt, &error),
         },
         Err(error) => {
-            let failure = Failure::from(error);
+            let failure = ProgramFailure::from(error);
             let _ = eprintln!(rt; "speed: {failure}");
             failure.status()
         }

@@ -1,8 +1,8 @@
 //! How many nodes a search visits in a tree of items, and how long edits and searches take.
 
 use crate::fastest::Fastest;
-use index_files::Failure;
-use oracle::tree::{Axis, Items, light, put, take};
+use index_files::ProgramFailure;
+use oracle::tree::{Items, LoadAxis, light, put, take};
 use rand::rngs::SmallRng;
 use rand::{RngExt, SeedableRng};
 use std::alloc::{AllocError, Global};
@@ -19,7 +19,7 @@ const ROUNDS: usize = 20;
 const STEPS: usize = 1000;
 
 /// Prints how many nodes a search visits, and how to measure.
-pub fn list(rt: &HostRuntime) -> Result<(), Failure> {
+pub fn list(rt: &HostRuntime) -> Result<(), ProgramFailure> {
     for count in &SIZES {
         let items = grown(rt.alloc(), *count)?;
         let (fewest, most) = visited(&items);
@@ -30,7 +30,7 @@ pub fn list(rt: &HostRuntime) -> Result<(), Failure> {
 }
 
 /// Prints what each step costs.
-pub fn measure(rt: &HostRuntime) -> Result<(), Failure> {
+pub fn measure(rt: &HostRuntime) -> Result<(), ProgramFailure> {
     for count in &SIZES {
         let mut items = grown(rt.alloc(), *count)?;
         measure_one(rt, &mut items)?;
@@ -40,7 +40,7 @@ pub fn measure(rt: &HostRuntime) -> Result<(), Failure> {
 
 /// Prints what each step costs in a list: the fastest of some rounds of a thousand finds, inserts
 /// and removes.
-fn measure_one(rt: &HostRuntime, items: &mut Items) -> Result<(), Failure> {
+fn measure_one(rt: &HostRuntime, items: &mut Items) -> Result<(), ProgramFailure> {
     let count = items.len();
     let mut rng = SmallRng::seed_from_u64(2);
     let (mut find, mut insert, mut remove) = (Fastest::new(), Fastest::new(), Fastest::new());
@@ -86,7 +86,7 @@ fn visited(items: &Items) -> (u64, u64) {
     let mut most = 0;
     for i in 0..items.len() {
         let mut count = visits();
-        let _ = finder.find(&Axis::Count, i as u64, &mut count);
+        let _ = finder.find(&LoadAxis::Count, i as u64, &mut count);
         fewest = fewest.min(count.visited());
         most = most.max(count.visited());
     }
@@ -107,7 +107,7 @@ fn search(items: &Items, targets: &[usize]) -> usize {
     let finder = items.finder();
     let mut count = visits();
     for target in targets {
-        let _ = finder.find(&Axis::Count, *target as u64, &mut count);
+        let _ = finder.find(&LoadAxis::Count, *target as u64, &mut count);
     }
     count.visited() as usize
 }

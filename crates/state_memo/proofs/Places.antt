@@ -7,7 +7,7 @@ use Rattle.std.proofs.lemmas.Option.{slice_get_read}
 use Rattle.codec.specs.declared.state.AnyState.{AnyState}
 use Rattle.state_memo.specs.declared.outcome.Outcome.{Outcome}
 use Rattle.state_memo.specs.declared.known.Known.{Known}
-use Rattle.state_memo.specs.Memo.{same_state, recalled, without, put_first, entered, IsPlace}
+use Rattle.state_memo.specs.Memo.{same_state, recalled, without, put_first, entered, IsSlot}
 
 pub pick-then : {A : Type 0} (b : Bool) (x y : A) → b ≡ true → cond b x y ≡ x
 pick-then true x y e = refl
@@ -21,7 +21,7 @@ by-none : (b : Bool) (o : Outcome) (r : Option Outcome) → cond b (Some o) r �
 by-none true o r e = absurd cc
 by-none false o r e = (refl, e)
 
-pub place-at : (ks : List Known) (s : AnyState) (i : ℕ) (k : Known) → slice_get ks i ≡ Some k → recalled (take i ks) s ≡ None → same_state k.entry s ≡ true → IsPlace ks s i
+pub place-at : (ks : List Known) (s : AnyState) (i : ℕ) (k : Known) → slice_get ks i ≡ Some k → recalled (take i ks) s ≡ None → same_state k.entry s ≡ true → IsSlot ks s i
 place-at [] s zero k at none same = absurd cc
 place-at [] s (suc i) k at none same = absurd cc
 place-at (x ∷ ks) s zero k at none same =
@@ -58,19 +58,19 @@ without-absent (x ∷ ks) s none =
 pub room-absent : (ks : List Known) (s : AnyState) → recalled ks s ≡ None → take 3 ks ≡ take 3 (without ks s)
 room-absent ks s none = ap (λ (rest : List Known). take 3 rest) (sym (without-absent ks s none))
 
-pub room-found : (ks : List Known) (s : AnyState) (i : ℕ) → IsPlace ks s i → length ks ≤ 4 → remove ks i ≡ take 3 (without ks s)
+pub room-found : (ks : List Known) (s : AnyState) (i : ℕ) → IsSlot ks s i → length ks ≤ 4 → remove ks i ≡ take 3 (without ks s)
 room-found ks s i p few =
     sym (take_all 3 (remove ks i) (omega (arith, length-remove ks i p.within, few))) ∙ ap (λ (rest : List Known). take 3 rest) (sym p.others)
 
 -- what is kept at the place is what is recalled
-pub outcome-at : (ks : List Known) (s : AnyState) (i : ℕ) (k : Known) → IsPlace ks s i → k ≡ get_or ks i k → Some k.outcome ≡ recalled ks s
+pub outcome-at : (ks : List Known) (s : AnyState) (i : ℕ) (k : Known) → IsSlot ks s i → k ≡ get_or ks i k → Some k.outcome ≡ recalled ks s
 outcome-at ks s i k p here =
     ap (option_map (λ (x : Known). x.outcome)) (sym (slice_get_read ks (length ks) i k refl p.within here)) ∙ sym p.found
 
-pub some-at : (ks : List Known) (s : AnyState) (i : ℕ) (k : Known) → IsPlace ks s i → k ≡ get_or ks i k → true ≡ is_some (recalled ks s)
+pub some-at : (ks : List Known) (s : AnyState) (i : ℕ) (k : Known) → IsSlot ks s i → k ≡ get_or ks i k → true ≡ is_some (recalled ks s)
 some-at ks s i k p here = ap is_some (outcome-at ks s i k p here)
 
-pub entered-at : (ks : List Known) (s : AnyState) (i : ℕ) (k : Known) → IsPlace ks s i → k ≡ get_or ks i k
+pub entered-at : (ks : List Known) (s : AnyState) (i : ℕ) (k : Known) → IsSlot ks s i → k ≡ get_or ks i k
     → record { entry = s; outcome = k.outcome } ∷ remove ks i ≡ entered ks s
 entered-at ks s i k p here =
     ap (λ (rest : List Known). record { entry = s; outcome = k.outcome } ∷ rest) (sym p.others)

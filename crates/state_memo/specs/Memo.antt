@@ -38,7 +38,7 @@ abbrev pub entered : List Known → AnyState → List Known
 entered ks s = put_first (recalled ks s) ks s
 
 -- the place of the outcome that is remembered for the state
-pub record IsPlace (ks : List Known) (s : AnyState) (i : ℕ) : Type 0 where
+pub record IsSlot (ks : List Known) (s : AnyState) (i : ℕ) : Type 0 where
   pub within : i < length ks
   pub found : recalled ks s ≡ option_map (λ (k : Known). k.outcome) (slice_get ks i)
   pub others : without ks s ≡ remove ks i

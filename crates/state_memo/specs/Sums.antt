@@ -1,5 +1,5 @@
 -- Numbers of a part of a document.
-use Rattle.std.specs.Prelude.{◌≡◌, ℕ, ◌+◌, ◌-◌, ◌*◌, ◌<◌, ◌≤◌, ◌^◌, false, ◌&&◌, ◌==◌, List, length, if◌then◌else◌}
+use Rattle.std.specs.Prelude.{◌≡◌, ℕ, ◌+◌, ◌-◌, ◌<◌, ◌^◌, false, ◌&&◌, ◌==◌, List, length, if◌then◌else◌}
 use Rattle.std.proofs.Common.{arith}
 use Rattle.lane_ascii.specs.Marks.{marks, ends_cr, one_if}
 use Rattle.lane_utf.specs.Widths.{utf8_width, utf16_width, total_width}
@@ -7,7 +7,7 @@ use Rattle.state_memo.specs.declared.ended.Ended.{Ended}
 use Rattle.state_memo.specs.declared.sum.Sum.{Sum}
 use Rattle.state_memo.specs.declared.axis.Axis.{Axis}
 use Rattle.state_memo.specs.declared.axis.Axis.TheVariants.{Byte, Scalar, Utf16, Utf8, Mark}
-use Rattle.state_memo.specs.Items.{errors_in, all_scalars}
+use Rattle.state_memo.specs.Items.{errors_in}
 use Rattle.state_memo.specs.Lines.{begins_lf}
 use Rattle.state_memo.specs.TextFacts.{marks-few, scalars-few, utf16-few, lf-counts, cr-counts}
 use Rattle.state_memo.specs.SumFacts.{no_flag, lf_joins, cr_joins}
@@ -72,11 +72,6 @@ pub record Fits (s : Sum) : Type 0 where
   pub utf8 : s.utf8 < 2 ^ 64
   pub errors : s.errors < 2 ^ 64
 
--- what the decoder's piece of so many bytes can have: eight bytes of UTF-8 an item, and seven items more than bytes
-pub record IsBounded (s : Sum) : Type 0 where
-  pub utf8 : s.utf8 ≤ 8 * s.bytes + 64
-  pub errors : s.errors ≤ 8 * s.bytes + 64
-
 -- the number of a sum that is counted in
 abbrev pub measure : Axis → Sum → ℕ
 measure Byte s = s.bytes
@@ -84,14 +79,3 @@ measure Scalar s = s.scalars
 measure Utf16 s = s.utf16
 measure Utf8 s = s.utf8
 measure Mark s = s.marks
-
--- the numbers that the text and the items give
-pub record IsSumOf (cs : List ℕ) (items : List Ended) (s : Sum) : Type 0 where
-  pub scalars : s.scalars ≡ length cs
-  pub utf16 : s.utf16 ≡ total_width utf16_width cs
-  pub utf8 : s.utf8 ≡ total_width utf8_width cs
-  pub errors : s.errors ≡ errors_in items
-  pub marks : s.marks ≡ marks false cs
-  pub lf_first : s.lf_first ≡ begins_lf cs
-  pub cr_last : s.cr_last ≡ ends_cr false cs
-  pub counted : length cs ≡ all_scalars items

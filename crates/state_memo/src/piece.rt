@@ -1,6 +1,6 @@
 //! Pieces.
 ghost use Rattle.std.specs.Prelude.{◌≡◌, ◌+◌, ◌-◌, ◌^◌, ◌≤◌, ◌<◌, [], ◌∷◌, min, length, take, None, IfOk, OnOk, IfSome, IfNone, option_copied, is_some};
-ghost use Rattle.state_memo.specs.Memo.{recalled, without, installed, entered, IsPlace};
+ghost use Rattle.state_memo.specs.Memo.{recalled, without, installed, entered, IsSlot};
 ghost use Rattle.state_memo.specs.Outcome.{contents_of, outcome_of};
 
 use crate::compute::compute_bytes;
@@ -63,7 +63,7 @@ impl Piece {
 
     /// The place of the outcome that is remembered for a state.
     fn place_of(&self, state: AnyState) -> Option<usize>
-        ensures found { IfSome result (λ i. IsPlace self.now.known state i) }
+        ensures found { IfSome result (λ i. IsSlot self.now.known state i) }
         ensures none { IfNone result (recalled self.now.known state ≡ None) }
     {
         let known = self.known.as_slice();

@@ -1,7 +1,7 @@
 -- Searches go on in one part of a list.
 use Rattle.std.proofs.Common.{◌≡◌, ℕ, ◌+◌, ◌<◌, ◌≤◌, List, [], ◌∷◌, ◌++◌, length, ap, sym, ◌∙◌, subst, refl, arith, length-append, append_assoc}
 use Rattle.sum_tree.specs.Sums.{MonoidLaws, total}
-use Rattle.sum_tree.specs.Reached.{IsReachable, IsSought, IsElement, IsPrefix}
+use Rattle.sum_tree.specs.Reached.{IsReachable, IsTargetAmong, IsElement, IsPrefix}
 use Rattle.sum_tree.proofs.Totals.{total-append}
 
 module _ {T S : Type 0} {unit : S} {op : S → S → S} (laws : MonoidLaws unit op) (sum_of : T → S) where
@@ -51,18 +51,18 @@ module _ {T S : Type 0} {unit : S} {op : S → S → S} (laws : MonoidLaws unit 
   }
 
   module _ (measure : S → ℕ) (target : ℕ) where
-    pub sought_front : (before : S) (a : List T) (m : S) (n : ℕ) → m ≡ op before (total unit op sum_of a) → n ≡ measure m → target < n → measure before ≤ target → IsSought measure target unit op sum_of before a
+    pub sought_front : (before : S) (a : List T) (m : S) (n : ℕ) → m ≡ op before (total unit op sum_of a) → n ≡ measure m → target < n → measure before ≤ target → IsTargetAmong measure target unit op sum_of before a
     sought_front before a m n p q h low =
         let e = ap measure p in
         record { low = low; high = omega arith }
 
-    pub sought_back : (before : S) (r a b : List T) (m : S) (n : ℕ) → r ≡ a ++ b → m ≡ op before (total unit op sum_of a) → n ≡ measure m → n ≤ target → IsSought measure target unit op sum_of before r → IsSought measure target unit op sum_of m b
+    pub sought_back : (before : S) (r a b : List T) (m : S) (n : ℕ) → r ≡ a ++ b → m ≡ op before (total unit op sum_of a) → n ≡ measure m → n ≤ target → IsTargetAmong measure target unit op sum_of before r → IsTargetAmong measure target unit op sum_of m b
     sought_back before r a b m n e p q h sought =
         let f = ap measure (ap (λ l. op before (total unit op sum_of l)) e ∙ past_both before a b m p) in
         let high = sought.high in
         record { low = omega arith; high = omega arith }
 
-    pub element_leaf : (before : S) (r : List T) (x : T) → r ≡ x ∷ [] → IsSought measure target unit op sum_of before r → IsElement measure target unit op sum_of before r 0 before x
+    pub element_leaf : (before : S) (r : List T) (x : T) → r ≡ x ∷ [] → IsTargetAmong measure target unit op sum_of before r → IsElement measure target unit op sum_of before r 0 before x
     element_leaf before r x e sought =
         let f = ap (λ l. measure (op before (total unit op sum_of l))) e ∙ ap (λ s. measure (op before s)) (laws.right_unit (sum_of x)) in
         let high = sought.high in

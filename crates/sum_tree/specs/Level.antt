@@ -20,7 +20,7 @@ IsLevel (Two a b) = IsSound a × IsSound b × (a.height ≡ b.height)
 IsLevel (Three a b c) = IsSound a × IsSound b × IsSound c × (a.height ≡ b.height) × (b.height ≡ c.height)
 
 -- a parent keeps the number and the sum of a node's elements
-pub record IsKept {T S : Type 0} (fits : S → Type 0) (unit : S) (op : S → S → S) (sum_of : T → S) (count : ℕ) (sum : S) (n : Node T S) : Type 0 where
+pub record IsSummedUp {T S : Type 0} (fits : S → Type 0) (unit : S) (op : S → S → S) (sum_of : T → S) (count : ℕ) (sum : S) (n : Node T S) : Type 0 where
   pub level : IsLevel n
   pub count_is : count ≡ length (row_of n).items
   pub sum_is : sum ≡ total unit op sum_of (row_of n).items

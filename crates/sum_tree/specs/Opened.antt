@@ -3,8 +3,8 @@ use Rattle.std.specs.Prelude.{◌≡◌, ◌+◌, [], ◌∷◌, ◌++◌, lengt
 use Rattle.sum_tree.specs.Row.{Row, IsSound}
 use Rattle.sum_tree.specs.declared.node.Opened.{Opened}
 use Rattle.sum_tree.specs.declared.node.Opened.TheVariants.{Leaf, Two, Three}
-use Rattle.sum_tree.specs.declared.node.Parts.{Parts}
-use Rattle.sum_tree.specs.declared.node.Parts.TheVariants as parts
+use Rattle.sum_tree.specs.declared.node.NodeParts.{NodeParts}
+use Rattle.sum_tree.specs.declared.node.NodeParts.TheVariants as parts
 
 -- the row of one element
 pub record IsLeaf {T : Type 0} (r : Row T) (x : T) : Type 0 where
@@ -40,7 +40,7 @@ IsOpened r (Leaf node x) = IsLeaf r x
 IsOpened r (Two node a b) = IsTwo r a b
 IsOpened r (Three node a b c) = IsThree r a b c
 
-abbrev pub HasParts : {T S : Type 0} → Row T → Parts T S → Type 0
+abbrev pub HasParts : {T S : Type 0} → Row T → NodeParts T S → Type 0
 HasParts r (parts.Leaf x) = IsLeaf r x.now
 HasParts r (parts.Two a b) = IsTwo r a.now b.now
 HasParts r (parts.Three a b c) = IsThree r a.now b.now c.now

@@ -32,7 +32,7 @@ pub record IsReachable {T S : Type 0} (fits : S → Type 0) (unit : S) (op : S �
   pub fit : fits (op before (total unit op sum_of xs))
 
 -- the target lies among a node's elements
-pub record IsSought {T S : Type 0} (measure : S → ℕ) (target : ℕ) (unit : S) (op : S → S → S) (sum_of : T → S) (before : S) (xs : List T) : Type 0 where
+pub record IsTargetAmong {T S : Type 0} (measure : S → ℕ) (target : ℕ) (unit : S) (op : S → S → S) (sum_of : T → S) (before : S) (xs : List T) : Type 0 where
   pub low : measure before ≤ target
   pub high : target < measure (op before (total unit op sum_of xs))
 

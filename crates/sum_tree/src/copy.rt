@@ -2,7 +2,7 @@
 ghost use Rattle.std.specs.Prelude.{◌≡◌, ◌+◌, ◌≤◌, IfOk, OnOk, vec_len, vec_capacity};
 
 use crate::memory::OutOfMemory;
-use crate::node::{Child, Node, Parts};
+use crate::node::{Child, Node, NodeParts};
 use crate::pool::Pool;
 use crate::summary::{Summary, Summed, TryCopy};
 
@@ -17,16 +17,16 @@ impl<T: Summed<S> + TryCopy + Drop, S: Summary> Child<T, S> {
         ensures capacity { vec_capacity pool.new ≡ vec_capacity pool.old }
     {
         match self.parts() {
-            Parts::Leaf(x) => {
+            NodeParts::Leaf(x) => {
                 let x = x.copy()?;
                 Ok(Child::close(pool.take_last(), Node::Leaf(x)))
             }
-            Parts::Two(a, b) => {
+            NodeParts::Two(a, b) => {
                 let a = a.copy(pool)?;
                 let b = b.copy(pool)?;
                 Ok(Child::close(pool.take_last(), Node::Two(a, b)))
             }
-            Parts::Three(a, b, c) => {
+            NodeParts::Three(a, b, c) => {
                 let a = a.copy(pool)?;
                 let b = b.copy(pool)?;
                 let c = c.copy(pool)?;

@@ -37,11 +37,11 @@ impl<T: Summed<S> + Drop, S: Summary> Model for Child<T, S> {
 
     ghost Value = { Row T };
 
-    ghost use Rattle.sum_tree.specs.Level.{row_of, IsKept};
+    ghost use Rattle.sum_tree.specs.Level.{row_of, IsSummedUp};
 
     ghost view = { λ a. row_of a.node.value };
 
-    ghost invariant = { λ a. IsKept S.fits S.empty S.op T.sum_of a.count a.sum a.node.value };
+    ghost invariant = { λ a. IsSummedUp S.fits S.empty S.op T.sum_of a.count a.sum a.node.value };
 
     ghost size = { λ r. r.height };
 
@@ -60,7 +60,7 @@ pub(crate) enum Opened<T: Summed<S> + Drop, S: Summary> {
 
 /// What is in a node.
 #[derive(Drop)]
-pub(crate) enum Parts<'a, T: Summed<S> + Drop, S: Summary> {
+pub(crate) enum NodeParts<'a, T: Summed<S> + Drop, S: Summary> {
     Leaf(&'a T),
     Two(&'a Child<T, S>, &'a Child<T, S>),
     Three(&'a Child<T, S>, &'a Child<T, S>, &'a Child<T, S>),
@@ -121,16 +121,16 @@ impl<T: Summed<S> + Drop, S: Summary> Child<T, S> {
     }
 
     /// What is in the node.
-    pub(crate) fn parts(&self) -> Parts<'_, T, S>
+    pub(crate) fn parts(&self) -> NodeParts<'_, T, S>
         ensures parts { HasParts self.now result }
         ensures summable { IsSummable S.fits S.empty S.op T.sum_of self.now.items }
         ensures sound { IsSound self.now }
     {
         match &*self.node {
             Node::Vacant => unreachable!(),
-            Node::Leaf(x) => Parts::Leaf(x),
-            Node::Two(a, b) => Parts::Two(a, b),
-            Node::Three(a, b, c) => Parts::Three(a, b, c),
+            Node::Leaf(x) => NodeParts::Leaf(x),
+            Node::Two(a, b) => NodeParts::Two(a, b),
+            Node::Three(a, b, c) => NodeParts::Three(a, b, c),
         }
     }
 

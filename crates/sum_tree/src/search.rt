@@ -2,10 +2,10 @@
 ghost use Rattle.std.specs.Prelude.{◌≡◌, ◌<◌, length, slice_get};
 ghost use Rattle.sum_tree.specs.Sums.{total, IsSummable};
 ghost use Rattle.sum_tree.specs.Visited.{RisesBy};
-ghost use Rattle.sum_tree.specs.Reached.{IsReachable, IsSought, IsElement, IsPrefix};
+ghost use Rattle.sum_tree.specs.Reached.{IsReachable, IsTargetAmong, IsElement, IsPrefix};
 
 use crate::counter::Visits;
-use crate::node::{Child, Parts};
+use crate::node::{Child, NodeParts};
 use crate::summary::{Dimension, Summary, Summed};
 
 impl<T: Summed<S> + Drop, S: Summary> Child<T, S> {
@@ -15,15 +15,15 @@ impl<T: Summed<S> + Drop, S: Summary> Child<T, S> {
         ensures { slice_get self.now.items i ≡ Some result.now }
     {
         match self.parts() {
-            Parts::Leaf(x) => x,
-            Parts::Two(a, b) => {
+            NodeParts::Leaf(x) => x,
+            NodeParts::Two(a, b) => {
                 if i < a.count() {
                     a.get(i)
                 } else {
                     b.get(i - a.count())
                 }
             }
-            Parts::Three(a, b, c) => {
+            NodeParts::Three(a, b, c) => {
                 if i < a.count() {
                     return a.get(i);
                 }
@@ -53,8 +53,8 @@ impl<T: Summed<S> + Drop, S: Summary> Child<T, S> {
         ensures visited { RisesBy self.now.height visits.old visits.new }
     {
         match self.parts() {
-            Parts::Leaf(_) => before,
-            Parts::Two(a, b) => {
+            NodeParts::Leaf(_) => before,
+            NodeParts::Two(a, b) => {
                 visits.count();
                 if i < a.count() {
                     a.prefix(before, i, visits)
@@ -62,7 +62,7 @@ impl<T: Summed<S> + Drop, S: Summary> Child<T, S> {
                     b.prefix(a.behind(before), i - a.count(), visits)
                 }
             }
-            Parts::Three(a, b, c) => {
+            NodeParts::Three(a, b, c) => {
                 visits.count();
                 if i < a.count() {
                     return a.prefix(before, i, visits);
@@ -88,15 +88,15 @@ impl<T: Summed<S> + Drop, S: Summary> Child<T, S> {
         visits: &mut Visits,
     ) -> (usize, S, &T)
         requires fit { IsReachable S.fits S.empty S.op T.sum_of before self.now.items }
-        requires sought { IsSought (D.measure dimension.now) target S.empty S.op T.sum_of
+        requires sought { IsTargetAmong (D.measure dimension.now) target S.empty S.op T.sum_of
             before self.now.items }
         ensures found { IsElement (D.measure dimension.now) target S.empty S.op T.sum_of
             before self.now.items result.0 result.1 result.2.now }
         ensures visited { RisesBy self.now.height visits.old visits.new }
     {
         match self.parts() {
-            Parts::Leaf(x) => (0, before, x),
-            Parts::Two(a, b) => {
+            NodeParts::Leaf(x) => (0, before, x),
+            NodeParts::Two(a, b) => {
                 visits.count();
                 let middle = a.behind(before);
                 if target < dimension.of(&middle) {
@@ -106,7 +106,7 @@ impl<T: Summed<S> + Drop, S: Summary> Child<T, S> {
                     (a.count() + k, sum, x)
                 }
             }
-            Parts::Three(a, b, c) => {
+            NodeParts::Three(a, b, c) => {
                 visits.count();
                 let first = a.behind(before);
                 if target < dimension.of(&first) {

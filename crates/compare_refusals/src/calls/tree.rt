@@ -2,7 +2,7 @@
 
 use crate::budget::all_but;
 use crate::outcome::TrialOutcome;
-use oracle::tree::{Item, Items, light, put};
+use oracle::tree::{Items, WeightedItem, light, put};
 use std::alloc::Global;
 
 /// How many items the list has.
@@ -53,7 +53,7 @@ fn has_items(items: &Items) -> bool {
 
 /// Whether there is room for more items, which can be put in.
 fn takes_more(items: &mut Items) -> bool {
-    let item: Item = light(LEN);
+    let item: WeightedItem = light(LEN);
     for _ in 0..MORE {
         if !put(items, 0, item) {
             return false;

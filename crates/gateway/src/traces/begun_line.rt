@@ -31,10 +31,10 @@ pub(super) struct BegunTraceLine {
 }
 
 impl Model for BegunTraceLine {
-    ghost use Rattle.gateway.specs.TraceLines.{Begun, begun_of, is_comment};
+    ghost use Rattle.gateway.specs.TraceLines.{BegunTrace, begun_of, is_comment};
     ghost use Rattle.std.specs.Prelude.{◌≡◌, false};
 
-    ghost Value = { Begun };
+    ghost Value = { BegunTrace };
 
     ghost view = { λ a. begun_of a.comment a.kept.items };
 

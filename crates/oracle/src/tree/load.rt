@@ -3,7 +3,7 @@ ghost use Rattle.std.specs.Prelude.{◌≡◌, ◌^◌, ◌<◌};
 ghost use Rattle.oracle.specs.Loads.{load, no_load, joined, IsSmall, number};
 ghost use Rattle.oracle.specs.LoadLaws.{load_laws, small_none, small_left, small_right, number_none, number_rises};
 
-use crate::tree::item::Item;
+use crate::tree::item::WeightedItem;
 use sum_tree::{Dimension, OutOfMemory, Summary, Summed, TryCopy};
 
 /// How many items there are, and their weight.
@@ -45,7 +45,7 @@ impl Summary for Load {
     ghost fits_right = { small_right };
 }
 
-impl Summed<Load> for Item {
+impl Summed<Load> for WeightedItem {
     ghost sum_of = { λ x. load 1 x.weight };
 
     fn sum(&self) -> Load {
@@ -56,28 +56,28 @@ impl Summed<Load> for Item {
     }
 }
 
-impl TryCopy for Item {
-    fn copy(&self) -> Result<Item, OutOfMemory> {
+impl TryCopy for WeightedItem {
+    fn copy(&self) -> Result<WeightedItem, OutOfMemory> {
         Ok(*self)
     }
 }
 
 /// What items are sought by.
 #[derive(Clone, Copy, Debug)]
-pub enum Axis {
+pub enum LoadAxis {
     /// Their number.
     Count,
     /// Their weight.
     Weight,
 }
 
-impl Dimension<Load> for Axis {
+impl Dimension<Load> for LoadAxis {
     ghost measure = { number };
 
     fn of(&self, sum: &Load) -> u64 {
         match self {
-            Axis::Count => sum.count,
-            Axis::Weight => sum.weight,
+            LoadAxis::Count => sum.count,
+            LoadAxis::Weight => sum.weight,
         }
     }
 

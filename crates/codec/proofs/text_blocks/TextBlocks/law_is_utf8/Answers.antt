@@ -1,8 +1,8 @@
 use Rattle.std.proofs.Common.{ap, subst}
 use Rattle.std.proofs.lemmas.Str.{IsUtf8-append, IsUtf8-string_bytes}
 use Rattle.std.specs.Str.{IsUtf8}
-use Rattle.codec.specs.Gathering.{Written}
+use Rattle.codec.specs.Gathering.{WrittenText}
 use Rattle.codec.proofs.text_blocks.TextBlocks.law_is_utf8.Goals as goal
 
 pub returns : goal.returns
-returns c = subst IsUtf8 (ap (λ (w : Written). w.bytes) c.self.view_is) (IsUtf8-append _ _ (IsUtf8-string_bytes c.self.inside.text) c.self.invariant.1)
+returns c = subst IsUtf8 (ap (λ (w : WrittenText). w.bytes) c.self.view_is) (IsUtf8-append _ _ (IsUtf8-string_bytes c.self.inside.text) c.self.invariant.1)

@@ -1,7 +1,7 @@
 use Rattle.std.proofs.Common.{◌≡◌, true, false, rules, ap, ◌∙◌, subst, add-one, Some, slice_get, List}
 use Rattle.std.proofs.lemmas.Option.{slice_get_read}
 use Rattle.state_memo.specs.declared.known.Known.{Known}
-use Rattle.state_memo.specs.Memo.{Memo, IsPlace, same_state}
+use Rattle.state_memo.specs.Memo.{Memo, IsSlot, same_state}
 use Rattle.state_memo.proofs.Places.{place-at, absent-more}
 use Rattle.state_memo.proofs.piece.Piece.place_of.Goals as goal
 
@@ -10,7 +10,7 @@ returns-then-eq-clause-found c =
     let same : same_state c.index-known-i.result.entry c.args.state ≡ true = search rules in
     let at : slice_get c.as_slice-known.result.now c.known.i ≡ Some c.index-known-i.result = slice_get_read _ _ c.known.i c.index-known-i.result (search rules) c.known-test.true c.index-known-i.is in
     let here : c.as_slice-known.result.now ≡ c.args.self.now.known = c.as_slice-known.ensures ∙ ap (λ (m : Memo). m.known) c.self.view_is in
-    subst (λ (ks : List Known). IsPlace ks c.args.state c.known.i) here
+    subst (λ (ks : List Known). IsSlot ks c.args.state c.known.i) here
     (place-at c.as_slice-known.result.now c.args.state c.known.i c.index-known-i.result at c.known.invariant same)
 
 pub known-preserved : goal.known-preserved
