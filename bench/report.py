@@ -74,12 +74,15 @@ def machine():
 
 
 def table(kind, rows, unit):
-    """What gate takes by size and its memory; at the greatest size that it was measured with, the peer, and the ratio."""
+    """What gate takes by size, and its memory; at the greatest size that they were measured with, both peers, and how
+    many times gate's cost the faster one's is."""
     sizes = sorted({int(row["bytes"]) for row in rows})
     met = max((int(row["bytes"]) for row in rows if row["ratio"]), default=None)
     heads = [f"{size // 1024} KiB" for size in sizes]
     # Name of the column, name of the figure, and the size that it is of.
-    further = [("peer", f"peer_{unit}", met), ("peer over gate", "ratio", met)] if met else []
+    further = []
+    if met:
+        further += [("peer", f"peer_{unit}", met), ("typed peer", f"typed_{unit}", met), ("faster peer over gate", "ratio", met)]
     if unit == "us":
         further += [("MB", "gate_MB", sizes[-1])] + ([("peer's MB", "peer_MB", met)] if met else [])
     heads = ["encoding", *heads, *(head for head, _, _ in further)]

@@ -1,8 +1,8 @@
 #!/usr/bin/env python3
-"""Runs gate and the peer in turn on the same sessions, compares every reply, and prints what each took.
+"""Runs gate and both peers in turn on the same sessions, compares every reply, and prints what each took.
 
 By time, or by the instructions that valgrind counts: these are the same in each run, however busy the machine is. What
-the peer doesn't know, and documents that are too long for it, gate alone is measured with; with --no-peer so is all.
+the peers don't know, and documents that are too long for them, gate alone is measured with; with --no-peer so is all.
 """
 
 import argparse
@@ -20,6 +20,9 @@ from sessions import KINDS, PEER_SIZES, SAMPLES, SIZES
 NEVER = 1 << 30
 TUNABLES = f"GLIBC_TUNABLES=glibc.cpu.x86_rep_movsb_threshold={NEVER}:glibc.cpu.x86_rep_stosb_threshold={NEVER}"
 COUNTING = ["env", TUNABLES, "valgrind", "--tool=cachegrind", "--cache-sim=no", "--cachegrind-out-file=/dev/null"]
+
+# The peers, with the words that they are started with: one reads a line into a tree of JSON, one into a type.
+PEERS = {"peer": [], "typed": ["typed"]}
 
 
 def timed(words, session):
@@ -64,7 +67,8 @@ def main():
     chosen = words.parse_args()
     gate = [chosen.gate, "stdio", "--indexes", chosen.indexes, "--labels", chosen.labels]
     unit = "instructions" if chosen.instructions else "us"
-    print("kind", "encoding", "bytes", f"gate_{unit}", f"peer_{unit}", "ratio", "gate_MB", "peer_MB", sep="\t")
+    figures = [f"gate_{unit}", *(f"{name}_{unit}" for name in PEERS), "ratio", "gate_MB", *(f"{name}_MB" for name in PEERS)]
+    print("kind", "encoding", "bytes", *figures, sep="\t")
     meter = Meter(counted, 1, 10) if chosen.instructions else Meter(timed, chosen.times, 1)
     for name in chosen.kinds:
         kind = KINDS[name]
@@ -72,7 +76,7 @@ def main():
             for size in (known for known in chosen.sizes if known in kind.sizes):
                 case = Case(name, encoding, size)
                 met = kind.rounds.peer and size in PEER_SIZES and not chosen.no_peer
-                compare(case, gate, [chosen.peer] if met else None, meter)
+                compare(case, gate, [[chosen.peer, *words] for words in PEERS.values()] if met else [], meter)
 
 
 class Case:
@@ -88,23 +92,22 @@ class Case:
         return f"{self.kind} {self.encoding} {self.bytes}"
 
 
-def compare(case, gate, peer, meter):
-    """One line: the cost of a round, beyond the start and the open, and peak memory; of gate alone without a peer."""
-    # gate's rounds are short: it takes more of them, of which the peer's are the first.
+def compare(case, gate, peers, meter):
+    """One line: the cost of a round, beyond the start and the open, how many times that the faster peer takes, and memory."""
+    # gate's rounds are short: it takes more of them, of which the peers' are the first.
     many, few = (max(1, count // meter.rounds_by) for count in KINDS[case.kind].rounds)
-    before = meter.measure([gate, peer] if peer else [gate], case.session(0))
+    before = meter.measure([gate, *peers], case.session(0))
     ours = meter.measure([gate], case.session(many))[0]
     tell_refusal(case, ours.replies)
     took = (ours.cost - before[0].cost) / many
-    # What the peer took, how many times gate's cost that is, and the peer's memory.
-    theirs = ratio = peak = ""
-    if peer:
-        run = meter.measure([peer], case.session(few))[0]
+    runs = meter.measure(peers, case.session(few)) if peers else []
+    for run in runs:
         tell_difference(case, ours.replies, run.replies)
-        cost = (run.cost - before[1].cost) / few
-        theirs, ratio, peak = f"{cost:.1f}", f"{cost / took:.2f}", f"{run.peak:.1f}"
-    figures = [f"{took:.1f}", theirs, ratio, f"{ours.peak:.1f}", peak]
-    print(case.kind, case.encoding, case.bytes, *figures, sep="\t", flush=True)
+    costs = [(run.cost - bare.cost) / few for run, bare in zip(runs, before[1:])]
+    none = [""] * (len(PEERS) - len(runs))
+    ratio = f"{min(costs) / took:.2f}" if costs else ""
+    theirs, peaks = [f"{cost:.1f}" for cost in costs], [f"{run.peak:.1f}" for run in runs]
+    print(case.kind, case.encoding, case.bytes, f"{took:.1f}", *theirs, *none, ratio, f"{ours.peak:.1f}", *peaks, *none, sep="\t", flush=True)
 
 
 class Run:
@@ -140,7 +143,7 @@ def tell_refusal(case, replies):
 
 
 def tell_difference(case, ours, theirs):
-    """Ends the program where the peer's replies aren't the first of gate's."""
+    """Ends the program where a peer's replies aren't the first of gate's."""
     if ours.startswith(theirs):
         return
     for line, (our, their) in enumerate(zip(ours.splitlines(), theirs.splitlines())):

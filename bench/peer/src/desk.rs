@@ -4,12 +4,12 @@ use crate::change::{code_points_before, is_kept, place_of, plan, Plan};
 use crate::document::Document;
 use crate::encode::encode;
 use crate::positions::{Counts, Missed, Unit};
-use crate::reply::{line, Answer, Fault};
+use crate::fields::{Fields, Line, Range, GREATEST};
+use crate::reply::{line, typed_line, Answer, Content, Fault};
 use encoding_rs::Encoding;
-use serde_json::{json, Map, Value};
+use serde_json::Value;
 use std::collections::HashMap;
 
-const GREATEST: u64 = (1 << 53) - 1;
 const LINE: usize = 4_194_304;
 const DOCUMENT: usize = 16_777_216;
 const DOCUMENTS: usize = 64;
@@ -19,33 +19,28 @@ pub struct Desk {
     documents: HashMap<String, Document>,
 }
 
-type Object = Map<String, Value>;
-
 fn wrong(field: &'static str) -> Fault {
     Fault::with("BadRequest", vec![("field", field.into())])
 }
 
-fn number(object: &Object, field: &'static str) -> Result<u64, Fault> {
-    let value = object.get(field).and_then(Value::as_u64);
-    value.filter(|&n| n <= GREATEST).ok_or_else(|| wrong(field))
+fn number(line: &impl Fields, field: &'static str) -> Result<u64, Fault> {
+    let number = line.number(field).filter(|&n| n <= GREATEST);
+    number.ok_or_else(|| wrong(field))
 }
 
-fn page(object: &Object) -> Result<usize, Fault> {
-    match number(object, "max") {
+fn page(line: &impl Fields) -> Result<usize, Fault> {
+    match number(line, "max") {
         Ok(max) if max <= 10_000 => Ok(max as usize),
         _ => Err(wrong("max")),
     }
 }
 
-fn text<'a>(object: &'a Object, field: &'static str) -> Result<&'a str, Fault> {
-    object
-        .get(field)
-        .and_then(Value::as_str)
-        .ok_or_else(|| wrong(field))
+fn text<'a>(line: &'a impl Fields, field: &'static str) -> Result<&'a str, Fault> {
+    line.text(field).ok_or_else(|| wrong(field))
 }
 
-fn name(object: &Object) -> Result<&str, Fault> {
-    let name = text(object, "doc")?;
+fn name(line: &impl Fields) -> Result<&str, Fault> {
+    let name = text(line, "doc")?;
     if (1..=64).contains(&name.len()) {
         Ok(name)
     } else {
@@ -53,24 +48,26 @@ fn name(object: &Object) -> Result<&str, Fault> {
     }
 }
 
-fn choice(object: &Object, field: &'static str, words: [&str; 2]) -> Result<bool, Fault> {
-    match object.get(field) {
-        None => Ok(false),
-        Some(value) => match words.iter().position(|word| value.as_str() == Some(word)) {
-            Some(place) => Ok(place == 1),
-            None => Err(wrong(field)),
-        },
+fn choice(line: &impl Fields, field: &'static str, words: [&str; 2]) -> Result<bool, Fault> {
+    if !line.has(field) {
+        return Ok(false);
+    }
+    let named = text(line, field)?;
+    match words.iter().position(|word| named == *word) {
+        Some(place) => Ok(place == 1),
+        None => Err(wrong(field)),
     }
 }
 
-fn unit(object: &Object) -> Result<Unit, Fault> {
-    match object.get("unit") {
-        None => Ok(Unit::Utf16),
-        Some(value) => value
-            .as_str()
-            .and_then(Unit::named)
-            .ok_or_else(|| wrong("unit")),
+fn unit(line: &impl Fields) -> Result<Unit, Fault> {
+    if !line.has("unit") {
+        return Ok(Unit::Utf16);
     }
+    Unit::named(text(line, "unit")?).ok_or_else(|| wrong("unit"))
+}
+
+fn range(line: &impl Fields) -> Result<Range, Fault> {
+    line.range().ok_or_else(|| wrong("range"))
 }
 
 fn bytes(text: &str) -> Result<Vec<u8>, Fault> {
@@ -88,34 +85,8 @@ fn missed(missed: Missed) -> Fault {
     }
 }
 
-type Position = (usize, usize);
-
-fn position(value: &Value) -> Option<Position> {
-    let part = |field| {
-        value
-            .get(field)
-            .and_then(Value::as_u64)
-            .filter(|&n| n <= GREATEST)
-    };
-    Some((part("line")? as usize, part("character")? as usize))
-}
-
-type Range = Option<(Position, Position)>;
-
-fn range(object: &Object) -> Result<Range, Fault> {
-    match object.get("range") {
-        None | Some(Value::Null) => Ok(None),
-        Some(value) => {
-            let ends = value
-                .get("start")
-                .and_then(position)
-                .zip(value.get("end").and_then(position));
-            ends.map(Some).ok_or_else(|| wrong("range"))
-        }
-    }
-}
-
 impl Desk {
+    /// Answers a line, which is read into a tree of JSON.
     pub fn answer(&mut self, bytes: &[u8]) -> String {
         if bytes.len() > LINE {
             return line(None, Err("LineTooLong".into()));
@@ -131,7 +102,17 @@ impl Desk {
         }
     }
 
-    fn command(&mut self, object: &Object) -> Answer {
+    /// The same, without a tree where the line has the type of any line.
+    pub fn answer_typed(&mut self, bytes: &[u8]) -> String {
+        match serde_json::from_slice::<Line>(bytes) {
+            Ok(read) if bytes.len() <= LINE && read.id <= GREATEST => {
+                typed_line(read.id, self.command(&read))
+            }
+            _ => self.answer(bytes),
+        }
+    }
+
+    fn command(&mut self, object: &impl Fields) -> Answer {
         match text(object, "op")? {
             "open" => self.open(object),
             "close" => self.close(object),
@@ -157,7 +138,7 @@ impl Desk {
             .ok_or_else(|| "NoDocument".into())
     }
 
-    fn open(&mut self, object: &Object) -> Answer {
+    fn open(&mut self, object: &impl Fields) -> Answer {
         let (name, label) = (name(object)?, text(object, "label")?);
         let bytes = bytes(text(object, "bytes")?)?;
         if self.documents.contains_key(name) {
@@ -176,14 +157,14 @@ impl Desk {
         Ok(answer)
     }
 
-    fn close(&mut self, object: &Object) -> Answer {
+    fn close(&mut self, object: &impl Fields) -> Answer {
         match self.documents.remove(name(object)?) {
             Some(document) => Ok(vec![("rev", document.revision.into())]),
             None => Err("NoDocument".into()),
         }
     }
 
-    fn splice(&mut self, object: &Object) -> Answer {
+    fn splice(&mut self, object: &impl Fields) -> Answer {
         let (name, rev) = (name(object)?, number(object, "rev")?);
         let (at, del) = (
             number(object, "at")? as usize,
@@ -204,7 +185,7 @@ impl Desk {
         Ok(headed(document, vec![]))
     }
 
-    fn change(&mut self, object: &Object) -> Answer {
+    fn change(&mut self, object: &impl Fields) -> Answer {
         let (name, rev) = (name(object)?, number(object, "rev")?);
         let (unit, range) = (unit(object)?, range(object)?);
         let put = text(object, "text")?;
@@ -220,12 +201,10 @@ impl Desk {
         Ok(headed(document, more))
     }
 
-    fn changes(&mut self, object: &Object) -> Answer {
+    fn changes(&mut self, object: &impl Fields) -> Answer {
         let (name, rev, unit) = (name(object)?, number(object, "rev")?, unit(object)?);
-        let listed = object.get("changes").and_then(Value::as_array);
-        let listed = listed.filter(|list| list.len() <= 1000);
-        let changes = listed.map(|list| list.iter().map(listed_change).collect::<Option<Vec<_>>>());
-        let changes = changes.flatten().ok_or_else(|| wrong("changes"))?;
+        let changes = object.changes().filter(|list| list.len() <= 1000);
+        let changes = changes.ok_or_else(|| wrong("changes"))?;
         let document = self.get(name)?;
         edited(document, rev)?;
         let before = document.bytes().to_vec();
@@ -240,7 +219,7 @@ impl Desk {
         Ok(headed(document, vec![("applied", changes.len().into())]))
     }
 
-    fn text(&mut self, object: &Object) -> Answer {
+    fn text(&mut self, object: &impl Fields) -> Answer {
         let (name, from, to) = (
             name(object)?,
             number(object, "from")?,
@@ -251,12 +230,12 @@ impl Desk {
         let rev = document.revision;
         let part = part(document, from, to)?;
         if let (true, Some(&(from, to))) = (fatal, document.decoded().errors.first()) {
-            return Err(Fault::with("Malformed", vec![("place", json!([from, to]))]));
+            return Err(Fault::with("Malformed", vec![("place", Content::Place(Some([from, to])))]));
         }
         Ok(vec![("rev", rev.into()), ("text", part.into())])
     }
 
-    fn source(&mut self, object: &Object) -> Answer {
+    fn source(&mut self, object: &impl Fields) -> Answer {
         let (name, at, length) = (name(object)?, number(object, "at")?, number(object, "len")?);
         let document = self.get(name)?;
         let end = at + length;
@@ -270,7 +249,7 @@ impl Desk {
         ])
     }
 
-    fn encode(&mut self, object: &Object) -> Answer {
+    fn encode(&mut self, object: &impl Fields) -> Answer {
         let (name, from, to) = (
             name(object)?,
             number(object, "from")?,
@@ -288,45 +267,37 @@ impl Desk {
         ])
     }
 
-    fn errors(&mut self, object: &Object) -> Answer {
+    fn errors(&mut self, object: &impl Fields) -> Answer {
         let (name, from) = (name(object)?, number(object, "from")? as usize);
         let max = page(object)?;
         let document = self.get(name)?;
         let rev = document.revision;
         let errors = &document.decoded().errors;
         let rest = errors.get(from..).ok_or("OutOfRange")?;
-        let page: Vec<Value> = rest
-            .iter()
-            .take(max)
-            .map(|&(from, to)| json!([from, to]))
-            .collect();
+        let page = rest.iter().take(max).map(|&(from, to)| [from, to]);
         Ok(vec![
-            ("errors", page.into()),
+            ("errors", Content::Pairs(page.collect())),
             ("rev", rev.into()),
             ("total", errors.len().into()),
         ])
     }
 
-    fn lines(&mut self, object: &Object) -> Answer {
+    fn lines(&mut self, object: &impl Fields) -> Answer {
         let (name, from) = (name(object)?, number(object, "from")? as usize);
         let max = page(object)?;
         let document = self.get(name)?;
         let rev = document.revision;
         let lines = document.decoded().tables.lines();
         let rest = lines.get(from..).ok_or("OutOfRange")?;
-        let page: Vec<Value> = rest
-            .iter()
-            .take(max)
-            .map(|(start, end)| json!([start.utf32, end.utf32]))
-            .collect();
+        let page = rest.iter().take(max).map(|(start, end)| [start.utf32 as u64, end.utf32 as u64]);
         Ok(vec![
             ("count", lines.len().into()),
-            ("lines", page.into()),
+            ("lines", Content::Pairs(page.collect())),
             ("rev", rev.into()),
         ])
     }
 
-    fn position(&mut self, object: &Object) -> Answer {
+    fn position(&mut self, object: &impl Fields) -> Answer {
         let (name, offset) = (name(object)?, number(object, "offset")? as usize);
         let unit = unit(object)?;
         let document = self.get(name)?;
@@ -344,7 +315,7 @@ impl Desk {
         ])
     }
 
-    fn offset(&mut self, object: &Object) -> Answer {
+    fn offset(&mut self, object: &impl Fields) -> Answer {
         let (name, line) = (name(object)?, number(object, "line")? as usize);
         let (character, unit) = (number(object, "character")? as usize, unit(object)?);
         let document = self.get(name)?;
@@ -357,7 +328,7 @@ impl Desk {
         Ok(vec![("offset", place.utf32.into()), ("rev", rev.into())])
     }
 
-    fn place(&mut self, object: &Object) -> Answer {
+    fn place(&mut self, object: &impl Fields) -> Answer {
         let name = name(object)?;
         let unit = match text(object, "unit")? {
             "byte" => None,
@@ -378,7 +349,7 @@ impl Desk {
         let is_end = counts.utf32 == decoded.tables.whole().utf32;
         let place = (!is_end).then(|| place_of(document, counts.utf32));
         Ok(vec![
-            ("place", place.map_or(Value::Null, |(from, to)| json!([from, to]))),
+            ("place", Content::Place(place.map(|(from, to)| [from as u64, to as u64]))),
             ("rev", rev.into()),
             ("utf16", counts.utf16.into()),
             ("utf32", counts.utf32.into()),
@@ -386,7 +357,7 @@ impl Desk {
         ])
     }
 
-    fn stat(&mut self, object: &Object) -> Answer {
+    fn stat(&mut self, object: &impl Fields) -> Answer {
         let document = self.get(name(object)?)?;
         let (given, length) = (document.given().name(), document.bytes().len());
         let mut answer = headed(
@@ -404,12 +375,6 @@ impl Desk {
         ]);
         Ok(answer)
     }
-}
-
-/// A change of a list.
-fn listed_change(value: &Value) -> Option<(Range, &str)> {
-    let object = value.as_object()?;
-    Some((range(object).ok()?, text(object, "text").ok()?))
 }
 
 /// Replaces a range of the text, and returns how.
@@ -452,8 +417,11 @@ fn edited(document: &Document, rev: u64) -> Result<(), Fault> {
     Ok(())
 }
 
+/// Fields of a reply.
+type Fielded = Vec<(&'static str, Content)>;
+
 /// The fields of a document's head, and more.
-fn headed(document: &Document, mut more: Vec<(&'static str, Value)>) -> Vec<(&'static str, Value)> {
+fn headed(document: &Document, mut more: Fielded) -> Fielded {
     let (encoding, mark) = document.mark();
     more.extend([
         ("bom", mark.into()),
