@@ -1,13 +1,15 @@
 -- A text's items, taken in one walk over its code points.
-use Rattle.std.proofs.Common.{◌≡◌, refl, sym, ap, subst, ◌∙◌, ℕ, zero, suc, ◌+◌, ◌-◌, ◌<◌, ◌≤◌, List, [], ◌∷◌, ◌++◌, append_assoc, append-nil, length, length-append, drop, get_or, arith, ℤ, pos, ◌+ℤ◌, ◌-ℤ◌, ◌<ℤ◌, false}
+use Rattle.std.proofs.Common.{◌≡◌, refl, sym, ap, subst, ◌∙◌, ℕ, zero, suc, ◌+◌, ◌-◌, ◌*◌, ◌<◌, ◌≤◌, List, [], ◌∷◌, ◌++◌, append_assoc, append-nil, length, length-append, take, drop, get_or, arith, ℤ, pos, ◌+ℤ◌, ◌-ℤ◌, ◌<ℤ◌, Bool, true, false, nat_lt, cond}
+use Rattle.std.proofs.lemmas.Bool.Decides.{nat_tests}
 use Rattle.std.proofs.lemmas.Grind.{flat_map-append}
 use Rattle.std.proofs.lemmas.Int.{ints}
-use Rattle.std.proofs.lemmas.List.{get_or-drop, length-drop}
+use Rattle.std.proofs.lemmas.List.{drop-drop, get_or-drop, length-drop, take_all}
 use Rattle.std.proofs.lemmas.Str.{chars_past_char, drop_past_char, length-encode, len_utf8_bounds, IsUtf8-past_char}
 use Rattle.std.proofs.Math.Utf8.{encode}
 use Rattle.std.proofs.StrCases.{chars_of_empty}
 use Rattle.std.specs.Char.{len_utf8}
 use Rattle.std.specs.Str.{chars, continuation_len, IsUtf8}
+use Rattle.lane_ascii.specs.Runs.{ascii_len}
 use Rattle.decoder_core.specs.declared.bulk.Stride.{Stride}
 use Rattle.decoder_core.specs.declared.item.Item.TheVariants.{One}
 use Rattle.decoder_core.specs.Bulk.{width_of, run_width}
@@ -221,16 +223,95 @@ module _ (text : List ℕ) (at lead len : ℕ) (spelt : IsUtf8 (drop at text)) (
           room = omega (arith, one-less, room, count_is, capacity_is);
         }
 
--- all of the text
-pub walked-whole : (stride : Stride) (kind : ItemKind) (output : OutputState) (text : List ℕ) (from : ℤ) (before : List Ended) (capacity at : ℕ) (closed : List Run) (count : ℕ) (last : ℤ) (more step : ℕ)
-    → IsWalked stride kind output text from before capacity at closed count last more step → length text ≤ at → items_of_runs closed ++ items_until kind step last (suc more) ≡ before ++ plain_items_from stride from output (chars text)
-walked-whole stride kind output text from before capacity at closed count last more step held past =
-    let none : length (drop at text) ≡ 0 = omega (arith, length-drop at text, past) in
-    held.items ∙ ap (λ (cs : List ℕ). before ++ plain_items_from stride from output cs) (sym (held.parts ∙ ap (λ (cs : List ℕ). held.front ++ cs) (chars_of_empty (drop at text) none) ∙ append-nil held.front))
-
 -- the same place, written in another way
 pub walked-at : (stride : Stride) (kind : ItemKind) (output : OutputState) (text : List ℕ) (from : ℤ) (before : List Ended) (capacity at then_at : ℕ) (closed : List Run) (count : ℕ) (last then : ℤ) (more step : ℕ) → then ≡ last → then_at ≡ at
     → IsWalked stride kind output text from before capacity at closed count last more step → IsWalked stride kind output text from before capacity then_at closed count then more step
 walked-at stride kind output text from before capacity at then_at closed count last then more step e f held =
     subst (λ (z : ℤ). IsWalked stride kind output text from before capacity then_at closed count z more step) (sym e)
     (subst (λ (n : ℕ). IsWalked stride kind output text from before capacity n closed count last more step) (sym f) held)
+
+-- an ASCII byte at the front, and those behind it
+ascii-front : (bs : List ℕ) (n : ℕ) → suc n ≤ ascii_len bs → (0 < length bs) × (get_or bs 0 0 < 128) × (n ≤ ascii_len (drop 1 bs))
+ascii-front [] n h = absurd (omega (arith, h))
+ascii-front (b ∷ bs) n h = by (nat_lt b 128) refl
+  where
+    by : (t : Bool) → nat_lt b 128 ≡ t → (0 < suc (length bs)) × (b < 128) × (n ≤ ascii_len bs)
+    by true e = let more : suc n ≤ 1 + ascii_len bs = subst (λ (t : Bool). suc n ≤ cond t (1 + ascii_len bs) 0) e h in (omega arith, grind (arith, nat_tests, e), omega (arith, more))
+    by false e = let none : suc n ≤ 0 = subst (λ (t : Bool). suc n ≤ cond t (1 + ascii_len bs) 0) e h in absurd (omega (arith, none))
+
+ascii-lead : (b : ℕ) → b < 128 → 1 ≡ continuation_len b + 1
+ascii-lead b h = grind (arith, nat_tests)
+
+module _ (stride : Stride) (kind : ItemKind) (output : OutputState) (text : List ℕ) (from : ℤ) (before : List Ended) (capacity : ℕ) (closed : List Run) (count width : ℕ)
+    (one : (end : ℤ) → item_of_kind kind end ≡ record { scalars = 1; end = end; error = false; output = output }) (width_is : (c : ℕ) → 1 ≡ len_utf8 c → width ≡ width_of stride c) where
+  -- ASCII goes on with a run of items that are as long
+  pub walked-ascii : (n at more : ℕ) (last : ℤ) → n ≤ ascii_len (drop at text)
+      → IsWalked stride kind output text from before capacity at closed count last more width
+      → IsWalked stride kind output text from before capacity (at + n) closed count (last +ℤ pos (n * width)) (more + n) width
+  walked-ascii zero at more last few held =
+      subst (λ (m : ℕ). IsWalked stride kind output text from before capacity (at + 0) closed count (last +ℤ pos (0 * width)) m width) (none more)
+      (walked-at stride kind output text from before capacity at (at + 0) closed count last (last +ℤ pos (0 * width)) more width (here last) (sym (none at)) held)
+    where
+      none : (k : ℕ) → k ≡ k + 0
+      none k = omega arith
+
+      here : (last : ℤ) → last +ℤ pos (0 * width) ≡ last
+      here last = let nothing : 0 * width ≡ 0 = omega arith in ap (λ (k : ℕ). last +ℤ pos k) nothing ∙ sym (at-start last)
+  walked-ascii (suc n) at more last few held =
+      let front = ascii-front (drop at text) n few in
+      let some : at < length text = omega (arith, length-drop at text, front.0) in
+      let lead : get_or text at 0 < 128 = omega (arith, front.1, get_or-drop at text 0 0, ap (λ (k : ℕ). get_or text k 0) (none at)) in
+      let rest : n ≤ ascii_len (drop (at + 1) text) = subst (λ (bs : List ℕ). n ≤ ascii_len bs) (drop-drop 1 at text) front.2 in
+      let len = ascii-lead (get_or text at 0) lead in
+      let next = walked-on text at (get_or text at 0) 1 held.spelt some refl len stride width (width_is _ (long text at (get_or text at 0) 1 held.spelt some refl len)) from last (pos 0) held.front held.parts held.place kind output one
+      before capacity count more width closed held.spelt held.items held.room (more + 1) width refl refl (λ _. refl) in
+      subst (λ (m : ℕ). IsWalked stride kind output text from before capacity (at + suc n) closed count (last +ℤ pos (suc n * width)) m width) (past more n)
+      (walked-at stride kind output text from before capacity (at + 1 + n) (at + suc n) closed count ((last +ℤ pos width) +ℤ pos (n * width)) (last +ℤ pos (suc n * width)) (more + 1 + n) width (far last width n) (sym (past at n))
+      (walked-ascii n (at + 1) (more + 1) (last +ℤ pos width) rest next))
+    where
+      none : (k : ℕ) → k + 0 ≡ k
+      none k = omega arith
+
+      past : (k n : ℕ) → k + 1 + n ≡ k + suc n
+      past k n = omega arith
+
+      far : (last : ℤ) (w n : ℕ) → last +ℤ pos (suc n * w) ≡ (last +ℤ pos w) +ℤ pos (n * w)
+      far last w n = let all : suc n * w ≡ w + n * w = grind arith in omega (arith, ints, all)
+
+-- how far ASCII goes behind a place
+pub ascii-behind : (bytes text : List ℕ) (at n : ℕ) → bytes ≡ text → n ≡ ascii_len (take (length bytes - at) (drop at bytes)) → n ≡ ascii_len (drop at text)
+ascii-behind bytes text at n same is =
+    is ∙ ap ascii_len (take_all (length bytes - at) (drop at bytes) (omega (arith, length-drop at bytes))) ∙ ap (λ (bs : List ℕ). ascii_len (drop at bs)) same
+
+-- an ASCII character that goes on with the open run, and so many behind it
+pub walked-run : (text : List ℕ) (at lead len : ℕ) → at < length text → lead ≡ get_or text at 0 → len ≡ continuation_len lead + 1 → len ≤ 1
+    → (stride : Stride) (widths : List ℕ) → ((c : ℕ) → get_or widths (len_utf8 c - 1) 0 ≡ width_of stride c)
+    → (kind : ItemKind) (output : OutputState) → ((end : ℤ) → item_of_kind kind end ≡ record { scalars = 1; end = end; error = false; output = output })
+    → (from last : ℤ) (before : List Ended) (capacity count more step n : ℕ) (closed : List Run) → step ≡ get_or widths (len - 1) 0 → n ≤ ascii_len (drop (at + len) text)
+    → IsWalked stride kind output text from before capacity at closed count last more step
+    → IsWalked stride kind output text from before capacity (at + len + n) closed count ((last +ℤ pos (get_or widths (len - 1) 0)) +ℤ pos (n * get_or widths (len - 1) 0)) (more + 1 + n) step
+walked-run text at lead len some lead_is len_is short stride widths widths_are kind output one from last before capacity count more step n closed same few held =
+    let width = get_or widths (len - 1) 0 in
+    let width_is = next-width text at lead len held.spelt some lead_is len_is stride widths widths_are in
+    let lone : 1 ≡ len = omega (arith, short, len_is) in
+    let first = walked-on text at lead len held.spelt some lead_is len_is stride width width_is from last (pos 0) held.front held.parts held.place kind output one
+    before capacity count more step closed held.spelt held.items held.room (more + 1) step refl same (λ _. same) in
+    let wide : (c : ℕ) → 1 ≡ len_utf8 c → step ≡ width_of stride c = λ c e. same ∙ ap (λ (k : ℕ). get_or widths (k - 1) 0) (sym lone ∙ e) ∙ widths_are c in
+    subst (λ (w : ℕ). IsWalked stride kind output text from before capacity (at + len + n) closed count ((last +ℤ pos width) +ℤ pos (n * w)) (more + 1 + n) step) same
+    (walked-ascii stride kind output text from before capacity closed count step one wide n (at + len) (more + 1) (last +ℤ pos width) few first)
+
+-- all items end before a limit that the last one ends before
+pub walked-below : (stride : Stride) (kind : ItemKind) (output : OutputState) (text : List ℕ) (from : ℤ) (before : List Ended) (capacity at : ℕ) (closed : List Run) (count : ℕ) (last limit : ℤ) (more step : ℕ)
+    → IsWalked stride kind output text from before capacity at closed count last more step → (from +ℤ pos (run_width stride (chars text))) <ℤ limit → last <ℤ limit
+walked-below stride kind output text from before capacity at closed count last limit more step held fits =
+    by from last limit (run_width stride (chars text)) (run_width stride held.front) (run_width stride (chars (drop at text))) (ap (run_width stride) held.parts ∙ run-append stride held.front (chars (drop at text))) held.place fits
+  where
+    by : (from last limit : ℤ) (all front rest : ℕ) → all ≡ front + rest → last ≡ from +ℤ pos front → (from +ℤ pos all) <ℤ limit → last <ℤ limit
+    by from last limit all front rest e f g = omega (arith, ints, e, f, g)
+
+-- all of the text
+pub walked-whole : (stride : Stride) (kind : ItemKind) (output : OutputState) (text : List ℕ) (from : ℤ) (before : List Ended) (capacity at : ℕ) (closed : List Run) (count : ℕ) (last : ℤ) (more step : ℕ)
+    → IsWalked stride kind output text from before capacity at closed count last more step → length text ≤ at → items_of_runs closed ++ items_until kind step last (suc more) ≡ before ++ plain_items_from stride from output (chars text)
+walked-whole stride kind output text from before capacity at closed count last more step held past =
+    let none : length (drop at text) ≡ 0 = omega (arith, length-drop at text, past) in
+    held.items ∙ ap (λ (cs : List ℕ). before ++ plain_items_from stride from output cs) (sym (held.parts ∙ ap (λ (cs : List ℕ). held.front ++ cs) (chars_of_empty (drop at text) none) ∙ append-nil held.front))
