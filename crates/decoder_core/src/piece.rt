@@ -15,8 +15,8 @@ use crate::sink::Sink;
 /// in their middle again and again; with the next stretch it is four bytes, as gb18030 has them.
 const SHORTEST: usize = 1;
 
-/// How many bytes are stepped over at most. Each time that few are taken or none, twice as many are
-/// stepped over and one more, so that text without runs is decoded as fast as without the trials.
+/// How many bytes are stepped over at most. Each time that none is taken, twice as many are stepped
+/// over next and one more, so that text without runs is decoded as fast as without the trials.
 const LONGEST: usize = 255;
 
 /// How many bytes are a run that pays.
@@ -95,11 +95,7 @@ fn advance<D: Decoder, K: Sink<D::State>>(
         return Ok(Moved {
             state,
             taken,
-            stretch: if taken < RUN {
-                longer(stretch)
-            } else {
-                SHORTEST
-            },
+            stretch: if taken < RUN { stretch } else { SHORTEST },
         });
     }
     let taken = rest.len().min(stretch);
@@ -111,7 +107,7 @@ fn advance<D: Decoder, K: Sink<D::State>>(
     })
 }
 
-/// How many bytes are stepped over next where few were taken in bulk, or none.
+/// How many bytes are stepped over next where none was taken in bulk.
 #[inline(always)]
 fn longer(stretch: usize) -> usize
     ensures { 0 < result }
