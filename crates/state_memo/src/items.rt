@@ -8,11 +8,10 @@ ghost use Rattle.state_memo.specs.Runs.{items_of_run, items_of_runs, items_under
 
 use crate::ended::Ended;
 use crate::kind::ItemKind;
-use crate::plain::{scalar_len, widths_of};
+use crate::plain::{alike_front, scalar_len, widths_of};
 use crate::run::{Run, end_behind, end_behind_all};
 use decoder_core::Stride;
 use iso2022jp::OutputState;
-use lane_ascii::ascii_run;
 use std::alloc::{AllocError, Global};
 use std::marker::Model;
 use std::rc::Rc;
@@ -80,7 +79,7 @@ impl OpenRuns {
     }
 
     /// Takes the items that are the code points of a text, for which there is room, in one walk
-    /// over it that takes ASCII run by run.
+    /// over it.
     pub(crate) fn put_plain(&mut self, text: &str, from: i32, stride: Stride, output: OutputState)
         requires room { vec_len self.old.closed + length (chars text.now) ≤ vec_capacity self.old.closed }
         requires fits { (from +ℤ pos (run_width stride (chars text.now))) <ℤ pos (2 ^ 31) }
@@ -106,13 +105,10 @@ impl OpenRuns {
             at += len;
             if step == width && more < u16::MAX {
                 more += 1;
-                if len > 1 {
-                    continue;
-                }
-                // ASCII behind ASCII goes on with the run.
-                let run = ascii_run(&bytes[at..]).min(usize::from(u16::MAX - more));
+                // As long as they are alike, the run goes on with all of them.
+                let run = alike_front(&bytes[at..], len).min(usize::from(u16::MAX - more));
                 last = end_behind_all(last, run as u16, width);
-                at += run;
+                at += run * len;
                 more += run as u16;
                 continue;
             }
