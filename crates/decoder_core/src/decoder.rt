@@ -68,6 +68,14 @@ pub trait Decoder {
         NO_BULK
     }
 
+    /// How many of these bytes are stepped over before others are tried in bulk again, where the
+    /// decoder sees it by their first: an escape that ends one run and begins another.
+    #[inline(always)]
+    fn steps_ahead(&self, bytes: &[u8]) -> Option<usize> {
+        let _ = bytes.len();
+        None
+    }
+
     /// Takes the end: the items that are still to come. The state is the one that was given.
     fn finish(&self, state: Self::State) -> Step<Self::State>
         ensures state { result.state ≡ state }

@@ -103,6 +103,14 @@ pub trait Handler {
         NO_BULK
     }
 
+    /// How many of these bytes are stepped over before others are tried in bulk again, as in
+    /// `Decoder::steps_ahead`.
+    #[inline(always)]
+    fn steps_ahead(&self, bytes: &[u8]) -> Option<usize> {
+        let _ = bytes.len();
+        None
+    }
+
     ghost ends: { (d : Self) → Falls (table d) };
 
     ghost counts: { (d : Self) → Counts (table d) };

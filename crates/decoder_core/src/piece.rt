@@ -98,12 +98,16 @@ fn advance<D: Decoder, K: Sink<D::State>>(
             stretch: if taken < RUN { stretch } else { SHORTEST },
         });
     }
-    let taken = rest.len().min(stretch);
+    let (steps, next) = match decoder.steps_ahead(rest) {
+        Some(steps) => (steps.max(1), SHORTEST),
+        None => (stretch, longer(stretch)),
+    };
+    let taken = rest.len().min(steps);
     let after = step_over(decoder, state, &rest[..taken], read, sink)?;
     Ok(Moved {
         state: after,
         taken,
-        stretch: longer(stretch),
+        stretch: next,
     })
 }
 

@@ -29,7 +29,7 @@ pub(crate) fn run_bulk<H: Handler>(
 fn copy_run(runs: AsciiRuns, bytes: &[u8], text: &mut [u8; 1024]) -> Bulk
     ensures { IsRunBulk runs bytes.now result text.new }
 {
-    if !begins_ascii(bytes) {
+    if !is_worth_it(runs, bytes) {
         return NO_BULK;
     }
     let taken = block_run(runs, bytes);
@@ -38,6 +38,19 @@ fn copy_run(runs: AsciiRuns, bytes: &[u8], text: &mut [u8; 1024]) -> Bulk
         taken,
         written: taken,
         stride: Stride::Utf8,
+    }
+}
+
+/// Whether a run of its own pays. Between escapes it does so soon: what is not taken in bulk there
+/// is stepped over, with the escape and some of what is behind it.
+#[inline(always)]
+fn is_worth_it(runs: AsciiRuns, bytes: &[u8]) -> bool {
+    match runs {
+        AsciiRuns::WithoutEscapes => match bytes.first_chunk::<4>() {
+            Some(front) => u32::from_le_bytes(*front) & 0x8080_8080 == 0,
+            None => false,
+        },
+        _ => begins_ascii(bytes),
     }
 }
 

@@ -50,6 +50,11 @@ impl<H: Handler> Decoder for H {
         }
     }
 
+    #[inline(always)]
+    fn steps_ahead(&self, bytes: &[u8]) -> Option<usize> {
+        Handler::steps_ahead(self, bytes)
+    }
+
     fn finish(&self, state: H::State) -> Step<H::State> {
         finish_by(self, state)
     }

@@ -150,6 +150,19 @@ impl<'i> Handler for Iso2022JpDecoder<'i> {
         }
     }
 
+    // An escape has three bytes, and the flag is set until the first character behind it is read.
+    #[inline(always)]
+    fn steps_ahead(&self, bytes: &[u8]) -> Option<usize> {
+        if bytes.first() != Some(&0x1B) {
+            return None;
+        }
+        if bytes.get(1) == Some(&0x24) {
+            Some(5)
+        } else {
+            Some(4)
+        }
+    }
+
     // In the loop over the bytes.
     #[inline(always)]
     fn turn(&self, state: Iso2022JpState, byte: Option<u8>) -> Handled<Iso2022JpState> {

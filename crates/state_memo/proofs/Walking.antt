@@ -1,13 +1,16 @@
 -- A text's items, taken in one walk over its code points.
-use Rattle.std.proofs.Common.{◌≡◌, refl, sym, ap, subst, ◌∙◌, ℕ, zero, suc, ◌+◌, ◌-◌, ◌<◌, ◌≤◌, List, [], ◌∷◌, ◌++◌, append_assoc, append-nil, length, length-append, drop, get_or, arith, ℤ, pos, ◌+ℤ◌, ◌-ℤ◌, ◌<ℤ◌, false}
+use Rattle.std.proofs.Common.{◌≡◌, refl, sym, ap, subst, ◌∙◌, ℕ, zero, suc, ◌+◌, ◌-◌, ◌*◌, ◌<◌, ◌≤◌, List, [], ◌∷◌, ◌++◌, append_assoc, append-nil, length, length-append, min, take, drop, get_or, arith, ℤ, pos, ◌+ℤ◌, ◌-ℤ◌, ◌<ℤ◌, false, nat_lt}
+use Rattle.std.proofs.lemmas.Bool.Decides.{nat_tests}
 use Rattle.std.proofs.lemmas.Grind.{flat_map-append}
 use Rattle.std.proofs.lemmas.Int.{ints}
-use Rattle.std.proofs.lemmas.List.{get_or-drop, length-drop}
+use Rattle.std.proofs.lemmas.List.{get_or-drop, length-drop, take_all}
+use Rattle.std.proofs.lemmas.List.Sums.{prefix_len-le-length, prefix_len_passes}
 use Rattle.std.proofs.lemmas.Str.{chars_past_char, drop_past_char, length-encode, len_utf8_bounds, IsUtf8-past_char}
 use Rattle.std.proofs.Math.Utf8.{encode}
 use Rattle.std.proofs.StrCases.{chars_of_empty}
 use Rattle.std.specs.Char.{len_utf8}
 use Rattle.std.specs.Str.{chars, continuation_len, IsUtf8}
+use Rattle.lane_ascii.specs.Runs.{ascii_len}
 use Rattle.decoder_core.specs.declared.bulk.Stride.{Stride}
 use Rattle.decoder_core.specs.declared.item.Item.TheVariants.{One}
 use Rattle.decoder_core.specs.Bulk.{width_of, run_width}
@@ -15,6 +18,7 @@ use Rattle.iso2022jp.specs.declared.output.OutputState.{OutputState}
 use Rattle.state_memo.specs.declared.ended.Ended.{Ended}
 use Rattle.state_memo.specs.declared.kind.ItemKind.{ItemKind}
 use Rattle.state_memo.specs.declared.run.Run.{Run}
+use Rattle.state_memo.specs.Alike.{AreAlike}
 use Rattle.state_memo.specs.Gathering.{plain_items_from}
 use Rattle.state_memo.specs.Items.{kept_item}
 use Rattle.state_memo.specs.Runs.{item_of_kind, items_until, items_of_run, items_of_runs}
@@ -221,16 +225,121 @@ module _ (text : List ℕ) (at lead len : ℕ) (spelt : IsUtf8 (drop at text)) (
           room = omega (arith, one-less, room, count_is, capacity_is);
         }
 
--- all of the text
-pub walked-whole : (stride : Stride) (kind : ItemKind) (output : OutputState) (text : List ℕ) (from : ℤ) (before : List Ended) (capacity at : ℕ) (closed : List Run) (count : ℕ) (last : ℤ) (more step : ℕ)
-    → IsWalked stride kind output text from before capacity at closed count last more step → length text ≤ at → items_of_runs closed ++ items_until kind step last (suc more) ≡ before ++ plain_items_from stride from output (chars text)
-walked-whole stride kind output text from before capacity at closed count last more step held past =
-    let none : length (drop at text) ≡ 0 = omega (arith, length-drop at text, past) in
-    held.items ∙ ap (λ (cs : List ℕ). before ++ plain_items_from stride from output cs) (sym (held.parts ∙ ap (λ (cs : List ℕ). held.front ++ cs) (chars_of_empty (drop at text) none) ∙ append-nil held.front))
-
 -- the same place, written in another way
 pub walked-at : (stride : Stride) (kind : ItemKind) (output : OutputState) (text : List ℕ) (from : ℤ) (before : List Ended) (capacity at then_at : ℕ) (closed : List Run) (count : ℕ) (last then : ℤ) (more step : ℕ) → then ≡ last → then_at ≡ at
     → IsWalked stride kind output text from before capacity at closed count last more step → IsWalked stride kind output text from before capacity then_at closed count then more step
 walked-at stride kind output text from before capacity at then_at closed count last then more step e f held =
     subst (λ (z : ℤ). IsWalked stride kind output text from before capacity then_at closed count z more step) (sym e)
     (subst (λ (n : ℕ). IsWalked stride kind output text from before capacity n closed count last more step) (sym f) held)
+
+-- one behind the first
+alike-behind : (text : List ℕ) (at len n : ℕ) → AreAlike text at len (suc n) → AreAlike text (at + len) len n
+alike-behind text at len n alike k lt =
+    let next = alike (suc k) (omega (arith, lt)) in
+    (subst (λ (m : ℕ). m < length text) (far at k len) next.0, subst (λ (m : ℕ). len ≡ continuation_len (get_or text m 0) + 1) (far at k len) next.1)
+  where
+    far : (at k len : ℕ) → at + suc k * len ≡ at + len + k * len
+    far at k len = let more : suc k * len ≡ len + k * len = grind arith in omega (arith, more)
+
+-- ASCII
+pub ascii-alike : (bytes : List ℕ) (n : ℕ) → n ≡ ascii_len bytes → AreAlike bytes 0 1 n
+ascii-alike bytes n is k lt =
+    let few : k < ascii_len bytes = omega (arith, lt, is) in
+    let low : get_or bytes k 0 < 128 = grind (arith, nat_tests, prefix_len_passes (λ b. nat_lt b 128) bytes k 0 few) in
+    (omega (arith, few, prefix_len-le-length (λ b. nat_lt b 128) bytes), subst (λ (m : ℕ). 1 ≡ continuation_len (get_or bytes m 0) + 1) (far k) (lead (get_or bytes k 0) low))
+  where
+    far : (k : ℕ) → k ≡ 0 + k * 1
+    far k = omega arith
+
+    lead : (b : ℕ) → b < 128 → 1 ≡ continuation_len b + 1
+    lead b h = grind (arith, nat_tests)
+
+-- the same of a part that goes to the end, and fewer
+pub alike-part : (bytes text : List ℕ) (at len n most m : ℕ) → bytes ≡ text → AreAlike (take (length bytes - at) (drop at bytes)) 0 len n → m ≡ min n most → AreAlike text at len m
+alike-part bytes text at len n most m same alike is k lt =
+    let next = subst (λ (bs : List ℕ). AreAlike bs 0 len n) (take_all (length bytes - at) (drop at bytes) (omega (arith, length-drop at bytes)) ∙ ap (drop at) same) alike k (omega (arith, lt, is)) in
+    (omega (arith, next.0, length-drop at text), next.1 ∙ ap (λ (b : ℕ). continuation_len b + 1) (get_or-drop at text (0 + k * len) 0 ∙ ap (λ (i : ℕ). get_or text i 0) (far at (k * len))))
+  where
+    far : (at n : ℕ) → at + (0 + n) ≡ at + n
+    far at n = omega arith
+
+module _ (stride : Stride) (kind : ItemKind) (output : OutputState) (text : List ℕ) (from : ℤ) (before : List Ended) (capacity : ℕ) (closed : List Run) (count width len : ℕ)
+    (one : (end : ℤ) → item_of_kind kind end ≡ record { scalars = 1; end = end; error = false; output = output }) (width_is : (c : ℕ) → len ≡ len_utf8 c → width ≡ width_of stride c) where
+  -- code points that are alike go on with a run of items that are as long
+  walked-alike : (n at more : ℕ) (last : ℤ) → AreAlike text at len n
+      → IsWalked stride kind output text from before capacity at closed count last more width
+      → IsWalked stride kind output text from before capacity (at + n * len) closed count (last +ℤ pos (n * width)) (more + n) width
+  walked-alike zero at more last alike held =
+      subst (λ (m : ℕ). IsWalked stride kind output text from before capacity (at + 0 * len) closed count (last +ℤ pos (0 * width)) m width) (none more)
+      (walked-at stride kind output text from before capacity at (at + 0 * len) closed count last (last +ℤ pos (0 * width)) more width (here last) (there at) held)
+    where
+      none : (k : ℕ) → k ≡ k + 0
+      none k = omega arith
+
+      there : (k : ℕ) → k + 0 * len ≡ k
+      there k = let nothing : 0 * len ≡ 0 = omega arith in omega (arith, nothing)
+
+      here : (last : ℤ) → last +ℤ pos (0 * width) ≡ last
+      here last = let nothing : 0 * width ≡ 0 = omega arith in ap (λ (k : ℕ). last +ℤ pos k) nothing ∙ sym (at-start last)
+  walked-alike (suc n) at more last alike held =
+      let first = alike 0 (omega arith) in
+      let some : at < length text = subst (λ (m : ℕ). m < length text) (here at) first.0 in
+      let len_is : len ≡ continuation_len (get_or text at 0) + 1 = subst (λ (m : ℕ). len ≡ continuation_len (get_or text m 0) + 1) (here at) first.1 in
+      let next = walked-on text at (get_or text at 0) len held.spelt some refl len_is stride width (width_is _ (long text at (get_or text at 0) len held.spelt some refl len_is)) from last (pos 0) held.front held.parts held.place kind output one
+      before capacity count more width closed held.spelt held.items held.room (more + 1) width refl refl (λ _. refl) in
+      subst (λ (m : ℕ). IsWalked stride kind output text from before capacity (at + suc n * len) closed count (last +ℤ pos (suc n * width)) m width) (past more n)
+      (walked-at stride kind output text from before capacity (at + len + n * len) (at + suc n * len) closed count ((last +ℤ pos width) +ℤ pos (n * width)) (last +ℤ pos (suc n * width)) (more + 1 + n) width (far last width n) (gone at n)
+      (walked-alike n (at + len) (more + 1) (last +ℤ pos width) (alike-behind text at len n alike) next))
+    where
+      here : (k : ℕ) → k + 0 * len ≡ k
+      here k = let nothing : 0 * len ≡ 0 = omega arith in omega (arith, nothing)
+
+      past : (k n : ℕ) → k + 1 + n ≡ k + suc n
+      past k n = omega arith
+
+      gone : (k n : ℕ) → k + suc n * len ≡ k + len + n * len
+      gone k n = let all : suc n * len ≡ len + n * len = grind arith in omega (arith, all)
+
+      far : (last : ℤ) (w n : ℕ) → last +ℤ pos (suc n * w) ≡ (last +ℤ pos w) +ℤ pos (n * w)
+      far last w n = let all : suc n * w ≡ w + n * w = grind arith in omega (arith, ints, all)
+
+-- a code point that goes on with the open run, and so many behind it that are alike
+pub walked-run : (text : List ℕ) (at lead len : ℕ) → at < length text → lead ≡ get_or text at 0 → len ≡ continuation_len lead + 1
+    → (stride : Stride) (widths : List ℕ) → ((c : ℕ) → get_or widths (len_utf8 c - 1) 0 ≡ width_of stride c)
+    → (kind : ItemKind) (output : OutputState) → ((end : ℤ) → item_of_kind kind end ≡ record { scalars = 1; end = end; error = false; output = output })
+    → (from last : ℤ) (before : List Ended) (capacity count more step n : ℕ) (closed : List Run) → step ≡ get_or widths (len - 1) 0 → AreAlike text (at + len) len n
+    → IsWalked stride kind output text from before capacity at closed count last more step
+    → IsWalked stride kind output text from before capacity (at + len + n * len) closed count ((last +ℤ pos (get_or widths (len - 1) 0)) +ℤ pos (n * get_or widths (len - 1) 0)) (more + 1 + n) step
+walked-run text at lead len some lead_is len_is stride widths widths_are kind output one from last before capacity count more step n closed same alike held =
+    let width = get_or widths (len - 1) 0 in
+    let width_is = next-width text at lead len held.spelt some lead_is len_is stride widths widths_are in
+    let first = walked-on text at lead len held.spelt some lead_is len_is stride width width_is from last (pos 0) held.front held.parts held.place kind output one
+    before capacity count more step closed held.spelt held.items held.room (more + 1) step refl same (λ _. same) in
+    let wide : (c : ℕ) → len ≡ len_utf8 c → step ≡ width_of stride c = λ c e. same ∙ ap (λ (k : ℕ). get_or widths (k - 1) 0) e ∙ widths_are c in
+    subst (λ (w : ℕ). IsWalked stride kind output text from before capacity (at + len + n * len) closed count ((last +ℤ pos width) +ℤ pos (n * w)) (more + 1 + n) step) same
+    (walked-alike stride kind output text from before capacity closed count step len one wide n (at + len) (more + 1) (last +ℤ pos width) alike first)
+
+-- how many bytes those of a run can have
+pub few-bytes : (n len : ℕ) → n ≤ 65535 → len ≤ 4 → n * len ≤ 262140
+few-bytes n zero few short = omega (arith, few)
+few-bytes n (suc zero) few short = omega (arith, few)
+few-bytes n (suc (suc zero)) few short = omega (arith, few)
+few-bytes n (suc (suc (suc zero))) few short = omega (arith, few)
+few-bytes n (suc (suc (suc (suc zero)))) few short = omega (arith, few)
+few-bytes n (suc (suc (suc (suc (suc len))))) few short = absurd (omega (arith, short))
+
+-- all items end before a limit that the last one ends before
+pub walked-below : (stride : Stride) (kind : ItemKind) (output : OutputState) (text : List ℕ) (from : ℤ) (before : List Ended) (capacity at : ℕ) (closed : List Run) (count : ℕ) (last limit : ℤ) (more step : ℕ)
+    → IsWalked stride kind output text from before capacity at closed count last more step → (from +ℤ pos (run_width stride (chars text))) <ℤ limit → last <ℤ limit
+walked-below stride kind output text from before capacity at closed count last limit more step held fits =
+    by from last limit (run_width stride (chars text)) (run_width stride held.front) (run_width stride (chars (drop at text))) (ap (run_width stride) held.parts ∙ run-append stride held.front (chars (drop at text))) held.place fits
+  where
+    by : (from last limit : ℤ) (all front rest : ℕ) → all ≡ front + rest → last ≡ from +ℤ pos front → (from +ℤ pos all) <ℤ limit → last <ℤ limit
+    by from last limit all front rest e f g = omega (arith, ints, e, f, g)
+
+-- all of the text
+pub walked-whole : (stride : Stride) (kind : ItemKind) (output : OutputState) (text : List ℕ) (from : ℤ) (before : List Ended) (capacity at : ℕ) (closed : List Run) (count : ℕ) (last : ℤ) (more step : ℕ)
+    → IsWalked stride kind output text from before capacity at closed count last more step → length text ≤ at → items_of_runs closed ++ items_until kind step last (suc more) ≡ before ++ plain_items_from stride from output (chars text)
+walked-whole stride kind output text from before capacity at closed count last more step held past =
+    let none : length (drop at text) ≡ 0 = omega (arith, length-drop at text, past) in
+    held.items ∙ ap (λ (cs : List ℕ). before ++ plain_items_from stride from output cs) (sym (held.parts ∙ ap (λ (cs : List ℕ). held.front ++ cs) (chars_of_empty (drop at text) none) ∙ append-nil held.front))

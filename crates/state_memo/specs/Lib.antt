@@ -1,4 +1,5 @@
 pub use Rattle.codec.specs.Near
+pub mod Alike
 pub mod Among
 pub mod Decoding
 pub mod Facts

@@ -1,5 +1,5 @@
 -- Numbers of a part of a document.
-use Rattle.std.specs.Prelude.{◌≡◌, ℕ, ◌+◌, ◌-◌, ◌<◌, ◌^◌, false, ◌&&◌, ◌==◌, List, length, if◌then◌else◌}
+use Rattle.std.specs.Prelude.{ℕ, ◌+◌, ◌-◌, ◌<◌, ◌^◌, false, ◌&&◌, ◌==◌, List, length, if◌then◌else◌}
 use Rattle.std.proofs.Common.{arith}
 use Rattle.lane_ascii.specs.Marks.{marks, ends_cr, one_if}
 use Rattle.lane_utf.specs.Widths.{utf8_width, utf16_width, total_width}

@@ -8,8 +8,8 @@ ghost use Rattle.state_memo.specs.Runs.{items_of_run, items_of_runs, items_under
 
 use crate::ended::Ended;
 use crate::kind::ItemKind;
-use crate::plain::{scalar_len, widths_of};
-use crate::run::{Run, end_behind};
+use crate::plain::{alike_front, scalar_len, widths_of};
+use crate::run::{Run, end_behind, end_behind_all};
 use decoder_core::Stride;
 use iso2022jp::OutputState;
 use std::alloc::{AllocError, Global};
@@ -105,6 +105,11 @@ impl OpenRuns {
             at += len;
             if step == width && more < u16::MAX {
                 more += 1;
+                // As long as they are alike, the run goes on with all of them.
+                let run = alike_front(&bytes[at..], len).min(usize::from(u16::MAX - more));
+                last = end_behind_all(last, run as u16, width);
+                at += run * len;
+                more += run as u16;
                 continue;
             }
             if more == 0 {

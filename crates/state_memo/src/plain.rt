@@ -1,11 +1,12 @@
 //! Texts whose code points are items without gaps.
-ghost use Rattle.std.specs.Prelude.{◌≡◌, ◌≤◌, ◌+◌, ◌-◌, ◌*◌, ◌^◌, ℕ, nat_lt, if◌then◌else◌, slice_index, IfSome, length, pos, ◌-ℤ◌, ◌+ℤ◌, ◌<ℤ◌};
+ghost use Rattle.std.specs.Prelude.{◌≡◌, ◌<◌, ◌≤◌, ◌+◌, ◌-◌, ◌*◌, ◌^◌, ℕ, nat_lt, if◌then◌else◌, slice_index, IfSome, length, pos, ◌-ℤ◌, ◌+ℤ◌, ◌<ℤ◌};
 ghost use Rattle.std.specs.Char.{len_utf8};
 ghost use Rattle.std.specs.Str.{chars, continuation_len};
 ghost use Rattle.decoder_core.specs.declared.bulk.Stride.{Stride};
 ghost use Rattle.decoder_core.specs.declared.bulk.Stride.TheVariants.{Pairs};
 ghost use Rattle.decoder_core.specs.Bulk.{width_of, run_width};
 ghost use Rattle.lane_utf.specs.Widths.{total_width};
+ghost use Rattle.state_memo.specs.Alike.{AreAlike};
 ghost use Rattle.state_memo.specs.Gathering.{plain_items, IsEven};
 ghost use Rattle.state_memo.specs.Runs.{items_of_run};
 
@@ -13,6 +14,7 @@ use crate::kind::ItemKind;
 use crate::run::Run;
 use decoder_core::Stride;
 use iso2022jp::OutputState;
+use lane_ascii::ascii_run;
 use lane_utf::count_utf16;
 
 /// How many bytes are looked at together for ASCII.
@@ -129,6 +131,39 @@ pub(crate) fn scalar_len(lead: u8) -> usize
         0x80..0xE0 => 2,
         0xE0..0xF0 => 3,
         _ => 4,
+    }
+}
+
+/// How many code points at the front have so many bytes of UTF-8, one beside the other.
+// In the loop over the code points.
+#[inline(always)]
+pub(crate) fn alike_front(bytes: &[u8], len: usize) -> usize
+    requires { (1 ≤ len) × (len ≤ 4) }
+    ensures { AreAlike bytes.now 0 len result }
+{
+    if len == 1 {
+        return ascii_run(bytes);
+    }
+    let (low, high) = leads_of(len);
+    let mut at = 0;
+    let mut count = 0;
+    'alike: while at < bytes.len() && low <= bytes[at] && bytes[at] < high {
+        at += len;
+        count += 1;
+    }
+    count
+}
+
+/// The first bytes of code points of so many bytes of UTF-8: from the first of these on, below the second.
+#[inline(always)]
+fn leads_of(len: usize) -> (u8, u8)
+    requires { (2 ≤ len) × (len ≤ 4) }
+    ensures { (b : ℕ) → result.0 ≤ b → b < result.1 → len ≡ continuation_len b + 1 }
+{
+    match len {
+        2 => (0x80, 0xE0),
+        3 => (0xE0, 0xF0),
+        _ => (0xF0, 0xFF),
     }
 }
 

@@ -29,6 +29,16 @@ pub(crate) fn end_behind(last: i32, width: u8) -> i32
     last + i32::from(width)
 }
 
+/// The end of the last of so many items so long each, behind one that ends there.
+// In the loop over the bytes.
+#[inline(always)]
+pub(crate) fn end_behind_all(last: i32, count: u16, width: u8) -> i32
+    requires { (last +ℤ pos (count * width)) <ℤ pos (2 ^ 31) }
+    ensures { result ≡ last +ℤ pos (count * width) }
+{
+    last + i32::from(count) * i32::from(width)
+}
+
 impl Run {
     /// One item.
     // In the loop over the bytes.

@@ -1,4 +1,4 @@
-use Rattle.std.proofs.Common.{sym, ap, ◌∙◌, List, ℕ}
+use Rattle.std.proofs.Common.{ap, ◌∙◌, List, ℕ}
 use Rattle.std.specs.Str.{chars}
 use Rattle.state_memo.specs.Gathering.{Gathered}
 use Rattle.state_memo.specs.Sums.{sum_of}

@@ -1,9 +1,8 @@
-use Rattle.std.proofs.Common.{arith, ap, ◌∙◌, List, pos}
+use Rattle.std.proofs.Common.{arith, ap, List, pos}
 use Rattle.state_memo.specs.declared.kind.ItemKind.TheVariants.{AsciiOne}
 use Rattle.state_memo.specs.declared.run.Run.{Run}
 use Rattle.state_memo.specs.declared.ended.Ended.{Ended}
 use Rattle.state_memo.specs.Items.{all_scalars}
-use Rattle.state_memo.specs.Runs.{items_of_runs}
 use Rattle.state_memo.proofs.Walks.{errors-next, errors-few}
 use Rattle.state_memo.proofs.items.ItemRuns.count_errors.Goals as goal
 

@@ -1,4 +1,4 @@
-use Rattle.std.proofs.Common.{arith, ap, ◌∙◌, List, pos, to_z, of_z, w64}
+use Rattle.std.proofs.Common.{arith, ap, List, pos, to_z, of_z, w64}
 use Rattle.state_memo.specs.declared.kind.ItemKind.TheVariants.{AsciiOne}
 use Rattle.state_memo.specs.declared.run.Run.{Run}
 use Rattle.state_memo.specs.declared.ended.Ended.{Ended}

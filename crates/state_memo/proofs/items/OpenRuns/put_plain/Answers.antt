@@ -1,12 +1,13 @@
-use Rattle.std.proofs.Common.{◌≡◌, ◌≤◌, ◌<◌, ◌-◌, ◌∙◌, ◌++◌, ap, sym, refl, rules, to_z, of_z, w32, arith, ℕ, ℤ, pos, ◌+ℤ◌, List, [], ◌∷◌, get_or, length, append-nil}
+use Rattle.std.proofs.Common.{◌≡◌, ◌≤◌, ◌<◌, ◌+◌, ◌-◌, ◌*◌, ◌∙◌, ◌++◌, ap, sym, refl, subst, rules, to_z, of_z, w32, arith, ℕ, ℤ, pos, ◌+ℤ◌, ◌<ℤ◌, List, [], ◌∷◌, get_or, length, append-nil}
 use Rattle.std.specs.Prelude.{vec_len, vec_capacity}
 use Rattle.std.specs.Str.{chars}
 use Rattle.std.proofs.Math.Facts.{to_z-of_z}
 use Rattle.std.proofs.StrCases.{chars_of_empty}
+use Rattle.decoder_core.specs.Bulk.{run_width}
 use Rattle.state_memo.specs.declared.ended.Ended.{Ended}
 use Rattle.state_memo.specs.Gathering.{plain_items_from}
 use Rattle.state_memo.specs.Runs.{items_under_way, item_of_kind}
-use Rattle.state_memo.proofs.Walking.{at-start, no-more, next-within, next-width, next-fits, walked-first, walked-on, walked-new, walked-some, walked-whole, walked-at}
+use Rattle.state_memo.proofs.Walking.{alike-part, few-bytes, next-len, at-start, no-more, next-within, next-width, next-fits, walked-first, walked-on, walked-new, walked-run, walked-below, walked-some, walked-whole, walked-at}
 use Rattle.state_memo.proofs.items.OpenRuns.put_plain.Goals as goal
 
 pub returns-then-is_empty : goal.returns-then-is_empty
@@ -67,6 +68,48 @@ overflow_add-at c =
     let within = next-within text c.items.at _ c.scalar_len-len.result c.items.invariant.spelt some lead c.scalar_len-len.ensures in
     search (rules, within)
 
+pub slice_bounds-alike_front-count : goal.slice_bounds-alike_front-count
+slice_bounds-alike_front-count c =
+    let text = c.args.text.now in
+    let some : c.items.at < length text = search rules in
+    let lead = ap (λ (bs : List ℕ). get_or bs c.items.at 0) c.as_bytes-bytes.ensures.value in
+    let within = next-within text c.items.at _ c.scalar_len-len.result c.items.invariant.spelt some lead c.scalar_len-len.ensures in
+    search (rules, within)
+
+pub slice_bounds-alike_front-start : goal.slice_bounds-alike_front-start
+slice_bounds-alike_front-start c =
+    let text = c.args.text.now in
+    let some : c.items.at < length text = search rules in
+    let lead = ap (λ (bs : List ℕ). get_or bs c.items.at 0) c.as_bytes-bytes.ensures.value in
+    let within = next-within text c.items.at _ c.scalar_len-len.result c.items.invariant.spelt some lead c.scalar_len-len.ensures in
+    search (rules, within)
+
+pub overflow_mul-at : goal.overflow_mul-at
+overflow_mul-at c =
+    let text = c.args.text.now in
+    let some : c.items.at < length text = search rules in
+    let lead = ap (λ (bs : List ℕ). get_or bs c.items.at 0) c.as_bytes-bytes.ensures.value in
+    let few : c.min-run.result ≤ 65535 = omega (arith, c.min-run.ensures, c.from.ensures) in
+    let bytes = few-bytes c.min-run.result c.scalar_len-len.result few (next-len text c.items.at _ c.scalar_len-len.result c.items.invariant.spelt some lead c.scalar_len-len.ensures).1 in
+    omega (arith, bytes)
+
+pub end_behind_all-last-requires : goal.end_behind_all-last-requires
+end_behind_all-last-requires c =
+    let text = c.args.text.now in
+    let held = c.items.invariant in
+    let some : c.items.at < length text = search rules in
+    let lead = ap (λ (bs : List ℕ). get_or bs c.items.at 0) c.as_bytes-bytes.ensures.value in
+    let len = c.scalar_len-len.result in
+    let last : to_z w32 (of_z w32 c.end_behind-last-in-items.result) ≡ to_z w32 c.items.last-bits +ℤ pos (get_or c.widths_of-widths.result (len - 1) 0) = search rules in
+    let same : c.items.step ≡ get_or c.widths_of-widths.result (len - 1) 0 = search rules in
+    let alike = alike-part c.as_bytes-bytes.result.now text (c.items.at + len) len c.alike_front.result c.from.result c.min-run.result c.as_bytes-bytes.ensures.value c.alike_front.ensures c.min-run.ensures in
+    let walked = walked-run text c.items.at _ len some lead c.scalar_len-len.ensures c.args.stride c.widths_of-widths.result c.widths_of-widths.ensures c.one-kind.result c.args.output c.one-kind.ensures
+    _ (to_z w32 c.items.last-bits) _ _ _ _ _ _ _ same alike held in
+    let from : to_z w32 (of_z w32 c.args.from) ≡ c.args.from = to_z-of_z {w = w32} c.ranges.from in
+    let fits = subst (λ (z : ℤ). (z +ℤ pos (run_width c.args.stride (chars text))) <ℤ pos 2147483648) (sym from) c.requires.fits in
+    subst (λ (z : ℤ). (z +ℤ pos (c.min-run.result * get_or c.widths_of-widths.result (len - 1) 0)) <ℤ pos 2147483648) (sym last)
+    (walked-below _ _ _ _ _ _ _ _ _ _ _ _ _ _ walked fits)
+
 pub items-preserved-then-more-lt65535 : goal.items-preserved-then-more-lt65535
 items-preserved-then-more-lt65535 c =
     let text = c.args.text.now in
@@ -74,12 +117,15 @@ items-preserved-then-more-lt65535 c =
     let some : c.items.at < length text = search rules in
     let lead = ap (λ (bs : List ℕ). get_or bs c.items.at 0) c.as_bytes-bytes.ensures.value in
     let len = c.scalar_len-len.result in
-    let width = next-width text c.items.at _ len held.spelt some lead c.scalar_len-len.ensures c.args.stride c.widths_of-widths.result c.widths_of-widths.ensures in
     let last : to_z w32 (of_z w32 c.end_behind-last-in-items.result) ≡ to_z w32 c.items.last-bits +ℤ pos (get_or c.widths_of-widths.result (len - 1) 0) = search rules in
     let same : c.items.step ≡ get_or c.widths_of-widths.result (len - 1) 0 = search rules in
-    let walked = walked-on text c.items.at _ len held.spelt some lead c.scalar_len-len.ensures c.args.stride _ width _ (to_z w32 c.items.last-bits) (pos 0) held.front held.parts held.place c.one-kind.result c.args.output c.one-kind.ensures
-    _ _ _ c.items.more c.items.step c.items.self.closed.items held.spelt held.items held.room _ c.items.step refl same (λ _. same) in
-    walked-at _ _ _ _ _ _ _ _ _ _ _ _ _ _ _ last refl walked
+    let alike = alike-part c.as_bytes-bytes.result.now text (c.items.at + len) len c.alike_front.result c.from.result c.min-run.result c.as_bytes-bytes.ensures.value c.alike_front.ensures c.min-run.ensures in
+    let walked = walked-run text c.items.at _ len some lead c.scalar_len-len.ensures c.args.stride c.widths_of-widths.result c.widths_of-widths.ensures c.one-kind.result c.args.output c.one-kind.ensures
+    _ (to_z w32 c.items.last-bits) _ _ _ _ _ _ _ same alike held in
+    let width = get_or c.widths_of-widths.result (len - 1) 0 in
+    let behind : to_z w32 (of_z w32 c.end_behind_all-last.result) ≡ to_z w32 (of_z w32 c.end_behind-last-in-items.result) +ℤ pos (c.min-run.result * width) = search rules in
+    let ended = behind ∙ ap (λ (z : ℤ). z +ℤ pos (c.min-run.result * width)) last in
+    walked-at _ _ _ _ _ _ _ _ _ _ _ _ _ _ _ ended refl walked
 
 pub items-preserved-then-more-eq0 : goal.items-preserved-then-more-eq0
 items-preserved-then-more-eq0 c =
