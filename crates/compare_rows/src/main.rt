@@ -9,7 +9,7 @@ mod fields;
 mod rows;
 mod unplayed;
 
-use index_files::{ProgramFailure, Unread, bytes_of, indexes_in};
+use index_files::{EarlyEnd, Unread, bytes_of, indexes_in};
 use index_loader::Indexes;
 use oracle::Tally;
 use rows::{RowKind, row_of};
@@ -34,7 +34,7 @@ fn play(
     kind: RowKind,
     (given, wanted): (&str, &str),
     rows: &mut Tally<1>,
-) -> Result<(), ProgramFailure> {
+) -> Result<(), EarlyEnd> {
     let came = kind
         .outcome(rt.alloc(), indexes, given)
         .map_err(Unplayed::failure)?;
@@ -53,7 +53,7 @@ fn play_text(
     indexes: &Indexes,
     kind: RowKind,
     text: &str,
-) -> Result<Tally<1>, ProgramFailure> {
+) -> Result<Tally<1>, EarlyEnd> {
     let mut rows = Tally::new();
     for line in text.split('\n') {
         if let Some(row) = row_of(line).map_err(Unplayed::failure)? {
@@ -64,11 +64,11 @@ fn play_text(
 }
 
 /// The bytes of a file of rows, which has to be there.
-fn bytes_in(rt: &HostRuntime, name: &'static str) -> Result<Vec<u8>, ProgramFailure> {
+fn bytes_in(rt: &HostRuntime, name: &'static str) -> Result<Vec<u8>, EarlyEnd> {
     match bytes_of(rt, rt.alloc(), Path::new(name)) {
         Ok(Some(bytes)) => Ok(bytes),
-        Ok(None) | Err(Unread::Failed) => Err(ProgramFailure::CannotRead(name)),
-        Err(Unread::OutOfMemory) => Err(ProgramFailure::OutOfMemory),
+        Ok(None) | Err(Unread::Failed) => Err(EarlyEnd::CannotRead(name)),
+        Err(Unread::OutOfMemory) => Err(EarlyEnd::OutOfMemory),
     }
 }
 
@@ -79,7 +79,7 @@ fn play_file(
     indexes: &Indexes,
     name: &'static str,
     kind: RowKind,
-) -> Result<bool, ProgramFailure> {
+) -> Result<bool, EarlyEnd> {
     let bytes = bytes_in(rt, name)?;
     let Ok(text) = str::from_utf8(&bytes) else {
         return Err(Unplayed::Malformed.failure());
@@ -92,7 +92,7 @@ fn play_file(
 }
 
 /// Plays the rows of all files, and says whether there were some in each and none differs.
-fn compare(rt: &HostRuntime) -> Result<bool, ProgramFailure> {
+fn compare(rt: &HostRuntime) -> Result<bool, EarlyEnd> {
     let indexes = indexes_in(rt, rt.alloc(), ".")?;
     let mut fine = true;
     for (name, kind) in FILES {

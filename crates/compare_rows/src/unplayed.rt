@@ -1,7 +1,7 @@
 //! Why a row can't be played.
 
 use codec::CodecFault;
-use index_files::ProgramFailure;
+use index_files::EarlyEnd;
 use std::alloc::AllocError;
 
 /// Why a row can't be played. It is copied, so that nothing has to be dropped where it is passed on.
@@ -15,10 +15,10 @@ pub enum Unplayed {
 
 impl Unplayed {
     /// The same as why the program ends.
-    pub fn failure(self) -> ProgramFailure {
+    pub fn failure(self) -> EarlyEnd {
         match self {
-            Unplayed::Malformed => ProgramFailure::Mistake("a row that isn't written as rows are"),
-            Unplayed::OutOfMemory => ProgramFailure::OutOfMemory,
+            Unplayed::Malformed => EarlyEnd::Mistake("a row that isn't written as rows are"),
+            Unplayed::OutOfMemory => EarlyEnd::OutOfMemory,
         }
     }
 }

@@ -10,11 +10,11 @@ use Rattle.desk.specs.declared.line.Line.{Line}
 use Rattle.desk.specs.declared.reply.Reply.{Reply}
 use Rattle.desk.specs.declared.reply.Reply.TheVariants.{Lines}
 
-abbrev pub line_of : Bounds → LineSpan
+abbrev pub line_of : Bounds → Line
 line_of l = record { start = l.start; end = l.end }
 
 -- at most max lines of a text, the first being number `from`
-abbrev pub page_of : List ℕ → ℕ → ℕ → List LineSpan
+abbrev pub page_of : List ℕ → ℕ → ℕ → List Line
 page_of text from max = map line_of (take max (drop from (lines_of text)))
 
 -- `from` may be the number of lines

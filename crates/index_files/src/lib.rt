@@ -7,7 +7,7 @@ mod fault;
 mod file;
 mod folder;
 
-pub use failure::ProgramFailure;
+pub use failure::EarlyEnd;
 pub use fault::{FileCause, FolderFault, IndexFileFault, Unread};
 pub use file::bytes_of;
 pub use folder::indexes_in;

@@ -5,7 +5,7 @@ use crate::samples::{Text, copies, document, samples};
 use codec::{CodecFault, decode_whole};
 use enc_names::{Bom, Encoding};
 use encoders::{EncodeFault, EncodeMode, encode};
-use index_files::{ProgramFailure, indexes_in};
+use index_files::{EarlyEnd, indexes_in};
 use index_loader::Indexes;
 use oracle::megabytes_per_second;
 use std::time::{Duration, Instant};
@@ -25,7 +25,7 @@ struct DecodedText {
 }
 
 /// Prints which samples there are, and how to measure.
-pub fn list(rt: &HostRuntime) -> Result<(), ProgramFailure> {
+pub fn list(rt: &HostRuntime) -> Result<(), EarlyEnd> {
     for sample in &samples() {
         let name = sample.encoding.name();
         for (kind, text) in &sample.texts() {
@@ -39,7 +39,7 @@ pub fn list(rt: &HostRuntime) -> Result<(), ProgramFailure> {
 }
 
 /// Prints how fast each sample's documents are decoded, and their texts encoded.
-pub fn measure(rt: &HostRuntime, folder: &str) -> Result<(), ProgramFailure> {
+pub fn measure(rt: &HostRuntime, folder: &str) -> Result<(), EarlyEnd> {
     let indexes = indexes_in(rt, rt.alloc(), folder)?;
     for sample in &samples() {
         for text in &sample.texts() {
@@ -56,7 +56,7 @@ fn measure_one(
     indexes: &Indexes,
     encoding: Encoding,
     (kind, text): Text,
-) -> Result<(), ProgramFailure> {
+) -> Result<(), EarlyEnd> {
     let name = encoding.name();
     let bytes = document(rt.alloc(), text)?;
     match fastest_decoding(rt, indexes, encoding, &bytes)? {
@@ -84,7 +84,7 @@ fn fastest_decoding(
     indexes: &Indexes,
     encoding: Encoding,
     document: &[u8],
-) -> Result<Option<DecodedText>, ProgramFailure> {
+) -> Result<Option<DecodedText>, EarlyEnd> {
     let mut best = Fastest::new();
     let mut last = None;
     for _ in 0..ROUNDS {
@@ -94,7 +94,7 @@ fn fastest_decoding(
         let decoded = match decode_whole(rt.alloc(), indexes, encoding, Bom::Sniff, document) {
             Ok(decoded) => decoded,
             Err(CodecFault::NoIndex) => return Ok(None),
-            Err(CodecFault::OutOfMemory) => return Err(ProgramFailure::OutOfMemory),
+            Err(CodecFault::OutOfMemory) => return Err(EarlyEnd::OutOfMemory),
             Err(CodecFault::Malformed(_)) => unreachable!(),
         };
         best.take(rt, start, decoded.text.len())?;
@@ -111,13 +111,13 @@ fn fastest_encoding(
     indexes: &Indexes,
     encoding: Encoding,
     text: &str,
-) -> Result<Option<Duration>, ProgramFailure> {
+) -> Result<Option<Duration>, EarlyEnd> {
     let mut best = Fastest::new();
     for _ in 0..ROUNDS {
         let start = Instant::now(rt)?;
         match encode(rt.alloc(), encoding, indexes, EncodeMode::Html, text) {
             Ok(bytes) => best.take(rt, start, bytes.len())?,
-            Err(EncodeFault::OutOfMemory) => return Err(ProgramFailure::OutOfMemory),
+            Err(EncodeFault::OutOfMemory) => return Err(EarlyEnd::OutOfMemory),
             Err(_) => return Ok(None),
         }
     }

@@ -3,7 +3,7 @@
 use crate::byte_kernels::{BYTE_KERNELS, ByteKernel};
 use crate::fastest::Fastest;
 use crate::text_kernels::{Forms, TEXT_KERNELS, TextKernel};
-use index_files::ProgramFailure;
+use index_files::EarlyEnd;
 use oracle::megabytes_per_second;
 use std::time::{Duration, Instant};
 
@@ -45,7 +45,7 @@ const TEXT_SIZE: usize = 65_536;
 const TURNS: u32 = 32;
 
 /// Prints the names of the kernels, and how to measure.
-pub fn list(rt: &HostRuntime) -> Result<(), ProgramFailure> {
+pub fn list(rt: &HostRuntime) -> Result<(), EarlyEnd> {
     for (name, _) in &BYTE_KERNELS {
         println!(rt; "{name}")?;
     }
@@ -57,7 +57,7 @@ pub fn list(rt: &HostRuntime) -> Result<(), ProgramFailure> {
 }
 
 /// Prints how fast each kernel is, a line a size or a text.
-pub fn measure(rt: &HostRuntime) -> Result<(), ProgramFailure> {
+pub fn measure(rt: &HostRuntime) -> Result<(), EarlyEnd> {
     for (name, kernel) in &BYTE_KERNELS {
         for size in &SIZES {
             measure_size(rt, name, *kernel, *size)?;
@@ -77,7 +77,7 @@ fn measure_size(
     name: &str,
     kernel: ByteKernel,
     size: usize,
-) -> Result<(), ProgramFailure> {
+) -> Result<(), EarlyEnd> {
     let passed = turns(size).saturating_mul(size);
     let plain = megabytes_per_second(passed, fastest_slices(rt, kernel, By::Plain, size)?);
     let kernel = megabytes_per_second(passed, fastest_slices(rt, kernel, By::Kernel, size)?);
@@ -92,7 +92,7 @@ fn measure_text(
     kernel: TextKernel,
     language: &str,
     sample: &str,
-) -> Result<(), ProgramFailure> {
+) -> Result<(), EarlyEnd> {
     let copies = TEXT_SIZE.checked_div(sample.len()).unwrap_or(0);
     let text = sample.repeat(rt.alloc(), copies)?;
     let plain = fastest_pass(rt, kernel, By::Plain, text.as_str())?;
@@ -109,7 +109,7 @@ fn fastest_slices(
     kernel: ByteKernel,
     by: By,
     size: usize,
-) -> Result<Duration, ProgramFailure> {
+) -> Result<Duration, EarlyEnd> {
     let needed = size.saturating_add(STARTS);
     let copies = needed.checked_div(LINES.len()).unwrap_or(0);
     let mut bytes = LINES.repeat(rt.alloc(), copies.saturating_add(1))?;
@@ -154,7 +154,7 @@ fn fastest_pass(
     kernel: TextKernel,
     by: By,
     text: &str,
-) -> Result<Duration, ProgramFailure> {
+) -> Result<Duration, EarlyEnd> {
     let mut forms = Forms::of(rt.alloc(), text)?;
     let mut best = Fastest::new();
     for _ in 0..ROUNDS {

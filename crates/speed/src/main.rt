@@ -12,19 +12,19 @@ mod text_kernels;
 mod tree;
 
 use command_line::{Measurement, job_of};
-use index_files::ProgramFailure;
+use index_files::EarlyEnd;
 use std::process::ExitCode;
 use std::{env, io};
 
 /// Lists what is measured, and how to ask.
-fn list(rt: &HostRuntime) -> Result<(), ProgramFailure> {
+fn list(rt: &HostRuntime) -> Result<(), EarlyEnd> {
     lanes::list(rt)?;
     codecs::list(rt)?;
     tree::list(rt)
 }
 
 /// Does a job.
-fn perform(rt: &HostRuntime, job: Measurement<'_>) -> Result<(), ProgramFailure> {
+fn perform(rt: &HostRuntime, job: Measurement<'_>) -> Result<(), EarlyEnd> {
     match job {
         Measurement::List => list(rt),
         Measurement::Lanes => lanes::measure(rt),
@@ -65,7 +65,7 @@ fn attempt(rt: &HostRuntime) -> u8 {
             Err(error) => told(rt, &error),
         },
         Err(error) => {
-            let failure = ProgramFailure::from(error);
+            let failure = EarlyEnd::from(error);
             let _ = eprintln!(rt; "speed: {failure}");
             failure.status()
         }

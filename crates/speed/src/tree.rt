@@ -1,7 +1,7 @@
 //! How many nodes a search visits in a tree of items, and how long edits and searches take.
 
 use crate::fastest::Fastest;
-use index_files::ProgramFailure;
+use index_files::EarlyEnd;
 use oracle::tree::{Items, LoadAxis, light, put, take};
 use rand::rngs::SmallRng;
 use rand::{RngExt, SeedableRng};
@@ -19,7 +19,7 @@ const ROUNDS: usize = 20;
 const STEPS: usize = 1000;
 
 /// Prints how many nodes a search visits, and how to measure.
-pub fn list(rt: &HostRuntime) -> Result<(), ProgramFailure> {
+pub fn list(rt: &HostRuntime) -> Result<(), EarlyEnd> {
     for count in &SIZES {
         let items = grown(rt.alloc(), *count)?;
         let (fewest, most) = visited(&items);
@@ -30,7 +30,7 @@ pub fn list(rt: &HostRuntime) -> Result<(), ProgramFailure> {
 }
 
 /// Prints what each step costs.
-pub fn measure(rt: &HostRuntime) -> Result<(), ProgramFailure> {
+pub fn measure(rt: &HostRuntime) -> Result<(), EarlyEnd> {
     for count in &SIZES {
         let mut items = grown(rt.alloc(), *count)?;
         measure_one(rt, &mut items)?;
@@ -40,7 +40,7 @@ pub fn measure(rt: &HostRuntime) -> Result<(), ProgramFailure> {
 
 /// Prints what each step costs in a list: the fastest of some rounds of a thousand finds, inserts
 /// and removes.
-fn measure_one(rt: &HostRuntime, items: &mut Items) -> Result<(), ProgramFailure> {
+fn measure_one(rt: &HostRuntime, items: &mut Items) -> Result<(), EarlyEnd> {
     let count = items.len();
     let mut rng = SmallRng::seed_from_u64(2);
     let (mut find, mut insert, mut remove) = (Fastest::new(), Fastest::new(), Fastest::new());
