@@ -1,4 +1,4 @@
-//! The desk: what it holds, and the table of its ops, each of which has a file of its own here.
+//! The desk: what it holds, and the table of its ops, each of which has a file of its own in `ops/`.
 ghost use Rattle.std.specs.Prelude.{◌≡◌, ◌≤◌, false, length, Ok};
 ghost use Rattle.std.specs.FinMap as map;
 ghost use Rattle.enc_names.specs.Settings.{setting_of};
