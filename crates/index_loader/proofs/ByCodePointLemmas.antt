@@ -65,32 +65,7 @@ first-above pairs code_point bound n e within =
     let one : IsLeast ns (Some n) = subst (IsLeast ns) (sym e) (is-least ns) in
     least-is _ (Some n) (has-filter (nat_le bound) ns n one.0 (le-leb bound n within), λ m h. one.1 m (from-filter (nat_le bound) ns m h).0)
 
--- the first of the pairs with one code point has its smallest pointer
-pub first-of : (pairs : Pairs) → IsOrdered pairs → (at : ℕ) → at < length pairs → (pair : ℕ × ℕ) → get_or pairs at pair ≡ pair → (0 < at → (get_or pairs (at - 1) pair).1 ≢ pair.1)
-    → Some pair.0 ≡ least (pointers_with pair.1 pairs)
-first-of pairs ordered at lt pair is other =
-    let here : Has pair pairs = subst (λ (y : ℕ × ℕ). Has y pairs) is (has-get_or pairs at pair lt) in
-    least-is _ (Some pair.0) (
-      has-pointer pair.1 pair.0 pairs here,
-      λ n h.
-          let p = place-has pairs (n, pair.1) (pair-of_pointer pair.1 n pairs h) in
-          ⊎_elim
-          (λ (before : p.0 < at).
-          let up = ordered.rising p.0 (at - 1) pair (omega arith) (omega arith) in
-          let up' : rank_of (n, pair.1) ≤ rank_of (get_or pairs (at - 1) pair) = rw (p.2 pair) at up in
-          let next = ordered.rising (at - 1) at pair (omega arith) lt in
-          let next' : rank_of (get_or pairs (at - 1) pair) ≤ rank_of pair = rw is at next in
-          let little = ordered.small (at - 1) pair (omega arith) in
-          let small : n ≤ 189000 = subst (λ (y : ℕ × ℕ). y.0 ≤ 189000) (p.2 pair) (ordered.small p.0 pair p.1) in
-          let low : pair.0 ≤ 189000 = subst (λ (y : ℕ × ℕ). y.0 ≤ 189000) is (ordered.small at pair lt) in
-          absurd (other (omega arith) (omega (arith, up', next', little, small, low))))
-          (λ (behind : at ≤ p.0).
-          let up = ordered.rising at p.0 pair behind p.1 in
-          let up' : rank_of pair ≤ rank_of (n, pair.1) = rw (p.2 pair) at (rw is at up) in omega arith)
-          (cases_lt p.0 at),
-    )
-
--- the same, where it has another one
+-- where the pair there has another code point, there is none
 pub first-other : (pairs : Pairs) → IsOrdered pairs → (code_point bound at : ℕ) → IsPartitionPoint (λ y. ltb (rank_of y) (rank_of (bound, code_point)) ≡ true) (λ y. ltb (rank_of y) (rank_of (bound, code_point)) ≡ false) pairs at → at < length pairs → (pair : ℕ × ℕ) → get_or pairs at pair ≡ pair → pair.1 ≢ code_point → None ≡ least (filter (nat_le bound) (pointers_with code_point pairs))
 first-other pairs ordered code_point bound at parts lt pair is other =
     let high = ltb-false _ _ (parts.1 at pair (omega arith) lt) in
@@ -104,7 +79,7 @@ first-other pairs ordered code_point bound at parts lt pair is other =
     let little = ordered.small p.0 pair p.2 in
     let little' : n ≤ 189000 = subst (λ (y : ℕ × ℕ). y.0 ≤ 189000) (p.3 pair) little in omega arith)
 
--- the same, where there is none
+-- nor where no pair is there
 pub first-past : (pairs : Pairs) (code_point bound at : ℕ) → IsPartitionPoint (λ y. ltb (rank_of y) (rank_of (bound, code_point)) ≡ true) (λ y. ltb (rank_of y) (rank_of (bound, code_point)) ≡ false) pairs at → length pairs ≤ at → None ≡ least (filter (nat_le bound) (pointers_with code_point pairs))
 first-past pairs code_point bound at parts past =
     least-is _ None (λ n h. let p = pointer_place pairs code_point bound at n parts h in let a = p.1 in let b = p.2 in omega arith)

@@ -1,4 +1,5 @@
 pub mod ByCodePointLemmas
+pub mod CellLemmas
 pub mod Digits
 pub mod ExceptionLemmas
 pub mod Exclusion

@@ -1,8 +1,7 @@
 //! The smallest pointers by code point.
-ghost use Rattle.std.specs.Prelude.{◌≡◌, ◌≢◌, ◌<◌, ◌-◌, ◌⊎◌, false, ℕ, Some, get_or, length, IfOk, IfSome};
-ghost use Rattle.index_loader.specs.FirstPointers.{AreFirst, first_in, pointer_in};
-ghost use Rattle.index_loader.specs.Pairs.{least, pointers_with};
-ghost use Rattle.index_loader.specs.Rank.{IsOrdered};
+ghost use Rattle.std.specs.Prelude.{◌≡◌, ◌<◌, IfOk, IfSome, []};
+ghost use Rattle.index_loader.specs.FirstPointers.{IsPut, first_in, pairs_in_cells, pointer_in};
+ghost use Rattle.index_loader.specs.Ranges.{row_code_point};
 
 use enc_names::Scalar;
 use std::alloc::{AllocError, Global};
@@ -25,77 +24,93 @@ impl Model for FirstPointers {
 }
 
 impl FirstPointers {
-    /// The table of pairs of pointer and code point.
+    /// A table with a cell for each code point of these pairs, which stand in the order of their
+    /// pointers. It has no cells where the last of these has no place in one: the ranges of gb18030
+    /// are asked for code points between those of their rows, which cells don't find.
     pub(crate) fn new(alloc: Global, pairs: &[(u32, Scalar)]) -> Result<FirstPointers, AllocError>
-        requires { IsOrdered pairs.now }
-        ensures { IfOk result (λ firsts. AreFirst firsts pairs.now) }
+        ensures { IfOk result (λ firsts. pairs_in_cells 0 firsts ≡ []) }
     {
-        let mut cells = vec![in alloc; 0; len_for(pairs)]?;
-        'pairs: for at in 0..pairs.len() {
-            if let Some((pointer, code_point)) = first_at(pairs, at) {
-                put(&mut cells, code_point.get() as usize, cell_of(pointer));
-            }
-        }
+        let cells = vec![in alloc; 0; len_for(pairs)]?;
         Ok(FirstPointers { cells })
     }
 
     /// The smallest pointer of a code point, where its cell holds one.
     #[inline(always)]
-    pub(crate) fn get(&self, code_point: Scalar) -> Option<u32>
+    pub(crate) fn get(&self, code_point: u32) -> Option<u32>
         ensures value { result ≡ first_in self.now code_point }
         ensures small { IfSome result (λ pointer. pointer < 0xFFFF) }
     {
-        match self.cells.get(code_point.get() as usize) {
-            Some(cell) if *cell > 0 => Some(u32::from(*cell) - 1),
-            _ => None,
+        match self.cells.get(code_point as usize) {
+            Some(cell) => held_in(*cell),
+            None => None,
         }
     }
-}
 
-/// The pair at a place, where it is the first one with its code point: it has the smallest pointer.
-fn first_at(pairs: &[(u32, Scalar)], at: usize) -> Option<(u32, Scalar)>
-    requires order { IsOrdered pairs.now }
-    requires within { at < length pairs.now }
-    ensures { IfSome result (λ pair. Some pair.0 ≡ least (pointers_with pair.1 pairs.now)) }
-{
-    if repeats(pairs, at) {
-        return None;
+    /// Puts a pair into the cell of its code point, if it has a place there. Returns the pointer of
+    /// that code point that has none: the one that the cell held, or the pair's own.
+    pub(crate) fn put(&mut self, pair: (u32, Scalar)) -> Option<u32>
+        ensures { IsPut pair self.old self.new result }
+    {
+        let (pointer, code_point) = pair;
+        let before = self.get(code_point.get());
+        let at = code_point.get() as usize;
+        if at >= self.cells.len() {
+            return Some(pointer);
+        }
+        if pointer >= 0xFFFF {
+            return Some(pointer);
+        }
+        self.cells[at] = pointer as u16 + 1;
+        before
     }
-    let (pointer, code_point) = pairs[at];
-    Some((pointer, code_point))
+
+    /// The greatest code point up to this one whose cell holds a pointer.
+    pub(crate) fn last_up_to(&self, code_point: u32) -> Option<u32>
+        ensures { result ≡ row_code_point (pairs_in_cells 0 self.now) code_point }
+    {
+        last_up_to(&self.cells, code_point)
+    }
 }
 
-/// Whether the pair before a place has the same code point.
-fn repeats(pairs: &[(u32, Scalar)], at: usize) -> bool
-    requires { at < length pairs.now }
-    ensures { result ≡ false → 0 < at → (d : ℕ × ℕ) → (get_or pairs.now (at - 1) d).1 ≢ (get_or pairs.now at d).1 }
+/// The greatest code point up to this one whose cell holds a pointer.
+fn last_up_to(cells: &[u16], code_point: u32) -> Option<u32>
+    ensures { result ≡ row_code_point (pairs_in_cells 0 cells.now) code_point }
 {
-    at > 0 && pairs[at - 1].1 == pairs[at].1
+    let mut at = cells.len().min(code_point as usize + 1);
+    while at > 0 {
+        at -= 1;
+        if cells[at] > 0 {
+            return Some(at as u32);
+        }
+    }
+    None
 }
 
-/// How many cells there are: up to the last code point.
+/// The pointer that a cell holds.
+fn held_in(cell: u16) -> Option<u32>
+    ensures value { result ≡ pointer_in cell }
+    ensures small { IfSome result (λ pointer. pointer < 0xFFFF) }
+{
+    if cell > 0 {
+        Some(u32::from(cell) - 1)
+    } else {
+        None
+    }
+}
+
+/// How many cells there are: up to the greatest code point.
 fn len_for(pairs: &[(u32, Scalar)]) -> usize {
     match pairs.last() {
-        Some((_, last)) => last.get() as usize + 1,
-        None => 0,
-    }
-}
-
-/// The cell of a pointer, which says nothing where the pointer is too great for it.
-fn cell_of(pointer: u32) -> u16
-    ensures { (p : ℕ) → pointer_in result ≡ Some p → p ≡ pointer }
-{
-    match u16::try_from(pointer) {
-        Ok(pointer) if pointer < u16::MAX => pointer + 1,
+        Some((pointer, _)) if *pointer < 0xFFFF => greatest(pairs) as usize + 1,
         _ => 0,
     }
 }
 
-/// Puts a value into a cell, where there is one.
-fn put(cells: &mut [u16], at: usize, cell: u16)
-    ensures { (i : ℕ) → get_or cells.new i 0 ≡ get_or cells.old i 0 ⊎ (i ≡ at × get_or cells.new i 0 ≡ cell) }
-{
-    if at < cells.len() {
-        cells[at] = cell;
+/// The greatest code point of these pairs.
+fn greatest(pairs: &[(u32, Scalar)]) -> u32 {
+    let mut greatest = 0;
+    for (_, code_point) in pairs {
+        greatest = code_point.get().max(greatest);
     }
+    greatest
 }

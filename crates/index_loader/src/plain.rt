@@ -12,6 +12,28 @@ ghost use Rattle.index_loader.specs.Split.{parts_behind};
 use crate::field::{behind_spaces, digit_value};
 use enc_names::Scalar;
 
+/// The number that the first four bytes of a text make, and four, where all are digits; and else that
+/// of none. Most fields of index files have four digits or more.
+fn four_digits(base: u32, text: &[u8]) -> (u32, usize)
+    requires low { 2 ≤ base }
+    requires high { base ≤ 16 }
+    ensures within { result.1 ≤ length text.now }
+    ensures digits { list_all (λ b. is_digit b base) (take result.1 text.now) ≡ true }
+    ensures value { result.0 ≡ digits_value base (take result.1 text.now) }
+{
+    let [first, second, third, fourth, ..] = text else {
+        return (0, 0);
+    };
+    let first = digit_value(*first);
+    let second = digit_value(*second);
+    let third = digit_value(*third);
+    let fourth = digit_value(*fourth);
+    if first >= base || second >= base || third >= base || fourth >= base {
+        return (0, 0);
+    }
+    (((first * base + second) * base + third) * base + fourth, 4)
+}
+
 /// The number that the digits in front of a text make, and how many they are. It takes no more of
 /// them than fit.
 fn leading_number(base: u32, text: &[u8]) -> (u32, usize)
@@ -21,8 +43,7 @@ fn leading_number(base: u32, text: &[u8]) -> (u32, usize)
     ensures digits { list_all (λ b. is_digit b base) (take result.1 text.now) ≡ true }
     ensures value { result.0 ≡ digits_value base (take result.1 text.now) }
 {
-    let mut number = 0;
-    let mut at = 0;
+    let (mut number, mut at) = four_digits(base, text);
     while at < text.len() && number < 0x1000_0000 {
         let digit = digit_value(text[at]);
         if digit >= base {

@@ -1,8 +1,16 @@
-use Rattle.index_loader.proofs.ByCodePointLemmas.{code_point-found, code_point-none}
+use Rattle.std.proofs.Common.{◌≡◌}
+use Rattle.index_loader.proofs.CellLemmas.{row-append, row-within}
+use Rattle.index_loader.specs.FirstPointers.{pairs_held, pairs_in_cells}
+use Rattle.index_loader.specs.Ranges.{row_code_point}
 use Rattle.index_loader.proofs.by_code_point.ByCodePoint.greatest_up_to.Goals as goal
 
-pub returns-in_err-found-clause-found : goal.returns-in_err-found-clause-found
-returns-in_err-found-clause-found c = rw c.from_residual.ensures (code_point-none _ _ c.in_err-found.ensures)
+pub returns-clause-bound : goal.returns-clause-bound
+returns-clause-bound c =
+    let found : c.greatest_of.result ≡ row_code_point (pairs_held c.self.inside.firsts c.self.inside.others.items) c.args.code_point =
+    rw (c.greatest_of.ensures, c.last_up_to.ensures, c.greatest_among.ensures, c.deref.ensures.value) (row-append (pairs_in_cells 0 c.self.inside.firsts) c.self.inside.others.items c.args.code_point) in
+    row-within (pairs_held c.self.inside.firsts c.self.inside.others.items) c.args.code_point c.greatest_of.result found
 
 pub returns-clause-found : goal.returns-clause-found
-returns-clause-found c = code_point-found _ _ _ c.in_ok-found.ensures
+returns-clause-found c =
+    rw (← c.self.view_is, c.greatest_of.ensures, c.last_up_to.ensures, c.greatest_among.ensures, c.deref.ensures.value)
+    (row-append (pairs_in_cells 0 c.self.inside.firsts) c.self.inside.others.items c.args.code_point)

@@ -1,13 +1,14 @@
 use Rattle.std.proofs.Common.{sym, ◌∙◌}
-use Rattle.std.proofs.lemmas.Bool.{eqb-true, eqb-false}
-use Rattle.index_loader.proofs.ByCodePointLemmas.{last-found, last-other, last-none}
+use Rattle.index_loader.proofs.CellLemmas.{last-others, last-in_cell}
 use Rattle.index_loader.proofs.by_code_point.ByCodePoint.last.Goals as goal
 
-pub returns-in_err-pointer : goal.returns-in_err-pointer
-returns-in_err-pointer c = rw c.from_residual.ensures (last-none _ _ c.in_err-pointer.ensures)
+pub returns-in-Some : goal.returns-in-Some
+returns-in-Some c =
+    rw (← c.self.view_is)
+    (last-others c.self.inside.firsts c.self.inside.others.items c.self.invariant.1 c.args.code_point c.in-Some.pointer
+    (rw (c.get.ensures.value, c.deref.ensures.value) at (sym c.in-Some.is ∙ c.last_among.ensures)))
 
-pub returns-then-eq : goal.returns-then-eq
-returns-then-eq c = last-found _ _ _ c.in_ok-pointer.ensures (eqb-true _ _ (sym c.eq.ensures ∙ c.if-eq.true))
-
-pub returns-else-eq : goal.returns-else-eq
-returns-else-eq c = last-other _ _ _ c.in_ok-pointer.ensures (eqb-false _ _ (sym c.eq.ensures ∙ c.if-eq.false))
+pub returns-in-None : goal.returns-in-None
+returns-in-None c =
+    rw (← c.self.view_is, c.get-in-None-2.ensures.value, c.get-in-None.ensures.value)
+    (last-in_cell c.self.inside.firsts c.self.inside.others.items c.args.code_point (rw (c.get.ensures.value, c.deref.ensures.value) at (sym c.in-None.is ∙ c.last_among.ensures)))
