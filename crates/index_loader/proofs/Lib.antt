@@ -2,6 +2,7 @@ pub mod ByCodePointLemmas
 pub mod Digits
 pub mod ExceptionLemmas
 pub mod Exclusion
+pub mod FormLemmas
 pub mod Found
 pub mod FileLawLemmas
 pub mod IndexLemmas
