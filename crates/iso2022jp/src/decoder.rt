@@ -12,8 +12,7 @@ use crate::output::{OutputState, escape_to};
 use crate::state::{DecoderState, Iso2022JpState};
 use decoder_core::forms::{finish, give, hold, restore};
 use decoder_core::{AsciiRuns, Characters, Few, Handled, Handler, Item};
-use enc_names::Scalar;
-use index_loader::Index;
+use index_loader::{Index, Utf8Form};
 use std::marker::Model;
 
 /// The Standard's state lead byte.
@@ -42,24 +41,24 @@ impl<'i> Iso2022JpDecoder<'i> {
         Iso2022JpDecoder { jis0208 }
     }
 
-    /// The code point of a lead byte and the byte after it.
+    /// The UTF-8 form of the code point of a lead byte and the byte after it.
     // In the loop over the bytes.
     #[inline(always)]
-    fn code_point(&self, lead: u8, byte: u8) -> Option<Scalar>
+    fn form(&self, lead: u8, byte: u8) -> Utf8Form
         ensures { pair_item (code_point_of self.now) lead byte ≡ one_or_error result }
     {
         if !is_pair_byte(byte) {
-            return None;
+            return Utf8Form::none();
         }
         let row = u32::from(lead.saturating_sub(0x21));
-        self.jis0208.code_point(row * 94 + u32::from(byte - 0x21))
+        self.jis0208.form(row * 94 + u32::from(byte - 0x21))
     }
 
     /// The item of a lead byte and the byte after it.
     fn pair(&self, lead: u8, byte: u8) -> Item
         ensures { result ≡ pair_item (code_point_of self.now) lead byte }
     {
-        one_or_error(self.code_point(lead, byte))
+        one_or_error(self.form(lead, byte).code_point())
     }
 }
 
@@ -142,11 +141,12 @@ impl<'i> Handler for Iso2022JpDecoder<'i> {
 
     // In the loop over the bytes. Behind an escape the flag is set until the first pair is read.
     #[inline(always)]
-    fn known_pair(&self, state: Iso2022JpState, lead: u8, trail: u8) -> Option<Scalar> {
+    fn known_pair(&self, state: Iso2022JpState, lead: u8, trail: u8) -> Utf8Form {
         match (state.state, state.flag) {
-            (DecoderState::Ready(OutputState::Jis0208), false) if is_pair_byte(lead) =>
-                self.code_point(lead, trail),
-            _ => None,
+            (DecoderState::Ready(OutputState::Jis0208), false) if is_pair_byte(lead) => self.form(
+                lead, trail,
+            ),
+            _ => Utf8Form::none(),
         }
     }
 

@@ -11,8 +11,7 @@ ghost use Rattle.multibyte_decoders.specs.Holdings.{euc_jp_holding};
 use crate::turns::{ascii_item, begin, complete, one_of};
 use decoder_core::forms::{finish, give, give_one, hold};
 use decoder_core::{AsciiRuns, Characters, Handled, Handler, Item};
-use enc_names::Scalar;
-use index_loader::Index;
+use index_loader::{Index, Utf8Form};
 use std::marker::Model;
 
 /// Where the EUC-JP decoder stands between two bytes.
@@ -70,17 +69,17 @@ impl<'i> EucJpDecoder<'i> {
     }
 }
 
-/// The code point of a pair in one of the two indexes.
+/// The UTF-8 form of the code point of a pair in one of the two indexes.
 // In the loop over the bytes.
 #[inline(always)]
-fn pair(index: &Index, lead: u8, byte: u8) -> Option<Scalar>
+fn pair(index: &Index, lead: u8, byte: u8) -> Utf8Form
     ensures { result ≡ euc_jp_pair (code_point_of index.now) lead byte }
 {
     match (lead, byte) {
         (0xA1..=0xFE, 0xA1..=0xFE) => {
-            index.code_point(u32::from(lead - 0xA1) * 94 + u32::from(byte - 0xA1))
+            index.form(u32::from(lead - 0xA1) * 94 + u32::from(byte - 0xA1))
         }
-        _ => None,
+        _ => Utf8Form::none(),
     }
 }
 
@@ -110,10 +109,10 @@ impl<'i> Handler for EucJpDecoder<'i> {
 
     // In the loop over the bytes.
     #[inline(always)]
-    fn known_pair(&self, state: EucJpState, lead: u8, trail: u8) -> Option<Scalar> {
+    fn known_pair(&self, state: EucJpState, lead: u8, trail: u8) -> Utf8Form {
         match (state, lead) {
             (EucJpState::Idle, 0xA1..=0xFE) => pair(self.jis0208, lead, trail),
-            _ => None,
+            _ => Utf8Form::none(),
         }
     }
 

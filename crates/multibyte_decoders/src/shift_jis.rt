@@ -8,8 +8,7 @@ use crate::pairs::{PairDecoder, PairRules};
 use crate::turns::one_of;
 use decoder_core::Item;
 use decoder_core::forms::scalar;
-use enc_names::Scalar;
-use index_loader::Index;
+use index_loader::{Index, Utf8Form};
 
 /// The Shift_JIS decoder (Encoding Standard, "Shift_JIS decoder"), which borrows index jis0208. Contracts see the
 /// index.
@@ -18,15 +17,15 @@ pub type ShiftJisDecoder<'i> = PairDecoder<'i, ShiftJisRules>;
 /// What Shift_JIS says of its single bytes and pairs.
 pub enum ShiftJisRules {}
 
-/// The code point of a pointer.
+/// The UTF-8 form of the code point of a pointer.
 // In the loop over the bytes.
 #[inline(always)]
-fn entry(index: &Index, pointer: u32) -> Option<Scalar>
+fn entry(index: &Index, pointer: u32) -> Utf8Form
     ensures { result ≡ shift_jis_code_point (code_point_of index.now) pointer }
 {
     match pointer {
-        8836..=10715 => Some(scalar(0xE000 - 8836 + pointer)),
-        _ => index.code_point(pointer),
+        8836..=10715 => Utf8Form::new(scalar(0xE000 - 8836 + pointer)),
+        _ => index.form(pointer),
     }
 }
 
@@ -98,11 +97,11 @@ impl PairRules for ShiftJisRules {
 
     // In the loop over the bytes.
     #[inline(always)]
-    fn code_point(index: &Index, lead: u8, byte: u8) -> Option<Scalar> {
+    fn form(index: &Index, lead: u8, byte: u8) -> Utf8Form {
         if is_trail(byte) {
             entry(index, pointer(lead, byte))
         } else {
-            None
+            Utf8Form::none()
         }
     }
 
