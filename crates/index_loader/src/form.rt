@@ -47,22 +47,13 @@ impl Utf8Form {
         }
     }
 
-    /// The code point.
-    pub fn code_point(self) -> Option<Scalar>
-        ensures { result ≡ self }
+    /// The form of what was looked up.
+    pub fn of(found: Option<Scalar>) -> Utf8Form
+        ensures { result ≡ found }
     {
-        let n = self.number;
-        match n / 0x100_0000 {
-            0 => None,
-            1 => Scalar::new(n % 0x80),
-            2 => Scalar::new(n % 0x40 * 0x40 + n / 0x100 % 0x40),
-            3 => Scalar::new(n % 0x10 * 0x1000 + n / 0x100 % 0x40 * 0x40 + n / 0x1_0000 % 0x40),
-            last => Scalar::new(
-                n % 0x10 * 0x4_0000
-                    + n / 0x100 % 0x40 * 0x1000
-                    + n / 0x1_0000 % 0x40 * 0x40
-                    + last % 0x40,
-            ),
+        match found {
+            Some(code_point) => Utf8Form::new(code_point),
+            None => Utf8Form::none(),
         }
     }
 

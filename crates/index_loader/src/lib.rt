@@ -11,6 +11,7 @@ mod field;
 mod files;
 mod first_pointers;
 mod form;
+mod form_table;
 mod index;
 mod indexes;
 mod kind;

@@ -7,11 +7,10 @@ use enc_names::Scalar;
 use std::alloc::{AllocError, Global};
 use std::marker::Model;
 
-/// The code point of each pointer from 0 on, where there is one, kept as its UTF-8 form, which is
-/// what decoding writes. Contracts see the list of places.
+/// The code point of each pointer from 0 on, where there is one. Contracts see the list of places.
 #[derive(Drop)]
 pub(crate) struct PointerTable {
-    places: Vec<Utf8Form>,
+    places: Vec<Option<Scalar>>,
 }
 
 impl Model for PointerTable {
@@ -27,7 +26,7 @@ impl PointerTable {
     pub(crate) fn new(alloc: Global, len: usize) -> Result<PointerTable, AllocError>
         ensures { IfOk result (λ table. table ≡ replicate len None) }
     {
-        let places = vec![in alloc; Utf8Form::none(); len]?;
+        let places = vec![in alloc; None; len]?;
         Ok(PointerTable { places })
     }
 
@@ -35,19 +34,7 @@ impl PointerTable {
     pub(crate) fn code_point(&self, pointer: u32) -> Option<Scalar>
         ensures { result ≡ slice_index_or self.now pointer None }
     {
-        self.form(pointer).code_point()
-    }
-
-    /// The UTF-8 form of a pointer's code point.
-    // In the loop over the bytes of a text.
-    #[inline(always)]
-    pub(crate) fn form(&self, pointer: u32) -> Utf8Form
-        ensures { result ≡ slice_index_or self.now pointer None }
-    {
-        match self.places.get(pointer as usize) {
-            Some(form) => *form,
-            None => Utf8Form::none(),
-        }
+        self.places.get(pointer as usize).copied().flatten()
     }
 
     /// Gives a pointer its code point.
@@ -55,7 +42,7 @@ impl PointerTable {
         requires { pointer < length self.old }
         ensures { self.new ≡ set self.old pointer (Some code_point) }
     {
-        self.places[pointer as usize] = Utf8Form::new(code_point);
+        self.places[pointer as usize] = Some(code_point);
     }
 
     /// The pairs of pointer and code point, in the order of the pointers.
@@ -65,18 +52,39 @@ impl PointerTable {
     {
         pairs_of_places(alloc, self.places.as_slice())
     }
+
+    /// The UTF-8 form of each pointer's code point.
+    pub(crate) fn forms(&self, alloc: Global) -> Result<Vec<Utf8Form>, AllocError>
+        ensures { IfOk result (λ forms. forms.items ≡ self.now) }
+    {
+        forms_of_places(alloc, self.places.as_slice())
+    }
 }
 
 /// The pairs of pointer and code point that stand in these places.
-fn pairs_of_places(alloc: Global, places: &[Utf8Form]) -> Result<Vec<(u32, Scalar)>, AllocError>
+fn pairs_of_places(
+    alloc: Global,
+    places: &[Option<Scalar>],
+) -> Result<Vec<(u32, Scalar)>, AllocError>
     requires { length places.now < 2 ^ 32 }
     ensures { IfOk result (λ pairs. pairs.items ≡ pairs_in places.now) }
 {
     let mut pairs = Vec::new(alloc);
     for (pointer, place) in places.iter().enumerate() {
-        if let Some(code_point) = place.code_point() {
-            pairs.push((pointer as u32, code_point))?;
+        if let Some(code_point) = place {
+            pairs.push((pointer as u32, *code_point))?;
         }
     }
     Ok(pairs)
+}
+
+/// The UTF-8 forms of what stands in these places.
+fn forms_of_places(alloc: Global, places: &[Option<Scalar>]) -> Result<Vec<Utf8Form>, AllocError>
+    ensures { IfOk result (λ forms. forms.items ≡ places.now) }
+{
+    let mut forms = Vec::with_capacity(alloc, places.len())?;
+    for place in places {
+        forms.push(Utf8Form::of(*place))?;
+    }
+    Ok(forms)
 }

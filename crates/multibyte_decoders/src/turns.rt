@@ -5,7 +5,7 @@ ghost use Rattle.multibyte_decoders.specs.Pairs.{ascii_item, begins, completes, 
 
 use decoder_core::forms::{give, hold, restore, scalar};
 use decoder_core::{Few, Handled, Item};
-use index_loader::Utf8Form;
+use enc_names::Scalar;
 
 /// An ASCII byte is itself, and all else an error.
 // In the loop over the bytes.
@@ -55,10 +55,10 @@ pub(crate) fn complete<S>(idle: S, item: Option<Item>, byte: u8) -> Handled<S>
 /// An item of one code point, where there is one.
 // In the loop over the bytes.
 #[inline(always)]
-pub(crate) fn one_of(found: Utf8Form) -> Option<Item>
+pub(crate) fn one_of(found: Option<Scalar>) -> Option<Item>
     ensures { result ≡ one_of found }
 {
-    match found.code_point() {
+    match found {
         Some(code_point) => Some(Item::One(code_point)),
         None => None,
     }

@@ -6,9 +6,9 @@ use Rattle.index_loader.proofs.table.pairs_of_places.Goals.{in-Some+in_ok-push, 
 
 pub loop-pointer-preserved : goal.loop-pointer-preserved
 loop-pointer-preserved c =
-    let read : c.code_point.result ≡ get_or c.args.places.now c.loop-pointer.pointer None =
-    c.code_point.ensures ∙ get_or_read _ _ _ c.loop-pointer-test.true c.index-places-pointer.is None in
-    elim c.match-code_point.branch [
+    let read : c.index-places-pointer.result ≡ get_or c.args.places.now c.loop-pointer.pointer None =
+    get_or_read _ _ _ c.loop-pointer-test.true c.index-places-pointer.is None in
+    elim c.match-place.branch [
       | in-Some+in_ok-push w ↦
           let here : get_or c.args.places.now c.loop-pointer.pointer None ≡ Some w.in-Some.code_point = sym read ∙ w.in-Some.is in
           rw (w.pairs-is, w.in_ok-push.ensures.items, c.loop-pointer.invariant) (sym (pairs_in-more_some _ _ _ c.loop-pointer-test.true here))
