@@ -1,5 +1,5 @@
 //! The ISO-2022-JP decoder.
-ghost use Rattle.std.specs.Prelude.{◌≡◌};
+ghost use Rattle.std.specs.Prelude.{◌≡◌, ◌+◌, ◌*◌, ◌-◌};
 ghost use Rattle.index_loader.specs.Index.{code_point_of};
 ghost use Rattle.decoder_core.specs.Steps.{bytes_of};
 ghost use Rattle.decoder_core.specs.Holding.{falls_of, counts_of};
@@ -12,6 +12,7 @@ use crate::output::{OutputState, escape_to};
 use crate::state::{DecoderState, Iso2022JpState};
 use decoder_core::forms::{finish, give, hold, restore};
 use decoder_core::{AsciiRuns, Characters, Few, Handled, Handler, Item};
+use enc_names::Scalar;
 use index_loader::{Index, Utf8Form};
 use std::marker::Model;
 
@@ -41,7 +42,19 @@ impl<'i> Iso2022JpDecoder<'i> {
         Iso2022JpDecoder { jis0208 }
     }
 
-    /// The UTF-8 form of the code point of a lead byte and the byte after it.
+    /// The code point of a lead byte and the byte after it.
+    // In the loop over the bytes.
+    #[inline(always)]
+    fn code_point(&self, lead: u8, byte: u8) -> Option<Scalar>
+        ensures { pair_item (code_point_of self.now) lead byte ≡ one_or_error result }
+    {
+        if !is_pair_byte(byte) {
+            return None;
+        }
+        self.jis0208.code_point(pointer(lead, byte))
+    }
+
+    /// Its UTF-8 form.
     // In the loop over the bytes.
     #[inline(always)]
     fn form(&self, lead: u8, byte: u8) -> Utf8Form
@@ -50,16 +63,24 @@ impl<'i> Iso2022JpDecoder<'i> {
         if !is_pair_byte(byte) {
             return Utf8Form::none();
         }
-        let row = u32::from(lead.saturating_sub(0x21));
-        self.jis0208.form(row * 94 + u32::from(byte - 0x21))
+        self.jis0208.form(pointer(lead, byte))
     }
 
     /// The item of a lead byte and the byte after it.
     fn pair(&self, lead: u8, byte: u8) -> Item
         ensures { result ≡ pair_item (code_point_of self.now) lead byte }
     {
-        one_or_error(self.form(lead, byte).code_point())
+        one_or_error(self.code_point(lead, byte))
     }
+}
+
+/// The pointer of a lead byte and the byte after it.
+// In the loop over the bytes.
+#[inline(always)]
+fn pointer(lead: u8, byte: u8) -> u32
+    ensures { result ≡ (lead - 0x21) * 94 + (byte - 0x21) }
+{
+    u32::from(lead.saturating_sub(0x21)) * 94 + u32::from(byte.saturating_sub(0x21))
 }
 
 /// Whether the byte is one of a pair.

@@ -30,7 +30,7 @@ fn item(index: &Index, pointer: u32) -> Option<Item>
         1135 => Some(Item::Two(scalar(0xCA), scalar(0x30C))),
         1164 => Some(Item::Two(scalar(0xEA), scalar(0x304))),
         1166 => Some(Item::Two(scalar(0xEA), scalar(0x30C))),
-        _ => one_of(index.form(pointer)),
+        _ => one_of(index.code_point(pointer)),
     }
 }
 

@@ -49,7 +49,7 @@ impl PairRules for EucKrRules {
     #[inline(always)]
     fn pair(index: &Index, lead: u8, byte: u8) -> Option<Item> {
         match byte {
-            0x41..=0xFE => one_of(index.form(pointer(lead, byte))),
+            0x41..=0xFE => one_of(index.code_point(pointer(lead, byte))),
             _ => None,
         }
     }

@@ -11,6 +11,7 @@ ghost use Rattle.multibyte_decoders.specs.Holdings.{gb18030_holding};
 use crate::turns::{ascii_item, begin, complete, one_of};
 use decoder_core::forms::{finish, found, give, hold, restore, scalar};
 use decoder_core::{AsciiRuns, Characters, Few, Handled, Handler, Item};
+use enc_names::Scalar;
 use index_loader::{Index, Utf8Form};
 use std::marker::Model;
 
@@ -55,10 +56,23 @@ impl<'i> Gb18030Decoder<'i> {
         Gb18030Decoder { index, ranges }
     }
 
+    /// The code point of two bytes.
+    // In the loop over the bytes.
+    #[inline(always)]
+    fn pair(&self, first: u8, byte: u8) -> Option<Scalar>
+        ensures { result ≡ gb18030_pair (code_point_of self.now.index) first byte }
+    {
+        if is_trail(byte) {
+            self.index.code_point(pointer(first, byte))
+        } else {
+            None
+        }
+    }
+
     /// The UTF-8 form of the code point of two bytes.
     // In the loop over the bytes.
     #[inline(always)]
-    fn pair(&self, first: u8, byte: u8) -> Utf8Form
+    fn form(&self, first: u8, byte: u8) -> Utf8Form
         ensures { result ≡ gb18030_pair (code_point_of self.now.index) first byte }
     {
         if is_trail(byte) {
@@ -147,7 +161,7 @@ impl<'i> Handler for Gb18030Decoder<'i> {
     #[inline(always)]
     fn known_pair(&self, state: Gb18030State, lead: u8, trail: u8) -> Utf8Form {
         match (state, lead) {
-            (Gb18030State::Idle, 0x81..=0xFE) => self.pair(lead, trail),
+            (Gb18030State::Idle, 0x81..=0xFE) => self.form(lead, trail),
             _ => Utf8Form::none(),
         }
     }
