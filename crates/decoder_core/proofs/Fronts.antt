@@ -4,7 +4,9 @@ use Rattle.std.proofs.Math.Seq.{take-add}
 use Rattle.std.specs.Char.{len_utf8, IsScalar, encode_utf8}
 use Rattle.std.specs.Simd.Lanes.{put_chunk}
 use Rattle.std.specs.Str.{chars, IsUtf8}
-use Rattle.std.proofs.lemmas.Bool.{lt-ltb, le-ltb, ltb-true}
+use Rattle.std.proofs.lemmas.Bool.{lt-ltb, le-ltb, ltb-true, leb-true}
+use Rattle.std.proofs.Math.Utf8.{low_scalar}
+use Rattle.index_loader.specs.Form.{IsFormPut, is_wide}
 use Rattle.std.proofs.lemmas.Int.{ints}
 use Rattle.std.proofs.lemmas.List.{length-take-le, drop_more}
 use Rattle.std.proofs.lemmas.Simd.{take_more_put_chunk}
@@ -15,7 +17,7 @@ use Rattle.decoder_core.specs.declared.bulk.Stride.TheVariants.{Pairs, Bytes}
 use Rattle.decoder_core.specs.declared.item.Item.TheVariants.{One}
 use Rattle.decoder_core.specs.AsciiRuns.{TakesAscii}
 use Rattle.decoder_core.specs.Bulk.{IsBulk, width_of, run_width, plain_from}
-use Rattle.decoder_core.specs.Fronts.{TakesByte, TakesPair, IsFront, IsPairPut}
+use Rattle.decoder_core.specs.Fronts.{TakesByte, TakesPair, IsFront, IsFrontPut}
 use Rattle.decoder_core.specs.Queue.{Table, Falls, Fed, feed}
 use Rattle.decoder_core.specs.Shown.{Shown, shown_from}
 use Rattle.decoder_core.proofs.Running.{feed-nil, feed-append}
@@ -64,14 +66,24 @@ wide-by false c e =
     let two : width_of Pairs c ≡ 2 = rw e refl in
     omega (arith, few, two)
 
-pub few-pairs : (written at c got width end : ℕ) → got ≡ c → written ≤ 2 * at → width ≡ width_of Pairs c → end ≡ written + len_utf8 got → end ≤ 2 * (at + width)
+few-pairs : (written at c got width end : ℕ) → got ≡ c → written ≤ 2 * at → width ≡ width_of Pairs c → end ≡ written + len_utf8 got → end ≤ 2 * (at + width)
 few-pairs written at c got width end same few wide end_is =
     let one = wide-by (nat_lt c 0x80) c refl in
     let length_is : len_utf8 got ≡ len_utf8 c = ap len_utf8 same in
     omega (arith, few, wide, end_is, one, length_is)
 
-pub few-bytes : (written at got end : ℕ) → written ≤ 4 * at → end ≡ written + len_utf8 got → end ≤ 4 * (at + 1)
+few-bytes : (written at got end : ℕ) → written ≤ 4 * at → end ≡ written + len_utf8 got → end ≤ 4 * (at + 1)
 few-bytes written at got end few end_is = let most = len_utf8_bounds got in omega (arith, few, end_is, most)
+
+-- what holds of a code point that is there
+of-some : (P : ℕ → Type 0) (o : Option ℕ) (c : ℕ) → IfSome o P → o ≡ Some c → P c
+of-some P o c all is = subst (λ (p : Option ℕ). IfSome p P) is all
+
+-- a code point of a wide form isn't ASCII
+wide-above : (o : Option ℕ) (c : ℕ) → is_wide o ≡ true → o ≡ Some c → 0x80 ≤ c
+wide-above o c wide is =
+    let e : is_wide (Some c) ≡ true = subst (λ (p : Option ℕ). is_wide p ≡ true) is wide in
+    leb-true 0x80 c e
 
 module _ {S : Type 0} (table : Table S) (f : Falls table) (s : S) where
   -- a byte
@@ -95,20 +107,15 @@ module _ {S : Type 0} (table : Table S) (f : Falls table) (s : S) where
       }
 
   -- an ASCII byte, between pairs and between bytes
-  pub ascii-pair : (bytes : List ℕ) (at c : ℕ) → TakesAscii table s All → at < length bytes → c ≡ get_or bytes at 0 → c < 0x80 → IsFront table s Pairs bytes at c 1
+  ascii-pair : (bytes : List ℕ) (at c : ℕ) → TakesAscii table s All → at < length bytes → c ≡ get_or bytes at 0 → c < 0x80 → IsFront table s Pairs bytes at c 1
   ascii-pair bytes at c takes within c_is low = byte-front Pairs bytes at c c (takes c low) within c_is (rw (lt-ltb c 0x80 low) refl)
 
-  pub ascii-byte : (bytes : List ℕ) (at c : ℕ) → TakesAscii table s All → at < length bytes → c ≡ get_or bytes at 0 → c < 0x80 → IsFront table s Bytes bytes at c 1
+  ascii-byte : (bytes : List ℕ) (at c : ℕ) → TakesAscii table s All → at < length bytes → c ≡ get_or bytes at 0 → c < 0x80 → IsFront table s Bytes bytes at c 1
   ascii-byte bytes at c takes within c_is low = byte-front Bytes bytes at c c (takes c low) within c_is refl
 
   -- another byte
   known-byte : (bytes : List ℕ) (at c : ℕ) → TakesByte table s (get_or bytes at 0) c → at < length bytes → IsFront table s Bytes bytes at c 1
   known-byte bytes at c turn within = byte-front Bytes bytes at (get_or bytes at 0) c turn within refl refl
-
-  pub known-bytes : (bytes : List ℕ) (at : ℕ) → at < length bytes → (o : Option ℕ) → IfSome o (λ (c : ℕ). TakesByte table s (get_or bytes at 0) c)
-      → IfSome o (λ (c : ℕ). IsFront table s Bytes bytes at c 1)
-  known-bytes bytes at within (Some c) turn = known-byte bytes at c turn within
-  known-bytes bytes at within None turn = turn
 
   -- no item yet
   pub none-more : (stride : Stride) (bytes block : List ℕ) → IsBulk table s bytes (record { taken = 0; written = 0; stride = stride }) block
@@ -122,7 +129,7 @@ module _ {S : Type 0} (table : Table S) (f : Falls table) (s : S) where
   }
 
   -- a pair
-  pub pair-front : (bytes : List ℕ) (at c : ℕ) → TakesPair table s (get_or bytes at 0) (get_or bytes (at + 1) 0) c → at + 1 < length bytes → 0x80 ≤ c
+  pair-front : (bytes : List ℕ) (at c : ℕ) → TakesPair table s (get_or bytes at 0) (get_or bytes (at + 1) 0) c → at + 1 < length bytes → 0x80 ≤ c
       → IsFront table s Pairs bytes at c 2
   pair-front bytes at c takes within high =
       let b = get_or bytes at 0 in
@@ -149,22 +156,18 @@ module _ {S : Type 0} (table : Table S) (f : Falls table) (s : S) where
   -- one item more
   front-more : (stride : Stride) (bytes block new : List ℕ) (at written c width end : ℕ)
       → IsBulk table s bytes (record { taken = at; written = written; stride = stride }) block → IsFront table s stride bytes at c width → IsScalar c
-      → written + 4 ≤ 1024 → length block ≡ 1024 → end ≡ written + len_utf8 c → new ≡ put_chunk written block (encode_utf8 c)
+      → written + 4 ≤ 1024 → end ≡ written + len_utf8 c → take end new ≡ take written block ++ encode_utf8 c
       → IsBulk table s bytes (record { taken = at + width; written = end; stride = stride }) new
-  front-more stride bytes block new at written c width end bulk next scalar room large end_is new_is =
+  front-more stride bytes block new at written c width end bulk next scalar room end_is text =
       let few = len_utf8_bounds c in
-      let length_is : end ≡ written + length (encode_utf8 c) = end_is ∙ ap (λ (n : ℕ). written + n) (sym (length-encode c)) in
-      let inside : end ≤ length block = omega (arith, end_is, few, room, large) in
       let cs = chars (take written block) in
-      let text : take end new ≡ take written block ++ encode_utf8 c =
-      ap (λ (xs : List ℕ). take end xs) new_is ∙ take_more_put_chunk written block (encode_utf8 c) end length_is inside in
       let spelt : chars (take end new) ≡ cs ++ c ∷ [] = ap (λ (xs : List ℕ). chars xs) text ∙ chars-more (take written block) c bulk.text scalar in
       let here = take at bytes in
       let then = take width (drop at bytes) in
       let both : take (at + width) bytes ≡ here ++ then = take-add at width bytes in
       record {
         within = next.within;
-        room = omega (arith, inside, large);
+        room = omega (arith, end_is, few, room);
         text = subst (λ (xs : List ℕ). IsUtf8 xs) (sym text) (IsUtf8-append (take written block) (encode_utf8 c) bulk.text (IsUtf8-encode c scalar));
         stays =
             ap (λ (xs : List ℕ). (feed table s xs).state) both
@@ -190,30 +193,73 @@ module _ {S : Type 0} (table : Table S) (f : Falls table) (s : S) where
             ∙ ap (λ (xs : List ℕ). plain_from stride (pos read) s xs) (sym spelt);
       }
 
-  -- the code point is written as it was got
-  pub front-read : (stride : Stride) (bytes block new : List ℕ) (at written c got width end : ℕ) → got ≡ c
-      → IsBulk table s bytes (record { taken = at; written = written; stride = stride }) block → IsFront table s stride bytes at c width → IsScalar got
-      → written + 4 ≤ 1024 → length block ≡ 1024 → end ≡ written + len_utf8 got → new ≡ put_chunk written block (encode_utf8 got)
-      → IsBulk table s bytes (record { taken = at + width; written = end; stride = stride }) new
-  front-read stride bytes block new at written c got width end same bulk next scalar room large end_is new_is =
-      let front : IsFront table s stride bytes at got width = subst (λ (x : ℕ). IsFront table s stride bytes at x width) (sym same) next in
-      front-more stride bytes block new at written got width end bulk front scalar room large end_is new_is
+  -- what was put is the next item
+  pub put-more : (stride : Stride) (width : ℕ) (bytes block new : List ℕ) (at written end : ℕ)
+      → IsBulk table s bytes (record { taken = at; written = written; stride = stride }) block → IsFrontPut table s stride width bytes at block new written end
+      → written + 4 ≤ 1024 → IsBulk table s bytes (record { taken = at + width; written = end; stride = stride }) new
+  put-more stride width bytes block new at written end bulk put room =
+      front-more stride bytes block new at written put.code_point width end bulk put.front put.scalar room put.ends put.text
 
-  -- a pair that was put
-  pub pair-put : (bytes block new : List ℕ) (at written end : ℕ) → IsBulk table s bytes (record { taken = at; written = written; stride = Pairs }) block → IsPairPut table s bytes at block new written end
-      → written + 4 ≤ 1024 → length block ≡ 1024 → IsBulk table s bytes (record { taken = at + 2; written = end; stride = Pairs }) new
-  pair-put bytes block new at written end bulk put room large = front-more Pairs bytes block new at written put.code_point 2 end bulk put.front put.scalar room large put.ends put.bytes_put
+  pub put-few : (width : ℕ) (bytes block new : List ℕ) (at written end : ℕ) → IsFrontPut table s Pairs width bytes at block new written end → written ≤ 2 * at
+      → end ≤ 2 * (at + width)
+  put-few width bytes block new at written end put few = few-pairs written at put.code_point put.code_point width end refl few put.front.wide put.ends
 
-  pub pair-few : (bytes block new : List ℕ) (at written end : ℕ) → IsPairPut table s bytes at block new written end → written ≤ 2 * at → end ≤ 2 * (at + 2)
-  pair-few bytes block new at written end put few = few-pairs written at put.code_point put.code_point 2 end refl few put.front.wide put.ends
+  pub put-few-bytes : (bytes block new : List ℕ) (at written end : ℕ) → IsFrontPut table s Bytes 1 bytes at block new written end → written ≤ 4 * at
+      → end ≤ 4 * (at + 1)
+  put-few-bytes bytes block new at written end put few = few-bytes written at put.code_point end few put.ends
 
--- what was put is the code point that was got
-pub put-is : {S : Type 0} (table : Table S) (s : S) (bytes : List ℕ) (at : ℕ) (before after : List ℕ) (written end c got : ℕ) → got ≡ c → (128 ≤ c → IsFront table s Pairs bytes at c 2) → 128 ≤ got → IsScalar got
-    → end ≡ written + len_utf8 got → after ≡ put_chunk written before (encode_utf8 got) → IsPairPut table s bytes at before after written end
-put-is table s bytes at before after written end c got same front high scalar ends put = record {
-  code_point = got;
-  front = subst (λ (x : ℕ). IsFront table s Pairs bytes at x 2) (sym same) (front (omega (arith, high, same)));
-  scalar = scalar;
-  ends = ends;
-  bytes_put = put;
-}
+  -- an ASCII byte is put as its code point
+  ascii-put : (stride : Stride) (bytes before after : List ℕ) (at written b end : ℕ) → IsFront table s stride bytes at b 1 → b < 0x80
+      → written + 4 ≤ 1024 → length before ≡ 1024 → end ≡ written + len_utf8 b → after ≡ put_chunk written before (encode_utf8 b)
+      → IsFrontPut table s stride 1 bytes at before after written end
+  ascii-put stride bytes before after at written b end front low room large end_is after_is =
+      let few = len_utf8_bounds b in
+      let length_is : end ≡ written + length (encode_utf8 b) = end_is ∙ ap (λ (n : ℕ). written + n) (sym (length-encode b)) in
+      record {
+        code_point = b;
+        front = front;
+        scalar = low_scalar b (omega (arith, low));
+        ends = end_is;
+        text = ap (λ (xs : List ℕ). take end xs) after_is
+            ∙ take_more_put_chunk written before (encode_utf8 b) end length_is (omega (arith, end_is, few, room, large));
+      }
+
+  pub ascii-pair-put : (bytes before after : List ℕ) (at written b end : ℕ) → TakesAscii table s All → at < length bytes → b ≡ get_or bytes at 0 → b < 0x80
+      → written + 4 ≤ 1024 → length before ≡ 1024 → end ≡ written + len_utf8 b → after ≡ put_chunk written before (encode_utf8 b)
+      → IsFrontPut table s Pairs 1 bytes at before after written end
+  ascii-pair-put bytes before after at written b end takes within b_is low =
+      ascii-put Pairs bytes before after at written b end (ascii-pair bytes at b takes within b_is low) low
+
+  pub ascii-byte-put : (bytes before after : List ℕ) (at written b end : ℕ) → TakesAscii table s All → at < length bytes → b ≡ get_or bytes at 0 → b < 0x80
+      → written + 4 ≤ 1024 → length before ≡ 1024 → end ≡ written + len_utf8 b → after ≡ put_chunk written before (encode_utf8 b)
+      → IsFrontPut table s Bytes 1 bytes at before after written end
+  ascii-byte-put bytes before after at written b end takes within b_is low =
+      ascii-put Bytes bytes before after at written b end (ascii-byte bytes at b takes within b_is low) low
+
+  -- the form of another byte, and of a pair
+  pub byte-put : (bytes before after : List ℕ) (at written : ℕ) (form : Option ℕ) → at < length bytes
+      → IfSome form (λ (c : ℕ). TakesByte table s (get_or bytes at 0) c) → (r : Option ℕ) → IfSome r (λ (end : ℕ). IsFormPut form before after written end)
+      → IfSome r (λ (end : ℕ). IsFrontPut table s Bytes 1 bytes at before after written end)
+  byte-put bytes before after at written form within known (Some end) put =
+      record {
+        code_point = put.code_point;
+        front = known-byte bytes at put.code_point (of-some (λ (c : ℕ). TakesByte table s (get_or bytes at 0) c) form put.code_point known put.is) within;
+        scalar = put.scalar;
+        ends = put.ends;
+        text = put.front;
+      }
+  byte-put bytes before after at written form within known None put = put
+
+  pub pair-put : (bytes before after : List ℕ) (at written : ℕ) (form : Option ℕ) → at + 1 < length bytes
+      → IfSome form (λ (c : ℕ). TakesPair table s (get_or bytes at 0) (get_or bytes (at + 1) 0) c) → is_wide form ≡ true → (r : Option ℕ)
+      → IfSome r (λ (end : ℕ). IsFormPut form before after written end) → IfSome r (λ (end : ℕ). IsFrontPut table s Pairs 2 bytes at before after written end)
+  pair-put bytes before after at written form within known wide (Some end) put =
+      let takes = of-some (λ (c : ℕ). TakesPair table s (get_or bytes at 0) (get_or bytes (at + 1) 0) c) form put.code_point known put.is in
+      record {
+        code_point = put.code_point;
+        front = pair-front bytes at put.code_point takes within (wide-above form put.code_point wide put.is);
+        scalar = put.scalar;
+        ends = put.ends;
+        text = put.front;
+      }
+  pair-put bytes before after at written form within known wide None put = put

@@ -1,9 +1,7 @@
 -- Bytes and pairs of bytes that are one code point each.
-use Rattle.std.specs.Prelude.{◌≡◌, ℕ, ◌+◌, ◌<◌, ◌≤◌, List, [], ◌∷◌, Some, drop, take, length, pos}
+use Rattle.std.specs.Prelude.{◌≡◌, ℕ, ◌+◌, ◌<◌, ◌≤◌, List, [], ◌∷◌, ◌++◌, Some, drop, take, length, pos}
 use Rattle.std.specs.Char.{len_utf8, IsScalar, encode_utf8}
-use Rattle.std.specs.Simd.Lanes.{put_chunk}
 use Rattle.decoder_core.specs.declared.bulk.Stride.{Stride}
-use Rattle.decoder_core.specs.declared.bulk.Stride.TheVariants.{Pairs}
 use Rattle.decoder_core.specs.declared.item.Item.TheVariants.{One}
 use Rattle.decoder_core.specs.Bulk.{width_of}
 use Rattle.decoder_core.specs.Forms.{gives, holds}
@@ -28,10 +26,10 @@ pub record IsFront {S : Type 0} (table : Table S) (s : S) (stride : Stride) (byt
   pub stays : (feed table s (take width (drop at bytes))).state ≡ s
   pub items : (read : ℕ) → shown_from table read s (take width (drop at bytes)) ≡ record { item = One c; end = pos (read + width); after = s } ∷ []
 
--- the code point of the pair at an index, which is one item, was written behind so many bytes of a text, and ends there
-pub record IsPairPut {S : Type 0} (table : Table S) (s : S) (bytes : List ℕ) (at : ℕ) (before after : List ℕ) (written end : ℕ) : Type 0 where
+-- the code point of the one item at an index was written behind so many bytes of a text, and ends there
+pub record IsFrontPut {S : Type 0} (table : Table S) (s : S) (stride : Stride) (width : ℕ) (bytes : List ℕ) (at : ℕ) (before after : List ℕ) (written end : ℕ) : Type 0 where
   pub code_point : ℕ
-  pub front : IsFront table s Pairs bytes at code_point 2
+  pub front : IsFront table s stride bytes at code_point width
   pub scalar : IsScalar code_point
   pub ends : end ≡ written + len_utf8 code_point
-  pub bytes_put : after ≡ put_chunk written before (encode_utf8 code_point)
+  pub text : take end after ≡ take written before ++ encode_utf8 code_point

@@ -1,15 +1,13 @@
 //! Runs of bytes that are characters, in bulk.
-ghost use Rattle.std.specs.Prelude.{◌<◌, IfSome, length};
+ghost use Rattle.std.specs.Prelude.{◌≡◌, ◌+◌, ◌<◌, ◌≤◌, IfNone, IfSome, length};
 ghost use Rattle.decoder_core.specs.declared.ascii_runs.AsciiRuns.TheVariants.{All};
 ghost use Rattle.decoder_core.specs.declared.bulk.Stride.TheVariants.{Bytes};
 ghost use Rattle.decoder_core.specs.AsciiRuns.{TakesAscii};
 ghost use Rattle.decoder_core.specs.Bulk.{IsBulk};
-ghost use Rattle.decoder_core.specs.Fronts.{IsFront};
+ghost use Rattle.decoder_core.specs.Fronts.{IsFrontPut};
 
 use crate::bulk::{Bulk, Stride};
-use crate::forms::scalar;
 use crate::handler::Handler;
-use enc_names::Scalar;
 use lane_utf::put_scalar;
 
 /// How many bytes are taken at most: each is at most four bytes of UTF-8, so that the block has
@@ -32,10 +30,10 @@ pub(crate) fn take_bytes<H: Handler>(
     let mut taken = 0;
     let mut written = 0;
     'bytes: while taken < end {
-        let Some(code_point) = front(handler, state, bytes, taken) else {
+        let Some(behind) = put_byte(handler, state, bytes, taken, text, written) else {
             break;
         };
-        written = put_scalar(text, written, code_point.get());
+        written = behind;
         taken += 1;
     }
     Bulk {
@@ -45,17 +43,27 @@ pub(crate) fn take_bytes<H: Handler>(
     }
 }
 
-/// The code point of the byte at an index.
+/// Writes the code point of the byte at an index behind what was written, and returns where it ends;
+/// nothing is written where it isn't known.
 #[inline(always)]
-fn front<H: Handler>(handler: &H, state: H::State, bytes: &[u8], at: usize) -> Option<Scalar>
+fn put_byte<H: Handler>(
+    handler: &H,
+    state: H::State,
+    bytes: &[u8],
+    at: usize,
+    text: &mut [u8; 1024],
+    written: usize,
+) -> Option<usize>
     requires ascii { TakesAscii (H.table handler.now) state All }
     requires within { at < length bytes.now }
-    ensures { IfSome result (λ code_point. IsFront (H.table handler.now) state Bytes bytes.now at code_point 1) }
+    requires room { written + 4 ≤ 1024 }
+    ensures some { IfSome result (λ end. IsFrontPut (H.table handler.now) state Bytes 1 bytes.now at text.old text.new written end) }
+    ensures none { IfNone result (text.new ≡ text.old) }
 {
     let byte = bytes[at];
     if byte < 0x80 {
-        Some(scalar(u32::from(byte)))
-    } else {
-        handler.known_byte(state, byte)
+        return Some(put_scalar(text, written, u32::from(byte)));
     }
+    let form = handler.known_byte(state, byte);
+    form.put(text, written)
 }

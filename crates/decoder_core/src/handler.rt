@@ -12,7 +12,7 @@ use crate::bulk::{Bulk, NO_BULK};
 use crate::characters::Characters;
 use crate::few::Few;
 use crate::item::Item;
-use enc_names::Scalar;
+use index_loader::Utf8Form;
 
 /// What a handler answers (Encoding Standard, "Encoders and decoders"): continue, an item, or finished.
 #[derive(Clone, Copy, PartialEq, Eq, Debug)]
@@ -73,25 +73,25 @@ pub trait Handler {
         Characters::Ascii
     }
 
-    /// The code point of a byte, where it has exactly one in this state and leaves it as it is; the
-    /// decoder takes runs of such bytes in bulk. `None` says nothing of the byte.
+    /// The UTF-8 form of a byte's code point, where it has exactly one in this state and leaves it as
+    /// it is; the decoder takes runs of such bytes in bulk. No form says nothing of the byte.
     #[inline(always)]
-    fn known_byte(&self, state: Self::State, byte: u8) -> Option<Scalar>
+    fn known_byte(&self, state: Self::State, byte: u8) -> Utf8Form
         ensures { IfSome result (λ code_point. TakesByte (table self.now) state byte code_point) }
     {
         let _ = (state, byte);
-        None
+        Utf8Form::none()
     }
 
-    /// The code point of two bytes, where they have exactly one in this state and leave it as it
-    /// is; the decoder takes runs of such pairs and of ASCII in bulk. `None` says nothing of the
-    /// bytes.
+    /// The UTF-8 form of two bytes' code point, where they have exactly one in this state and leave it
+    /// as it is; the decoder takes runs of such pairs and of ASCII in bulk. No form says nothing of
+    /// the bytes.
     #[inline(always)]
-    fn known_pair(&self, state: Self::State, lead: u8, trail: u8) -> Option<Scalar>
+    fn known_pair(&self, state: Self::State, lead: u8, trail: u8) -> Utf8Form
         ensures { IfSome result (λ code_point. TakesPair (table self.now) state lead trail code_point) }
     {
         let _ = (state, lead, trail);
-        None
+        Utf8Form::none()
     }
 
     /// Takes bytes in bulk in a state that has no such bytes, as `Decoder::bulk` does.

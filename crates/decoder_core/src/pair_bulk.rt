@@ -4,12 +4,11 @@ ghost use Rattle.decoder_core.specs.declared.ascii_runs.AsciiRuns.TheVariants.{A
 ghost use Rattle.decoder_core.specs.declared.bulk.Stride.TheVariants.{Pairs};
 ghost use Rattle.decoder_core.specs.AsciiRuns.{TakesAscii};
 ghost use Rattle.decoder_core.specs.Bulk.{IsBulk};
-ghost use Rattle.decoder_core.specs.Fronts.{IsFront, IsPairPut};
+ghost use Rattle.decoder_core.specs.Fronts.{IsFrontPut};
 
 use crate::bulk::{Bulk, Stride};
 use crate::handler::Handler;
 use crate::run_bulk::begins_ascii;
-use enc_names::Scalar;
 use lane_utf::put_scalar;
 
 /// How many bytes are taken at most: each is at most two bytes of UTF-8, so that the block has room
@@ -100,27 +99,13 @@ fn put_pair<H: Handler>(
 ) -> Option<usize>
     requires within { at + 1 < length bytes.now }
     requires room { written + 4 ≤ 1024 }
-    ensures some { IfSome result (λ end. IsPairPut (H.table handler.now) state bytes.now at text.old text.new written end) }
+    ensures some { IfSome result (λ end. IsFrontPut (H.table handler.now) state Pairs 2 bytes.now at text.old text.new written end) }
     ensures none { IfNone result (text.new ≡ text.old) }
 {
-    let code_point = pair_at(handler, state, bytes, at)?.get();
-    if 0x800 <= code_point && code_point < 0x1_0000 {
-        // Most have three bytes of UTF-8: that is asked first, and then nothing else.
-        return Some(put_scalar(text, written, code_point));
-    }
-    if code_point < 0x80 {
+    let form = handler.known_pair(state, bytes[at], bytes[at + 1]);
+    if !form.is_wide() {
         // One byte of UTF-8 stands for one byte in the source, and here it would for two.
         return None;
     }
-    Some(put_scalar(text, written, code_point))
-}
-
-/// The code point of the pair at an index, which is one item where it isn't ASCII.
-#[inline(always)]
-fn pair_at<H: Handler>(handler: &H, state: H::State, bytes: &[u8], at: usize) -> Option<Scalar>
-    requires { at + 1 < length bytes.now }
-    ensures { IfSome result (λ code_point. 128 ≤ code_point → IsFront (H.table handler.now) state Pairs bytes.now at code_point 2) }
-{
-    let code_point = handler.known_pair(state, bytes[at], bytes[at + 1])?;
-    Some(code_point)
+    form.put(text, written)
 }

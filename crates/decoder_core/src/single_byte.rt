@@ -13,8 +13,7 @@ use crate::forms::{finish, found, give, scalar};
 use crate::handler::{Handled, Handler};
 use crate::item::Item;
 use crate::one_byte::OneByteState;
-use enc_names::Scalar;
-use index_loader::Index;
+use index_loader::{Index, Utf8Form};
 use std::marker::Model;
 
 /// The decoder of the 28 single-byte encodings (Encoding Standard, "Legacy single-byte encodings",
@@ -75,10 +74,12 @@ impl<'i> Handler for SingleByteDecoder<'i> {
 
     // In the loop over the bytes.
     #[inline(always)]
-    fn known_byte(&self, state: OneByteState, byte: u8) -> Option<Scalar> {
+    fn known_byte(&self, state: OneByteState, byte: u8) -> Utf8Form {
         let _ = state;
-        let pointer = byte.checked_sub(0x80)?;
-        self.index.code_point(u32::from(pointer))
+        match byte.checked_sub(0x80) {
+            Some(pointer) => self.index.form(u32::from(pointer)),
+            None => Utf8Form::none(),
+        }
     }
 
     // In the loop over the bytes.

@@ -11,7 +11,7 @@ use crate::characters::Characters;
 use crate::forms::{finish, give_one, scalar};
 use crate::handler::{Handled, Handler};
 use crate::one_byte::OneByteState;
-use enc_names::Scalar;
+use index_loader::Utf8Form;
 
 /// The x-user-defined decoder (Encoding Standard, "x-user-defined decoder").
 #[derive(Clone, Copy, PartialEq, Eq, Debug)]
@@ -41,9 +41,9 @@ impl Handler for XUserDefinedDecoder {
 
     // In the loop over the bytes.
     #[inline(always)]
-    fn known_byte(&self, state: OneByteState, byte: u8) -> Option<Scalar> {
+    fn known_byte(&self, state: OneByteState, byte: u8) -> Utf8Form {
         let _ = state;
-        Some(scalar(code_point(byte)))
+        Utf8Form::new(scalar(code_point(byte)))
     }
 
     // In the loop over the bytes.

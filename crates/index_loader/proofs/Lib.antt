@@ -3,6 +3,7 @@ pub mod CellLemmas
 pub mod Digits
 pub mod ExceptionLemmas
 pub mod Exclusion
+pub mod FormLemmas
 pub mod Found
 pub mod FileLawLemmas
 pub mod IndexLemmas

@@ -4,6 +4,7 @@ pub mod File
 pub mod FileLaws
 pub mod Files
 pub mod FirstPointers
+pub mod Form
 pub mod Index
 pub mod Inside
 pub mod Kinds

@@ -2,6 +2,7 @@
 ghost use Rattle.std.specs.Prelude.{◌≡◌, ◌^◌, ◌<◌, IfOk, None, Some, length, replicate, set, slice_index_or};
 ghost use Rattle.index_loader.specs.Table.{pairs_in};
 
+use crate::form::Utf8Form;
 use enc_names::Scalar;
 use std::alloc::{AllocError, Global};
 use std::marker::Model;
@@ -51,6 +52,13 @@ impl PointerTable {
     {
         pairs_of_places(alloc, self.places.as_slice())
     }
+
+    /// The UTF-8 form of each pointer's code point.
+    pub(crate) fn forms(&self, alloc: Global) -> Result<Vec<Utf8Form>, AllocError>
+        ensures { IfOk result (λ forms. forms.items ≡ self.now) }
+    {
+        forms_of_places(alloc, self.places.as_slice())
+    }
 }
 
 /// The pairs of pointer and code point that stand in these places.
@@ -68,4 +76,15 @@ fn pairs_of_places(
         }
     }
     Ok(pairs)
+}
+
+/// The UTF-8 forms of what stands in these places.
+fn forms_of_places(alloc: Global, places: &[Option<Scalar>]) -> Result<Vec<Utf8Form>, AllocError>
+    ensures { IfOk result (λ forms. forms.items ≡ places.now) }
+{
+    let mut forms = Vec::with_capacity(alloc, places.len())?;
+    for place in places {
+        forms.push(Utf8Form::of(*place))?;
+    }
+    Ok(forms)
 }

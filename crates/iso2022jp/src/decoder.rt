@@ -1,5 +1,5 @@
 //! The ISO-2022-JP decoder.
-ghost use Rattle.std.specs.Prelude.{◌≡◌};
+ghost use Rattle.std.specs.Prelude.{◌≡◌, ◌+◌, ◌*◌, ◌-◌};
 ghost use Rattle.index_loader.specs.Index.{code_point_of};
 ghost use Rattle.decoder_core.specs.Steps.{bytes_of};
 ghost use Rattle.decoder_core.specs.Holding.{falls_of, counts_of};
@@ -13,7 +13,7 @@ use crate::state::{DecoderState, Iso2022JpState};
 use decoder_core::forms::{finish, give, hold, restore};
 use decoder_core::{AsciiRuns, Characters, Few, Handled, Handler, Item};
 use enc_names::Scalar;
-use index_loader::Index;
+use index_loader::{Index, Utf8Form};
 use std::marker::Model;
 
 /// The Standard's state lead byte.
@@ -51,8 +51,19 @@ impl<'i> Iso2022JpDecoder<'i> {
         if !is_pair_byte(byte) {
             return None;
         }
-        let row = u32::from(lead.saturating_sub(0x21));
-        self.jis0208.code_point(row * 94 + u32::from(byte - 0x21))
+        self.jis0208.code_point(pointer(lead, byte))
+    }
+
+    /// Its UTF-8 form.
+    // In the loop over the bytes.
+    #[inline(always)]
+    fn form(&self, lead: u8, byte: u8) -> Utf8Form
+        ensures { pair_item (code_point_of self.now) lead byte ≡ one_or_error result }
+    {
+        if !is_pair_byte(byte) {
+            return Utf8Form::none();
+        }
+        self.jis0208.form(pointer(lead, byte))
     }
 
     /// The item of a lead byte and the byte after it.
@@ -61,6 +72,15 @@ impl<'i> Iso2022JpDecoder<'i> {
     {
         one_or_error(self.code_point(lead, byte))
     }
+}
+
+/// The pointer of a lead byte and the byte after it.
+// In the loop over the bytes.
+#[inline(always)]
+fn pointer(lead: u8, byte: u8) -> u32
+    ensures { result ≡ (lead - 0x21) * 94 + (byte - 0x21) }
+{
+    u32::from(lead.saturating_sub(0x21)) * 94 + u32::from(byte.saturating_sub(0x21))
 }
 
 /// Whether the byte is one of a pair.
@@ -142,11 +162,12 @@ impl<'i> Handler for Iso2022JpDecoder<'i> {
 
     // In the loop over the bytes. Behind an escape the flag is set until the first pair is read.
     #[inline(always)]
-    fn known_pair(&self, state: Iso2022JpState, lead: u8, trail: u8) -> Option<Scalar> {
+    fn known_pair(&self, state: Iso2022JpState, lead: u8, trail: u8) -> Utf8Form {
         match (state.state, state.flag) {
-            (DecoderState::Ready(OutputState::Jis0208), false) if is_pair_byte(lead) =>
-                self.code_point(lead, trail),
-            _ => None,
+            (DecoderState::Ready(OutputState::Jis0208), false) if is_pair_byte(lead) => self.form(
+                lead, trail,
+            ),
+            _ => Utf8Form::none(),
         }
     }
 

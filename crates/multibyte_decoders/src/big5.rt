@@ -10,8 +10,7 @@ use crate::pairs::{PairDecoder, PairRules};
 use crate::turns::{ascii_item, one_of};
 use decoder_core::Item;
 use decoder_core::forms::scalar;
-use enc_names::Scalar;
-use index_loader::Index;
+use index_loader::{Index, Utf8Form};
 
 /// The Big5 decoder (Encoding Standard, "Big5 decoder"), which borrows index Big5. Contracts see the
 /// index.
@@ -35,15 +34,15 @@ fn item(index: &Index, pointer: u32) -> Option<Item>
     }
 }
 
-/// The code point of a pointer that gives one alone.
+/// The UTF-8 form of the code point of a pointer that gives one alone.
 // In the loop over the bytes.
 #[inline(always)]
-fn entry(index: &Index, pointer: u32) -> Option<Scalar>
+fn entry(index: &Index, pointer: u32) -> Utf8Form
     ensures { IfSome result (λ code_point. big5_item (code_point_of index.now) pointer ≡ Some (One code_point)) }
 {
     match pointer {
-        1133 | 1135 | 1164 | 1166 => None,
-        _ => index.code_point(pointer),
+        1133 | 1135 | 1164 | 1166 => Utf8Form::none(),
+        _ => index.form(pointer),
     }
 }
 
@@ -102,11 +101,11 @@ impl PairRules for Big5Rules {
 
     // In the loop over the bytes.
     #[inline(always)]
-    fn code_point(index: &Index, lead: u8, byte: u8) -> Option<Scalar> {
+    fn form(index: &Index, lead: u8, byte: u8) -> Utf8Form {
         if is_trail(byte) {
             entry(index, pointer(lead, byte))
         } else {
-            None
+            Utf8Form::none()
         }
     }
 

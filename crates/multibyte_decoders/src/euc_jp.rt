@@ -1,5 +1,5 @@
 //! The EUC-JP decoder.
-ghost use Rattle.std.specs.Prelude.{◌≡◌};
+ghost use Rattle.std.specs.Prelude.{◌≡◌, ◌+◌, ◌*◌, ◌-◌, ◌≤◌};
 ghost use Rattle.std.proofs.Common.{rules};
 ghost use Rattle.index_loader.specs.Index.{code_point_of};
 ghost use Rattle.decoder_core.specs.Steps.{bytes_of};
@@ -12,7 +12,7 @@ use crate::turns::{ascii_item, begin, complete, one_of};
 use decoder_core::forms::{finish, give, give_one, hold};
 use decoder_core::{AsciiRuns, Characters, Handled, Handler, Item};
 use enc_names::Scalar;
-use index_loader::Index;
+use index_loader::{Index, Utf8Form};
 use std::marker::Model;
 
 /// Where the EUC-JP decoder stands between two bytes.
@@ -70,6 +70,17 @@ impl<'i> EucJpDecoder<'i> {
     }
 }
 
+/// The pointer of a lead and the byte after it, both of them from A1 on.
+// In the loop over the bytes.
+#[inline(always)]
+fn pointer(lead: u8, byte: u8) -> u32
+    requires lead { 0xA1 ≤ lead }
+    requires byte { 0xA1 ≤ byte }
+    ensures { result ≡ (lead - 0xA1) * 94 + (byte - 0xA1) }
+{
+    u32::from(lead - 0xA1) * 94 + u32::from(byte - 0xA1)
+}
+
 /// The code point of a pair in one of the two indexes.
 // In the loop over the bytes.
 #[inline(always)]
@@ -77,10 +88,20 @@ fn pair(index: &Index, lead: u8, byte: u8) -> Option<Scalar>
     ensures { result ≡ euc_jp_pair (code_point_of index.now) lead byte }
 {
     match (lead, byte) {
-        (0xA1..=0xFE, 0xA1..=0xFE) => {
-            index.code_point(u32::from(lead - 0xA1) * 94 + u32::from(byte - 0xA1))
-        }
+        (0xA1..=0xFE, 0xA1..=0xFE) => index.code_point(pointer(lead, byte)),
         _ => None,
+    }
+}
+
+/// Its UTF-8 form.
+// In the loop over the bytes.
+#[inline(always)]
+fn form(index: &Index, lead: u8, byte: u8) -> Utf8Form
+    ensures { result ≡ euc_jp_pair (code_point_of index.now) lead byte }
+{
+    match (lead, byte) {
+        (0xA1..=0xFE, 0xA1..=0xFE) => index.form(pointer(lead, byte)),
+        _ => Utf8Form::none(),
     }
 }
 
@@ -110,10 +131,10 @@ impl<'i> Handler for EucJpDecoder<'i> {
 
     // In the loop over the bytes.
     #[inline(always)]
-    fn known_pair(&self, state: EucJpState, lead: u8, trail: u8) -> Option<Scalar> {
+    fn known_pair(&self, state: EucJpState, lead: u8, trail: u8) -> Utf8Form {
         match (state, lead) {
-            (EucJpState::Idle, 0xA1..=0xFE) => pair(self.jis0208, lead, trail),
-            _ => None,
+            (EucJpState::Idle, 0xA1..=0xFE) => form(self.jis0208, lead, trail),
+            _ => Utf8Form::none(),
         }
     }
 

@@ -8,8 +8,7 @@ ghost use Rattle.multibyte_decoders.specs.Pairs.{ascii_item};
 use crate::pairs::{PairDecoder, PairRules};
 use crate::turns::{ascii_item, one_of};
 use decoder_core::Item;
-use enc_names::Scalar;
-use index_loader::Index;
+use index_loader::{Index, Utf8Form};
 
 /// The EUC-KR decoder (Encoding Standard, "EUC-KR decoder"), which borrows index EUC-KR. Contracts see the
 /// index.
@@ -57,10 +56,10 @@ impl PairRules for EucKrRules {
 
     // In the loop over the bytes.
     #[inline(always)]
-    fn code_point(index: &Index, lead: u8, byte: u8) -> Option<Scalar> {
+    fn form(index: &Index, lead: u8, byte: u8) -> Utf8Form {
         match byte {
-            0x41..=0xFE => index.code_point(pointer(lead, byte)),
-            _ => None,
+            0x41..=0xFE => index.form(pointer(lead, byte)),
+            _ => Utf8Form::none(),
         }
     }
 

@@ -12,7 +12,7 @@ use crate::turns::{ascii_item, begin, complete, one_of};
 use decoder_core::forms::{finish, found, give, hold, restore, scalar};
 use decoder_core::{AsciiRuns, Characters, Few, Handled, Handler, Item};
 use enc_names::Scalar;
-use index_loader::Index;
+use index_loader::{Index, Utf8Form};
 use std::marker::Model;
 
 /// Where the gb18030 decoder stands between two bytes: the bytes that are pending.
@@ -66,6 +66,19 @@ impl<'i> Gb18030Decoder<'i> {
             self.index.code_point(pointer(first, byte))
         } else {
             None
+        }
+    }
+
+    /// The UTF-8 form of the code point of two bytes.
+    // In the loop over the bytes.
+    #[inline(always)]
+    fn form(&self, first: u8, byte: u8) -> Utf8Form
+        ensures { result ≡ gb18030_pair (code_point_of self.now.index) first byte }
+    {
+        if is_trail(byte) {
+            self.index.form(pointer(first, byte))
+        } else {
+            Utf8Form::none()
         }
     }
 }
@@ -146,10 +159,10 @@ impl<'i> Handler for Gb18030Decoder<'i> {
 
     // In the loop over the bytes.
     #[inline(always)]
-    fn known_pair(&self, state: Gb18030State, lead: u8, trail: u8) -> Option<Scalar> {
+    fn known_pair(&self, state: Gb18030State, lead: u8, trail: u8) -> Utf8Form {
         match (state, lead) {
-            (Gb18030State::Idle, 0x81..=0xFE) => self.pair(lead, trail),
-            _ => None,
+            (Gb18030State::Idle, 0x81..=0xFE) => self.form(lead, trail),
+            _ => Utf8Form::none(),
         }
     }
 

@@ -12,8 +12,7 @@ ghost use Rattle.multibyte_decoders.specs.Pairs.{pair_table};
 use crate::turns::{begin, complete};
 use decoder_core::forms::{finish, give};
 use decoder_core::{AsciiRuns, Characters, Handled, Handler, Item};
-use enc_names::Scalar;
-use index_loader::Index;
+use index_loader::{Index, Utf8Form};
 use std::marker::{Model, PhantomData};
 
 /// Where the decoder of an encoding with at most two bytes a character stands between two bytes.
@@ -45,9 +44,9 @@ pub trait PairRules {
     fn pair(index: &Index, lead: u8, byte: u8) -> Option<Item>
         ensures { result ≡ pairs (code_point_of index.now) lead byte };
 
-    /// The code point of a lead and the byte after it, where they have one alone and it is known at
-    /// once.
-    fn code_point(index: &Index, lead: u8, byte: u8) -> Option<Scalar>
+    /// The UTF-8 form of the code point of a lead and the byte after it, where they have one alone and
+    /// it is known at once.
+    fn form(index: &Index, lead: u8, byte: u8) -> Utf8Form
         ensures { IfSome result (λ code_point. pairs (code_point_of index.now) lead byte ≡ Some (One code_point)) };
 
     ghost ascii: { (b : ℕ) → b < 128 → (leads b ≡ false) × (singles b ≡ One b) };
@@ -123,10 +122,10 @@ impl<'i, R: PairRules> Handler for PairDecoder<'i, R> {
 
     // In the loop over the bytes.
     #[inline(always)]
-    fn known_pair(&self, state: PairState, lead: u8, trail: u8) -> Option<Scalar> {
+    fn known_pair(&self, state: PairState, lead: u8, trail: u8) -> Utf8Form {
         match state {
-            PairState::Idle if R::is_lead(lead) => R::code_point(self.index, lead, trail),
-            _ => None,
+            PairState::Idle if R::is_lead(lead) => R::form(self.index, lead, trail),
+            _ => Utf8Form::none(),
         }
     }
 

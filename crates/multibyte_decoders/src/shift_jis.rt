@@ -1,5 +1,5 @@
 //! The Shift_JIS decoder.
-ghost use Rattle.std.specs.Prelude.{◌≡◌};
+ghost use Rattle.std.specs.Prelude.{◌≡◌, ◌+◌, ◌-◌, ◌≤◌};
 ghost use Rattle.std.proofs.Common.{rules};
 ghost use Rattle.index_loader.specs.Index.{code_point_of};
 ghost use Rattle.multibyte_decoders.specs.ShiftJis.{shift_jis_single, shift_jis_pair, shift_jis_pointer, shift_jis_code_point, is_shift_jis_lead, is_shift_jis_trail};
@@ -9,7 +9,7 @@ use crate::turns::one_of;
 use decoder_core::Item;
 use decoder_core::forms::scalar;
 use enc_names::Scalar;
-use index_loader::Index;
+use index_loader::{Index, Utf8Form};
 
 /// The Shift_JIS decoder (Encoding Standard, "Shift_JIS decoder"), which borrows index jis0208. Contracts see the
 /// index.
@@ -18,6 +18,17 @@ pub type ShiftJisDecoder<'i> = PairDecoder<'i, ShiftJisRules>;
 /// What Shift_JIS says of its single bytes and pairs.
 pub enum ShiftJisRules {}
 
+/// The code point of a pointer for private use.
+// In the loop over the bytes.
+#[inline(always)]
+fn private_use(pointer: u32) -> Scalar
+    requires least { 8836 ≤ pointer }
+    requires most { pointer ≤ 10715 }
+    ensures { result ≡ 0xE000 - 8836 + pointer }
+{
+    scalar(0xE000 - 8836 + pointer)
+}
+
 /// The code point of a pointer.
 // In the loop over the bytes.
 #[inline(always)]
@@ -25,8 +36,20 @@ fn entry(index: &Index, pointer: u32) -> Option<Scalar>
     ensures { result ≡ shift_jis_code_point (code_point_of index.now) pointer }
 {
     match pointer {
-        8836..=10715 => Some(scalar(0xE000 - 8836 + pointer)),
+        8836..=10715 => Some(private_use(pointer)),
         _ => index.code_point(pointer),
+    }
+}
+
+/// Its UTF-8 form.
+// In the loop over the bytes.
+#[inline(always)]
+fn entry_form(index: &Index, pointer: u32) -> Utf8Form
+    ensures { result ≡ shift_jis_code_point (code_point_of index.now) pointer }
+{
+    match pointer {
+        8836..=10715 => Utf8Form::new(private_use(pointer)),
+        _ => index.form(pointer),
     }
 }
 
@@ -98,11 +121,11 @@ impl PairRules for ShiftJisRules {
 
     // In the loop over the bytes.
     #[inline(always)]
-    fn code_point(index: &Index, lead: u8, byte: u8) -> Option<Scalar> {
+    fn form(index: &Index, lead: u8, byte: u8) -> Utf8Form {
         if is_trail(byte) {
-            entry(index, pointer(lead, byte))
+            entry_form(index, pointer(lead, byte))
         } else {
-            None
+            Utf8Form::none()
         }
     }
 

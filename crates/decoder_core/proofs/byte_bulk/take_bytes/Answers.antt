@@ -1,21 +1,28 @@
-use Rattle.std.proofs.Common.{rules, arith, ◌≡◌, ◌+◌, ◌≤◌, length}
+use Rattle.std.proofs.Common.{arith, ◌+◌, ◌≤◌}
 use Rattle.decoder_core.specs.declared.bulk.Stride.TheVariants.{Bytes}
-use Rattle.decoder_core.proofs.Fronts.{none-more, front-read, few-bytes}
+use Rattle.decoder_core.proofs.Fronts.{none-more, put-more, put-few-bytes}
 use Rattle.decoder_core.proofs.byte_bulk.take_bytes.Goals as goal
 
 pub bytes-init : goal.bytes-init
 bytes-init g c = record {
   bulk = none-more (g.H.Handler.table c.args.handler.now) (g.met.H.Handler.ends c.args.handler.now) c.args.state Bytes c.args.bytes.now c.args.text.now;
-  few = Prim.omega arith;
+  few = omega arith;
+}
+
+pub put_byte-requires : goal.put_byte-requires
+put_byte-requires g c = record {
+  ascii = c.requires;
+  within = omega (arith, c.bytes-test.true, c.min-end.ensures);
+  room = omega (arith, c.bytes.invariant.few, c.bytes-test.true, c.min-end.ensures);
 }
 
 pub bytes-preserved : goal.bytes-preserved
 bytes-preserved g c =
-    let room : c.bytes.written + 4 ≤ 1024 = Prim.omega (arith, c.bytes.invariant.few, c.bytes-test.true, c.min-end.ensures) in
-    let large : length c.bytes.text ≡ 1024 = Prim.search rules in
+    let table = g.H.Handler.table c.args.handler.now in
+    let ends = g.met.H.Handler.ends c.args.handler.now in
+    let room : c.bytes.written + 4 ≤ 1024 = omega (arith, c.bytes.invariant.few, c.bytes-test.true, c.min-end.ensures) in
+    let put = c.in-Some.ensures.some in
     record {
-      bulk = front-read (g.H.Handler.table c.args.handler.now) (g.met.H.Handler.ends c.args.handler.now) c.args.state Bytes c.args.bytes.now c.bytes.text
-          c.put_scalar-written.new.bytes c.bytes.taken c.bytes.written _ c.get.result 1 c.put_scalar-written.result c.get.ensures.value
-          c.bytes.invariant.bulk c.in-Some.ensures c.get.ensures.scalar room large c.put_scalar-written.ensures.end c.put_scalar-written.ensures.bytes;
-      few = few-bytes c.bytes.written c.bytes.taken c.get.result c.put_scalar-written.result c.bytes.invariant.few c.put_scalar-written.ensures.end;
+      bulk = put-more table ends c.args.state Bytes 1 c.args.bytes.now c.bytes.text _ c.bytes.taken c.bytes.written _ c.bytes.invariant.bulk put room;
+      few = put-few-bytes table ends c.args.state c.args.bytes.now c.bytes.text _ c.bytes.taken c.bytes.written _ put c.bytes.invariant.few;
     }

@@ -1,0 +1,124 @@
+//! UTF-8 forms of code points, made before they are written.
+ghost use Rattle.std.specs.Prelude.{◌≡◌, ◌+◌, ◌≤◌, IfNone, IfSome, None, Some, length};
+ghost use Rattle.std.specs.Char.{IsScalar};
+ghost use Rattle.index_loader.specs.Form.{AreFronts, IsFormPut, form_number, is_wide};
+
+use enc_names::Scalar;
+use std::marker::Model;
+
+/// The UTF-8 form of a code point (Unicode, chapter 3, D92), or none. Contracts see the code point.
+// One number, so that a form of up to three bytes is written by one store, and is as long as the
+// number's highest byte says.
+#[derive(Clone, Copy, PartialEq, Eq, Debug)]
+pub struct Utf8Form {
+    number: u32,
+}
+
+impl Model for Utf8Form {
+    ghost use Rattle.std.specs.Prelude.{ℕ, Option};
+    ghost use Rattle.index_loader.specs.Form.{IsForm, code_point_in, number_of};
+    ghost use Rattle.std.proofs.Common.{ap, sym};
+
+    ghost Value = { Option ℕ };
+
+    ghost view = { λ f. code_point_in f.number };
+
+    ghost invariant = { λ f. IsForm f.number };
+
+    ghost inverse = { λ o. record { number = number_of o } };
+
+    ghost inverse_ok = { λ a h. ap (λ n. record { number = n }) (sym h.number) };
+}
+
+impl Utf8Form {
+    /// The form of no code point.
+    pub fn none() -> Utf8Form
+        ensures { result ≡ None }
+    {
+        Utf8Form { number: 0 }
+    }
+
+    /// The form of a code point.
+    pub fn new(code_point: Scalar) -> Utf8Form
+        ensures { result ≡ Some code_point }
+    {
+        Utf8Form {
+            number: form_number(code_point.get()),
+        }
+    }
+
+    /// The form of what was looked up.
+    pub fn of(found: Option<Scalar>) -> Utf8Form
+        ensures { result ≡ found }
+    {
+        match found {
+            Some(code_point) => Utf8Form::new(code_point),
+            None => Utf8Form::none(),
+        }
+    }
+
+    /// Whether there is a form, and it has more than one byte.
+    // In the loop over the characters of a text.
+    #[inline(always)]
+    pub fn is_wide(self) -> bool
+        ensures { result ≡ is_wide self }
+    {
+        self.number >= 0x200_0000
+    }
+
+    /// Writes a form of one to three bytes from an index on, and returns where it ends. Up to three
+    /// bytes behind it may be written over. No form and one of four bytes are not written.
+    // In the loop over the characters of a text.
+    #[inline(always)]
+    pub fn put(self, text: &mut [u8], at: usize) -> Option<usize>
+        requires { at + 4 ≤ length text.old }
+        ensures len { length text.new ≡ length text.old }
+        ensures some { IfSome result (λ end. IsFormPut self text.old text.new at end) }
+        ensures none { IfNone result (text.new ≡ text.old) }
+        ensures left { IfNone result (IfSome self (λ code_point. 0x1_0000 ≤ code_point)) }
+    {
+        // None is 0, and a form of four bytes has the highest bit: one comparison refuses both.
+        if self.number.wrapping_sub(1) >= 0x7FFF_FFFF {
+            return None;
+        }
+        put_four(text, at, self.number);
+        Some(at + (self.number / 0x100_0000) as usize)
+    }
+}
+
+/// Writes the four bytes of a number, the lowest first.
+// Four stores of a byte become one.
+#[inline(always)]
+fn put_four(text: &mut [u8], at: usize, number: u32)
+    requires { at + 4 ≤ length text.old }
+    ensures len { length text.new ≡ length text.old }
+    ensures fronts { AreFronts text.old text.new at number }
+{
+    let bytes = number.to_le_bytes();
+    text[at] = bytes[0];
+    text[at + 1] = bytes[1];
+    text[at + 2] = bytes[2];
+    text[at + 3] = bytes[3];
+}
+
+/// The number of a code point.
+fn form_number(c: u32) -> u32
+    requires { IsScalar c }
+    ensures { result ≡ form_number c }
+{
+    if c < 0x80 {
+        0x100_0000 + c
+    } else if c < 0x800 {
+        0x200_0000 + 0x100 * (0x80 + c % 0x40) + (0xC0 + c / 0x40)
+    } else if c < 0x1_0000 {
+        0x300_0000
+            + 0x1_0000 * (0x80 + c % 0x40)
+            + 0x100 * (0x80 + c / 0x40 % 0x40)
+            + (0xE0 + c / 0x1000)
+    } else {
+        0x100_0000 * (0x80 + c % 0x40)
+            + 0x1_0000 * (0x80 + c / 0x40 % 0x40)
+            + 0x100 * (0x80 + c / 0x1000 % 0x40)
+            + (0xF0 + c / 0x4_0000)
+    }
+}
