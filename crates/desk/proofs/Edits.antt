@@ -20,7 +20,7 @@ use Rattle.piece_rope.specs.Edits.{document_limit, splice_fault, spliced}
 use Rattle.desk.specs.Accepted.{is_accepted, reports_change}
 use Rattle.desk.specs.Commands.{Ask}
 use Rattle.desk.specs.Desk.{IsOutcome, outcome}
-use Rattle.desk.specs.Documents.{Entry, document_of, max_revision, reply_of}
+use Rattle.desk.specs.Documents.{Entry, document_of, max_number, reply_of}
 use Rattle.desk.specs.Edits.{Applied, at_revision, put_applied, edited, Makes}
 use Rattle.desk.specs.Effects.{Effect, Puts, of_document}
 use Rattle.desk.specs.Lives.{is_edit, named_by, edited_by}
@@ -92,7 +92,7 @@ if-ok false x y k never e = absurd (never e)
 pub at_revision-ok : {A : Type 0} (h : Entry) (rev : ℕ) (answer : Result A Fault) (k : A) → at_revision h rev answer ≡ Ok k → (rev ≡ h.revision) × (answer ≡ Ok k)
 at_revision-ok h rev answer k e =
     let outer = if-ok (rev == h.revision) _ _ k (λ e. cc) e in
-    let inner = if-ok (nat_lt h.revision max_revision) _ _ k (λ e. cc) outer.1 in
+    let inner = if-ok (nat_lt h.revision max_number) _ _ k (λ e. cc) outer.1 in
     (eqb-true rev h.revision outer.0, inner.1)
 
 -- ---- the row
@@ -130,7 +130,7 @@ module _ {A : Type 0} (indexes : Files) (h : Entry) (rev : ℕ) (reply : A → D
   pub answered-edited : Possible (apply (document_of indexes h)) → Answered (edited indexes rev apply reply h)
   answered-edited p =
       answered-put (at_revision h rev (apply (document_of indexes h)))
-      (decided-if (λ x. Unit {0}) (rev == h.revision) _ _ (decided-if (λ x. Unit {0}) (nat_lt h.revision max_revision) _ _ p tt) tt)
+      (decided-if (λ x. Unit {0}) (rev == h.revision) _ _ (decided-if (λ x. Unit {0}) (nat_lt h.revision max_number) _ _ p tt) tt)
 
   -- it is one more of the edits in the document's life
   module _ (ask : Ask) (asks : is_edit ask ≡ true) (named : named_by ask ≡ Some rev)

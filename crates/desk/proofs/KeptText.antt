@@ -16,7 +16,7 @@ use Rattle.position_map.specs.declared.unit.Unit.{Unit as TextUnit}
 use Rattle.desk.specs.Accepted.{is_accepted}
 use Rattle.desk.specs.Commands.{asked_of, ChangesText, MakesChanges, TextChange}
 use Rattle.desk.specs.Desk.{effect_of}
-use Rattle.desk.specs.Documents.{Entry, entry, document_of, max_revision}
+use Rattle.desk.specs.Documents.{Entry, entry, document_of, max_number}
 use Rattle.desk.specs.Edits.{Applied, at_revision, raised, put_applied, edited}
 use Rattle.desk.specs.Effects.{Effect, Move, Puts, Stays, of_document}
 use Rattle.desk.specs.KeptText.{ChangesKeepText, Rewrites, RewritesAll, ListsKeepText, EachAccepted, ListsAreTheirChanges}
@@ -128,10 +128,10 @@ law_lists_keep_text o p doc rev unit cs reply answers e =
 -- ---- a list is its changes
 
 -- an edit that names the revision now
-now : {A : Type 0} (h : Entry) (answer : Result A Fault) → h.revision < max_revision → at_revision h h.revision answer ≡ answer
+now : {A : Type 0} (h : Entry) (answer : Result A Fault) → h.revision < max_number → at_revision h h.revision answer ≡ answer
 now h answer lt =
     let same : (h.revision == h.revision) ≡ true = eq-eqb h.revision h.revision refl in
-    let below : nat_lt h.revision max_revision ≡ true = lt-ltb h.revision max_revision lt in
+    let below : nat_lt h.revision max_number ≡ true = lt-ltb h.revision max_number lt in
     rw (same, below) refl
 
 -- a change that puts an entry
@@ -148,11 +148,11 @@ module _ (indexes : Files) (unit : TextUnit) where
   abbrev Doc : Entry → Document
   Doc h = document_of indexes h
 
-  step : (h : Entry) → h.revision < max_revision → (c : TextChange)
+  step : (h : Entry) → h.revision < max_number → (c : TextChange)
       → change_effect indexes h.revision unit c.range c.text h ≡ put_applied h change_reply (alone (changed unit c.range c.text (Doc h)))
   step h lt c = ap (put_applied h change_reply) (now h (alone (changed unit c.range c.text (Doc h))) lt)
 
-  each : (n : ℕ) (cs : List TextChange) (h : Entry) (x : Applied ℕ) → h.revision < max_revision → changed_all unit n cs (Doc h) ≡ Ok x
+  each : (n : ℕ) (cs : List TextChange) (h : Entry) (x : Applied ℕ) → h.revision < max_number → changed_all unit n cs (Doc h) ≡ Ok x
       → EachAccepted indexes h.revision unit cs h (entry x.document.setting x.document.bytes h.revision)
   each n [] h x lt e =
       let is : x ≡ record { document = Doc h; done = n } = let same = e in cc in
@@ -170,7 +170,7 @@ module _ (indexes : Files) (unit : TextUnit) where
         each (n + 1) cs g x lt (ap (changed_all unit (n + 1) cs) found ∙ by.rest),
       )
 
-  all : (n : ℕ) (cs : List TextChange) (h last : Entry) → h.revision < max_revision → EachAccepted indexes h.revision unit cs h last
+  all : (n : ℕ) (cs : List TextChange) (h last : Entry) → h.revision < max_number → EachAccepted indexes h.revision unit cs h last
       → (x : Applied ℕ) × (changed_all unit n cs (Doc h) ≡ Ok x)
   all n [] h last lt e = (record { document = Doc h; done = n }, refl)
   all n (c ∷ cs) h last lt e =

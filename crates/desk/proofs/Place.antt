@@ -23,6 +23,7 @@ use Rattle.desk.specs.Commands.{FindsPlace}
 use Rattle.desk.specs.Documents.{Entry, document_of, unless_position_fault}
 use Rattle.desk.specs.Place.{offset_named, place_at, place_reply}
 use Rattle.desk.specs.declared.place_unit.PlaceUnit.{PlaceUnit}
+use Rattle.desk.specs.declared.reply.Reply.{Reply}
 use Rattle.desk.specs.declared.reply.Reply.TheVariants as reply
 use Rattle.desk.proofs.Row.{IsRow, question, decided-position}
 
@@ -116,16 +117,20 @@ no_fault text to n fault within e = let never : Err fault ≡ Ok (width to (take
 units_are : (text : List ℕ) (to : TextUnit) (n units : ℕ) → n ≤ length text → Ok units ≡ converted text Utf32 to n → width to (take n text) ≡ units
 units_are text to n units within e = let is : Ok units ≡ Ok (width to (take n text)) = e ∙ converted_offset text to n within in cc
 
+-- the reply that has these
+abbrev found : ℕ → Option Place → ℕ → ℕ → ℕ → Reply
+found rev place utf8 utf16 utf32 = reply.Place (record { rev = rev; place = place; utf8 = utf8; utf16 = utf16; utf32 = utf32 })
+
 pub place_answered : (indexes : Files) (h : Entry) (unit : PlaceUnit) (value n utf8 utf16 : ℕ) (place : Option Place)
     → Ok n ≡ offset_named (document_of indexes h) unit value → n ≤ length (text_of (document_of indexes h)) → place ≡ place_of (decoded (document_of indexes h)).items n
     → Ok utf8 ≡ converted (text_of (document_of indexes h)) Utf32 Utf8 n → Ok utf16 ≡ converted (text_of (document_of indexes h)) Utf32 Utf16 n
-    → place_reply indexes h unit value ≡ Ok (reply.Place h.revision place utf8 utf16 n)
+    → place_reply indexes h unit value ≡ Ok (found h.revision place utf8 utf16 n)
 place_answered indexes h unit value n utf8 utf16 place named within place_is utf8_is utf16_is =
     let d = document_of indexes h in
     let text = text_of d in
     let at = place_of (decoded d).items n in
     ap (unless_position_fault (place_at d h.revision)) (sym named)
-    ∙ ap (λ w. Ok (reply.Place h.revision at (width Utf8 (take n text)) (width Utf16 (take n text)) w)) (width_front text n within)
-    ∙ ap (λ w. Ok (reply.Place h.revision at (width Utf8 (take n text)) w n)) (units_are text Utf16 n utf16 within utf16_is)
-    ∙ ap (λ w. Ok (reply.Place h.revision at w utf16 n)) (units_are text Utf8 n utf8 within utf8_is)
-    ∙ ap (λ p. Ok (reply.Place h.revision p utf8 utf16 n)) (sym place_is)
+    ∙ ap (λ w. Ok (found h.revision at (width Utf8 (take n text)) (width Utf16 (take n text)) w)) (width_front text n within)
+    ∙ ap (λ w. Ok (found h.revision at (width Utf8 (take n text)) w n)) (units_are text Utf16 n utf16 within utf16_is)
+    ∙ ap (λ w. Ok (found h.revision at w utf16 n)) (units_are text Utf8 n utf8 within utf8_is)
+    ∙ ap (λ p. Ok (found h.revision p utf8 utf16 n)) (sym place_is)

@@ -52,7 +52,7 @@ outside : (indexes : Files) (h : Entry) (from to : ℕ) → (nat_le from to && n
 unfolding range_fault
 outside indexes h from to e =
     let d = document_of indexes h in
-    let text = Text h.revision (encode_utf8_all (take (to - from) (drop from (text_of d)))) in
+    let text = Text (record { rev = h.revision; text = encode_utf8_all (take (to - from) (drop from (text_of d))) }) in
     ap (λ b. in_mode Fatal (first_error d) (unless (if b then None else Some cause.OutOfRange) text)) e
     ∙ refused_in Fatal (first_error d) OutOfRange
 
@@ -71,7 +71,7 @@ pub is_malformed : (indexes : Files) (h : Entry) (from to : ℕ) (place : Place)
 unfolding range_fault
 is_malformed indexes h from to place order within first =
     let d = document_of indexes h in
-    let text = Text h.revision (encode_utf8_all (take (to - from) (drop from (text_of d)))) in
+    let text = Text (record { rev = h.revision; text = encode_utf8_all (take (to - from) (drop from (text_of d))) }) in
     let ordered : nat_le from to ≡ true = grind (arith, nat_tests) in
     let inside : nat_le to (length (text_of d)) ≡ true = grind (arith, nat_tests) in
     ap (λ b. in_mode Fatal (first_error d) (unless (if b then None else Some cause.OutOfRange) text)) (ap (λ b. b && nat_le to (length (text_of d))) ordered ∙ inside)

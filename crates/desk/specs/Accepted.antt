@@ -5,7 +5,7 @@ use Rattle.desk.specs.Desk.{Office, answer_of}
 use Rattle.desk.specs.declared.fault.Fault.{Fault}
 use Rattle.desk.specs.declared.fault.Fault.TheVariants.{OutOfMemory}
 use Rattle.desk.specs.declared.reply.Reply.{Reply}
-use Rattle.desk.specs.declared.reply.Reply.TheVariants.{Edited, Changed, ChangesMade, Closed, Refused}
+use Rattle.desk.specs.declared.reply.Reply.TheVariants.{Edited, Change, Changes, Closed, Refused}
 
 abbrev pub is_accepted : Reply → Bool
 is_accepted (Refused fault) = false
@@ -13,9 +13,9 @@ is_accepted reply = true
 
 -- the reply accepts an open, an edit or a close
 abbrev pub reports_change : Reply → Bool
-reports_change (Edited bom encoding rev) = true
-reports_change (Changed at bom del encoding ins rev) = true
-reports_change (ChangesMade applied bom encoding rev) = true
+reports_change (Edited r) = true
+reports_change (Change r) = true
+reports_change (Changes r) = true
 reports_change (Closed rev) = true
 reports_change reply = false
 

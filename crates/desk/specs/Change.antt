@@ -20,7 +20,7 @@ use Rattle.desk.specs.declared.change_cause.ChangeCause.TheVariants as because
 use Rattle.desk.specs.declared.fault.Fault.{Fault}
 use Rattle.desk.specs.declared.fault.Fault.TheVariants.{OutOfRange, SplitsCharacter, SplitsItem, NoEncoder, Unencodable, OutOfMemory}
 use Rattle.desk.specs.declared.reply.Reply.{Reply}
-use Rattle.desk.specs.declared.reply.Reply.TheVariants.{Changed}
+use Rattle.desk.specs.declared.reply.Reply.TheVariants.{Change}
 
 -- the refusal for the cause that a change isn't planned
 abbrev pub change_fault : ChangeFault → Fault
@@ -71,7 +71,8 @@ alone (Err cause) = Err (cause_fault cause)
 
 -- the splice that was made, with the number of bytes put in, and the document after it
 abbrev pub change_reply : Plan → Document → ℕ → Reply
-change_reply plan d rev = Changed plan.at (decoded d).bom plan.del (decoded d).encoding (length plan.ins) rev
+change_reply plan d rev =
+    Change (record { at = plan.at; bom = (decoded d).bom; del = plan.del; encoding = (decoded d).encoding; ins = length plan.ins; rev = rev })
 
 abbrev pub change_effect : Files → ℕ → TextUnit → Option Range → List ℕ → Entry → Effect
 change_effect indexes rev unit range text = edited indexes rev (λ d. alone (changed unit range text d)) change_reply

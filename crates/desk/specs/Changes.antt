@@ -16,7 +16,7 @@ use Rattle.desk.specs.declared.change_cause.ChangeCause.TheVariants as because
 use Rattle.desk.specs.declared.fault.Fault.{Fault}
 use Rattle.desk.specs.declared.fault.Fault.TheVariants.{InChange, OutOfMemory}
 use Rattle.desk.specs.declared.reply.Reply.{Reply}
-use Rattle.desk.specs.declared.reply.Reply.TheVariants.{ChangesMade}
+use Rattle.desk.specs.declared.reply.Reply.TheVariants.{Changes}
 
 -- the refusal of a list, by the number of its first change that is refused, and the cause
 abbrev pub in_change : ℕ → ChangeCause → Fault
@@ -36,7 +36,7 @@ changed_all unit n (c ∷ cs) d = then_rest n (changed_all unit (n + 1) cs) (cha
 
 -- the number of changes, and the document after the last of them
 abbrev pub changes_reply : ℕ → Document → ℕ → Reply
-changes_reply n d rev = ChangesMade n (decoded d).bom (decoded d).encoding rev
+changes_reply n d rev = Changes (record { applied = n; bom = (decoded d).bom; encoding = (decoded d).encoding; rev = rev })
 
 -- one edit, whatever their number
 abbrev pub changes_effect : Files → ℕ → TextUnit → List TextChange → Entry → Effect

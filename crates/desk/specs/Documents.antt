@@ -1,5 +1,5 @@
 -- The documents of the desk, and what its ops have in common.
-use Rattle.std.specs.Prelude.{◌≡◌, ℕ, List, Option, Some, None, Result, Ok, Err}
+use Rattle.std.specs.Prelude.{◌≡◌, ℕ, ◌^◌, ◌-◌, List, Option, Some, None, Result, Ok, Err}
 use Rattle.std.specs.Ordering.{nat_cmp}
 use Rattle.std.specs.Cmp.Lexicographic.{slice_cmp}
 use Rattle.std.specs.FinMap.{FinMap}
@@ -28,9 +28,9 @@ entry setting bytes revision = record { setting = setting; bytes = bytes; revisi
 abbrev pub Names : Type 0
 Names = FinMap (slice_cmp nat_cmp) Entry
 
--- the greatest revision, 2^53 - 1
-abbrev pub max_revision : ℕ
-max_revision = 9007199254740991
+-- the greatest number of a line, and so the greatest revision (RFC 8259, section 6)
+abbrev pub max_number : ℕ
+max_number = 2 ^ 53 - 1
 
 -- what is held, decoded by the loaded index files
 abbrev pub document_of : Files → Entry → Document
@@ -65,7 +65,7 @@ unless_position_fault reply (Err fault) = Err (position_fault fault)
 
 -- the reply to an open or a splice that left this document, at this revision
 abbrev pub edited_reply : Document → ℕ → Reply
-edited_reply d rev = Edited (decoded d).bom (decoded d).encoding rev
+edited_reply d rev = Edited (record { bom = (decoded d).bom; encoding = (decoded d).encoding; rev = rev })
 
 -- the reply to an open that left this entry
 abbrev pub edit_reply : Files → Entry → Reply

@@ -2,7 +2,7 @@
 use Rattle.std.specs.Prelude.{◌≡◌, ℕ, ◌+◌, ◌==◌, nat_lt, if◌then◌else◌, Result, Ok, Err}
 use Rattle.index_loader.specs.Files.{Files}
 use Rattle.piece_rope.specs.Document.{Document}
-use Rattle.desk.specs.Documents.{Entry, entry, document_of, max_revision}
+use Rattle.desk.specs.Documents.{Entry, entry, document_of, max_number}
 use Rattle.desk.specs.Effects.{Effect, Puts, refused}
 use Rattle.desk.specs.declared.fault.Fault.{Fault}
 use Rattle.desk.specs.declared.fault.Fault.TheVariants.{Stale, RevisionsSpent, OutOfMemory}
@@ -17,7 +17,7 @@ pub record Applied (A : Type 0) : Type 0 where
 abbrev pub at_revision : {A : Type 0} → Entry → ℕ → Result A Fault → Result A Fault
 at_revision h rev answer =
     if rev == h.revision
-    then (if nat_lt h.revision max_revision then answer else Err RevisionsSpent)
+    then (if nat_lt h.revision max_number then answer else Err RevisionsSpent)
     else Err (Stale h.revision)
 
 -- but for its bytes a document is as it was

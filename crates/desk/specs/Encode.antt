@@ -16,7 +16,7 @@ use Rattle.desk.specs.declared.reply.Reply.TheVariants.{Bytes}
 
 -- the reply with encoded bytes, or the encoder's cause; memory is no cause that a definition has
 abbrev pub bytes_reply : ℕ → Result (List ℕ) EncodeFault → Result Reply Fault
-bytes_reply rev (Ok bytes) = Ok (Bytes rev bytes)
+bytes_reply rev (Ok bytes) = Ok (Bytes (record { rev = rev; bytes = bytes }))
 bytes_reply rev (Err encoder.NoIndex) = Err NoIndex
 bytes_reply rev (Err (encoder.Unencodable e)) = Err (Unencodable e.code_point e.index)
 bytes_reply rev (Err cause) = Err NoEncoder

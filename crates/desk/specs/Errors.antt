@@ -12,4 +12,4 @@ use Rattle.desk.specs.declared.reply.Reply.TheVariants.{Errors}
 abbrev pub errors_reply : Files → Entry → ℕ → ℕ → Result Reply Fault
 errors_reply indexes h from max =
     let d = document_of indexes h in
-    unless (errors_fault d from) (Errors h.revision (length (errors_of d)) (take max (drop from (errors_of d))))
+    unless (errors_fault d from) (Errors (record { rev = h.revision; total = length (errors_of d); places = take max (drop from (errors_of d)) }))

@@ -13,7 +13,7 @@ use Rattle.desk.specs.Accepted.{is_accepted}
 use Rattle.desk.specs.Change.{change_effect}
 use Rattle.desk.specs.Commands.{asked_of, ChangesText, MakesChanges, TextChange}
 use Rattle.desk.specs.Desk.{Office, Answers}
-use Rattle.desk.specs.Documents.{Entry, entry, document_of, max_revision}
+use Rattle.desk.specs.Documents.{Entry, entry, document_of, max_number}
 use Rattle.desk.specs.Effects.{Puts}
 use Rattle.desk.specs.declared.fault.Fault.TheVariants.{OutOfMemory}
 use Rattle.desk.specs.declared.reply.Reply.{Reply}
@@ -74,7 +74,7 @@ EachAccepted indexes rev unit (c ∷ cs) h last =
 -- what they leave, one revision later.
 abbrev pub ListsAreTheirChanges : Type 0
 ListsAreTheirChanges = (o p : Office) (doc : List ℕ) (unit : TextUnit) (changes : List TextChange) (reply : Reply) (before : Entry)
-    → get o.documents doc ≡ Some before → before.revision < max_revision
+    → get o.documents doc ≡ Some before → before.revision < max_number
     → Answers o (asked_of doc (MakesChanges before.revision unit changes)) reply p → reply ≢ Refused OutOfMemory
     → (is_accepted reply ≡ true → (last : Entry) × EachAccepted o.indexes before.revision unit changes before last × (get p.documents doc ≡ Some (record last { revision = before.revision + 1 })))
     × ((last : Entry) → EachAccepted o.indexes before.revision unit changes before last → is_accepted reply ≡ true)

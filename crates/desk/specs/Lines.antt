@@ -21,4 +21,5 @@ page_of text from max = map line_of (take max (drop from (lines_of text)))
 abbrev pub lines_reply : Files → Entry → ℕ → ℕ → Result Reply Fault
 lines_reply indexes h from max =
     let text = text_of (document_of indexes h) in
-    if nat_le from (length (lines_of text)) then Ok (Lines h.revision (length (lines_of text)) (page_of text from max)) else Err OutOfRange
+    let count = length (lines_of text) in
+    if nat_le from count then Ok (Lines (record { rev = h.revision; count = count; lines = page_of text from max })) else Err OutOfRange

@@ -24,7 +24,7 @@ offset_named d (Text unit) value = converted (text_of d) unit Utf32 value
 abbrev pub place_at : Document → ℕ → ℕ → Reply
 place_at d rev n =
     let front = take n (text_of d) in
-    Place rev (place_of (decoded d).items n) (width Utf8 front) (width Utf16 front) (width Utf32 front)
+    Place (record { rev = rev; place = place_of (decoded d).items n; utf8 = width Utf8 front; utf16 = width Utf16 front; utf32 = width Utf32 front })
 
 abbrev pub place_reply : Files → Entry → PlaceUnit → ℕ → Result Reply Fault
 place_reply indexes h unit value =

@@ -11,4 +11,4 @@ use Rattle.desk.specs.declared.reply.Reply.TheVariants.{Position}
 
 abbrev pub position_reply : Files → Entry → ℕ → TextUnit → Result Reply Fault
 position_reply indexes h offset unit =
-    unless_position_fault (λ p. Position h.revision p.line p.character) (position_of (text_of (document_of indexes h)) unit offset)
+    unless_position_fault (λ p. Position (record { rev = h.revision; line = p.line; character = p.character })) (position_of (text_of (document_of indexes h)) unit offset)

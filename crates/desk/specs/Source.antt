@@ -8,4 +8,4 @@ use Rattle.desk.specs.declared.reply.Reply.TheVariants.{Bytes}
 
 -- the len bytes from `at` on
 abbrev pub source_reply : Entry → ℕ → ℕ → Result Reply Fault
-source_reply h at len = unless (source_fault h.bytes at len) (Bytes h.revision (take len (drop at h.bytes)))
+source_reply h at len = unless (source_fault h.bytes at len) (Bytes (record { rev = h.revision; bytes = take len (drop at h.bytes) }))

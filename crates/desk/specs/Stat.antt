@@ -9,10 +9,20 @@ use Rattle.desk.specs.Documents.{Entry, document_of}
 use Rattle.desk.specs.declared.reply.Reply.{Reply}
 use Rattle.desk.specs.declared.reply.Reply.TheVariants.{Stat}
 
--- the encoding given and the one in force; then the numbers of the mark's bytes, all bytes, errors, lines, and units in UTF-8, UTF-16
--- and UTF-32
+-- the encoding given and the one in force, and the numbers of the mark's bytes, all bytes, errors, lines and units
 abbrev pub stat_reply : Files → Entry → Reply
 stat_reply indexes h =
     let d = document_of indexes h in
     let text = text_of d in
-    Stat h.revision h.setting.given (decoded d).encoding (decoded d).bom (length h.bytes) (length (errors_of d)) (length (lines_of text)) (width Utf8 text) (width Utf16 text) (width Utf32 text)
+    Stat (record {
+      rev = h.revision;
+      given = h.setting.given;
+      encoding = (decoded d).encoding;
+      bom = (decoded d).bom;
+      bytes = length h.bytes;
+      errors = length (errors_of d);
+      lines = length (lines_of text);
+      utf8 = width Utf8 text;
+      utf16 = width Utf16 text;
+      utf32 = width Utf32 text;
+    })

@@ -5,7 +5,7 @@ ghost use Rattle.enc_names.specs.Settings.{setting_of};
 ghost use Rattle.desk.specs.Accepted.{reports_change};
 ghost use Rattle.desk.specs.Commands.{asked, asked_of};
 ghost use Rattle.desk.specs.Desk.{Answers, Adopts};
-ghost use Rattle.desk.specs.Documents.{max_revision, reply_of};
+ghost use Rattle.desk.specs.Documents.{max_number, reply_of};
 
 use crate::command::Command;
 use crate::documents::Documents;
@@ -67,7 +67,7 @@ impl<'i> Desk<'i> {
         revision: u64,
     ) -> Result<(), Fault>
         requires name { (1 ≤ length name.now) × (length name.now ≤ 64) }
-        requires revision { revision ≤ max_revision }
+        requires revision { revision ≤ max_number }
         ensures { Adopts self.old name.now (setting_of given bom) bytes.now revision result self.new }
     {
         if self.documents.has(name) {

@@ -11,6 +11,7 @@ mod edit;
 mod fault;
 mod laws;
 mod line;
+mod max_number;
 mod open_document;
 pub mod ops;
 mod place_unit;
@@ -27,6 +28,7 @@ pub use laws::{
     law_refusals_change_nothing,
 };
 pub use line::Line;
+pub use max_number::MAX_NUMBER;
 pub use place_unit::PlaceUnit;
-pub use reply::{Reply, ReplyList, ReplyText};
+pub use reply::{BytesReply, EditedReply, Reply, ReplyList, ReplyText};
 pub use text_mode::TextMode;

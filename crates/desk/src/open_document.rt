@@ -7,12 +7,10 @@ ghost use Rattle.desk.specs.OpenDocuments.{entry_of};
 
 use crate::edit::Edit;
 use crate::fault::Fault;
-use crate::reply::Reply;
+use crate::max_number::MAX_NUMBER;
+use crate::reply::{EditedReply, Reply};
 use piece_rope::Doc;
 use std::alloc::Global;
-
-/// The greatest revision, 2^53 - 1: the greatest whole number that a line may hold.
-const MAX_REVISION: u64 = 9_007_199_254_740_991;
 
 /// A document and its revision.
 #[derive(Drop)]
@@ -48,7 +46,7 @@ impl OpenDocument<'_> {
         if rev != self.revision {
             return Err(Fault::Stale { rev: self.revision });
         }
-        if self.revision >= MAX_REVISION {
+        if self.revision >= MAX_NUMBER {
             return Err(Fault::RevisionsSpent);
         }
         Ok(())
@@ -66,9 +64,9 @@ impl OpenDocument<'_> {
 pub(crate) fn edited_reply(document: &Doc<'_>, rev: u64) -> Reply
     ensures { result ≡ edited_reply document.now rev }
 {
-    Reply::Edited {
+    Reply::Edited(EditedReply {
         bom: document.bom_len(),
         encoding: document.encoding(),
         rev,
-    }
+    })
 }

@@ -1,4 +1,4 @@
-//! The ops, a file each: what a command asks, and how it is answered.
+//! The ops, a file each: what a command asks, what its reply says, and how it is answered.
 
 mod change;
 mod changes;
@@ -15,17 +15,17 @@ mod splice;
 mod stat;
 mod text;
 
-pub use change::Change;
-pub use changes::{Changes, ContentChange};
+pub use change::{Change, ChangeReply};
+pub use changes::{Changes, ChangesReply, ContentChange};
 pub use close::Close;
 pub use encode::Encode;
-pub use errors::Errors;
-pub use lines::Lines;
-pub use offset::Offset;
+pub use errors::{Errors, ErrorsReply};
+pub use lines::{Lines, LinesReply};
+pub use offset::{Offset, OffsetReply};
 pub use open::Open;
-pub use place::Place;
-pub use position::Position;
+pub use place::{Place, PlaceReply};
+pub use position::{Position, PositionReply};
 pub use source::Source;
 pub use splice::Splice;
-pub use stat::Stat;
-pub use text::Text;
+pub use stat::{Stat, StatReply};
+pub use text::{Text, TextReply};

@@ -1,8 +1,11 @@
 //! What the desk answers.
 
 use crate::fault::Fault;
-use crate::line::Line;
-use enc_names::{Encoding, Place};
+use crate::ops::{
+    ChangeReply, ChangesReply, ErrorsReply, LinesReply, OffsetReply, PlaceReply, PositionReply,
+    StatReply, TextReply,
+};
+use enc_names::Encoding;
 use std::marker::Model;
 
 /// The text of a reply. Contracts see its UTF-8 bytes.
@@ -69,134 +72,57 @@ impl<T: Drop> ReplyList<T> {
     }
 }
 
-/// The answer to one command.
+/// The reply to an open or a splice.
+#[derive(Clone, Copy)]
+pub struct EditedReply {
+    /// How many bytes of the document are its byte order mark.
+    pub bom: u64,
+    /// The encoding in force.
+    pub encoding: Encoding,
+    /// The document's revision after the command.
+    pub rev: u64,
+}
+
+/// The reply with bytes: those of a document, or of its text in another encoding.
+#[derive(Drop)]
+pub struct BytesReply {
+    /// The document's revision.
+    pub rev: u64,
+    /// The bytes asked for.
+    pub bytes: ReplyList<u8>,
+}
+
+/// The answer to one command. What a reply says is declared beside its op, or above where two ops
+/// have it.
 #[derive(Drop)]
 pub enum Reply {
     /// An open or a splice was accepted.
-    Edited {
-        /// How many bytes of the document are its byte order mark.
-        bom: u64,
-        /// The encoding in force.
-        encoding: Encoding,
-        /// The document's revision after the command.
-        rev: u64,
-    },
+    Edited(EditedReply),
     /// A change was accepted.
-    Changed {
-        /// How many bytes stand before those put in.
-        at: u64,
-        /// How many bytes of the document are its byte order mark.
-        bom: u64,
-        /// How many bytes were taken out.
-        del: u64,
-        /// The encoding in force.
-        encoding: Encoding,
-        /// How many bytes were put in.
-        ins: u64,
-        /// The document's revision after the command.
-        rev: u64,
-    },
-    /// A list of changes was made.
-    ChangesMade {
-        /// How many changes there were.
-        applied: u64,
-        /// How many bytes of the document are its byte order mark.
-        bom: u64,
-        /// The encoding in force.
-        encoding: Encoding,
-        /// The document's revision after the command.
-        rev: u64,
-    },
+    Change(ChangeReply),
+    /// A list of changes was accepted.
+    Changes(ChangesReply),
     /// A document was closed.
     Closed {
         /// The revision that it had.
         rev: u64,
     },
     /// The text asked for.
-    Text {
-        /// The document's revision.
-        rev: u64,
-        /// The code points asked for. An error is one, U+FFFD.
-        text: ReplyText,
-    },
-    /// The bytes asked for: those of the document, or of its text in another encoding.
-    Bytes {
-        /// The document's revision.
-        rev: u64,
-        /// The bytes.
-        bytes: ReplyList<u8>,
-    },
+    Text(TextReply),
+    /// The bytes asked for.
+    Bytes(BytesReply),
     /// A page of the places of errors.
-    Errors {
-        /// The document's revision.
-        rev: u64,
-        /// How many errors the document has in all.
-        total: u64,
-        /// The places asked for, in bytes of the document.
-        places: ReplyList<Place>,
-    },
+    Errors(ErrorsReply),
     /// A page of lines.
-    Lines {
-        /// The document's revision.
-        rev: u64,
-        /// How many lines the document has in all.
-        count: u64,
-        /// The lines asked for.
-        lines: ReplyList<Line>,
-    },
+    Lines(LinesReply),
     /// The position of an offset.
-    Position {
-        /// The document's revision.
-        rev: u64,
-        /// The line's number, counted from 0.
-        line: u64,
-        /// The units between the line's start and the position.
-        character: u64,
-    },
+    Position(PositionReply),
     /// The offset of a position.
-    Offset {
-        /// The document's revision.
-        rev: u64,
-        /// How many code points stand before the offset.
-        offset: u64,
-    },
+    Offset(OffsetReply),
     /// An offset in each unit, and the place of the code point there.
-    Place {
-        /// The document's revision.
-        rev: u64,
-        /// The place in bytes of the document; none at the text's end.
-        place: Option<Place>,
-        /// The bytes of UTF-8 before the offset.
-        utf8: u64,
-        /// The code units of UTF-16 before it.
-        utf16: u64,
-        /// The code points before it.
-        utf32: u64,
-    },
-    /// How long a document and its text are. What the bytes of a document can give fits in 32 bits
-    /// (`Doc::law_bounds`).
-    Stat {
-        /// The document's revision.
-        rev: u64,
-        /// The encoding given at the open.
-        given: Encoding,
-        /// The encoding in force.
-        encoding: Encoding,
-        /// How many bytes of the document are its byte order mark.
-        bom: u64,
-        /// Bytes of the document.
-        bytes: u32,
-        /// The errors in the document.
-        errors: u32,
-        /// The lines of the text.
-        lines: u32,
-        /// The text's bytes in UTF-8.
-        utf8: u32,
-        /// Its code units in UTF-16.
-        utf16: u32,
-        /// Its code points.
-        utf32: u32,
-    },
+    Place(PlaceReply),
+    /// How long a document and its text are.
+    Stat(StatReply),
     /// The command was refused, and changed nothing.
     Refused {
         /// The first cause, in the order of `Fault`'s variants.

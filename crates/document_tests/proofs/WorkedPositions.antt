@@ -21,19 +21,19 @@ use Rattle.desk.specs.declared.fault.Fault.TheVariants.{OutOfRange, SplitsCharac
 use Rattle.desk.specs.declared.place_unit.PlaceUnit.TheVariants.{Byte, Text}
 use Rattle.desk.specs.declared.reply.Reply.TheVariants.{Stat, Lines, Position, Offset, Place}
 
-pub stat_worked : stat_reply no_files pair_and_cr_lf ≡ Stat 0 Utf8 Utf8 0 8 0 2 8 6 5
+pub stat_worked : stat_reply no_files pair_and_cr_lf ≡ Stat (record { rev = 0; given = Utf8; encoding = Utf8; bom = 0; bytes = 8; errors = 0; lines = 2; utf8 = 8; utf16 = 6; utf32 = 5 })
 unfolding decoded_text decoded_errors decode run turns lines_of
 stat_worked = refl
 
-pub lines_worked : lines_reply no_files pair_and_cr_lf 0 10 ≡ Ok (Lines 0 2 (record { start = 0; end = 2 } ∷ record { start = 4; end = 5 } ∷ []))
+pub lines_worked : lines_reply no_files pair_and_cr_lf 0 10 ≡ Ok (Lines (record { rev = 0; count = 2; lines = record { start = 0; end = 2 } ∷ record { start = 4; end = 5 } ∷ [] }))
 unfolding decoded_text decode run turns lines_of
 lines_worked = refl
 
-pub position_worked : position_reply no_files pair_and_cr_lf 3 Utf16 ≡ Ok (Position 0 0 3)
+pub position_worked : position_reply no_files pair_and_cr_lf 3 Utf16 ≡ Ok (Position (record { rev = 0; line = 0; character = 3 }))
 unfolding decoded_text decode run turns lines_of position_of
 position_worked = refl
 
-pub offset_worked : offset_reply no_files pair_and_cr_lf 0 99 Utf16 ≡ Ok (Offset 0 2)
+pub offset_worked : offset_reply no_files pair_and_cr_lf 0 99 Utf16 ≡ Ok (Offset (record { rev = 0; offset = 2 }))
 unfolding decoded_text decode run turns lines_of offset_of
 offset_worked = refl
 
@@ -41,11 +41,11 @@ pub split_worked : place_reply no_files pair_and_cr_lf (Text Utf16) 2 ≡ Err Sp
 unfolding decoded_text decode run turns converted
 split_worked = refl
 
-pub inside_worked : place_reply no_files truncated Byte 1 ≡ Ok (Place 0 (Some (record { from = 0; to = 2 })) 0 0 0)
+pub inside_worked : place_reply no_files truncated Byte 1 ≡ Ok (Place (record { rev = 0; place = Some (record { from = 0; to = 2 }); utf8 = 0; utf16 = 0; utf32 = 0 }))
 unfolding decoded_text decode run turns scalar_of_byte
 inside_worked = refl
 
-pub end_worked : place_reply no_files truncated Byte 3 ≡ Ok (Place 0 None 4 2 2)
+pub end_worked : place_reply no_files truncated Byte 3 ≡ Ok (Place (record { rev = 0; place = None; utf8 = 4; utf16 = 2; utf32 = 2 }))
 unfolding decoded_text decode run turns scalar_of_byte
 end_worked = refl
 

@@ -48,23 +48,23 @@ no_bytes = refl
 abbrev completed : Entry
 completed = entry (setting_of Utf8 Sniff) (0xE2 ∷ 0x82 ∷ 0xAC ∷ 0x41 ∷ []) 1
 
-truncated_edit : edit_reply no_files truncated ≡ Edited 0 Utf8 0
+truncated_edit : edit_reply no_files truncated ≡ Edited (record { bom = 0; encoding = Utf8; rev = 0 })
 unfolding decode
 truncated_edit = refl
 
-truncated_text : text_reply no_files truncated 0 2 Replacement ≡ Ok (Text 0 (0xEF ∷ 0xBF ∷ 0xBD ∷ 0x41 ∷ []))
+truncated_text : text_reply no_files truncated 0 2 Replacement ≡ Ok (Text (record { rev = 0; text = 0xEF ∷ 0xBF ∷ 0xBD ∷ 0x41 ∷ [] }))
 unfolding range_fault decoded_text decode run turns encode
 truncated_text = refl
 
-truncated_errors : errors_reply no_files truncated 0 10 ≡ Ok (Errors 0 1 (record { from = 0; to = 2 } ∷ []))
+truncated_errors : errors_reply no_files truncated 0 10 ≡ Ok (Errors (record { rev = 0; total = 1; places = record { from = 0; to = 2 } ∷ [] }))
 unfolding number_fault decoded_errors decode run turns
 truncated_errors = refl
 
-completed_text : text_reply no_files completed 0 2 Replacement ≡ Ok (Text 1 (0xE2 ∷ 0x82 ∷ 0xAC ∷ 0x41 ∷ []))
+completed_text : text_reply no_files completed 0 2 Replacement ≡ Ok (Text (record { rev = 1; text = 0xE2 ∷ 0x82 ∷ 0xAC ∷ 0x41 ∷ [] }))
 unfolding range_fault decoded_text decode run turns encode
 completed_text = refl
 
-completing : splice_effect no_files 0 2 0 (0xAC ∷ []) truncated ≡ record { reply = Edited 0 Utf8 1; move = Puts completed }
+completing : splice_effect no_files 0 2 0 (0xAC ∷ []) truncated ≡ record { reply = Edited (record { bom = 0; encoding = Utf8; rev = 1 }); move = Puts completed }
 unfolding splice_fault decode
 completing = refl
 
@@ -105,30 +105,30 @@ two_entries = finite.get-insert nat_list_cmp_total one name completed name
 abbrev office : Names → Office
 office documents = record { indexes = no_files; labels = name_labels; documents = documents }
 
-opens : answer_of (office nothing) (a (Opens (codes "utf-8") (codes "4oJB") Sniff)) ≡ record { reply = Edited 0 Utf8 0; documents = one }
+opens : answer_of (office nothing) (a (Opens (codes "utf-8") (codes "4oJB") Sniff)) ≡ record { reply = Edited (record { bom = 0; encoding = Utf8; rev = 0 }); documents = one }
 opens =
     ap (λ b. outcome nothing name (with_bytes b (λ x. opened no_files (has_place nothing) (finite.get nothing name) x (Some Utf8) Sniff))) opened_bytes
     ∙ ap (λ found. outcome nothing name (opened no_files (has_place nothing) found truncated.bytes (Some Utf8) Sniff)) no_entry
     ∙ ap (λ r. outcome nothing name (put (edit_reply no_files) r)) (admitting _ (finite.len-empty (slice_cmp nat_cmp) Entry))
     ∙ ap (λ r. record { reply = r; documents = one }) truncated_edit
 
-reads_truncated : answer_of (office one) (a (Reads 0 2 Replacement)) ≡ record { reply = Text 0 (0xEF ∷ 0xBF ∷ 0xBD ∷ 0x41 ∷ []); documents = one }
+reads_truncated : answer_of (office one) (a (Reads 0 2 Replacement)) ≡ record { reply = Text (record { rev = 0; text = 0xEF ∷ 0xBF ∷ 0xBD ∷ 0x41 ∷ [] }); documents = one }
 reads_truncated =
     ap (λ found. outcome one name (of_document found (λ h. replied (text_reply no_files h 0 2 Replacement)))) one_entry
     ∙ ap (λ r. outcome one name (replied r)) truncated_text
 
-lists_errors : answer_of (office one) (a (ListsErrors 0 10)) ≡ record { reply = Errors 0 1 (record { from = 0; to = 2 } ∷ []); documents = one }
+lists_errors : answer_of (office one) (a (ListsErrors 0 10)) ≡ record { reply = Errors (record { rev = 0; total = 1; places = record { from = 0; to = 2 } ∷ [] }); documents = one }
 lists_errors =
     ap (λ found. outcome one name (of_document found (λ h. replied (errors_reply no_files h 0 10)))) one_entry
     ∙ ap (λ r. outcome one name (replied r)) truncated_errors
 
-splices : answer_of (office one) (a (Splices 0 2 0 (codes "rA=="))) ≡ record { reply = Edited 0 Utf8 1; documents = two }
+splices : answer_of (office one) (a (Splices 0 2 0 (codes "rA=="))) ≡ record { reply = Edited (record { bom = 0; encoding = Utf8; rev = 1 }); documents = two }
 splices =
     ap (λ b. outcome one name (with_bytes b (λ ins. of_document (finite.get one name) (splice_effect no_files 0 2 0 ins)))) spliced_bytes
     ∙ ap (λ found. outcome one name (of_document found (splice_effect no_files 0 2 0 (0xAC ∷ [])))) one_entry
     ∙ ap (outcome one name) completing
 
-reads_completed : answer_of (office two) (a (Reads 0 2 Replacement)) ≡ record { reply = Text 1 (0xE2 ∷ 0x82 ∷ 0xAC ∷ 0x41 ∷ []); documents = two }
+reads_completed : answer_of (office two) (a (Reads 0 2 Replacement)) ≡ record { reply = Text (record { rev = 1; text = 0xE2 ∷ 0x82 ∷ 0xAC ∷ 0x41 ∷ [] }); documents = two }
 reads_completed =
     ap (λ found. outcome two name (of_document found (λ h. replied (text_reply no_files h 0 2 Replacement)))) two_entries
     ∙ ap (λ r. outcome two name (replied r)) completed_text

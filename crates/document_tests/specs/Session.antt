@@ -53,11 +53,11 @@ session =
 -- the texts are U+FFFD A and U+20AC A
 abbrev pub session_replies : List Reply
 session_replies =
-    Edited 0 Utf8 0
-    ∷ Text 0 (0xEF ∷ 0xBF ∷ 0xBD ∷ 0x41 ∷ [])
-    ∷ Errors 0 1 (record { from = 0; to = 2 } ∷ [])
-    ∷ Edited 0 Utf8 1
-    ∷ Text 1 (0xE2 ∷ 0x82 ∷ 0xAC ∷ 0x41 ∷ [])
+    Edited (record { bom = 0; encoding = Utf8; rev = 0 })
+    ∷ Text (record { rev = 0; text = 0xEF ∷ 0xBF ∷ 0xBD ∷ 0x41 ∷ [] })
+    ∷ Errors (record { rev = 0; total = 1; places = record { from = 0; to = 2 } ∷ [] })
+    ∷ Edited (record { bom = 0; encoding = Utf8; rev = 1 })
+    ∷ Text (record { rev = 1; text = 0xE2 ∷ 0x82 ∷ 0xAC ∷ 0x41 ∷ [] })
     ∷ Refused OutOfRange
     ∷ Closed 1
     ∷ []

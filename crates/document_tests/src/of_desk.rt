@@ -62,7 +62,7 @@ fn is_refused(desk: &mut Desk<'_>, command: &Command<'_>, cause: Fault) -> bool 
 /// Whether the command is an edit that leaves this revision.
 fn is_edited(desk: &mut Desk<'_>, command: &Command<'_>, revision: u64) -> bool {
     match desk.answer(command) {
-        Reply::Edited { rev, .. } => rev == revision,
+        Reply::Edited(reply) => reply.rev == revision,
         _ => false,
     }
 }
@@ -76,7 +76,7 @@ fn has_text(desk: &mut Desk<'_>, doc: &str, revision: u64, wanted: &str) -> bool
         mode: TextMode::Replacement,
     });
     match desk.answer(&both) {
-        Reply::Text { rev, text } => rev == revision && text.as_str() == wanted,
+        Reply::Text(reply) => reply.rev == revision && reply.text.as_str() == wanted,
         _ => false,
     }
 }

@@ -5,7 +5,7 @@ ghost use Rattle.line_protocol.specs.Replies.{reply_text, refusal_text};
 ghost use Rattle.desk.specs.declared.change_cause.ChangeCause.TheVariants.{Plan};
 ghost use Rattle.desk.specs.declared.fault.Fault.TheVariants as fault;
 ghost use Rattle.position_map.specs.declared.change_fault.ChangeFault.TheVariants as change_fault;
-ghost use Rattle.desk.specs.declared.reply.Reply.TheVariants.{Edited, Changed, ChangesMade, Closed, Text, Errors, Lines, Position, Offset, Stat, Refused};
+ghost use Rattle.desk.specs.declared.reply.Reply.TheVariants.{Edited, Change, Changes, Closed, Text, Errors, Lines, Position, Offset, Stat, Refused};
 ghost use Rattle.desk.specs.declared.reply.Reply.TheVariants as replies;
 ghost use Rattle.line_protocol.specs.declared.request.field.Field.TheVariants as field;
 ghost use Rattle.line_protocol.specs.declared.request.refusal.Refusal.TheVariants as refusal;
@@ -15,15 +15,15 @@ use line_protocol::{Refusal, ReplyLine};
 use std::test::Fail;
 
 fn stored_session()
-    ensures open { reply_text 1 (Edited 0 Utf8 0)
+    ensures open { reply_text 1 (Edited (record { bom = 0; encoding = Utf8; rev = 0 }))
         ≡ codes "{\"bom\":0,\"encoding\":\"UTF-8\",\"id\":1,\"rev\":0}\n" }
-    ensures replaced { reply_text 2 (Text 0 (239 ∷ 191 ∷ 189 ∷ 65 ∷ []))
+    ensures replaced { reply_text 2 (Text (record { rev = 0; text = 239 ∷ 191 ∷ 189 ∷ 65 ∷ [] }))
         ≡ codes "{\"id\":2,\"rev\":0,\"text\":\"" ++ 239 ∷ 191 ∷ 189 ∷ codes "A\"}\n" }
-    ensures errors { reply_text 3 (Errors 0 1 (record { from = 0; to = 2 } ∷ []))
+    ensures errors { reply_text 3 (Errors (record { rev = 0; total = 1; places = record { from = 0; to = 2 } ∷ [] }))
         ≡ codes "{\"errors\":[[0,2]],\"id\":3,\"rev\":0,\"total\":1}\n" }
-    ensures splice { reply_text 4 (Edited 0 Utf8 1)
+    ensures splice { reply_text 4 (Edited (record { bom = 0; encoding = Utf8; rev = 1 }))
         ≡ codes "{\"bom\":0,\"encoding\":\"UTF-8\",\"id\":4,\"rev\":1}\n" }
-    ensures whole { reply_text 5 (Text 1 (226 ∷ 130 ∷ 172 ∷ 65 ∷ []))
+    ensures whole { reply_text 5 (Text (record { rev = 1; text = 226 ∷ 130 ∷ 172 ∷ 65 ∷ [] }))
         ≡ codes "{\"id\":5,\"rev\":1,\"text\":\"" ++ 226 ∷ 130 ∷ 172 ∷ codes "A\"}\n" }
     ensures fault { reply_text 6 (Refused fault.OutOfRange)
         ≡ codes "{\"fault\":\"OutOfRange\",\"id\":6}\n" }
@@ -37,29 +37,29 @@ fn other_replies()
         ≡ codes "{\"fault\":\"Malformed\",\"id\":1,\"place\":[0,2]}\n" }
     ensures memory { reply_text 1 (Refused fault.OutOfMemory)
         ≡ codes "{\"fault\":\"OutOfMemory\"}\n" }
-    ensures escapes { reply_text 1 (Text 0 (34 ∷ 92 ∷ 8 ∷ 9 ∷ 10 ∷ 12 ∷ 13 ∷ 31 ∷ 127 ∷ []))
+    ensures escapes { reply_text 1 (Text (record { rev = 0; text = 34 ∷ 92 ∷ 8 ∷ 9 ∷ 10 ∷ 12 ∷ 13 ∷ 31 ∷ 127 ∷ [] }))
         ≡ codes "{\"id\":1,\"rev\":0,\"text\":\"\\\"\\\\\\b\\t\\n\\f\\r\\u001f" ++ 127
         ∷ codes "\"}\n" }
 {}
 
 fn replies_on_positions()
-    ensures stat { reply_text 1 (Stat 0 Utf8 Utf8 0 8 0 2 8 6 5)
+    ensures stat { reply_text 1 (Stat (record { rev = 0; given = Utf8; encoding = Utf8; bom = 0; bytes = 8; errors = 0; lines = 2; utf8 = 8; utf16 = 6; utf32 = 5 }))
         ≡ codes "{\"bom\":0,\"bytes\":8,\"encoding\":\"UTF-8\",\"errors\":0,\"given\":\"UTF-8\",\"id\":1,\"lines\":2,\"rev\":0,\"utf16\":6,\"utf32\":5,\"utf8\":8}\n" }
-    ensures lines { reply_text 2 (Lines 0 2 (record { start = 0; end = 2 } ∷ record { start = 4; end = 5 } ∷ []))
+    ensures lines { reply_text 2 (Lines (record { rev = 0; count = 2; lines = record { start = 0; end = 2 } ∷ record { start = 4; end = 5 } ∷ [] }))
         ≡ codes "{\"count\":2,\"id\":2,\"lines\":[[0,2],[4,5]],\"rev\":0}\n" }
-    ensures position { reply_text 3 (Position 0 0 3) ≡ codes "{\"character\":3,\"id\":3,\"line\":0,\"rev\":0}\n" }
-    ensures offset { reply_text 6 (Offset 0 2) ≡ codes "{\"id\":6,\"offset\":2,\"rev\":0}\n" }
-    ensures place { reply_text 1 (replies.Place 0 (Some (record { from = 0; to = 2 })) 0 0 0)
+    ensures position { reply_text 3 (Position (record { rev = 0; line = 0; character = 3 })) ≡ codes "{\"character\":3,\"id\":3,\"line\":0,\"rev\":0}\n" }
+    ensures offset { reply_text 6 (Offset (record { rev = 0; offset = 2 })) ≡ codes "{\"id\":6,\"offset\":2,\"rev\":0}\n" }
+    ensures place { reply_text 1 (replies.Place (record { rev = 0; place = Some (record { from = 0; to = 2 }); utf8 = 0; utf16 = 0; utf32 = 0 }))
         ≡ codes "{\"id\":1,\"place\":[0,2],\"rev\":0,\"utf16\":0,\"utf32\":0,\"utf8\":0}\n" }
-    ensures end { reply_text 2 (replies.Place 0 None 4 2 2)
+    ensures end { reply_text 2 (replies.Place (record { rev = 0; place = None; utf8 = 4; utf16 = 2; utf32 = 2 }))
         ≡ codes "{\"id\":2,\"place\":null,\"rev\":0,\"utf16\":2,\"utf32\":2,\"utf8\":4}\n" }
     ensures splits { reply_text 4 (Refused fault.SplitsCharacter) ≡ codes "{\"fault\":\"SplitsCharacter\",\"id\":4}\n" }
 {}
 
 fn replies_to_changes()
-    ensures changed { reply_text 9 (Changed 1 0 4 Utf8 1 1)
+    ensures changed { reply_text 9 (Change (record { at = 1; bom = 0; del = 4; encoding = Utf8; ins = 1; rev = 1 }))
         ≡ codes "{\"at\":1,\"bom\":0,\"del\":4,\"encoding\":\"UTF-8\",\"id\":9,\"ins\":1,\"rev\":1}\n" }
-    ensures shifted { reply_text 2 (Changed 1 0 0 Iso2022Jp 5 1)
+    ensures shifted { reply_text 2 (Change (record { at = 1; bom = 0; del = 0; encoding = Iso2022Jp; ins = 5; rev = 1 }))
         ≡ codes "{\"at\":1,\"bom\":0,\"del\":0,\"encoding\":\"ISO-2022-JP\",\"id\":2,\"ins\":5,\"rev\":1}\n" }
     ensures splits { reply_text 4 (Refused fault.SplitsItem) ≡ codes "{\"fault\":\"SplitsItem\",\"id\":4}\n" }
     ensures kept { reply_text 4 (Refused fault.NotKept) ≡ codes "{\"fault\":\"NotKept\",\"id\":4}\n" }
@@ -70,7 +70,7 @@ fn replies_to_changes()
 
 /// The number of the change that is refused takes the place of its key.
 fn replies_to_lists()
-    ensures made { reply_text 9 (ChangesMade 2 0 Utf8 1)
+    ensures made { reply_text 9 (Changes (record { applied = 2; bom = 0; encoding = Utf8; rev = 1 }))
         ≡ codes "{\"applied\":2,\"bom\":0,\"encoding\":\"UTF-8\",\"id\":9,\"rev\":1}\n" }
     ensures plan { reply_text 10 (Refused (fault.InChange 1 (Plan change_fault.SplitsCharacter)))
         ≡ codes "{\"change\":1,\"fault\":\"SplitsCharacter\",\"id\":10}\n" }

@@ -7,7 +7,7 @@ use Rattle.desk.specs.Commands.{Asked}
 use Rattle.desk.specs.Desk.{Office, answer_of}
 use Rattle.desk.specs.Documents.{Names}
 use Rattle.desk.specs.declared.reply.Reply.{Reply}
-use Rattle.desk.specs.declared.reply.Reply.TheVariants.{Edited, Changed, ChangesMade, Closed}
+use Rattle.desk.specs.declared.reply.Reply.TheVariants.{Edited, Change, Changes, Closed}
 use Rattle.line_protocol.specs.declared.request.refusal.Refusal.{Refusal}
 use Rattle.line_protocol.specs.Replies.{reply_text, memory_text}
 use Rattle.line_protocol.specs.Request.{request_of_line}
@@ -23,9 +23,9 @@ differs text apart e = let no : true ≡ false = sym memory_same ∙ ap (λ t. b
 -- an open, an edit or a close that is accepted has another text
 changes_nothing : (id : ℕ) (reply : Reply) → reply_text id reply ≡ memory_text → reports_change reply ≡ false
 unfolding escape_byte
-changes_nothing id (Edited bom encoding rev) e = absurd (differs (reply_text id (Edited bom encoding rev)) refl e)
-changes_nothing id (Changed at bom del encoding ins rev) e = absurd (differs (reply_text id (Changed at bom del encoding ins rev)) refl e)
-changes_nothing id (ChangesMade applied bom encoding rev) e = absurd (differs (reply_text id (ChangesMade applied bom encoding rev)) refl e)
+changes_nothing id (Edited r) e = absurd (differs (reply_text id (Edited r)) refl e)
+changes_nothing id (Change r) e = absurd (differs (reply_text id (Change r)) refl e)
+changes_nothing id (Changes r) e = absurd (differs (reply_text id (Changes r)) refl e)
 changes_nothing id (Closed rev) e = absurd (differs (reply_text id (Closed rev)) refl e)
 changes_nothing id reply e = refl
 

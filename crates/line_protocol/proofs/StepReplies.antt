@@ -5,8 +5,7 @@ use Rattle.enc_names.specs.Labels.{LabelTable}
 use Rattle.index_loader.specs.Files.{Files}
 use Rattle.desk.specs.declared.fault.Fault.TheVariants.{OutOfMemory}
 use Rattle.desk.specs.declared.reply.Reply.{Reply}
-use Rattle.desk.specs.declared.reply.Reply.TheVariants.{Edited, Changed, ChangesMade, Closed, Text, Bytes, Errors, Lines, Position, Offset, Stat, Refused}
-use Rattle.desk.specs.declared.reply.Reply.TheVariants as replies
+use Rattle.desk.specs.declared.reply.Reply.TheVariants.{Edited, Change, Changes, Closed, Refused}
 use Rattle.line_protocol.specs.declared.request.refusal.Refusal.{Refusal}
 use Rattle.line_protocol.specs.declared.request.refusal.Refusal.TheVariants as refusal
 use Rattle.desk.specs.Commands.{Asked, asked}
@@ -44,19 +43,11 @@ desk_step old new id command reply text e a = taken (same_step old new id _ repl
 
 -- a reply with a text or a list reports no change
 long_keeps : (reply : Reply) → is_short reply ≡ false → reports_change reply ≡ false
-long_keeps (Edited bom encoding rev) long = cc
-long_keeps (Changed at bom del encoding ins rev) long = cc
-long_keeps (ChangesMade applied bom encoding rev) long = cc
+long_keeps (Edited r) long = cc
+long_keeps (Change r) long = cc
+long_keeps (Changes r) long = cc
 long_keeps (Closed rev) long = cc
-long_keeps (Refused fault) long = refl
-long_keeps (Text rev text) long = refl
-long_keeps (Bytes rev bytes) long = refl
-long_keeps (Errors rev total places) long = refl
-long_keeps (Lines rev count lines) long = refl
-long_keeps (Position rev line character) long = refl
-long_keeps (Offset rev offset) long = refl
-long_keeps (replies.Place rev place utf8 utf16 utf32) long = refl
-long_keeps (Stat rev given encoding bom bytes errors lines utf8 utf16 utf32) long = refl
+long_keeps reply long = refl
 
 -- the desk answered, and memory didn't suffice to write its reply
 pub unwritten_reply_step : (old new : Office) (step : LineStep) (reply : Reply) (text : List ℕ) → text ≡ memory_text → (is_short reply ≡ true → ⊥) → (reports_change reply ≡ false → new ≡ old)

@@ -7,14 +7,24 @@ use Rattle.serde_json.specs.Written.{compact_text}
 use Rattle.base64.specs.Engines.{standard}
 use Rattle.base64.specs.GeneralPurpose.{encode_of}
 use Rattle.enc_names.specs.Names.{name_of}
-use Rattle.enc_names.specs.declared.encoding.Encoding.{Encoding}
 use Rattle.enc_names.specs.declared.place.Place.{Place}
 use Rattle.desk.specs.declared.fault.Fault.{Fault}
 use Rattle.desk.specs.declared.fault.Fault.TheVariants.{BadBase64, NoDocument, NameTaken, UnknownLabel, NoIndex, TooManyDocuments, Stale, RevisionsSpent, OutOfRange, SplitsCharacter, SplitsItem, NoEncoder, Unencodable, TooLarge, NotKept, InChange, Malformed, OutOfMemory}
 use Rattle.desk.specs.Change.{cause_fault}
+use Rattle.desk.specs.declared.ops.change.ChangeReply.{ChangeReply}
+use Rattle.desk.specs.declared.ops.changes.ChangesReply.{ChangesReply}
+use Rattle.desk.specs.declared.ops.errors.ErrorsReply.{ErrorsReply}
+use Rattle.desk.specs.declared.ops.lines.LinesReply.{LinesReply}
+use Rattle.desk.specs.declared.ops.offset.OffsetReply.{OffsetReply}
+use Rattle.desk.specs.declared.ops.place.PlaceReply.{PlaceReply}
+use Rattle.desk.specs.declared.ops.position.PositionReply.{PositionReply}
+use Rattle.desk.specs.declared.ops.stat.StatReply.{StatReply}
+use Rattle.desk.specs.declared.ops.text.TextReply.{TextReply}
+use Rattle.desk.specs.declared.reply.BytesReply.{BytesReply}
+use Rattle.desk.specs.declared.reply.EditedReply.{EditedReply}
 use Rattle.desk.specs.declared.reply.Reply.{Reply}
 use Rattle.desk.specs.declared.line.Line.{Line}
-use Rattle.desk.specs.declared.reply.Reply.TheVariants.{Edited, Changed, ChangesMade, Closed, Text, Bytes, Errors, Lines, Position, Offset, Stat, Refused}
+use Rattle.desk.specs.declared.reply.Reply.TheVariants.{Edited, Change, Changes, Closed, Text, Bytes, Errors, Lines, Position, Offset, Stat, Refused}
 use Rattle.desk.specs.declared.reply.Reply.TheVariants as replies
 use Rattle.line_protocol.specs.declared.request.field.Field.{Field}
 use Rattle.line_protocol.specs.declared.request.field.Field.TheVariants as field
@@ -74,64 +84,64 @@ abbrev pub lines_items : List Line → Items
 lines_items [] = no_items
 lines_items (l ∷ ls) = item (line_data l) (lines_items ls)
 
-abbrev pub edited_data : ℕ → ℕ → Encoding → ℕ → Data
-edited_data id bom encoding rev =
-    object (member (codes "bom") (whole bom) (member (codes "encoding") (string (name_of encoding))
-    (member (codes "id") (whole id) (member (codes "rev") (whole rev) no_members))))
+abbrev pub edited_data : ℕ → EditedReply → Data
+edited_data id r =
+    object (member (codes "bom") (whole r.bom) (member (codes "encoding") (string (name_of r.encoding))
+    (member (codes "id") (whole id) (member (codes "rev") (whole r.rev) no_members))))
 
-abbrev pub changed_data : ℕ → ℕ → ℕ → ℕ → Encoding → ℕ → ℕ → Data
-changed_data id at bom del encoding ins rev =
-    object (member (codes "at") (whole at) (member (codes "bom") (whole bom) (member (codes "del") (whole del)
-    (member (codes "encoding") (string (name_of encoding)) (member (codes "id") (whole id) (member (codes "ins") (whole ins)
-    (member (codes "rev") (whole rev) no_members)))))))
+abbrev pub change_data : ℕ → ChangeReply → Data
+change_data id r =
+    object (member (codes "at") (whole r.at) (member (codes "bom") (whole r.bom) (member (codes "del") (whole r.del)
+    (member (codes "encoding") (string (name_of r.encoding)) (member (codes "id") (whole id) (member (codes "ins") (whole r.ins)
+    (member (codes "rev") (whole r.rev) no_members)))))))
 
-abbrev pub changes_made_data : ℕ → ℕ → ℕ → Encoding → ℕ → Data
-changes_made_data id applied bom encoding rev =
-    object (member (codes "applied") (whole applied) (member (codes "bom") (whole bom) (member (codes "encoding") (string (name_of encoding))
-    (member (codes "id") (whole id) (member (codes "rev") (whole rev) no_members)))))
+abbrev pub changes_data : ℕ → ChangesReply → Data
+changes_data id r =
+    object (member (codes "applied") (whole r.applied) (member (codes "bom") (whole r.bom) (member (codes "encoding") (string (name_of r.encoding))
+    (member (codes "id") (whole id) (member (codes "rev") (whole r.rev) no_members)))))
 
 abbrev pub closed_data : ℕ → ℕ → Data
 closed_data id rev = object (member (codes "id") (whole id) (member (codes "rev") (whole rev) no_members))
 
-abbrev pub text_data : ℕ → ℕ → List ℕ → Data
-text_data id rev text = object (member (codes "id") (whole id) (member (codes "rev") (whole rev) (member (codes "text") (string text) no_members)))
+abbrev pub text_data : ℕ → TextReply → Data
+text_data id r = object (member (codes "id") (whole id) (member (codes "rev") (whole r.rev) (member (codes "text") (string r.text) no_members)))
 
 abbrev pub base64_data : ℕ → ℕ → List ℕ → Data
 base64_data id rev text = object (member (codes "bytes") (string text) (member (codes "id") (whole id) (member (codes "rev") (whole rev) no_members)))
 
 -- bytes in base64 (RFC 4648, section 4)
-abbrev pub bytes_data : ℕ → ℕ → List ℕ → Data
-bytes_data id rev bytes = base64_data id rev (encode_of standard bytes)
+abbrev pub bytes_data : ℕ → BytesReply → Data
+bytes_data id r = base64_data id r.rev (encode_of standard r.bytes)
 
-abbrev pub errors_data : ℕ → ℕ → ℕ → List Place → Data
-errors_data id rev total places =
-    object (member (codes "errors") (array (places_data places)) (member (codes "id") (whole id)
-    (member (codes "rev") (whole rev) (member (codes "total") (whole total) no_members))))
+abbrev pub errors_data : ℕ → ErrorsReply → Data
+errors_data id r =
+    object (member (codes "errors") (array (places_data r.places)) (member (codes "id") (whole id)
+    (member (codes "rev") (whole r.rev) (member (codes "total") (whole r.total) no_members))))
 
-abbrev pub lines_data : ℕ → ℕ → ℕ → List Line → Data
-lines_data id rev count lines =
-    object (member (codes "count") (whole count) (member (codes "id") (whole id)
-    (member (codes "lines") (array (lines_items lines)) (member (codes "rev") (whole rev) no_members))))
+abbrev pub lines_data : ℕ → LinesReply → Data
+lines_data id r =
+    object (member (codes "count") (whole r.count) (member (codes "id") (whole id)
+    (member (codes "lines") (array (lines_items r.lines)) (member (codes "rev") (whole r.rev) no_members))))
 
-abbrev pub position_data : ℕ → ℕ → ℕ → ℕ → Data
-position_data id rev line character =
-    object (member (codes "character") (whole character) (member (codes "id") (whole id)
-    (member (codes "line") (whole line) (member (codes "rev") (whole rev) no_members))))
+abbrev pub position_data : ℕ → PositionReply → Data
+position_data id r =
+    object (member (codes "character") (whole r.character) (member (codes "id") (whole id)
+    (member (codes "line") (whole r.line) (member (codes "rev") (whole r.rev) no_members))))
 
-abbrev pub offset_data : ℕ → ℕ → ℕ → Data
-offset_data id rev offset = object (member (codes "id") (whole id) (member (codes "offset") (whole offset) (member (codes "rev") (whole rev) no_members)))
+abbrev pub offset_data : ℕ → OffsetReply → Data
+offset_data id r = object (member (codes "id") (whole id) (member (codes "offset") (whole r.offset) (member (codes "rev") (whole r.rev) no_members)))
 
-abbrev pub found_place_data : ℕ → ℕ → Option Place → ℕ → ℕ → ℕ → Data
-found_place_data id rev place utf8 utf16 utf32 =
-    object (member (codes "id") (whole id) (member (codes "place") (place_or_null place) (member (codes "rev") (whole rev)
-    (member (codes "utf16") (whole utf16) (member (codes "utf32") (whole utf32) (member (codes "utf8") (whole utf8) no_members))))))
+abbrev pub found_place_data : ℕ → PlaceReply → Data
+found_place_data id r =
+    object (member (codes "id") (whole id) (member (codes "place") (place_or_null r.place) (member (codes "rev") (whole r.rev)
+    (member (codes "utf16") (whole r.utf16) (member (codes "utf32") (whole r.utf32) (member (codes "utf8") (whole r.utf8) no_members))))))
 
-abbrev pub stat_data : ℕ → ℕ → Encoding → Encoding → ℕ → ℕ → ℕ → ℕ → ℕ → ℕ → ℕ → Data
-stat_data id rev given encoding bom bytes errors lines utf8 utf16 utf32 =
-    object (member (codes "bom") (whole bom) (member (codes "bytes") (whole bytes) (member (codes "encoding") (string (name_of encoding))
-    (member (codes "errors") (whole errors) (member (codes "given") (string (name_of given)) (member (codes "id") (whole id)
-    (member (codes "lines") (whole lines) (member (codes "rev") (whole rev) (member (codes "utf16") (whole utf16)
-    (member (codes "utf32") (whole utf32) (member (codes "utf8") (whole utf8) no_members)))))))))))
+abbrev pub stat_data : ℕ → StatReply → Data
+stat_data id r =
+    object (member (codes "bom") (whole r.bom) (member (codes "bytes") (whole r.bytes) (member (codes "encoding") (string (name_of r.encoding))
+    (member (codes "errors") (whole r.errors) (member (codes "given") (string (name_of r.given)) (member (codes "id") (whole id)
+    (member (codes "lines") (whole r.lines) (member (codes "rev") (whole r.rev) (member (codes "utf16") (whole r.utf16)
+    (member (codes "utf32") (whole r.utf32) (member (codes "utf8") (whole r.utf8) no_members)))))))))))
 
 -- ---- refusals
 
@@ -222,18 +232,18 @@ reason_data r = object (merged (change_members r.change (member (codes "fault") 
 
 -- the object that answers the request with this number
 abbrev pub reply_data : ℕ → Reply → Data
-reply_data id (Edited bom encoding rev) = edited_data id bom encoding rev
-reply_data id (Changed at bom del encoding ins rev) = changed_data id at bom del encoding ins rev
-reply_data id (ChangesMade applied bom encoding rev) = changes_made_data id applied bom encoding rev
+reply_data id (Edited r) = edited_data id r
+reply_data id (Change r) = change_data id r
+reply_data id (Changes r) = changes_data id r
 reply_data id (Closed rev) = closed_data id rev
-reply_data id (Text rev text) = text_data id rev text
-reply_data id (Bytes rev bytes) = bytes_data id rev bytes
-reply_data id (Errors rev total places) = errors_data id rev total places
-reply_data id (Lines rev count lines) = lines_data id rev count lines
-reply_data id (Position rev line character) = position_data id rev line character
-reply_data id (Offset rev offset) = offset_data id rev offset
-reply_data id (replies.Place rev place utf8 utf16 utf32) = found_place_data id rev place utf8 utf16 utf32
-reply_data id (Stat rev given encoding bom bytes errors lines utf8 utf16 utf32) = stat_data id rev given encoding bom bytes errors lines utf8 utf16 utf32
+reply_data id (Text r) = text_data id r
+reply_data id (Bytes r) = bytes_data id r
+reply_data id (Errors r) = errors_data id r
+reply_data id (Lines r) = lines_data id r
+reply_data id (Position r) = position_data id r
+reply_data id (Offset r) = offset_data id r
+reply_data id (replies.Place r) = found_place_data id r
+reply_data id (Stat r) = stat_data id r
 reply_data id (Refused f) = reason_data (fault_reason id f)
 
 -- ---- text

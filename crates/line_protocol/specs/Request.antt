@@ -1,6 +1,6 @@
 -- The request in a line, over the data that its JSON text stands for. Of two equal keys
 -- the last counts, and a number that has a fraction, an exponent or a minus sign is no whole number.
-use Rattle.std.specs.Prelude.{◌≡◌, ◌<◌, ◌-◌, ◌^◌, ℕ, ◌||◌, ◌==◌, nat_lt, nat_le, List, [], ◌∷◌, length, codes, if◌then◌else◌, is_some, Option, Some, None, option_and_then, Result, Ok, Err}
+use Rattle.std.specs.Prelude.{◌≡◌, ◌<◌, ℕ, ◌||◌, ◌==◌, nat_lt, nat_le, List, [], ◌∷◌, length, codes, if◌then◌else◌, is_some, Option, Some, None, option_and_then, Result, Ok, Err}
 use Rattle.std.specs.Str.{bytes_eq}
 use Rattle.std.specs.Option.{option_map}
 use Rattle.serde_json.specs.Data.{Data, null, Items, no_items, item}
@@ -12,6 +12,7 @@ use Rattle.enc_names.specs.Json.{json_of}
 use Rattle.enc_names.specs.declared.bom.Bom.{Bom}
 use Rattle.enc_names.specs.declared.bom.Bom.TheVariants.{Sniff, Keep}
 use Rattle.desk.specs.Commands.{Asked, TextChange, asked_of, Opens, Closes, Splices, ChangesText, MakesChanges, Reads, ReadsBytes, Encodes, ListsErrors, ListsLines, FindsPosition, FindsOffset, FindsPlace, Measures, asked}
+use Rattle.desk.specs.Documents.{max_number}
 use Rattle.desk.specs.declared.command.Command.{Command}
 use Rattle.position_map.specs.declared.position.Position.{Position}
 use Rattle.position_map.specs.declared.position.Range.{Range}
@@ -43,9 +44,6 @@ abbrev pub json_of_line : List ℕ → Result Data Refusal
 json_of_line line = need BadJson (json_of line)
 
 -- ---- a field
-
-abbrev pub max_number : ℕ
-max_number = 2 ^ 53 - 1
 
 abbrev pub max_entries : ℕ
 max_entries = 10000

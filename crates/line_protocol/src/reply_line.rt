@@ -7,7 +7,6 @@ mod short;
 mod short_text;
 
 use crate::reply_line::reasons::Reason;
-use crate::reply_line::short::{Change, Measures};
 use crate::request::Refusal;
 use desk::Reply;
 pub use short_text::ShortText;
@@ -65,99 +64,18 @@ impl ReplyLine {
         ensures inline { is_short reply.now ≡ true → IfOk result (λ line. length line ≤ inline_limit) }
     {
         match reply {
-            Reply::Edited { bom, encoding, rev } => {
-                Ok(ReplyLine::inline(short::edited(id, *bom, *encoding, *rev)))
-            }
-            Reply::Changed {
-                at,
-                bom,
-                del,
-                encoding,
-                ins,
-                rev,
-            } => {
-                let done = Change {
-                    at: *at,
-                    bom: *bom,
-                    del: *del,
-                    encoding: *encoding,
-                    ins: *ins,
-                    rev: *rev,
-                };
-                Ok(ReplyLine::inline(short::changed(id, &done)))
-            }
-            Reply::ChangesMade {
-                applied,
-                bom,
-                encoding,
-                rev,
-            } => Ok(ReplyLine::inline(short::changes_made(id, *applied, *bom, *encoding, *rev))),
+            Reply::Edited(reply) => Ok(ReplyLine::inline(short::edited(id, reply))),
+            Reply::Change(reply) => Ok(ReplyLine::inline(short::change(id, reply))),
+            Reply::Changes(reply) => Ok(ReplyLine::inline(short::changes(id, reply))),
             Reply::Closed { rev } => Ok(ReplyLine::inline(short::closed(id, *rev))),
-            Reply::Text { rev, text } => {
-                let bytes = long::text(alloc, id, *rev, text.as_str())?;
-                Ok(ReplyLine {
-                    storage: Storage::Allocated(bytes),
-                })
-            }
-            Reply::Bytes { rev, bytes } => {
-                let bytes = long::bytes(alloc, id, *rev, bytes.as_slice())?;
-                Ok(ReplyLine {
-                    storage: Storage::Allocated(bytes),
-                })
-            }
-            Reply::Errors { rev, total, places } => {
-                let bytes = long::errors(alloc, id, *rev, *total, places.as_slice())?;
-                Ok(ReplyLine {
-                    storage: Storage::Allocated(bytes),
-                })
-            }
-            Reply::Lines { rev, count, lines } => {
-                let bytes = long::lines(alloc, id, *rev, *count, lines.as_slice())?;
-                Ok(ReplyLine {
-                    storage: Storage::Allocated(bytes),
-                })
-            }
-            Reply::Position {
-                rev,
-                line,
-                character,
-            } => Ok(ReplyLine::inline(short::position(id, *rev, *line, *character))),
-            Reply::Offset { rev, offset } => {
-                Ok(ReplyLine::inline(short::offset(id, *rev, *offset)))
-            }
-            Reply::Place {
-                rev,
-                place,
-                utf8,
-                utf16,
-                utf32,
-            } => Ok(ReplyLine::inline(short::place(id, *rev, *place, *utf8, *utf16, *utf32))),
-            Reply::Stat {
-                rev,
-                given,
-                encoding,
-                bom,
-                bytes,
-                errors,
-                lines,
-                utf8,
-                utf16,
-                utf32,
-            } => {
-                let measured = Measures {
-                    bom: *bom,
-                    bytes: *bytes,
-                    encoding: *encoding,
-                    errors: *errors,
-                    given: *given,
-                    lines: *lines,
-                    rev: *rev,
-                    utf16: *utf16,
-                    utf32: *utf32,
-                    utf8: *utf8,
-                };
-                Ok(ReplyLine::inline(short::stat(id, &measured)))
-            }
+            Reply::Text(reply) => Ok(ReplyLine::allocated(long::text(alloc, id, reply)?)),
+            Reply::Bytes(reply) => Ok(ReplyLine::allocated(long::bytes(alloc, id, reply)?)),
+            Reply::Errors(reply) => Ok(ReplyLine::allocated(long::errors(alloc, id, reply)?)),
+            Reply::Lines(reply) => Ok(ReplyLine::allocated(long::lines(alloc, id, reply)?)),
+            Reply::Position(reply) => Ok(ReplyLine::inline(short::position(id, reply))),
+            Reply::Offset(reply) => Ok(ReplyLine::inline(short::offset(id, reply))),
+            Reply::Place(reply) => Ok(ReplyLine::inline(short::place(id, reply))),
+            Reply::Stat(reply) => Ok(ReplyLine::inline(short::stat(id, reply))),
             Reply::Refused { fault } => Ok(ReplyLine::inline(Reason::of_fault(id, *fault).line())),
         }
     }
@@ -168,6 +86,15 @@ impl ReplyLine {
     {
         ReplyLine {
             storage: Storage::Inline(text),
+        }
+    }
+
+    /// The line with these bytes.
+    fn allocated(bytes: Vec<u8>) -> ReplyLine
+        ensures { result ≡ bytes.items }
+    {
+        ReplyLine {
+            storage: Storage::Allocated(bytes),
         }
     }
 

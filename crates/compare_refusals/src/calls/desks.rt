@@ -34,7 +34,7 @@ fn adopt_on(desk: &mut Desk<'_>) -> Result<(), Fault> {
 /// How long a document is, with its revision, if it is open.
 fn stat(desk: &mut Desk<'_>, doc: &str) -> Option<(u64, u64)> {
     match desk.answer(&Command::Stat(Stat { doc })) {
-        Reply::Stat { bytes, rev, .. } => Some((bytes as u64, rev)),
+        Reply::Stat(stat) => Some((stat.bytes as u64, stat.rev)),
         _ => None,
     }
 }

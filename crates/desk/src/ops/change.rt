@@ -12,6 +12,7 @@ use crate::edit::Edit;
 use crate::fault::Fault;
 use crate::reply::Reply;
 use decoder_core::meter;
+use enc_names::Encoding;
 use piece_rope::Doc;
 use position_map::{Plan, Range, Unit, plan_change};
 use std::alloc::Global;
@@ -30,6 +31,23 @@ pub struct Change<'a> {
     pub range: Option<Range>,
     /// The text to put in its place.
     pub text: &'a str,
+}
+
+/// The reply to a change.
+#[derive(Clone, Copy)]
+pub struct ChangeReply {
+    /// How many bytes stand before those put in.
+    pub at: u64,
+    /// How many bytes of the document are its byte order mark.
+    pub bom: u64,
+    /// How many bytes were taken out.
+    pub del: u64,
+    /// The encoding in force.
+    pub encoding: Encoding,
+    /// How many bytes were put in.
+    pub ins: u64,
+    /// The document's revision after the command.
+    pub rev: u64,
 }
 
 impl Desk<'_> {
@@ -61,14 +79,14 @@ impl Edit for Change<'_> {
     }
 
     fn reply(&self, done: &Plan, document: &Doc<'_>, rev: u64) -> Reply {
-        Reply::Changed {
+        Reply::Change(ChangeReply {
             at: done.at,
             bom: document.bom_len(),
             del: done.del,
             encoding: document.encoding(),
             ins: done.ins.as_slice().len() as u64,
             rev,
-        }
+        })
     }
 }
 

@@ -11,6 +11,7 @@ use crate::edit::Edit;
 use crate::fault::Fault;
 use crate::ops::change::make_change;
 use crate::reply::Reply;
+use enc_names::Encoding;
 use piece_rope::Doc;
 use position_map::{Range, Unit};
 use std::alloc::Global;
@@ -36,6 +37,19 @@ pub struct Changes<'a> {
     pub unit: Unit,
     /// The changes.
     pub changes: Vec<ContentChange<'a>>,
+}
+
+/// The reply to a list of changes.
+#[derive(Clone, Copy)]
+pub struct ChangesReply {
+    /// How many changes there were.
+    pub applied: u64,
+    /// How many bytes of the document are its byte order mark.
+    pub bom: u64,
+    /// The encoding in force.
+    pub encoding: Encoding,
+    /// The document's revision after the command.
+    pub rev: u64,
 }
 
 impl Desk<'_> {
@@ -78,12 +92,12 @@ impl Edit for Changes<'_> {
     }
 
     fn reply(&self, done: &u64, document: &Doc<'_>, rev: u64) -> Reply {
-        Reply::ChangesMade {
+        Reply::Changes(ChangesReply {
             applied: *done,
             bom: document.bom_len(),
             encoding: document.encoding(),
             rev,
-        }
+        })
     }
 }
 

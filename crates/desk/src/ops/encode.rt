@@ -11,7 +11,7 @@ ghost use Rattle.encoders.specs.declared.fault.EncodeFault.{EncodeFault};
 use crate::fault::Fault;
 use crate::open_document::OpenDocument;
 use crate::question::Question;
-use crate::reply::{Reply, ReplyList};
+use crate::reply::{BytesReply, Reply, ReplyList};
 use enc_names::{Encoding, Labels};
 use encoders::{EncodeFault, EncodeMode, encode};
 use std::alloc::Global;
@@ -77,10 +77,10 @@ fn encoded_reply(rev: u64, answer: Result<Vec<u8>, EncodeFault>) -> Result<Reply
     ensures { (wanted : Result (List ℕ) EncodeFault) → IsEncoded wanted answer → Gives (bytes_reply rev wanted) result }
 {
     match answer {
-        Ok(bytes) => Ok(Reply::Bytes {
+        Ok(bytes) => Ok(Reply::Bytes(BytesReply {
             rev,
             bytes: ReplyList::new(bytes),
-        }),
+        })),
         Err(EncodeFault::NoIndex) => Err(Fault::NoIndex),
         Err(EncodeFault::NoEncoder) => Err(Fault::NoEncoder),
         Err(EncodeFault::Unencodable(found)) => Err(Fault::Unencodable {

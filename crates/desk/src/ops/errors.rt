@@ -7,7 +7,7 @@ use crate::fault::Fault;
 use crate::open_document::OpenDocument;
 use crate::question::Question;
 use crate::reply::{Reply, ReplyList};
-use enc_names::Labels;
+use enc_names::{Labels, Place};
 use std::alloc::Global;
 
 /// Returns a page of the places of a document's errors.
@@ -21,6 +21,17 @@ pub struct Errors<'a> {
     pub max: u64,
 }
 
+/// The reply to `errors`.
+#[derive(Drop)]
+pub struct ErrorsReply {
+    /// The document's revision.
+    pub rev: u64,
+    /// How many errors the document has in all.
+    pub total: u64,
+    /// The places asked for, in bytes of the document.
+    pub places: ReplyList<Place>,
+}
+
 impl Question for Errors<'_> {
     ghost asked = { λ q. ListsErrors q.from q.max };
 
@@ -30,10 +41,10 @@ impl Question for Errors<'_> {
 
     fn ask(&self, _: Global, _: &Labels, opened: &OpenDocument<'_>) -> Result<Reply, Fault> {
         let places = opened.document.errors(self.from, self.max)?;
-        Ok(Reply::Errors {
+        Ok(Reply::Errors(ErrorsReply {
             rev: opened.revision,
             total: opened.document.lengths().errors,
             places: ReplyList::new(places),
-        })
+        }))
     }
 }

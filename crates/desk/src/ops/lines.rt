@@ -27,6 +27,17 @@ pub struct Lines<'a> {
     pub max: u64,
 }
 
+/// The reply to `lines`.
+#[derive(Drop)]
+pub struct LinesReply {
+    /// The document's revision.
+    pub rev: u64,
+    /// How many lines the document has in all.
+    pub count: u64,
+    /// The lines asked for.
+    pub lines: ReplyList<Line>,
+}
+
 impl Question for Lines<'_> {
     ghost asked = { λ q. ListsLines q.from q.max };
 
@@ -41,11 +52,11 @@ impl Question for Lines<'_> {
             return Err(Fault::OutOfRange);
         }
         let lines = page(alloc, document, self.from, self.max, &mut visits())?;
-        Ok(Reply::Lines {
+        Ok(Reply::Lines(LinesReply {
             rev: opened.revision,
             count,
             lines: ReplyList::new(lines),
-        })
+        }))
     }
 }
 

@@ -25,6 +25,15 @@ pub struct Offset<'a> {
     pub unit: Unit,
 }
 
+/// The reply to `offset`.
+#[derive(Clone, Copy)]
+pub struct OffsetReply {
+    /// The document's revision.
+    pub rev: u64,
+    /// How many code points stand before the offset.
+    pub offset: u64,
+}
+
 impl Question for Offset<'_> {
     ghost asked = { λ q. FindsOffset q.line q.character q.unit };
 
@@ -38,9 +47,9 @@ impl Question for Offset<'_> {
             character: self.character,
         };
         let offset = to_offset(&opened.document, position, self.unit, &mut visits())?;
-        Ok(Reply::Offset {
+        Ok(Reply::Offset(OffsetReply {
             rev: opened.revision,
             offset,
-        })
+        }))
     }
 }

@@ -26,6 +26,21 @@ pub struct Place<'a> {
     pub value: u64,
 }
 
+/// The reply to `place`.
+#[derive(Clone, Copy)]
+pub struct PlaceReply {
+    /// The document's revision.
+    pub rev: u64,
+    /// The place in bytes of the document; none at the text's end.
+    pub place: Option<enc_names::Place>,
+    /// The bytes of UTF-8 before the offset.
+    pub utf8: u64,
+    /// The code units of UTF-16 before it.
+    pub utf16: u64,
+    /// The code points before it.
+    pub utf32: u64,
+}
+
 impl Question for Place<'_> {
     ghost asked = { λ q. FindsPlace q.unit q.value };
 
@@ -37,13 +52,13 @@ impl Question for Place<'_> {
         let document = &opened.document;
         let mut visits = visits();
         let offset = offset_named(document, self.unit, self.value, &mut visits)?;
-        Ok(Reply::Place {
+        Ok(Reply::Place(PlaceReply {
             rev: opened.revision,
             place: scalar_to_place(document, offset, &mut visits),
             utf8: convert(document, offset, Unit::Utf32, Unit::Utf8, &mut visits)?,
             utf16: convert(document, offset, Unit::Utf32, Unit::Utf16, &mut visits)?,
             utf32: offset,
-        })
+        }))
     }
 }
 

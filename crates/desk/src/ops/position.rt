@@ -23,6 +23,17 @@ pub struct Position<'a> {
     pub unit: Unit,
 }
 
+/// The reply to `position`.
+#[derive(Clone, Copy)]
+pub struct PositionReply {
+    /// The document's revision.
+    pub rev: u64,
+    /// The line's number, counted from 0.
+    pub line: u64,
+    /// The units between the line's start and the position.
+    pub character: u64,
+}
+
 impl Question for Position<'_> {
     ghost asked = { λ q. FindsPosition q.offset q.unit };
 
@@ -32,10 +43,10 @@ impl Question for Position<'_> {
 
     fn ask(&self, _: Global, _: &Labels, opened: &OpenDocument<'_>) -> Result<Reply, Fault> {
         let position = to_position(&opened.document, self.offset, self.unit, &mut visits())?;
-        Ok(Reply::Position {
+        Ok(Reply::Position(PositionReply {
             rev: opened.revision,
             line: position.line,
             character: position.character,
-        })
+        }))
     }
 }

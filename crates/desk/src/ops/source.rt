@@ -6,7 +6,7 @@ ghost use Rattle.desk.specs.Source.{source_reply};
 use crate::fault::Fault;
 use crate::open_document::OpenDocument;
 use crate::question::Question;
-use crate::reply::{Reply, ReplyList};
+use crate::reply::{BytesReply, Reply, ReplyList};
 use enc_names::Labels;
 use std::alloc::Global;
 
@@ -30,9 +30,9 @@ impl Question for Source<'_> {
 
     fn ask(&self, _: Global, _: &Labels, opened: &OpenDocument<'_>) -> Result<Reply, Fault> {
         let bytes = opened.document.source(self.at, self.len)?;
-        Ok(Reply::Bytes {
+        Ok(Reply::Bytes(BytesReply {
             rev: opened.revision,
             bytes: ReplyList::new(bytes),
-        })
+        }))
     }
 }

@@ -7,7 +7,7 @@ use crate::fault::Fault;
 use crate::open_document::OpenDocument;
 use crate::question::Question;
 use crate::reply::Reply;
-use enc_names::Labels;
+use enc_names::{Encoding, Labels};
 use position_map::line_count;
 use std::alloc::Global;
 
@@ -16,6 +16,31 @@ use std::alloc::Global;
 pub struct Stat<'a> {
     /// The document's name.
     pub doc: &'a str,
+}
+
+/// The reply to `stat`. What the bytes of a document can give fits in 32 bits (`Doc::law_bounds`).
+#[derive(Clone, Copy)]
+pub struct StatReply {
+    /// The document's revision.
+    pub rev: u64,
+    /// The encoding given at the open.
+    pub given: Encoding,
+    /// The encoding in force.
+    pub encoding: Encoding,
+    /// How many bytes of the document are its byte order mark.
+    pub bom: u64,
+    /// Bytes of the document.
+    pub bytes: u32,
+    /// The errors in the document.
+    pub errors: u32,
+    /// The lines of the text.
+    pub lines: u32,
+    /// The text's bytes in UTF-8.
+    pub utf8: u32,
+    /// Its code units in UTF-16.
+    pub utf16: u32,
+    /// Its code points.
+    pub utf32: u32,
 }
 
 impl Question for Stat<'_> {
@@ -30,7 +55,7 @@ impl Question for Stat<'_> {
         document.law_bounds();
         let lengths = document.lengths();
         let lines = line_count(document);
-        Ok(Reply::Stat {
+        Ok(Reply::Stat(StatReply {
             rev: opened.revision,
             given: document.given(),
             encoding: document.encoding(),
@@ -41,6 +66,6 @@ impl Question for Stat<'_> {
             utf8: lengths.utf8 as u32,
             utf16: lengths.utf16 as u32,
             utf32: lengths.scalars as u32,
-        })
+        }))
     }
 }

@@ -27,6 +27,15 @@ pub struct Text<'a> {
     pub mode: TextMode,
 }
 
+/// The reply to `text`.
+#[derive(Drop)]
+pub struct TextReply {
+    /// The document's revision.
+    pub rev: u64,
+    /// The code points asked for. An error is one, U+FFFD.
+    pub text: ReplyText,
+}
+
 impl Question for Text<'_> {
     ghost asked = { λ q. Reads q.from q.to q.mode };
 
@@ -39,10 +48,10 @@ impl Question for Text<'_> {
             opened.without_errors(self.from, self.to)?;
         }
         let text = opened.document.text(self.from, self.to)?;
-        Ok(Reply::Text {
+        Ok(Reply::Text(TextReply {
             rev: opened.revision,
             text: ReplyText::new(text),
-        })
+        }))
     }
 }
 

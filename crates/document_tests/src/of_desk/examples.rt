@@ -15,16 +15,16 @@ ghost use Rattle.desk.specs.declared.reply.Reply.TheVariants.{Stat, Lines, Posit
 
 /// `a`, U+1F600, CR, LF, `b` in UTF-8.
 fn pair_and_cr_lf()
-    ensures stat { stat_reply no_files pair_and_cr_lf ≡ Stat 0 Utf8 Utf8 0 8 0 2 8 6 5 }
-    ensures lines { lines_reply no_files pair_and_cr_lf 0 10 ≡ Ok (Lines 0 2 (record { start = 0; end = 2 } ∷ record { start = 4; end = 5 } ∷ [])) }
-    ensures position { position_reply no_files pair_and_cr_lf 3 Utf16 ≡ Ok (Position 0 0 3) }
-    ensures offset { offset_reply no_files pair_and_cr_lf 0 99 Utf16 ≡ Ok (Offset 0 2) }
+    ensures stat { stat_reply no_files pair_and_cr_lf ≡ Stat (record { rev = 0; given = Utf8; encoding = Utf8; bom = 0; bytes = 8; errors = 0; lines = 2; utf8 = 8; utf16 = 6; utf32 = 5 }) }
+    ensures lines { lines_reply no_files pair_and_cr_lf 0 10 ≡ Ok (Lines (record { rev = 0; count = 2; lines = record { start = 0; end = 2 } ∷ record { start = 4; end = 5 } ∷ [] })) }
+    ensures position { position_reply no_files pair_and_cr_lf 3 Utf16 ≡ Ok (Position (record { rev = 0; line = 0; character = 3 })) }
+    ensures offset { offset_reply no_files pair_and_cr_lf 0 99 Utf16 ≡ Ok (Offset (record { rev = 0; offset = 2 })) }
     ensures place { place_reply no_files pair_and_cr_lf (Text Utf16) 2 ≡ Err SplitsCharacter }
 {}
 
 /// UTF-8 `E2 82 41`: an error of two bytes, and `A`.
 fn truncated_sequence()
-    ensures inside { place_reply no_files truncated Byte 1 ≡ Ok (Place 0 (Some (record { from = 0; to = 2 })) 0 0 0) }
-    ensures end { place_reply no_files truncated Byte 3 ≡ Ok (Place 0 None 4 2 2) }
+    ensures inside { place_reply no_files truncated Byte 1 ≡ Ok (Place (record { rev = 0; place = Some (record { from = 0; to = 2 }); utf8 = 0; utf16 = 0; utf32 = 0 })) }
+    ensures end { place_reply no_files truncated Byte 3 ≡ Ok (Place (record { rev = 0; place = None; utf8 = 4; utf16 = 2; utf32 = 2 })) }
     ensures past { place_reply no_files truncated Byte 4 ≡ Err OutOfRange }
 {}

@@ -6,63 +6,40 @@ ghost use Rattle.line_protocol.specs.Writing.{IsLineOf};
 ghost use Rattle.line_protocol.specs.Replies.{line_of, text_data, base64_data, bytes_data, errors_data, lines_data, lines_items, pair_data, places_data};
 
 use base64::engine::general_purpose::STANDARD;
-use desk::Line;
+use desk::ops::{ErrorsReply, LinesReply, TextReply};
+use desk::{BytesReply, Line};
 use enc_names::Place;
 use serde::{Described, Serialize, Serializer};
 use std::alloc::{AllocError, Global};
 
 /// The line with the text that was asked for.
-pub(super) fn text(alloc: Global, id: u64, rev: u64, text: &str) -> Result<Vec<u8>, AllocError>
-    ensures { IfOk result (λ line. line.items ≡ line_of (text_data id rev text.now)) }
+pub(super) fn text(alloc: Global, id: u64, reply: &TextReply) -> Result<Vec<u8>, AllocError>
+    ensures { IfOk result (λ line. line.items ≡ line_of (text_data id reply.now)) }
 {
-    line(alloc, &TextReply { id, rev, text })
+    line(alloc, &WithId { id, reply })
 }
 
 /// The line with the bytes that were asked for, in base64.
-pub(super) fn bytes(alloc: Global, id: u64, rev: u64, bytes: &[u8]) -> Result<Vec<u8>, AllocError>
-    ensures { IfOk result (λ line. line.items ≡ line_of (bytes_data id rev bytes.now)) }
+pub(super) fn bytes(alloc: Global, id: u64, reply: &BytesReply) -> Result<Vec<u8>, AllocError>
+    ensures { IfOk result (λ line. line.items ≡ line_of (bytes_data id reply.now)) }
 {
-    let text = STANDARD.encode(alloc, bytes)?;
-    let text = text.as_str();
-    line(alloc, &BytesReply { id, rev, text })
+    let text = STANDARD.encode(alloc, reply.bytes.as_slice())?;
+    let (text, rev) = (text.as_str(), reply.rev);
+    line(alloc, &Base64Reply { id, rev, text })
 }
 
 /// The line with a page of error places.
-pub(super) fn errors(
-    alloc: Global,
-    id: u64,
-    rev: u64,
-    total: u64,
-    places: &[Place],
-) -> Result<Vec<u8>, AllocError>
-    ensures { IfOk result (λ line. line.items ≡ line_of (errors_data id rev total places.now)) }
+pub(super) fn errors(alloc: Global, id: u64, reply: &ErrorsReply) -> Result<Vec<u8>, AllocError>
+    ensures { IfOk result (λ line. line.items ≡ line_of (errors_data id reply.now)) }
 {
-    let reply = ErrorsReply {
-        id,
-        rev,
-        total,
-        places,
-    };
-    line(alloc, &reply)
+    line(alloc, &WithId { id, reply })
 }
 
 /// The line with a page of lines.
-pub(super) fn lines(
-    alloc: Global,
-    id: u64,
-    rev: u64,
-    count: u64,
-    lines: &[Line],
-) -> Result<Vec<u8>, AllocError>
-    ensures { IfOk result (λ line. line.items ≡ line_of (lines_data id rev count lines.now)) }
+pub(super) fn lines(alloc: Global, id: u64, reply: &LinesReply) -> Result<Vec<u8>, AllocError>
+    ensures { IfOk result (λ line. line.items ≡ line_of (lines_data id reply.now)) }
 {
-    let reply = LinesReply {
-        id,
-        rev,
-        count,
-        lines,
-    };
-    line(alloc, &reply)
+    line(alloc, &WithId { id, reply })
 }
 
 /// Writes a reply on a line of its own. It fails only where memory runs out: no key, number or text
@@ -77,45 +54,44 @@ fn line<T: Serialize>(alloc: Global, reply: &T) -> Result<Vec<u8>, AllocError>
     Ok(line)
 }
 
-/// The reply to `text`.
+/// A reply, with the number of its request.
 #[derive(Clone, Copy)]
-struct TextReply<'a> {
+struct WithId<'a, T> {
     id: u64,
-    rev: u64,
-    text: &'a str,
+    reply: &'a T,
 }
 
-impl Described for TextReply<'_> {
-    ghost writes = { λ reply. SendsValue (text_data reply.id reply.rev reply.text.now) };
+impl Described for WithId<'_, TextReply> {
+    ghost writes = { λ n. SendsValue (text_data n.id n.reply.now) };
 }
 
-impl Serialize for TextReply<'_> {
+impl Serialize for WithId<'_, TextReply> {
     fn serialize<S: Serializer>(&self, out: &mut S) -> Result<(), S::Error> {
         out.begin_map(Some(3))?;
         out.key("id")?;
         out.u64(self.id)?;
         out.key("rev")?;
-        out.u64(self.rev)?;
+        out.u64(self.reply.rev)?;
         out.key("text")?;
-        out.str(self.text)?;
+        out.str(self.reply.text.as_str())?;
         out.end_map()
     }
 }
 
 /// The reply to `source` and to `encode`.
 #[derive(Clone, Copy)]
-struct BytesReply<'a> {
+struct Base64Reply<'a> {
     id: u64,
     rev: u64,
     /// The bytes in base64 (RFC 4648, section 4).
     text: &'a str,
 }
 
-impl Described for BytesReply<'_> {
+impl Described for Base64Reply<'_> {
     ghost writes = { λ reply. SendsValue (base64_data reply.id reply.rev reply.text.now) };
 }
 
-impl Serialize for BytesReply<'_> {
+impl Serialize for Base64Reply<'_> {
     fn serialize<S: Serializer>(&self, out: &mut S) -> Result<(), S::Error> {
         out.begin_map(Some(3))?;
         out.key("bytes")?;
@@ -128,31 +104,21 @@ impl Serialize for BytesReply<'_> {
     }
 }
 
-/// The reply to `errors`.
-#[derive(Clone, Copy)]
-struct ErrorsReply<'a> {
-    id: u64,
-    rev: u64,
-    total: u64,
-    places: &'a [Place],
+impl Described for WithId<'_, ErrorsReply> {
+    ghost writes = { λ n. SendsValue (errors_data n.id n.reply.now) };
 }
 
-impl Described for ErrorsReply<'_> {
-    ghost writes = { λ reply. SendsValue
-        (errors_data reply.id reply.rev reply.total reply.places.now) };
-}
-
-impl Serialize for ErrorsReply<'_> {
+impl Serialize for WithId<'_, ErrorsReply> {
     fn serialize<S: Serializer>(&self, out: &mut S) -> Result<(), S::Error> {
         out.begin_map(Some(4))?;
         out.key("errors")?;
-        send_places(self.places, out)?;
+        send_places(self.reply.places.as_slice(), out)?;
         out.key("id")?;
         out.u64(self.id)?;
         out.key("rev")?;
-        out.u64(self.rev)?;
+        out.u64(self.reply.rev)?;
         out.key("total")?;
-        out.u64(self.total)?;
+        out.u64(self.reply.total)?;
         out.end_map()
     }
 }
@@ -168,31 +134,21 @@ fn send_places<S: Serializer>(places: &[Place], out: &mut S) -> Result<(), S::Er
     out.end_seq()
 }
 
-/// The reply to `lines`.
-#[derive(Clone, Copy)]
-struct LinesReply<'a> {
-    id: u64,
-    rev: u64,
-    count: u64,
-    lines: &'a [Line],
+impl Described for WithId<'_, LinesReply> {
+    ghost writes = { λ n. SendsValue (lines_data n.id n.reply.now) };
 }
 
-impl Described for LinesReply<'_> {
-    ghost writes = { λ reply. SendsValue
-        (lines_data reply.id reply.rev reply.count reply.lines.now) };
-}
-
-impl Serialize for LinesReply<'_> {
+impl Serialize for WithId<'_, LinesReply> {
     fn serialize<S: Serializer>(&self, out: &mut S) -> Result<(), S::Error> {
         out.begin_map(Some(4))?;
         out.key("count")?;
-        out.u64(self.count)?;
+        out.u64(self.reply.count)?;
         out.key("id")?;
         out.u64(self.id)?;
         out.key("lines")?;
-        send_lines(self.lines, out)?;
+        send_lines(self.reply.lines.as_slice(), out)?;
         out.key("rev")?;
-        out.u64(self.rev)?;
+        out.u64(self.reply.rev)?;
         out.end_map()
     }
 }

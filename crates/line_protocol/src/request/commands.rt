@@ -7,10 +7,10 @@ ghost use Rattle.line_protocol.specs.declared.request.refusal.Refusal.TheVariant
 
 use crate::request::change_list::change_list;
 use crate::request::field::Field;
-use crate::request::fields::{self, MAX_NUMBER};
+use crate::request::fields;
 use crate::request::refusal::Refusal;
-use desk::Command;
 use desk::ops::{self, ContentChange};
+use desk::{Command, MAX_NUMBER};
 use serde_json::Value;
 use std::alloc::Global;
 

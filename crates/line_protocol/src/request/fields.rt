@@ -3,14 +3,11 @@ ghost use Rattle.std.specs.Prelude.{◌≡◌, option_map};
 ghost use Rattle.serde_json.specs.View.{view};
 ghost use Rattle.line_protocol.specs.Request.{number_at, text_at, name_at, bom_at, text_mode_at, encode_mode_at, as_unit, unit_at, place_unit_at, position_at, range_at};
 
-use desk::{PlaceUnit, TextMode};
+use desk::{MAX_NUMBER, PlaceUnit, TextMode};
 use enc_names::Bom;
 use encoders::EncodeMode;
 use position_map::{Position, Range, Unit};
 use serde_json::Value;
-
-/// The greatest number that a request may hold: 2^53 - 1.
-pub(super) const MAX_NUMBER: u64 = 9_007_199_254_740_991;
 
 /// The most bytes of a document's name.
 const MAX_NAME_LEN: usize = 64;

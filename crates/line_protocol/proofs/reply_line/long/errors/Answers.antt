@@ -7,6 +7,6 @@ use Rattle.line_protocol.proofs.reply_line.long.errors.Goals as goal
 
 pub returns : goal.returns
 returns c =
-    let reply = errors_data c.args.id c.args.rev c.args.total c.args.places.now in
-    let whole : has_float reply ≡ false = rw (places-whole c.args.places.now) in
+    let reply = errors_data c.args.id c.args.reply.now in
+    let whole : has_float reply ≡ false = rw (places-whole c.args.reply.now.places) in
     IfOk-weaker c.line.result _ _ (λ line sent. line-of reply line.items whole sent) c.line.ensures

@@ -7,6 +7,6 @@ use Rattle.line_protocol.proofs.reply_line.long.lines.Goals as goal
 
 pub returns : goal.returns
 returns c =
-    let reply = lines_data c.args.id c.args.rev c.args.count c.args.lines.now in
-    let whole : has_float reply ≡ false = rw (lines-whole c.args.lines.now) in
+    let reply = lines_data c.args.id c.args.reply.now in
+    let whole : has_float reply ≡ false = rw (lines-whole c.args.reply.now.lines) in
     IfOk-weaker c.line.result _ _ (λ line sent. line-of reply line.items whole sent) c.line.ensures
