@@ -58,15 +58,16 @@ along_past u (c ∷ cs) n h =
     let more : width_of u c ≤ n = omega arith in
     along_step u c cs n more ∙ ap (option_map (λ k. k + 1)) (along_past u cs (n - width_of u c) (omega arith)) ∙ ap Some (omega arith)
 
+-- no units are the text's start
+pub along_none : (u : TextUnit) (cs : List ℕ) → along u cs 0 ≡ Some 0
+along_none u [] = refl
+along_none u (c ∷ cs) = refl
+
 -- a front is found by its width
 pub along_front : (u : TextUnit) (a b : List ℕ) → along u (a ++ b) (width u a) ≡ Some (length a)
 along_front u a b =
     let e : width u a ≡ width u a + 0 = omega arith in
     ap (along u (a ++ b)) e ∙ along-append u a b 0 ∙ ap (option_map (λ k. length a + k)) (along_none u b) ∙ ap Some (omega arith)
-  where
-    along_none : (u : TextUnit) (b : List ℕ) → along u b 0 ≡ Some 0
-    along_none u [] = refl
-    along_none u (c ∷ cs) = refl
 
 -- code points in the middle of a text
 pub segment : (text : List ℕ) (s e : ℕ) → s ≤ e → take e text ≡ take s text ++ between text s e

@@ -1,10 +1,11 @@
--- A text cut in front of a mark of its bytes.
-use Rattle.std.proofs.Common.{◌≡◌, sym, ap, subst, ◌∙◌, ℕ, ◌+◌, ◌<◌, ◌≤◌, Bool, true, List, ◌∷◌, ◌++◌, take, drop, get_or, take-append-drop, arith}
+-- A text cut in front of a mark of its bytes, or behind its last line end.
+use Rattle.std.proofs.Common.{◌≡◌, sym, ap, subst, ◌∙◌, ℕ, ◌+◌, ◌<◌, ◌≤◌, Bool, true, false, List, ◌∷◌, ◌++◌, take, drop, get_or, take-append-drop, arith}
 use Rattle.std.specs.Str.{chars, IsUtf8, IsCharBoundary}
 use Rattle.std.proofs.lemmas.Bool.Decides.{nat_tests}
 use Rattle.std.proofs.lemmas.List.{drop_more}
-use Rattle.std.proofs.lemmas.Str.{encode_ascii, chars-append, chars_past_char, IsUtf8-take, IsUtf8-drop, IsCharBoundary-before_ascii}
+use Rattle.std.proofs.lemmas.Str.{encode_ascii, chars-append, chars_past_char, IsUtf8-take, IsUtf8-drop, IsCharBoundary-before_ascii, IsCharBoundary-after_ascii}
 use Rattle.lane_ascii.specs.Marks.{is_mark, marks, ends_cr, IsNthMark}
+use Rattle.position_map.specs.LineEnds.{IsLastEnd, IsLastLine}
 use Rattle.position_map.specs.Marked.{IsMarkCut, begins_mark}
 
 -- a text that begins with an ASCII byte begins with that character
@@ -18,6 +19,11 @@ pub mark_boundary : (f : Bool) (text bytes : List ℕ) (n at : ℕ) → bytes �
 mark_boundary f text bytes n at e m =
     let k : IsNthMark f text n at = subst (λ t. IsNthMark f t n at) e m in
     IsCharBoundary-before_ascii text at k.within (mark_low (ends_cr f (take at text)) (get_or text at 0) k.is)
+
+pub end_boundary : (text bytes : List ℕ) (at : ℕ) → IsUtf8 text → bytes ≡ text → IsLastEnd bytes at → IsCharBoundary text (at + 1)
+end_boundary text bytes at u e m =
+    let k : IsLastEnd text at = subst (λ t. IsLastEnd t at) e m in
+    IsCharBoundary-after_ascii text at u k.within (mark_low false (get_or text at 0) k.is)
 
 -- where the marks of a text's bytes are those of its code points
 module _ (marks-bytes : (f : Bool) (bs : List ℕ) → IsUtf8 bs → marks f bs ≡ marks f (chars bs)) (ends-bytes : (f : Bool) (bs : List ℕ) → IsUtf8 bs → ends_cr f bs ≡ ends_cr f (chars bs)) where
@@ -42,3 +48,27 @@ module _ (marks-bytes : (f : Bool) (bs : List ℕ) → IsUtf8 bs → marks f bs 
 
   pub mark_cut_at : (f : Bool) (text bytes front back : List ℕ) (n at : ℕ) → IsUtf8 text → bytes ≡ text → IsNthMark f bytes n at → front ≡ take at text → back ≡ drop at text → IsMarkCut f (chars text) n (chars front) (chars back)
   mark_cut_at f text bytes front back n at u e m ef eb = mark_cut f text front back n at u (subst (λ t. IsNthMark f t n at) e m) ef eb
+
+  pub no_last_line : (text bytes : List ℕ) → IsUtf8 text → bytes ≡ text → marks false bytes ≡ 0 → marks false (chars text) ≡ 0
+  no_last_line text bytes u e h = omega (arith, marks-bytes false text u, ap (marks false) e, h)
+
+  last_line_of : (text back : List ℕ) (at : ℕ) → IsUtf8 text → IsLastEnd text at → back ≡ drop (at + 1) text → IsLastLine (chars text) (chars back)
+  last_line_of text back at u m eb =
+      let b = get_or text at 0 in
+      let low : b < 128 = mark_low false b m.is in
+      let cut : IsCharBoundary text at = IsCharBoundary-before_ascii text at m.within low in
+      let ub : IsUtf8 (drop at text) = IsUtf8-drop text at u cut in
+      let more : drop at text ≡ b ∷ drop (at + 1) text = drop_more text at 0 m.within in
+      let first : chars (drop at text) ≡ b ∷ chars back =
+      ap chars more ∙ first_ascii b (drop (at + 1) text) (subst IsUtf8 more ub) low ∙ ap (λ t. b ∷ chars t) (sym eb) in
+      let behind : IsUtf8 back = subst IsUtf8 (sym eb) (IsUtf8-drop text (at + 1) u (IsCharBoundary-after_ascii text at u m.within low)) in
+      record {
+        front = chars (take at text);
+        c = b;
+        split = ap chars (sym (take-append-drop at text)) ∙ chars-append (take at text) (drop at text) (IsUtf8-take text at u cut) ∙ ap (λ t. chars (take at text) ++ t) first;
+        is = m.is;
+        none = sym (marks-bytes false back behind) ∙ ap (marks false) eb ∙ m.none;
+      }
+
+  pub last_line_at : (text bytes back : List ℕ) (at : ℕ) → IsUtf8 text → bytes ≡ text → IsLastEnd bytes at → back ≡ drop (at + 1) text → IsLastLine (chars text) (chars back)
+  last_line_at text bytes back at u e m eb = last_line_of text back at u (subst (λ t. IsLastEnd t at) e m) eb

@@ -170,3 +170,7 @@ offset_past u text at p q s e l =
 pub offset_none : (u : TextUnit) (text : List ℕ) (at : Position) (q : Point) → length (lines_of text) ≤ at.line → IsTextEnd u text q → Ok q.scalars ≡ offset_of text u at
 unfolding offset_of
 offset_none u text at q h e = ap Ok e.scalars ∙ ap (λ o. offset_at text u o at.character) (sym (slice_get_past (lines_of text) at.line h))
+
+-- the offset of a place along a line
+pub offset_of_place : (u : TextUnit) (line : List ℕ) (n start k count : ℕ) → count ≡ k → along u line n ≡ Some k → Ok (start + count) ≡ ok_or (option_map (λ j. start + j) (along u line n)) SplitsCharacter
+offset_of_place u line n start k count e a = ap (λ j. Ok (start + j)) e ∙ sym (ap (λ o. ok_or (option_map (λ j. start + j) o) SplitsCharacter) a)

@@ -6,6 +6,7 @@ pub mod Cutting
 pub mod Endings
 pub mod Fronting
 pub mod Items
+pub mod LastLines
 pub mod LineMarks
 pub mod Locating
 pub mod NextLines

@@ -156,6 +156,28 @@ next_start_after f s n (x ∷ xs) c back h =
     (λ _. next_start_after (x == cr) (n + 1) (n + 1) xs c back h ∙ same)
     (λ _. next_start_after (x == cr) (cond (x == lf) (n + 1) s) (n + 1) xs c back h ∙ same)
 
+lf_alone : (x y f : Bool) → (x || (y && not false)) ≡ true → (x || (y && not f)) ≡ false → y ≡ true
+lf_alone true y f h m = cc
+lf_alone false true f h m = refl
+lf_alone false false f h m = cc
+
+-- a line begins behind CR or LF, but not between the two
+start_after : (f : Bool) (s n : ℕ) (front : List ℕ) (c : ℕ) (back : List ℕ) → is_mark false c ≡ true → ((c == cr) && begins_lf back) ≡ false
+    → option_map start_of (slice_get (lines_after f s n (front ++ c ∷ back)) (marks f (front ++ c ∷ []))) ≡ Some (n + length front + 1)
+start_after f s n [] c back h apart =
+    let e : n + 1 ≡ n + 0 + 1 = omega arith in
+    let here : (t : ℕ) → t ≡ n + 1 → option_map start_of (slice_get (lines_after (c == cr) t (n + 1) back) 0) ≡ Some (n + 0 + 1) =
+    λ t same. first_start_after (c == cr) t (n + 1) back ∙ ap Some (not_taken ((c == cr) && begins_lf back) (n + 1 + 1) t apart ∙ same ∙ e) in
+    get_past start_of (is_mark f c) (line s n) (lines_after (c == cr) (n + 1) (n + 1) back) (lines_after (c == cr) (cond (c == lf) (n + 1) s) (n + 1) back) 0 (Some (n + 0 + 1))
+    (λ _. here (n + 1) refl)
+    (λ m. here (cond (c == lf) (n + 1) s) (taken (c == lf) (n + 1) s (lf_alone (c == cr) (c == lf) f h m)))
+start_after f s n (x ∷ xs) c back h apart =
+    let e : n + 1 + length xs + 1 ≡ n + length (x ∷ xs) + 1 = omega arith in
+    get_past start_of (is_mark f x) (line s n) (lines_after (x == cr) (n + 1) (n + 1) (xs ++ c ∷ back)) (lines_after (x == cr) (cond (x == lf) (n + 1) s) (n + 1) (xs ++ c ∷ back))
+    (marks (x == cr) (xs ++ c ∷ [])) (Some (n + length (x ∷ xs) + 1))
+    (λ _. start_after (x == cr) (n + 1) (n + 1) xs c back h apart ∙ ap Some e)
+    (λ _. start_after (x == cr) (cond (x == lf) (n + 1) s) (n + 1) xs c back h apart ∙ ap Some e)
+
 length_cond : (b : Bool) (p : LineSpan) (xs ys : List LineSpan) (k : ℕ) → length xs ≡ k + 1 → length ys ≡ k + 1 → length (cond b (p ∷ xs) ys) ≡ one_if b + k + 1
 length_cond true p xs ys k h g = omega arith
 length_cond false p xs ys k h g = omega arith
@@ -298,6 +320,13 @@ last_end text = ap (λ ls. option_map end_of (slice_get ls (marks false text))) 
 pub first_start : (text : List ℕ) → option_map start_of (slice_get (lines_of text) 0) ≡ Some 0
 unfolding lines_of
 first_start text = ap (λ ls. option_map start_of (slice_get ls 0)) (lines_same 0 0 text) ∙ first_start_after false 0 0 text
+
+pub line_begins : (front : List ℕ) (c : ℕ) (back : List ℕ) → is_mark false c ≡ true → ((c == cr) && begins_lf back) ≡ false
+    → option_map start_of (slice_get (lines_of (front ++ c ∷ back)) (marks false (front ++ c ∷ []))) ≡ Some (length front + 1)
+unfolding lines_of
+line_begins front c back h apart =
+    ap (λ ls. option_map start_of (slice_get ls (marks false (front ++ c ∷ [])))) (lines_same 0 0 (front ++ c ∷ back))
+    ∙ start_after false 0 0 front c back h apart ∙ ap Some (omega arith)
 
 pub line_count : (text : List ℕ) → length (lines_of text) ≡ marks false text + 1
 unfolding lines_of

@@ -2,6 +2,7 @@
 use Rattle.std.proofs.Common.{◌≡◌, refl, sym, ap, subst, ◌∙◌, ℕ, ◌+◌, ◌-◌, ◌<◌, ◌≤◌, inl, inr, min, Bool, true, false, cond, ◌==◌, ◌&&◌, nat_le, List, [], ◌∷◌, ◌++◌, length, length-append, take, drop, append_assoc, arith, Option, Some, None, Ok, Err}
 use Rattle.std.specs.Option.{option_map}
 use Rattle.std.specs.List.{slice_get}
+use Rattle.std.specs.Str.{chars}
 use Rattle.std.proofs.lemmas.List.{take_at, drop_at}
 use Rattle.std.proofs.lemmas.Bool.Decides.{nat_tests}
 use Rattle.lane_ascii.specs.Marks.{cr, is_mark, one_if, marks, ends_cr}
@@ -10,10 +11,11 @@ use Rattle.piece_rope.specs.Outcomes.{Sum, begins_lf}
 use Rattle.position_map.specs.declared.fault.PosFault.TheVariants.{OutOfRange}
 use Rattle.position_map.specs.declared.on_line.OnLine.{OnLine}
 use Rattle.position_map.specs.declared.point.Point.{Point}
+use Rattle.position_map.specs.declared.text_cut.TextCut.{TextCut}
 use Rattle.position_map.specs.declared.unit.Unit.{Unit as TextUnit}
 use Rattle.position_map.specs.declared.unit.Unit.TheVariants.{Utf8}
 use Rattle.position_map.specs.Cuts.{IsScalarCut}
-use Rattle.position_map.specs.Fronts.{IsOnLine}
+use Rattle.position_map.specs.Fronts.{IsCutAt, IsOnLine}
 use Rattle.position_map.specs.Lines.{LineSpan, lines_of}
 use Rattle.position_map.specs.Located.{IsLocated, sum_in}
 use Rattle.position_map.specs.Marked.{IsMark, IsLineStart, start_of, end_of}
@@ -84,58 +86,76 @@ on_split u text a b offset split at flag =
     both true y e = refl
     both false y e = cc
 
--- what is known where the part of an offset is cut there
-record IsPlaceCut (u : TextUnit) (text : List ℕ) (offset : ℕ) (s : Sum) (front rest : List ℕ) : Type 0 where
+-- the piece of an offset, cut there
+pub cut_found : (text : List ℕ) (offset : ℕ) (x : TextCut) (here : List ℕ) → IsLocated Scalar offset text x.before here → IsScalarCut here (offset - x.before.scalars) (chars x.front.now) (chars x.rest.now) → IsCutAt text offset x
+cut_found text offset x here l k = record {
+  is = record {
+    front = l.front;
+    items = l.items;
+    back = chars x.rest.now ++ l.back;
+    split = regroup text l.front (chars x.front.now) (chars x.rest.now) l.back (l.split ∙ ap (λ t. l.front ++ (t ++ l.back)) k.split);
+    sum = l.sum;
+  };
+  at = omega (arith, l.low, k.count);
+  next = line_feed text offset x.before here (chars x.front.now) (chars x.rest.now) l k;
+}
+
+-- what is known of the text before such a cut, and behind it
+record IsPlaceCut (u : TextUnit) (text : List ℕ) (offset : ℕ) (x : TextCut) : Type 0 where
   a : List ℕ
   b : List ℕ
   split : text ≡ a ++ b
   at : offset ≡ length a
-  marks_are : s.marks + marks s.cr_last front ≡ marks false a
-  wide : sum_in u s + width u front ≡ width u a
-  flag : (ends_cr s.cr_last front && begins_lf rest) ≡ (ends_cr false a && begins_lf b)
+  marks_are : x.before.marks + marks x.before.cr_last (chars x.front.now) ≡ marks false a
+  wide : sum_in u x.before + width u (chars x.front.now) ≡ width u a
+  flag : (ends_cr x.before.cr_last (chars x.front.now) && begins_lf (chars x.rest.now)) ≡ (ends_cr false a && begins_lf b)
 
-place_cut : (u : TextUnit) (text : List ℕ) (offset : ℕ) (s : Sum) (here front rest : List ℕ) → IsLocated Scalar offset text s here → IsScalarCut here (offset - s.scalars) front rest → IsPlaceCut u text offset s front rest
-place_cut u text offset s here front rest l k =
-    let split : text ≡ (l.front ++ front) ++ (rest ++ l.back) = regroup text l.front front rest l.back (l.split ∙ ap (λ t. l.front ++ (t ++ l.back)) k.split) in
-    let at : offset ≡ length (l.front ++ front) = omega (arith, l.sum.scalars, l.low, k.count, length-append l.front front) in
-    let ends : ends_cr s.cr_last front ≡ ends_cr false (l.front ++ front) = ap (λ f. ends_cr f front) l.sum.cr_last ∙ sym (ends_cr-append false l.front front) in
-    let begins : begins_lf rest ≡ begins_lf (rest ++ l.back) = line_feed text offset s here front rest l k ∙ ap begins_lf (ap (drop offset) split ∙ drop_at (l.front ++ front) (rest ++ l.back) offset (sym at)) in
+place_cut : (u : TextUnit) (text : List ℕ) (offset : ℕ) (x : TextCut) → IsCutAt text offset x → IsPlaceCut u text offset x
+place_cut u text offset x k =
+    let w = k.is in
+    let front = chars x.front.now in
+    let rest = chars x.rest.now in
+    let s = x.before in
+    let at : offset ≡ length (w.front ++ front) = omega (arith, w.sum.scalars, k.at, length-append w.front front) in
+    let ends : ends_cr s.cr_last front ≡ ends_cr false (w.front ++ front) = ap (λ f. ends_cr f front) w.sum.cr_last ∙ sym (ends_cr-append false w.front front) in
+    let begins : begins_lf rest ≡ begins_lf w.back = k.next ∙ ap begins_lf (ap (drop offset) w.split ∙ drop_at (w.front ++ front) w.back offset (sym at)) in
     record {
-      a = l.front ++ front;
-      b = rest ++ l.back;
-      split = split;
+      a = w.front ++ front;
+      b = w.back;
+      split = w.split;
       at = at;
-      marks_are = omega (arith, l.sum.marks, marks-append false l.front front, ap (λ f. marks f front) l.sum.cr_last);
-      wide = omega (arith, sum_width u l.front l.items s l.sum, width-append u l.front front);
-      flag = ap (λ x. x && begins_lf rest) ends ∙ ap (λ x. ends_cr false (l.front ++ front) && x) begins;
+      marks_are = omega (arith, w.sum.marks, marks-append false w.front front, ap (λ f. marks f front) w.sum.cr_last);
+      wide = omega (arith, sum_width u w.front w.items s w.sum, width-append u w.front front);
+      flag = ap (λ t. t && begins_lf rest) ends ∙ ap (λ t. ends_cr false (w.front ++ front) && t) begins;
     }
 
-pub placed_here : (u : TextUnit) (text : List ℕ) (offset : ℕ) (s : Sum) (here front rest : List ℕ) (b : Bool) (m w v : ℕ) → IsLocated Scalar offset text s here → IsScalarCut here (offset - s.scalars) front rest
-    → b ≡ (ends_cr s.cr_last front && begins_lf rest) → b ≡ false → m ≡ marks s.cr_last front → w ≡ sum_in u s → v ≡ width u front → IsOnLine u text offset (record { line = s.marks + m; units = w + v })
-placed_here u text offset s here front rest b m w v l k flag off em ew ev =
-    let c = place_cut u text offset s here front rest l k in
-    let line_is : marks false c.a ≡ s.marks + m = omega (arith, c.marks_are, em) in
+pub placed_here : (u : TextUnit) (text : List ℕ) (offset : ℕ) (x : TextCut) (b : Bool) (m w v : ℕ) → IsCutAt text offset x
+    → b ≡ (ends_cr x.before.cr_last (chars x.front.now) && begins_lf (chars x.rest.now)) → b ≡ false → m ≡ marks x.before.cr_last (chars x.front.now) → w ≡ sum_in u x.before → v ≡ width u (chars x.front.now)
+    → IsOnLine u text offset (record { line = x.before.marks + m; units = w + v })
+placed_here u text offset x b m w v k flag off em ew ev =
+    let c = place_cut u text offset x k in
+    let line_is : marks false c.a ≡ x.before.marks + m = omega (arith, c.marks_are, em) in
     let units_are : width u c.a ≡ w + v = omega (arith, c.wide, ew, ev) in
     let P : OnLine → Type 0 = IsOnLine u text offset in
     let p : P (record { line = marks false c.a; units = width u c.a }) = on_here u text c.a c.b offset c.split c.at (sym c.flag ∙ sym flag ∙ off) in
     subst (λ j. P (record { line = j; units = w + v })) line_is (subst (λ j. P (record { line = marks false c.a; units = j })) units_are p)
 
-pub placed_split : (u : TextUnit) (text : List ℕ) (offset : ℕ) (s : Sum) (here front rest : List ℕ) (b : Bool) (m w v : ℕ) → IsLocated Scalar offset text s here → IsScalarCut here (offset - s.scalars) front rest
-    → b ≡ (ends_cr s.cr_last front && begins_lf rest) → b ≡ true → m ≡ marks s.cr_last front → w ≡ sum_in u s → v ≡ width u front
-    → (1 ≤ s.marks + m) × (1 ≤ w + v) × IsOnLine u text offset (record { line = s.marks + m - 1; units = w + v - 1 })
-placed_split u text offset s here front rest b m w v l k flag on em ew ev =
-    let c = place_cut u text offset s here front rest l k in
-    let line_is : marks false c.a ≡ s.marks + m = omega (arith, c.marks_are, em) in
+pub placed_split : (u : TextUnit) (text : List ℕ) (offset : ℕ) (x : TextCut) (b : Bool) (m w v : ℕ) → IsCutAt text offset x
+    → b ≡ (ends_cr x.before.cr_last (chars x.front.now) && begins_lf (chars x.rest.now)) → b ≡ true → m ≡ marks x.before.cr_last (chars x.front.now) → w ≡ sum_in u x.before → v ≡ width u (chars x.front.now)
+    → (1 ≤ x.before.marks + m) × (1 ≤ w + v) × IsOnLine u text offset (record { line = x.before.marks + m - 1; units = w + v - 1 })
+placed_split u text offset x b m w v k flag on em ew ev =
+    let c = place_cut u text offset x k in
+    let line_is : marks false c.a ≡ x.before.marks + m = omega (arith, c.marks_are, em) in
     let units_are : width u c.a ≡ w + v = omega (arith, c.wide, ew, ev) in
     let P : OnLine → Type 0 = IsOnLine u text offset in
     let p = on_split u text c.a c.b offset c.split c.at (sym c.flag ∙ sym flag ∙ on) in
     let first : P (record { line = marks false c.a - 1; units = w + v - 1 }) = subst (λ j. P (record { line = marks false c.a - 1; units = j - 1 })) units_are p.2 in
     (omega (arith, p.0, line_is), omega (arith, p.1, units_are), subst (λ j. P (record { line = j - 1; units = w + v - 1 })) line_is first)
 
--- the marks and units in front fit where the text does
-pub marks_fit : (text : List ℕ) (offset : ℕ) (s : Sum) (here front rest : List ℕ) (m : ℕ) → IsLocated Scalar offset text s here → IsScalarCut here (offset - s.scalars) front rest → m ≡ marks s.cr_last front → s.marks + m ≤ length text
-marks_fit text offset s here front rest m l k em =
-    let c = place_cut Utf8 text offset s here front rest l k in
+-- the marks in front fit where the text does
+pub marks_fit : (text : List ℕ) (offset : ℕ) (x : TextCut) (m : ℕ) → IsCutAt text offset x → m ≡ marks x.before.cr_last (chars x.front.now) → x.before.marks + m ≤ length text
+marks_fit text offset x m k em =
+    let c = place_cut Utf8 text offset x k in
     omega (arith, c.marks_are, em, marks-few false c.a, ap length c.split, length-append c.a c.b)
 
 pub none_past : (text : List ℕ) (offset : ℕ) (s : Sum) (here : List ℕ) → IsLocated Scalar offset text s here → length here < offset - s.scalars → offset ≤ length text → ⊥

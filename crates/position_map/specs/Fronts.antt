@@ -1,7 +1,9 @@
 -- Fronts of a document's text.
-use Rattle.std.specs.Prelude.{◌≡◌, ℕ, ◌+◌, ◌<◌, ◌≤◌, List, ◌++◌, length, take, min, Some, slice_get}
-use Rattle.piece_rope.specs.Outcomes.{Ended, Sum, IsSumOf}
+use Rattle.std.specs.Prelude.{◌≡◌, ℕ, ◌+◌, ◌<◌, ◌≤◌, List, ◌++◌, length, take, drop, min, Some, slice_get}
+use Rattle.std.specs.Str.{chars}
+use Rattle.piece_rope.specs.Outcomes.{Ended, Sum, IsSumOf, begins_lf}
 use Rattle.position_map.specs.declared.on_line.OnLine.{OnLine}
+use Rattle.position_map.specs.declared.text_cut.TextCut.{TextCut}
 use Rattle.position_map.specs.declared.unit.Unit.{Unit as TextUnit}
 use Rattle.position_map.specs.Lines.{LineSpan, lines_of}
 use Rattle.position_map.specs.Positions.{along, line_at}
@@ -19,6 +21,12 @@ pub record IsTextFront (text : List ℕ) (before : Sum) (part : List ℕ) : Type
 pub record IsFrontOf (unit : TextUnit) (text : List ℕ) (n : ℕ) (before : Sum) (part : List ℕ) : Type 0 where
   pub is : IsTextFront text before part
   pub along : along unit text n ≡ Some (before.scalars + length part)
+
+-- a part of a text cut in two behind so many of the text's code points
+pub record IsCutAt (text : List ℕ) (offset : ℕ) (x : TextCut) : Type 0 where
+  pub is : IsTextFront text x.before (chars x.front.now)
+  pub at : offset ≡ x.before.scalars + length (chars x.front.now)
+  pub next : begins_lf (chars x.rest.now) ≡ begins_lf (drop offset text)
 
 -- the line of an offset, and the units before the offset or the line's end, whichever comes first
 pub record IsOnLine (unit : TextUnit) (text : List ℕ) (offset : ℕ) (p : OnLine) : Type 0 where

@@ -1,12 +1,15 @@
 -- Line marks of a text, and the lines between them.
-use Rattle.std.specs.Prelude.{◌≡◌, ℕ, Bool, true, false, List, [], ◌∷◌, ◌++◌, length, Some, slice_get}
+use Rattle.std.specs.Prelude.{◌≡◌, ℕ, ◌-◌, Bool, true, false, List, [], ◌∷◌, ◌++◌, length, Some, slice_get}
 use Rattle.std.specs.Option.{option_map}
 use Rattle.std.specs.Str.{chars}
 use Rattle.lane_ascii.specs.Marks.{is_mark, marks, ends_cr}
+use Rattle.piece_rope.specs.Search.{Mark}
 use Rattle.position_map.specs.declared.mark.LineMark.{LineMark}
 use Rattle.position_map.specs.declared.point.Point.{Point}
+use Rattle.position_map.specs.declared.text_cut.TextCut.{TextCut}
 use Rattle.position_map.specs.declared.unit.Unit.{Unit as TextUnit}
 use Rattle.position_map.specs.Lines.{LineSpan, lines_of}
+use Rattle.position_map.specs.Located.{IsLocated}
 use Rattle.position_map.specs.Points.{IsPoint}
 
 -- whether a mark stands first, where the flag says that a CR stands in front
@@ -25,6 +28,12 @@ pub record IsMark (text : List ℕ) (n : ℕ) (front : List ℕ) (c : ℕ) (back
   pub split : text ≡ front ++ c ∷ back
   pub count : marks false front ≡ n
   pub is : is_mark (ends_cr false front) c ≡ true
+
+-- a part of a text cut in front of the text's mark `n`
+pub record IsCutAtMark (text : List ℕ) (n : ℕ) (m : TextCut) : Type 0 where
+  pub here : List ℕ
+  pub place : IsLocated Mark n text m.before here
+  pub cut : IsMarkCut m.before.cr_last here (n - m.before.marks) (chars m.front.now) (chars m.rest.now)
 
 -- where mark `n` stands; `near` is what is behind it in its piece
 pub record IsMarkAt (unit : TextUnit) (text : List ℕ) (n : ℕ) (m : LineMark) : Type 0 where

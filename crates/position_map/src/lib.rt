@@ -10,6 +10,7 @@ mod escapes;
 mod examples;
 mod fault;
 mod item_cuts;
+mod last_line;
 mod line_cursor;
 mod lines;
 mod locate;
@@ -27,6 +28,7 @@ mod point;
 mod position;
 mod positions;
 mod put_in;
+mod text_cut;
 mod unit;
 
 pub use change_fault::ChangeFault;

@@ -7,6 +7,7 @@ ghost use Rattle.position_map.specs.Marked.{IsLineStart, IsLineEnd};
 ghost use Rattle.position_map.specs.Whole.{pieces_most};
 
 use crate::marks::{line_behind, mark};
+use crate::next_line::{first_line, next_mark};
 use crate::parts::Parts;
 use crate::point::Point;
 use crate::unit::Unit;
@@ -29,12 +30,13 @@ pub fn line(doc: &Doc<'_>, n: u64, visits: &mut Visits) -> Option<(u64, u64)>
     ensures kept { visits.old ≤ visits.new }
 {
     let parts = Parts::of(doc);
-    match line_start(&parts, Unit::Utf8, n, visits) {
+    let last = parts.end(Unit::Utf8).scalars;
+    match first_line(&parts, n, visits) {
         None => None,
-        Some(start) => {
-            let end = line_end(&parts, Unit::Utf8, n, visits);
-            Some((start.scalars, end.scalars))
-        }
+        Some(at) => match next_mark(&parts, n, at, visits) {
+            None => Some((at.start.scalars, last)),
+            Some(m) => Some((at.start.scalars, m.at.scalars)),
+        },
     }
 }
 

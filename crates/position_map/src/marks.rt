@@ -4,7 +4,8 @@ ghost use Rattle.lane_ascii.specs.Marks.{cr, marks};
 ghost use Rattle.piece_rope.specs.Outcomes.{begins_lf};
 ghost use Rattle.piece_rope.specs.Document.{text_of};
 ghost use Rattle.position_map.specs.declared.unit.Unit.{Unit as TextUnit};
-ghost use Rattle.position_map.specs.Marked.{IsMarkAt, IsLineStart};
+ghost use Rattle.position_map.specs.declared.unit.Unit.TheVariants.{Utf8};
+ghost use Rattle.position_map.specs.Marked.{IsCutAtMark, IsMarkAt, IsLineStart};
 
 use crate::cuts::{ending_of, split_at_mark, split_at_scalar};
 use crate::ending::Ending;
@@ -12,6 +13,7 @@ use crate::locate::{locate, sum_in};
 use crate::mark::LineMark;
 use crate::parts::Parts;
 use crate::point::{Point, point_behind};
+use crate::text_cut::TextCut;
 use crate::unit::Unit;
 use piece_rope::{Axis, Visits, begins_lf};
 
@@ -26,15 +28,47 @@ pub(crate) fn mark<'d>(
     ensures most { (d : ℕ) → length parts.now.pieces < 2 ^ d → visits.new ≤ visits.old + (d + 2) }
     ensures kept { visits.old ≤ visits.new }
 {
-    let _end = parts.end(unit);
+    match mark_cut(parts, n, visits) {
+        None => None,
+        Some(cut) => Some(mark_at(parts, unit, n, cut)),
+    }
+}
+
+// The piece of line mark `n`, cut in front of it, where there are more than `n`.
+pub(crate) fn mark_cut<'d>(
+    parts: &Parts<'d, '_>,
+    n: u64,
+    visits: &mut Visits,
+) -> Option<TextCut<'d>>
+    ensures place { MatchOption result (marks false (text_of parts.now.doc) ≤ n) (IsCutAtMark (text_of parts.now.doc) n) }
+    ensures most { (d : ℕ) → length parts.now.pieces < 2 ^ d → visits.new ≤ visits.old + (d + 2) }
+    ensures kept { visits.old ≤ visits.new }
+{
     let (before, here) = locate(parts, Axis::Mark, n, visits);
     match split_at_mark(here, before.cr_last, (n - before.marks) as usize) {
         None => None,
-        Some((front, rest)) => {
-            let at = point_behind(before.scalars, sum_in(before, unit), front, unit);
-            Some(LineMark { at, rest })
-        }
+        Some((front, rest)) => Some(TextCut {
+            before,
+            front,
+            rest,
+        }),
     }
+}
+
+// Line mark `n`, by the cut in front of it.
+pub(crate) fn mark_at<'d>(
+    parts: &Parts<'d, '_>,
+    unit: Unit,
+    n: u64,
+    cut: TextCut<'d>,
+) -> LineMark<'d>
+    requires { IsCutAtMark (text_of parts.now.doc) n cut }
+    ensures { IsMarkAt unit (text_of parts.now.doc) n result }
+{
+    let _end = parts.end(unit);
+    let units = sum_in(cut.before, unit);
+    let at = point_behind(cut.before.scalars, units, cut.front, unit);
+    LineMark { at, rest: cut.rest }
 }
 
 // Whether code point `n` is an LF.
@@ -81,6 +115,27 @@ pub(crate) fn line_behind(
     let length = 1 + u64::from(is_cr_lf(parts, m, visits));
     Point {
         scalars: m.at.scalars + length,
+        units: m.at.units + length,
+    }
+}
+
+// Where the line behind mark `n` starts, in another unit than the one in which it is known.
+pub(crate) fn start_in(
+    parts: &Parts<'_, '_>,
+    unit: Unit,
+    n: u64,
+    cut: TextCut<'_>,
+    start: Point,
+) -> Point
+    requires cut { IsCutAtMark (text_of parts.now.doc) n cut }
+    requires start { IsLineStart Utf8 (text_of parts.now.doc) (n + 1) start }
+    ensures { IsLineStart unit (text_of parts.now.doc) (n + 1) result }
+{
+    let _end = parts.end(unit);
+    let m = mark_at(parts, unit, n, cut);
+    let length = start.scalars - m.at.scalars;
+    Point {
+        scalars: start.scalars,
         units: m.at.units + length,
     }
 }

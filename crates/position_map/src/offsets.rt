@@ -1,21 +1,26 @@
 //! Offsets of positions, and offsets in other units.
-ghost use Rattle.std.specs.Prelude.{◌≡◌, ℕ, ◌+◌, ◌*◌, ◌^◌, ◌<◌, ◌≤◌, None, MatchResult, length};
-ghost use Rattle.std.specs.Option.{ok_or};
+ghost use Rattle.std.specs.Prelude.{◌≡◌, ℕ, ◌+◌, ◌-◌, ◌*◌, ◌^◌, ◌<◌, ◌≤◌, None, MatchResult, length};
+ghost use Rattle.std.specs.Option.{ok_or, option_map};
 ghost use Rattle.std.specs.Str.{chars};
 ghost use Rattle.piece_rope.specs.Document.{text_of};
 ghost use Rattle.position_map.specs.declared.fault.PosFault.TheVariants.{SplitsCharacter};
 ghost use Rattle.position_map.specs.Fronts.{IsFrontOf};
+ghost use Rattle.position_map.specs.Marked.{IsCutAtMark, IsLineStart};
 ghost use Rattle.position_map.specs.Positions.{along, offset_of, converted};
 ghost use Rattle.position_map.specs.Whole.{pieces_most};
 ghost use Rattle.position_map.specs.Widths.{width};
 
 use crate::along::{Along, along_text};
+use crate::cuts::split_at_mark;
 use crate::fault::PosFault;
-use crate::lines::{line_end, line_start};
+use crate::lines::line_end;
 use crate::locate::{axis_of, locate, sum_in};
+use crate::marks::{mark_at, mark_cut, start_in};
+use crate::next_line::line_after;
 use crate::parts::Parts;
-use crate::point::units_in;
+use crate::point::{Point, units_in};
 use crate::position::Position;
+use crate::text_cut::TextCut;
 use crate::unit::Unit;
 use lane_utf::count_scalars;
 use piece_rope::{Doc, Sum, Visits};
@@ -34,16 +39,16 @@ pub fn to_offset(
     ensures kept { visits.old ≤ visits.new }
 {
     let parts = Parts::of(doc);
-    match line_start(&parts, unit, position.line, visits) {
+    if position.line == 0 {
+        let start = Point {
+            scalars: 0,
+            units: 0,
+        };
+        return offset_from(&parts, unit, position, start, visits);
+    }
+    match mark_cut(&parts, position.line - 1, visits) {
         None => Ok(parts.end(unit).scalars),
-        Some(start) => {
-            let end = line_end(&parts, unit, position.line, visits);
-            if position.character < end.units - start.units {
-                scalar_at(&parts, unit, start.units + position.character, visits)
-            } else {
-                Ok(end.scalars)
-            }
-        }
+        Some(cut) => offset_behind(&parts, unit, position, cut, visits),
     }
 }
 
@@ -69,6 +74,70 @@ pub fn convert(
     match front_at(&parts, from, value, visits) {
         Ok((before, front)) => Ok(sum_in(before, to) + units_in(front, to)),
         Err(fault) => Err(fault),
+    }
+}
+
+// The offset of a position on the line behind a mark: the line mostly ends in the mark's piece.
+fn offset_behind(
+    parts: &Parts<'_, '_>,
+    unit: Unit,
+    position: Position,
+    cut: TextCut<'_>,
+    visits: &mut Visits,
+) -> Result<u64, PosFault>
+    requires some { 0 < position.line }
+    requires cut { IsCutAtMark (text_of parts.now.doc) (position.line - 1) cut }
+    ensures offset { result ≡ offset_of (text_of parts.now.doc) unit position }
+    ensures most { (d : ℕ) → length parts.now.pieces < 2 ^ d → visits.new ≤ visits.old + 3 * (d + 2) }
+    ensures kept { visits.old ≤ visits.new }
+{
+    let _end = parts.end(unit);
+    let n = position.line - 1;
+    let m = mark_at(parts, Unit::Utf8, n, cut);
+    let next = line_after(parts, n, m, visits);
+    if position.character == 0 {
+        return Ok(next.start.scalars);
+    }
+    match split_at_mark(next.rest, false, 0) {
+        Some((line, _)) => offset_in(next.start.scalars, line, unit, position.character),
+        None => {
+            let start = start_in(parts, unit, n, cut, next.start);
+            offset_from(parts, unit, position, start, visits)
+        }
+    }
+}
+
+// The offset of a character on a line that is at hand, where so many code points stand before it.
+fn offset_in(start: u64, line: &str, unit: Unit, character: u64) -> Result<u64, PosFault>
+    requires { start + length (chars line.now) < 2 ^ 64 }
+    ensures { result ≡ ok_or (option_map (λ k. start + k) (along unit (chars line.now) character)) SplitsCharacter }
+{
+    let before = match along_text(line, unit, character as usize) {
+        Along::At(front) => front,
+        Along::Inside => return Err(PosFault::SplitsCharacter),
+        Along::Past => line,
+    };
+    Ok(start + count_scalars(before) as u64)
+}
+
+// The offset of a position on a line that starts at a point.
+fn offset_from(
+    parts: &Parts<'_, '_>,
+    unit: Unit,
+    position: Position,
+    start: Point,
+    visits: &mut Visits,
+) -> Result<u64, PosFault>
+    requires { IsLineStart unit (text_of parts.now.doc) position.line start }
+    ensures offset { result ≡ offset_of (text_of parts.now.doc) unit position }
+    ensures most { (d : ℕ) → length parts.now.pieces < 2 ^ d → visits.new ≤ visits.old + 2 * (d + 2) }
+    ensures kept { visits.old ≤ visits.new }
+{
+    let end = line_end(parts, unit, position.line, visits);
+    if position.character < end.units - start.units {
+        scalar_at(parts, unit, start.units + position.character, visits)
+    } else {
+        Ok(end.scalars)
     }
 }
 

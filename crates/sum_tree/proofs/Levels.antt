@@ -1,7 +1,8 @@
--- How many levels a tree has.
-use Rattle.std.proofs.Common.{◌≡◌, ℕ, zero, suc, ◌*◌, ◌/◌, ◌^◌, ◌<◌, ◌≤◌, length, sym, ap, ◌∙◌, subst, arith}
+-- How many levels a tree has, and what a search visits of them.
+use Rattle.std.proofs.Common.{◌≡◌, ℕ, zero, suc, ◌+◌, ◌-◌, ◌*◌, ◌/◌, ◌^◌, ◌<◌, ◌≤◌, length, sym, ap, ◌∙◌, subst, arith}
 use Rattle.std.specs.Prelude.{List, Option, Some}
 use Rattle.sum_tree.specs.Row.{Row}
+use Rattle.sum_tree.specs.Visited.{RisesBy}
 use Rattle.sum_tree.specs.Listed.{items_in, IsSoundRoot}
 
 one_below : (d : ℕ) → 1 ≤ 2 ^ d
@@ -25,3 +26,32 @@ few_levels root r xs d e is sound few =
 pub even : (h w : ℕ) → 0 < h → w ≡ 2 ^ h → 2 * (w / 2) ≡ w
 even zero w p e = absurd (omega arith)
 even (suc h) w p e = omega arith
+
+-- the visits of a search, level by level
+pub rises_none : (h v : ℕ) → RisesBy (h - h) v v
+rises_none h v = record { exact = λ f. omega arith; most = omega arith; kept = omega arith }
+
+pub rises_on : (h k j old mid new : ℕ) → k ≤ h → k ≡ j + 1 → RisesBy (h - k) old mid → RisesBy 1 mid new → RisesBy (h - j) old new
+rises_on h k j old mid new l e v w =
+    let v_most = v.most in
+    let v_kept = v.kept in
+    let w_most = w.most in
+    let w_kept = w.kept in
+    record {
+      exact = λ f.
+          let first = v.exact (omega arith) in
+          let then = w.exact (omega arith) in
+          omega arith;
+      most = omega arith;
+      kept = omega arith;
+    }
+
+pub rises_end : (h k old mid new : ℕ) → k ≡ 0 → new ≡ mid → RisesBy (h - k) old mid → RisesBy h old new
+rises_end h k old mid new e same v =
+    let most = v.most in
+    let kept = v.kept in
+    record {
+      exact = λ f. let first = v.exact (omega arith) in omega arith;
+      most = omega arith;
+      kept = omega arith;
+    }

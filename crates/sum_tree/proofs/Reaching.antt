@@ -1,7 +1,7 @@
 -- Searches go on in one part of a list.
-use Rattle.std.proofs.Common.{◌≡◌, ℕ, ◌+◌, ◌<◌, ◌≤◌, List, [], ◌∷◌, ◌++◌, length, ap, sym, ◌∙◌, subst, refl, arith, length-append, append_assoc}
+use Rattle.std.proofs.Common.{◌≡◌, ℕ, ◌+◌, ◌<◌, ◌≤◌, List, [], ◌∷◌, ◌++◌, length, ap, sym, ◌∙◌, subst, refl, arith, length-append, append_assoc, append-nil}
 use Rattle.sum_tree.specs.Sums.{MonoidLaws, total}
-use Rattle.sum_tree.specs.Reached.{IsReachable, IsTargetAmong, IsElement, IsPrefix}
+use Rattle.sum_tree.specs.Reached.{IsReachable, IsTargetAmong, IsElement, IsPrefix, IsWayTo}
 use Rattle.sum_tree.proofs.Totals.{total-append}
 
 module _ {T S : Type 0} {unit : S} {op : S → S → S} (laws : MonoidLaws unit op) (sum_of : T → S) where
@@ -62,38 +62,49 @@ module _ {T S : Type 0} {unit : S} {op : S → S → S} (laws : MonoidLaws unit 
         let high = sought.high in
         record { low = omega arith; high = omega arith }
 
-    pub element_leaf : (before : S) (r : List T) (x : T) → r ≡ x ∷ [] → IsTargetAmong measure target unit op sum_of before r → IsElement measure target unit op sum_of before r 0 before x
-    element_leaf before r x e sought =
-        let f = ap (λ l. measure (op before (total unit op sum_of l))) e ∙ ap (λ s. measure (op before s)) (laws.right_unit (sum_of x)) in
-        let high = sought.high in
-        record {
-          front = [];
-          back = [];
-          split = e;
-          place = refl;
-          sum = sym (laws.right_unit before);
-          low = sought.low;
-          high = omega arith;
-        }
+    module _ {fits : S → Type 0} where
+      -- into a first part, into a last part, and on from there
+      pub way_first : (before : S) (r a b : List T) → r ≡ a ++ b → IsReachable fits unit op sum_of before a → IsTargetAmong measure target unit op sum_of before a
+          → IsWayTo fits measure target unit op sum_of before r 0 before a
+      way_first before r a b e fit sought = record { front = []; back = b; split = e; place = refl; sum = sym (laws.right_unit before); fit = fit; sought = sought }
 
-    pub element_front : (before : S) (r a b : List T) (k : ℕ) (s : S) (x : T) → r ≡ a ++ b → IsElement measure target unit op sum_of before a k s x → IsElement measure target unit op sum_of before r k s x
-    element_front before r a b k s x e h = record {
-      front = h.front;
-      back = h.back ++ b;
-      split = e ∙ ap (λ l. l ++ b) h.split ∙ append_assoc h.front (x ∷ h.back) b;
-      place = h.place;
-      sum = h.sum;
-      low = h.low;
-      high = h.high;
-    }
+      pub way_last : (before : S) (r a b : List T) (m : S) (k : ℕ) → r ≡ a ++ b → m ≡ op before (total unit op sum_of a) → k ≡ length a → IsReachable fits unit op sum_of m b → IsTargetAmong measure target unit op sum_of m b
+          → IsWayTo fits measure target unit op sum_of before r k m b
+      way_last before r a b m k e p n fit sought =
+          record { front = a; back = []; split = e ∙ ap (λ l. a ++ l) (sym (append-nil b)); place = n; sum = p; fit = fit; sought = sought }
 
-    pub element_back : (before : S) (r a b : List T) (m : S) (n k : ℕ) (s : S) (x : T) → r ≡ a ++ b → m ≡ op before (total unit op sum_of a) → n ≡ length a + k → IsElement measure target unit op sum_of m b k s x → IsElement measure target unit op sum_of before r n s x
-    element_back before r a b m n k s x e p q h = record {
-      front = a ++ h.front;
-      back = h.back;
-      split = e ∙ ap (λ l. a ++ l) h.split ∙ sym (append_assoc a h.front (x ∷ h.back));
-      place = let f = h.place in omega (arith, length-append a h.front);
-      sum = h.sum ∙ sym (past_both before a h.front m p);
-      low = h.low;
-      high = h.high;
-    }
+      pub way_on : (before s t : S) (xs ys zs : List T) (k j n : ℕ) → IsWayTo fits measure target unit op sum_of before xs k s ys → IsWayTo fits measure target unit op sum_of s ys j t zs → n ≡ k + j
+          → IsWayTo fits measure target unit op sum_of before xs n t zs
+      way_on before s t xs ys zs k j n v w e = record {
+        front = v.front ++ w.front;
+        back = w.back ++ v.back;
+        split = v.split ∙ ap (λ l. v.front ++ (l ++ v.back)) w.split ∙ ap (λ l. v.front ++ l) (append_assoc w.front (zs ++ w.back) v.back)
+            ∙ ap (λ l. v.front ++ (w.front ++ l)) (append_assoc zs w.back v.back) ∙ sym (append_assoc v.front w.front (zs ++ (w.back ++ v.back)));
+        place = let p = v.place in let q = w.place in omega (arith, length-append v.front w.front);
+        sum = w.sum ∙ sym (past_both before v.front w.front s v.sum);
+        fit = w.fit;
+        sought = w.sought;
+      }
+
+      -- to the node itself
+      pub way_none : (before : S) (xs : List T) → IsReachable fits unit op sum_of before xs → IsTargetAmong measure target unit op sum_of before xs → IsWayTo fits measure target unit op sum_of before xs 0 before xs
+      way_none before xs fit sought = way_first before xs xs [] (sym (append-nil xs)) fit sought
+
+      -- the element at the end of the way
+      pub element_at : (before s : S) (xs ys : List T) (k : ℕ) (x : T) → IsWayTo fits measure target unit op sum_of before xs k s ys → ys ≡ x ∷ [] → IsElement measure target unit op sum_of before xs k s x
+      element_at before s xs ys k x w e =
+          let f = ap (λ l. measure (op s (total unit op sum_of l))) e ∙ ap (λ t. measure (op s t)) (laws.right_unit (sum_of x)) in
+          let high = w.sought.high in
+          record {
+            front = w.front;
+            back = w.back;
+            split = w.split ∙ ap (λ l. w.front ++ (l ++ w.back)) e;
+            place = w.place;
+            sum = w.sum;
+            low = w.sought.low;
+            high = omega arith;
+          }
+
+      -- elements on the way are elements of the list
+      pub way_room : (before s : S) (xs ys : List T) (k : ℕ) → IsWayTo fits measure target unit op sum_of before xs k s ys → k ≤ length xs
+      way_room before s xs ys k w = let p = w.place in let n = ap length w.split in omega (arith, length-append w.front (ys ++ w.back))

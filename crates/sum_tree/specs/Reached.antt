@@ -1,6 +1,10 @@
 -- Places in a list, reached by number or by sum.
 use Rattle.std.specs.Prelude.{◌≡◌, ℕ, ◌+◌, ◌<◌, ◌≤◌, List, [], ◌∷◌, ◌++◌, length, take, Option, None, option_to_list, IfSome}
 use Rattle.sum_tree.specs.Sums.{total}
+use Rattle.sum_tree.specs.Row.{Row}
+use Rattle.sum_tree.specs.Visited.{RisesBy}
+use Rattle.sum_tree.specs.declared.search.Below.{Below}
+use Rattle.sum_tree.specs.declared.search.Below.TheVariants.{Element, Child}
 
 -- k is the first place behind which the measure is above the target, or the end; s is the sum before it
 pub record IsFirstAbove {T S : Type 0} (measure : S → ℕ) (target : ℕ) (unit : S) (op : S → S → S) (sum_of : T → S) (xs : List T) (k : ℕ) (s : S) : Type 0 where
@@ -45,6 +49,21 @@ pub record IsElement {T S : Type 0} (measure : S → ℕ) (target : ℕ) (unit :
   pub sum : s ≡ op before (total unit op sum_of front)
   pub low : measure s ≤ target
   pub high : target < measure (op s (sum_of x))
+
+-- below a node with this sum before it, a node with elements ys has k elements and the sum s before it, and the target lies in it
+pub record IsWayTo {T S : Type 0} (fits : S → Type 0) (measure : S → ℕ) (target : ℕ) (unit : S) (op : S → S → S) (sum_of : T → S) (before : S) (xs : List T) (k : ℕ) (s : S) (ys : List T) : Type 0 where
+  pub front : List T
+  pub back : List T
+  pub split : xs ≡ front ++ (ys ++ back)
+  pub place : k ≡ length front
+  pub sum : s ≡ op before (total unit op sum_of front)
+  pub fit : IsReachable fits unit op sum_of s ys
+  pub sought : IsTargetAmong measure target unit op sum_of s ys
+
+-- a search goes on at a node's only element, or one level down, by a visit
+abbrev pub IsBelow : {T S : Type 0} → (S → Type 0) → (S → ℕ) → ℕ → S → (S → S → S) → (T → S) → S → Row T → ℕ → ℕ → Below T S → Type 0
+IsBelow fits measure target unit op sum_of before r old new (Element x) = (r.items ≡ x.now ∷ []) × (r.height ≡ 0) × (new ≡ old)
+IsBelow fits measure target unit op sum_of before r old new (Child k s c) = IsWayTo fits measure target unit op sum_of before r.items k s c.now.items × (r.height ≡ c.now.height + 1) × RisesBy 1 old new
 
 -- the list is cut as in IsFound, and k is the number of elements in front
 pub record IsSearched {T S : Type 0} (measure : S → ℕ) (target : ℕ) (unit : S) (op : S → S → S) (sum_of : T → S) (xs : List T) (k : ℕ) (s : S) (x : Option T) : Type 0 where

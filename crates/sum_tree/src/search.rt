@@ -2,7 +2,7 @@
 ghost use Rattle.std.specs.Prelude.{◌≡◌, ◌<◌, length, slice_get};
 ghost use Rattle.sum_tree.specs.Sums.{total, IsSummable};
 ghost use Rattle.sum_tree.specs.Visited.{RisesBy};
-ghost use Rattle.sum_tree.specs.Reached.{IsReachable, IsTargetAmong, IsElement, IsPrefix};
+ghost use Rattle.sum_tree.specs.Reached.{IsReachable, IsTargetAmong, IsElement, IsPrefix, IsBelow};
 
 use crate::counter::Visits;
 use crate::node::{Child, NodeParts};
@@ -79,7 +79,8 @@ impl<T: Summed<S> + Drop, S: Summary> Child<T, S> {
     }
 
     /// The element that the target lies in, its number and the sum in front of it, where this one
-    /// is the sum in front of the node.
+    /// is the sum in front of the node. A loop, since the sums are long: a call on each level would
+    /// copy them.
     pub(crate) fn find<D: Dimension<S>>(
         &self,
         before: S,
@@ -94,33 +95,70 @@ impl<T: Summed<S> + Drop, S: Summary> Child<T, S> {
             before self.now.items result.0 result.1 result.2.now }
         ensures visited { RisesBy self.now.height visits.old visits.new }
     {
+        let _count = self.count();
+        let mut place = 0;
+        let mut sum = before;
+        let mut node = self;
+        'levels: loop {
+            match node.below(sum, dimension, target, visits) {
+                Below::Element(x) => return (place, sum, x),
+                Below::Child(count, behind, child) => {
+                    place += count;
+                    sum = behind;
+                    node = child;
+                }
+            }
+        }
+    }
+
+    /// The child that the target lies in, or the element. Inlined, so that no sum is copied out of
+    /// it.
+    #[inline(always)]
+    fn below<D: Dimension<S>>(
+        &self,
+        before: S,
+        dimension: &D,
+        target: u64,
+        visits: &mut Visits,
+    ) -> Below<'_, T, S>
+        requires fit { IsReachable S.fits S.empty S.op T.sum_of before self.now.items }
+        requires sought { IsTargetAmong (D.measure dimension.now) target S.empty S.op T.sum_of
+            before self.now.items }
+        ensures { IsBelow S.fits (D.measure dimension.now) target S.empty S.op T.sum_of
+            before self.now visits.old visits.new result }
+    {
         match self.parts() {
-            NodeParts::Leaf(x) => (0, before, x),
+            NodeParts::Leaf(x) => Below::Element(x),
             NodeParts::Two(a, b) => {
                 visits.count();
                 let middle = a.behind(before);
                 if target < dimension.of(&middle) {
-                    a.find(before, dimension, target, visits)
+                    Below::Child(0, before, a)
                 } else {
-                    let (k, sum, x) = b.find(middle, dimension, target, visits);
-                    (a.count() + k, sum, x)
+                    Below::Child(a.count(), middle, b)
                 }
             }
             NodeParts::Three(a, b, c) => {
                 visits.count();
                 let first = a.behind(before);
                 if target < dimension.of(&first) {
-                    return a.find(before, dimension, target, visits);
+                    return Below::Child(0, before, a);
                 }
                 let second = b.behind(first);
                 if target < dimension.of(&second) {
-                    let (k, sum, x) = b.find(first, dimension, target, visits);
-                    (a.count() + k, sum, x)
+                    Below::Child(a.count(), first, b)
                 } else {
-                    let (k, sum, x) = c.find(second, dimension, target, visits);
-                    (a.count() + b.count() + k, sum, x)
+                    Below::Child(a.count() + b.count(), second, c)
                 }
             }
         }
     }
+}
+
+/// Where a search goes on below a node: at the element, or at a child with the number of the node's
+/// elements in front of it and the sum in front of it.
+#[derive(Drop)]
+enum Below<'a, T: Summed<S> + Drop, S: Summary> {
+    Element(&'a T),
+    Child(usize, S, &'a Child<T, S>),
 }

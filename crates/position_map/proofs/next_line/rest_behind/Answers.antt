@@ -1,7 +1,7 @@
 use Rattle.std.specs.Str.{chars}
 use Rattle.std.proofs.lemmas.Str.{chars-nil}
 use Rattle.position_map.proofs.NextLines.{rest_some, rest_none}
-use Rattle.position_map.proofs.line_cursor.rest_behind.Goals as goal
+use Rattle.position_map.proofs.next_line.rest_behind.Goals as goal
 
 pub returns-in-Some : goal.returns-in-Some
 returns-in-Some c = rest_some _ (chars c.in-Some.field-0-0.now) _ _ c.in-Some.ensures

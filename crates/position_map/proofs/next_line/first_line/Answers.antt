@@ -2,7 +2,7 @@ use Rattle.std.proofs.Common.{refl, arith}
 use Rattle.std.proofs.lemmas.Str.{chars-nil}
 use Rattle.position_map.proofs.NextLines.{first_ahead}
 use Rattle.position_map.proofs.Pointing.{no_line_from}
-use Rattle.position_map.proofs.line_cursor.first_line.Goals as goal
+use Rattle.position_map.proofs.next_line.first_line.Goals as goal
 
 pub returns-then-n-eq0-clause-next : goal.returns-then-n-eq0-clause-next
 returns-then-n-eq0-clause-next c = first_ahead _ _ _ c.if-n-eq0.true refl chars-nil

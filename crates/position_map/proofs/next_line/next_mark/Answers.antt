@@ -1,7 +1,7 @@
 use Rattle.std.proofs.Common.{refl, arith}
 use Rattle.std.specs.Str.{chars}
 use Rattle.position_map.proofs.NextLines.{mark_ahead, ahead_fits}
-use Rattle.position_map.proofs.line_cursor.next_mark.Goals as goal
+use Rattle.position_map.proofs.next_line.next_mark.Goals as goal
 
 pub point_behind-at-requires-clause-units : goal.point_behind-at-requires-clause-units
 point_behind-at-requires-clause-units c =

@@ -1,0 +1,98 @@
+-- The line that a text ends on, found from its last line end.
+use Rattle.std.proofs.Common.{◌≡◌, refl, sym, ap, subst, ◌∙◌, ℕ, ◌+◌, ◌-◌, ◌<◌, ◌≤◌, Bool, true, false, not, ◌==◌, ◌||◌, ◌&&◌, List, [], ◌∷◌, ◌++◌, length, length-append, drop, append_assoc, arith, Some, Ok}
+use Rattle.std.specs.Option.{option_map}
+use Rattle.std.specs.List.{slice_get}
+use Rattle.std.specs.Str.{chars}
+use Rattle.std.proofs.lemmas.List.{drop_at}
+use Rattle.lane_ascii.specs.Marks.{cr, lf, is_mark, one_if, marks, ends_cr}
+use Rattle.piece_rope.specs.Outcomes.{begins_lf}
+use Rattle.position_map.specs.declared.on_line.OnLine.{OnLine}
+use Rattle.position_map.specs.declared.point.Point.{Point}
+use Rattle.position_map.specs.declared.text_cut.TextCut.{TextCut}
+use Rattle.position_map.specs.declared.unit.Unit.{Unit as TextUnit}
+use Rattle.position_map.specs.Fronts.{IsCutAt, IsOnLine}
+use Rattle.position_map.specs.LineEnds.{IsLastLine}
+use Rattle.position_map.specs.Lines.{lines_of}
+use Rattle.position_map.specs.Located.{sum_in}
+use Rattle.position_map.specs.Marked.{IsLineStart, start_of}
+use Rattle.position_map.specs.Positions.{position_of}
+use Rattle.position_map.specs.Widths.{width}
+use Rattle.position_map.proofs.LineMarks.{marks-append, ends_cr-append, line_begins}
+use Rattle.position_map.proofs.NextLines.{marks-flag_le}
+use Rattle.position_map.proofs.OnLines.{placed_here, position_found}
+use Rattle.position_map.proofs.Pointing.{sum_width, point-from}
+use Rattle.position_map.proofs.Widths.{width-append}
+
+no_cr : (x y : Bool) → (x || (y && not false)) ≡ false → (x ≡ false) × (y ≡ false)
+no_cr true y e = cc
+no_cr false true e = cc
+no_cr false false e = (refl, refl)
+
+and_false : (b : Bool) → (b && false) ≡ false
+and_false true = refl
+and_false false = refl
+
+not_mark : (b : Bool) (k : ℕ) → one_if b + k ≡ 0 → b ≡ false
+not_mark true k e = absurd (omega (arith, e))
+not_mark false k e = refl
+
+-- a line end with which a text ends, or behind which no other follows, is whole
+apart : (line back : List ℕ) (c : ℕ) → marks false line ≡ 0 → (ends_cr (c == cr) line && begins_lf back) ≡ false → ((c == cr) && begins_lf (line ++ back)) ≡ false
+apart [] back c none h = h
+apart (x ∷ xs) back c none h =
+    let w = no_cr (x == cr) (x == lf) (not_mark (is_mark false x) (marks (x == cr) xs) none) in
+    ap (λ t. (c == cr) && t) w.1 ∙ and_false (c == cr)
+
+-- the start of the line that the front part of a cut ends on
+record IsNear (u : TextUnit) (text : List ℕ) (x : TextCut) (line : List ℕ) : Type 0 where
+  start : Point
+  is : IsLineStart u text (x.before.marks + marks x.before.cr_last (chars x.front.now)) start
+  units : start.units + width u line ≡ sum_in u x.before + width u (chars x.front.now)
+
+near_start : (u : TextUnit) (text : List ℕ) (offset : ℕ) (x : TextCut) (line : List ℕ) → IsCutAt text offset x → IsLastLine (chars x.front.now) line
+    → (ends_cr x.before.cr_last (chars x.front.now) && begins_lf (chars x.rest.now)) ≡ false → IsNear u text x line
+near_start u text offset x line k e off =
+    let w = k.is in
+    let s = x.before in
+    let part = chars x.front.now in
+    let g = w.front ++ e.front in
+    let head = g ++ e.c ∷ [] in
+    let whole : w.front ++ part ≡ g ++ e.c ∷ line = ap (λ t. w.front ++ t) e.split ∙ sym (append_assoc w.front e.front (e.c ∷ line)) in
+    let split : text ≡ g ++ e.c ∷ (line ++ w.back) = w.split ∙ ap (λ t. t ++ w.back) whole ∙ append_assoc g (e.c ∷ line) w.back in
+    let at_head : text ≡ head ++ (line ++ w.back) = split ∙ sym (append_assoc g (e.c ∷ []) (line ++ w.back)) in
+    let parts : w.front ++ part ≡ head ++ line = whole ∙ sym (append_assoc g (e.c ∷ []) line) in
+    let ends : ends_cr s.cr_last part ≡ ends_cr (e.c == cr) line = ap (ends_cr s.cr_last) e.split ∙ ends_cr-append s.cr_last e.front (e.c ∷ line) in
+    let at : offset ≡ length (w.front ++ part) = omega (arith, w.sum.scalars, k.at, length-append w.front part) in
+    let begins : begins_lf (chars x.rest.now) ≡ begins_lf w.back = k.next ∙ ap begins_lf (ap (drop offset) w.split ∙ drop_at (w.front ++ part) w.back offset (sym at)) in
+    let whole_end : (ends_cr (e.c == cr) line && begins_lf w.back) ≡ false =
+    ap (λ t. t && begins_lf w.back) (sym ends) ∙ ap (λ t. ends_cr s.cr_last part && t) (sym begins) ∙ off in
+    let number : marks false head ≡ s.marks + marks s.cr_last part =
+    omega (arith, marks-append false head line, marks-flag_le (ends_cr false head) line, e.none, ap (marks false) parts, marks-append false w.front part, w.sum.marks, ap (λ f. marks f part) w.sum.cr_last) in
+    let len : length head ≡ length g + 1 = length-append g (e.c ∷ []) in
+    let p : Point = record { scalars = length head; units = width u head } in
+    record {
+      start = p;
+      is = record {
+        point = point-from u text head (line ++ w.back) p at_head refl refl;
+        is = ap (λ t. option_map start_of (slice_get (lines_of t) (s.marks + marks s.cr_last part))) split
+            ∙ ap (λ j. option_map start_of (slice_get (lines_of (g ++ e.c ∷ (line ++ w.back))) j)) (sym number)
+            ∙ line_begins g e.c (line ++ w.back) e.is (apart line w.back e.c e.none whole_end) ∙ ap Some (sym len);
+      };
+      units = omega (arith, sum_width u w.front w.items s w.sum, width-append u w.front part, ap (width u) parts, width-append u head line);
+    }
+
+-- the position of an offset whose line begins in its piece
+pub position_near : (u : TextUnit) (text : List ℕ) (offset : ℕ) (x : TextCut) (line : List ℕ) (b : Bool) (m v : ℕ) → IsCutAt text offset x → IsLastLine (chars x.front.now) line
+    → b ≡ (ends_cr x.before.cr_last (chars x.front.now) && begins_lf (chars x.rest.now)) → b ≡ false → m ≡ marks x.before.cr_last (chars x.front.now) → v ≡ width u line → offset ≤ length text
+    → Ok (record { line = x.before.marks + m; character = v }) ≡ position_of text u offset
+position_near u text offset x line b m v k e flag off em ev within =
+    let n = near_start u text offset x line k e (sym flag ∙ off) in
+    let p : OnLine = record { line = x.before.marks + m; units = sum_in u x.before + width u (chars x.front.now) } in
+    let place : IsOnLine u text offset p = placed_here u text offset x b m (sum_in u x.before) (width u (chars x.front.now)) k flag off em refl refl in
+    let start : IsLineStart u text p.line n.start = subst (λ j. IsLineStart u text (x.before.marks + j) n.start) (sym em) n.is in
+    let same : v ≡ p.units - n.start.units = omega (arith, ev, n.units) in
+    ap (λ j. Ok (record { line = x.before.marks + m; character = j })) same ∙ position_found u text offset p n.start place start within
+
+-- where a mark is in front, a line end is
+pub some_end : (x : TextCut) (m : ℕ) → m ≡ marks x.before.cr_last (chars x.front.now) → 0 < m → marks false (chars x.front.now) ≡ 0 → ⊥
+some_end x m e h none = omega (arith, e, h, none, marks-flag_le x.before.cr_last (chars x.front.now))
