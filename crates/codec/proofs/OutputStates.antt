@@ -48,17 +48,7 @@ record HasEscapes (family : Family (Option Loaded)) : Type 0 where
 
 by_family : (family : Family (Option Loaded)) → HasEscapes family ⊎ IsPlain family
 by_family (of.Iso2022Jp jis0208 katakana) = inl (record { jis0208 = jis0208; katakana = katakana; is = refl })
-by_family of.Utf8 = inr (λ bytes. (refl, refl))
-by_family (of.SingleByte index) = inr (λ bytes. (refl, refl))
-by_family (of.Gb18030 index ranges) = inr (λ bytes. (refl, refl))
-by_family (of.Big5 index) = inr (λ bytes. (refl, refl))
-by_family (of.EucJp jis0208 jis0212) = inr (λ bytes. (refl, refl))
-by_family (of.ShiftJis index) = inr (λ bytes. (refl, refl))
-by_family (of.EucKr index) = inr (λ bytes. (refl, refl))
-by_family of.Replacement = inr (λ bytes. (refl, refl))
-by_family of.Utf16Be = inr (λ bytes. (refl, refl))
-by_family of.Utf16Le = inr (λ bytes. (refl, refl))
-by_family of.XUserDefined = inr (λ bytes. (refl, refl))
+by_family family = inr (λ bytes. (refl, refl))
 
 iso_prefix : (jis0208 katakana : Option Loaded) (p : Prefix) → output_in (of.Iso2022Jp jis0208 katakana) (spelt p) ≡ Ascii
 unfolding feed feed_for

@@ -182,25 +182,31 @@ module _ (start : AnyState) (given : Table AnyState) (lawful : Lawful start give
 
 -- ---- decoders that stand behind the look
 
+-- what holds of a decoder alone: its turns end, its steps give few items, and it holds no byte at first
+pub record IsLawful (c : Coding) : Type 0 where
+  pub falls : Falls c.table
+  pub counts : Counts c.table
+  pub light : falls.held c.start ≤ 14
+  pub none : counts.bytes c.start ≡ 0
+
+pub lawful_holding : (c : Coding) (holding : Holding c.table) → holding.bytes c.start ≡ 0 → IsLawful c
+lawful_holding c holding none =
+    record { falls = falls_of c.table holding; counts = counts_of c.table holding; light = Prim.omega (arith, none); none = none }
+
 module _ (c : Coding) (put : c.State → AnyState) (part : AnyState → Option c.State) (found : (s : c.State) → part (put s) ≡ Some s)
     (given : (s : c.State) → seen (put s) ≡ Given) where
   keeps_at : (t : AnyState) (read : Option ℕ) (o : Option c.State) → seen t ≡ Given → seen (lifted_at put c.table t read o).state ≡ Given
   keeps_at t read (Some s) e = given (c.table s read).state
   keeps_at t read None e = e
 
-  pub lawful_lifted : (falls : Falls c.table) (counts : Counts c.table) → falls.held c.start ≤ 14 → counts.bytes c.start ≤ 5
-      → Lawful (put c.start) (lifted put part c.table)
-  lawful_lifted falls counts light few = record {
+  pub lawful_lifted : IsLawful c → Lawful (put c.start) (lifted put part c.table)
+  lawful_lifted law = record {
     keeps = λ t read. keeps_at t read (part t);
-    falls = falls_lifted put part found c.table falls;
-    counts = counts_lifted put part found c.table counts;
-    light = Prim.rw (given c.start, found c.start) light;
-    few = Prim.rw (given c.start, found c.start) few;
+    falls = falls_lifted put part found c.table law.falls;
+    counts = counts_lifted put part found c.table law.counts;
+    light = Prim.rw (given c.start, found c.start) law.light;
+    few = Prim.rw (given c.start, found c.start) (Prim.omega (arith, law.none));
   }
-
-  pub lawful_holding : (holding : Holding c.table) → 7 * holding.bytes c.start ≤ 14 → holding.bytes c.start ≤ 5
-      → Lawful (put c.start) (lifted put part c.table)
-  lawful_holding holding light few = lawful_lifted (falls_of c.table holding) (counts_of c.table holding) light few
 
 pub lawful_finished : (start : AnyState) → weight (λ _. 0) start ≤ 14 → bytes (λ _. 0) start ≤ 5 → Lawful start finished
 lawful_finished start light few = record { keeps = λ s read e. e; falls = falls_finished; counts = counts_finished; light = light; few = few }

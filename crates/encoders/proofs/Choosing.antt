@@ -18,7 +18,7 @@ use Rattle.enc_names.specs.declared.encoding.Encoding.{Encoding}
 use Rattle.encoders.specs.Encode.{IsEncoded, bytes_only, from_fault}
 use Rattle.encoders.specs.Fit.{HasLimit, IsFit}
 use Rattle.encoders.specs.Stateless.{stateless}
-use Rattle.enc_names.specs.declared.encoding.Encoding.TheVariants.{Utf8, Gbk, Gb18030, Big5, EucJp, Iso2022Jp, ShiftJis, EucKr, Replacement, Utf16Be, Utf16Le, XUserDefined}
+use Rattle.enc_names.specs.declared.encoding.Encoding.TheVariants as name
 use Rattle.index_loader.specs.declared.kind.IndexKind.TheVariants as kind
 use Rattle.index_loader.specs.Table.{pointer_limit}
 use Rattle.lane_utf.specs.Utf16.{utf16_forms}
@@ -61,16 +61,16 @@ limited kind None = tt
 
 -- each encoder's indexes are what it rests on
 pub fit : (files : Files) (encoding : Encoding) → has_files files encoding ≡ true → IsFit files (indexes_of files encoding)
-fit files Utf8 there = tt
-fit files Gbk there = (limited kind.Gb18030 (pairs_of files kind.Gb18030), limited kind.Gb18030Ranges (pairs_of files kind.Gb18030Ranges))
-fit files Gb18030 there = (limited kind.Gb18030 (pairs_of files kind.Gb18030), limited kind.Gb18030Ranges (pairs_of files kind.Gb18030Ranges))
-fit files Big5 there = limited kind.Big5 (pairs_of files kind.Big5)
-fit files EucJp there = limited kind.Jis0208 (pairs_of files kind.Jis0208)
-fit files Iso2022Jp there = there
-fit files ShiftJis there = limited kind.Jis0208 (pairs_of files kind.Jis0208)
-fit files EucKr there = limited kind.EucKr (pairs_of files kind.EucKr)
-fit files Replacement there = tt
-fit files Utf16Be there = tt
-fit files Utf16Le there = tt
-fit files XUserDefined there = tt
+fit files name.Utf8 there = tt
+fit files name.Gbk there = (limited kind.Gb18030 (pairs_of files kind.Gb18030), limited kind.Gb18030Ranges (pairs_of files kind.Gb18030Ranges))
+fit files name.Gb18030 there = (limited kind.Gb18030 (pairs_of files kind.Gb18030), limited kind.Gb18030Ranges (pairs_of files kind.Gb18030Ranges))
+fit files name.Big5 there = limited kind.Big5 (pairs_of files kind.Big5)
+fit files name.EucJp there = limited kind.Jis0208 (pairs_of files kind.Jis0208)
+fit files name.Iso2022Jp there = there
+fit files name.ShiftJis there = limited kind.Jis0208 (pairs_of files kind.Jis0208)
+fit files name.EucKr there = limited kind.EucKr (pairs_of files kind.EucKr)
+fit files name.Replacement there = tt
+fit files name.Utf16Be there = tt
+fit files name.Utf16Le there = tt
+fit files name.XUserDefined there = tt
 fit files encoding there = limited (kind.SingleByte encoding) (pairs_of files (kind.SingleByte encoding))

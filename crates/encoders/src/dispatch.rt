@@ -4,6 +4,7 @@ ghost use Rattle.std.specs.Str.{chars};
 ghost use Rattle.enc_names.specs.declared.encoding.Encoding.TheVariants.{Iso2022Jp};
 ghost use Rattle.index_loader.specs.Families.{family_map};
 ghost use Rattle.index_loader.specs.Files.{has_files};
+ghost use Rattle.index_loader.specs.Table.{pointer_limit};
 ghost use Rattle.iso2022jp.specs.declared.output.OutputState.TheVariants.{Ascii};
 ghost use Rattle.encoders.specs.Encode.{IsEncoded, bytes_only, encoded, encoded_over, is_html};
 ghost use Rattle.encoders.specs.Fit.{IsFit};
@@ -16,7 +17,7 @@ use crate::euc_kr::EucKr;
 use crate::fault::EncodeFault;
 use crate::gb18030::{Gb18030Encoder, is_gbk};
 use crate::mode::EncodeMode;
-use crate::over_index::IndexEncoder;
+use crate::over_index::{IndexEncoder, IndexRules};
 use crate::shift_jis::ShiftJis;
 use crate::single_byte::SingleByte;
 use crate::stateless::{ByBytes, Stateless};
@@ -66,14 +67,11 @@ fn encode_over(
         Family::Utf16Le => Ok(encode_utf16(alloc, ByteOrder::LittleEndian, text)?),
         Family::XUserDefined => encode_bytes(alloc, &XUserDefinedEncoder, mode, text),
         Family::Iso2022Jp { .. } => encode_iso(alloc, indexes, mode, text),
-        Family::ShiftJis(index) => {
-            encode_bytes(alloc, &IndexEncoder::<ShiftJis>::new(index), mode, text)
-        }
-        Family::EucJp { jis0208, .. } => {
-            encode_bytes(alloc, &IndexEncoder::<EucJp>::new(jis0208), mode, text)
-        }
-        Family::EucKr(index) => encode_bytes(alloc, &IndexEncoder::<EucKr>::new(index), mode, text),
-        Family::Big5(index) => encode_bytes(alloc, &IndexEncoder::<Big5>::new(index), mode, text),
+        Family::ShiftJis(index) => encode_indexed::<ShiftJis>(alloc, index, mode, text),
+        Family::EucJp { jis0208, .. } => encode_indexed::<EucJp>(alloc, jis0208, mode, text),
+        Family::EucKr(index) => encode_indexed::<EucKr>(alloc, index, mode, text),
+        Family::Big5(index) => encode_indexed::<Big5>(alloc, index, mode, text),
+        Family::SingleByte(index) => encode_indexed::<SingleByte>(alloc, index, mode, text),
         Family::Gb18030 { index, ranges } => {
             encode_bytes(
                 alloc,
@@ -81,9 +79,6 @@ fn encode_over(
                 mode,
                 text,
             )
-        }
-        Family::SingleByte(index) => {
-            encode_bytes(alloc, &IndexEncoder::<SingleByte>::new(index), mode, text)
         }
     }
 }
@@ -109,6 +104,19 @@ fn encode_iso(
         Ok((bytes, _)) => Ok(bytes),
         Err(fault) => Err(EncodeFault::from(fault)),
     }
+}
+
+/// A text by an encoder over its index.
+fn encode_indexed<R: IndexRules>(
+    alloc: Global,
+    index: &Index,
+    mode: EncodeMode,
+    text: &str,
+) -> Result<Vec<u8>, EncodeFault>
+    requires { pointer_limit index.now.kind ≡ R.limit }
+    ensures { IsEncoded (bytes_only (encoded_from (stateless (R.written index.now)) (is_html mode) 0 tt (chars text.now))) result }
+{
+    encode_bytes(alloc, &IndexEncoder::<R>::new(index), mode, text)
 }
 
 /// A text by the bytes of each code point.

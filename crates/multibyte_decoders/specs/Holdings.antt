@@ -10,10 +10,7 @@ use Rattle.multibyte_decoders.specs.declared.euc_jp.EucJpState.TheVariants.{Idle
 use Rattle.multibyte_decoders.specs.declared.gb18030.Gb18030State.{Gb18030State}
 use Rattle.multibyte_decoders.specs.declared.gb18030.Gb18030State.TheVariants.{Idle as gb18030_idle, First, Second, Third}
 use Rattle.multibyte_decoders.specs.Holding.{turns_at_byte}
-use Rattle.multibyte_decoders.specs.Big5.{big5, big5_pair, is_big5_lead}
-use Rattle.multibyte_decoders.specs.EucKr.{euc_kr, euc_kr_pair, is_euc_kr_lead}
-use Rattle.multibyte_decoders.specs.Pairs.{ascii_item, pair_table}
-use Rattle.multibyte_decoders.specs.ShiftJis.{shift_jis, shift_jis_pair, shift_jis_single, is_shift_jis_lead}
+use Rattle.multibyte_decoders.specs.Pairs.{pair_table}
 use Rattle.multibyte_decoders.specs.EucJp.{euc_jp}
 use Rattle.multibyte_decoders.specs.Gb18030.{gb18030}
 
@@ -66,15 +63,6 @@ pair_holding is_lead single pair = record {
   at_byte = pair_byte is_lead single pair;
   at_end = pair_end is_lead single pair;
 }
-
-abbrev pub shift_jis_holding : (jis0208 : ℕ → Option ℕ) → Holding (shift_jis jis0208)
-shift_jis_holding jis0208 = pair_holding is_shift_jis_lead shift_jis_single (shift_jis_pair jis0208)
-
-abbrev pub euc_kr_holding : (index : ℕ → Option ℕ) → Holding (euc_kr index)
-euc_kr_holding index = pair_holding is_euc_kr_lead ascii_item (euc_kr_pair index)
-
-abbrev pub big5_holding : (index : ℕ → Option ℕ) → Holding (big5 index)
-big5_holding index = pair_holding is_big5_lead ascii_item (big5_pair index)
 
 pub euc_jp_byte : (jis0208 jis0212 : ℕ → Option ℕ) (s : EucJpState) (b : ℕ) → AtByte euc_jp_bytes (euc_jp_bytes s) (euc_jp jis0208 jis0212 s (Some b))
 euc_jp_byte jis0208 jis0212 euc_jp_idle b = Prim.search (rules, turns_at_byte)

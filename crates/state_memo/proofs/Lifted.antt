@@ -3,12 +3,13 @@ use Rattle.std.proofs.Common.{◌≡◌, refl, sym, ap, ◌∙◌, ℕ, ◌+◌,
 use Rattle.std.specs.Prelude.{pos, ◌-ℤ◌}
 use Rattle.std.proofs.lemmas.List.{map-append}
 use Rattle.decoder_core.specs.declared.item.Ended.{Ended as EndedItem}
-use Rattle.decoder_core.specs.Lift.{lift_fed}
+use Rattle.decoder_core.specs.Lift.{IsLifted, lift_fed}
 use Rattle.decoder_core.specs.Queue.{Table, Fed, feed}
 use Rattle.decoder_core.specs.Shown.{Shown, shown_at, shown_from}
 use Rattle.iso2022jp.specs.declared.output.OutputState.{OutputState}
 use Rattle.codec.specs.declared.state.AnyState.{AnyState}
 use Rattle.codec.specs.Any.{AnyDecoding, any, output_of}
+use Rattle.state_memo.specs.Among.{IsAmong}
 use Rattle.state_memo.specs.Facts.{IsDone}
 use Rattle.state_memo.specs.Gathering.{Gathered, no_item, with_shown}
 use Rattle.state_memo.specs.Outcome.{Contents, outcome_of}
@@ -55,3 +56,17 @@ module _ (d : AnyDecoding) {S : Type 0} (f : S → AnyState) (output : S → Out
   pub arm-outcome : (exit : S) → exit ≡ (feed small s bytes).state → (c : Contents) → c ≡ contents_by (length bytes) after (f exit) → c ≡ outcome_of d (f s) bytes
   arm-outcome exit exit_is c c_is =
       computed d (f s) (f exit) bytes after c gathered-lift (ap f exit_is ∙ sym (ap (λ (x : Fed AnyState). x.state) (feeds s bytes))) c_is
+
+module _ {d : AnyDecoding} {S : Type 0} {small : Table S} {output : S → OutputState} {named : S → AnyState → Type 0} (among : IsAmong d small output named) where
+  -- the state of the one decoder by which a state is named
+  abbrev pub name_by : S → AnyState
+  name_by s = (among.total s).0
+
+  pub named-as : (s : S) (t : AnyState) → named s t → name_by s ≡ t
+  named-as s t h = among.single s (name_by s) t (among.total s).1 h
+
+  pub named-lifted : IsLifted name_by small (any d)
+  named-lifted s o = among.lifted s o (name_by s) (name_by (small s o).state) (among.total s).1 (among.total (small s o).state).1
+
+  pub named-outputs : (s : S) → output s ≡ output_of (name_by s)
+  named-outputs s = among.outputs s (name_by s) (among.total s).1

@@ -61,9 +61,8 @@ fn compute_by<S: Outputs + Eq, D: Decoder<State = S>, N: FnOnce(S) -> AnyState>(
     meter: &mut Meter,
 ) -> Result<Outcome, OutOfMemory>
     requires callable { N.IsAlwaysCallable name }
-    requires among { (f : S → AnyState) × IsAmong f decoder.now (D.table own.now) S.output_at (N.post name) }
-    ensures outcome { (f : S → AnyState) → IsAmong f decoder.now (D.table own.now) S.output_at (N.post name)
-        → IfOk result (λ o. contents_of o ≡ outcome_of decoder.now (f state) bytes.now) }
+    requires among { IsAmong decoder.now (D.table own.now) S.output_at (N.post name) }
+    ensures outcome { (entry : AnyState) → N.post name state entry → IfOk result (λ o. contents_of o ≡ outcome_of decoder.now entry bytes.now) }
     ensures meter { Counted meter.old meter.new (length bytes.now) result }
 {
     // The items are few, and they are those of the one decoder.
