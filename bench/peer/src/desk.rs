@@ -5,7 +5,7 @@ use crate::document::Document;
 use crate::encode::encode;
 use crate::positions::{Counts, Missed, Unit};
 use crate::fields::{Fields, Line, Range, GREATEST};
-use crate::reply::{line, typed_line, Answer, Content, Fault};
+use crate::reply::{line, Answer, Content, Fault};
 use encoding_rs::Encoding;
 use serde_json::Value;
 use std::collections::HashMap;
@@ -102,11 +102,11 @@ impl Desk {
         }
     }
 
-    /// The same, without a tree where the line has the type of any line.
+    /// The same, of a line that is read without a tree where it has the type of any line.
     pub fn answer_typed(&mut self, bytes: &[u8]) -> String {
         match serde_json::from_slice::<Line>(bytes) {
             Ok(read) if bytes.len() <= LINE && read.id <= GREATEST => {
-                typed_line(read.id, self.command(&read))
+                line(Some(read.id), self.command(&read))
             }
             _ => self.answer(bytes),
         }

@@ -1,7 +1,7 @@
 //! A peer of `gate` to measure it against: it answers the same JSON lines the way they are
 //! usually answered. A document is its bytes; after an edit it is decoded anew, as a whole, and
 //! positions are answered from tables made then. With the word `typed` it reads lines into a type
-//! of their own and writes replies without a tree of JSON.
+//! of their own, and not into a tree of JSON.
 
 mod change;
 mod desk;

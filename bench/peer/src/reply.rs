@@ -65,22 +65,20 @@ impl Fault {
 /// The fields of a reply beside `id`.
 pub type Answer = Result<Vec<(&'static str, Content)>, Fault>;
 
-fn fields_of(id: Option<u64>, answer: Answer) -> Vec<(&'static str, Content)> {
-    let mut fields = answer.unwrap_or_else(|fault| {
+/// The line of a reply.
+pub fn line(id: Option<u64>, answer: Answer) -> String {
+    let fields = answer.unwrap_or_else(|fault| {
         let mut fields = fault.fields;
         fields.push(("fault", fault.name.into()));
         fields
     });
-    fields.extend(id.map(|id| ("id", id.into())));
-    fields
-}
-
-/// The line of a reply, by a tree of JSON.
-pub fn line(id: Option<u64>, answer: Answer) -> String {
-    let object: Map<String, Value> = fields_of(id, answer)
+    let mut object: Map<String, Value> = fields
         .into_iter()
         .map(|(name, content)| (name.to_owned(), value(content)))
         .collect();
+    if let Some(id) = id {
+        object.insert("id".to_owned(), id.into());
+    }
     let mut line = Value::Object(object).to_string();
     line.push('\n');
     line
@@ -97,27 +95,4 @@ fn value(content: Content) -> Value {
             pairs.into()
         }
     }
-}
-
-/// The same line, written without a tree.
-pub fn typed_line(id: u64, answer: Answer) -> String {
-    let mut fields = fields_of(Some(id), answer);
-    fields.sort_unstable_by_key(|(name, _)| *name);
-    let mut line = Vec::with_capacity(128);
-    for (number, (name, content)) in fields.iter().enumerate() {
-        line.push(if number == 0 { b'{' } else { b',' });
-        line.push(b'"');
-        line.extend_from_slice(name.as_bytes());
-        line.extend_from_slice(b"\":");
-        let written = match content {
-            Content::Number(number) => serde_json::to_writer(&mut line, number),
-            Content::Text(text) => serde_json::to_writer(&mut line, text),
-            Content::Name(name) => serde_json::to_writer(&mut line, name),
-            Content::Place(place) => serde_json::to_writer(&mut line, place),
-            Content::Pairs(pairs) => serde_json::to_writer(&mut line, pairs),
-        };
-        written.expect("a vector takes what is written");
-    }
-    line.extend_from_slice(b"}\n");
-    String::from_utf8(line).expect("JSON is text")
 }
