@@ -3,7 +3,7 @@ use Rattle.std.proofs.Common.{◌≡◌, ◌≢◌, refl, sym, ap, subst, ◌∙
 use Rattle.std.specs.Prelude.{Vec}
 use Rattle.std.specs.declared.alloc.Global.{Global}
 use Rattle.enc_names.specs.declared.encoding.Encoding.{Encoding}
-use Rattle.enc_names.specs.declared.encoding.Encoding.TheVariants.{Utf8, Ibm866, Iso8859_2, Iso8859_3, Iso8859_4, Iso8859_5, Iso8859_6, Iso8859_7, Iso8859_8, Iso8859_8I, Iso8859_10, Iso8859_13, Iso8859_14, Iso8859_15, Iso8859_16, Koi8R, Koi8U, Macintosh, Windows874, Windows1250, Windows1251, Windows1252, Windows1253, Windows1254, Windows1255, Windows1256, Windows1257, Windows1258, XMacCyrillic, Gbk, Gb18030, Big5, EucJp, Iso2022Jp, ShiftJis, EucKr, Replacement, Utf16Be, Utf16Le, XUserDefined}
+use Rattle.enc_names.specs.declared.encoding.Encoding.TheVariants.{Iso2022Jp}
 use Rattle.index_loader.specs.Files.{Files, has_files}
 use Rattle.encoders.specs.declared.fault.EncodeFault.{EncodeFault}
 use Rattle.encoders.specs.declared.fault.EncodeFault.TheVariants.{NoIndex, NoEncoder, Unencodable as unencodable, OutOfMemory as no_memory}
@@ -28,46 +28,8 @@ use Rattle.position_map.proofs.ItemCutting.{cut_some, cut_none}
 
 -- the other encodings keep no state
 in_other : (d : Document) (encoding : Encoding) (s r : OutputState) (right : ℕ) (text : List ℕ) → encoding ≢ Iso2022Jp → put_in d encoding s r right text ≡ encoded_in d.indexes encoding false text
-in_other d Utf8 s r right text other = refl
-in_other d Ibm866 s r right text other = refl
-in_other d Iso8859_2 s r right text other = refl
-in_other d Iso8859_3 s r right text other = refl
-in_other d Iso8859_4 s r right text other = refl
-in_other d Iso8859_5 s r right text other = refl
-in_other d Iso8859_6 s r right text other = refl
-in_other d Iso8859_7 s r right text other = refl
-in_other d Iso8859_8 s r right text other = refl
-in_other d Iso8859_8I s r right text other = refl
-in_other d Iso8859_10 s r right text other = refl
-in_other d Iso8859_13 s r right text other = refl
-in_other d Iso8859_14 s r right text other = refl
-in_other d Iso8859_15 s r right text other = refl
-in_other d Iso8859_16 s r right text other = refl
-in_other d Koi8R s r right text other = refl
-in_other d Koi8U s r right text other = refl
-in_other d Macintosh s r right text other = refl
-in_other d Windows874 s r right text other = refl
-in_other d Windows1250 s r right text other = refl
-in_other d Windows1251 s r right text other = refl
-in_other d Windows1252 s r right text other = refl
-in_other d Windows1253 s r right text other = refl
-in_other d Windows1254 s r right text other = refl
-in_other d Windows1255 s r right text other = refl
-in_other d Windows1256 s r right text other = refl
-in_other d Windows1257 s r right text other = refl
-in_other d Windows1258 s r right text other = refl
-in_other d XMacCyrillic s r right text other = refl
-in_other d Gbk s r right text other = refl
-in_other d Gb18030 s r right text other = refl
-in_other d Big5 s r right text other = refl
-in_other d EucJp s r right text other = refl
 in_other d Iso2022Jp s r right text other = absurd (other refl)
-in_other d ShiftJis s r right text other = refl
-in_other d EucKr s r right text other = refl
-in_other d Replacement s r right text other = refl
-in_other d Utf16Be s r right text other = refl
-in_other d Utf16Le s r right text other = refl
-in_other d XUserDefined s r right text other = refl
+in_other d encoding s r right text other = refl
 
 module _ (d : Document) (i j : ℕ) (text : List ℕ) where
   pub left_none : None ≡ cut_of d i → replacing d text i j ≡ Err SplitsItem
