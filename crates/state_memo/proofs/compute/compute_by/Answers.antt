@@ -9,10 +9,9 @@ use Rattle.state_memo.proofs.compute.compute_by.Goals as goal
 pub finish-requires : goal.finish-requires
 finish-requires g c =
     let ok = c.in_ok-gathering in
-    let among = c.requires.among in
-    let d = c.args.decoder.now in
-    arm-done d (name_by among) _ _ (c.law_among.ensures.feeds (name_by among) (named-lifted among)) (named-outputs among) c.args.state c.args.bytes.now ok.gathering ok.ensures.items
-    (c.law_few_items.ensures.shown 0 (name_by among c.args.state) c.args.bytes.now)
+    let by = name_by c.requires.among in
+    arm-done c.args.decoder.now by _ _ (c.law_among.ensures.feeds by (named-lifted c.requires.among)) (named-outputs c.requires.among) c.args.state c.args.bytes.now ok.gathering ok.ensures.items
+    (c.law_few_items.ensures.shown 0 (by c.args.state) c.args.bytes.now)
 
 pub returns-clause-outcome : goal.returns-clause-outcome
 returns-clause-outcome g c = λ entry named.
