@@ -5,7 +5,7 @@ use Rattle.std.specs.FinMap.{empty}
 use Rattle.enc_names.specs.Labels.{LabelTable}
 use Rattle.index_loader.specs.Files.{Files}
 use Rattle.gateway.specs.Events.{connections}
-use Rattle.gateway.specs.Serving.{Runs}
+use Rattle.gateway.specs.Serving.{RunGives}
 use Rattle.gateway.specs.Traffic.{Traffic}
 use Rattle.gateway.specs.RunFault.{RunFault}
 use Rattle.gateway.specs.RunFault.TheVariants as fault
@@ -31,4 +31,4 @@ run_answer (Err failure) = Err fault.NotFree
 -- the run on connection 0, and the gateway behind it
 pub record Served {A : Type 0} (answer : Result A RunFault) (old : Traffic) (left rest before after : Option (List ℕ)) : Type 0 where
   pub new : Traffic
-  pub runs : Runs answer 0 old new left rest before after
+  pub runs : RunGives answer 0 old new left rest before after
