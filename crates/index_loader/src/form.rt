@@ -66,8 +66,8 @@ impl Utf8Form {
         self.number >= 0x200_0000
     }
 
-    /// Writes a form of one to three bytes from an index on, and returns where it ends. Up to three
-    /// bytes behind it may be written over. No form and one of four bytes are not written.
+    /// Writes a form of one to three bytes from an index on, and returns where it ends. What stands
+    /// behind it may be written over. No form and one of four bytes are not written.
     // In the loop over the characters of a text.
     #[inline(always)]
     pub fn put(self, text: &mut [u8], at: usize) -> Option<usize>
