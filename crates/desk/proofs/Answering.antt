@@ -15,8 +15,8 @@ use Rattle.desk.specs.OpenDocuments.{AllOpened, entry_of, names}
 use Rattle.desk.specs.declared.fault.Fault.{Fault}
 use Rattle.desk.specs.declared.fault.Fault.TheVariants.{NoDocument, OutOfMemory}
 use Rattle.desk.specs.declared.open_document.OpenDocument.{OpenDocument}
-use Rattle.desk.specs.declared.reply.Reply.{Reply}
-use Rattle.desk.specs.declared.reply.Reply.TheVariants.{Refused}
+use Rattle.desk.specs.declared.ops.Reply.{Reply}
+use Rattle.desk.specs.declared.ops.Reply.TheVariants.{Refused}
 use Rattle.desk.proofs.Names.{Entries, at_text, entry_none, entry_some, opened_found}
 
 is_outcome : (o : Outcome) (reply : Reply) (documents : Names) → o ≡ record { reply = reply; documents = documents } → IsOutcome o reply documents documents

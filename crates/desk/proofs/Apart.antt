@@ -12,8 +12,8 @@ use Rattle.desk.specs.Desk.{Office, effect, effect_of, has_place, Answers}
 use Rattle.desk.specs.Documents.{Entry}
 use Rattle.desk.specs.Effects.{Effect}
 use Rattle.desk.specs.declared.fault.Fault.TheVariants.{OutOfMemory}
-use Rattle.desk.specs.declared.reply.Reply.{Reply}
-use Rattle.desk.specs.declared.reply.Reply.TheVariants.{Refused}
+use Rattle.desk.specs.declared.ops.Reply.{Reply}
+use Rattle.desk.specs.declared.ops.Reply.TheVariants.{Refused}
 use Rattle.desk.proofs.Moves.{held_after, at_name, reply_is, held_is}
 use Rattle.desk.proofs.Row.{known}
 use Rattle.desk.proofs.Rows as rows

@@ -28,8 +28,8 @@ use Rattle.desk.specs.Lives.{OpensBegin, AdoptionsBegin, ClosesEnd}
 use Rattle.desk.specs.Open.{admitted, opened}
 use Rattle.desk.specs.declared.fault.Fault.{Fault}
 use Rattle.desk.specs.declared.fault.Fault.TheVariants.{OutOfMemory, NameTaken}
-use Rattle.desk.specs.declared.reply.Reply.{Reply}
-use Rattle.desk.specs.declared.reply.Reply.TheVariants.{Refused}
+use Rattle.desk.specs.declared.ops.Reply.{Reply}
+use Rattle.desk.specs.declared.ops.Reply.TheVariants.{Refused}
 use Rattle.desk.proofs.Moves.{held_after, at_name, test, reply_is, held_is}
 
 accepts : (reply : Reply) → is_accepted reply ≡ true → reply ≢ Refused OutOfMemory

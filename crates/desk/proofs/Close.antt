@@ -13,8 +13,8 @@ use Rattle.index_loader.specs.Files.{Files}
 use Rattle.desk.specs.Close.{closed}
 use Rattle.desk.specs.Commands.{Closes}
 use Rattle.desk.specs.declared.open_document.OpenDocument.{OpenDocument}
-use Rattle.desk.specs.declared.reply.Reply.{Reply}
-use Rattle.desk.specs.declared.reply.Reply.TheVariants.{Closed}
+use Rattle.desk.specs.declared.ops.Reply.{Reply}
+use Rattle.desk.specs.declared.ops.Reply.TheVariants.{Closed}
 use Rattle.desk.proofs.Edits.{Step, there}
 use Rattle.desk.proofs.Names.{at_text, names_removed}
 use Rattle.desk.proofs.Row.{IsRow, keeps-of_document, answered-of_document}

@@ -28,8 +28,8 @@ use Rattle.desk.specs.OpenDocuments.{AllOpened, entry_of, names}
 use Rattle.desk.specs.declared.fault.Fault.{Fault}
 use Rattle.desk.specs.declared.fault.Fault.TheVariants.{OutOfMemory, NoDocument}
 use Rattle.desk.specs.declared.open_document.OpenDocument.{OpenDocument}
-use Rattle.desk.specs.declared.reply.Reply.{Reply}
-use Rattle.desk.specs.declared.reply.Reply.TheVariants.{Refused}
+use Rattle.desk.specs.declared.ops.Reply.{Reply}
+use Rattle.desk.specs.declared.ops.Reply.TheVariants.{Refused}
 use Rattle.desk.proofs.Names.{at_text, entry_none, entry_some, names_updated, opened_found}
 use Rattle.desk.proofs.Row.{ContinuesBy, Keeps, Answered, Decided, Caused, caused-if, decided-if, continues-refused}
 

@@ -19,7 +19,7 @@ use Rattle.desk.specs.Documents.{Entry, document_of, unless_fault, Gives}
 use Rattle.desk.specs.Encode.{bytes_reply, encode_reply, encode_reply_as}
 use Rattle.desk.specs.declared.fault.Fault.{Fault}
 use Rattle.desk.specs.declared.fault.Fault.TheVariants.{NoIndex}
-use Rattle.desk.specs.declared.reply.Reply.{Reply}
+use Rattle.desk.specs.declared.ops.Reply.{Reply}
 use Rattle.desk.proofs.Row.{IsRow, question, Decided, IsOther, decided-if, decided-unless}
 use Rattle.desk.proofs.Text.{caused-text}
 

@@ -24,7 +24,7 @@ use Rattle.desk.specs.Change.{unless_kept, plan_fault, made, changed, alone, cha
 use Rattle.desk.specs.Changes.{then_rest, changed_all, changes_reply, changes_effect}
 use Rattle.desk.specs.declared.change_cause.ChangeCause.{ChangeCause}
 use Rattle.desk.specs.declared.fault.Fault.{Fault}
-use Rattle.desk.specs.declared.reply.Reply.{Reply}
+use Rattle.desk.specs.declared.ops.Reply.{Reply}
 use Rattle.desk.proofs.Apart.{same_bytes}
 use Rattle.desk.proofs.Begins.{held_here, accepted_here}
 use Rattle.desk.proofs.Edits.{at_revision-ok}

@@ -19,8 +19,8 @@ use Rattle.desk.specs.Lives.{Act, Commanded, Adopted, Acts, is_edit, is_close, e
 use Rattle.desk.specs.Open.{adopted}
 use Rattle.desk.specs.declared.fault.Fault.{Fault}
 use Rattle.desk.specs.declared.fault.Fault.TheVariants.{OutOfMemory, NameTaken}
-use Rattle.desk.specs.declared.reply.Reply.{Reply}
-use Rattle.desk.specs.declared.reply.Reply.TheVariants.{Refused}
+use Rattle.desk.specs.declared.ops.Reply.{Reply}
+use Rattle.desk.specs.declared.ops.Reply.TheVariants.{Refused}
 use Rattle.desk.proofs.Moves.{held_after, at_name, test, reply_is, held_is}
 use Rattle.desk.proofs.Apart.{same_bytes}
 use Rattle.desk.proofs.Row.{Continues, ContinuesBy, and_no}

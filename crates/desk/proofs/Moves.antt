@@ -12,8 +12,8 @@ use Rattle.desk.specs.Desk.{Office, Outcome, moved, effect_of, answer_of, IsOutc
 use Rattle.desk.specs.Effects.{Move, Stays, Puts, Goes}
 use Rattle.desk.specs.Documents.{Entry, Names}
 use Rattle.desk.specs.declared.fault.Fault.TheVariants.{OutOfMemory}
-use Rattle.desk.specs.declared.reply.Reply.{Reply}
-use Rattle.desk.specs.declared.reply.Reply.TheVariants.{Refused}
+use Rattle.desk.specs.declared.ops.Reply.{Reply}
+use Rattle.desk.specs.declared.ops.Reply.TheVariants.{Refused}
 use Rattle.desk.proofs.Names.{same_test}
 
 -- what is held at the name of a command

@@ -22,8 +22,8 @@ use Rattle.desk.specs.Effects.{base64_bytes, with_bytes, put}
 use Rattle.desk.specs.Lives.{done}
 use Rattle.desk.specs.Open.{admitted, opened}
 use Rattle.desk.specs.declared.fault.Fault.{Fault}
-use Rattle.desk.specs.declared.reply.Reply.{Reply}
-use Rattle.desk.specs.declared.reply.Reply.TheVariants.{Refused}
+use Rattle.desk.specs.declared.ops.Reply.{Reply}
+use Rattle.desk.specs.declared.ops.Reply.TheVariants.{Refused}
 use Rattle.desk.proofs.Row.{IsRow, Keeps, Answered, ContinuesBy, Decided, IsOther, Caused, caused-if, decided-if, decided-unless, keeps-with_bytes, keeps-put, answered-with_bytes, answered-put}
 
 -- an open whose bytes are read, whose name is free and whose label names an encoding

@@ -23,8 +23,8 @@ use Rattle.desk.specs.Commands.{FindsPlace}
 use Rattle.desk.specs.Documents.{Entry, document_of, unless_position_fault}
 use Rattle.desk.specs.Place.{offset_named, place_at, place_reply}
 use Rattle.desk.specs.declared.place_unit.PlaceUnit.{PlaceUnit}
-use Rattle.desk.specs.declared.reply.Reply.{Reply}
-use Rattle.desk.specs.declared.reply.Reply.TheVariants as reply
+use Rattle.desk.specs.declared.ops.Reply.{Reply}
+use Rattle.desk.specs.declared.ops.Reply.TheVariants as reply
 use Rattle.desk.proofs.Row.{IsRow, question, decided-position}
 
 pub row : (indexes : Files) (labels : LabelTable) (unit : PlaceUnit) (value : ℕ) → IsRow indexes labels (FindsPlace unit value)

@@ -19,8 +19,8 @@ use Rattle.desk.specs.Effects.{Move, Stays, Puts, Goes, Effect, replied, put, of
 use Rattle.desk.specs.Lives.{is_edit, is_close, IsLife}
 use Rattle.desk.specs.declared.fault.Fault.{Fault}
 use Rattle.desk.specs.declared.fault.Fault.TheVariants.{OutOfMemory}
-use Rattle.desk.specs.declared.reply.Reply.{Reply}
-use Rattle.desk.specs.declared.reply.Reply.TheVariants.{Refused}
+use Rattle.desk.specs.declared.ops.Reply.{Reply}
+use Rattle.desk.specs.declared.ops.Reply.TheVariants.{Refused}
 
 -- what reports no change leaves the entry
 abbrev pub Keeps : Effect → Type 0

@@ -8,8 +8,8 @@ use Rattle.desk.specs.Commands.{Ask, Asked, Opens, Closes, Splices, ChangesText,
 use Rattle.desk.specs.Desk.{Office, Outcome, Answers, IsOutcome, moved, answer_of, has_place}
 use Rattle.desk.specs.Documents.{Names}
 use Rattle.desk.specs.declared.fault.Fault.TheVariants.{OutOfMemory}
-use Rattle.desk.specs.declared.reply.Reply.{Reply}
-use Rattle.desk.specs.declared.reply.Reply.TheVariants.{Refused}
+use Rattle.desk.specs.declared.ops.Reply.{Reply}
+use Rattle.desk.specs.declared.ops.Reply.TheVariants.{Refused}
 use Rattle.desk.proofs.Row.{IsRow}
 use Rattle.desk.proofs.Close as close
 use Rattle.desk.proofs.Encode as encode

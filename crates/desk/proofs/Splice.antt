@@ -17,7 +17,7 @@ use Rattle.desk.specs.Edits.{Applied}
 use Rattle.desk.specs.Effects.{base64_bytes, with_bytes, of_document}
 use Rattle.desk.specs.Lives.{edited_by, with_spliced}
 use Rattle.desk.specs.Splice.{spliced, splice_reply, splice_effect}
-use Rattle.desk.specs.declared.reply.Reply.{Reply}
+use Rattle.desk.specs.declared.ops.Reply.{Reply}
 use Rattle.desk.proofs.Edits.{caused-splice, keeps-edited, answered-edited, continues-edited}
 use Rattle.desk.proofs.Row.{IsRow, ContinuesBy, decided-unless, keeps-with_bytes, keeps-of_document, answered-with_bytes, answered-of_document}
 

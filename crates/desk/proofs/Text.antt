@@ -17,8 +17,8 @@ use Rattle.desk.specs.Documents.{Entry, document_of, unless}
 use Rattle.desk.specs.Text.{in_mode, text_reply}
 use Rattle.desk.specs.declared.fault.Fault.{Fault}
 use Rattle.desk.specs.declared.fault.Fault.TheVariants.{OutOfRange, Malformed}
-use Rattle.desk.specs.declared.reply.Reply.{Reply}
-use Rattle.desk.specs.declared.reply.Reply.TheVariants.{Text}
+use Rattle.desk.specs.declared.ops.Reply.{Reply}
+use Rattle.desk.specs.declared.ops.Reply.TheVariants.{Text}
 use Rattle.desk.specs.declared.text_mode.TextMode.{TextMode}
 use Rattle.desk.specs.declared.text_mode.TextMode.TheVariants.{Replacement, Fatal}
 use Rattle.desk.proofs.Row.{IsRow, question, Decided, IsOther, Caused, caused-if, decided-unless, and_no}

@@ -4,8 +4,8 @@ use Rattle.desk.specs.Commands.{Asked}
 use Rattle.desk.specs.Desk.{Office, answer_of}
 use Rattle.desk.specs.declared.fault.Fault.{Fault}
 use Rattle.desk.specs.declared.fault.Fault.TheVariants.{OutOfMemory}
-use Rattle.desk.specs.declared.reply.Reply.{Reply}
-use Rattle.desk.specs.declared.reply.Reply.TheVariants.{Edited, Change, Changes, Closed, Refused}
+use Rattle.desk.specs.declared.ops.Reply.{Reply}
+use Rattle.desk.specs.declared.ops.Reply.TheVariants.{Edited, Change, Changes, Closed, Refused}
 
 abbrev pub is_accepted : Reply → Bool
 is_accepted (Refused fault) = false

@@ -5,8 +5,8 @@ use Rattle.std.specs.FinMap.{get}
 use Rattle.desk.specs.Commands.{Ask, Asked, Opens}
 use Rattle.desk.specs.Desk.{Office, has_place, Answers}
 use Rattle.desk.specs.declared.fault.Fault.TheVariants.{OutOfMemory}
-use Rattle.desk.specs.declared.reply.Reply.{Reply}
-use Rattle.desk.specs.declared.reply.Reply.TheVariants.{Refused}
+use Rattle.desk.specs.declared.ops.Reply.{Reply}
+use Rattle.desk.specs.declared.ops.Reply.TheVariants.{Refused}
 
 -- a command, the desk that it found, and the reply
 pub record Exchange : Type 0 where

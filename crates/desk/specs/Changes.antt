@@ -15,8 +15,8 @@ use Rattle.desk.specs.declared.change_cause.ChangeCause.{ChangeCause}
 use Rattle.desk.specs.declared.change_cause.ChangeCause.TheVariants as because
 use Rattle.desk.specs.declared.fault.Fault.{Fault}
 use Rattle.desk.specs.declared.fault.Fault.TheVariants.{InChange, OutOfMemory}
-use Rattle.desk.specs.declared.reply.Reply.{Reply}
-use Rattle.desk.specs.declared.reply.Reply.TheVariants.{Changes}
+use Rattle.desk.specs.declared.ops.Reply.{Reply}
+use Rattle.desk.specs.declared.ops.Reply.TheVariants.{Changes}
 
 -- the refusal of a list, by the number of its first change that is refused, and the cause
 abbrev pub in_change : ℕ → ChangeCause → Fault

@@ -4,8 +4,8 @@ use Rattle.enc_names.specs.declared.bom.Bom.{Bom}
 use Rattle.position_map.specs.declared.position.Range.{Range}
 use Rattle.position_map.specs.declared.unit.Unit.{Unit as TextUnit}
 use Rattle.encoders.specs.declared.mode.EncodeMode.{EncodeMode}
-use Rattle.desk.specs.declared.command.Command.{Command}
-use Rattle.desk.specs.declared.command.Command.TheVariants.{Open, Close, Splice, Change, Changes, Text, Source, Encode, Errors, Lines, Position, Offset, Place, Stat}
+use Rattle.desk.specs.declared.ops.Command.{Command}
+use Rattle.desk.specs.declared.ops.Command.TheVariants.{Open, Close, Splice, Change, Changes, Text, Source, Encode, Errors, Lines, Position, Offset, Place, Stat}
 use Rattle.desk.specs.declared.ops.changes.ContentChange.{ContentChange}
 use Rattle.desk.specs.declared.place_unit.PlaceUnit.{PlaceUnit}
 use Rattle.desk.specs.declared.text_mode.TextMode.{TextMode}

@@ -23,8 +23,8 @@ use Rattle.desk.specs.Place.{place_reply}
 use Rattle.desk.specs.Stat.{stat_reply}
 use Rattle.desk.specs.declared.fault.Fault.{Fault}
 use Rattle.desk.specs.declared.fault.Fault.TheVariants.{OutOfMemory}
-use Rattle.desk.specs.declared.reply.Reply.{Reply}
-use Rattle.desk.specs.declared.reply.Reply.TheVariants.{Refused}
+use Rattle.desk.specs.declared.ops.Reply.{Reply}
+use Rattle.desk.specs.declared.ops.Reply.TheVariants.{Refused}
 
 -- the loaded index files and labels, and the documents
 pub record Office : Type 0 where

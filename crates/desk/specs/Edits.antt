@@ -6,7 +6,7 @@ use Rattle.desk.specs.Documents.{Entry, entry, document_of, max_number}
 use Rattle.desk.specs.Effects.{Effect, Puts, refused}
 use Rattle.desk.specs.declared.fault.Fault.{Fault}
 use Rattle.desk.specs.declared.fault.Fault.TheVariants.{Stale, RevisionsSpent, OutOfMemory}
-use Rattle.desk.specs.declared.reply.Reply.{Reply}
+use Rattle.desk.specs.declared.ops.Reply.{Reply}
 
 -- the document that an edit leaves, and what the edit did
 pub record Applied (A : Type 0) : Type 0 where

@@ -7,7 +7,7 @@ use Rattle.base64.specs.GeneralPurpose.{decode_of}
 use Rattle.desk.specs.Documents.{Entry, reply_of}
 use Rattle.desk.specs.declared.fault.Fault.{Fault}
 use Rattle.desk.specs.declared.fault.Fault.TheVariants.{BadBase64, NoDocument, OutOfMemory}
-use Rattle.desk.specs.declared.reply.Reply.{Reply}
+use Rattle.desk.specs.declared.ops.Reply.{Reply}
 
 -- what becomes of the entry at a name
 pub data Move : Type 0 where

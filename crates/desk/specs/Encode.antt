@@ -11,8 +11,8 @@ use Rattle.piece_rope.specs.Edits.{text_fault}
 use Rattle.desk.specs.Documents.{Entry, document_of, unless_fault}
 use Rattle.desk.specs.declared.fault.Fault.{Fault}
 use Rattle.desk.specs.declared.fault.Fault.TheVariants.{UnknownLabel, NoIndex, NoEncoder, Unencodable}
-use Rattle.desk.specs.declared.reply.Reply.{Reply}
-use Rattle.desk.specs.declared.reply.Reply.TheVariants.{Bytes}
+use Rattle.desk.specs.declared.ops.Reply.{Reply}
+use Rattle.desk.specs.declared.ops.Reply.TheVariants.{Bytes}
 
 -- the reply with encoded bytes, or the encoder's cause; memory is no cause that a definition has
 abbrev pub bytes_reply : ℕ → Result (List ℕ) EncodeFault → Result Reply Fault

@@ -16,8 +16,8 @@ use Rattle.desk.specs.Desk.{Office, Answers}
 use Rattle.desk.specs.Documents.{Entry, entry, document_of, max_number}
 use Rattle.desk.specs.Effects.{Puts}
 use Rattle.desk.specs.declared.fault.Fault.TheVariants.{OutOfMemory}
-use Rattle.desk.specs.declared.reply.Reply.{Reply}
-use Rattle.desk.specs.declared.reply.Reply.TheVariants.{Refused}
+use Rattle.desk.specs.declared.ops.Reply.{Reply}
+use Rattle.desk.specs.declared.ops.Reply.TheVariants.{Refused}
 
 -- The document at the name, the splice planned for its range, and what is held afterwards. Decoded from scratch, the new bytes have the old
 -- text with the code points of the range replaced.

@@ -21,7 +21,7 @@ use Rattle.desk.specs.Desk.{Office, Answers, Adopts}
 use Rattle.desk.specs.Documents.{Entry, entry}
 use Rattle.desk.specs.Effects.{base64_bytes}
 use Rattle.desk.specs.declared.fault.Fault.{Fault}
-use Rattle.desk.specs.declared.reply.Reply.{Reply}
+use Rattle.desk.specs.declared.ops.Reply.{Reply}
 
 -- ---- what happens to a desk
 

@@ -11,8 +11,8 @@ use Rattle.desk.specs.Documents.{Entry, document_of, unless_position_fault}
 use Rattle.desk.specs.declared.fault.Fault.{Fault}
 use Rattle.desk.specs.declared.place_unit.PlaceUnit.{PlaceUnit}
 use Rattle.desk.specs.declared.place_unit.PlaceUnit.TheVariants.{Byte, Text}
-use Rattle.desk.specs.declared.reply.Reply.{Reply}
-use Rattle.desk.specs.declared.reply.Reply.TheVariants.{Place}
+use Rattle.desk.specs.declared.ops.Reply.{Reply}
+use Rattle.desk.specs.declared.ops.Reply.TheVariants.{Place}
 
 -- How many code points stand before the offset that a value names: those of the items that end at or before so many bytes, or those
 -- that take so many units.

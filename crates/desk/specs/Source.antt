@@ -3,8 +3,8 @@ use Rattle.std.specs.Prelude.{ℕ, take, drop, Result}
 use Rattle.piece_rope.specs.Edits.{source_fault}
 use Rattle.desk.specs.Documents.{Entry, unless}
 use Rattle.desk.specs.declared.fault.Fault.{Fault}
-use Rattle.desk.specs.declared.reply.Reply.{Reply}
-use Rattle.desk.specs.declared.reply.Reply.TheVariants.{Bytes}
+use Rattle.desk.specs.declared.ops.Reply.{Reply}
+use Rattle.desk.specs.declared.ops.Reply.TheVariants.{Bytes}
 
 -- the len bytes from `at` on
 abbrev pub source_reply : Entry → ℕ → ℕ → Result Reply Fault

@@ -7,7 +7,7 @@ use Rattle.desk.specs.Documents.{Entry, edited_reply, unless}
 use Rattle.desk.specs.Edits.{Applied, edited}
 use Rattle.desk.specs.Effects.{Effect}
 use Rattle.desk.specs.declared.fault.Fault.{Fault}
-use Rattle.desk.specs.declared.reply.Reply.{Reply}
+use Rattle.desk.specs.declared.ops.Reply.{Reply}
 
 -- the bytes given in the place of `del` bytes from `at` on, unless what they replace isn't there or the document would be too large
 abbrev pub spliced : ℕ → ℕ → List ℕ → Document → Result (Applied (Unit {0})) Fault

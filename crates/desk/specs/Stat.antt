@@ -6,8 +6,8 @@ use Rattle.position_map.specs.Lines.{lines_of}
 use Rattle.position_map.specs.Widths.{width}
 use Rattle.position_map.specs.declared.unit.Unit.TheVariants.{Utf8, Utf16, Utf32}
 use Rattle.desk.specs.Documents.{Entry, document_of}
-use Rattle.desk.specs.declared.reply.Reply.{Reply}
-use Rattle.desk.specs.declared.reply.Reply.TheVariants.{Stat}
+use Rattle.desk.specs.declared.ops.Reply.{Reply}
+use Rattle.desk.specs.declared.ops.Reply.TheVariants.{Stat}
 
 -- the encoding given and the one in force, and the numbers of the mark's bytes, all bytes, errors, lines and units
 abbrev pub stat_reply : Files → Entry → Reply

@@ -8,8 +8,8 @@ use Rattle.piece_rope.specs.Edits.{text_fault}
 use Rattle.desk.specs.Documents.{Entry, document_of, unless}
 use Rattle.desk.specs.declared.fault.Fault.{Fault}
 use Rattle.desk.specs.declared.fault.Fault.TheVariants.{Malformed}
-use Rattle.desk.specs.declared.reply.Reply.{Reply}
-use Rattle.desk.specs.declared.reply.Reply.TheVariants.{Text}
+use Rattle.desk.specs.declared.ops.Reply.{Reply}
+use Rattle.desk.specs.declared.ops.Reply.TheVariants.{Text}
 use Rattle.desk.specs.declared.text_mode.TextMode.{TextMode}
 use Rattle.desk.specs.declared.text_mode.TextMode.TheVariants.{Fatal}
 

@@ -1,4 +1,4 @@
-//! The desk: what it holds, and the table of its ops, each of which has a file of its own in `ops/`.
+//! The desk: what it holds, and what it answers, by the table of its ops.
 ghost use Rattle.std.specs.Prelude.{◌≡◌, ◌≤◌, false, length, Ok};
 ghost use Rattle.std.specs.FinMap as map;
 ghost use Rattle.enc_names.specs.Settings.{setting_of};
@@ -7,11 +7,10 @@ ghost use Rattle.desk.specs.Commands.{asked, asked_of};
 ghost use Rattle.desk.specs.Desk.{Answers, Adopts};
 ghost use Rattle.desk.specs.Documents.{max_number, reply_of};
 
-use crate::command::Command;
 use crate::documents::Documents;
 use crate::fault::Fault;
+use crate::ops::{Command, Reply};
 use crate::question::Question;
-use crate::reply::Reply;
 use decoder_core::OutOfMemory;
 use enc_names::{Bom, Encoding, Labels, Setting};
 use index_loader::Indexes;
@@ -88,30 +87,8 @@ impl<'i> Desk<'i> {
         }
     }
 
-    /// The reply to a command, or why it is refused.
-    fn decide(&mut self, command: &Command<'_>) -> Result<Reply, Fault>
-        ensures { Answers self.old (asked command.now) (reply_of result) self.new }
-    {
-        match command {
-            Command::Open(open) => self.open(open),
-            Command::Close(close) => self.documents.close(close.doc),
-            Command::Splice(splice) => self.splice(splice),
-            Command::Change(change) => self.change(change),
-            Command::Changes(changes) => self.changes(changes),
-            Command::Text(text) => self.ask(text.doc, text),
-            Command::Source(source) => self.ask(source.doc, source),
-            Command::Encode(encode) => self.ask(encode.doc, encode),
-            Command::Errors(errors) => self.ask(errors.doc, errors),
-            Command::Lines(lines) => self.ask(lines.doc, lines),
-            Command::Position(position) => self.ask(position.doc, position),
-            Command::Offset(offset) => self.ask(offset.doc, offset),
-            Command::Place(place) => self.ask(place.doc, place),
-            Command::Stat(stat) => self.ask(stat.doc, stat),
-        }
-    }
-
     /// The answer to a question about the document of this name.
-    fn ask<Q: Question>(&self, doc: &str, question: &Q) -> Result<Reply, Fault>
+    pub(crate) fn ask<Q: Question>(&self, doc: &str, question: &Q) -> Result<Reply, Fault>
         ensures { Answers self.now (asked_of doc.now (Q.asked question.now)) (reply_of result) self.now }
     {
         self.documents.ask(self.alloc, &self.labels, doc, question)

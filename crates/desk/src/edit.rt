@@ -4,10 +4,10 @@ ghost use Rattle.piece_rope.specs.Document.{Document};
 ghost use Rattle.desk.specs.Accepted.{is_accepted};
 ghost use Rattle.desk.specs.Edits.{Applied, Applies};
 ghost use Rattle.desk.specs.declared.fault.Fault.{Fault};
-ghost use Rattle.desk.specs.declared.reply.Reply.{Reply};
+ghost use Rattle.desk.specs.declared.ops.Reply.{Reply};
 
 use crate::fault::Fault;
-use crate::reply::Reply;
+use crate::ops::Reply;
 use piece_rope::Doc;
 use std::alloc::Global;
 

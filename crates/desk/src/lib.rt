@@ -4,7 +4,6 @@
 mod base64_text;
 mod causes;
 mod change_cause;
-mod command;
 mod desk;
 mod documents;
 mod edit;
@@ -20,7 +19,6 @@ mod reply;
 mod text_mode;
 
 pub use change_cause::ChangeCause;
-pub use command::Command;
 pub use desk::Desk;
 pub use fault::Fault;
 pub use laws::{
@@ -29,6 +27,7 @@ pub use laws::{
 };
 pub use line::Line;
 pub use max_number::MAX_NUMBER;
+pub use ops::{Command, Reply};
 pub use place_unit::PlaceUnit;
-pub use reply::{BytesReply, EditedReply, Reply, ReplyList, ReplyText};
+pub use reply::{BytesReply, EditedReply, ReplyList, ReplyText};
 pub use text_mode::TextMode;

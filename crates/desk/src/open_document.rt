@@ -8,7 +8,8 @@ ghost use Rattle.desk.specs.OpenDocuments.{entry_of};
 use crate::edit::Edit;
 use crate::fault::Fault;
 use crate::max_number::MAX_NUMBER;
-use crate::reply::{EditedReply, Reply};
+use crate::ops::Reply;
+use crate::reply::EditedReply;
 use piece_rope::Doc;
 use std::alloc::Global;
 

@@ -8,11 +8,11 @@ ghost use Rattle.desk.specs.Documents.{Entry, Gives};
 ghost use Rattle.desk.specs.Effects.{of_document, replied};
 ghost use Rattle.desk.specs.OpenDocuments.{entry_of};
 ghost use Rattle.desk.specs.declared.fault.Fault.{Fault};
-ghost use Rattle.desk.specs.declared.reply.Reply.{Reply};
+ghost use Rattle.desk.specs.declared.ops.Reply.{Reply};
 
 use crate::fault::Fault;
 use crate::open_document::OpenDocument;
-use crate::reply::Reply;
+use crate::ops::Reply;
 use enc_names::Labels;
 use std::alloc::Global;
 

@@ -1,10 +1,5 @@
-//! What the desk answers.
+//! What replies to several ops hold.
 
-use crate::fault::Fault;
-use crate::ops::{
-    ChangeReply, ChangesReply, ErrorsReply, LinesReply, OffsetReply, PlaceReply, PositionReply,
-    StatReply, TextReply,
-};
 use enc_names::Encoding;
 use std::marker::Model;
 
@@ -90,42 +85,4 @@ pub struct BytesReply {
     pub rev: u64,
     /// The bytes asked for.
     pub bytes: ReplyList<u8>,
-}
-
-/// The answer to one command. What a reply says is declared beside its op, or above where two ops
-/// have it.
-#[derive(Drop)]
-pub enum Reply {
-    /// An open or a splice was accepted.
-    Edited(EditedReply),
-    /// A change was accepted.
-    Change(ChangeReply),
-    /// A list of changes was accepted.
-    Changes(ChangesReply),
-    /// A document was closed.
-    Closed {
-        /// The revision that it had.
-        rev: u64,
-    },
-    /// The text asked for.
-    Text(TextReply),
-    /// The bytes asked for.
-    Bytes(BytesReply),
-    /// A page of the places of errors.
-    Errors(ErrorsReply),
-    /// A page of lines.
-    Lines(LinesReply),
-    /// The position of an offset.
-    Position(PositionReply),
-    /// The offset of a position.
-    Offset(OffsetReply),
-    /// An offset in each unit, and the place of the code point there.
-    Place(PlaceReply),
-    /// How long a document and its text are.
-    Stat(StatReply),
-    /// The command was refused, and changed nothing.
-    Refused {
-        /// The first cause, in the order of `Fault`'s variants.
-        fault: Fault,
-    },
 }

@@ -19,7 +19,7 @@ use Rattle.desk.specs.Position.{position_reply}
 use Rattle.document_tests.specs.Session.{truncated, pair_and_cr_lf}
 use Rattle.desk.specs.declared.fault.Fault.TheVariants.{OutOfRange, SplitsCharacter}
 use Rattle.desk.specs.declared.place_unit.PlaceUnit.TheVariants.{Byte, Text}
-use Rattle.desk.specs.declared.reply.Reply.TheVariants.{Stat, Lines, Position, Offset, Place}
+use Rattle.desk.specs.declared.ops.Reply.TheVariants.{Stat, Lines, Position, Offset, Place}
 
 pub stat_worked : stat_reply no_files pair_and_cr_lf ≡ Stat (record { rev = 0; given = Utf8; encoding = Utf8; bom = 0; bytes = 8; errors = 0; lines = 2; utf8 = 8; utf16 = 6; utf32 = 5 })
 unfolding decoded_text decoded_errors decode run turns lines_of

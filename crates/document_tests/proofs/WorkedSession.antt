@@ -27,8 +27,8 @@ use Rattle.document_tests.specs.Session.{a, replies_to, office_without_files, tr
 use Rattle.desk.specs.Splice.{splice_effect}
 use Rattle.desk.specs.Text.{text_reply}
 use Rattle.desk.specs.declared.fault.Fault.TheVariants.{OutOfRange}
-use Rattle.desk.specs.declared.reply.Reply.{Reply}
-use Rattle.desk.specs.declared.reply.Reply.TheVariants.{Edited, Closed, Text, Errors, Refused}
+use Rattle.desk.specs.declared.ops.Reply.{Reply}
+use Rattle.desk.specs.declared.ops.Reply.TheVariants.{Edited, Closed, Text, Errors, Refused}
 use Rattle.desk.specs.declared.text_mode.TextMode.TheVariants.{Replacement}
 
 opened_bytes : base64_bytes (codes "4oJB") ≡ Some (0xE2 ∷ 0x82 ∷ 0x41 ∷ [])

@@ -10,8 +10,8 @@ use Rattle.desk.specs.Commands.{Ask, Asked, asked_of, Opens, Closes, Splices, Re
 use Rattle.desk.specs.Desk.{Office, answer_of}
 use Rattle.desk.specs.Documents.{Entry, entry}
 use Rattle.desk.specs.declared.fault.Fault.TheVariants.{OutOfRange}
-use Rattle.desk.specs.declared.reply.Reply.{Reply}
-use Rattle.desk.specs.declared.reply.Reply.TheVariants.{Edited, Closed, Text, Errors, Refused}
+use Rattle.desk.specs.declared.ops.Reply.{Reply}
+use Rattle.desk.specs.declared.ops.Reply.TheVariants.{Edited, Closed, Text, Errors, Refused}
 use Rattle.desk.specs.declared.text_mode.TextMode.TheVariants.{Replacement}
 
 -- UTF-8 E2 82 41: an error of two bytes, and A

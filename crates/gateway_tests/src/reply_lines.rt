@@ -5,8 +5,8 @@ ghost use Rattle.line_protocol.specs.Replies.{reply_text, refusal_text};
 ghost use Rattle.desk.specs.declared.change_cause.ChangeCause.TheVariants.{Plan};
 ghost use Rattle.desk.specs.declared.fault.Fault.TheVariants as fault;
 ghost use Rattle.position_map.specs.declared.change_fault.ChangeFault.TheVariants as change_fault;
-ghost use Rattle.desk.specs.declared.reply.Reply.TheVariants.{Edited, Change, Changes, Closed, Text, Errors, Lines, Position, Offset, Stat, Refused};
-ghost use Rattle.desk.specs.declared.reply.Reply.TheVariants as replies;
+ghost use Rattle.desk.specs.declared.ops.Reply.TheVariants.{Edited, Change, Changes, Closed, Text, Errors, Lines, Position, Offset, Stat, Refused};
+ghost use Rattle.desk.specs.declared.ops.Reply.TheVariants as replies;
 ghost use Rattle.line_protocol.specs.declared.request.field.Field.TheVariants as field;
 ghost use Rattle.line_protocol.specs.declared.request.refusal.Refusal.TheVariants as refusal;
 

@@ -6,8 +6,8 @@ use Rattle.desk.specs.Accepted.{reports_change, OnlyChangesChange}
 use Rattle.desk.specs.Commands.{Asked}
 use Rattle.desk.specs.Desk.{Office, answer_of}
 use Rattle.desk.specs.Documents.{Names}
-use Rattle.desk.specs.declared.reply.Reply.{Reply}
-use Rattle.desk.specs.declared.reply.Reply.TheVariants.{Edited, Change, Changes, Closed}
+use Rattle.desk.specs.declared.ops.Reply.{Reply}
+use Rattle.desk.specs.declared.ops.Reply.TheVariants.{Edited, Change, Changes, Closed}
 use Rattle.line_protocol.specs.declared.request.refusal.Refusal.{Refusal}
 use Rattle.line_protocol.specs.Replies.{reply_text, memory_text}
 use Rattle.line_protocol.specs.Request.{request_of_line}

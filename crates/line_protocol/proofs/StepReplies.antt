@@ -4,12 +4,12 @@ use Rattle.serde_json.specs.Data.{Data}
 use Rattle.enc_names.specs.Labels.{LabelTable}
 use Rattle.index_loader.specs.Files.{Files}
 use Rattle.desk.specs.declared.fault.Fault.TheVariants.{OutOfMemory}
-use Rattle.desk.specs.declared.reply.Reply.{Reply}
-use Rattle.desk.specs.declared.reply.Reply.TheVariants.{Edited, Change, Changes, Closed, Refused}
+use Rattle.desk.specs.declared.ops.Reply.{Reply}
+use Rattle.desk.specs.declared.ops.Reply.TheVariants.{Edited, Change, Changes, Closed, Refused}
 use Rattle.line_protocol.specs.declared.request.refusal.Refusal.{Refusal}
 use Rattle.line_protocol.specs.declared.request.refusal.Refusal.TheVariants as refusal
 use Rattle.desk.specs.Commands.{Asked, asked}
-use Rattle.desk.specs.declared.command.Command.{Command}
+use Rattle.desk.specs.declared.ops.Command.{Command}
 use Rattle.line_protocol.specs.Request.{◌>>=◌, json_of_line, request_of, IsJsonOfLine, IsRequest}
 use Rattle.line_protocol.specs.Inline.{is_short}
 use Rattle.line_protocol.specs.Replies.{reply_text, refusal_text, memory_text}

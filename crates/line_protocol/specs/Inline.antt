@@ -1,8 +1,8 @@
 -- Which replies are stored inline, without memory, and in how many bytes.
 use Rattle.std.specs.Prelude.{◌≡◌, ◌≤◌, ℕ, length, List, Bool, true, false}
 use Rattle.serde_json.specs.Data.{Data}
-use Rattle.desk.specs.declared.reply.Reply.{Reply}
-use Rattle.desk.specs.declared.reply.Reply.TheVariants.{Text, Bytes, Errors, Lines}
+use Rattle.desk.specs.declared.ops.Reply.{Reply}
+use Rattle.desk.specs.declared.ops.Reply.TheVariants.{Text, Bytes, Errors, Lines}
 use Rattle.line_protocol.specs.Replies.{line_of}
 
 -- the most bytes of a line that is stored inline

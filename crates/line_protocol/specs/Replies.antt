@@ -22,10 +22,10 @@ use Rattle.desk.specs.declared.ops.stat.StatReply.{StatReply}
 use Rattle.desk.specs.declared.ops.text.TextReply.{TextReply}
 use Rattle.desk.specs.declared.reply.BytesReply.{BytesReply}
 use Rattle.desk.specs.declared.reply.EditedReply.{EditedReply}
-use Rattle.desk.specs.declared.reply.Reply.{Reply}
+use Rattle.desk.specs.declared.ops.Reply.{Reply}
 use Rattle.desk.specs.declared.line.Line.{Line}
-use Rattle.desk.specs.declared.reply.Reply.TheVariants.{Edited, Change, Changes, Closed, Text, Bytes, Errors, Lines, Position, Offset, Stat, Refused}
-use Rattle.desk.specs.declared.reply.Reply.TheVariants as replies
+use Rattle.desk.specs.declared.ops.Reply.TheVariants.{Edited, Change, Changes, Closed, Text, Bytes, Errors, Lines, Position, Offset, Stat, Refused}
+use Rattle.desk.specs.declared.ops.Reply.TheVariants as replies
 use Rattle.line_protocol.specs.declared.request.field.Field.{Field}
 use Rattle.line_protocol.specs.declared.request.field.Field.TheVariants as field
 use Rattle.line_protocol.specs.declared.request.refusal.Refusal.{Refusal}

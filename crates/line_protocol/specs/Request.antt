@@ -13,7 +13,7 @@ use Rattle.enc_names.specs.declared.bom.Bom.{Bom}
 use Rattle.enc_names.specs.declared.bom.Bom.TheVariants.{Sniff, Keep}
 use Rattle.desk.specs.Commands.{Asked, TextChange, asked_of, Opens, Closes, Splices, ChangesText, MakesChanges, Reads, ReadsBytes, Encodes, ListsErrors, ListsLines, FindsPosition, FindsOffset, FindsPlace, Measures, asked}
 use Rattle.desk.specs.Documents.{max_number}
-use Rattle.desk.specs.declared.command.Command.{Command}
+use Rattle.desk.specs.declared.ops.Command.{Command}
 use Rattle.position_map.specs.declared.position.Position.{Position}
 use Rattle.position_map.specs.declared.position.Range.{Range}
 use Rattle.position_map.specs.declared.unit.Unit.{Unit as TextUnit}

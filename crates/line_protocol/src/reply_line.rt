@@ -63,20 +63,9 @@ impl ReplyLine {
         ensures short { is_short reply.now ≡ true → IsOk result }
         ensures inline { is_short reply.now ≡ true → IfOk result (λ line. length line ≤ inline_limit) }
     {
-        match reply {
-            Reply::Edited(reply) => Ok(ReplyLine::inline(short::edited(id, reply))),
-            Reply::Change(reply) => Ok(ReplyLine::inline(short::change(id, reply))),
-            Reply::Changes(reply) => Ok(ReplyLine::inline(short::changes(id, reply))),
-            Reply::Closed { rev } => Ok(ReplyLine::inline(short::closed(id, *rev))),
-            Reply::Text(reply) => Ok(ReplyLine::allocated(long::text(alloc, id, reply)?)),
-            Reply::Bytes(reply) => Ok(ReplyLine::allocated(long::bytes(alloc, id, reply)?)),
-            Reply::Errors(reply) => Ok(ReplyLine::allocated(long::errors(alloc, id, reply)?)),
-            Reply::Lines(reply) => Ok(ReplyLine::allocated(long::lines(alloc, id, reply)?)),
-            Reply::Position(reply) => Ok(ReplyLine::inline(short::position(id, reply))),
-            Reply::Offset(reply) => Ok(ReplyLine::inline(short::offset(id, reply))),
-            Reply::Place(reply) => Ok(ReplyLine::inline(short::place(id, reply))),
-            Reply::Stat(reply) => Ok(ReplyLine::inline(short::stat(id, reply))),
-            Reply::Refused { fault } => Ok(ReplyLine::inline(Reason::of_fault(id, *fault).line())),
+        match short::line_of(id, reply) {
+            Some(text) => Ok(ReplyLine::inline(text)),
+            None => Ok(ReplyLine::allocated(long::line_of(alloc, id, reply)?)),
         }
     }
 

@@ -10,7 +10,7 @@ use crate::change_cause::ChangeCause;
 use crate::desk::Desk;
 use crate::edit::Edit;
 use crate::fault::Fault;
-use crate::reply::Reply;
+use crate::ops::Reply;
 use decoder_core::meter;
 use enc_names::Encoding;
 use piece_rope::Doc;

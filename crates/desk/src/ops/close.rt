@@ -1,9 +1,9 @@
 //! The op `close`.
 ghost use Rattle.std.specs.Prelude.{◌≡◌};
-ghost use Rattle.desk.specs.declared.reply.Reply.TheVariants.{Closed};
+ghost use Rattle.desk.specs.declared.ops.Reply.TheVariants.{Closed};
 
 use crate::open_document::OpenDocument;
-use crate::reply::Reply;
+use crate::ops::Reply;
 
 /// Closes a document; its name is then free.
 #[derive(Clone, Copy)]

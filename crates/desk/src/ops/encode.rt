@@ -10,8 +10,9 @@ ghost use Rattle.encoders.specs.declared.fault.EncodeFault.{EncodeFault};
 
 use crate::fault::Fault;
 use crate::open_document::OpenDocument;
+use crate::ops::Reply;
 use crate::question::Question;
-use crate::reply::{BytesReply, Reply, ReplyList};
+use crate::reply::{BytesReply, ReplyList};
 use enc_names::{Encoding, Labels};
 use encoders::{EncodeFault, EncodeMode, encode};
 use std::alloc::Global;

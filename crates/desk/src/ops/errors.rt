@@ -5,8 +5,9 @@ ghost use Rattle.desk.specs.Errors.{errors_reply};
 
 use crate::fault::Fault;
 use crate::open_document::OpenDocument;
+use crate::ops::Reply;
 use crate::question::Question;
-use crate::reply::{Reply, ReplyList};
+use crate::reply::ReplyList;
 use enc_names::{Labels, Place};
 use std::alloc::Global;
 

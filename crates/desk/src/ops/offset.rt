@@ -5,8 +5,8 @@ ghost use Rattle.desk.specs.Offset.{offset_reply};
 
 use crate::fault::Fault;
 use crate::open_document::OpenDocument;
+use crate::ops::Reply;
 use crate::question::Question;
-use crate::reply::Reply;
 use enc_names::Labels;
 use position_map::{Position, Unit, to_offset};
 use std::alloc::Global;

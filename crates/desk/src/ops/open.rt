@@ -7,7 +7,7 @@ ghost use Rattle.desk.specs.Documents.{reply_of};
 use crate::base64_text::bytes_of;
 use crate::desk::Desk;
 use crate::fault::Fault;
-use crate::reply::Reply;
+use crate::ops::Reply;
 use enc_names::{Bom, Setting};
 
 /// Opens a document at revision 0.

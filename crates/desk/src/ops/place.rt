@@ -6,9 +6,9 @@ ghost use Rattle.desk.specs.Place.{offset_named, place_reply};
 
 use crate::fault::Fault;
 use crate::open_document::OpenDocument;
+use crate::ops::Reply;
 use crate::place_unit::PlaceUnit;
 use crate::question::Question;
-use crate::reply::Reply;
 use enc_names::Labels;
 use piece_rope::{Doc, Visits};
 use position_map::{PosFault, Unit, byte_to_scalar, convert, scalar_to_place};

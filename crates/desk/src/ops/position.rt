@@ -5,8 +5,8 @@ ghost use Rattle.desk.specs.Position.{position_reply};
 
 use crate::fault::Fault;
 use crate::open_document::OpenDocument;
+use crate::ops::Reply;
 use crate::question::Question;
-use crate::reply::Reply;
 use enc_names::Labels;
 use position_map::{Unit, to_position};
 use std::alloc::Global;

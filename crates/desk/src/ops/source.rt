@@ -5,8 +5,9 @@ ghost use Rattle.desk.specs.Source.{source_reply};
 
 use crate::fault::Fault;
 use crate::open_document::OpenDocument;
+use crate::ops::Reply;
 use crate::question::Question;
-use crate::reply::{BytesReply, Reply, ReplyList};
+use crate::reply::{BytesReply, ReplyList};
 use enc_names::Labels;
 use std::alloc::Global;
 

@@ -10,7 +10,7 @@ use crate::desk::Desk;
 use crate::edit::Edit;
 use crate::fault::Fault;
 use crate::open_document::edited_reply;
-use crate::reply::Reply;
+use crate::ops::Reply;
 use decoder_core::meter;
 use piece_rope::Doc;
 use std::alloc::Global;

@@ -5,8 +5,8 @@ ghost use Rattle.desk.specs.Stat.{stat_reply};
 
 use crate::fault::Fault;
 use crate::open_document::OpenDocument;
+use crate::ops::Reply;
 use crate::question::Question;
-use crate::reply::Reply;
 use enc_names::{Encoding, Labels};
 use position_map::line_count;
 use std::alloc::Global;

@@ -8,8 +8,9 @@ ghost use Rattle.desk.specs.declared.text_mode.TextMode.TheVariants.{Fatal};
 
 use crate::fault::Fault;
 use crate::open_document::OpenDocument;
+use crate::ops::Reply;
 use crate::question::Question;
-use crate::reply::{Reply, ReplyText};
+use crate::reply::ReplyText;
 use crate::text_mode::TextMode;
 use enc_names::Labels;
 use std::alloc::Global;

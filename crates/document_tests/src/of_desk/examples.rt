@@ -11,7 +11,7 @@ ghost use Rattle.desk.specs.Position.{position_reply};
 ghost use Rattle.document_tests.specs.Session.{truncated, pair_and_cr_lf};
 ghost use Rattle.desk.specs.declared.fault.Fault.TheVariants.{OutOfRange, SplitsCharacter};
 ghost use Rattle.desk.specs.declared.place_unit.PlaceUnit.TheVariants.{Byte, Text};
-ghost use Rattle.desk.specs.declared.reply.Reply.TheVariants.{Stat, Lines, Position, Offset, Place};
+ghost use Rattle.desk.specs.declared.ops.Reply.TheVariants.{Stat, Lines, Position, Offset, Place};
 
 /// `a`, U+1F600, CR, LF, `b` in UTF-8.
 fn pair_and_cr_lf()

@@ -1,26 +1,41 @@
 //! The replies that hold a text or a list. They are written straight from what they hold.
-ghost use Rattle.std.specs.Prelude.{◌≡◌, IfOk, OnOk};
+ghost use Rattle.std.specs.Prelude.{◌≡◌, false, IfOk, OnOk};
 ghost use Rattle.serde_json.specs.Data.{array};
 ghost use Rattle.serde_json.specs.Events.{SendsValue};
 ghost use Rattle.line_protocol.specs.Writing.{IsLineOf};
-ghost use Rattle.line_protocol.specs.Replies.{line_of, text_data, base64_data, bytes_data, errors_data, lines_data, lines_items, pair_data, places_data};
+ghost use Rattle.line_protocol.specs.Inline.{is_short};
+ghost use Rattle.line_protocol.specs.Replies.{line_of, reply_text, text_data, base64_data, bytes_data, errors_data, lines_data, lines_items, pair_data, places_data};
 
 use base64::engine::general_purpose::STANDARD;
 use desk::ops::{ErrorsReply, LinesReply, TextReply};
-use desk::{BytesReply, Line};
+use desk::{BytesReply, Line, Reply};
 use enc_names::Place;
 use serde::{Described, Serialize, Serializer};
 use std::alloc::{AllocError, Global};
 
+/// The line of a reply that holds a text or a list.
+pub(super) fn line_of(alloc: Global, id: u64, reply: &Reply) -> Result<Vec<u8>, AllocError>
+    requires { is_short reply.now ≡ false }
+    ensures { IfOk result (λ line. line.items ≡ reply_text id reply.now) }
+{
+    match reply {
+        Reply::Text(reply) => text(alloc, id, reply),
+        Reply::Bytes(reply) => bytes(alloc, id, reply),
+        Reply::Errors(reply) => errors(alloc, id, reply),
+        Reply::Lines(reply) => lines(alloc, id, reply),
+        _ => unreachable!(),
+    }
+}
+
 /// The line with the text that was asked for.
-pub(super) fn text(alloc: Global, id: u64, reply: &TextReply) -> Result<Vec<u8>, AllocError>
+fn text(alloc: Global, id: u64, reply: &TextReply) -> Result<Vec<u8>, AllocError>
     ensures { IfOk result (λ line. line.items ≡ line_of (text_data id reply.now)) }
 {
     line(alloc, &WithId { id, reply })
 }
 
 /// The line with the bytes that were asked for, in base64.
-pub(super) fn bytes(alloc: Global, id: u64, reply: &BytesReply) -> Result<Vec<u8>, AllocError>
+fn bytes(alloc: Global, id: u64, reply: &BytesReply) -> Result<Vec<u8>, AllocError>
     ensures { IfOk result (λ line. line.items ≡ line_of (bytes_data id reply.now)) }
 {
     let text = STANDARD.encode(alloc, reply.bytes.as_slice())?;
@@ -29,14 +44,14 @@ pub(super) fn bytes(alloc: Global, id: u64, reply: &BytesReply) -> Result<Vec<u8
 }
 
 /// The line with a page of error places.
-pub(super) fn errors(alloc: Global, id: u64, reply: &ErrorsReply) -> Result<Vec<u8>, AllocError>
+fn errors(alloc: Global, id: u64, reply: &ErrorsReply) -> Result<Vec<u8>, AllocError>
     ensures { IfOk result (λ line. line.items ≡ line_of (errors_data id reply.now)) }
 {
     line(alloc, &WithId { id, reply })
 }
 
 /// The line with a page of lines.
-pub(super) fn lines(alloc: Global, id: u64, reply: &LinesReply) -> Result<Vec<u8>, AllocError>
+fn lines(alloc: Global, id: u64, reply: &LinesReply) -> Result<Vec<u8>, AllocError>
     ensures { IfOk result (λ line. line.items ≡ line_of (lines_data id reply.now)) }
 {
     line(alloc, &WithId { id, reply })

@@ -1,18 +1,38 @@
-//! The replies that take no memory, but for refusals.
-ghost use Rattle.std.specs.Prelude.{◌≡◌, ◌≤◌, length, IsTrue};
+//! The replies that take no memory.
+ghost use Rattle.std.specs.Prelude.{◌≡◌, ◌≤◌, false, length, IsTrue, IfSome, IfNone};
 ghost use Rattle.enc_names.specs.Names.{name_of};
 ghost use Rattle.line_protocol.specs.Writing.{all_plain, encoding_room};
-ghost use Rattle.line_protocol.specs.Inline.{IsShortLine};
-ghost use Rattle.line_protocol.specs.Replies.{edited_data, change_data, changes_data, closed_data, position_data, offset_data, found_place_data, stat_data};
+ghost use Rattle.line_protocol.specs.Inline.{IsShortLine, is_short};
+ghost use Rattle.line_protocol.specs.Replies.{edited_data, change_data, changes_data, closed_data, position_data, offset_data, found_place_data, stat_data, reply_data};
 
 use crate::reply_line::members::{Content, line};
+use crate::reply_line::reasons::Reason;
 use crate::reply_line::short_text::ShortText;
-use desk::EditedReply;
 use desk::ops::{ChangeReply, ChangesReply, OffsetReply, PlaceReply, PositionReply, StatReply};
+use desk::{EditedReply, Reply};
 use enc_names::Encoding;
 
+/// The line of a reply that takes no memory; none for a reply that does.
+pub(super) fn line_of(id: u64, reply: &Reply) -> Option<ShortText>
+    ensures some { IfSome result (λ text. IsShortLine (reply_data id reply.now) text) }
+    ensures none { IfNone result (is_short reply.now ≡ false) }
+{
+    match reply {
+        Reply::Edited(reply) => Some(edited(id, reply)),
+        Reply::Change(reply) => Some(change(id, reply)),
+        Reply::Changes(reply) => Some(changes(id, reply)),
+        Reply::Closed { rev } => Some(closed(id, *rev)),
+        Reply::Position(reply) => Some(position(id, reply)),
+        Reply::Offset(reply) => Some(offset(id, reply)),
+        Reply::Place(reply) => Some(place(id, reply)),
+        Reply::Stat(reply) => Some(stat(id, reply)),
+        Reply::Refused { fault } => Some(Reason::of_fault(id, *fault).line()),
+        Reply::Text(_) | Reply::Bytes(_) | Reply::Errors(_) | Reply::Lines(_) => None,
+    }
+}
+
 /// An open or a splice was accepted.
-pub(super) fn edited(id: u64, reply: &EditedReply) -> ShortText
+fn edited(id: u64, reply: &EditedReply) -> ShortText
     ensures { IsShortLine (edited_data id reply.now) result }
 {
     line(&[
@@ -24,7 +44,7 @@ pub(super) fn edited(id: u64, reply: &EditedReply) -> ShortText
 }
 
 /// A change was accepted.
-pub(super) fn change(id: u64, reply: &ChangeReply) -> ShortText
+fn change(id: u64, reply: &ChangeReply) -> ShortText
     ensures { IsShortLine (change_data id reply.now) result }
 {
     line(&[
@@ -39,7 +59,7 @@ pub(super) fn change(id: u64, reply: &ChangeReply) -> ShortText
 }
 
 /// A list of changes was accepted.
-pub(super) fn changes(id: u64, reply: &ChangesReply) -> ShortText
+fn changes(id: u64, reply: &ChangesReply) -> ShortText
     ensures { IsShortLine (changes_data id reply.now) result }
 {
     line(&[
@@ -52,14 +72,14 @@ pub(super) fn changes(id: u64, reply: &ChangesReply) -> ShortText
 }
 
 /// A document was closed.
-pub(super) fn closed(id: u64, rev: u64) -> ShortText
+fn closed(id: u64, rev: u64) -> ShortText
     ensures { IsShortLine (closed_data id rev) result }
 {
     line(&[("id", Content::Number(id)), ("rev", Content::Number(rev))])
 }
 
 /// The position of an offset.
-pub(super) fn position(id: u64, reply: &PositionReply) -> ShortText
+fn position(id: u64, reply: &PositionReply) -> ShortText
     ensures { IsShortLine (position_data id reply.now) result }
 {
     line(&[
@@ -71,7 +91,7 @@ pub(super) fn position(id: u64, reply: &PositionReply) -> ShortText
 }
 
 /// The offset of a position.
-pub(super) fn offset(id: u64, reply: &OffsetReply) -> ShortText
+fn offset(id: u64, reply: &OffsetReply) -> ShortText
     ensures { IsShortLine (offset_data id reply.now) result }
 {
     line(&[
@@ -82,7 +102,7 @@ pub(super) fn offset(id: u64, reply: &OffsetReply) -> ShortText
 }
 
 /// An offset in each unit, and the place of the code point there.
-pub(super) fn place(id: u64, reply: &PlaceReply) -> ShortText
+fn place(id: u64, reply: &PlaceReply) -> ShortText
     ensures { IsShortLine (found_place_data id reply.now) result }
 {
     let place = match reply.place {
@@ -100,7 +120,7 @@ pub(super) fn place(id: u64, reply: &PlaceReply) -> ShortText
 }
 
 /// How long a document and its text are.
-pub(super) fn stat(id: u64, reply: &StatReply) -> ShortText
+fn stat(id: u64, reply: &StatReply) -> ShortText
     ensures { IsShortLine (stat_data id reply.now) result }
 {
     line(&[
