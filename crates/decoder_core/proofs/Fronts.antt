@@ -107,8 +107,8 @@ module _ {S : Type 0} (table : Table S) (f : Falls table) (s : S) where
       }
 
   -- an ASCII byte, between pairs and between bytes
-  ascii-pair : (bytes : List ℕ) (at c : ℕ) → TakesAscii table s All → at < length bytes → c ≡ get_or bytes at 0 → c < 0x80 → IsFront table s Pairs bytes at c 1
-  ascii-pair bytes at c takes within c_is low = byte-front Pairs bytes at c c (takes c low) within c_is (rw (lt-ltb c 0x80 low) refl)
+  ascii-pair : (bytes : List ℕ) (at c : ℕ) → TakesByte table s c c → at < length bytes → c ≡ get_or bytes at 0 → c < 0x80 → IsFront table s Pairs bytes at c 1
+  ascii-pair bytes at c turn within c_is low = byte-front Pairs bytes at c c turn within c_is (rw (lt-ltb c 0x80 low) refl)
 
   ascii-byte : (bytes : List ℕ) (at c : ℕ) → TakesAscii table s All → at < length bytes → c ≡ get_or bytes at 0 → c < 0x80 → IsFront table s Bytes bytes at c 1
   ascii-byte bytes at c takes within c_is low = byte-front Bytes bytes at c c (takes c low) within c_is refl
@@ -224,11 +224,11 @@ module _ {S : Type 0} (table : Table S) (f : Falls table) (s : S) where
             ∙ take_more_put_chunk written before (encode_utf8 b) end length_is (omega (arith, end_is, few, room, large));
       }
 
-  pub ascii-pair-put : (bytes before after : List ℕ) (at written b end : ℕ) → TakesAscii table s All → at < length bytes → b ≡ get_or bytes at 0 → b < 0x80
+  pub ascii-pair-put : (bytes before after : List ℕ) (at written b end : ℕ) → TakesByte table s b b → at < length bytes → b ≡ get_or bytes at 0 → b < 0x80
       → written + 4 ≤ 1024 → length before ≡ 1024 → end ≡ written + len_utf8 b → after ≡ put_chunk written before (encode_utf8 b)
       → IsFrontPut table s Pairs 1 bytes at before after written end
-  ascii-pair-put bytes before after at written b end takes within b_is low =
-      ascii-put Pairs bytes before after at written b end (ascii-pair bytes at b takes within b_is low) low
+  ascii-pair-put bytes before after at written b end turn within b_is low =
+      ascii-put Pairs bytes before after at written b end (ascii-pair bytes at b turn within b_is low) low
 
   pub ascii-byte-put : (bytes before after : List ℕ) (at written b end : ℕ) → TakesAscii table s All → at < length bytes → b ≡ get_or bytes at 0 → b < 0x80
       → written + 4 ≤ 1024 → length before ≡ 1024 → end ≡ written + len_utf8 b → after ≡ put_chunk written before (encode_utf8 b)

@@ -1,5 +1,5 @@
 -- Bytes and pairs of bytes that are one code point each.
-use Rattle.std.specs.Prelude.{◌≡◌, ℕ, ◌+◌, ◌<◌, ◌≤◌, List, [], ◌∷◌, ◌++◌, Some, drop, take, length, pos}
+use Rattle.std.specs.Prelude.{◌≡◌, ℕ, ◌+◌, ◌<◌, ◌≤◌, List, [], ◌∷◌, ◌++◌, get_or, IfSome, Option, None, Some, drop, take, length, pos}
 use Rattle.std.specs.Char.{len_utf8, IsScalar, encode_utf8}
 use Rattle.decoder_core.specs.declared.bulk.Stride.{Stride}
 use Rattle.decoder_core.specs.declared.item.Item.TheVariants.{One}
@@ -11,6 +11,10 @@ use Rattle.decoder_core.specs.Shown.{shown_from}
 -- in this state the byte gives the code point and leads back to the state
 abbrev pub TakesByte : {S : Type 0} → Table S → S → ℕ → ℕ → Type 0
 TakesByte table s b c = table s (Some b) ≡ gives s (One c) []
+
+-- a list has code points of the bytes from 80 on, each of which its byte gives in this state and then leads back to the state
+abbrev pub AreKnownBytes : {S : Type 0} → Table S → S → List (Option ℕ) → Type 0
+AreKnownBytes table s forms = (place : ℕ) → place < 128 → IfSome (get_or forms place None) (λ c. TakesByte table s (place + 0x80) c)
 
 -- in this state the first byte is held, and the second gives the code point and leads back to the state
 abbrev pub TakesPair : {S : Type 0} → Table S → S → ℕ → ℕ → ℕ → Type 0

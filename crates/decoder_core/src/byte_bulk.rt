@@ -4,10 +4,11 @@ ghost use Rattle.decoder_core.specs.declared.ascii_runs.AsciiRuns.TheVariants.{A
 ghost use Rattle.decoder_core.specs.declared.bulk.Stride.TheVariants.{Bytes};
 ghost use Rattle.decoder_core.specs.AsciiRuns.{TakesAscii};
 ghost use Rattle.decoder_core.specs.Bulk.{IsBulk};
-ghost use Rattle.decoder_core.specs.Fronts.{IsFrontPut};
+ghost use Rattle.decoder_core.specs.Fronts.{AreKnownBytes, IsFrontPut, TakesByte};
 
 use crate::bulk::{Bulk, Stride};
 use crate::handler::Handler;
+use index_loader::Utf8Form;
 use lane_utf::put_scalar;
 
 /// How many bytes are taken at most: each is at most four bytes of UTF-8, so that the block has
@@ -26,11 +27,12 @@ pub(crate) fn take_bytes<H: Handler>(
     requires { TakesAscii (H.table handler.now) state All }
     ensures { IsBulk (H.table handler.now) state bytes.now result text.new }
 {
+    let forms = handler.known_bytes(state);
     let end = bytes.len().min(MOST);
     let mut taken = 0;
     let mut written = 0;
     'bytes: while taken < end {
-        let Some(behind) = put_byte(handler, state, bytes, taken, text, written) else {
+        let Some(behind) = put_byte(handler, state, forms, bytes, taken, text, written) else {
             break;
         };
         written = behind;
@@ -49,12 +51,14 @@ pub(crate) fn take_bytes<H: Handler>(
 fn put_byte<H: Handler>(
     handler: &H,
     state: H::State,
+    forms: Option<&[Utf8Form; 128]>,
     bytes: &[u8],
     at: usize,
     text: &mut [u8; 1024],
     written: usize,
 ) -> Option<usize>
     requires ascii { TakesAscii (H.table handler.now) state All }
+    requires known { IfSome forms (λ known. AreKnownBytes (H.table handler.now) state known.now) }
     requires within { at < length bytes.now }
     requires room { written + 4 ≤ 1024 }
     ensures some { IfSome result (λ end. IsFrontPut (H.table handler.now) state Bytes 1 bytes.now at text.old text.new written end) }
@@ -64,6 +68,24 @@ fn put_byte<H: Handler>(
     if byte < 0x80 {
         return Some(put_scalar(text, written, u32::from(byte)));
     }
-    let form = handler.known_byte(state, byte);
+    let form = known_form(handler, state, forms, byte);
     form.put(text, written)
+}
+
+/// The form of a byte, in the list where it is there.
+#[inline(always)]
+fn known_form<H: Handler>(
+    handler: &H,
+    state: H::State,
+    forms: Option<&[Utf8Form; 128]>,
+    byte: u8,
+) -> Utf8Form
+    requires known { IfSome forms (λ known. AreKnownBytes (H.table handler.now) state known.now) }
+    requires high { 0x80 ≤ byte }
+    ensures { IfSome result (λ code_point. TakesByte (H.table handler.now) state byte code_point) }
+{
+    match forms {
+        Some(forms) => forms[usize::from(byte - 0x80)],
+        None => handler.known_byte(state, byte),
+    }
 }

@@ -2,7 +2,7 @@
 ghost use Rattle.std.specs.Prelude.{◌≡◌, ℕ, Bool, true, Option, IfSome};
 ghost use Rattle.decoder_core.specs.Bulk.{IsBulk};
 ghost use Rattle.decoder_core.specs.AsciiRuns.{TakesAscii};
-ghost use Rattle.decoder_core.specs.Fronts.{TakesByte, TakesPair};
+ghost use Rattle.decoder_core.specs.Fronts.{AreKnownBytes, TakesByte, TakesPair};
 ghost use Rattle.decoder_core.specs.Queue.{Turn, Falls};
 ghost use Rattle.decoder_core.specs.Counts.{Counts};
 ghost use Rattle.decoder_core.specs.Steps.{bytes_of};
@@ -71,6 +71,16 @@ pub trait Handler {
     #[inline(always)]
     fn characters(&self) -> Characters {
         Characters::Ascii
+    }
+
+    /// The UTF-8 forms of the code points of the bytes from 0x80 on, as `known_byte` has them; where
+    /// they are there, the decoder looks for them here.
+    #[inline(always)]
+    fn known_bytes(&self, state: Self::State) -> Option<&[Utf8Form; 128]>
+        ensures { IfSome result (λ forms. AreKnownBytes (table self.now) state forms.now) }
+    {
+        let _ = state;
+        None
     }
 
     /// The UTF-8 form of a byte's code point, where it has exactly one in this state and leaves it as

@@ -1,11 +1,12 @@
 //! Runs of pairs of bytes in bulk, with ASCII between them or without.
-ghost use Rattle.std.specs.Prelude.{◌≡◌, ◌+◌, ◌<◌, ◌≤◌, IfNone, IfSome, length};
+ghost use Rattle.std.specs.Prelude.{◌≡◌, ◌+◌, ◌<◌, ◌≤◌, IfNone, IfSome, IsTrue, length};
 ghost use Rattle.decoder_core.specs.declared.ascii_runs.AsciiRuns.TheVariants.{All};
 ghost use Rattle.decoder_core.specs.declared.bulk.Stride.TheVariants.{Pairs};
-ghost use Rattle.decoder_core.specs.AsciiRuns.{TakesAscii};
+ghost use Rattle.decoder_core.specs.AsciiRuns.{IsOf, TakesAscii};
 ghost use Rattle.decoder_core.specs.Bulk.{IsBulk};
 ghost use Rattle.decoder_core.specs.Fronts.{IsFrontPut};
 
+use crate::ascii_runs::AsciiRuns;
 use crate::bulk::{Bulk, Stride};
 use crate::handler::Handler;
 use crate::run_bulk::begins_ascii;
@@ -27,34 +28,7 @@ pub(crate) fn take_pairs<H: Handler>(
     requires { TakesAscii (H.table handler.now) state All }
     ensures { IsBulk (H.table handler.now) state bytes.now result text.new }
 {
-    let most = bytes.len().min(MOST);
-    let mut taken = 0;
-    let mut written = 0;
-    let mut behind_pair = true;
-    'pairs: while taken + 1 < most {
-        let lead = bytes[taken];
-        if lead < 0x80 {
-            // A long run of ASCII is taken by itself. It is looked for where it would begin.
-            if behind_pair && begins_ascii(&bytes[taken..]) {
-                break;
-            }
-            behind_pair = false;
-            written = put_scalar(text, written, u32::from(lead));
-            taken += 1;
-            continue;
-        }
-        let Some(end) = put_pair(handler, state, bytes, taken, text, written) else {
-            break;
-        };
-        written = end;
-        taken += 2;
-        behind_pair = true;
-    }
-    Bulk {
-        taken,
-        written,
-        stride: Stride::Pairs,
-    }
+    take_with(handler, state, AsciiRuns::All, bytes, text)
 }
 
 /// Takes the pairs at the front, as far as the block takes them, in a state in which no byte is a
@@ -69,10 +43,39 @@ pub(crate) fn take_pairs_alone<H: Handler>(
 ) -> Bulk
     ensures { IsBulk (H.table handler.now) state bytes.now result text.new }
 {
+    take_with(handler, state, AsciiRuns::None, bytes, text)
+}
+
+/// Takes the pairs at the front and the ASCII bytes between them, or only the pairs where no ASCII
+/// byte is known to be a character by itself, as far as the block takes them.
+#[inline(always)]
+fn take_with<H: Handler>(
+    handler: &H,
+    state: H::State,
+    runs: AsciiRuns,
+    bytes: &[u8],
+    text: &mut [u8; 1024],
+) -> Bulk
+    requires { TakesAscii (H.table handler.now) state runs }
+    ensures { IsBulk (H.table handler.now) state bytes.now result text.new }
+{
     let most = bytes.len().min(MOST);
+    let last = most.saturating_sub(1);
     let mut taken = 0;
     let mut written = 0;
-    'pairs: while taken + 1 < most {
+    // From here on a long run of ASCII is sought, which is taken by itself.
+    let mut sought = 0;
+    'pairs: while taken < last {
+        let lead = bytes[taken];
+        if is_own(runs, lead) {
+            let Some(next) = sought_next(bytes, taken, sought) else {
+                break;
+            };
+            sought = next;
+            written = put_scalar(text, written, u32::from(lead));
+            taken += 1;
+            continue;
+        }
         let Some(end) = put_pair(handler, state, bytes, taken, text, written) else {
             break;
         };
@@ -84,6 +87,33 @@ pub(crate) fn take_pairs_alone<H: Handler>(
         written,
         stride: Stride::Pairs,
     }
+}
+
+/// Whether the byte is taken as the ASCII code point that it is.
+#[inline(always)]
+fn is_own(runs: AsciiRuns, byte: u8) -> bool
+    ensures of { IsTrue result → IsOf runs byte }
+    ensures low { IsTrue result → byte < 0x80 }
+{
+    match runs {
+        AsciiRuns::All => byte < 0x80,
+        _ => false,
+    }
+}
+
+/// From where on a long run of ASCII is sought next, or `None` where one is sought and begins: none
+/// begins within 16 bytes of where none did.
+#[inline(always)]
+fn sought_next(bytes: &[u8], at: usize, sought: usize) -> Option<usize>
+    requires { at < length bytes.now }
+{
+    if at < sought {
+        return Some(sought);
+    }
+    if begins_ascii(&bytes[at..]) {
+        return None;
+    }
+    Some(at.saturating_add(16))
 }
 
 /// Writes the code point of the pair at an index behind what was written, and returns where it

@@ -47,6 +47,7 @@ fn copy_run(runs: AsciiRuns, bytes: &[u8], text: &mut [u8; 1024]) -> Bulk
 fn is_worth_it(runs: AsciiRuns, bytes: &[u8]) -> bool {
     match runs {
         AsciiRuns::WithoutEscapes => match bytes.first_chunk::<4>() {
+            Some([0x1B, ..]) => false,
             Some(front) => u32::from_le_bytes(*front) & 0x8080_8080 == 0,
             None => false,
         },

@@ -13,14 +13,14 @@ use crate::forms::{finish, found, give, scalar};
 use crate::handler::{Handled, Handler};
 use crate::item::Item;
 use crate::one_byte::OneByteState;
-use index_loader::{Index, Utf8Form};
+use index_loader::{FormedIndex, Index, Utf8Form};
 use std::marker::Model;
 
 /// The decoder of the 28 single-byte encodings (Encoding Standard, "Legacy single-byte encodings",
 /// "single-byte decoder"), which borrows the index of one. Contracts see the index.
 #[derive(Drop)]
 pub struct SingleByteDecoder<'i> {
-    index: &'i Index,
+    index: FormedIndex<'i>,
 }
 
 impl<'i> Model for SingleByteDecoder<'i> {
@@ -28,7 +28,7 @@ impl<'i> Model for SingleByteDecoder<'i> {
 
     ghost Value = { Loaded };
 
-    ghost view = { λ d. d.index.now };
+    ghost view = { λ d. d.index };
 }
 
 impl<'i> SingleByteDecoder<'i> {
@@ -36,7 +36,9 @@ impl<'i> SingleByteDecoder<'i> {
     pub fn new(index: &'i Index) -> SingleByteDecoder<'i>
         ensures { result ≡ index.now }
     {
-        SingleByteDecoder { index }
+        SingleByteDecoder {
+            index: FormedIndex::new(index),
+        }
     }
 
     /// The item of a byte.
@@ -72,14 +74,10 @@ impl<'i> Handler for SingleByteDecoder<'i> {
         Characters::Bytes
     }
 
-    // In the loop over the bytes.
     #[inline(always)]
-    fn known_byte(&self, state: OneByteState, byte: u8) -> Utf8Form {
+    fn known_bytes(&self, state: OneByteState) -> Option<&[Utf8Form; 128]> {
         let _ = state;
-        match byte.checked_sub(0x80) {
-            Some(pointer) => self.index.form(u32::from(pointer)),
-            None => Utf8Form::none(),
-        }
+        self.index.front()
     }
 
     // In the loop over the bytes.

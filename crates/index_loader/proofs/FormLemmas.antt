@@ -1,9 +1,9 @@
 -- UTF-8 forms, each as one number.
-use Rattle.std.proofs.Common.{◌≡◌, refl, sym, ap, ◌∙◌, ℕ, ◌+◌, ◌*◌, ◌/◌, ◌%◌, ◌<◌, ◌≤◌, List, [], ◌∷◌, ◌++◌, length, take, slice_set, Option, Some, None, IfSome, arith, append_assoc, inl, inr, nat_le}
+use Rattle.std.proofs.Common.{◌≡◌, refl, sym, ap, ◌∙◌, ℕ, ◌+◌, ◌*◌, ◌/◌, ◌%◌, ◌<◌, ◌≤◌, List, [], ◌∷◌, ◌++◌, length, take, drop, slice_set, Option, Some, None, IfSome, arith, append_assoc, inl, inr, nat_le}
 use Rattle.std.specs.Char.{IsScalar, len_utf8}
 use Rattle.std.proofs.Math.Utf8.{encode, scalar_cases}
 use Rattle.std.proofs.lemmas.Bool.{lt-ltb, le-ltb, lt-leb, le-leb, cases_lt}
-use Rattle.std.proofs.lemmas.List.{take-set-le, take_more_set, length-set}
+use Rattle.std.proofs.lemmas.List.{drop-set-lt, take-set-le, take_more_set, length-set}
 use Rattle.std.proofs.lemmas.Str.{encode_ascii, len_utf8_ascii}
 use Rattle.index_loader.specs.Form.{form_number, number_of, code_point_in, is_wide, IsForm, AreFronts, IsFormPut}
 
@@ -156,6 +156,17 @@ fronts xs at n a b c d room a_is b_is c_is =
           ∙ ap (λ (k : ℕ). take at xs ++ n % 0x100 ∷ k ∷ c ∷ []) b_is
           ∙ ap (λ (k : ℕ). take at xs ++ n % 0x100 ∷ n / 0x100 % 0x100 ∷ k ∷ []) c_is;
     }
+
+pub behind : (xs : List ℕ) (at a b c d : ℕ)
+    → drop (at + 4) (slice_set (slice_set (slice_set (slice_set xs at a) (at + 1) b) (at + 2) c) (at + 3) d) ≡ drop (at + 4) xs
+behind xs at a b c d =
+    let s = slice_set xs at a in
+    let t = slice_set s (at + 1) b in
+    let u = slice_set t (at + 2) c in
+    drop-set-lt (at + 4) u (at + 3) d (omega arith)
+    ∙ drop-set-lt (at + 4) t (at + 2) c (omega arith)
+    ∙ drop-set-lt (at + 4) s (at + 1) b (omega arith)
+    ∙ drop-set-lt (at + 4) xs at a (omega arith)
 
 -- ---- a form of one to three bytes
 

@@ -1,5 +1,5 @@
 -- A loaded index and look-ups in it (Encoding Standard, "Indexes").
-use Rattle.std.specs.Prelude.{ℕ, nat_le, Bool, true, false, List, filter, Option, if◌then◌else◌, option_to_list}
+use Rattle.std.specs.Prelude.{◌≡◌, ℕ, nat_le, Bool, true, false, List, filter, get_or, Option, None, if◌then◌else◌, option_to_list}
 use Rattle.index_loader.specs.declared.kind.IndexKind.{IndexKind}
 use Rattle.index_loader.specs.declared.kind.IndexKind.TheVariants.{Gb18030Ranges}
 use Rattle.index_loader.specs.Pairs.{Pairs, code_point_at, pointers_with, least, greatest}
@@ -19,6 +19,14 @@ is_ranges _ = false
 abbrev pub code_point_of : Loaded → ℕ → Option ℕ
 code_point_of index pointer =
     if is_ranges index.kind then range_code_point index.pairs pointer else code_point_at index.pairs pointer
+
+-- the code point of a pointer, but for the ranges
+abbrev pub table_code_point_of : Loaded → ℕ → Option ℕ
+table_code_point_of index pointer = if is_ranges index.kind then None else code_point_of index pointer
+
+-- a list with these at their pointers
+abbrev pub IsTableOf : Loaded → List (Option ℕ) → Type 0
+IsTableOf index table = (pointer : ℕ) → get_or table pointer None ≡ table_code_point_of index pointer
 
 -- all pointers of a code point; in the ranges it has at most one
 abbrev pub pointers_of : Loaded → ℕ → List ℕ

@@ -1,5 +1,5 @@
 //! UTF-8 forms of code points, made before they are written.
-ghost use Rattle.std.specs.Prelude.{◌≡◌, ◌+◌, ◌≤◌, IfNone, IfSome, None, Some, length};
+ghost use Rattle.std.specs.Prelude.{◌≡◌, ◌+◌, ◌≤◌, IfNone, IfSome, None, Some, drop, length};
 ghost use Rattle.std.specs.Char.{IsScalar};
 ghost use Rattle.index_loader.specs.Form.{AreFronts, IsFormPut, form_number, is_wide};
 
@@ -66,14 +66,15 @@ impl Utf8Form {
         self.number >= 0x200_0000
     }
 
-    /// Writes a form of one to three bytes from an index on, and returns where it ends. What stands
-    /// behind it may be written over. No form and one of four bytes are not written.
+    /// Writes a form of one to three bytes from an index on, and returns where it ends. Four bytes are
+    /// written over, and none behind them. No form and one of four bytes are not written.
     // In the loop over the characters of a text.
     #[inline(always)]
     pub fn put(self, text: &mut [u8], at: usize) -> Option<usize>
         requires { at + 4 ≤ length text.old }
         ensures len { length text.new ≡ length text.old }
         ensures some { IfSome result (λ end. IsFormPut self text.old text.new at end) }
+        ensures behind { drop (at + 4) text.new ≡ drop (at + 4) text.old }
         ensures none { IfNone result (text.new ≡ text.old) }
         ensures left { IfNone result (IfSome self (λ code_point. 0x1_0000 ≤ code_point)) }
     {
@@ -93,6 +94,7 @@ fn put_four(text: &mut [u8], at: usize, number: u32)
     requires { at + 4 ≤ length text.old }
     ensures len { length text.new ≡ length text.old }
     ensures fronts { AreFronts text.old text.new at number }
+    ensures behind { drop (at + 4) text.new ≡ drop (at + 4) text.old }
 {
     let bytes = number.to_le_bytes();
     text[at] = bytes[0];

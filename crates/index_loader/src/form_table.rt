@@ -41,15 +41,10 @@ impl FormTable {
         self.code_points.code_point(pointer)
     }
 
-    /// The UTF-8 form of the code point of a pointer.
-    // In the loop over the bytes of a text.
-    #[inline(always)]
-    pub(crate) fn form(&self, pointer: u32) -> Utf8Form
-        ensures { result ≡ slice_index_or self.now pointer None }
+    /// The UTF-8 forms of the code points.
+    pub(crate) fn forms(&self) -> &[Utf8Form]
+        ensures { result.now ≡ self.now }
     {
-        match self.forms.get(pointer as usize) {
-            Some(form) => *form,
-            None => Utf8Form::none(),
-        }
+        self.forms.as_slice()
     }
 }

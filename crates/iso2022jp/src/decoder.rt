@@ -1,6 +1,7 @@
 //! The ISO-2022-JP decoder.
-ghost use Rattle.std.specs.Prelude.{◌≡◌, ◌+◌, ◌*◌, ◌-◌};
+ghost use Rattle.std.specs.Prelude.{◌≡◌, ◌+◌, ◌*◌, ◌-◌, IfSome};
 ghost use Rattle.index_loader.specs.Index.{code_point_of};
+ghost use Rattle.decoder_core.specs.declared.item.Item.TheVariants.{One};
 ghost use Rattle.decoder_core.specs.Steps.{bytes_of};
 ghost use Rattle.decoder_core.specs.Holding.{falls_of, counts_of};
 ghost use Rattle.iso2022jp.specs.Exact.{iso_2022_jp_exact};
@@ -13,7 +14,7 @@ use crate::state::{DecoderState, Iso2022JpState};
 use decoder_core::forms::{finish, give, hold, restore};
 use decoder_core::{AsciiRuns, Characters, Few, Handled, Handler, Item};
 use enc_names::Scalar;
-use index_loader::{Index, Utf8Form};
+use index_loader::{FormedIndex, Index, Utf8Form};
 use std::marker::Model;
 
 /// The Standard's state lead byte.
@@ -23,7 +24,7 @@ const LEAD_BYTE: DecoderState = DecoderState::Ready(OutputState::Jis0208);
 /// Contracts see the index.
 #[derive(Drop)]
 pub struct Iso2022JpDecoder<'i> {
-    jis0208: &'i Index,
+    jis0208: FormedIndex<'i>,
 }
 
 impl<'i> Model for Iso2022JpDecoder<'i> {
@@ -31,7 +32,7 @@ impl<'i> Model for Iso2022JpDecoder<'i> {
 
     ghost Value = { Loaded };
 
-    ghost view = { λ d. d.jis0208.now };
+    ghost view = { λ d. d.jis0208 };
 }
 
 impl<'i> Iso2022JpDecoder<'i> {
@@ -39,7 +40,9 @@ impl<'i> Iso2022JpDecoder<'i> {
     pub fn new(jis0208: &'i Index) -> Iso2022JpDecoder<'i>
         ensures { result ≡ jis0208.now }
     {
-        Iso2022JpDecoder { jis0208 }
+        Iso2022JpDecoder {
+            jis0208: FormedIndex::new(jis0208),
+        }
     }
 
     /// The code point of a lead byte and the byte after it.
@@ -58,7 +61,7 @@ impl<'i> Iso2022JpDecoder<'i> {
     // In the loop over the bytes.
     #[inline(always)]
     fn form(&self, lead: u8, byte: u8) -> Utf8Form
-        ensures { pair_item (code_point_of self.now) lead byte ≡ one_or_error result }
+        ensures { IfSome result (λ code_point. pair_item (code_point_of self.now) lead byte ≡ One code_point) }
     {
         if !is_pair_byte(byte) {
             return Utf8Form::none();

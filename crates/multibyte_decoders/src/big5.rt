@@ -10,7 +10,7 @@ use crate::pairs::{PairDecoder, PairRules};
 use crate::turns::{ascii_item, one_of};
 use decoder_core::Item;
 use decoder_core::forms::scalar;
-use index_loader::{Index, Utf8Form};
+use index_loader::{FormedIndex, Utf8Form};
 
 /// The Big5 decoder (Encoding Standard, "Big5 decoder"), which borrows index Big5. Contracts see the
 /// index.
@@ -22,7 +22,7 @@ pub enum Big5Rules {}
 /// The item of a pointer: four pointers give two code points.
 // In the loop over the bytes.
 #[inline(always)]
-fn item(index: &Index, pointer: u32) -> Option<Item>
+fn item(index: &FormedIndex<'_>, pointer: u32) -> Option<Item>
     ensures { result ≡ big5_item (code_point_of index.now) pointer }
 {
     match pointer {
@@ -37,7 +37,7 @@ fn item(index: &Index, pointer: u32) -> Option<Item>
 /// The UTF-8 form of the code point of a pointer that gives one alone.
 // In the loop over the bytes.
 #[inline(always)]
-fn entry(index: &Index, pointer: u32) -> Utf8Form
+fn entry(index: &FormedIndex<'_>, pointer: u32) -> Utf8Form
     ensures { IfSome result (λ code_point. big5_item (code_point_of index.now) pointer ≡ Some (One code_point)) }
 {
     match pointer {
@@ -91,7 +91,7 @@ impl PairRules for Big5Rules {
 
     // In the loop over the bytes.
     #[inline(always)]
-    fn pair(index: &Index, lead: u8, byte: u8) -> Option<Item> {
+    fn pair(index: &FormedIndex<'_>, lead: u8, byte: u8) -> Option<Item> {
         if is_trail(byte) {
             item(index, pointer(lead, byte))
         } else {
@@ -101,11 +101,10 @@ impl PairRules for Big5Rules {
 
     // In the loop over the bytes.
     #[inline(always)]
-    fn form(index: &Index, lead: u8, byte: u8) -> Utf8Form {
-        if is_trail(byte) {
-            entry(index, pointer(lead, byte))
-        } else {
-            Utf8Form::none()
+    fn form(index: &FormedIndex<'_>, lead: u8, byte: u8) -> Utf8Form {
+        match lead {
+            0x81..=0xFE if is_trail(byte) => entry(index, pointer(lead, byte)),
+            _ => Utf8Form::none(),
         }
     }
 

@@ -1,5 +1,5 @@
 //! The EUC-JP decoder.
-ghost use Rattle.std.specs.Prelude.{◌≡◌, ◌+◌, ◌*◌, ◌-◌, ◌≤◌};
+ghost use Rattle.std.specs.Prelude.{◌≡◌, ◌+◌, ◌*◌, ◌-◌, ◌≤◌, IfSome, Some};
 ghost use Rattle.std.proofs.Common.{rules};
 ghost use Rattle.index_loader.specs.Index.{code_point_of};
 ghost use Rattle.decoder_core.specs.Steps.{bytes_of};
@@ -12,7 +12,7 @@ use crate::turns::{ascii_item, begin, complete, one_of};
 use decoder_core::forms::{finish, give, give_one, hold};
 use decoder_core::{AsciiRuns, Characters, Handled, Handler, Item};
 use enc_names::Scalar;
-use index_loader::{Index, Utf8Form};
+use index_loader::{FormedIndex, Index, Utf8Form};
 use std::marker::Model;
 
 /// Where the EUC-JP decoder stands between two bytes.
@@ -30,8 +30,8 @@ pub enum EucJpState {
 /// jis0212. Contracts see the two indexes.
 #[derive(Drop)]
 pub struct EucJpDecoder<'i> {
-    jis0208: &'i Index,
-    jis0212: &'i Index,
+    jis0208: FormedIndex<'i>,
+    jis0212: FormedIndex<'i>,
 }
 
 impl<'i> Model for EucJpDecoder<'i> {
@@ -39,7 +39,7 @@ impl<'i> Model for EucJpDecoder<'i> {
 
     ghost Value = { EucJpIndexes };
 
-    ghost view = { λ d. record { jis0208 = d.jis0208.now; jis0212 = d.jis0212.now } };
+    ghost view = { λ d. record { jis0208 = d.jis0208; jis0212 = d.jis0212 } };
 }
 
 impl<'i> EucJpDecoder<'i> {
@@ -47,7 +47,10 @@ impl<'i> EucJpDecoder<'i> {
     pub fn new(jis0208: &'i Index, jis0212: &'i Index) -> EucJpDecoder<'i>
         ensures { result ≡ record { jis0208 = jis0208.now; jis0212 = jis0212.now } }
     {
-        EucJpDecoder { jis0208, jis0212 }
+        EucJpDecoder {
+            jis0208: FormedIndex::new(jis0208),
+            jis0212: FormedIndex::new(jis0212),
+        }
     }
 
     /// A byte after a lead.
@@ -63,7 +66,7 @@ impl<'i> EucJpDecoder<'i> {
             (0x8F, 0xA1..=0xFE) => hold(EucJpState::Jis0212Lead(byte)),
             _ => complete(
                 EucJpState::Idle,
-                one_of(pair(self.jis0208, lead, byte)),
+                one_of(pair(&self.jis0208, lead, byte)),
                 byte,
             ),
         }
@@ -84,7 +87,7 @@ fn pointer(lead: u8, byte: u8) -> u32
 /// The code point of a pair in one of the two indexes.
 // In the loop over the bytes.
 #[inline(always)]
-fn pair(index: &Index, lead: u8, byte: u8) -> Option<Scalar>
+fn pair(index: &FormedIndex<'_>, lead: u8, byte: u8) -> Option<Scalar>
     ensures { result ≡ euc_jp_pair (code_point_of index.now) lead byte }
 {
     match (lead, byte) {
@@ -96,8 +99,8 @@ fn pair(index: &Index, lead: u8, byte: u8) -> Option<Scalar>
 /// Its UTF-8 form.
 // In the loop over the bytes.
 #[inline(always)]
-fn form(index: &Index, lead: u8, byte: u8) -> Utf8Form
-    ensures { result ≡ euc_jp_pair (code_point_of index.now) lead byte }
+fn form(index: &FormedIndex<'_>, lead: u8, byte: u8) -> Utf8Form
+    ensures { IfSome result (λ code_point. euc_jp_pair (code_point_of index.now) lead byte ≡ Some code_point) }
 {
     match (lead, byte) {
         (0xA1..=0xFE, 0xA1..=0xFE) => index.form(pointer(lead, byte)),
@@ -133,7 +136,7 @@ impl<'i> Handler for EucJpDecoder<'i> {
     #[inline(always)]
     fn known_pair(&self, state: EucJpState, lead: u8, trail: u8) -> Utf8Form {
         match (state, lead) {
-            (EucJpState::Idle, 0xA1..=0xFE) => form(self.jis0208, lead, trail),
+            (EucJpState::Idle, 0xA1..=0xFE) => form(&self.jis0208, lead, trail),
             _ => Utf8Form::none(),
         }
     }
@@ -152,7 +155,7 @@ impl<'i> Handler for EucJpDecoder<'i> {
             (EucJpState::Lead(lead), Some(byte)) => self.second(lead, byte),
             (EucJpState::Jis0212Lead(lead), Some(byte)) => complete(
                 EucJpState::Idle,
-                one_of(pair(self.jis0212, lead, byte)),
+                one_of(pair(&self.jis0212, lead, byte)),
                 byte,
             ),
         }

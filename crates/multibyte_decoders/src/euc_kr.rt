@@ -8,7 +8,7 @@ ghost use Rattle.multibyte_decoders.specs.Pairs.{ascii_item};
 use crate::pairs::{PairDecoder, PairRules};
 use crate::turns::{ascii_item, one_of};
 use decoder_core::Item;
-use index_loader::{Index, Utf8Form};
+use index_loader::{FormedIndex, Utf8Form};
 
 /// The EUC-KR decoder (Encoding Standard, "EUC-KR decoder"), which borrows index EUC-KR. Contracts see the
 /// index.
@@ -47,7 +47,7 @@ impl PairRules for EucKrRules {
 
     // In the loop over the bytes.
     #[inline(always)]
-    fn pair(index: &Index, lead: u8, byte: u8) -> Option<Item> {
+    fn pair(index: &FormedIndex<'_>, lead: u8, byte: u8) -> Option<Item> {
         match byte {
             0x41..=0xFE => one_of(index.code_point(pointer(lead, byte))),
             _ => None,
@@ -56,9 +56,9 @@ impl PairRules for EucKrRules {
 
     // In the loop over the bytes.
     #[inline(always)]
-    fn form(index: &Index, lead: u8, byte: u8) -> Utf8Form {
-        match byte {
-            0x41..=0xFE => index.form(pointer(lead, byte)),
+    fn form(index: &FormedIndex<'_>, lead: u8, byte: u8) -> Utf8Form {
+        match (lead, byte) {
+            (0x81..=0xFE, 0x41..=0xFE) => index.form(pointer(lead, byte)),
             _ => Utf8Form::none(),
         }
     }

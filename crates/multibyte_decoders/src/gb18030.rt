@@ -1,5 +1,5 @@
 //! The gb18030 decoder.
-ghost use Rattle.std.specs.Prelude.{◌≡◌};
+ghost use Rattle.std.specs.Prelude.{◌≡◌, IfSome, Some};
 ghost use Rattle.std.proofs.Common.{rules};
 ghost use Rattle.index_loader.specs.Index.{code_point_of};
 ghost use Rattle.decoder_core.specs.Steps.{bytes_of};
@@ -12,7 +12,7 @@ use crate::turns::{ascii_item, begin, complete, one_of};
 use decoder_core::forms::{finish, found, give, hold, restore, scalar};
 use decoder_core::{AsciiRuns, Characters, Few, Handled, Handler, Item};
 use enc_names::Scalar;
-use index_loader::{Index, Utf8Form};
+use index_loader::{FormedIndex, Index, Utf8Form};
 use std::marker::Model;
 
 /// Where the gb18030 decoder stands between two bytes: the bytes that are pending.
@@ -33,7 +33,7 @@ pub enum Gb18030State {
 /// indexes.
 #[derive(Drop)]
 pub struct Gb18030Decoder<'i> {
-    index: &'i Index,
+    index: FormedIndex<'i>,
     ranges: &'i Index,
 }
 
@@ -45,7 +45,7 @@ impl<'i> Model for Gb18030Decoder<'i> {
 
     ghost Value = { Gb18030Indexes };
 
-    ghost view = { λ d. record { index = d.index.now; ranges = d.ranges.now } };
+    ghost view = { λ d. record { index = d.index; ranges = d.ranges.now } };
 }
 
 impl<'i> Gb18030Decoder<'i> {
@@ -53,7 +53,10 @@ impl<'i> Gb18030Decoder<'i> {
     pub fn new(index: &'i Index, ranges: &'i Index) -> Gb18030Decoder<'i>
         ensures { result ≡ record { index = index.now; ranges = ranges.now } }
     {
-        Gb18030Decoder { index, ranges }
+        Gb18030Decoder {
+            index: FormedIndex::new(index),
+            ranges,
+        }
     }
 
     /// The code point of two bytes.
@@ -73,7 +76,7 @@ impl<'i> Gb18030Decoder<'i> {
     // In the loop over the bytes.
     #[inline(always)]
     fn form(&self, first: u8, byte: u8) -> Utf8Form
-        ensures { result ≡ gb18030_pair (code_point_of self.now.index) first byte }
+        ensures { IfSome result (λ code_point. gb18030_pair (code_point_of self.now.index) first byte ≡ Some code_point) }
     {
         if is_trail(byte) {
             self.index.form(pointer(first, byte))

@@ -1,5 +1,5 @@
 //! The decoder of single bytes and pairs, which the rules of an encoding make its own.
-ghost use Rattle.std.specs.Prelude.{◌≡◌, ℕ, ◌<◌, Bool, false, Option, Some, IfSome};
+ghost use Rattle.std.specs.Prelude.{◌≡◌, ℕ, ◌<◌, Bool, false, true, Option, Some, IfSome};
 ghost use Rattle.std.proofs.Common.{rules};
 ghost use Rattle.index_loader.specs.Index.{code_point_of};
 ghost use Rattle.decoder_core.specs.declared.item.Item.{Item};
@@ -12,7 +12,7 @@ ghost use Rattle.multibyte_decoders.specs.Pairs.{pair_table};
 use crate::turns::{begin, complete};
 use decoder_core::forms::{finish, give};
 use decoder_core::{AsciiRuns, Characters, Handled, Handler, Item};
-use index_loader::{Index, Utf8Form};
+use index_loader::{FormedIndex, Index, Utf8Form};
 use std::marker::{Model, PhantomData};
 
 /// Where the decoder of an encoding with at most two bytes a character stands between two bytes.
@@ -41,13 +41,14 @@ pub trait PairRules {
         ensures { result ≡ singles byte };
 
     /// The item of a lead and the byte after it, if they have one.
-    fn pair(index: &Index, lead: u8, byte: u8) -> Option<Item>
+    fn pair(index: &FormedIndex<'_>, lead: u8, byte: u8) -> Option<Item>
         ensures { result ≡ pairs (code_point_of index.now) lead byte };
 
     /// The UTF-8 form of the code point of a lead and the byte after it, where they have one alone and
-    /// it is known at once.
-    fn form(index: &Index, lead: u8, byte: u8) -> Utf8Form
-        ensures { IfSome result (λ code_point. pairs (code_point_of index.now) lead byte ≡ Some (One code_point)) };
+    /// it is known at once; where the first byte is no lead, none.
+    fn form(index: &FormedIndex<'_>, lead: u8, byte: u8) -> Utf8Form
+        ensures lead { IfSome result (λ _. leads lead ≡ true) }
+        ensures pair { IfSome result (λ code_point. pairs (code_point_of index.now) lead byte ≡ Some (One code_point)) };
 
     ghost ascii: { (b : ℕ) → b < 128 → (leads b ≡ false) × (singles b ≡ One b) };
 }
@@ -56,7 +57,7 @@ pub trait PairRules {
 /// Contracts see the index.
 #[derive(Drop)]
 pub struct PairDecoder<'i, R> {
-    index: &'i Index,
+    index: FormedIndex<'i>,
     encoding: PhantomData<R>,
 }
 
@@ -65,7 +66,7 @@ impl<'i, R> Model for PairDecoder<'i, R> {
 
     ghost Value = { Loaded };
 
-    ghost view = { λ d. d.index.now };
+    ghost view = { λ d. d.index };
 }
 
 impl<'i, R> PairDecoder<'i, R> {
@@ -74,7 +75,7 @@ impl<'i, R> PairDecoder<'i, R> {
         ensures { result ≡ index.now }
     {
         PairDecoder {
-            index,
+            index: FormedIndex::new(index),
             encoding: PhantomData,
         }
     }
@@ -102,7 +103,7 @@ impl<'i, R: PairRules> Handler for PairDecoder<'i, R> {
                 begin(PairState::Idle, R::is_lead(byte), held, R::single(byte))
             }
             (PairState::Lead(lead), Some(byte)) => {
-                complete(PairState::Idle, R::pair(self.index, lead, byte), byte)
+                complete(PairState::Idle, R::pair(&self.index, lead, byte), byte)
             }
         }
     }
@@ -124,8 +125,8 @@ impl<'i, R: PairRules> Handler for PairDecoder<'i, R> {
     #[inline(always)]
     fn known_pair(&self, state: PairState, lead: u8, trail: u8) -> Utf8Form {
         match state {
-            PairState::Idle if R::is_lead(lead) => R::form(self.index, lead, trail),
-            _ => Utf8Form::none(),
+            PairState::Idle => R::form(&self.index, lead, trail),
+            PairState::Lead(_) => Utf8Form::none(),
         }
     }
 

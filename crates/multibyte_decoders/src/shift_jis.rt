@@ -1,5 +1,5 @@
 //! The Shift_JIS decoder.
-ghost use Rattle.std.specs.Prelude.{◌≡◌, ◌+◌, ◌-◌, ◌≤◌};
+ghost use Rattle.std.specs.Prelude.{◌≡◌, ◌+◌, ◌-◌, ◌≤◌, IfSome, Some};
 ghost use Rattle.std.proofs.Common.{rules};
 ghost use Rattle.index_loader.specs.Index.{code_point_of};
 ghost use Rattle.multibyte_decoders.specs.ShiftJis.{shift_jis_single, shift_jis_pair, shift_jis_pointer, shift_jis_code_point, is_shift_jis_lead, is_shift_jis_trail};
@@ -9,7 +9,7 @@ use crate::turns::one_of;
 use decoder_core::Item;
 use decoder_core::forms::scalar;
 use enc_names::Scalar;
-use index_loader::{Index, Utf8Form};
+use index_loader::{FormedIndex, Utf8Form};
 
 /// The Shift_JIS decoder (Encoding Standard, "Shift_JIS decoder"), which borrows index jis0208. Contracts see the
 /// index.
@@ -32,7 +32,7 @@ fn private_use(pointer: u32) -> Scalar
 /// The code point of a pointer.
 // In the loop over the bytes.
 #[inline(always)]
-fn entry(index: &Index, pointer: u32) -> Option<Scalar>
+fn entry(index: &FormedIndex<'_>, pointer: u32) -> Option<Scalar>
     ensures { result ≡ shift_jis_code_point (code_point_of index.now) pointer }
 {
     match pointer {
@@ -41,14 +41,14 @@ fn entry(index: &Index, pointer: u32) -> Option<Scalar>
     }
 }
 
-/// Its UTF-8 form.
+/// Its UTF-8 form, but for private use, which is decoded byte by byte.
 // In the loop over the bytes.
 #[inline(always)]
-fn entry_form(index: &Index, pointer: u32) -> Utf8Form
-    ensures { result ≡ shift_jis_code_point (code_point_of index.now) pointer }
+fn entry_form(index: &FormedIndex<'_>, pointer: u32) -> Utf8Form
+    ensures { IfSome result (λ code_point. shift_jis_code_point (code_point_of index.now) pointer ≡ Some code_point) }
 {
     match pointer {
-        8836..=10715 => Utf8Form::new(private_use(pointer)),
+        8836..=10715 => Utf8Form::none(),
         _ => index.form(pointer),
     }
 }
@@ -72,6 +72,19 @@ fn pointer(lead: u8, trail: u8) -> u32
     u32::from(row) * 188 + u32::from(column)
 }
 
+/// Whether the byte is the lead of a pair.
+// In the loop over the bytes.
+#[inline(always)]
+fn is_lead(byte: u8) -> bool
+    ensures { result ≡ is_shift_jis_lead byte }
+{
+    if byte < 0xA0 {
+        byte > 0x80
+    } else {
+        (0xE0..=0xFC).contains(&byte)
+    }
+}
+
 /// Whether the byte is the trail of a pair.
 // One range but for one byte: a branch on the half that it is in would be mispredicted again and
 // again.
@@ -92,11 +105,7 @@ impl PairRules for ShiftJisRules {
     // In the loop over the bytes.
     #[inline(always)]
     fn is_lead(byte: u8) -> bool {
-        if byte < 0xA0 {
-            byte > 0x80
-        } else {
-            (0xE0..=0xFC).contains(&byte)
-        }
+        is_lead(byte)
     }
 
     // In the loop over the bytes.
@@ -111,7 +120,7 @@ impl PairRules for ShiftJisRules {
 
     // In the loop over the bytes.
     #[inline(always)]
-    fn pair(index: &Index, lead: u8, byte: u8) -> Option<Item> {
+    fn pair(index: &FormedIndex<'_>, lead: u8, byte: u8) -> Option<Item> {
         if is_trail(byte) {
             one_of(entry(index, pointer(lead, byte)))
         } else {
@@ -121,8 +130,8 @@ impl PairRules for ShiftJisRules {
 
     // In the loop over the bytes.
     #[inline(always)]
-    fn form(index: &Index, lead: u8, byte: u8) -> Utf8Form {
-        if is_trail(byte) {
+    fn form(index: &FormedIndex<'_>, lead: u8, byte: u8) -> Utf8Form {
+        if is_lead(lead) && is_trail(byte) {
             entry_form(index, pointer(lead, byte))
         } else {
             Utf8Form::none()

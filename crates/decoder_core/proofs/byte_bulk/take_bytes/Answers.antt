@@ -12,6 +12,7 @@ bytes-init g c = record {
 pub put_byte-requires : goal.put_byte-requires
 put_byte-requires g c = record {
   ascii = c.requires;
+  known = c.known_bytes-forms.ensures;
   within = omega (arith, c.bytes-test.true, c.min-end.ensures);
   room = omega (arith, c.bytes.invariant.few, c.bytes-test.true, c.min-end.ensures);
 }

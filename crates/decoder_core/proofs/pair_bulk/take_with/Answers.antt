@@ -1,7 +1,8 @@
-use Rattle.std.proofs.Common.{rules, arith, ◌≡◌, ◌+◌, ◌≤◌, ◌<◌, length}
+use Rattle.std.proofs.Common.{rules, refl, arith, ◌≡◌, ◌+◌, ◌≤◌, ◌<◌, length}
 use Rattle.decoder_core.specs.declared.bulk.Stride.TheVariants.{Pairs}
+use Rattle.decoder_core.specs.Fronts.{TakesByte}
 use Rattle.decoder_core.proofs.Fronts.{none-more, ascii-pair-put, put-more, put-few}
-use Rattle.decoder_core.proofs.pair_bulk.take_pairs.Goals as goal
+use Rattle.decoder_core.proofs.pair_bulk.take_with.Goals as goal
 
 pub pairs-init : goal.pairs-init
 pairs-init g c = record {
@@ -11,32 +12,33 @@ pairs-init g c = record {
 
 pub put_pair-requires : goal.put_pair-requires
 put_pair-requires g c = record {
-  within = omega (arith, c.pairs-test.true, c.min-most.ensures);
-  room = omega (arith, c.pairs.invariant.few, c.pairs-test.true, c.min-most.ensures);
+  within = omega (arith, c.pairs-test.true, c.min-most.ensures, c.saturating_sub-last.ensures);
+  room = omega (arith, c.pairs.invariant.few, c.pairs-test.true, c.min-most.ensures, c.saturating_sub-last.ensures);
 }
 
 pub pairs-preserved : goal.pairs-preserved
 pairs-preserved g c =
     let table = g.H.Handler.table c.args.handler.now in
     let ends = g.met.H.Handler.ends c.args.handler.now in
-    let room : c.pairs.written + 4 ≤ 1024 = omega (arith, c.pairs.invariant.few, c.pairs-test.true, c.min-most.ensures) in
-    let put = c.in-Some.ensures.some in
+    let room : c.pairs.written + 4 ≤ 1024 = omega (arith, c.pairs.invariant.few, c.pairs-test.true, c.min-most.ensures, c.saturating_sub-last.ensures) in
+    let put = c.in-Some-put_pair.ensures.some in
     record {
       bulk = put-more table ends c.args.state Pairs 2 c.args.bytes.now c.pairs.text _ c.pairs.taken c.pairs.written _ c.pairs.invariant.bulk put room;
       few = put-few table ends c.args.state 2 c.args.bytes.now c.pairs.text _ c.pairs.taken c.pairs.written _ put c.pairs.invariant.few;
     }
 
-pub pairs-preserved-then-lead-lt128 : goal.pairs-preserved-then-lead-lt128
-pairs-preserved-then-lead-lt128 g c =
+pub pairs-preserved-then-is_own : goal.pairs-preserved-then-is_own
+pairs-preserved-then-is_own g c =
     let table = g.H.Handler.table c.args.handler.now in
     let ends = g.met.H.Handler.ends c.args.handler.now in
-    let room : c.pairs.written + 4 ≤ 1024 = omega (arith, c.pairs.invariant.few, c.pairs-test.true, c.min-most.ensures) in
+    let room : c.pairs.written + 4 ≤ 1024 = omega (arith, c.pairs.invariant.few, c.pairs-test.true, c.min-most.ensures, c.saturating_sub-last.ensures) in
     let large : length c.pairs.text ≡ 1024 = search rules in
-    let inside : c.pairs.taken < length c.args.bytes.now = omega (arith, c.pairs-test.true, c.min-most.ensures) in
+    let inside : c.pairs.taken < length c.args.bytes.now = omega (arith, c.pairs-test.true, c.min-most.ensures, c.saturating_sub-last.ensures) in
+    let turn : TakesByte table c.args.state c.from.result c.from.result = rw c.from.ensures (c.requires _ (c.if-is_own.ensures.of refl)) in
+    let low : c.from.result < 0x80 = rw c.from.ensures (c.if-is_own.ensures.low refl) in
     let put =
     ascii-pair-put table ends c.args.state c.args.bytes.now c.pairs.text c.put_scalar-written.new.bytes c.pairs.taken c.pairs.written c.from.result
-    c.put_scalar-written.result c.requires inside c.from.ensures (omega (arith, c.from.ensures, c.if-lead-lt128.true)) room large
-    c.put_scalar-written.ensures.end c.put_scalar-written.ensures.bytes in
+    c.put_scalar-written.result turn inside c.from.ensures low room large c.put_scalar-written.ensures.end c.put_scalar-written.ensures.bytes in
     record {
       bulk = put-more table ends c.args.state Pairs 1 c.args.bytes.now c.pairs.text c.put_scalar-written.new.bytes c.pairs.taken c.pairs.written
           c.put_scalar-written.result c.pairs.invariant.bulk put room;

@@ -1,7 +1,7 @@
 use Rattle.std.proofs.Common.{◌-◌, ◌*◌, ◌≤◌}
 use Rattle.decoder_core.specs.Bulk.{IsBulk}
 use Rattle.decoder_core.specs.declared.bulk.Stride.TheVariants.{Pairs}
-use Rattle.decoder_core.proofs.pair_bulk.take_pairs_alone.Given as goal
+use Rattle.decoder_core.proofs.pair_bulk.take_with.Given as goal
 
 abbrev pub invariant-pairs : goal.invariant-pairs
 invariant-pairs g l = record {
@@ -10,4 +10,4 @@ invariant-pairs g l = record {
 }
 
 abbrev pub decreases-pairs : goal.decreases-pairs
-decreases-pairs g l = l.most - l.taken
+decreases-pairs g l = l.last - l.taken

@@ -1,0 +1,75 @@
+//! An index with its UTF-8 forms at hand.
+ghost use Rattle.std.specs.Prelude.{◌≡◌, ℕ, ◌<◌, IfSome, None, Some, slice_index_or};
+ghost use Rattle.index_loader.specs.Index.{code_point_of, table_code_point_of};
+
+use crate::form::Utf8Form;
+use crate::index::Index;
+use enc_names::Scalar;
+use std::marker::Model;
+
+/// A borrowed index with its UTF-8 forms at hand: a loop over the bytes of a text finds them without
+/// a look at how the index is kept. Contracts see the index.
+#[derive(Drop)]
+pub struct FormedIndex<'i> {
+    index: &'i Index,
+    forms: &'i [Utf8Form],
+}
+
+impl<'i> Model for FormedIndex<'i> {
+    ghost use Rattle.index_loader.specs.Index.{IsTableOf, Loaded};
+
+    ghost Value = { Loaded };
+
+    ghost view = { λ f. f.index.now };
+
+    ghost invariant = { λ f. IsTableOf f.index.now f.forms.now };
+}
+
+impl<'i> FormedIndex<'i> {
+    /// An index with its forms.
+    pub fn new(index: &'i Index) -> FormedIndex<'i>
+        ensures { result ≡ index.now }
+    {
+        let forms = index.forms();
+        FormedIndex { index, forms }
+    }
+
+    /// The code point of a pointer.
+    // In the loop over the bytes of a text.
+    #[inline(always)]
+    pub fn code_point(&self, pointer: u32) -> Option<Scalar>
+        ensures { result ≡ code_point_of self.now pointer }
+    {
+        self.index.code_point(pointer)
+    }
+
+    /// The UTF-8 form of the code point of a pointer, but for the ranges, which have none at hand.
+    // In the loop over the bytes of a text.
+    #[inline(always)]
+    pub fn form(&self, pointer: u32) -> Utf8Form
+        ensures value { result ≡ table_code_point_of self.now pointer }
+        ensures some { IfSome result (λ code_point. code_point_of self.now pointer ≡ Some code_point) }
+    {
+        form_at(self.forms, pointer)
+    }
+
+    /// The forms of the pointers below 128, where there are so many.
+    pub fn front(&self) -> Option<&'i [Utf8Form; 128]>
+        ensures { IfSome result (λ forms. (pointer : ℕ) → pointer < 128 → slice_index_or forms.now pointer None ≡ table_code_point_of self.now pointer) }
+    {
+        let front = self.forms.first_chunk::<128>()?;
+        Some(front)
+    }
+}
+
+/// The form at a pointer.
+// In the loop over the bytes of a text.
+#[inline(always)]
+fn form_at(forms: &[Utf8Form], pointer: u32) -> Utf8Form
+    ensures { result ≡ slice_index_or forms.now pointer None }
+{
+    match forms.get(pointer as usize) {
+        Some(form) => *form,
+        None => Utf8Form::none(),
+    }
+}
