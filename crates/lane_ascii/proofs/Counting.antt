@@ -1,5 +1,6 @@
 -- Counting marks block by block.
-use Rattle.std.proofs.Common.{◌≡◌, ℕ, ◌+◌, ◌-◌, ◌/◌, ◌^◌, ◌≤◌, Bool, List, length, take, drop, sym, ap, ◌∙◌, arith, length-drop}
+use Rattle.std.proofs.Common.{◌≡◌, ℕ, ◌+◌, ◌-◌, ◌/◌, ◌^◌, ◌<◌, ◌≤◌, Bool, List, length, take, drop, sym, ap, ◌∙◌, arith, length-drop}
+use Rattle.std.proofs.lemmas.List.{length-take}
 use Rattle.std.specs.Int.RustNames.{count_ones}
 use Rattle.lane_ascii.specs.Flags.{flags_set, IsNthFlag}
 use Rattle.lane_ascii.specs.Marks.{marks, mark_flags, IsNthMark}
@@ -35,16 +36,23 @@ module _ (f : Bool) (bytes : List ℕ) where
       ap (λ m. m / 2 ^ (at - last)) is ∙ mask-drop (at - last) (take n (drop last flags)) ∙ ap (λ fs. mask_l (drop (at - last) fs)) whole
       ∙ ap mask_l (drop-drop last (at - last) flags) ∙ ap (λ k. mask_l (drop k flags)) to
 
-  pub mark_in_block : (at m before n r : ℕ) → before ≡ flags_set (take at flags) → before ≤ n → IsNthFlag (take m (drop at flags)) (n - before) r → IsNthMark f bytes n (at + r)
-  mark_in_block at m before n r counted le h =
+  -- the flag that is found in what a mask has is the mark
+  pub mark_in_block : (at m before n mask r : ℕ) → before ≡ flags_set (take at flags) → before ≤ n → m ≤ 64 → n - before < count_ones mask → mask ≡ mask_l (take m (drop at flags))
+      → ((fs : List Bool) → length fs ≤ 64 → mask ≡ mask_l fs → n - before < flags_set fs → IsNthFlag fs (n - before) r) → IsNthMark f bytes n (at + r)
+  mark_in_block at m before n mask r counted le short less is place =
+      let few : length (take m (drop at flags)) ≤ 64 = omega (arith, length-take m (drop at flags)) in
+      let h = place (take m (drop at flags)) few is (omega (arith, block_set at m mask is)) in
       let e : flags_set (take at flags) + (n - before) ≡ n = omega arith in
       nth_mark f bytes n (at + r) (ap_nth e (nth_in flags at m (n - before) r h))
     where
       ap_nth : {a b : ℕ} → a ≡ b → IsNthFlag flags a (at + r) → IsNthFlag flags b (at + r)
       ap_nth e h = rw (← e) h
 
-  pub mark_in_rest : (at before n r : ℕ) → before ≡ flags_set (take at flags) → before ≤ n → IsNthFlag (drop at flags) (n - before) r → IsNthMark f bytes n (at + r)
-  mark_in_rest at before n r counted le h =
+  pub mark_in_rest : (at before n mask r : ℕ) → before ≡ flags_set (take at flags) → before ≤ n → length bytes ≤ at + 64 → n - before < count_ones mask → mask ≡ mask_l (drop at flags)
+      → ((fs : List Bool) → length fs ≤ 64 → mask ≡ mask_l fs → n - before < flags_set fs → IsNthFlag fs (n - before) r) → IsNthMark f bytes n (at + r)
+  mark_in_rest at before n mask r counted le short less is place =
+      let few : length (drop at flags) ≤ 64 = omega (arith, length-drop at flags, length-flags f bytes) in
+      let h = place (drop at flags) few is (omega (arith, rest_set at mask is)) in
       let e : flags_set (take at flags) + (n - before) ≡ n = omega arith in
       nth_mark f bytes n (at + r) (ap_nth e (nth_behind flags at (n - before) r h))
     where

@@ -69,12 +69,8 @@ until-more kind step width more last same =
 
 -- ---- the walk
 
--- behind no byte
 pub at-start : (from : ℤ) → from ≡ from +ℤ pos 0
 at-start from = omega (arith, ints)
-
-pub no-more : (n : ℕ) → 0 + n ≡ n
-no-more n = omega arith
 
 -- so many bytes at the front are code points whose items were taken: those of the closed runs, and the last `more` and one of the run that is open
 pub record IsWalked (stride : Stride) (kind : ItemKind) (output : OutputState) (text : List ℕ) (from : ℤ) (before : List Ended) (capacity at : ℕ) (closed : List Run) (count : ℕ) (last : ℤ) (more step : ℕ) : Type 0 where
@@ -86,16 +82,12 @@ pub record IsWalked (stride : Stride) (kind : ItemKind) (output : OutputState) (
   pub items : items_of_runs closed ++ items_until kind step last (suc more) ≡ before ++ plain_items_from stride from output front
   pub room : count + length (chars (drop at text)) ≤ capacity
 
--- the code point that stands behind so many bytes
-next-there : (text : List ℕ) (at lead : ℕ) → IsUtf8 (drop at text) → at < length text → lead ≡ get_or text at 0 → IsNext (drop at text) lead
-next-there text at lead spelt some lead_is =
-    next-is (drop at text) lead spelt (omega (arith, length-drop at text, some)) (lead_is ∙ ap (get_or_zero text) (here at) ∙ sym (get_or-drop at text 0 0))
-  where
-    get_or_zero : List ℕ → ℕ → ℕ
-    get_or_zero text n = get_or text n 0
-
-    here : (n : ℕ) → n ≡ n + 0
-    here n = omega arith
+-- the same place, written in another way
+walked-at : (stride : Stride) (kind : ItemKind) (output : OutputState) (text : List ℕ) (from : ℤ) (before : List Ended) (capacity at then_at : ℕ) (closed : List Run) (count : ℕ) (last then : ℤ) (more step : ℕ) → then ≡ last → then_at ≡ at
+    → IsWalked stride kind output text from before capacity at closed count last more step → IsWalked stride kind output text from before capacity then_at closed count then more step
+walked-at stride kind output text from before capacity at then_at closed count last then more step e f held =
+    subst (λ (z : ℤ). IsWalked stride kind output text from before capacity then_at closed count z more step) (sym e)
+    (subst (λ (n : ℕ). IsWalked stride kind output text from before capacity n closed count last more step) (sym f) held)
 
 fits : (text rest : List ℕ) (at c : ℕ) → drop at text ≡ encode c ++ rest → at + len_utf8 c ≤ length text
 fits text rest at c parts =
@@ -103,12 +95,35 @@ fits text rest at c parts =
     let some = (len_utf8_bounds c).0 in
     omega (arith, all, some)
 
-module _ (text : List ℕ) (at lead len : ℕ) (spelt : IsUtf8 (drop at text)) (some : at < length text) (lead_is : lead ≡ get_or text at 0) (len_is : len ≡ continuation_len lead + 1) where
-  pub next : IsNext (drop at text) lead
-  next = next-there text at lead spelt some lead_is
+-- a code point begins behind so many bytes, which by its first byte has so many, and as long an item
+pub record IsItemAt (stride : Stride) (text : List ℕ) (at len width : ℕ) : Type 0 where
+  pub spelt : IsUtf8 (drop at text)
+  pub some : at < length text
+  pub len_is : len ≡ continuation_len (get_or text at 0) + 1
+  pub wide : (c : ℕ) → len ≡ len_utf8 c → width ≡ width_of stride c
+
+-- by the lengths of items
+pub item-at : {stride : Stride} {bytes text : List ℕ} {at len : ℕ} (widths : List ℕ) → ((c : ℕ) → get_or widths (len_utf8 c - 1) 0 ≡ width_of stride c) → bytes ≡ text → at < length bytes → IsUtf8 (drop at text)
+    → len ≡ continuation_len (get_or bytes at 0) + 1 → IsItemAt stride text at len (get_or widths (len - 1) 0)
+item-at {at = at} widths widths_are same some spelt len_is = record {
+  spelt = spelt;
+  some = omega (arith, some, ap length same);
+  len_is = len_is ∙ ap (λ (bs : List ℕ). continuation_len (get_or bs at 0) + 1) same;
+  wide = λ c e. ap (λ (n : ℕ). get_or widths (n - 1) 0) e ∙ widths_are c;
+}
+
+module _ {stride : Stride} {text : List ℕ} {at len width : ℕ} (here : IsItemAt stride text at len width) where
+  next : IsNext (drop at text) (get_or text at 0)
+  next = next-is (drop at text) (get_or text at 0) here.spelt (omega (arith, length-drop at text, here.some)) (ap (get_or_zero text) (none at) ∙ sym (get_or-drop at text 0 0))
+    where
+      get_or_zero : List ℕ → ℕ → ℕ
+      get_or_zero text n = get_or text n 0
+
+      none : (n : ℕ) → n ≡ n + 0
+      none n = omega arith
 
   long : len ≡ len_utf8 next.code_point
-  long = len_is ∙ next.len
+  long = here.len_is ∙ next.len
 
   behind : drop (at + len) text ≡ next.rest
   behind = ap (λ (n : ℕ). drop (at + n) text) long ∙ drop_past_char text next.rest at next.code_point next.parts
@@ -120,37 +135,39 @@ module _ (text : List ℕ) (at lead len : ℕ) (spelt : IsUtf8 (drop at text)) (
   next-len = let b = len_utf8_bounds next.code_point in (omega (arith, long, b.0), omega (arith, long, b.1))
 
   next-spelt : IsUtf8 (drop (at + len) text)
-  next-spelt = rw behind (IsUtf8-past_char (drop at text) next.rest next.code_point spelt next.parts)
+  next-spelt = rw behind (IsUtf8-past_char (drop at text) next.rest next.code_point here.spelt next.parts)
 
-  pub next-parts : chars (drop at text) ≡ next.code_point ∷ chars (drop (at + len) text)
-  next-parts = chars_past_char (drop at text) next.rest next.code_point spelt next.parts ∙ ap (λ (bs : List ℕ). next.code_point ∷ chars bs) (sym behind)
+  next-parts : chars (drop at text) ≡ next.code_point ∷ chars (drop (at + len) text)
+  next-parts = chars_past_char (drop at text) next.rest next.code_point here.spelt next.parts ∙ ap (λ (bs : List ℕ). next.code_point ∷ chars bs) (sym behind)
+
+  one-less : length (chars (drop at text)) ≡ suc (length (chars (drop (at + len) text)))
+  one-less = ap length next-parts
 
   -- there is room for its run
   pub walked-some : (count capacity : ℕ) → count + length (chars (drop at text)) ≤ capacity → count < capacity
-  walked-some count capacity room = omega (arith, ap length next-parts, room)
+  walked-some count capacity room = omega (arith, one-less, room)
 
-  -- how long its item is, by the lengths of items
-  pub next-width : (stride : Stride) (widths : List ℕ) → ((c : ℕ) → get_or widths (len_utf8 c - 1) 0 ≡ width_of stride c) → get_or widths (len - 1) 0 ≡ width_of stride next.code_point
-  next-width stride widths widths_are = ap (λ (n : ℕ). get_or widths (n - 1) 0) long ∙ widths_are next.code_point
+  module _ (from last : ℤ) (front : List ℕ) (parts : chars text ≡ front ++ chars (drop at text)) (place : last ≡ from +ℤ pos (run_width stride front)) where
+    width-is : width ≡ width_of stride next.code_point
+    width-is = here.wide next.code_point long
 
-  module _ (stride : Stride) (width : ℕ) (width_is : width ≡ width_of stride next.code_point) (from last limit : ℤ) (front : List ℕ) (parts : chars text ≡ front ++ chars (drop at text)) (place : last ≡ from +ℤ pos (run_width stride front)) where
     whole : run_width stride (chars text) ≡ run_width stride front + (width + run_width stride (chars (drop (at + len) text)))
     whole =
         ap (run_width stride) (parts ∙ ap (λ (cs : List ℕ). front ++ cs) next-parts)
         ∙ run-append stride front (next.code_point ∷ chars (drop (at + len) text))
-        ∙ ap (λ (n : ℕ). run_width stride front + (n + run_width stride (chars (drop (at + len) text)))) (sym width_is)
+        ∙ ap (λ (n : ℕ). run_width stride front + (n + run_width stride (chars (drop (at + len) text)))) (sym width-is)
 
-    pub next-fits : (from +ℤ pos (run_width stride (chars text))) <ℤ limit → (last +ℤ pos width) <ℤ limit
-    next-fits fits = by from last limit (run_width stride (chars text)) (run_width stride front) width (run_width stride (chars (drop (at + len) text))) whole place fits
+    pub next-fits : (limit start : ℤ) → from ≡ start → (start +ℤ pos (run_width stride (chars text))) <ℤ limit → (last +ℤ pos width) <ℤ limit
+    next-fits limit start = by from last limit start (run_width stride (chars text)) (run_width stride front) width (run_width stride (chars (drop (at + len) text))) whole place
       where
-        by : (from last limit : ℤ) (all front width rest : ℕ) → all ≡ front + (width + rest) → last ≡ from +ℤ pos front → (from +ℤ pos all) <ℤ limit → (last +ℤ pos width) <ℤ limit
-        by from last limit all front width rest e f g = omega (arith, ints, e, f, g)
+        by : (from last limit start : ℤ) (all front width rest : ℕ) → all ≡ front + (width + rest) → last ≡ from +ℤ pos front → from ≡ start → (start +ℤ pos all) <ℤ limit → (last +ℤ pos width) <ℤ limit
+        by from last limit start all front width rest e f g h = omega (arith, ints, e, f, g, h)
 
     next-front : chars text ≡ (front ++ next.code_point ∷ []) ++ chars (drop (at + len) text)
     next-front = parts ∙ ap (λ (cs : List ℕ). front ++ cs) next-parts ∙ sym (append_assoc front (next.code_point ∷ []) (chars (drop (at + len) text)))
 
     next-place : last +ℤ pos width ≡ from +ℤ pos (run_width stride (front ++ next.code_point ∷ []))
-    next-place = by from last (run_width stride front) width (width_of stride next.code_point) (run_width stride (front ++ next.code_point ∷ [])) place width_is (run-append stride front (next.code_point ∷ []))
+    next-place = by from last (run_width stride front) width (width_of stride next.code_point) (run_width stride (front ++ next.code_point ∷ [])) place width-is (run-append stride front (next.code_point ∷ []))
       where
         by : (from last : ℤ) (front width wide all : ℕ) → last ≡ from +ℤ pos front → width ≡ wide → all ≡ front + (wide + 0) → last +ℤ pos width ≡ from +ℤ pos all
         by from last front width wide all e f g = omega (arith, ints, e, f, g)
@@ -163,74 +180,72 @@ module _ (text : List ℕ) (at lead len : ℕ) (spelt : IsUtf8 (drop at text)) (
           ap (λ (is : List Ended). is ++ item_of_kind kind (last +ℤ pos width) ∷ []) taken_is
           ∙ append_assoc before (plain_items_from stride from output front) (item_of_kind kind (last +ℤ pos width) ∷ [])
           ∙ ap (λ (i : Ended). before ++ (plain_items_from stride from output front ++ i ∷ [])) (one (last +ℤ pos width))
-          ∙ ap (λ (z : ℤ). before ++ (plain_items_from stride from output front ++ kept_item (One next.code_point) z output ∷ [])) (by from last (run_width stride front) width (width_of stride next.code_point) place width_is)
+          ∙ ap (λ (z : ℤ). before ++ (plain_items_from stride from output front ++ kept_item (One next.code_point) z output ∷ [])) (by from last (run_width stride front) width (width_of stride next.code_point) place width-is)
           ∙ ap (λ (is : List Ended). before ++ is) (sym (items-more stride from output front next.code_point))
         where
           by : (from last : ℤ) (front width wide : ℕ) → last ≡ from +ℤ pos front → width ≡ wide → last +ℤ pos width ≡ from +ℤ pos (front + wide)
           by from last front width wide e f = omega (arith, ints, e, f)
 
-      one-less : length (chars (drop at text)) ≡ suc (length (chars (drop (at + len) text)))
-      one-less = ap length next-parts
-
-      -- the first item
-      pub walked-first : (before : List Ended) (capacity room count : ℕ) (closed : List Run) (first : Run) → first.kind ≡ kind → first.last ≡ last +ℤ pos width
-          → items_of_runs closed ++ items_of_run first ≡ before ++ item_of_kind kind (last +ℤ pos width) ∷ [] → front ≡ [] → room + length (chars (drop at text)) ≤ capacity → count ≤ room + 1
-          → IsWalked stride kind output text from before capacity (at + len) closed count (last +ℤ pos width) first.more first.step
-      walked-first before capacity room count closed first kind_is last_is items_are none some few = record {
+      -- the items are taken as far as it goes, whatever runs they are in
+      pub next-walked : (before taken : List Ended) (capacity count room : ℕ) (closed : List Run) (end : ℤ) (more step : ℕ) → end ≡ last +ℤ pos width → taken ≡ before ++ plain_items_from stride from output front
+          → items_of_runs closed ++ items_until kind step end (suc more) ≡ taken ++ item_of_kind kind end ∷ [] → room + length (chars (drop at text)) ≤ capacity → count ≤ room + 1
+          → IsWalked stride kind output text from before capacity (at + len) closed count end more step
+      next-walked before taken capacity count room closed end more step end_is taken_is items_are some few = record {
         within = next-within;
         spelt = next-spelt;
         front = front ++ next.code_point ∷ [];
         parts = next-front;
-        place = next-place;
-        items = ap (λ (k : ItemKind). items_of_runs closed ++ items_until k first.step (last +ℤ pos width) (suc first.more)) (sym kind_is)
-            ∙ ap (λ (l : ℤ). items_of_runs closed ++ items_until first.kind first.step l (suc first.more)) (sym last_is)
-            ∙ items_are
-            ∙ next-items before before (sym (ap (λ (cs : List ℕ). before ++ plain_items_from stride from output cs) none ∙ append-nil before));
+        place = end_is ∙ next-place;
+        items = items_are ∙ ap (λ (z : ℤ). taken ++ item_of_kind kind z ∷ []) end_is ∙ next-items before taken taken_is;
         room = omega (arith, one-less, some, few);
       }
 
-      module _ (before : List Ended) (capacity count more step : ℕ) (closed : List Run) (spelt_there : IsUtf8 (drop at text))
-          (items : items_of_runs closed ++ items_until kind step last (suc more) ≡ before ++ plain_items_from stride from output front) (room : count + length (chars (drop at text)) ≤ capacity) where
-        -- an item that goes on with the open run
-        pub walked-on : (then_more then_step : ℕ) → then_more ≡ more + 1 → then_step ≡ width → (0 < more → step ≡ width) → IsWalked stride kind output text from before capacity (at + len) closed count (last +ℤ pos width) then_more then_step
-        walked-on then_more then_step more_is step_is same = record {
-          within = next-within;
-          spelt = next-spelt;
-          front = front ++ next.code_point ∷ [];
-          parts = next-front;
-          place = next-place;
-          items = ap (λ (n : ℕ). items_of_runs closed ++ items_until kind then_step (last +ℤ pos width) (suc n)) (more_is ∙ one_more more)
-              ∙ ap (λ (n : ℕ). items_of_runs closed ++ items_until kind n (last +ℤ pos width) (suc (suc more))) step_is
-              ∙ ap (λ (is : List Ended). items_of_runs closed ++ is) (until-more kind step width more last same)
-              ∙ sym (append_assoc (items_of_runs closed) (items_until kind step last (suc more)) (item_of_kind kind (last +ℤ pos width) ∷ []))
-              ∙ next-items before (items_of_runs closed ++ items_until kind step last (suc more)) items;
-          room = omega (arith, one-less, room);
-        }
-          where
-            one_more : (n : ℕ) → n + 1 ≡ suc n
-            one_more n = omega arith
+-- the first item
+pub walked-first : {stride : Stride} {text : List ℕ} {len width : ℕ} → IsItemAt stride text 0 len width
+    → {kind : ItemKind} {output : OutputState} → ((end : ℤ) → item_of_kind kind end ≡ record { scalars = 1; end = end; error = false; output = output })
+    → (from : ℤ) (before : List Ended) (capacity count room : ℕ) (closed : List Run) (first : Run) (end : ℤ) → end ≡ from +ℤ pos width → first.kind ≡ kind → first.last ≡ end
+    → items_of_runs closed ++ items_of_run first ≡ before ++ item_of_kind kind end ∷ [] → room + length (chars text) ≤ capacity → count ≤ room + 1
+    → IsWalked stride kind output text from before capacity len closed count end first.more first.step
+walked-first {stride} {text} {len} here {kind} {output} one from before capacity count room closed first end end_is kind_is last_is items_are some few =
+    walked-at stride kind output text from before capacity (0 + len) len closed count end end first.more first.step refl (none len)
+    (next-walked here from from [] refl (at-start from) kind output one before before capacity count room closed end first.more first.step end_is (sym (append-nil before))
+    (ap (λ (k : ItemKind). items_of_runs closed ++ items_until k first.step end (suc first.more)) (sym kind_is)
+        ∙ ap (λ (l : ℤ). items_of_runs closed ++ items_until first.kind first.step l (suc first.more)) (sym last_is)
+        ∙ items_are)
+    some few)
+  where
+    none : (n : ℕ) → n ≡ 0 + n
+    none n = omega arith
 
-        -- an item that begins a run
-        pub walked-new : (run : Run) (then : List Run) (then_count then_capacity : ℕ) → run ≡ record { last = last; more = more; step = step; kind = kind } → then ≡ closed ++ run ∷ [] → then_count ≡ count + 1 → then_capacity ≡ capacity
-            → IsWalked stride kind output text from before then_capacity (at + len) then then_count (last +ℤ pos width) 0 step
-        walked-new run then then_count then_capacity run_is then_is count_is capacity_is = record {
-          within = next-within;
-          spelt = next-spelt;
-          front = front ++ next.code_point ∷ [];
-          parts = next-front;
-          place = next-place;
-          items = ap (λ (rs : List Run). items_of_runs rs ++ item_of_kind kind (last +ℤ pos width) ∷ []) then_is
-              ∙ ap (λ (is : List Ended). is ++ item_of_kind kind (last +ℤ pos width) ∷ []) (flat_map-append items_of_run closed (run ∷ []) ∙ ap (λ (is : List Ended). items_of_runs closed ++ is) (append-nil (items_of_run run)) ∙ ap (λ (r : Run). items_of_runs closed ++ items_of_run r) run_is)
-              ∙ next-items before (items_of_runs closed ++ items_until kind step last (suc more)) items;
-          room = omega (arith, one-less, room, count_is, capacity_is);
-        }
+module _ {stride : Stride} {text : List ℕ} {at len width : ℕ} (here : IsItemAt stride text at len width)
+    {kind : ItemKind} {output : OutputState} {from last : ℤ} {before : List Ended} {capacity count more step : ℕ} {closed : List Run} (held : IsWalked stride kind output text from before capacity at closed count last more step) where
+  pub walked-fits : (limit start : ℤ) → from ≡ start → (start +ℤ pos (run_width stride (chars text))) <ℤ limit → (last +ℤ pos width) <ℤ limit
+  walked-fits = next-fits here from last held.front held.parts held.place
 
--- the same place, written in another way
-pub walked-at : (stride : Stride) (kind : ItemKind) (output : OutputState) (text : List ℕ) (from : ℤ) (before : List Ended) (capacity at then_at : ℕ) (closed : List Run) (count : ℕ) (last then : ℤ) (more step : ℕ) → then ≡ last → then_at ≡ at
-    → IsWalked stride kind output text from before capacity at closed count last more step → IsWalked stride kind output text from before capacity then_at closed count then more step
-walked-at stride kind output text from before capacity at then_at closed count last then more step e f held =
-    subst (λ (z : ℤ). IsWalked stride kind output text from before capacity then_at closed count z more step) (sym e)
-    (subst (λ (n : ℕ). IsWalked stride kind output text from before capacity n closed count last more step) (sym f) held)
+  module _ (one : (end : ℤ) → item_of_kind kind end ≡ record { scalars = 1; end = end; error = false; output = output }) (end : ℤ) (end_is : end ≡ last +ℤ pos width) where
+    -- an item that goes on with the open run
+    pub walked-on : (then_more then_step : ℕ) → then_more ≡ more + 1 → then_step ≡ width → (0 < more → step ≡ width) → IsWalked stride kind output text from before capacity (at + len) closed count end then_more then_step
+    walked-on then_more then_step more_is step_is same =
+        next-walked here from last held.front held.parts held.place kind output one before (items_of_runs closed ++ items_until kind step last (suc more)) capacity count count closed end then_more then_step end_is held.items
+        (ap (λ (n : ℕ). items_of_runs closed ++ items_until kind then_step end (suc n)) (more_is ∙ one_more more)
+            ∙ ap (λ (n : ℕ). items_of_runs closed ++ items_until kind n end (suc (suc more))) step_is
+            ∙ ap (λ (z : ℤ). items_of_runs closed ++ items_until kind width z (suc (suc more))) end_is
+            ∙ ap (λ (is : List Ended). items_of_runs closed ++ is) (until-more kind step width more last same)
+            ∙ sym (append_assoc (items_of_runs closed) (items_until kind step last (suc more)) (item_of_kind kind (last +ℤ pos width) ∷ []))
+            ∙ ap (λ (z : ℤ). (items_of_runs closed ++ items_until kind step last (suc more)) ++ item_of_kind kind z ∷ []) (sym end_is))
+        held.room (omega arith)
+      where
+        one_more : (n : ℕ) → n + 1 ≡ suc n
+        one_more n = omega arith
+
+    -- an item that begins a run
+    pub walked-new : (run : Run) (then : List Run) (then_count then_capacity : ℕ) → run ≡ record { last = last; more = more; step = step; kind = kind } → then ≡ closed ++ run ∷ [] → then_count ≡ count + 1 → then_capacity ≡ capacity
+        → IsWalked stride kind output text from before then_capacity (at + len) then then_count end 0 step
+    walked-new run then then_count then_capacity run_is then_is count_is capacity_is =
+        next-walked here from last held.front held.parts held.place kind output one before (items_of_runs closed ++ items_until kind step last (suc more)) then_capacity then_count count then end 0 step end_is held.items
+        (ap (λ (rs : List Run). items_of_runs rs ++ item_of_kind kind end ∷ []) then_is
+            ∙ ap (λ (is : List Ended). is ++ item_of_kind kind end ∷ []) (flat_map-append items_of_run closed (run ∷ []) ∙ ap (λ (is : List Ended). items_of_runs closed ++ is) (append-nil (items_of_run run)) ∙ ap (λ (r : Run). items_of_runs closed ++ items_of_run r) run_is))
+        (omega (arith, held.room, capacity_is)) (omega (arith, count_is))
 
 -- one behind the first
 alike-behind : (text : List ℕ) (at len n : ℕ) → AreAlike text at len (suc n) → AreAlike text (at + len) len n
@@ -264,7 +279,7 @@ alike-part bytes text at len n most m same alike is k lt =
     far at n = omega arith
 
 module _ (stride : Stride) (kind : ItemKind) (output : OutputState) (text : List ℕ) (from : ℤ) (before : List Ended) (capacity : ℕ) (closed : List Run) (count width len : ℕ)
-    (one : (end : ℤ) → item_of_kind kind end ≡ record { scalars = 1; end = end; error = false; output = output }) (width_is : (c : ℕ) → len ≡ len_utf8 c → width ≡ width_of stride c) where
+    (one : (end : ℤ) → item_of_kind kind end ≡ record { scalars = 1; end = end; error = false; output = output }) (wide : (c : ℕ) → len ≡ len_utf8 c → width ≡ width_of stride c) where
   -- code points that are alike go on with a run of items that are as long
   walked-alike : (n at more : ℕ) (last : ℤ) → AreAlike text at len n
       → IsWalked stride kind output text from before capacity at closed count last more width
@@ -280,13 +295,16 @@ module _ (stride : Stride) (kind : ItemKind) (output : OutputState) (text : List
       there k = let nothing : 0 * len ≡ 0 = omega arith in omega (arith, nothing)
 
       here : (last : ℤ) → last +ℤ pos (0 * width) ≡ last
-      here last = let nothing : 0 * width ≡ 0 = omega arith in ap (λ (k : ℕ). last +ℤ pos k) nothing ∙ sym (at-start last)
+      here last = let nothing : 0 * width ≡ 0 = omega arith in omega (arith, ints, nothing)
   walked-alike (suc n) at more last alike held =
       let first = alike 0 (omega arith) in
-      let some : at < length text = subst (λ (m : ℕ). m < length text) (here at) first.0 in
-      let len_is : len ≡ continuation_len (get_or text at 0) + 1 = subst (λ (m : ℕ). len ≡ continuation_len (get_or text m 0) + 1) (here at) first.1 in
-      let next = walked-on text at (get_or text at 0) len held.spelt some refl len_is stride width (width_is _ (long text at (get_or text at 0) len held.spelt some refl len_is)) from last (pos 0) held.front held.parts held.place kind output one
-      before capacity count more width closed held.spelt held.items held.room (more + 1) width refl refl (λ _. refl) in
+      let item : IsItemAt stride text at len width = record {
+        spelt = held.spelt;
+        some = subst (λ (m : ℕ). m < length text) (here at) first.0;
+        len_is = subst (λ (m : ℕ). len ≡ continuation_len (get_or text m 0) + 1) (here at) first.1;
+        wide = wide;
+      } in
+      let next = walked-on item held one (last +ℤ pos width) refl (more + 1) width refl refl (λ _. refl) in
       subst (λ (m : ℕ). IsWalked stride kind output text from before capacity (at + suc n * len) closed count (last +ℤ pos (suc n * width)) m width) (past more n)
       (walked-at stride kind output text from before capacity (at + len + n * len) (at + suc n * len) closed count ((last +ℤ pos width) +ℤ pos (n * width)) (last +ℤ pos (suc n * width)) (more + 1 + n) width (far last width n) (gone at n)
       (walked-alike n (at + len) (more + 1) (last +ℤ pos width) (alike-behind text at len n alike) next))
@@ -304,20 +322,16 @@ module _ (stride : Stride) (kind : ItemKind) (output : OutputState) (text : List
       far last w n = let all : suc n * w ≡ w + n * w = grind arith in omega (arith, ints, all)
 
 -- a code point that goes on with the open run, and so many behind it that are alike
-pub walked-run : (text : List ℕ) (at lead len : ℕ) → at < length text → lead ≡ get_or text at 0 → len ≡ continuation_len lead + 1
-    → (stride : Stride) (widths : List ℕ) → ((c : ℕ) → get_or widths (len_utf8 c - 1) 0 ≡ width_of stride c)
-    → (kind : ItemKind) (output : OutputState) → ((end : ℤ) → item_of_kind kind end ≡ record { scalars = 1; end = end; error = false; output = output })
-    → (from last : ℤ) (before : List Ended) (capacity count more step n : ℕ) (closed : List Run) → step ≡ get_or widths (len - 1) 0 → AreAlike text (at + len) len n
-    → IsWalked stride kind output text from before capacity at closed count last more step
-    → IsWalked stride kind output text from before capacity (at + len + n * len) closed count ((last +ℤ pos (get_or widths (len - 1) 0)) +ℤ pos (n * get_or widths (len - 1) 0)) (more + 1 + n) step
-walked-run text at lead len some lead_is len_is stride widths widths_are kind output one from last before capacity count more step n closed same alike held =
-    let width = get_or widths (len - 1) 0 in
-    let width_is = next-width text at lead len held.spelt some lead_is len_is stride widths widths_are in
-    let first = walked-on text at lead len held.spelt some lead_is len_is stride width width_is from last (pos 0) held.front held.parts held.place kind output one
-    before capacity count more step closed held.spelt held.items held.room (more + 1) step refl same (λ _. same) in
-    let wide : (c : ℕ) → len ≡ len_utf8 c → step ≡ width_of stride c = λ c e. same ∙ ap (λ (k : ℕ). get_or widths (k - 1) 0) e ∙ widths_are c in
-    subst (λ (w : ℕ). IsWalked stride kind output text from before capacity (at + len + n * len) closed count ((last +ℤ pos width) +ℤ pos (n * w)) (more + 1 + n) step) same
-    (walked-alike stride kind output text from before capacity closed count step len one wide n (at + len) (more + 1) (last +ℤ pos width) alike first)
+pub walked-run : {stride : Stride} {text : List ℕ} {at len width : ℕ} → IsItemAt stride text at len width
+    → {kind : ItemKind} {output : OutputState} {from last : ℤ} {before : List Ended} {capacity count more step : ℕ} {closed : List Run} → IsWalked stride kind output text from before capacity at closed count last more step
+    → ((end : ℤ) → item_of_kind kind end ≡ record { scalars = 1; end = end; error = false; output = output })
+    → (n : ℕ) (mid end : ℤ) → mid ≡ last +ℤ pos width → step ≡ width → AreAlike text (at + len) len n → end ≡ mid +ℤ pos (n * width)
+    → IsWalked stride kind output text from before capacity (at + len + n * len) closed count end (more + 1 + n) step
+walked-run {stride} {text} {at} {len} {width} here {kind} {output} {from} {last} {before} {capacity} {count} {more} {step} {closed} held one n mid end mid_is same alike end_is =
+    subst (λ (w : ℕ). IsWalked stride kind output text from before capacity (at + len + n * len) closed count end (more + 1 + n) w) (sym same)
+    (walked-at stride kind output text from before capacity (at + len + n * len) (at + len + n * len) closed count (mid +ℤ pos (n * width)) end (more + 1 + n) width end_is refl
+    (walked-alike stride kind output text from before capacity closed count width len one here.wide n (at + len) (more + 1) mid alike
+    (walked-on here held one mid mid_is (more + 1) width refl refl (λ _. same))))
 
 -- how many bytes those of a run can have
 pub few-bytes : (n len : ℕ) → n ≤ 65535 → len ≤ 4 → n * len ≤ 262140
@@ -328,14 +342,18 @@ few-bytes n (suc (suc (suc zero))) few short = omega (arith, few)
 few-bytes n (suc (suc (suc (suc zero)))) few short = omega (arith, few)
 few-bytes n (suc (suc (suc (suc (suc len))))) few short = absurd (omega (arith, short))
 
--- all items end before a limit that the last one ends before
-pub walked-below : (stride : Stride) (kind : ItemKind) (output : OutputState) (text : List ℕ) (from : ℤ) (before : List Ended) (capacity at : ℕ) (closed : List Run) (count : ℕ) (last limit : ℤ) (more step : ℕ)
-    → IsWalked stride kind output text from before capacity at closed count last more step → (from +ℤ pos (run_width stride (chars text))) <ℤ limit → last <ℤ limit
-walked-below stride kind output text from before capacity at closed count last limit more step held fits =
-    by from last limit (run_width stride (chars text)) (run_width stride held.front) (run_width stride (chars (drop at text))) (ap (run_width stride) held.parts ∙ run-append stride held.front (chars (drop at text))) held.place fits
+-- its items end before a limit that the last one ends before
+pub run-fits : {stride : Stride} {text : List ℕ} {at len width : ℕ} → IsItemAt stride text at len width
+    → {kind : ItemKind} {output : OutputState} {from last : ℤ} {before : List Ended} {capacity count more step : ℕ} {closed : List Run} → IsWalked stride kind output text from before capacity at closed count last more step
+    → ((end : ℤ) → item_of_kind kind end ≡ record { scalars = 1; end = end; error = false; output = output })
+    → (n : ℕ) (mid limit start : ℤ) → mid ≡ last +ℤ pos width → step ≡ width → AreAlike text (at + len) len n → from ≡ start → (start +ℤ pos (run_width stride (chars text))) <ℤ limit → (mid +ℤ pos (n * width)) <ℤ limit
+run-fits {stride} {text} {at} {len} {width} here {from = from} held one n mid limit start mid_is same alike from_is fits =
+    let walked = walked-run here held one n mid (mid +ℤ pos (n * width)) mid_is same alike refl in
+    by from (mid +ℤ pos (n * width)) limit start (run_width stride (chars text)) (run_width stride walked.front) (run_width stride (chars (drop (at + len + n * len) text)))
+    (ap (run_width stride) walked.parts ∙ run-append stride walked.front (chars (drop (at + len + n * len) text))) walked.place from_is fits
   where
-    by : (from last limit : ℤ) (all front rest : ℕ) → all ≡ front + rest → last ≡ from +ℤ pos front → (from +ℤ pos all) <ℤ limit → last <ℤ limit
-    by from last limit all front rest e f g = omega (arith, ints, e, f, g)
+    by : (from last limit start : ℤ) (all front rest : ℕ) → all ≡ front + rest → last ≡ from +ℤ pos front → from ≡ start → (start +ℤ pos all) <ℤ limit → last <ℤ limit
+    by from last limit start all front rest e f g h = omega (arith, ints, e, f, g, h)
 
 -- all of the text
 pub walked-whole : (stride : Stride) (kind : ItemKind) (output : OutputState) (text : List ℕ) (from : ℤ) (before : List Ended) (capacity at : ℕ) (closed : List Run) (count : ℕ) (last : ℤ) (more step : ℕ)

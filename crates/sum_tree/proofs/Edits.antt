@@ -1,9 +1,13 @@
 -- An edit of one element is an edit of the part that has it.
-use Rattle.std.proofs.Common.{◌≡◌, ℕ, zero, suc, ◌+◌, ◌-◌, ◌<◌, ◌≤◌, List, [], ◌∷◌, ◌++◌, length, ap, sym, ◌∙◌, refl, arith, slice_set}
+use Rattle.std.proofs.Common.{◌≡◌, ℕ, zero, suc, ◌+◌, ◌-◌, ◌<◌, ◌≤◌, List, [], ◌∷◌, ◌++◌, length, ap, sym, ◌∙◌, refl, arith, append_assoc, slice_set}
 use Rattle.std.specs.Prelude.{slice_get}
 use Rattle.std.specs.List.{insert, remove}
 use Rattle.std.proofs.lemmas.List.{set-append_left, set-append_right}
 use Rattle.std.proofs.lemmas.List.Edits.{insert-append_left, insert-append_right, remove-append_left, remove-append_right}
+use Rattle.sum_tree.specs.Row.{Row}
+use Rattle.sum_tree.specs.Opened.{IsTwo, IsThree}
+use Rattle.sum_tree.specs.Sums.{MonoidLaws, IsSummable}
+use Rattle.sum_tree.proofs.Totals.{summable_front, summable_back}
 
 pub record IsEdit {T : Type 0} (edit : List T → ℕ → List T) : Type 0 where
   pub left : (xs ys : List T) (i : ℕ) → i < length xs → edit (xs ++ ys) i ≡ edit xs i ++ ys
@@ -42,8 +46,67 @@ module _ {T : Type 0} {edit : List T → ℕ → List T} (e : IsEdit edit) where
   pub edit_last : (r a b c : List T) (i j k : ℕ) → r ≡ a ++ (b ++ c) → length a + j ≡ i → length b + k ≡ j → edit r i ≡ a ++ (b ++ edit c k)
   edit_last r a b c i j k p h m = edit_back r a (b ++ c) i j p h ∙ ap (λ l. a ++ l) (edit_back (b ++ c) b c j k refl m)
 
+  -- two children: the whole behind an edit, by what became of the child, and that the child can be summed where the whole can
+  module _ {r a b : Row T} (t : IsTwo r a b) where
+    pub edited_left : {x : List T} (i : ℕ) → x ≡ edit a.items i → i < length a.items → edit r.items i ≡ x ++ b.items
+    edited_left i q h = edit_front r.items a.items b.items i t.items h ∙ ap (λ l. l ++ b.items) (sym q)
+
+    pub edited_right : {x : List T} (i j : ℕ) → x ≡ edit b.items j → length a.items + j ≡ i → edit r.items i ≡ a.items ++ x
+    edited_right i j q h = edit_back r.items a.items b.items i j t.items h ∙ ap (λ l. a.items ++ l) (sym q)
+
+    -- the child joined with the other one
+    pub joined_left : {x y : List T} (i : ℕ) → x ≡ edit a.items i → y ≡ x ++ b.items → i < length a.items → edit r.items i ≡ y
+    joined_left i q p h = edited_left i q h ∙ sym p
+
+    pub joined_right : {x y : List T} (i j : ℕ) → x ≡ edit b.items j → y ≡ a.items ++ x → length a.items + j ≡ i → edit r.items i ≡ y
+    joined_right i j q p h = edited_right i j q h ∙ sym p
+
+    module _ {S : Type 0} {fits : S → Type 0} {unit : S} {op : S → S → S} (laws : MonoidLaws unit op) (sum_of : T → S) where
+      pub summable_left : ((a b : S) → fits (op a b) → fits a) → (i : ℕ) → i < length a.items → IsSummable fits unit op sum_of (edit r.items i) → IsSummable fits unit op sum_of (edit a.items i)
+      summable_left left i h = summable_front laws sum_of left _ _ b.items (edit_front r.items a.items b.items i t.items h)
+
+      pub summable_right : ((a b : S) → fits (op a b) → fits b) → (i j : ℕ) → length a.items + j ≡ i → IsSummable fits unit op sum_of (edit r.items i) → IsSummable fits unit op sum_of (edit b.items j)
+      summable_right right i j h = summable_back laws sum_of right _ a.items _ (edit_back r.items a.items b.items i j t.items h)
+
+  -- the same of three children
+  module _ {r a b c : Row T} (t : IsThree r a b c) where
+    pub edited_first : {x : List T} (i : ℕ) → x ≡ edit a.items i → i < length a.items → edit r.items i ≡ x ++ (b.items ++ c.items)
+    edited_first i q h = edit_front r.items a.items (b.items ++ c.items) i t.items h ∙ ap (λ l. l ++ (b.items ++ c.items)) (sym q)
+
+    pub edited_middle : {x : List T} (i j : ℕ) → x ≡ edit b.items j → length a.items + j ≡ i → j < length b.items → edit r.items i ≡ a.items ++ (x ++ c.items)
+    edited_middle i j q h k = edit_middle r.items a.items b.items c.items i j t.items h k ∙ ap (λ l. a.items ++ (l ++ c.items)) (sym q)
+
+    pub edited_last : {x : List T} (i j k : ℕ) → x ≡ edit c.items k → length a.items + j ≡ i → length b.items + k ≡ j → edit r.items i ≡ a.items ++ (b.items ++ x)
+    edited_last i j k q h m = edit_last r.items a.items b.items c.items i j k t.items h m ∙ ap (λ l. a.items ++ (b.items ++ l)) (sym q)
+
+    -- the child joined with the one beside it
+    pub joined_first : {x y : List T} (i : ℕ) → x ≡ edit a.items i → y ≡ x ++ b.items → i < length a.items → edit r.items i ≡ y ++ c.items
+    joined_first {x} i q p h = edited_first i q h ∙ sym (append_assoc x b.items c.items) ∙ ap (λ l. l ++ c.items) (sym p)
+
+    pub joined_middle : {x y : List T} (i j : ℕ) → x ≡ edit b.items j → y ≡ a.items ++ x → length a.items + j ≡ i → j < length b.items → edit r.items i ≡ y ++ c.items
+    joined_middle {x} i j q p h k = edited_middle i j q h k ∙ sym (append_assoc a.items x c.items) ∙ ap (λ l. l ++ c.items) (sym p)
+
+    pub joined_last : {x y : List T} (i j k : ℕ) → x ≡ edit c.items k → y ≡ b.items ++ x → length a.items + j ≡ i → length b.items + k ≡ j → edit r.items i ≡ a.items ++ y
+    joined_last i j k q p h m = edited_last i j k q h m ∙ ap (λ l. a.items ++ l) (sym p)
+
+    module _ {S : Type 0} {fits : S → Type 0} {unit : S} {op : S → S → S} (laws : MonoidLaws unit op) (sum_of : T → S) where
+      pub summable_first : ((a b : S) → fits (op a b) → fits a) → (i : ℕ) → i < length a.items → IsSummable fits unit op sum_of (edit r.items i) → IsSummable fits unit op sum_of (edit a.items i)
+      summable_first left i h = summable_front laws sum_of left _ _ (b.items ++ c.items) (edit_front r.items a.items (b.items ++ c.items) i t.items h)
+
+      pub summable_middle : ((a b : S) → fits (op a b) → fits a) → ((a b : S) → fits (op a b) → fits b) → (i j : ℕ) → length a.items + j ≡ i → j < length b.items
+          → IsSummable fits unit op sum_of (edit r.items i) → IsSummable fits unit op sum_of (edit b.items j)
+      summable_middle left right i j h k fit =
+          let behind = summable_back laws sum_of right (edit r.items i) a.items (edit b.items j ++ c.items) (edit_middle r.items a.items b.items c.items i j t.items h k) fit in
+          summable_front laws sum_of left (edit b.items j ++ c.items) (edit b.items j) c.items refl behind
+
+      pub summable_last : ((a b : S) → fits (op a b) → fits b) → (i j k : ℕ) → length a.items + j ≡ i → length b.items + k ≡ j
+          → IsSummable fits unit op sum_of (edit r.items i) → IsSummable fits unit op sum_of (edit c.items k)
+      summable_last right i j k h m fit =
+          let behind = summable_back laws sum_of right (edit r.items i) a.items (b.items ++ edit c.items k) (edit_last r.items a.items b.items c.items i j k t.items h m) fit in
+          summable_back laws sum_of right (b.items ++ edit c.items k) b.items (edit c.items k) refl behind
+
 -- an element of a part is an element of the whole
-pub get_front : {T : Type 0} (xs ys : List T) (i : ℕ) → i < length xs → slice_get (xs ++ ys) i ≡ slice_get xs i
+get_front : {T : Type 0} (xs ys : List T) (i : ℕ) → i < length xs → slice_get (xs ++ ys) i ≡ slice_get xs i
 get_front [] ys i h = absurd (omega arith)
 get_front (x ∷ xs) ys zero h = refl
 get_front (x ∷ xs) ys (suc i) h = get_front xs ys i (omega arith)
@@ -56,8 +119,28 @@ get_past (x ∷ xs) ys j =
     let n : length (x ∷ xs) + j ≡ suc (length xs + j) = omega arith in
     ap (slice_get (x ∷ (xs ++ ys))) n ∙ get_past xs ys j
 
-pub get_back : {T : Type 0} (xs ys : List T) (i j : ℕ) → length xs + j ≡ i → slice_get (xs ++ ys) i ≡ slice_get ys j
+get_back : {T : Type 0} (xs ys : List T) (i j : ℕ) → length xs + j ≡ i → slice_get (xs ++ ys) i ≡ slice_get ys j
 get_back xs ys i j h = ap (slice_get (xs ++ ys)) (sym h) ∙ get_past xs ys j
+
+module _ {T : Type 0} {r a b : Row T} (t : IsTwo r a b) where
+  pub got_left : (i : ℕ) → i < length a.items → slice_get r.items i ≡ slice_get a.items i
+  got_left i h = ap (λ l. slice_get l i) t.items ∙ get_front a.items b.items i h
+
+  pub got_right : (i j : ℕ) → length a.items + j ≡ i → slice_get r.items i ≡ slice_get b.items j
+  got_right i j h = ap (λ l. slice_get l i) t.items ∙ get_back a.items b.items i j h
+
+module _ {T : Type 0} {r a b c : Row T} (t : IsThree r a b c) where
+  pub got_first : (i : ℕ) → i < length a.items → slice_get r.items i ≡ slice_get a.items i
+  got_first i h = ap (λ l. slice_get l i) t.items ∙ get_front a.items (b.items ++ c.items) i h
+
+  got_behind : (i j : ℕ) → length a.items + j ≡ i → slice_get r.items i ≡ slice_get (b.items ++ c.items) j
+  got_behind i j h = ap (λ l. slice_get l i) t.items ∙ get_back a.items (b.items ++ c.items) i j h
+
+  pub got_middle : (i j : ℕ) → length a.items + j ≡ i → j < length b.items → slice_get r.items i ≡ slice_get b.items j
+  got_middle i j h k = got_behind i j h ∙ get_front b.items c.items j k
+
+  pub got_last : (i j k : ℕ) → length a.items + j ≡ i → length b.items + k ≡ j → slice_get r.items i ≡ slice_get c.items k
+  got_last i j k h m = got_behind i j h ∙ get_back b.items c.items j k m
 
 -- an element beside the only one
 pub insert_first : {T : Type 0} (r : List T) (i : ℕ) (x y : T) → r ≡ x ∷ [] → i ≡ 0 → insert r i y ≡ y ∷ x ∷ []

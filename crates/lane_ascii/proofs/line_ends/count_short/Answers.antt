@@ -6,10 +6,8 @@ use Rattle.lane_ascii.proofs.line_ends.count_short.Goals as goal
 
 pub overflow_add-count : goal.overflow_add-count
 overflow_add-count c =
-    let f = c.args.after_cr in
-    let bytes = c.args.bytes.now in
-    let at = c.bytes.byte-index in
-    omega (arith, marks-le f (take at bytes), length-take at bytes, c.from-count.ensures, byte-le c.marks_line.result)
+    let front = take c.bytes.byte-index c.args.bytes.now in
+    omega (arith, marks-le c.args.after_cr front, length-take c.bytes.byte-index c.args.bytes.now, c.from-count.ensures, byte-le c.marks_line.result)
 
 pub bytes-preserved : goal.bytes-preserved
 bytes-preserved c =

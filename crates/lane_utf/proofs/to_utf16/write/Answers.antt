@@ -10,12 +10,10 @@ use Rattle.lane_utf.proofs.to_utf16.write.Goals as goal
 
 pub widen-requires-clause-units : goal.widen-requires-clause-units
 widen-requires-clause-units c =
-    let bytes = c.args.bytes.now in
-    let behind = drop c.text.read bytes in
-    let ascii = c.is_ascii_block.ensures c.if-is_ascii_block.true in
-    let room : length (utf16_forms (chars bytes)) ≤ length c.text.units = omega (arith, c.requires.room, c.text.auto.units) in
-    block_room _ c.text.written c.text.units _ _ (take 16 behind) (utf16_forms (chars (drop 16 behind))) 16 c.text.invariant.writing room
-    (ascii-forms behind 16 ascii) (length-chunk c.text.read 16 bytes (omega arith))
+    let front = take 16 (drop c.text.read c.args.bytes.now) in
+    block_room (utf16_forms (chars c.args.bytes.now)) c.text.written c.text.units _ _ front (utf16_forms (chars (drop 16 (drop c.text.read c.args.bytes.now)))) 16 c.text.invariant.writing
+    (omega (arith, c.requires.room, c.text.auto.units))
+    (ascii-forms (drop c.text.read c.args.bytes.now) 16 (c.is_ascii_block.ensures c.if-is_ascii_block.true)) (length-chunk c.text.read 16 c.args.bytes.now (omega arith))
 
 pub text-preserved-then-is_ascii_block : goal.text-preserved-then-is_ascii_block
 text-preserved-then-is_ascii_block c =
@@ -23,33 +21,27 @@ text-preserved-then-is_ascii_block c =
     let behind = drop c.text.read bytes in
     let ascii = c.is_ascii_block.ensures c.if-is_ascii_block.true in
     let within : c.text.read + 16 ≤ length bytes = omega arith in
-    let long = length-chunk c.text.read 16 bytes within in
     let same = drop-drop 16 c.text.read bytes in
-    let room : length (utf16_forms (chars bytes)) ≤ length c.text.units = omega (arith, c.requires.room, c.text.auto.units) in
     record {
       within = within;
       text = subst IsUtf8 same (ascii-text behind 16 c.text.invariant.text (omega (arith, within, length-drop c.text.read bytes)) ascii);
-      writing = block_goes_on _ c.text.written c.text.units _ _ (take 16 behind) _ 16 c.widen.new.units c.text.invariant.writing room
-          (ascii-forms behind 16 ascii ∙ ap (λ k. take 16 behind ++ utf16_forms (chars k)) same) long c.widen.ensures;
+      writing = block_goes_on (utf16_forms (chars bytes)) c.text.written c.text.units _ _ (take 16 behind) _ 16 c.widen.new.units c.text.invariant.writing (omega (arith, c.requires.room, c.text.auto.units))
+          (ascii-forms behind 16 ascii ∙ ap (λ k. take 16 behind ++ utf16_forms (chars k)) same) (length-chunk c.text.read 16 bytes within) c.widen.ensures;
     }
 
 pub put-written-requires-clause-room : goal.put-written-requires-clause-room
 put-written-requires-clause-room c =
-    let bytes = c.args.bytes.now in
-    let n = c.next-code_point in
-    let room : length (utf16_forms (chars bytes)) ≤ length c.text.units = omega (arith, c.requires.room, c.text.auto.units) in
-    form_room _ c.text.written c.text.units _ _ _ n.result.0 c.text.invariant.writing room (ap utf16_forms n.ensures.first) (form-width n.result.0)
+    form_room (utf16_forms (chars c.args.bytes.now)) c.text.written c.text.units _ _ _ c.next-code_point.result.0 c.text.invariant.writing
+    (omega (arith, c.requires.room, c.text.auto.units)) (ap utf16_forms c.next-code_point.ensures.first) (form-width c.next-code_point.result.0)
 
 pub text-preserved : goal.text-preserved
 text-preserved c =
-    let bytes = c.args.bytes.now in
     let n = c.next-code_point in
-    let same = drop-drop n.result.1 c.text.read bytes in
-    let room : length (utf16_forms (chars bytes)) ≤ length c.text.units = omega (arith, c.requires.room, c.text.auto.units) in
+    let same = drop-drop n.result.1 c.text.read c.args.bytes.now in
     record {
-      within = omega (arith, n.ensures.within, length-drop c.text.read bytes, c.text-test.true);
+      within = omega (arith, n.ensures.within, length-drop c.text.read c.args.bytes.now, c.text-test.true);
       text = subst IsUtf8 same n.ensures.text;
-      writing = form_goes_on _ c.text.written c.text.units _ _ _ n.result.0 c.put-written.result c.put-written.new.units c.text.invariant.writing room
+      writing = form_goes_on (utf16_forms (chars c.args.bytes.now)) c.text.written c.text.units _ _ _ n.result.0 c.put-written.result c.put-written.new.units c.text.invariant.writing (omega (arith, c.requires.room, c.text.auto.units))
           (ap utf16_forms n.ensures.first ∙ ap (λ k. utf16_form n.result.0 ++ utf16_forms (chars k)) same) (form-width n.result.0)
           c.put-written.ensures.end c.put-written.ensures.units;
     }

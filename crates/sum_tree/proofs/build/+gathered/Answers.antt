@@ -68,32 +68,14 @@ take_last-requires g t c = grind (arith, common_steps)
 pub close-requires-clause-level : goal.close-requires-clause-level
 close-requires-clause-level g t c = grind (arith, common_steps)
 
-pub returns-then-height-eq0-clause-items : goal.returns-then-height-eq0-clause-items
-returns-then-height-eq0-clause-items g t c = grind (arith, common_steps)
-
-pub returns-then-height-eq0-clause-count : goal.returns-then-height-eq0-clause-count
-returns-then-height-eq0-clause-count g t c = grind (arith, common_steps)
-
-pub returns-then-height-eq0-clause-height : goal.returns-then-height-eq0-clause-height
-returns-then-height-eq0-clause-height g t c = grind (arith, common_steps)
-
-pub returns-then-height-eq0-clause-sound : goal.returns-then-height-eq0-clause-sound
-returns-then-height-eq0-clause-sound g t c = grind (arith, common_steps)
-
-pub returns-then-height-eq0-clause-boxes : goal.returns-then-height-eq0-clause-boxes
-returns-then-height-eq0-clause-boxes g t c = grind (arith, common_steps)
-
-pub returns-then-height-eq0-clause-capacity : goal.returns-then-height-eq0-clause-capacity
-returns-then-height-eq0-clause-capacity g t c = grind (arith, common_steps)
+pub returns-then-height-eq0 : goal.returns-then-height-eq0
+returns-then-height-eq0 g t c = grind (arith, common_steps)
 
 pub overflow_sub-below : goal.overflow_sub-below
 overflow_sub-below g t c = grind (arith, common_steps)
 
-pub halved-half-requires-clause-height : goal.halved-half-requires-clause-height
-halved-half-requires-clause-height g t c = grind (arith, common_steps)
-
-pub halved-half-requires-clause-width : goal.halved-half-requires-clause-width
-halved-half-requires-clause-width g t c = grind (arith, common_steps)
+pub halved-half-requires : goal.halved-half-requires
+halved-half-requires g t c = grind (arith, common_steps)
 
 pub overflow_sub-count : goal.overflow_sub-count
 overflow_sub-count g t c = grind (arith, common_steps)
@@ -122,38 +104,8 @@ overflow_sub-count-else-count-width-2 g t c = grind (arith, common_steps)
 pub close-requires-else-count-width-clause-level : goal.close-requires-else-count-width-clause-level
 close-requires-else-count-width-clause-level g t c = grind (arith, common_steps)
 
-pub returns-then-count-width-clause-items : goal.returns-then-count-width-clause-items
-returns-then-count-width-clause-items g t c = grind (arith, common_steps)
+pub returns-then-count-width : goal.returns-then-count-width
+returns-then-count-width g t c = grind (arith, common_steps)
 
-pub returns-then-count-width-clause-count : goal.returns-then-count-width-clause-count
-returns-then-count-width-clause-count g t c = grind (arith, common_steps)
-
-pub returns-then-count-width-clause-height : goal.returns-then-count-width-clause-height
-returns-then-count-width-clause-height g t c = grind (arith, common_steps)
-
-pub returns-then-count-width-clause-sound : goal.returns-then-count-width-clause-sound
-returns-then-count-width-clause-sound g t c = grind (arith, common_steps)
-
-pub returns-then-count-width-clause-boxes : goal.returns-then-count-width-clause-boxes
-returns-then-count-width-clause-boxes g t c = grind (arith, common_steps)
-
-pub returns-then-count-width-clause-capacity : goal.returns-then-count-width-clause-capacity
-returns-then-count-width-clause-capacity g t c = grind (arith, common_steps)
-
-pub returns-else-count-width-clause-items : goal.returns-else-count-width-clause-items
-returns-else-count-width-clause-items g t c = grind (arith, common_steps)
-
-pub returns-else-count-width-clause-count : goal.returns-else-count-width-clause-count
-returns-else-count-width-clause-count g t c = grind (arith, common_steps)
-
-pub returns-else-count-width-clause-height : goal.returns-else-count-width-clause-height
-returns-else-count-width-clause-height g t c = grind (arith, common_steps)
-
-pub returns-else-count-width-clause-sound : goal.returns-else-count-width-clause-sound
-returns-else-count-width-clause-sound g t c = grind (arith, common_steps)
-
-pub returns-else-count-width-clause-boxes : goal.returns-else-count-width-clause-boxes
-returns-else-count-width-clause-boxes g t c = grind (arith, common_steps)
-
-pub returns-else-count-width-clause-capacity : goal.returns-else-count-width-clause-capacity
-returns-else-count-width-clause-capacity g t c = grind (arith, common_steps)
+pub returns-else-count-width : goal.returns-else-count-width
+returns-else-count-width g t c = grind (arith, common_steps)

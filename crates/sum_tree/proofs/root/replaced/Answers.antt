@@ -8,20 +8,8 @@ unreachable-requires g c = grind (arith, common_steps)
 pub unreachable-unreachable : goal.unreachable-unreachable
 unreachable-unreachable g c = grind (arith, common_steps)
 
-pub replace-requires-clause-place : goal.replace-requires-clause-place
-replace-requires-clause-place g c = grind (arith, common_steps)
+pub replace-requires : goal.replace-requires
+replace-requires g c = grind (arith, common_steps)
 
-pub replace-requires-clause-summable : goal.replace-requires-clause-summable
-replace-requires-clause-summable g c = grind (arith, common_steps)
-
-pub returns-clause-element : goal.returns-clause-element
-returns-clause-element g c = grind (arith, common_steps)
-
-pub returns-clause-items : goal.returns-clause-items
-returns-clause-items g c = grind (arith, common_steps)
-
-pub returns-clause-sound : goal.returns-clause-sound
-returns-clause-sound g c = grind (arith, common_steps)
-
-pub returns-clause-nodes : goal.returns-clause-nodes
-returns-clause-nodes g c = grind (arith, common_steps)
+pub returns : goal.returns
+returns g c = grind (arith, common_steps)

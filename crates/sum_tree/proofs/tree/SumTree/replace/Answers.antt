@@ -25,11 +25,5 @@ replaced-old-requires-clause-place g c = grind (arith, common_steps)
 pub invariant_of-self : goal.invariant_of-self
 invariant_of-self g c = grind (arith, common_steps)
 
-pub returns-clause-element : goal.returns-clause-element
-returns-clause-element g c = grind (arith, common_steps)
-
-pub returns-clause-items : goal.returns-clause-items
-returns-clause-items g c = grind (arith, common_steps)
-
-pub returns-clause-spare : goal.returns-clause-spare
-returns-clause-spare g c = grind (arith, common_steps)
+pub returns : goal.returns
+returns g c = grind (arith, common_steps)
