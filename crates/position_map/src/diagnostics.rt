@@ -1,7 +1,7 @@
 //! Where a document's errors are in its text.
 ghost use Rattle.std.specs.Prelude.{◌≡◌, ℕ, ◌+◌, ◌*◌, ◌^◌, ◌<◌, ◌≤◌, length, map, nat_lt, count_by, slice_get};
 ghost use Rattle.piece_rope.specs.Document.{errors_of};
-ghost use Rattle.position_map.specs.Diagnostics.{ErrorAt, all_errors, diagnostics_of, place_in, errors_before_line};
+ghost use Rattle.position_map.specs.Diagnostics.{all_errors, diagnostics_of, place_in, errors_before_line};
 ghost use Rattle.position_map.specs.ErrorScalars.{scalar_of};
 ghost use Rattle.position_map.specs.Whole.{pieces_most};
 
@@ -68,15 +68,12 @@ fn error_scalar(parts: &Parts<'_, '_>, n: u64, visits: &mut Visits) -> Option<u6
     let tail = parts.tail();
     let (before, found) = parts.find_error(n, visits);
     let here = found.unwrap_or(tail);
-    match error_scalar_in(here, n - before.errors) {
-        None => None,
-        Some(k) => Some(before.scalars + k),
-    }
+    error_scalar_in(here, before.scalars, n - before.errors)
 }
 
 // How many errors have a code point of a number below `n`.
 fn errors_before(parts: &Parts<'_, '_>, n: u64, visits: &mut Visits) -> u64
-    ensures count { result ≡ count_by (λ (e : ErrorAt). nat_lt e.scalar n) (all_errors parts.now.doc) }
+    ensures count { result ≡ count_by (λ (s : ℕ). nat_lt s n) (map scalar_of (all_errors parts.now.doc)) }
     ensures most { (d : ℕ) → length parts.now.pieces < 2 ^ d → visits.new ≤ visits.old + (d + 2) }
     ensures kept { visits.old ≤ visits.new }
 {
@@ -84,5 +81,5 @@ fn errors_before(parts: &Parts<'_, '_>, n: u64, visits: &mut Visits) -> u64
     let tail = parts.tail();
     let (before, found) = parts.find(Axis::Scalar, n, visits);
     let here = found.unwrap_or(tail);
-    before.errors + errors_before_in(here, n - before.scalars)
+    before.errors + errors_before_in(here, before.scalars, n)
 }

@@ -80,7 +80,8 @@ pub fn scalar_to_place(doc: &Doc<'_>, n: u64, visits: &mut Visits) -> Option<Pla
     ensures most { (d : ℕ) → pieces_most doc.now < 2 ^ d → visits.new ≤ visits.old + (4 * d + 8) }
     ensures kept { visits.old ≤ visits.new }
 {
-    place_at(&Parts::of(doc), n, visits)
+    let parts = Parts::of(doc);
+    place_at(&parts, n, visits)
 }
 
 // The place of code point `n`.
