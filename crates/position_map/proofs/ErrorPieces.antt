@@ -1,5 +1,5 @@
 -- The errors of a document, piece by piece.
-use Rattle.std.proofs.Common.{◌≡◌, refl, sym, ap, subst, ◌∙◌, ℕ, zero, suc, ◌+◌, ◌-◌, ◌<◌, ◌≤◌, inl, inr, Bool, true, false, cond, nat_lt, nat_le, List, [], ◌∷◌, ◌++◌, length, length-append, map, append_assoc, append-nil, arith, Option, Some, None, Ok, Err}
+use Rattle.std.proofs.Common.{◌≡◌, refl, sym, ap, subst, ◌∙◌, ℕ, zero, suc, ◌+◌, ◌-◌, ◌<◌, ◌≤◌, inl, inr, Bool, true, false, cond, nat_lt, nat_le, List, [], ◌∷◌, ◌++◌, length, length-append, map, append_assoc, append-nil, arith, Option, Some, None, Result, Ok, Err}
 use Rattle.std.specs.List.{slice_get}
 use Rattle.std.specs.Option.{option_map}
 use Rattle.std.proofs.lemmas.List.{length-map, map-append}
@@ -13,6 +13,7 @@ use Rattle.piece_rope.specs.Made.{IsEnded, AreEnded, IsMade, AreMade}
 use Rattle.piece_rope.specs.Outcomes.{Ended, Outcome, Sum, joined, total_of, all_scalars, is_an_error}
 use Rattle.piece_rope.specs.Search.{Scalar, measure}
 use Rattle.position_map.specs.declared.diagnostic.Diagnostic.{Diagnostic}
+use Rattle.position_map.specs.declared.fault.PosFault.{PosFault}
 use Rattle.position_map.specs.declared.fault.PosFault.TheVariants.{OutOfRange}
 use Rattle.position_map.specs.declared.position.Position.{Position}
 use Rattle.position_map.specs.declared.unit.Unit.{Unit as TextUnit}
@@ -191,9 +192,9 @@ cut-around measured d n s o p w =
       errors = made-errors p.front 0 0 h.left h.before ∙ sym (ap (λ (v : Sum). v.errors) p.sum);
       own = m.3;
       end = λ l. elim p.high [
-          | inl e ↦ subst (AreMade (0 + (total_of p.front).bytes + o.sum.bytes) m.1) e m.4
-          | inr g ↦ absurd (omega (arith, l, g))
-        ];
+        | inl e ↦ subst (AreMade (0 + (total_of p.front).bytes + o.sum.bytes) m.1) e m.4
+        | inr g ↦ absurd (omega (arith, l, g))
+      ];
     }
 
 around-numbers : (measured : Sum → ℕ) (d : Pieced) (n : ℕ) (s : Sum) (o : Outcome) → (c : IsCutAround measured d n s o)
@@ -296,14 +297,15 @@ map-none : (o : Option ErrorAt) → None ≡ option_map scalar_of o → o ≡ No
 map-none None h = refl
 map-none (Some e) h = absurd (none_some h)
 
+abbrev position_or : Result Position PosFault → Position → Position
+position_or (Ok p) q = p
+position_or (Err fault) q = q
+
 position-alone : (text : List ℕ) (unit : TextUnit) (s : ℕ) (p : Position) → Ok p ≡ position_of text unit s → s ≤ length text → p ≡ position text unit s
 unfolding position_of
 position-alone text unit s p e h =
     let t : nat_le s (length text) ≡ true = grind (arith, nat_tests) in
-    same_ok (e ∙ ap (λ b. cond b (Ok (position text unit s)) (Err OutOfRange)) t)
-  where
-    same_ok : {a b : Position} → Ok a ≡ Ok b → a ≡ b
-    same_ok h = cc
+    ap (λ r. position_or r p) (e ∙ ap (λ b. cond b (Ok (position text unit s)) (Err OutOfRange)) t)
 
 -- an error has a place
 pub some-place : (d : Document) (n s : ℕ) → Some s ≡ slice_get (map scalar_of (all_errors d)) n → None ≡ place_of (decoded d).items s → ⊥

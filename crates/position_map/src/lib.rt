@@ -6,6 +6,7 @@ mod change_fault;
 mod changes;
 mod cuts;
 mod diagnostic;
+mod diagnostic_examples;
 mod diagnostics;
 mod ending;
 mod error_runs;
