@@ -1,5 +1,5 @@
 -- The errors of a document, piece by piece.
-use Rattle.std.proofs.Common.{◌≡◌, refl, sym, ap, subst, ◌∙◌, ℕ, zero, suc, ◌+◌, ◌-◌, ◌<◌, ◌≤◌, inl, inr, Bool, true, false, cond, nat_lt, nat_le, List, [], ◌∷◌, ◌++◌, length, length-append, map, append_assoc, append-nil, arith, Option, Some, None, Result, Ok, Err}
+use Rattle.std.proofs.Common.{◌≡◌, refl, sym, ap, subst, ◌∙◌, ℕ, zero, suc, ◌+◌, ◌-◌, ◌<◌, ◌≤◌, inl, inr, Bool, true, false, cond, nat_lt, nat_le, List, [], ◌∷◌, ◌++◌, length, length-append, map, append-nil, arith, Option, Some, None, Result, Ok, Err}
 use Rattle.std.specs.List.{slice_get}
 use Rattle.std.specs.Option.{option_map}
 use Rattle.std.proofs.lemmas.List.{length-map, map-append}
@@ -9,7 +9,7 @@ use Rattle.std.proofs.lemmas.Bool.Decides.{nat_tests}
 use Rattle.enc_names.specs.declared.place.Place.{Place}
 use Rattle.piece_rope.specs.Decode.{Item, One, Two, Error, Placed, item_code_points, code_points, error_place, error_places}
 use Rattle.piece_rope.specs.Document.{Document, decoded, text_of, decoded_text, errors_of, decoded_errors}
-use Rattle.piece_rope.specs.Made.{IsEnded, AreEnded, IsMade, AreMade}
+use Rattle.piece_rope.specs.Made.{AreEnded, IsMade, AreMade}
 use Rattle.piece_rope.specs.Outcomes.{Ended, Outcome, Sum, joined, total_of, all_scalars, is_an_error}
 use Rattle.piece_rope.specs.Search.{Scalar, measure}
 use Rattle.position_map.specs.declared.diagnostic.Diagnostic.{Diagnostic}

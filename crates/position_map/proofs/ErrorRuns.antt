@@ -1,5 +1,5 @@
 -- The code points of errors among the runs of a piece.
-use Rattle.std.proofs.Common.{◌≡◌, refl, sym, ap, ◌∙◌, ℕ, zero, suc, ◌+◌, ◌-◌, ◌<◌, ◌≤◌, ◌⊎◌, inl, inr, Bool, true, false, cond, nat_lt, min, ℤ, pos, ◌-ℤ◌, List, [], ◌∷◌, ◌++◌, length, length-append, drop, get_or, arith, Option, Some, None, count_by}
+use Rattle.std.proofs.Common.{◌≡◌, refl, sym, ap, ◌∙◌, ℕ, zero, suc, ◌+◌, ◌-◌, ◌<◌, ◌≤◌, ◌⊎◌, inl, inr, Bool, true, false, cond, nat_lt, min, ℤ, pos, ◌-ℤ◌, List, [], ◌∷◌, ◌++◌, length, drop, get_or, arith, Some, count_by}
 use Rattle.std.specs.List.{slice_get}
 use Rattle.std.proofs.lemmas.Bool.Decides.{nat_tests}
 use Rattle.std.proofs.lemmas.List.{at_drop_more}

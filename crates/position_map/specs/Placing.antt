@@ -1,5 +1,5 @@
 -- Where items are among those of a document.
-use Rattle.std.specs.Prelude.{◌≡◌, ℕ, ◌+◌, ◌-◌, ◌<◌, ◌≤◌, ◌⊎◌, List, [], ◌∷◌, ◌++◌, length, get_or, Some}
+use Rattle.std.specs.Prelude.{◌≡◌, ℕ, ◌-◌, ◌<◌, ◌≤◌, ◌⊎◌, List, [], ◌∷◌, ◌++◌, length, get_or, Some}
 use Rattle.piece_rope.specs.Decode.{Placed}
 use Rattle.piece_rope.specs.Outcomes.{Ended, Outcome, Sum, joined, total_of}
 use Rattle.piece_rope.specs.Document.{decoded}

@@ -1,4 +1,4 @@
-use Rattle.std.proofs.Common.{◌≡◌, ◌≤◌, ◌∙◌, sym, subst, length}
+use Rattle.std.proofs.Common.{◌≡◌, ◌≤◌, ◌∙◌, subst, length}
 use Rattle.piece_rope.specs.Document.{text_of}
 use Rattle.position_map.specs.declared.unit.Unit.TheVariants.{Utf8}
 use Rattle.position_map.specs.Diagnostics.{errors_before_line}

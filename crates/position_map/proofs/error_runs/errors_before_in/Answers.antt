@@ -1,6 +1,6 @@
-use Rattle.std.proofs.Common.{◌+◌, ◌-◌, arith, ap, ◌∙◌, List, ℕ, pos, drop, get_or}
+use Rattle.std.proofs.Common.{◌+◌, arith, ap, List, ℕ, pos, drop}
 use Rattle.piece_rope.specs.Outcomes.{Ended, all_scalars}
-use Rattle.piece_rope.specs.Runs.{AsciiOne, Run, items_of_run, items_of_runs}
+use Rattle.piece_rope.specs.Runs.{AsciiOne, Run, items_of_runs}
 use Rattle.position_map.specs.ErrorScalars.{error_scalars}
 use Rattle.position_map.proofs.ErrorRuns.{below, below-few, below-next, scalars-next}
 use Rattle.position_map.proofs.error_runs.errors_before_in.Goals as goal
