@@ -1,5 +1,5 @@
 -- What the pieces and the end answer is what decoding from scratch answers.
-use Rattle.std.proofs.Common.{◌≡◌, refl, sym, ap, ◌∙◌, ℕ, ◌+◌, List, [], ◌∷◌, ◌++◌, length, map, arith, length-append, take-append-drop}
+use Rattle.std.proofs.Common.{◌≡◌, refl, sym, ap, ◌∙◌, ℕ, ◌+◌, List, [], ◌∷◌, ◌++◌, length, map, arith, length-append, take-append-drop, Option}
 use Rattle.std.proofs.lemmas.Grind.{flat_map-append}
 use Rattle.enc_names.specs.declared.place.Place.{Place}
 use Rattle.state_memo.specs.Decoding.{Item, One, Two, Error, Placed, code_points, error_place, error_places, item_code_points, one_if}
@@ -9,9 +9,13 @@ use Rattle.state_memo.specs.declared.sum.Sum.{Sum}
 use Rattle.state_memo.specs.Facts.{IsSumOf}
 use Rattle.state_memo.specs.Items.{errors_in, is_an_error}
 use Rattle.state_memo.specs.Sums.{joined}
-use Rattle.piece_rope.specs.Document.{Document, text_of, decoded_text, errors_of, decoded_errors, decoded}
+use Rattle.piece_rope.specs.Document.{Document, text_of, decoded_text, errors_of, decoded_errors, decoded, document}
 use Rattle.piece_rope.specs.Entry.{Entry, here_of, texts_of, items_of, sums_of}
 use Rattle.piece_rope.specs.Made.{AreEnded, AreMade, IsWhole, body_of, tail_of, count_body}
+use Rattle.enc_names.specs.declared.setting.Setting.{Setting}
+use Rattle.index_loader.specs.Files.{Files}
+use Rattle.piece_rope.specs.Chain.{bytes_of}
+use Rattle.piece_rope.specs.Kept.{IsKept}
 
 -- what is said of the sums of texts in a row
 abbrev pub SumLaw : Type 0
@@ -37,13 +41,17 @@ text-whole doc ps tail whole =
     ∙ ap (λ (cs : List ℕ). cs ++ code_points (tail_of doc)) (made-text 0 (body_of doc) ps whole.made)
     ∙ ap (λ (cs : List ℕ). texts_of ps ++ cs) (sym whole.ended.text)
 
+-- the same of the document that contracts see
+pub text-seen : (files : Files) (setting : Setting) (ps : List Entry) (tail : Outcome) (earlier : Option (List ℕ)) (self : Document) → record (document files setting (bytes_of ps)) { earlier = earlier } ≡ self
+    → IsKept files setting ps tail → text_of self ≡ texts_of ps ++ tail.text
+text-seen files setting ps tail earlier self view_is kept = ap text_of (sym view_is) ∙ text-whole (document files setting (bytes_of ps)) ps tail kept.whole
+
 pub error_places-append : (xs ys : List Placed) → error_places (xs ++ ys) ≡ error_places xs ++ error_places ys
 error_places-append xs ys = flat_map-append (λ (p : Placed). error_place p.item (record { from = p.from; to = p.to })) xs ys
 
 error-counted : (i : Item) (place : Place) → length (error_place i place) ≡ one_if (is_an_error i)
 error-counted (One c) place = refl
-error-counted (Two a b) place = refl
-error-counted Error place = refl
+error-counted i place = refl
 
 ended-errors : (base : ℕ) (ps : List Placed) (es : List Ended) → AreEnded base ps es → length (error_places ps) ≡ errors_in es
 ended-errors base [] [] ended = refl

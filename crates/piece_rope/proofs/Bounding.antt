@@ -8,8 +8,7 @@ use Rattle.piece_rope.specs.Document.{Document, decoded, decoded_text, decoded_e
 
 item_few : (i : Item) → length (item_code_points i) ≤ 2
 item_few (One c) = omega arith
-item_few (Two a b) = omega arith
-item_few Error = omega arith
+item_few i = omega arith
 
 scalars_few : (ps : List Placed) → length (code_points ps) ≤ 2 * length ps
 scalars_few [] = omega arith
@@ -17,8 +16,7 @@ scalars_few (p ∷ ps) = omega (arith, length-append (item_code_points p.item) (
 
 error_few : (i : Item) (place : Place) → length (error_place i place) ≤ 1
 error_few (One c) place = omega arith
-error_few (Two a b) place = omega arith
-error_few Error place = omega arith
+error_few i place = omega arith
 
 errors_few : (ps : List Placed) → length (error_places ps) ≤ length ps
 errors_few [] = omega arith

@@ -10,6 +10,7 @@ use Rattle.state_memo.specs.Outcome.{outcome_of}
 use Rattle.piece_rope.specs.Entry.{Entry}
 use Rattle.piece_rope.specs.Resync.{LastDiffers, Passed}
 use Rattle.piece_rope.specs.Chain.{IsOwn, IsRenewed, Chain, AreRenewed, bytes_of, state_after, renew, renewed}
+use Rattle.piece_rope.proofs.Lists.{take-next, length-snoc}
 
 -- what is said of one decoder's runs
 pub record Laws (d : AnyDecoding) : Type 0 where
@@ -30,45 +31,21 @@ laws_from d none parts exact same exit bytes = record { none = none; parts = par
 pub bytes-append : (xs ys : List Entry) → bytes_of (xs ++ ys) ≡ bytes_of xs ++ bytes_of ys
 bytes-append xs ys = flat_map-append (λ (p : Entry). p.piece.bytes) xs ys
 
-pub take-next : {X : Type 0} (xs : List X) (n : ℕ) (x : X) → slice_get xs n ≡ Some x → take (suc n) xs ≡ take n xs ++ x ∷ []
-take-next [] zero x e = absurd cc
-take-next [] (suc n) x e = absurd cc
-take-next (y ∷ xs) zero x e = let f : y ≡ x = cc in ap (λ (z : _). z ∷ []) f
-take-next (y ∷ xs) (suc n) x e = ap (λ (zs : List _). y ∷ zs) (take-next xs n x e)
-
-pub get-behind : {X : Type 0} (xs : List X) (first n : ℕ) → slice_get (drop first xs) n ≡ slice_get xs (first + n)
-get-behind xs zero n = let e : 0 + n ≡ n = omega arith in ap (λ (k : ℕ). slice_get xs k) (sym e)
-get-behind [] (suc first) n = refl
-get-behind (x ∷ xs) (suc first) n = let e : suc (first + n) ≡ suc first + n = omega arith in get-behind xs first n ∙ ap (λ (k : ℕ). slice_get (x ∷ xs) k) e
-
-pub at-behind : {X : Type 0} (xs : List X) (first n index : ℕ) (x : X) → index ≡ first + n → slice_get xs index ≡ Some x → slice_get (drop first xs) n ≡ Some x
-at-behind xs first n index x e at = get-behind xs first n ∙ ap (λ (k : ℕ). slice_get xs k) (sym e) ∙ at
-
-pub length-snoc : {X : Type 0} (xs ys : List X) (x : X) → ys ≡ xs ++ x ∷ [] → length ys ≡ suc (length xs)
-length-snoc xs ys x e = ap length e ∙ rw (length-append xs (x ∷ [])) (omega arith)
-
 pub bytes-snoc : (ps : List Entry) (n : ℕ) (p : Entry) → slice_get ps n ≡ Some p → bytes_of (take (suc n) ps) ≡ bytes_of (take n ps) ++ p.piece.bytes
 bytes-snoc ps n p at =
     ap bytes_of (take-next ps n p at) ∙ bytes-append (take n ps) (p ∷ []) ∙ ap (λ (bs : List ℕ). bytes_of (take n ps) ++ bs) (append-nil p.piece.bytes)
 
 pub bytes-next : (ps : List Entry) (n : ℕ) (p : Entry) → slice_get ps n ≡ Some p
     → length (bytes_of (take (suc n) ps)) ≡ length (bytes_of (take n ps)) + length p.piece.bytes
-bytes-next ps n p at =
-    ap (λ (xs : List Entry). length (bytes_of xs)) (take-next ps n p at)
-    ∙ ap length (bytes-append (take n ps) (p ∷ []))
-    ∙ length-append (bytes_of (take n ps)) (p.piece.bytes ++ [])
-    ∙ ap (λ (bs : List ℕ). length (bytes_of (take n ps)) + length bs) (append-nil p.piece.bytes)
+bytes-next ps n p at = ap length (bytes-snoc ps n p at) ∙ length-append (bytes_of (take n ps)) p.piece.bytes
 
 pub renewed-bytes : (ps : List Entry) (rs : List Entry) → bytes_of (renewed ps rs) ≡ bytes_of ps
-renewed-bytes [] [] = refl
-renewed-bytes (p ∷ ps) [] = refl
+renewed-bytes ps [] = refl
 renewed-bytes [] (r ∷ rs) = refl
-renewed-bytes (p ∷ ps) (r ∷ rs) =
-    ap (λ (bs : List ℕ). p.piece.bytes ++ bs) (renewed-bytes ps rs)
+renewed-bytes (p ∷ ps) (r ∷ rs) = ap (λ (bs : List ℕ). p.piece.bytes ++ bs) (renewed-bytes ps rs)
 
 pub renewed-append : (xs ys : List Entry) (rs : List Entry) → length rs ≡ length xs → renewed (xs ++ ys) rs ≡ renewed xs rs ++ ys
-renewed-append [] [] [] e = refl
-renewed-append [] (y ∷ ys) [] e = refl
+renewed-append [] ys [] e = refl
 renewed-append [] ys (r ∷ rs) e = absurd (omega (arith, e))
 renewed-append (x ∷ xs) ys [] e = absurd (omega (arith, e))
 renewed-append (x ∷ xs) ys (r ∷ rs) e = ap (λ (zs : List Entry). renew x r ∷ zs) (renewed-append xs ys rs (omega (arith, e)))
@@ -90,8 +67,7 @@ pub renew-same : (p r : Entry) → r.piece.bytes ≡ p.piece.bytes → renew p r
 renew-same p r e = ap (λ (bs : List ℕ). record { piece = record { bytes = bs; known = r.piece.known }; entry = r.entry }) (sym e)
 
 pub renewed-are : (ps rs : List Entry) → AreRenewed ps rs → renewed ps rs ≡ rs ++ drop (length rs) ps
-renewed-are [] [] h = refl
-renewed-are (p ∷ ps) [] h = refl
+renewed-are ps [] h = refl
 renewed-are [] (r ∷ rs) h = absurd h
 renewed-are (p ∷ ps) (r ∷ rs) h = ap (λ (x : Entry). x ∷ renewed ps rs) (renew-same p r h.0.bytes) ∙ ap (λ (xs : List Entry). r ∷ xs) (renewed-are ps rs h.1)
 
@@ -122,22 +98,26 @@ module _ (d : AnyDecoding) (laws : Laws d) where
   chain-back s (x ∷ xs) ys c =
       subst (λ (t : AnyState). Chain d t ys) (sym (laws.parts s x.piece.bytes (bytes_of xs))) (chain-back (feed (any d) s x.piece.bytes).state xs ys c.2)
 
+  -- from a place on
+  pub chain-drop : (s : AnyState) (n : ℕ) (ps : List Entry) → Chain d s ps → Chain d (state_after d s (take n ps)) (drop n ps)
+  chain-drop s n ps c = chain-back s (take n ps) (drop n ps) (subst (λ (xs : List Entry). Chain d s xs) (sym (take-append-drop n ps)) c)
+
+  pub state-drop : (s : AnyState) (n : ℕ) (ps : List Entry) → state_after d s ps ≡ state_after d (state_after d s (take n ps)) (drop n ps)
+  state-drop s n ps = ap (λ (xs : List Entry). state_after d s xs) (sym (take-append-drop n ps)) ∙ state-append s (take n ps) (drop n ps)
+
   pub entry-at : (s : AnyState) (ps : List Entry) (n : ℕ) (p : Entry) → Chain d s ps → slice_get ps n ≡ Some p → p.entry ≡ state_after d s (take n ps)
-  entry-at s [] zero p c at = absurd cc
-  entry-at s [] (suc n) p c at = absurd cc
+  entry-at s [] n p c at = absurd cc
   entry-at s (x ∷ ps) zero p c at = let e : p ≡ x = cc in ap (λ (y : Entry). y.entry) e ∙ c.0 ∙ sym (laws.none s)
   entry-at s (x ∷ ps) (suc n) p c at =
       entry-at (feed (any d) s x.piece.bytes).state ps n p c.2 at ∙ sym (laws.parts s x.piece.bytes (bytes_of (take n ps)))
 
   pub own-at : (s : AnyState) (ps : List Entry) (n : ℕ) (p : Entry) → Chain d s ps → slice_get ps n ≡ Some p → IsOwn d p
-  own-at s [] zero p c at = absurd cc
-  own-at s [] (suc n) p c at = absurd cc
+  own-at s [] n p c at = absurd cc
   own-at s (x ∷ ps) zero p c at = let e : x ≡ p = cc in subst (λ (y : Entry). IsOwn d y) e c.1
   own-at s (x ∷ ps) (suc n) p c at = own-at (feed (any d) s x.piece.bytes).state ps n p c.2 at
 
   rechain : (s : AnyState) (ps : List Entry) (n : ℕ) (p : Entry) → slice_get ps n ≡ Some p → Chain d s (drop n ps) → Chain d p.entry (drop n ps)
-  rechain s [] zero p at c = absurd cc
-  rechain s [] (suc n) p at c = absurd cc
+  rechain s [] n p at c = absurd cc
   rechain s (x ∷ ps) zero p at c = let e : x ≡ p = cc in (ap (λ (y : Entry). y.entry) e, c.1, subst (λ (t : AnyState). Chain d (feed (any d) t x.piece.bytes).state ps) (sym c.0 ∙ ap (λ (y : Entry). y.entry) e) c.2)
   rechain s (x ∷ ps) (suc n) p at c = rechain s ps n p at c
 
@@ -193,8 +173,7 @@ module _ (d : AnyDecoding) (laws : Laws d) where
       → slice_get ps n ≡ Some p → length rs ≡ n → n ≤ length ps → Chain d from ps → Chain d entry (renewed (take n ps) rs)
       → p.entry ≡ state_after d entry (take n ps) → Chain d entry (renewed ps rs)
   rest-chains entry from ps n p rs at count within old chain same =
-      let back = chain-back from (take n ps) (drop n ps) (subst (λ (xs : List Entry). Chain d from xs) (sym (take-append-drop n ps)) old) in
-      let rest = rechain (state_after d from (take n ps)) ps n p at back in
+      let rest = rechain (state_after d from (take n ps)) ps n p at (chain-drop from n ps old) in
       let here : p.entry ≡ state_after d entry (renewed (take n ps) rs) = same ∙ ap (λ (bs : List ℕ). (feed (any d) entry bs).state) (sym (renewed-bytes (take n ps) rs)) in
       subst (λ (xs : List Entry). Chain d entry xs) (sym (renewed-whole ps rs n count within))
       (chain-append entry (renewed (take n ps) rs) (drop n ps) chain (subst (λ (s : AnyState). Chain d s (drop n ps)) here rest))
@@ -202,10 +181,7 @@ module _ (d : AnyDecoding) (laws : Laws d) where
   -- states that are equal at a place are equal at the end
   pub same-end : (entry from : AnyState) (ps : List Entry) (n : ℕ) → state_after d from (take n ps) ≡ state_after d entry (take n ps)
       → state_after d from ps ≡ state_after d entry ps
-  same-end entry from ps n same =
-      let cut : (s : AnyState) → state_after d s ps ≡ state_after d (state_after d s (take n ps)) (drop n ps) =
-      λ (s : AnyState). ap (λ (xs : List Entry). state_after d s xs) (sym (take-append-drop n ps)) ∙ state-append s (take n ps) (drop n ps) in
-      cut from ∙ ap (λ (s : AnyState). state_after d s (drop n ps)) same ∙ sym (cut entry)
+  same-end entry from ps n same = state-drop from n ps ∙ ap (λ (s : AnyState). state_after d s (drop n ps)) same ∙ sym (state-drop entry n ps)
 
   pub differs : (a b : AnyState) → same_state a b ≡ false → a ≢ b
   differs a b f e = absurd (let t = sym (laws.same b) ∙ ap (λ (x : AnyState). same_state x b) (sym e) ∙ f in cc)

@@ -2,7 +2,7 @@
 use Rattle.std.proofs.Common.{◌≡◌, refl, sym, ap, ◌∙◌, ℕ, zero, suc, ◌+◌, ◌-◌, ◌≤◌, List, [], ◌∷◌, ◌++◌, take, drop, length, slice_get, Bool, Option, Some, None, is_some, inl, inr, Decides, IfSome, arith, append_assoc, length-append, length-drop, take-append-drop}
 use Rattle.std.specs.Option.{IfNone}
 use Rattle.std.specs.Str.{encode_utf8_all}
-use Rattle.std.proofs.lemmas.List.{append_cancel_left, length-take-le, drop-drop}
+use Rattle.std.proofs.lemmas.List.{append_cancel_left, length-take-le, drop-drop, drop_all}
 use Rattle.std.proofs.lemmas.Str.{encodes-append, encode_same}
 use Rattle.std.proofs.Math.Seq.{drop-append-add}
 use Rattle.std.proofs.Math.Utf8.{encode}
@@ -12,10 +12,11 @@ use Rattle.piece_rope.specs.Compare.{IsSpan, wanted}
 use Rattle.piece_rope.specs.Edits.{replaced}
 use Rattle.piece_rope.specs.Entry.{Entry, here_of}
 use Rattle.piece_rope.specs.Parts.{parts_of, text_in}
-use Rattle.piece_rope.proofs.Measuring.{low_or_high}
-use Rattle.piece_rope.proofs.Parting.{got, parts-text, parts-get, parts-length, text-append, text-next}
+use Rattle.piece_rope.proofs.Parting.{parts-text, parts-get, parts-length, text-append, text-next}
 use Rattle.piece_rope.proofs.Spanning.{parts-drop}
 use Rattle.piece_rope.proofs.Texts.{IsTextPlace, text-from, text-enough, text-within}
+use Rattle.piece_rope.proofs.Lists.{element}
+use Rattle.std.proofs.lemmas.Bool.{cases_lt}
 
 -- ---- lists
 
@@ -42,12 +43,6 @@ drop-front-of front back j end e l =
     ∙ (let f : j + (end - j) ≡ end = omega (arith, l) in ap (λ (n : ℕ). drop n (front ++ back)) f)
     ∙ drop-behind front back end e in
     sym (take-append-drop (end - j) all) ∙ ap (λ (xs : List ℕ). take (end - j) all ++ xs) rest
-
-drop-all : {X : Type 0} (xs : List X) (n : ℕ) → length xs ≤ n → drop n xs ≡ []
-drop-all [] zero l = refl
-drop-all [] (suc n) l = refl
-drop-all (x ∷ xs) zero l = absurd (omega (arith, l))
-drop-all (x ∷ xs) (suc n) l = drop-all xs n (omega (arith, l))
 
 -- characters that are written first in the same bytes, and are as many, are the same
 same-front : (xs ys : List ℕ) (a b : List ℕ) → length xs ≡ length ys → encode_utf8_all xs ++ a ≡ encode_utf8_all ys ++ b → xs ≡ ys
@@ -173,18 +168,51 @@ module _ (olds news : List Outcome) (put : List ℕ) (i j : ℕ) (s : Span) (spa
       ap (λ (cs : List ℕ). take (i - s.before) (drop s.before cs)) (ap text_in (sym (take-append-drop s.first olds)) ∙ text-append (take s.first olds) (drop s.first olds))
       ∙ ap (λ (cs : List ℕ). take (i - s.before) cs) (drop-behind front (text_in (drop s.first olds)) s.before span.before_is)
 
-  -- what is wanted, as bytes, in three
-  pub wanted-bytes : (bytes behind : List ℕ) → encode_utf8_all put ≡ bytes → behind ≡ encode_utf8_all (take (s.end - j) (drop j (text_in olds)))
-      → encode_utf8_all (wanted (text_in olds) s i j put) ≡ encode_utf8_all (take (i - s.before) (drop 0 (text_in (drop s.first olds)))) ++ (bytes ++ behind)
-  wanted-bytes bytes behind bytes_is behind_is =
+  -- the text that is compared, and what is wanted there: what stays before code point i, the text put in, and what stays from code point j on
+  abbrev pub seen : List ℕ
+  seen = encode_utf8_all (text_in (drop s.first news))
+
+  abbrev pub sought : List ℕ
+  sought = encode_utf8_all (wanted (text_in olds) s i j put)
+
+  abbrev pub before : List ℕ
+  before = encode_utf8_all (take (i - s.before) (drop 0 (text_in (drop s.first olds))))
+
+  abbrev pub behind : List ℕ
+  behind = encode_utf8_all (take (s.end - j) (drop j (text_in olds)))
+
+  in-three : (left : List ℕ) → sought ++ left ≡ before ++ (encode_utf8_all put ++ (behind ++ left))
+  in-three left =
       let a = take (i - s.before) (drop s.before (text_in olds)) in
-      let b = take (s.end - j) (drop j (text_in olds)) in
-      encodes-append (a ++ put) b
-      ∙ ap (λ (bs : List ℕ). bs ++ encode_utf8_all b) (encodes-append a put)
-      ∙ append_assoc (encode_utf8_all a) (encode_utf8_all put) (encode_utf8_all b)
-      ∙ ap (λ (cs : List ℕ). encode_utf8_all cs ++ (encode_utf8_all put ++ encode_utf8_all b)) wanted-front
-      ∙ ap (λ (bs : List ℕ). encode_utf8_all (take (i - s.before) (drop 0 (text_in (drop s.first olds)))) ++ (bs ++ encode_utf8_all b)) bytes_is
-      ∙ ap (λ (bs : List ℕ). encode_utf8_all (take (i - s.before) (drop 0 (text_in (drop s.first olds)))) ++ (bytes ++ bs)) (sym behind_is)
+      ap (λ (bs : List ℕ). bs ++ left) (encodes-append (a ++ put) (take (s.end - j) (drop j (text_in olds))) ∙ ap (λ (bs : List ℕ). bs ++ behind) (encodes-append a put))
+      ∙ append_assoc (encode_utf8_all a ++ encode_utf8_all put) behind left
+      ∙ append_assoc (encode_utf8_all a) (encode_utf8_all put) (behind ++ left)
+      ∙ ap (λ (cs : List ℕ). encode_utf8_all cs ++ (encode_utf8_all put ++ (behind ++ left))) wanted-front
+
+  past-before : (rest : List ℕ) → seen ≡ before ++ rest → (left : List ℕ) → seen ≡ sought ++ left → rest ≡ encode_utf8_all put ++ (behind ++ left)
+  past-before rest one left e = append_cancel_left before rest (encode_utf8_all put ++ (behind ++ left)) (sym one ∙ e ∙ in-three left)
+
+  pub no-before : ((r : List ℕ) → seen ≡ before ++ r → ⊥) → (left : List ℕ) → seen ≡ sought ++ left → ⊥
+  no-before none left e = none (encode_utf8_all put ++ (behind ++ left)) (e ∙ in-three left)
+
+  -- `bytes` are those of the text put in, as the code has them
+  module _ (bytes rest : List ℕ) (bytes_is : encode_utf8_all put ≡ bytes) (one : seen ≡ before ++ rest) where
+    pub no-text : ((r : List ℕ) → rest ≡ bytes ++ r → ⊥) → (left : List ℕ) → seen ≡ sought ++ left → ⊥
+    no-text none left e = none (behind ++ left) (past-before rest one left e ∙ ap (λ (bs : List ℕ). bs ++ (behind ++ left)) bytes_is)
+
+    pub no-behind : (last later : List ℕ) → last ≡ behind → rest ≡ bytes ++ later → ((r : List ℕ) → later ≡ last ++ r → ⊥) → (left : List ℕ) → seen ≡ sought ++ left → ⊥
+    no-behind last later last_is two none left e =
+        none left
+        (append_cancel_left bytes later (last ++ left)
+        (sym two ∙ past-before rest one left e ∙ ap (λ (bs : List ℕ). bs ++ (behind ++ left)) bytes_is ∙ ap (λ (bs : List ℕ). bytes ++ (bs ++ left)) (sym last_is)))
+
+    pub all-three : (last later left : List ℕ) → last ≡ behind → rest ≡ bytes ++ later → later ≡ last ++ left → seen ≡ sought ++ left
+    all-three last later left last_is two three =
+        one
+        ∙ ap (λ (bs : List ℕ). before ++ bs) two
+        ∙ ap (λ (bs : List ℕ). before ++ (bytes ++ bs)) (three ∙ ap (λ (bs : List ℕ). bs ++ left) last_is)
+        ∙ ap (λ (bs : List ℕ). before ++ (bs ++ (behind ++ left))) (sym bytes_is)
+        ∙ sym (in-three left)
 
   pub span-found : i ≤ j → length (text_in news) + (j - i) ≡ length (text_in olds) + length put → (left : List ℕ)
       → encode_utf8_all (text_in (drop s.first news)) ≡ encode_utf8_all (wanted (text_in olds) s i j put) ++ left → text_in news ≡ replaced (text_in olds) i j put
@@ -223,14 +251,14 @@ back-enough ps tail j end k before place order within =
 pub back-begun : (ps : List Entry) (tail : Outcome) (j k before : ℕ) → IsTextPlace ps j k before → j ≤ length (text_in (parts_of ps tail)) → (part : Outcome)
     → slice_get (parts_of ps tail) k ≡ Some part → j - before ≤ length part.text
 back-begun ps tail j k before place within part at =
-    elim (low_or_high k (length ps)) [
+    elim (cases_lt k (length ps)) [
       | inl l ↦
-          let there = got ps k l in
+          let there = element ps k l in
           let same : Some part ≡ Some (here_of there.0) = sym at ∙ parts-get ps tail k there.0 there.1 in
           let own : part ≡ here_of there.0 = cc in
           omega (arith, text-within ps j k before place there.0 there.1, ap (λ (o : Outcome). length o.text) own)
       | inr g ↦
-          let none : drop (suc k) (parts_of ps tail) ≡ [] = drop-all (parts_of ps tail) (suc k) (omega (arith, parts-length ps tail, g)) in
+          let none : drop (suc k) (parts_of ps tail) ≡ [] = drop_all (suc k) (parts_of ps tail) (omega (arith, parts-length ps tail, g)) in
           omega (
             arith,
             back-enough ps tail j j k before place (omega arith) within,

@@ -43,6 +43,12 @@ pub few-pieces : (least : ℕ) (ps : List Entry) → 1 ≤ least → AreSized le
 few-pieces least [] some s = omega arith
 few-pieces least (p ∷ ps) some s = omega (arith, some, s.0, few-pieces least ps some s.2, length-append p.piece.bytes (bytes_of ps))
 
+-- the sum in front of what a search finds is no more than what it looked for
+pub found-low : (measure : Sum → ℕ) (ps : List Entry) (target k : ℕ) (s : Sum) → measure no_sum ≡ 0 → IsFirstAbove measure target no_sum joined entry_sum ps k s → measure s ≤ target
+found-low measure ps target zero s none found = omega (arith, ap measure found.sum, none)
+found-low measure ps target (suc j) s none found =
+    omega (arith, ap measure found.sum, ap (λ (n : ℕ). measure (sums (take n ps))) (add-one j), found.before j (omega arith))
+
 -- a search by bytes finds the place
 pub found-place : (ps : List Entry) (target k : ℕ) (s : Sum) → AreCounted ps → IsFirstAbove (measure Byte) target no_sum joined entry_sum ps k s → IsPlace ps target k s.bytes
 found-place ps target k s c found =
@@ -51,11 +57,6 @@ found-place ps target k s c found =
     record {
       within = found.within;
       before_is = before;
-      low = low k before found.before;
+      low = found-low (measure Byte) ps target k s refl found;
       high = λ l. omega (arith, found.behind l, count (k + 1), ap (λ (n : ℕ). bytes_before ps n) (add-one k));
     }
-  where
-    low : (k : ℕ) → s.bytes ≡ bytes_before ps k → ((j : ℕ) → j < k → measure Byte (sums (take (j + 1) ps)) ≤ target) → s.bytes ≤ target
-    low zero e below = omega (arith, e)
-    low (suc j) e below =
-        omega (arith, e, below j (omega arith), sums-bytes (take (j + 1) ps) (counted-take (j + 1) ps c), ap (λ (n : ℕ). bytes_before ps n) (add-one j))

@@ -8,11 +8,6 @@ use Rattle.piece_rope.specs.Chain.{IsOwn, Chain, AreRenewed, bytes_of, renewed, 
 use Rattle.piece_rope.specs.Sizes.{AreSized}
 use Rattle.piece_rope.proofs.Chaining.{Laws, bytes-append, chain-append, state-append, renewed-are}
 
-pub element : {X : Type 0} (xs : List X) (k : ℕ) → k < length xs → (x : X) × (slice_get xs k ≡ Some x)
-element [] k less = absurd (omega (arith, less))
-element (x ∷ xs) zero less = (x, refl)
-element (x ∷ xs) (suc k) less = element xs k (omega (arith, less))
-
 -- a list put in where others were taken out
 pub put-in : {X : Type 0} (xs zs ys : List X) (first : ℕ) → first ≤ length xs
     → take first (take first xs ++ ys) ++ (zs ++ drop first (take first xs ++ ys)) ≡ take first xs ++ (zs ++ ys)

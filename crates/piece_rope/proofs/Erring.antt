@@ -1,30 +1,33 @@
 -- The errors of pieces in a row are those of the document.
-use Rattle.std.proofs.Common.{◌≡◌, refl, sym, ap, ◌∙◌, subst, ℕ, zero, suc, ◌+◌, ◌-◌, ◌<◌, ◌≤◌, Bool, true, false, List, [], ◌∷◌, ◌++◌, take, drop, get_or, length, map, slice_get, Some, None, arith, append_assoc, append-nil, length-append, take-append-drop, add-one}
+use Rattle.std.proofs.Common.{◌≡◌, refl, sym, ap, ◌∙◌, subst, ℕ, zero, suc, ◌+◌, ◌-◌, ◌<◌, ◌≤◌, Bool, true, false, List, [], ◌∷◌, ◌++◌, take, drop, get_or, length, map, slice_get, Some, None, arith, append_assoc, append-nil, length-append, take-append-drop, add-one, Option}
 use Rattle.std.specs.Prelude.{ℤ, pos, ◌-ℤ◌}
 use Rattle.enc_names.specs.declared.place.Place.{Place}
 use Rattle.state_memo.specs.Decoding.{Item, One, Two, Error, Placed, decode, error_place, error_places, mark_length, one_if, places, Ended as EndedItem}
 use Rattle.state_memo.specs.declared.ended.Ended.{Ended}
 use Rattle.state_memo.specs.declared.kind.ItemKind.{ItemKind}
-use Rattle.state_memo.specs.declared.kind.ItemKind.TheVariants.{AsciiOne, AsciiTwo, AsciiError, RomanOne, RomanTwo, RomanError, KatakanaOne, KatakanaTwo, KatakanaError, Jis0208One, Jis0208Two, Jis0208Error}
+use Rattle.state_memo.specs.declared.kind.ItemKind.TheVariants.{AsciiOne}
 use Rattle.state_memo.specs.declared.outcome.Outcome.{Outcome}
 use Rattle.state_memo.specs.declared.run.Run.{Run}
 use Rattle.state_memo.specs.declared.sum.Sum.{Sum}
 use Rattle.state_memo.specs.Items.{errors_in, is_an_error}
 use Rattle.state_memo.specs.Runs.{item_of_kind, items_of_run, items_of_runs, items_until}
-use Rattle.piece_rope.specs.Document.{Document, decoded, errors_of, decoded_errors}
+use Rattle.piece_rope.specs.Document.{Document, decoded, errors_of, decoded_errors, document}
 use Rattle.piece_rope.specs.Entry.{Entry, entry_sum, here_of, sums_of}
 use Rattle.piece_rope.specs.Errors.{all_errors, errors_at, errors_from, last_at, last_from, place_if}
 use Rattle.piece_rope.specs.Made.{AreEnded, AreMade, IsWhole, body_of, tail_of, count_body, ends_at}
 use Rattle.std.proofs.lemmas.List.{take_all}
-use Rattle.std.proofs.lemmas.Option.{slice_get_within}
+use Rattle.std.proofs.lemmas.Option.{slice_get_within, slice_get-get_or}
 use Rattle.sum_tree.specs.Reached.{IsFirstAbove}
 use Rattle.state_memo.specs.Sums.{joined, no_sum}
 use Rattle.piece_rope.specs.declared.errors.ErrorCount.{ErrorCount}
 use Rattle.piece_rope.specs.ErrorCount.{errors_of_sum}
-use Rattle.piece_rope.proofs.Chaining.{at-behind, take-next}
-use Rattle.piece_rope.proofs.Editing.{element}
-use Rattle.piece_rope.proofs.Reading.{drop-next}
 use Rattle.piece_rope.proofs.Answering.{error_places-append, errors-append}
+use Rattle.piece_rope.proofs.Lists.{element, take-next, drop-next, get-front, get-back}
+use Rattle.piece_rope.proofs.Counting.{found-low, sums-bytes}
+use Rattle.enc_names.specs.declared.setting.Setting.{Setting}
+use Rattle.index_loader.specs.Files.{Files}
+use Rattle.piece_rope.specs.Chain.{bytes_of}
+use Rattle.piece_rope.specs.Kept.{IsKept}
 
 -- each item begins where the one before ends
 abbrev Follow : ℕ → List Placed → Type 0
@@ -53,8 +56,7 @@ follow-back from (x ∷ xs) ys f = follow-back x.to xs ys f.1
 
 error-place : (i : Item) (place : Place) → error_place i place ≡ place_if (is_an_error i) place.from place.to
 error-place (One c) place = refl
-error-place (Two a b) place = refl
-error-place Error place = refl
+error-place i place = refl
 
 ended-places : (base from : ℕ) (ps : List Placed) (es : List Ended) → AreEnded base ps es → Follow from ps → error_places ps ≡ errors_at base from es
 ended-places base from [] [] ended f = refl
@@ -104,17 +106,14 @@ errors-are doc ps tail whole bytes =
     ∙ ap (λ (xs : List Place). errors_from 0 bom ps ++ xs) (ended-places (length doc.bytes) (last_from 0 bom ps) (tail_of doc) tail.items whole.ended.items behind)
     ∙ ap (λ (n : ℕ). errors_from 0 bom ps ++ errors_at n (last_from 0 bom ps) tail.items) (sym bytes)
 
+-- the same of the document that contracts see
+pub errors-seen : (files : Files) (setting : Setting) (ps : List Entry) (tail : Outcome) (earlier : Option (List ℕ)) (self : Document) → record (document files setting (bytes_of ps)) { earlier = earlier } ≡ self
+    → IsKept files setting ps tail → (bom : ℕ) → bom ≡ (decoded self).bom → all_errors bom ps tail ≡ errors_of self
+errors-seen files setting ps tail earlier self view_is kept bom bom_is =
+    ap (λ (n : ℕ). all_errors n ps tail) bom_is
+    ∙ sym (subst (λ (d : Document). errors_of d ≡ all_errors (decoded d).bom ps tail) view_is (errors-are (document files setting (bytes_of ps)) ps tail kept.whole (sums-bytes ps kept.counted)))
+
 -- ---- reading them
-
-pub get-front : {X : Type 0} (xs ys : List X) (n : ℕ) → n < length xs → slice_get (xs ++ ys) n ≡ slice_get xs n
-get-front [] ys n l = absurd (omega (arith, l))
-get-front (x ∷ xs) ys zero l = refl
-get-front (x ∷ xs) ys (suc n) l = get-front xs ys n (omega (arith, l))
-
-pub get-back : {X : Type 0} (xs ys : List X) (n : ℕ) → length xs ≤ n → slice_get (xs ++ ys) n ≡ slice_get ys (n - length xs)
-get-back [] ys n l = let e : n - 0 ≡ n = omega arith in ap (λ (k : ℕ). slice_get ys k) (sym e)
-get-back (x ∷ xs) ys zero l = absurd (omega (arith, l))
-get-back (x ∷ xs) ys (suc n) l = let e : n - length xs ≡ suc n - suc (length xs) = omega arith in get-back xs ys n (omega (arith, l)) ∙ ap (λ (k : ℕ). slice_get ys k) e
 
 pub errors_at-append : (base from : ℕ) (xs ys : List Ended) → errors_at base from (xs ++ ys) ≡ errors_at base from xs ++ errors_at base (last_at base from xs) ys
 errors_at-append base from [] ys = refl
@@ -137,31 +136,11 @@ errors_at-length base from (e ∷ es) =
 
 kind-end : (k : ItemKind) (z : ℤ) → (item_of_kind k z).end ≡ z
 kind-end AsciiOne z = refl
-kind-end AsciiTwo z = refl
-kind-end AsciiError z = refl
-kind-end RomanOne z = refl
-kind-end RomanTwo z = refl
-kind-end RomanError z = refl
-kind-end KatakanaOne z = refl
-kind-end KatakanaTwo z = refl
-kind-end KatakanaError z = refl
-kind-end Jis0208One z = refl
-kind-end Jis0208Two z = refl
-kind-end Jis0208Error z = refl
+kind-end k z = refl
 
 kind-error : (k : ItemKind) (z : ℤ) → (item_of_kind k z).error ≡ (item_of_kind k (pos 0)).error
 kind-error AsciiOne z = refl
-kind-error AsciiTwo z = refl
-kind-error AsciiError z = refl
-kind-error RomanOne z = refl
-kind-error RomanTwo z = refl
-kind-error RomanError z = refl
-kind-error KatakanaOne z = refl
-kind-error KatakanaTwo z = refl
-kind-error KatakanaError z = refl
-kind-error Jis0208One z = refl
-kind-error Jis0208Two z = refl
-kind-error Jis0208Error z = refl
+kind-error k z = refl
 
 pub run-last : (base from : ℕ) (r : Run) → last_at base from (items_of_run r) ≡ ends_at base r.last
 run-last base from r =
@@ -287,20 +266,13 @@ piece-cut bom k ps p tail at =
           ∙ ap (λ (xs : List Place). errors_from 0 bom front ++ xs) (append_assoc (errors_at b last o.items) later end),
     )
 
-sums-next : (ps : List Entry) (k : ℕ) (p : Entry) → slice_get ps k ≡ Some p → (sums_of (take (k + 1) ps)).errors ≡ (sums_of (take k ps)).errors + (here_of p).sum.errors
-sums-next [] zero p at = absurd cc
-sums-next [] (suc k) p at = absurd cc
-sums-next (x ∷ ps) zero p at = let e : x ≡ p = cc in omega (arith, ap (λ (y : Entry). (here_of y).sum.errors) e)
-sums-next (x ∷ ps) (suc k) p at =
-    let m : suc k + 1 ≡ suc (k + 1) = omega arith in
-    let e : take (suc k + 1) (x ∷ ps) ≡ x ∷ take (k + 1) ps = ap (λ (n : ℕ). take n (x ∷ ps)) m in
-    omega (arith, sums-next ps k p at, ap (λ (xs : List Entry). (sums_of xs).errors) e)
-
-below : (count : ErrorCount) (ps : List Entry) (n k : ℕ) (s : Sum) → IsFirstAbove (errors_of_sum count) n no_sum joined entry_sum ps k s → s.errors ≤ n
-below count ps n zero s found = omega (arith, ap (λ (t : Sum). t.errors) found.sum)
-below count ps n (suc j) s found =
-    let e : take (suc j) ps ≡ take (j + 1) ps = ap (λ (m : ℕ). take m ps) (sym (add-one j)) in
-    omega (arith, ap (λ (t : Sum). t.errors) found.sum, ap (λ (xs : List Entry). (sums_of xs).errors) e, found.before j (omega arith))
+-- the sum of one piece more, by a number that adds up
+sums-next : (measure : Sum → ℕ) → ((a b : Sum) → measure (joined a b) ≡ measure a + measure b) → (ps : List Entry) (k : ℕ) (p : Entry) → slice_get ps k ≡ Some p
+    → measure (sums_of (take (suc k) ps)) ≡ measure (sums_of (take k ps)) + measure (here_of p).sum
+sums-next measure more [] k p at = absurd cc
+sums-next measure more (x ∷ ps) zero p at = let e : x ≡ p = cc in omega (arith, more (entry_sum x) no_sum, ap (λ (y : Entry). measure (entry_sum y)) e)
+sums-next measure more (x ∷ ps) (suc k) p at =
+    omega (arith, more (entry_sum x) (sums_of (take (suc k) ps)), more (entry_sum x) (sums_of (take k ps)), sums-next measure more ps k p at)
 
 pub error-in-piece : (count : ErrorCount) (bom n k : ℕ) (ps : List Entry) (s : Sum) (p : Entry) (tail : Outcome) → IsFirstAbove (errors_of_sum count) n no_sum joined entry_sum ps k s → slice_get ps k ≡ Some p
     → slice_get (errors_at s.bytes (last_from 0 bom (take k ps)) (here_of p).items) (n - s.errors) ≡ slice_get (all_errors bom ps tail) n
@@ -311,9 +283,18 @@ error-in-piece count bom n k ps s p tail found at =
     let o = here_of p in
     let cut = piece-cut bom k ps p tail at in
     let size : length (errors_from 0 bom front) ≡ s.errors = errors_from-length 0 bom front ∙ sym (ap (λ (t : Sum). t.errors) found.sum) in
-    let low = below count ps n k s found in
+    let low = found-low (errors_of_sum count) ps n k s refl found in
     let high : n - s.errors < length (errors_at b last o.items) =
-    omega (arith, found.behind (slice_get_within ps k p at), sums-next ps k p at, ap (λ (t : Sum). t.errors) found.sum, errors_at-length b last o.items, o.summed.errors, low) in
+    omega (
+      arith,
+      found.behind (slice_get_within ps k p at),
+      ap (λ (m : ℕ). (sums_of (take m ps)).errors) (add-one k),
+      sums-next (λ (t : Sum). t.errors) (λ a b. refl) ps k p at,
+      ap (λ (t : Sum). t.errors) found.sum,
+      errors_at-length b last o.items,
+      o.summed.errors,
+      low,
+    ) in
     ap (λ (m : ℕ). slice_get (errors_at m last o.items) (n - s.errors)) (ap (λ (t : Sum). t.bytes) found.sum)
     ∙ sym (get-front (errors_at b last o.items) cut.0 (n - s.errors) high)
     ∙ ap (λ (m : ℕ). slice_get (errors_at b last o.items ++ cut.0) (n - m)) (sym size)
@@ -330,7 +311,7 @@ error-in-tail count bom n k ps s tail found l =
     ap (λ (xs : List Entry). slice_get (errors_at s.bytes (last_from 0 bom xs) tail.items) (n - s.errors)) all
     ∙ ap (λ (t : Sum). slice_get (errors_at t.bytes (last_from 0 bom ps) tail.items) (n - s.errors)) sum
     ∙ ap (λ (m : ℕ). slice_get end (n - m)) (sym size)
-    ∙ sym (get-back (errors_from 0 bom ps) end n (omega (arith, size, below count ps n k s found)))
+    ∙ sym (get-back (errors_from 0 bom ps) end n (omega (arith, size, found-low (errors_of_sum count) ps n k s refl found)))
 
 -- one piece back
 pub last-back : (bom k : ℕ) (ps : List Entry) (p : Entry) → slice_get ps k ≡ Some p → last_from 0 bom (take (suc k) ps) ≡ last_at (sums_of (take k ps)).bytes (last_from 0 bom (take k ps)) (here_of p).items
@@ -340,13 +321,7 @@ last-back bom k ps p at =
     ap (last_from 0 bom) (take-next ps k p at) ∙ last_from-append 0 bom front (p ∷ []) ∙ ap (λ (n : ℕ). last_at n (last_from 0 bom front) (here_of p).items) e
 
 pub bytes-back : (k : ℕ) (ps : List Entry) (p : Entry) → slice_get ps k ≡ Some p → (sums_of (take (suc k) ps)).bytes ≡ (sums_of (take k ps)).bytes + (here_of p).sum.bytes
-bytes-back k [] p at = absurd (none k at)
-  where
-    none : (k : ℕ) → slice_get {X = Entry} [] k ≡ Some p → ⊥
-    none zero at = absurd cc
-    none (suc k) at = absurd cc
-bytes-back zero (x ∷ ps) p at = let e : x ≡ p = cc in omega (arith, ap (λ (y : Entry). (here_of y).sum.bytes) e)
-bytes-back (suc k) (x ∷ ps) p at = omega (arith, bytes-back k ps p at)
+bytes-back k ps p at = sums-next (λ (s : Sum). s.bytes) (λ a b. refl) ps k p at
 
 pub runs-last : (base from : ℕ) (rs : List Run) (r : Run) → slice_get rs (length rs - 1) ≡ Some r → last_at base from (items_of_runs rs) ≡ ends_at base r.last
 runs-last base from [] r at = absurd cc
@@ -357,22 +332,11 @@ runs-last base from (x ∷ y ∷ rs) r at =
     let k : suc (length (y ∷ rs) - 1) ≡ length (x ∷ y ∷ rs) - 1 = omega arith in
     last_at-append base from (items_of_run x) (items_of_runs (y ∷ rs)) ∙ runs-last base (last_at base from (items_of_run x)) (y ∷ rs) r (ap (λ (n : ℕ). slice_get (x ∷ y ∷ rs) n) k ∙ at)
 
-pub one-more : {X : Type 0} (xs : List X) (from next : ℕ) (x : X) → from ≤ next → slice_get xs next ≡ Some x → take (next + 1 - from) (drop from xs) ≡ take (next - from) (drop from xs) ++ x ∷ []
-one-more xs from next x l at =
-    let e : next ≡ from + (next - from) = omega (arith, l) in
-    let f : next + 1 - from ≡ suc (next - from) = omega (arith, l) in
-    ap (λ (n : ℕ). take n (drop from xs)) f ∙ take-next (drop from xs) (next - from) x (at-behind xs from (next - from) next x e at)
-
-get-at : {X : Type 0} (xs : List X) (k : ℕ) (d : X) → k < length xs → slice_get xs k ≡ Some (get_or xs k d)
-get-at [] k d l = absurd (omega (arith, l))
-get-at (x ∷ xs) zero d l = refl
-get-at (x ∷ xs) (suc k) d l = get-at xs k d (omega (arith, l))
-
 pub run-holds-at : (base from left k : ℕ) (rs : List Run) (d : Run) → k < length rs → left < errors_in (items_of_run (get_or rs k d))
     → slice_get (errors_at base from (items_of_run (get_or rs k d))) left ≡ slice_get (errors_at base from (items_of_runs (drop k rs))) left
 run-holds-at base from left k rs d l m =
     let r = get_or rs k d in
-    run-holds base from left r (drop (suc k) rs) m ∙ ap (λ (xs : List Run). slice_get (errors_at base from (items_of_runs xs)) left) (sym (drop-next rs k r (get-at rs k d l)))
+    run-holds base from left r (drop (suc k) rs) m ∙ ap (λ (xs : List Run). slice_get (errors_at base from (items_of_runs xs)) left) (sym (drop-next rs k r (slice_get-get_or rs k d l)))
 
 pub run-passed-at : (base from left next rest k : ℕ) (rs : List Run) (d : Run) → k < length rs → rest ≡ left - errors_in (items_of_run (get_or rs k d)) → errors_in (items_of_run (get_or rs k d)) ≤ left
     → next ≡ ends_at base (get_or rs k d).last
@@ -383,7 +347,7 @@ run-passed-at base from left next rest k rs d l rest_is m next_is =
     ∙ ap (λ (n : ℕ). slice_get (errors_at base n (items_of_runs (drop (suc k) rs))) rest) next_is
     ∙ ap (λ (n : ℕ). slice_get (errors_at base (ends_at base r.last) (items_of_runs (drop (suc k) rs))) n) rest_is
     ∙ sym (run-passed base from left r (drop (suc k) rs) m)
-    ∙ ap (λ (xs : List Run). slice_get (errors_at base from (items_of_runs xs)) left) (sym (drop-next rs k r (get-at rs k d l)))
+    ∙ ap (λ (xs : List Run). slice_get (errors_at base from (items_of_runs xs)) left) (sym (drop-next rs k r (slice_get-get_or rs k d l)))
 
 pub end-back : (bom k place base here next : ℕ) (ps : List Entry) (p : Entry) → k ≡ suc next → slice_get ps next ≡ Some p → base ≡ (sums_of (take k ps)).bytes
     → here ≡ (here_of p).sum.bytes → base - here ≡ (sums_of (take next ps)).bytes

@@ -61,14 +61,12 @@ pub join-remove : (n : ℕ) (xs : List Entry) → n < length xs → CanJoin xs �
 join-remove n xs l c = record { short = short-remove n xs c.short; few = omega (arith, length-remove xs n l, c.few) }
 
 pub short-at : (xs : List Entry) (n : ℕ) (x : Entry) → AreShort xs → slice_get xs n ≡ Some x → (entry_sum x).bytes ≤ longest
-short-at [] zero x s at = absurd cc
-short-at [] (suc n) x s at = absurd cc
+short-at [] n x s at = absurd cc
 short-at (y ∷ xs) zero x s at = let e : y ≡ x = cc in subst (λ (z : Entry). (entry_sum z).bytes ≤ longest) e s.0
 short-at (y ∷ xs) (suc n) x s at = short-at xs n x s.1 at
 
 pub renewed-length : (xs : List Entry) (rs : List Entry) → length rs ≤ length xs → length (renewed xs rs) ≡ length xs
-renewed-length [] [] l = refl
-renewed-length (x ∷ xs) [] l = refl
+renewed-length xs [] l = refl
 renewed-length [] (r ∷ rs) l = absurd (omega (arith, l))
 renewed-length (x ∷ xs) (r ∷ rs) l = omega (arith, renewed-length xs rs (omega (arith, l)))
 

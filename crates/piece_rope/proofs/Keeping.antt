@@ -18,7 +18,7 @@ use Rattle.piece_rope.proofs.Counting.{chain-counted, few-pieces, short-of}
 use Rattle.piece_rope.proofs.Answering.{SumLaw, total-numbers}
 use Rattle.piece_rope.proofs.Remembering.{ending-bytes}
 use Rattle.piece_rope.proofs.Making.{ItemLaws, whole}
-use Rattle.piece_rope.proofs.Measuring.{low_or_high}
+use Rattle.std.proofs.lemmas.Bool.{cases_lt}
 
 pub join-rope : (d : AnyDecoding) → Laws d → (ps : List Entry) (end : AnyState) → IsRope d ps end → length (bytes_of ps) ≤ document_limit → CanJoin ps
 join-rope d laws ps end rope within = record {
@@ -52,7 +52,7 @@ new-rope d start exit bytes ps start_is own chain exit_is small wide few = recor
   end_is = exit_is ∙ ap (λ (s : AnyState). (feed (any d) s bytes).state) start_is ∙ ap (λ (bs : List ℕ). (feed (any d) (any_start d) bs).state) (sym own);
   sizes = record {
     small = small;
-    wide = λ many. elim (low_or_high (length bytes) 512) [
+    wide = λ many. elim (cases_lt (length bytes) 512) [
       | inl short ↦ absurd (omega (arith, few (omega (arith, short)), many))
       | inr enough ↦ wide enough
     ];

@@ -9,6 +9,7 @@ pub mod Joining
 pub mod Keeping
 pub mod Kept
 pub mod KeptAnswering
+pub mod Lists
 pub mod Logging
 pub mod Making
 pub mod Matching

@@ -43,20 +43,6 @@ go-wider room more ps (e ∷ es) l g = (go-wider room more ps es l g.0, record {
 
 -- ---- an edit and its entry
 
--- one piece more is shared
-pub shared-more : (k : ℕ) (xs : List Entry) (x : Entry) → slice_get xs k ≡ Some x → take (suc k) xs ≡ take k xs ++ x ∷ []
-shared-more zero [] x at = absurd cc
-shared-more (suc k) [] x at = absurd cc
-shared-more zero (y ∷ xs) x at = let e : y ≡ x = cc in ap (λ (z : Entry). z ∷ []) e
-shared-more (suc k) (y ∷ xs) x at = ap (λ (zs : List Entry). y ∷ zs) (shared-more k xs x at)
-
-pub get-behind : (first k : ℕ) (xs : List Entry) (x : Entry) → slice_get xs (first + k) ≡ Some x → slice_get (drop first xs) k ≡ Some x
-get-behind zero k xs x at = let e : 0 + k ≡ k = omega arith in subst (λ (n : ℕ). slice_get xs n ≡ Some x) e at
-get-behind (suc first) k [] x at = let e : suc first + k ≡ suc (first + k) = omega arith in let nil : List Entry = [] in let none = subst (λ (n : ℕ). slice_get nil n ≡ Some x) e at in absurd cc
-get-behind (suc first) k (y ∷ xs) x at =
-    let e : suc first + k ≡ suc (first + k) = omega arith in
-    get-behind first k xs x (subst (λ (n : ℕ). slice_get (y ∷ xs) n ≡ Some x) e at)
-
 -- pieces in a row are those before a part of them, the part, and those behind it
 part-of : (ps : List Entry) (first behind : ℕ) → first ≤ behind → take first ps ++ (take (behind - first) (drop first ps) ++ drop behind ps) ≡ ps
 part-of ps first behind order =

@@ -30,8 +30,7 @@ item_laws d runs shown near = record { runs = runs; shown = shown; near = near }
 
 scalars-of : (i : Item) → scalar_count i ≡ length (item_code_points i)
 scalars-of (One c) = refl
-scalars-of (Two a b) = refl
-scalars-of Error = refl
+scalars-of i = refl
 
 -- where the last of some items ends
 abbrev pub last_end : ℕ → ℕ → List EndedItem → ℕ

@@ -1,11 +1,8 @@
 -- Bytes found in a text that lies in pieces.
-use Rattle.std.specs.Option.{IfNone}
+use Rattle.std.proofs.Common.{◌≡◌, ◌==◌, true, false, Option, Some, None, ◌-◌, ℕ, ◌+◌, ◌≤◌, ◌<◌, min, List, [], ◌++◌, length, take, drop, sym, ap, ◌∙◌, subst, arith, append_assoc, append-nil, length-append}
 use Rattle.std.proofs.lemmas.Bool.Decides.{nat_tests, Decides-eqb}
-use Rattle.std.proofs.Common.{◌==◌, true, false, subst}
-use Rattle.std.proofs.Math.Seq.{take-length}
-use Rattle.std.proofs.lemmas.List.{length-drop}
-use Rattle.std.proofs.Common.{◌≡◌, Option, Some, None, ◌-◌, ℕ, ◌+◌, ◌≤◌, ◌<◌, min, List, [], ◌++◌, length, take, drop, sym, ap, ◌∙◌, arith, append_assoc, append-nil, length-append}
-use Rattle.std.proofs.lemmas.List.{append_cancel_left, take-append-drop, take-append-le, nil_from_length}
+use Rattle.std.proofs.lemmas.List.{append_cancel_left, length-drop, take-append-drop, take-append-le, take_rest, nil_from_length}
+use Rattle.std.specs.Option.{IfNone}
 use Rattle.piece_rope.specs.Compare.{IsMatch}
 
 -- what was found so far stands before what is left of the part, and before what is left of the text
@@ -53,21 +50,17 @@ pub no-match : (head left : List ℕ) (n : ℕ) → n ≡ min (length head) (len
     → (x y : List ℕ) → head ++ x ≡ left ++ y → ⊥
 no-match head left n c differ x y e = differ (both-take head left x y n (omega (arith, c)) (omega (arith, c)) e)
 
--- a slice from n on, as code takes it
-slice-is : (n : ℕ) (xs : List ℕ) → take (length xs - n) (drop n xs) ≡ drop n xs
-slice-is n xs = rw (← length-drop n xs) (take-length (drop n xs))
-
 pub more-sliced : (part left text head behind : List ℕ) (n : ℕ) → Found part left text (head ++ behind) → IsMatch head left n
     → Found part (take (length left - n) (drop n left)) text (take (length head - n) (drop n head) ++ behind)
-more-sliced part left text head behind n f m = rw (slice-is n left, slice-is n head) (found-more part left text head behind n f m)
+more-sliced part left text head behind n f m = rw (take_rest left n, take_rest head n) (found-more part left text head behind n f m)
 
 -- the head is used up where some of the part is left
 pub head-gone : (head left : List ℕ) (n : ℕ) → IsMatch head left n → 0 < length (take (length left - n) (drop n left)) → take (length head - n) (drop n head) ≡ []
 head-gone head left n m some =
-    let l : 0 < length left - n = rw (slice-is n left, length-drop n left) at some in
+    let l : 0 < length left - n = rw (take_rest left n, length-drop n left) at some in
     let c = m.count in
     let gone : length (drop n head) ≡ 0 = length-drop n head ∙ (omega (arith, c, l)) in
-    slice-is n head ∙ nil_from_length (drop n head) gone
+    take_rest head n ∙ nil_from_length (drop n head) gone
 
 pub if_none : {A : Type 0} (P : Type 0) (r : Option A) → P → IfNone r P
 if_none P None p = p

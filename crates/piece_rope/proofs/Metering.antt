@@ -1,7 +1,7 @@
 -- How far the meter rises with a splice.
 use Rattle.std.proofs.Common.{◌≡◌, refl, sym, ap, ◌∙◌, subst, ℕ, ◌+◌, ◌*◌, ◌≤◌, List, ◌++◌, take, drop, length, Option, Some, arith, length-append}
 use Rattle.std.proofs.lemmas.List.{length-take-le}
-use Rattle.std.proofs.Math.Seq.{take-append-add}
+use Rattle.std.proofs.Math.Seq.{take-append-add, take-add}
 use Rattle.std.specs.Option.{IfSome}
 use Rattle.state_memo.specs.Decoding.{feed, AnyDecoding, any, any_start, state_behind}
 use Rattle.piece_rope.specs.Kept.{Resyncs}
@@ -9,7 +9,6 @@ use Rattle.piece_rope.specs.Document.{Document, document}
 use Rattle.piece_rope.specs.Edit.{Metered}
 use Rattle.piece_rope.specs.Edits.{spliced}
 use Rattle.piece_rope.specs.Sizes.{longest}
-use Rattle.piece_rope.proofs.Preparing.{take-add}
 
 -- the new bytes up to `m` behind the edit
 new-front : (bytes ins : List ℕ) (at to m : ℕ) → at ≤ length bytes → take (at + length ins + m) ((take at bytes ++ ins) ++ drop to bytes) ≡ (take at bytes ++ ins) ++ take m (drop to bytes)

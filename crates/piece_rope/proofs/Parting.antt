@@ -1,8 +1,8 @@
 -- The parts of a document, one by one.
 use Rattle.std.proofs.Common.{◌≡◌, refl, sym, ap, ◌∙◌, ℕ, zero, suc, ◌+◌, ◌<◌, ◌≤◌, List, [], ◌∷◌, ◌++◌, take, drop, length, slice_get, Some, None, arith, append_assoc, length-append, length-drop, take-append-drop, append-nil, add-one}
 use Rattle.std.proofs.lemmas.Grind.{flat_map-append}
-use Rattle.std.proofs.lemmas.List.{length-take-le, drop-drop}
-use Rattle.std.proofs.lemmas.Option.{slice_get_past}
+use Rattle.std.proofs.lemmas.List.{length-take-le, drop-drop, take_all, drop_all}
+use Rattle.std.proofs.lemmas.Option.{slice_get_past, slice_get_within}
 use Rattle.std.specs.Str.{encode_utf8_all, chars, IsUtf8}
 use Rattle.std.proofs.lemmas.Str.{encodes-append, encodes-chars}
 use Rattle.state_memo.specs.declared.outcome.Outcome.{Outcome}
@@ -11,29 +11,17 @@ use Rattle.piece_rope.specs.Chain.{renew, renewed}
 use Rattle.piece_rope.specs.Edit.{edited}
 use Rattle.piece_rope.specs.Entry.{Entry, here_of, texts_of}
 use Rattle.piece_rope.specs.Parts.{parts_of, text_in, edited_parts, later_parts, made_pieces, IsPrepared}
-use Rattle.piece_rope.proofs.Chaining.{renewed-whole, take-next}
+use Rattle.piece_rope.proofs.Chaining.{renewed-whole}
 use Rattle.piece_rope.proofs.Joining.{renewed-length}
-use Rattle.piece_rope.proofs.Texts.{texts-append}
-use Rattle.piece_rope.proofs.Reading.{drop-next}
-
-take-all : {X : Type 0} (xs : List X) (n : ℕ) → length xs ≤ n → take n xs ≡ xs
-take-all [] zero l = refl
-take-all [] (suc n) l = refl
-take-all (x ∷ xs) zero l = absurd (omega (arith, l))
-take-all (x ∷ xs) (suc n) l = ap (λ (ys : List _). x ∷ ys) (take-all xs n (omega (arith, l)))
-
-pub got : {X : Type 0} (xs : List X) (n : ℕ) → n < length xs → (x : X) × (slice_get xs n ≡ Some x)
-got [] n l = absurd (omega (arith, l))
-got (x ∷ xs) zero l = (x, refl)
-got (x ∷ xs) (suc n) l = got xs n (omega (arith, l))
+use Rattle.piece_rope.proofs.Texts.{texts-append, texts-next}
+use Rattle.piece_rope.proofs.Lists.{element, take-next, drop-next, get-front}
 
 pub parts-length : (ps : List Entry) (tail : Outcome) → length (parts_of ps tail) ≡ suc (length ps)
 parts-length [] tail = refl
 parts-length (p ∷ ps) tail = ap suc (parts-length ps tail)
 
 pub parts-get : (ps : List Entry) (tail : Outcome) (n : ℕ) (p : Entry) → slice_get ps n ≡ Some p → slice_get (parts_of ps tail) n ≡ Some (here_of p)
-parts-get [] tail zero p at = absurd cc
-parts-get [] tail (suc n) p at = absurd cc
+parts-get [] tail n p at = absurd cc
 parts-get (q ∷ ps) tail zero p at = let e : q ≡ p = cc in ap (λ (x : Entry). Some (here_of x)) e
 parts-get (q ∷ ps) tail (suc n) p at = parts-get ps tail n p at
 
@@ -44,10 +32,7 @@ parts-behind (x ∷ xs) ys tail n =
     ap (λ (k : ℕ). slice_get (parts_of ((x ∷ xs) ++ ys) tail) k) e ∙ parts-behind xs ys tail n
 
 pub parts-front : (xs ys : List Entry) (tail : Outcome) (n : ℕ) (p : Entry) → slice_get xs n ≡ Some p → slice_get (parts_of (xs ++ ys) tail) n ≡ Some (here_of p)
-parts-front [] ys tail zero p at = absurd cc
-parts-front [] ys tail (suc n) p at = absurd cc
-parts-front (x ∷ xs) ys tail zero p at = let e : x ≡ p = cc in ap (λ (y : Entry). Some (here_of y)) e
-parts-front (x ∷ xs) ys tail (suc n) p at = parts-front xs ys tail n p at
+parts-front xs ys tail n p at = parts-get (xs ++ ys) tail n p (get-front xs ys n (slice_get_within xs n p at) ∙ at)
 
 -- the parts behind the first k pieces
 pub parts-from : (ps : List Entry) (tail : Outcome) (k n : ℕ) → k ≤ length ps → slice_get (parts_of (drop k ps) tail) n ≡ slice_get (parts_of ps tail) (k + n)
@@ -58,10 +43,8 @@ parts-from ps tail k n l =
 
 pub renewed-get : (xs : List Entry) (rs : List Entry) (n : ℕ) (p : Entry) (r : Entry) → slice_get xs n ≡ Some p → slice_get rs n ≡ Some r
     → slice_get (renewed xs rs) n ≡ Some (renew p r)
-renewed-get [] rs zero p r at too = absurd cc
-renewed-get [] rs (suc n) p r at too = absurd cc
-renewed-get (x ∷ xs) [] zero p r at too = absurd cc
-renewed-get (x ∷ xs) [] (suc n) p r at too = absurd cc
+renewed-get [] rs n p r at too = absurd cc
+renewed-get (x ∷ xs) [] n p r at too = absurd cc
 renewed-get (x ∷ xs) (q ∷ rs) zero p r at too =
     let e : x ≡ p = cc in
     let f : q ≡ r = cc in
@@ -71,8 +54,7 @@ renewed-get (x ∷ xs) (q ∷ rs) (suc n) p r at too = renewed-get xs rs n p r a
 -- behind the pieces that are renewed nothing changes
 pub renewed-past : (xs : List Entry) (rs : List Entry) (tail : Outcome) (n : ℕ) → length rs ≤ n → length rs ≤ length xs
     → slice_get (parts_of (renewed xs rs) tail) n ≡ slice_get (parts_of xs tail) n
-renewed-past [] [] tail n l w = refl
-renewed-past (x ∷ xs) [] tail n l w = refl
+renewed-past xs [] tail n l w = refl
 renewed-past [] (r ∷ rs) tail n l w = absurd (omega (arith, w))
 renewed-past (x ∷ xs) (r ∷ rs) tail zero l w = absurd (omega (arith, l))
 renewed-past (x ∷ xs) (r ∷ rs) tail (suc n) l w = renewed-past xs rs tail n (omega (arith, l)) (omega (arith, w))
@@ -148,9 +130,6 @@ module _ (ps : List Entry) (e : PreparedEdit) (fits : IsPrepared ps e) where
       ∙ parts-behind (take e.first ps) (made_pieces ps e ++ behind) e.tail m
       ∙ parts-front (made_pieces ps e) behind e.tail m p at
 
-  pub made-there : (m : ℕ) → m < length e.fresh.items + length e.renewals.items → (p : Entry) × (slice_get (made_pieces ps e) m ≡ Some p)
-  made-there m l = got (made_pieces ps e) m (omega (arith, l, made-length))
-
 -- the text of parts
 pub text-append : (xs ys : List Outcome) → text_in (xs ++ ys) ≡ text_in xs ++ text_in ys
 text-append xs ys = flat_map-append (λ (o : Outcome). o.text) xs ys
@@ -164,8 +143,7 @@ pub text-next : (os : List Outcome) (n : ℕ) (o : Outcome) → slice_get os n �
 text-next os n o at = ap text_in (drop-next os n o at)
 
 drop-past : {X : Type 0} (os : List X) (n : ℕ) → slice_get os n ≡ None → drop n os ≡ []
-drop-past [] zero at = refl
-drop-past [] (suc n) at = refl
+drop-past [] n at = drop_all n [] (omega arith)
 drop-past (o ∷ os) zero at = absurd cc
 drop-past (o ∷ os) (suc n) at = drop-past os n at
 
@@ -174,29 +152,20 @@ pub text-past : (os : List Outcome) (n : ℕ) → slice_get os n ≡ None → te
 text-past os n at = ap text_in (drop-past os n at)
 
 -- one more piece, counted in code points
-pub texts-next : (ps : List Entry) (n : ℕ) (p : Entry) (o : Outcome) → slice_get ps n ≡ Some p → o ≡ here_of p → length (texts_of (take (n + 1) ps)) ≡ length (texts_of (take n ps)) + o.sum.scalars
-texts-next ps n p o at o_is =
-    let next : texts_of (take (suc n) ps) ≡ texts_of (take n ps) ++ ((here_of p).text ++ []) = ap texts_of (take-next ps n p at) ∙ texts-append (take n ps) (p ∷ []) in
-    omega (
-      arith,
-      ap (λ (k : ℕ). length (texts_of (take k ps))) (add-one n),
-      ap length next,
-      length-append (texts_of (take n ps)) ((here_of p).text ++ []),
-      length-append (here_of p).text [],
-      (here_of p).summed.scalars,
-      ap (λ (x : Outcome). x.sum.scalars) o_is,
-    )
+pub scalars-next : (ps : List Entry) (n : ℕ) (p : Entry) (o : Outcome) → slice_get ps n ≡ Some p → o ≡ here_of p → length (texts_of (take (n + 1) ps)) ≡ length (texts_of (take n ps)) + o.sum.scalars
+scalars-next ps n p o at o_is =
+    omega (arith, ap (λ (k : ℕ). length (texts_of (take k ps))) (add-one n), texts-next ps n p at, (here_of p).summed.scalars, ap (λ (x : Outcome). x.sum.scalars) o_is)
 
 pub texts-most : (ps : List Entry) (n : ℕ) → length (texts_of (take n ps)) ≤ length (texts_of ps)
 texts-most ps n = omega (arith, ap (λ (xs : List Entry). length (texts_of xs)) (take-append-drop n ps), ap length (texts-append (take n ps) (drop n ps)), length-append (texts_of (take n ps)) (texts_of (drop n ps)))
 
 pub texts-all : (ps : List Entry) (n : ℕ) → length ps ≤ n → length (texts_of (take n ps)) ≡ length (texts_of ps)
-texts-all ps n l = ap (λ (xs : List Entry). length (texts_of xs)) (take-all ps n l)
+texts-all ps n l = ap (λ (xs : List Entry). length (texts_of xs)) (take_all n ps l)
 
 -- where the next of the pieces made anew isn't counted any more
 pub counted-off : (ps : List Entry) (n left most : ℕ) (p : Entry) (o : Outcome) → slice_get ps n ≡ Some p → o ≡ here_of p → left + length (texts_of (take n ps)) ≡ most
     → (o.sum.scalars ≤ left → ⊥) → most < length (texts_of ps)
-counted-off ps n left most p o at o_is so_far over = omega (arith, texts-next ps n p o at o_is, texts-most ps (n + 1), so_far, over)
+counted-off ps n left most p o at o_is so_far over = omega (arith, scalars-next ps n p o at o_is, texts-most ps (n + 1), so_far, over)
 
 -- the bytes of the text from part number n on
 pub bytes-next-part : (os : List Outcome) (n : ℕ) (o : Outcome) (bytes : List ℕ) → slice_get os n ≡ Some o → IsUtf8 bytes → chars bytes ≡ o.text

@@ -1,23 +1,13 @@
 -- Parts of lists that stand in pieces, read piece by piece.
 use Rattle.std.proofs.Common.{◌≡◌, refl, sym, ap, ◌∙◌, ℕ, zero, suc, ◌+◌, ◌-◌, ◌<◌, ◌≤◌, min, List, [], ◌∷◌, ◌++◌, take, drop, length, slice_get, Some, arith, append_assoc, length-append, length-drop, add-one}
-use Rattle.std.proofs.lemmas.List.{drop-drop}
+use Rattle.std.proofs.lemmas.List.{drop-drop, drop-append-le, take_min}
 use Rattle.piece_rope.specs.Entry.{Entry}
 use Rattle.piece_rope.specs.Chain.{bytes_of}
 use Rattle.piece_rope.specs.Window.{bytes_before, IsPlace}
 use Rattle.piece_rope.proofs.Chaining.{bytes-next}
 use Rattle.piece_rope.proofs.Measuring.{bytes-split}
 use Rattle.piece_rope.proofs.Preparing.{bytes-rest}
-
-pub drop-next : {X : Type 0} (xs : List X) (k : ℕ) (x : X) → slice_get xs k ≡ Some x → drop k xs ≡ x ∷ drop (suc k) xs
-drop-next [] zero x at = absurd cc
-drop-next [] (suc k) x at = absurd cc
-drop-next (y ∷ xs) zero x at = let e : y ≡ x = cc in ap (λ (z : _). z ∷ xs) e
-drop-next (y ∷ xs) (suc k) x at = drop-next xs k x at
-
-pub drop-front : {X : Type 0} (n : ℕ) (xs ys : List X) → n ≤ length xs → drop n (xs ++ ys) ≡ drop n xs ++ ys
-drop-front zero xs ys l = refl
-drop-front (suc n) [] ys l = absurd (omega (arith, l))
-drop-front (suc n) (x ∷ xs) ys l = drop-front n xs ys (omega (arith, l))
+use Rattle.piece_rope.proofs.Lists.{drop-next}
 
 pub take-split : {X : Type 0} (n : ℕ) (xs ys : List X) → take n (xs ++ ys) ≡ take n xs ++ take (n - length xs) ys
 take-split zero [] ys = refl
@@ -25,20 +15,15 @@ take-split zero (x ∷ xs) ys = let e : 0 - suc (length xs) ≡ 0 = omega arith 
 take-split (suc n) [] ys = let e : suc n - 0 ≡ suc n = omega arith in rw e refl
 take-split (suc n) (x ∷ xs) ys = let e : suc n - suc (length xs) ≡ n - length xs = omega arith in rw e (ap (λ (zs : List _). x ∷ zs) (take-split n xs ys))
 
-pub take-least : {X : Type 0} (n : ℕ) (xs : List X) → take (min n (length xs)) xs ≡ take n xs
-take-least zero xs = let e : min 0 (length xs) ≡ 0 = omega arith in rw e refl
-take-least (suc n) [] = let e : min (suc n) 0 ≡ 0 = omega arith in rw e refl
-take-least (suc n) (x ∷ xs) = let e : min (suc n) (suc (length xs)) ≡ suc (min n (length xs)) = omega arith in rw e (ap (λ (zs : List _). x ∷ zs) (take-least n xs))
-
 -- the part that one more piece gives
 pub part-step : {X : Type 0} (here behind : List X) (skip left : ℕ) → skip ≤ length here
     → take left (drop skip (here ++ behind)) ≡ take (min left (length (drop skip here))) (drop skip here) ++ take (left - min left (length (drop skip here))) behind
 part-step here behind skip left l =
     let rest = drop skip here in
     let less : left - length rest ≡ left - min left (length rest) = omega arith in
-    ap (λ (xs : List _). take left xs) (drop-front skip here behind l)
+    ap (λ (xs : List _). take left xs) (drop-append-le skip here behind l)
     ∙ take-split left rest behind
-    ∙ ap (λ (xs : List _). xs ++ take (left - length rest) behind) (sym (take-least left rest))
+    ∙ ap (λ (xs : List _). xs ++ take (left - length rest) behind) (sym (take_min left rest))
     ∙ ap (λ (n : ℕ). take (min left (length rest)) rest ++ take n behind) less
 
 pub bytes-behind : (ps : List Entry) (k : ℕ) (p : Entry) → slice_get ps k ≡ Some p → bytes_of (drop k ps) ≡ p.piece.bytes ++ bytes_of (drop (k + 1) ps)

@@ -1,5 +1,5 @@
 -- What a piece remembers stays its own.
-use Rattle.std.proofs.Common.{◌≡◌, ℕ, refl, sym, ap, ◌∙◌, subst, zero, suc, Bool, true, false, List, [], ◌∷◌, take, drop, Option, Some, None, option_map, cond}
+use Rattle.std.proofs.Common.{◌≡◌, ℕ, refl, sym, ap, ◌∙◌, subst, zero, suc, Bool, true, false, List, [], ◌∷◌, take, drop, Option, Some, None, option_map, cond, arith}
 use Rattle.state_memo.specs.Decoding.{feed, AnyState, AnyDecoding, any}
 use Rattle.state_memo.specs.declared.outcome.Outcome.{Outcome}
 use Rattle.state_memo.specs.declared.known.Known.{Known}
@@ -9,6 +9,7 @@ use Rattle.state_memo.specs.Memo.{Memo, same_state, recalled, without, installed
 use Rattle.piece_rope.specs.Entry.{Entry}
 use Rattle.piece_rope.proofs.Chaining.{Laws}
 use Rattle.piece_rope.specs.Chain.{AreRight, IsOwn, IsRenewed}
+use Rattle.piece_rope.proofs.Lists.{take-take}
 
 module _ (d : AnyDecoding) (laws : Laws d) (bytes : List ℕ) where
   right-pick : (b : Bool) (x y : List Known) → AreRight d bytes x → AreRight d bytes y → AreRight d bytes (cond b x y)
@@ -74,11 +75,6 @@ module _ (d : AnyDecoding) (laws : Laws d) where
   own-computed p m s o own is m_is =
       subst (λ (x : Memo). IsOwn d (record { piece = x; entry = s })) (sym m_is) (own-installed p.piece.bytes p.piece.known s o own.right is)
 
-take-twice : {X : Type 0} (n : ℕ) (xs : List X) → take n (take n xs) ≡ take n xs
-take-twice zero xs = refl
-take-twice (suc n) [] = refl
-take-twice (suc n) (x ∷ xs) = ap (λ (ys : List _). x ∷ ys) (take-twice n xs)
-
 -- what else the piece remembered is still there
 pub renewed-found : (p : Entry) (m : Memo) (s : AnyState) (o : Outcome) → recalled p.piece.known s ≡ Some o
     → m ≡ record { bytes = p.piece.bytes; known = entered p.piece.known s } → IsRenewed p (record { piece = m; entry = s })
@@ -91,7 +87,7 @@ pub renewed-computed : (p : Entry) (m : Memo) (s : AnyState) (o : Outcome) → m
     → IsRenewed p (record { piece = m; entry = s })
 renewed-computed p m s o is = record {
   bytes = ap (λ (x : Memo). x.bytes) is;
-  others = ap (λ (x : Memo). take 3 (drop 1 x.known)) is ∙ take-twice 3 (without p.piece.known s);
+  others = ap (λ (x : Memo). take 3 (drop 1 x.known)) is ∙ take-take 3 3 (without p.piece.known s) (omega arith);
 }
 
 pub ending-exit : (d : AnyDecoding) (s : AnyState) (o : Outcome) → contents_of o ≡ ending_of d s → o.exit ≡ s

@@ -1,16 +1,16 @@
 -- The code points that an edit can have changed.
 use Rattle.std.proofs.Common.{◌≡◌, refl, sym, ap, ◌∙◌, ℕ, zero, suc, ◌+◌, ◌-◌, ◌≤◌, List, [], ◌∷◌, ◌++◌, take, drop, length, arith, append_assoc, append-nil, length-append, take-append-drop}
-use Rattle.std.proofs.lemmas.List.{length-take-le, drop-drop, take-append-le}
+use Rattle.std.proofs.lemmas.List.{length-take-le, drop-drop, take-append-le, drop-append-le}
 use Rattle.state_memo.specs.declared.outcome.Outcome.{Outcome}
 use Rattle.piece_rope.specs.declared.edit.PreparedEdit.{PreparedEdit}
 use Rattle.piece_rope.specs.Compare.{IsSpan}
 use Rattle.piece_rope.specs.Edit.{edited}
 use Rattle.piece_rope.specs.Entry.{Entry, here_of, texts_of}
 use Rattle.piece_rope.specs.Parts.{parts_of, text_in, edited_parts, made_pieces, IsPrepared}
-use Rattle.piece_rope.proofs.Parting.{parts-text, parts-length, edited-is}
-use Rattle.piece_rope.proofs.Preparing.{take-add}
-use Rattle.piece_rope.proofs.Reading.{drop-front}
+use Rattle.piece_rope.proofs.Parting.{parts-text, parts-length, edited-is, texts-most}
 use Rattle.piece_rope.proofs.Texts.{texts-append, texts-split}
+use Rattle.std.proofs.Math.Seq.{take-add}
+use Rattle.piece_rope.proofs.Lists.{take-take}
 
 pub parts-drop : (ps : List Entry) (tail : Outcome) (n : ℕ) → n ≤ length ps → drop n (parts_of ps tail) ≡ parts_of (drop n ps) tail
 parts-drop ps tail zero l = refl
@@ -18,27 +18,12 @@ parts-drop [] tail (suc n) l = absurd (omega (arith, l))
 parts-drop (p ∷ ps) tail (suc n) l = parts-drop ps tail n (omega (arith, l))
 
 pub parts-take : (ps : List Entry) (tail : Outcome) (n : ℕ) → n ≤ length ps → text_in (take n (parts_of ps tail)) ≡ texts_of (take n ps)
-parts-take [] tail zero l = refl
-parts-take (p ∷ ps) tail zero l = refl
+parts-take ps tail zero l = refl
 parts-take [] tail (suc n) l = absurd (omega (arith, l))
 parts-take (p ∷ ps) tail (suc n) l = ap (λ (cs : List ℕ). (here_of p).text ++ cs) (parts-take ps tail n (omega (arith, l)))
 
-take-take : {X : Type 0} (n m : ℕ) (xs : List X) → n ≤ m → take n (take m xs) ≡ take n xs
-take-take zero m xs l = refl
-take-take (suc n) zero xs l = absurd (omega (arith, l))
-take-take (suc n) (suc m) [] l = refl
-take-take (suc n) (suc m) (x ∷ xs) l = ap (λ (ys : List _). x ∷ ys) (take-take n m xs (omega (arith, l)))
-
 pub texts-grow : (ps : List Entry) (n m : ℕ) → n ≤ m → length (texts_of (take n ps)) ≤ length (texts_of (take m ps))
-texts-grow ps n m l =
-    let e : n + (m - n) ≡ m = omega (arith, l) in
-    omega (
-      arith,
-      ap (λ (k : ℕ). length (texts_of (take k ps))) e,
-      ap (λ (xs : List Entry). length (texts_of xs)) (take-add n (m - n) ps),
-      ap length (texts-append (take n ps) (take (m - n) (drop n ps))),
-      length-append (texts_of (take n ps)) (texts_of (take (m - n) (drop n ps))),
-    )
+texts-grow ps n m l = omega (arith, texts-most (take m ps) n, ap (λ (xs : List Entry). length (texts_of xs)) (take-take n m ps l))
 
 module _ (ps : List Entry) (e : PreparedEdit) (fits : IsPrepared ps e) where
   abbrev pub changed : ℕ
@@ -88,7 +73,7 @@ module _ (ps : List Entry) (e : PreparedEdit) (fits : IsPrepared ps e) where
       let made = made_pieces ps e in
       let between = take (to - changed) (drop changed ps) in
       ap (λ (xs : List Entry). drop first xs) (edited-is ps e fits)
-      ∙ drop-front first (take e.first ps) after (omega (arith, l, front-length))
+      ∙ drop-append-le first (take e.first ps) after (omega (arith, l, front-length))
       ∙ ap (λ (xs : List Entry). front ++ (made ++ xs)) (split-at changed to m)
       ∙ ap (λ (xs : List Entry). front ++ xs) (sym (append_assoc made between (drop to ps)))
       ∙ sym (append_assoc front (made ++ between) (drop to ps))

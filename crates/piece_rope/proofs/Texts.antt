@@ -1,5 +1,5 @@
 -- The texts of pieces, read piece by piece.
-use Rattle.std.proofs.Common.{◌≡◌, refl, sym, ap, ◌∙◌, ℕ, zero, suc, ◌+◌, ◌-◌, ◌<◌, ◌≤◌, List, [], ◌∷◌, ◌++◌, take, drop, length, slice_get, Some, arith, append_assoc, length-append, take-append-drop, add-one}
+use Rattle.std.proofs.Common.{◌≡◌, refl, sym, ap, ◌∙◌, ℕ, zero, suc, ◌+◌, ◌-◌, ◌<◌, ◌≤◌, List, [], ◌∷◌, ◌++◌, take, drop, length, slice_get, Some, arith, append_assoc, length-append, take-append-drop, add-one, append-nil}
 use Rattle.std.proofs.lemmas.Grind.{flat_map-append}
 use Rattle.std.proofs.lemmas.Option.{slice_get_within}
 use Rattle.std.proofs.Math.Seq.{drop-append-add}
@@ -8,9 +8,8 @@ use Rattle.state_memo.specs.declared.axis.Axis.TheVariants.{Scalar}
 use Rattle.state_memo.specs.declared.sum.Sum.{Sum}
 use Rattle.state_memo.specs.Sums.{no_sum, joined, measure}
 use Rattle.piece_rope.specs.Entry.{Entry, entry_sum, here_of, texts_of}
-use Rattle.piece_rope.proofs.Chaining.{take-next}
-use Rattle.piece_rope.proofs.Counting.{sums}
-use Rattle.piece_rope.proofs.Reading.{drop-next}
+use Rattle.piece_rope.proofs.Counting.{sums, found-low}
+use Rattle.piece_rope.proofs.Lists.{take-next, drop-next}
 
 pub texts-append : (xs ys : List Entry) → texts_of (xs ++ ys) ≡ texts_of xs ++ texts_of ys
 texts-append xs ys = flat_map-append (λ (p : Entry). (here_of p).text) xs ys
@@ -18,6 +17,12 @@ texts-append xs ys = flat_map-append (λ (p : Entry). (here_of p).text) xs ys
 pub sums-scalars : (ps : List Entry) → (sums ps).scalars ≡ length (texts_of ps)
 sums-scalars [] = refl
 sums-scalars (p ∷ ps) = omega (arith, (here_of p).summed.scalars, sums-scalars ps, length-append (here_of p).text (texts_of ps))
+
+pub texts-next : (ps : List Entry) (k : ℕ) (p : Entry) → slice_get ps k ≡ Some p → length (texts_of (take (suc k) ps)) ≡ length (texts_of (take k ps)) + length (here_of p).text
+texts-next ps k p at =
+    ap (λ (xs : List Entry). length (texts_of xs)) (take-next ps k p at)
+    ∙ ap length (texts-append (take k ps) (p ∷ []) ∙ ap (λ (cs : List ℕ). texts_of (take k ps) ++ cs) (append-nil (here_of p).text))
+    ∙ length-append (texts_of (take k ps)) (here_of p).text
 
 pub texts-split : (ps : List Entry) (k : ℕ) → texts_of ps ≡ texts_of (take k ps) ++ texts_of (drop k ps)
 texts-split ps k = ap texts_of (sym (take-append-drop k ps)) ∙ texts-append (take k ps) (drop k ps)
@@ -41,13 +46,9 @@ text-place ps target k s found =
     record {
       within = found.within;
       before_is = before;
-      low = low k before found.before;
+      low = found-low (measure Scalar) ps target k s refl found;
       high = λ l. omega (arith, found.behind l, sums-scalars (take (k + 1) ps), ap (λ (n : ℕ). length (texts_of (take n ps))) (add-one k));
     }
-  where
-    low : (k : ℕ) → s.scalars ≡ length (texts_of (take k ps)) → ((j : ℕ) → j < k → measure Scalar (sums (take (j + 1) ps)) ≤ target) → s.scalars ≤ target
-    low zero e below = omega (arith, e)
-    low (suc j) e below = omega (arith, e, below j (omega arith), sums-scalars (take (j + 1) ps), ap (λ (n : ℕ). length (texts_of (take n ps))) (add-one j))
 
 pub text-from : (ps : List Entry) (end : List ℕ) (from k before : ℕ) → IsTextPlace ps from k before → drop (from - before) (texts_of (drop k ps) ++ end) ≡ drop from (texts_of ps ++ end)
 text-from ps end from k before place =
@@ -62,6 +63,4 @@ text-enough ps end from to k before place order within =
     omega (arith, place.before_is, place.low, order, within, ap length (texts-split ps k), length-append (texts_of (take k ps)) (texts_of (drop k ps)), length-append (texts_of ps) end, length-append (texts_of (drop k ps)) end)
 
 pub text-within : (ps : List Entry) (from k before : ℕ) → IsTextPlace ps from k before → (p : Entry) → slice_get ps k ≡ Some p → from - before ≤ length (here_of p).text
-text-within ps from k before place p at =
-    let next : texts_of (take (suc k) ps) ≡ texts_of (take k ps) ++ ((here_of p).text ++ []) = ap texts_of (take-next ps k p at) ∙ texts-append (take k ps) (p ∷ []) in
-    omega (arith, place.high (slice_get_within ps k p at), ap length next, length-append (texts_of (take k ps)) ((here_of p).text ++ []), length-append (here_of p).text [], place.before_is)
+text-within ps from k before place p at = omega (arith, place.high (slice_get_within ps k p at), texts-next ps k p at, place.before_is)

@@ -5,7 +5,22 @@ use Rattle.piece_rope.specs.Entry.{texts_of}
 use Rattle.piece_rope.proofs.Spanning.{edited-count}
 use Rattle.piece_rope.proofs.Parting.{texts-most}
 use Rattle.piece_rope.proofs.Texts.{sums-scalars, texts-split}
+use Rattle.piece_rope.specs.Parts.{edited_parts, made_pieces, text_in}
+use Rattle.piece_rope.proofs.compare.has_scalars.Goals.{In-Some}
 use Rattle.piece_rope.proofs.compare.has_scalars.Goals as goal
+
+-- the code points of the old text behind the pieces that change, and those of the text that the edit would leave
+counted : (c : In-Some) → let ps = c.args.edited.pieces.now.items in let e = c.args.edited.edit.now in let behind = length (texts_of (drop (e.last + length e.renewals.items) ps)) in
+    (c.total.result.scalars ≡ c.scalars_in.result + behind)
+    × (length (text_in (edited_parts ps e)) ≡ c.scalars_in-before.result + (length (texts_of (made_pieces ps e)) + (behind + length e.tail.text)))
+counted c =
+    let ps = c.args.edited.pieces.now.items in
+    let e = c.args.edited.edit.now in
+    let renewals : c.len.result ≡ length e.renewals.items = search rules in
+    let n = e.last + length e.renewals.items in
+    let own : c.scalars_in.result ≡ length (texts_of (take n ps)) = c.scalars_in.ensures ∙ ap (λ (k : ℕ). length (texts_of (take (e.last + k) ps))) renewals in
+    let split : length (texts_of ps) ≡ length (texts_of (take n ps)) + length (texts_of (drop n ps)) = ap length (texts-split ps n) ∙ length-append (texts_of (take n ps)) (texts_of (drop n ps)) in
+    (omega (arith, ap (λ (s : Sum). s.scalars) c.total.ensures, sums-scalars ps, own, split), omega (arith, edited-count ps e c.args.edited.prepared, c.scalars_in-before.ensures))
 
 pub overflow_add-changed : goal.overflow_add-changed
 overflow_add-changed c =
@@ -26,46 +41,22 @@ returns-in_default c =
 
 pub returns-in_default-checked_sub : goal.returns-in_default-checked_sub
 returns-in_default-checked_sub c =
-    let ps = c.args.edited.pieces.now.items in
-    let e = c.args.edited.edit.now in
-    let renewals : c.len.result ≡ length e.renewals.items = search rules in
-    let count = edited-count ps e c.args.edited.prepared in
-    let n = e.last + length e.renewals.items in
-    let all : c.total.result.scalars ≡ length (texts_of ps) = ap (λ (s : Sum). s.scalars) c.total.ensures ∙ sums-scalars ps in
-    let own : c.scalars_in.result ≡ length (texts_of (take n ps)) = c.scalars_in.ensures ∙ ap (λ (k : ℕ). length (texts_of (take (e.last + k) ps))) renewals in (
-      (λ no. absurd cc),
-      (λ same. absurd (c.in_default-checked_sub.ensures
-          (omega (arith, same, count, c.scalars_in-before.ensures, c.in-Some.ensures.1, all, own, ap length (texts-split ps n), length-append (texts_of (take n ps)) (texts_of (drop n ps)))))),
-    )
+    let all = counted (goal.at.returns-in_default-checked_sub c).In-Some in
+    ((λ no. absurd cc), (λ same. absurd (c.in_default-checked_sub.ensures (omega (arith, same, all.0, all.1, c.in-Some.ensures.1)))))
 
 pub returns-in-Some-made_counted : goal.returns-in-Some-made_counted
 returns-in-Some-made_counted c =
-    let ps = c.args.edited.pieces.now.items in
     let e = c.args.edited.edit.now in
-    let renewals : c.len.result ≡ length e.renewals.items = search rules in
-    let count = edited-count ps e c.args.edited.prepared in
-    let n = e.last + length e.renewals.items in
-    let all : c.total.result.scalars ≡ length (texts_of ps) = ap (λ (s : Sum). s.scalars) c.total.ensures ∙ sums-scalars ps in
-    let own : c.scalars_in.result ≡ length (texts_of (take n ps)) = c.scalars_in.ensures ∙ ap (λ (k : ℕ). length (texts_of (take (e.last + k) ps))) renewals in
-    let split : length (texts_of ps) ≡ length (texts_of (take n ps)) + length (texts_of (drop n ps)) = ap length (texts-split ps n) ∙ length-append (texts_of (take n ps)) (texts_of (drop n ps)) in
-    let end = e.tail.summed.scalars in
+    let all = counted (goal.at.returns-in-Some-made_counted c).In-Some in
+    let one = c.in-Some.ensures in
+    let two = c.in-Some-checked_sub.ensures in
     let known = c.in-Some-made_counted.ensures.some in
     let eq = Decides-eqb c.in-Some-made_counted.left e.tail.sum.scalars in (
-      (λ yes. omega (arith, eq.0 yes, count, c.scalars_in-before.ensures, c.in-Some.ensures.0, c.in-Some.ensures.1, c.in-Some-checked_sub.ensures.0, c.in-Some-checked_sub.ensures.1, all, own, split, end, known)),
-      (λ same. eq.1 (omega (arith, same, count, c.scalars_in-before.ensures, c.in-Some.ensures.0, c.in-Some.ensures.1, c.in-Some-checked_sub.ensures.0, c.in-Some-checked_sub.ensures.1, all, own, split, end, known))),
+      (λ yes. omega (arith, eq.0 yes, all.0, all.1, one.0, one.1, two.0, two.1, known, e.tail.summed.scalars)),
+      (λ same. eq.1 (omega (arith, same, all.0, all.1, one.0, one.1, two.0, two.1, known, e.tail.summed.scalars))),
     )
 
 pub returns-in-None : goal.returns-in-None
 returns-in-None c =
-    let ps = c.args.edited.pieces.now.items in
-    let e = c.args.edited.edit.now in
-    let renewals : c.len.result ≡ length e.renewals.items = search rules in
-    let count = edited-count ps e c.args.edited.prepared in
-    let n = e.last + length e.renewals.items in
-    let all : c.total.result.scalars ≡ length (texts_of ps) = ap (λ (s : Sum). s.scalars) c.total.ensures ∙ sums-scalars ps in
-    let own : c.scalars_in.result ≡ length (texts_of (take n ps)) = c.scalars_in.ensures ∙ ap (λ (k : ℕ). length (texts_of (take (e.last + k) ps))) renewals in
-    let split : length (texts_of ps) ≡ length (texts_of (take n ps)) + length (texts_of (drop n ps)) = ap length (texts-split ps n) ∙ length-append (texts_of (take n ps)) (texts_of (drop n ps)) in
-    let known = c.in-None.ensures.none in (
-      (λ no. absurd cc),
-      (λ same. absurd (omega (arith, same, count, c.scalars_in-before.ensures, c.in-Some.ensures.0, c.in-Some.ensures.1, c.in-Some-checked_sub.ensures.0, c.in-Some-checked_sub.ensures.1, all, own, split, known))),
-    )
+    let all = counted (goal.at.returns-in-None c).In-Some in
+    ((λ no. absurd cc), (λ same. absurd (omega (arith, same, all.0, all.1, c.in-Some.ensures.0, c.in-Some.ensures.1, c.in-Some-checked_sub.ensures.0, c.in-Some-checked_sub.ensures.1, c.in-None.ensures.none))))

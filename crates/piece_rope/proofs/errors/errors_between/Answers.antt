@@ -1,8 +1,7 @@
 use Rattle.std.proofs.Common.{◌≡◌, sym, ap, ◌∙◌, List, [], ◌∷◌, ◌++◌, arith, rules, None, Some, slice_get}
 use Rattle.enc_names.specs.declared.place.Place.{Place}
 use Rattle.piece_rope.specs.Errors.{all_errors}
-use Rattle.piece_rope.proofs.Editing.{element}
-use Rattle.piece_rope.proofs.Erring.{one-more}
+use Rattle.piece_rope.proofs.Lists.{element, taken-more}
 use Rattle.piece_rope.proofs.errors.errors_between.Goals as goal
 
 pub unreachable-requires : goal.unreachable-requires
@@ -22,5 +21,5 @@ errors-preserved c =
     record {
       low = omega (arith, c.errors.invariant.low);
       high = omega (arith, c.errors-test.true);
-      places = more ∙ ap (λ (ps : List Place). ps ++ place ∷ []) c.errors.invariant.places ∙ sym (one-more all c.args.from c.errors.next place c.errors.invariant.low at);
+      places = more ∙ ap (λ (ps : List Place). ps ++ place ∷ []) c.errors.invariant.places ∙ sym (taken-more all c.args.from c.errors.next place c.errors.invariant.low at);
     }

@@ -2,8 +2,9 @@ use Rattle.std.proofs.lemmas.Grind.{common_steps}
 use Rattle.std.proofs.Common.{◌≡◌, rules, sym, ap, ◌∙◌, ◌+◌, ◌<◌, length, arith, [], ◌∷◌, ◌++◌, refl, length-append}
 use Rattle.piece_rope.specs.Sizes.{shortest}
 use Rattle.piece_rope.specs.Chain.{bytes_of}
-use Rattle.piece_rope.proofs.Chaining.{laws_from, length-snoc}
+use Rattle.piece_rope.proofs.Chaining.{laws_from}
 use Rattle.piece_rope.proofs.Editing.{sized-append, metered-step, added-length, added-bytes, added-chain, added-state, none-before}
+use Rattle.piece_rope.proofs.Lists.{length-snoc}
 use Rattle.piece_rope.proofs.fresh.fresh_pieces.Goals as goal
 
 pub rest-init : goal.rest-init

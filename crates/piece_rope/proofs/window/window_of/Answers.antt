@@ -1,10 +1,29 @@
-use Rattle.std.proofs.Common.{◌≡◌, ◌≤◌, ap, sym, ◌∙◌, ◌-◌, suc, ℕ, length, arith, add-one}
+use Rattle.std.proofs.Common.{◌≡◌, ◌≤◌, ap, sym, ◌∙◌, ◌-◌, ◌+◌, suc, ℕ, length, arith, add-one}
 use Rattle.std.proofs.lemmas.Option.{slice_get_within}
 use Rattle.piece_rope.specs.Sizes.{shortest}
 use Rattle.piece_rope.specs.Window.{bytes_before}
 use Rattle.piece_rope.proofs.Chaining.{bytes-next}
 use Rattle.piece_rope.proofs.Measuring.{before-le, before-all, before-step, sized-at}
 use Rattle.piece_rope.proofs.window.window_of.Goals as goal
+
+-- one piece more before those that the edit touches
+before : (c : goal.After-bytes) → c.touched-touched.result.start ≡ bytes_before c.args.pieces.now.items (c.touched-touched.result.first - 1) + length c.bytes.result.now
+before c =
+    let first = c.touched-touched.result.first in
+    let back : suc (first - 1) ≡ first = omega (arith, c.if-first-gt0.true) in
+    omega (
+      arith,
+      bytes-next c.args.pieces.now.items (first - 1) c.get.result.now c.get.ensures,
+      ap (λ (k : ℕ). bytes_before c.args.pieces.now.items k) back,
+      ap length c.bytes.ensures,
+      c.touched-touched.ensures.start,
+    )
+
+-- and one more behind them
+behind : (c : goal.After-bytes-then-last-count) → c.touched-touched.result.end + length c.bytes-then-last-count.result.now ≡ bytes_before c.args.pieces.now.items (suc c.touched-touched.result.last)
+behind c =
+    let next = bytes-next c.args.pieces.now.items c.touched-touched.result.last c.get-then-last-count.result.now c.get-then-last-count.ensures in
+    omega (arith, next, ap length c.bytes-then-last-count.ensures, c.touched-touched.ensures.end)
 
 pub returns-then-count-le1-clause-spans : goal.returns-then-count-le1-clause-spans
 returns-then-count-le1-clause-spans c =
@@ -26,30 +45,21 @@ returns-then-count-le1-clause-spans c =
     }
 
 pub overflow_sub-start : goal.overflow_sub-start
-overflow_sub-start c =
-    let items = c.args.pieces.now.items in
-    let w = c.touched-touched.result in
-    let back : suc (w.first - 1) ≡ w.first = omega (arith, c.if-first-gt0.true) in
-    let next = bytes-next items (w.first - 1) c.get.result.now c.get.ensures in
-    omega (arith, next, ap (λ (k : ℕ). bytes_before items k) back, ap length c.bytes.ensures, c.touched-touched.ensures.start)
+overflow_sub-start c = omega (arith, before c)
 
 pub returns-then-first-gt0-clause-spans : goal.returns-then-first-gt0-clause-spans
 returns-then-first-gt0-clause-spans c =
-    let items = c.args.pieces.now.items in
     let w = c.touched-touched.result in
     let t = c.touched-touched.ensures in
-    let back : suc (w.first - 1) ≡ w.first = omega (arith, c.if-first-gt0.true) in
-    let next = bytes-next items (w.first - 1) c.get.result.now c.get.ensures in
-    let step = ap (λ (k : ℕ). bytes_before items k) back in
-    let long = ap length c.bytes.ensures in
-    let short = (sized-at 1 items (w.first - 1) c.get.result.now c.requires.measured.sizes.small c.get.ensures).1 in
+    let start = before c in
+    let short = (sized-at 1 c.args.pieces.now.items (w.first - 1) c.get.result.now c.requires.measured.sizes.small c.get.ensures).1 in
     record {
       order = omega (arith, t.order);
       within = t.within;
-      start = omega (arith, next, step, long, t.start);
+      start = omega (arith, start);
       end = t.end;
       front = omega (arith, t.front);
-      near = omega (arith, t.near, long, short, next, step, t.start);
+      near = omega (arith, t.near, start, ap length c.bytes.ensures, short);
       back = t.back;
       close = omega (arith, t.close);
     }
@@ -57,57 +67,48 @@ returns-then-first-gt0-clause-spans c =
 pub returns-then-first-gt0-clause-roomy : goal.returns-then-first-gt0-clause-roomy
 returns-then-first-gt0-clause-roomy c =
     let items = c.args.pieces.now.items in
-    let w = c.touched-touched.result in
-    let t = c.touched-touched.ensures in
     let many : 2 ≤ length items = omega (arith, c.len-count.ensures, c.if-count-le1.false) in
-    let back : suc (w.first - 1) ≡ w.first = omega (arith, c.if-first-gt0.true) in
-    let next = bytes-next items (w.first - 1) c.get.result.now c.get.ensures in
-    let step = ap (λ (k : ℕ). bytes_before items k) back in
-    let long = ap length c.bytes.ensures in
-    let wide = (sized-at shortest items (w.first - 1) c.get.result.now (c.requires.measured.sizes.wide many) c.get.ensures).0 in
+    let wide = (sized-at shortest items (c.touched-touched.result.first - 1) c.get.result.now (c.requires.measured.sizes.wide many) c.get.ensures).0 in
+    let enough : shortest ≤ length c.bytes.result.now = omega (arith, wide, ap length c.bytes.ensures) in
+    let start = before c in
     record {
-      in_front = λ _. omega (arith, t.front, t.start, long, wide, next, step);
-      behind = λ _. omega (arith, t.front, t.start, long, wide, next, step);
+      in_front = λ _. omega (arith, c.touched-touched.ensures.front, enough, start);
+      behind = λ _. omega (arith, c.touched-touched.ensures.front, enough, start);
       sole = λ one. absurd (omega (arith, one, many));
     }
 
 pub overflow_add-end : goal.overflow_add-end
 overflow_add-end c =
-    let items = c.args.pieces.now.items in
-    let w = c.touched-touched.result in
-    let next = bytes-next items w.last c.get-then-last-count.result.now c.get-then-last-count.ensures in
-    omega (arith, next, before-le items (suc w.last), c.requires.measured.bytes, ap length c.bytes-then-last-count.ensures, c.touched-touched.ensures.end)
+    let end = behind c in
+    omega (arith, end, before-le c.args.pieces.now.items (suc c.touched-touched.result.last), c.requires.measured.bytes)
 
 pub returns-then-last-count-clause-spans : goal.returns-then-last-count-clause-spans
 returns-then-last-count-clause-spans c =
     let items = c.args.pieces.now.items in
-    let w = c.touched-touched.result in
+    let last = c.touched-touched.result.last in
+    let p = c.get-then-last-count.result.now in
     let t = c.touched-touched.ensures in
-    let next = bytes-next items w.last c.get-then-last-count.result.now c.get-then-last-count.ensures in
-    let step = ap (λ (k : ℕ). bytes_before items k) (add-one w.last) in
-    let long = ap length c.bytes-then-last-count.ensures in
-    let short = (sized-at 1 items w.last c.get-then-last-count.result.now c.requires.measured.sizes.small c.get-then-last-count.ensures).1 in
+    let end = behind c in
+    let short = (sized-at 1 items last p c.requires.measured.sizes.small c.get-then-last-count.ensures).1 in
     record {
       order = omega (arith, t.order);
-      within = omega (arith, slice_get_within items w.last c.get-then-last-count.result.now c.get-then-last-count.ensures);
+      within = omega (arith, slice_get_within items last p c.get-then-last-count.ensures);
       start = t.start;
-      end = omega (arith, next, step, long, t.end);
+      end = omega (arith, end, ap (λ (k : ℕ). bytes_before items k) (add-one last));
       front = t.front;
       near = omega (arith, t.near);
       back = omega (arith, t.back);
-      close = omega (arith, t.close, long, short);
+      close = omega (arith, t.close, ap length c.bytes-then-last-count.ensures, short);
     }
 
 pub returns-then-last-count-clause-roomy : goal.returns-then-last-count-clause-roomy
 returns-then-last-count-clause-roomy c =
     let items = c.args.pieces.now.items in
-    let w = c.touched-touched.result in
-    let t = c.touched-touched.ensures in
     let many : 2 ≤ length items = omega (arith, c.len-count.ensures, c.if-count-le1.false) in
-    let long = ap length c.bytes-then-last-count.ensures in
-    let wide = (sized-at shortest items w.last c.get-then-last-count.result.now (c.requires.measured.sizes.wide many) c.get-then-last-count.ensures).0 in
+    let wide = (sized-at shortest items c.touched-touched.result.last c.get-then-last-count.result.now (c.requires.measured.sizes.wide many) c.get-then-last-count.ensures).0 in
+    let enough : shortest ≤ length c.bytes-then-last-count.result.now = omega (arith, wide, ap length c.bytes-then-last-count.ensures) in
     record {
-      in_front = λ _. omega (arith, t.back, long, wide);
-      behind = λ _. omega (arith, t.back, long, wide);
+      in_front = λ _. omega (arith, c.touched-touched.ensures.back, enough);
+      behind = λ _. omega (arith, c.touched-touched.ensures.back, enough);
       sole = λ one. absurd (omega (arith, one, many));
     }

@@ -15,9 +15,9 @@ returns-then-made-len c =
 
 pub returns : goal.returns
 returns c =
-    let ps = c.args.self.now.pieces.now.items in
-    let e = c.args.self.now.edit.now in
-    let m = c.args.place - e.first in
-    let count : c.len.result ≡ length e.fresh.items = search rules in
-    let again : c.len-2.result ≡ length e.fresh.items = search rules in
-    c.part_behind.ensures ∙ sym (part-later ps e c.args.self.now.prepared c.args.place (m - c.len-2.result) (omega (arith, c.if-place-edit.false, c.if-made-len.false, count, again)))
+    let self = c.args.self.now in
+    let fresh = length self.edit.now.fresh.items in
+    let count : c.len.result ≡ fresh = search rules in
+    let again : c.len-2.result ≡ fresh = search rules in
+    c.part_behind.ensures
+    ∙ sym (part-later self.pieces.now.items self.edit.now self.prepared c.args.place (c.args.place - self.edit.now.first - c.len-2.result) (omega (arith, c.if-place-edit.false, c.if-made-len.false, count, again)))
