@@ -11,6 +11,10 @@ pub returns-clause-shifted : goal.returns-clause-shifted
 unfolding digits escape_byte
 returns-clause-shifted c = refl
 
+pub returns-clause-planned : goal.returns-clause-planned
+unfolding digits escape_byte
+returns-clause-planned c = refl
+
 pub returns-clause-splits : goal.returns-clause-splits
 unfolding digits escape_byte
 returns-clause-splits c = refl

@@ -18,3 +18,7 @@ returns-clause-null_range c = refl
 pub returns-clause-last : goal.returns-clause-last
 unfolding is_utf8 chars serde_json_on_literals
 returns-clause-last c = refl
+
+pub returns-clause-plan : goal.returns-clause-plan
+unfolding is_utf8 chars serde_json_on_literals
+returns-clause-plan c = refl
