@@ -206,6 +206,11 @@ class Document:
         reply = self._take(self._gate.ask("change", doc=self.name, rev=self.rev, unit=unit, **_change(text, start, end)))
         return self._put(reply["at"], reply["del"], self.source(reply["at"], reply["ins"]))
 
+    def plan(self, text: str, start: Optional[Pair] = None, end: Optional[Pair] = None, unit: str = "utf-16") -> Tuple[Edit, bool]:
+        """The edit that `change` would make, and whether it would: where not, it would be refused as "NotKept"."""
+        reply = self._gate.ask("plan", doc=self.name, unit=unit, **_change(text, start, end))
+        return Edit(reply["at"], base64.b64decode(reply["old"]), base64.b64decode(reply["bytes"])), reply["kept"]
+
     def changes(self, listed: Sequence[Change], unit: str = "utf-16") -> Edit:
         """Makes changes in one command, as an editor lists them, or none of them: each is what `change` takes, and its
         positions are those of the text that the ones before it leave. Returns one edit, of all bytes between the first

@@ -30,6 +30,8 @@ class Documents(unittest.TestCase):
     def test_only_the_edited_bytes_differ(self):
         content = b"A\x1b$B$\"\x1b(B"
         document = self.gate.open("d", "iso-2022-jp", content)
+        plan, kept = document.plan("亜", (0, 1))
+        self.assertEqual((plan.at, plan.old, plan.new, kept, document.rev), (1, b"", b"\x1b$B0!", True, 0))
         edit = document.change("亜", (0, 1))
         self.assertEqual((edit.at, edit.old, edit.new), (1, b"", b"\x1b$B0!"))
         self.assertEqual(document.source(), b"A\x1b$B0!\x1b$B$\"\x1b(B")

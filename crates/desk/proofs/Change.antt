@@ -81,7 +81,7 @@ put-cause : (d : Document) (encoding : Encoding) (left right : ℕ) (text : List
 put-cause d Iso2022Jp left right text = bytes-cause _
 put-cause d encoding left right text = encoded-cause d.indexes encoding false text
 
-abbrev Planless : Result Plan ChangeFault → Type 0
+abbrev pub Planless : Result Plan ChangeFault → Type 0
 Planless r = r ≢ Err change.OutOfMemory
 
 splice-cause : (left right i j : ℕ) (r : Result (List ℕ) EncodeFault) → r ≢ Err encoder.OutOfMemory → Planless (splice_with left right i j r)
@@ -109,7 +109,7 @@ cause-if : (b : Bool) (r : Result Plan ChangeFault) → Planless r → Planless 
 cause-if true r p = λ e. cc
 cause-if false r p = p
 
-planned-cause : (d : Document) (range : Option Range) (unit : TextUnit) (text : List ℕ) → Planless (planned d range unit text)
+pub planned-cause : (d : Document) (range : Option Range) (unit : TextUnit) (text : List ℕ) → Planless (planned d range unit text)
 unfolding planned
 planned-cause d None unit text = replacing-cause d text 0 (length (text_of d))
 planned-cause d (Some range) unit text =
@@ -129,11 +129,14 @@ caused-text : (d : Document) (i j : ℕ) → Caused (text_fault d i j)
 unfolding range_fault
 caused-text d i j = caused-if (nat_le i j && nat_le j (length (text_of d))) _ _ (λ e. cc) (λ e. cc)
 
+pub caused-cut : (d : Document) (plan : Plan) → Caused (kept_fault d plan.at plan.del plan.ins plan.i plan.j)
+caused-cut d plan =
+    caused-first (text_fault d plan.i plan.j) (splice_fault d.bytes plan.at plan.del plan.ins) (caused-text d plan.i plan.j) (caused-splice d.bytes plan.at plan.del plan.ins)
+
 caused-plan : (d : Document) (text : List ℕ) (plan : Plan) → Caused (plan_fault d text plan)
 caused-plan d text plan =
     caused-first (kept_fault d plan.at plan.del plan.ins plan.i plan.j) (unless_kept (is_kept d plan.at plan.del plan.ins plan.i plan.j text))
-    (caused-first (text_fault d plan.i plan.j) (splice_fault d.bytes plan.at plan.del plan.ins) (caused-text d plan.i plan.j) (caused-splice d.bytes plan.at plan.del plan.ins))
-    (caused-kept (is_kept d plan.at plan.del plan.ins plan.i plan.j text))
+    (caused-cut d plan) (caused-kept (is_kept d plan.at plan.del plan.ins plan.i plan.j text))
 
 -- not for memory
 abbrev pub Possible : {A : Type 0} → Result A ChangeCause → Type 0

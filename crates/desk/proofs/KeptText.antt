@@ -128,7 +128,7 @@ law_lists_keep_text o p doc rev unit cs reply answers e =
 -- ---- a list is its changes
 
 -- an edit that names the revision now
-now : {A : Type 0} (h : Entry) (answer : Result A Fault) → h.revision < max_number → at_revision h h.revision answer ≡ answer
+pub now : {A : Type 0} (h : Entry) (answer : Result A Fault) → h.revision < max_number → at_revision h h.revision answer ≡ answer
 now h answer lt =
     let same : (h.revision == h.revision) ≡ true = eq-eqb h.revision h.revision refl in
     let below : nat_lt h.revision max_number ≡ true = lt-ltb h.revision max_number lt in

@@ -1,5 +1,6 @@
 mod Answering
 mod Apart
+mod AsPlanned
 mod Begins
 mod Change
 mod Changes
@@ -15,6 +16,7 @@ mod Names
 mod Offset
 mod Open
 mod Place
+mod Plan
 mod Position
 mod Row
 mod Rows

@@ -4,7 +4,7 @@ use Rattle.std.specs.FinMap.{get}
 use Rattle.enc_names.specs.Labels.{LabelTable}
 use Rattle.index_loader.specs.Files.{Files}
 use Rattle.desk.specs.Accepted.{reports_change, OnlyChangesChange, RefusalsChangeNothing, MemoryIsNeverWanted}
-use Rattle.desk.specs.Commands.{Ask, Asked, Opens, Closes, Splices, ChangesText, MakesChanges, Reads, ReadsBytes, Encodes, ListsErrors, ListsLines, FindsPosition, FindsOffset, FindsPlace, Measures}
+use Rattle.desk.specs.Commands.{Ask, Asked, Opens, Closes, Splices, ChangesText, MakesChanges, Plans, Reads, ReadsBytes, Encodes, ListsErrors, ListsLines, FindsPosition, FindsOffset, FindsPlace, Measures}
 use Rattle.desk.specs.Desk.{Office, Outcome, Answers, IsOutcome, moved, answer_of, has_place}
 use Rattle.desk.specs.Documents.{Names}
 use Rattle.desk.specs.declared.fault.Fault.TheVariants.{OutOfMemory}
@@ -21,6 +21,7 @@ use Rattle.desk.proofs.Place as place
 use Rattle.desk.proofs.Position as position
 use Rattle.desk.proofs.Change as change
 use Rattle.desk.proofs.Changes as changes
+use Rattle.desk.proofs.Plan as plan
 use Rattle.desk.proofs.Source as source
 use Rattle.desk.proofs.Splice as splice
 use Rattle.desk.proofs.Stat as stat
@@ -32,6 +33,7 @@ row indexes labels Closes = close.row indexes labels
 row indexes labels (Splices rev at del bytes) = splice.row indexes labels rev at del bytes
 row indexes labels (ChangesText rev unit range text) = change.row indexes labels rev unit range text
 row indexes labels (MakesChanges rev unit cs) = changes.row indexes labels rev unit cs
+row indexes labels (Plans unit range text) = plan.row indexes labels unit range text
 row indexes labels (Reads from to mode) = text.row indexes labels from to mode
 row indexes labels (ReadsBytes at len) = source.row indexes labels at len
 row indexes labels (Encodes from to label mode) = encode.row indexes labels from to label mode

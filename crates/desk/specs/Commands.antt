@@ -5,7 +5,7 @@ use Rattle.position_map.specs.declared.position.Range.{Range}
 use Rattle.position_map.specs.declared.unit.Unit.{Unit as TextUnit}
 use Rattle.encoders.specs.declared.mode.EncodeMode.{EncodeMode}
 use Rattle.desk.specs.declared.ops.Command.{Command}
-use Rattle.desk.specs.declared.ops.Command.TheVariants.{Open, Close, Splice, Change, Changes, Text, Source, Encode, Errors, Lines, Position, Offset, Place, Stat}
+use Rattle.desk.specs.declared.ops.Command.TheVariants.{Open, Close, Splice, Change, Changes, Plan, Text, Source, Encode, Errors, Lines, Position, Offset, Place, Stat}
 use Rattle.desk.specs.declared.ops.changes.ContentChange.{ContentChange}
 use Rattle.desk.specs.declared.place_unit.PlaceUnit.{PlaceUnit}
 use Rattle.desk.specs.declared.text_mode.TextMode.{TextMode}
@@ -29,6 +29,8 @@ pub data Ask : Type 0 where
   ChangesText : ℕ → TextUnit → Option Range → List ℕ → Ask
   -- rev unit changes
   MakesChanges : ℕ → TextUnit → List TextChange → Ask
+  -- unit range text
+  Plans : TextUnit → Option Range → List ℕ → Ask
   -- from to mode
   Reads : ℕ → ℕ → TextMode → Ask
   -- at len
@@ -61,6 +63,7 @@ asked (Close c) = asked_of c.doc.now Closes
 asked (Splice c) = asked_of c.doc.now (Splices c.rev c.at c.del c.bytes.now)
 asked (Change c) = asked_of c.doc.now (ChangesText c.rev c.unit c.range c.text.now)
 asked (Changes c) = asked_of c.doc.now (MakesChanges c.rev c.unit (map change_of c.changes.items))
+asked (Plan c) = asked_of c.doc.now (Plans c.unit c.range c.text.now)
 asked (Text c) = asked_of c.doc.now (Reads c.from c.to c.mode)
 asked (Source c) = asked_of c.doc.now (ReadsBytes c.at c.len)
 asked (Encode c) = asked_of c.doc.now (Encodes c.from c.to c.label.now c.mode)

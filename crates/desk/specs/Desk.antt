@@ -4,7 +4,7 @@ use Rattle.std.specs.FinMap.{get, insert, remove, len}
 use Rattle.enc_names.specs.declared.setting.Setting.{Setting}
 use Rattle.enc_names.specs.Labels.{LabelTable, lookup_in}
 use Rattle.index_loader.specs.Files.{Files}
-use Rattle.desk.specs.Commands.{Ask, Asked, Opens, Closes, Splices, ChangesText, MakesChanges, Reads, ReadsBytes, Encodes, ListsErrors, ListsLines, FindsPosition, FindsOffset, FindsPlace, Measures}
+use Rattle.desk.specs.Commands.{Ask, Asked, Opens, Closes, Splices, ChangesText, MakesChanges, Plans, Reads, ReadsBytes, Encodes, ListsErrors, ListsLines, FindsPosition, FindsOffset, FindsPlace, Measures}
 use Rattle.desk.specs.Documents.{Entry, Names}
 use Rattle.desk.specs.Effects.{Move, Stays, Puts, Goes, Effect, replied, of_document, base64_bytes, with_bytes}
 use Rattle.desk.specs.Open.{opened, adopted}
@@ -12,6 +12,7 @@ use Rattle.desk.specs.Close.{closed}
 use Rattle.desk.specs.Splice.{splice_effect}
 use Rattle.desk.specs.Change.{change_effect}
 use Rattle.desk.specs.Changes.{changes_effect}
+use Rattle.desk.specs.Plan.{plan_reply}
 use Rattle.desk.specs.Text.{text_reply}
 use Rattle.desk.specs.Source.{source_reply}
 use Rattle.desk.specs.Encode.{encode_reply_as}
@@ -47,6 +48,7 @@ effect indexes labels place found Closes = of_document found closed
 effect indexes labels place found (Splices rev at del bytes) = with_bytes (base64_bytes bytes) (λ ins. of_document found (splice_effect indexes rev at del ins))
 effect indexes labels place found (ChangesText rev unit range text) = of_document found (change_effect indexes rev unit range text)
 effect indexes labels place found (MakesChanges rev unit changes) = of_document found (changes_effect indexes rev unit changes)
+effect indexes labels place found (Plans unit range text) = of_document found (λ h. replied (plan_reply indexes h unit range text))
 effect indexes labels place found (Reads from to mode) = of_document found (λ h. replied (text_reply indexes h from to mode))
 effect indexes labels place found (ReadsBytes at len) = of_document found (λ h. replied (source_reply h at len))
 effect indexes labels place found (Encodes from to label mode) = of_document found (λ h. replied (encode_reply_as indexes h from to (lookup_in labels label) mode))

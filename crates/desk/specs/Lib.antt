@@ -1,5 +1,6 @@
 pub mod Accepted
 pub mod Apart
+pub mod AsPlanned
 pub mod Change
 pub mod Changes
 pub mod Close
@@ -18,6 +19,7 @@ pub mod Offset
 pub mod Open
 pub mod OpenDocuments
 pub mod Place
+pub mod Plan
 pub mod Position
 pub mod Shelf
 pub mod Source

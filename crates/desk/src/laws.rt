@@ -1,5 +1,6 @@
 //! Laws of the desk's definition, which every desk meets.
 ghost use Rattle.desk.specs.Apart.{DocumentsAreApart};
+ghost use Rattle.desk.specs.AsPlanned.{PlansForetellChanges, RefusedPlansRefuseChanges};
 ghost use Rattle.desk.specs.Accepted.{OnlyChangesChange, RefusalsChangeNothing, MemoryIsNeverWanted};
 ghost use Rattle.desk.specs.KeptText.{ChangesKeepText, ListsAreTheirChanges, ListsKeepText};
 ghost use Rattle.desk.specs.Lives.{OpensBegin, AdoptionsBegin, ClosesEnd, Lives};
@@ -28,6 +29,13 @@ pub fn law_changes_keep_text()
     ensures changes { ChangesKeepText }
     ensures lists { ListsKeepText }
     ensures each { ListsAreTheirChanges }
+{}
+
+/// A change asked for where its plan was is made exactly as the plan says, or refused with `NotKept`
+/// where the plan says so; and it is refused as its plan was.
+pub fn law_plans_foretell_changes()
+    ensures foretell { PlansForetellChanges }
+    ensures refused { RefusedPlansRefuseChanges }
 {}
 
 /// What a desk answers for one document depends on no other, but for whether there is a place for

@@ -23,7 +23,7 @@ pub use desk::Desk;
 pub use fault::Fault;
 pub use laws::{
     law_changes_keep_text, law_documents_are_apart, law_lives_have_each_edit_once,
-    law_refusals_change_nothing,
+    law_plans_foretell_changes, law_refusals_change_nothing,
 };
 pub use line::Line;
 pub use max_number::MAX_NUMBER;

@@ -12,6 +12,7 @@ mod lines;
 mod offset;
 mod open;
 mod place;
+mod plan;
 mod position;
 mod source;
 mod splice;
@@ -30,6 +31,7 @@ pub use lines::{Lines, LinesReply};
 pub use offset::{Offset, OffsetReply};
 pub use open::Open;
 pub use place::{Place, PlaceReply};
+pub use plan::{Plan, PlanReply};
 pub use position::{Position, PositionReply};
 pub use source::Source;
 pub use splice::Splice;
@@ -49,6 +51,8 @@ pub enum Command<'a> {
     Change(Change<'a>),
     /// Makes a list of changes of a document's text.
     Changes(Changes<'a>),
+    /// Returns what a change of a document's text would do.
+    Plan(Plan<'a>),
     /// Returns code points of a document's text.
     Text(Text<'a>),
     /// Returns bytes of a document as they are.
@@ -79,6 +83,8 @@ pub enum Reply {
     Change(ChangeReply),
     /// A list of changes was accepted.
     Changes(ChangesReply),
+    /// What a change would do.
+    Plan(PlanReply),
     /// A document was closed.
     Closed {
         /// The revision that it had.
@@ -118,6 +124,7 @@ impl Desk<'_> {
             Command::Splice(splice) => self.splice(splice),
             Command::Change(change) => self.change(change),
             Command::Changes(changes) => self.changes(changes),
+            Command::Plan(plan) => self.ask(plan.doc, plan),
             Command::Text(text) => self.ask(text.doc, text),
             Command::Source(source) => self.ask(source.doc, source),
             Command::Encode(encode) => self.ask(encode.doc, encode),

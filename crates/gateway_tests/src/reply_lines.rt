@@ -1,5 +1,5 @@
 //! Worked reply lines, computed on the definition, and those that no session has, written.
-ghost use Rattle.std.specs.Prelude.{◌≡◌, ◌++◌, ◌∷◌, [], codes, Some, None};
+ghost use Rattle.std.specs.Prelude.{◌≡◌, ◌++◌, ◌∷◌, [], false, codes, Some, None};
 ghost use Rattle.enc_names.specs.declared.encoding.Encoding.TheVariants.{Iso2022Jp, Utf8};
 ghost use Rattle.line_protocol.specs.Replies.{reply_text, refusal_text};
 ghost use Rattle.desk.specs.declared.change_cause.ChangeCause.TheVariants.{Plan};
@@ -61,6 +61,8 @@ fn replies_to_changes()
         ≡ codes "{\"at\":1,\"bom\":0,\"del\":4,\"encoding\":\"UTF-8\",\"id\":9,\"ins\":1,\"rev\":1}\n" }
     ensures shifted { reply_text 2 (Change (record { at = 1; bom = 0; del = 0; encoding = Iso2022Jp; ins = 5; rev = 1 }))
         ≡ codes "{\"at\":1,\"bom\":0,\"del\":0,\"encoding\":\"ISO-2022-JP\",\"id\":2,\"ins\":5,\"rev\":1}\n" }
+    ensures planned { reply_text 4 (replies.Plan (record { at = 0; bytes = 239 ∷ 187 ∷ 191 ∷ 120 ∷ []; kept = false; old = 97 ∷ []; rev = 1 }))
+        ≡ codes "{\"at\":0,\"bytes\":\"77u/eA==\",\"del\":1,\"id\":4,\"kept\":false,\"old\":\"YQ==\",\"rev\":1}\n" }
     ensures splits { reply_text 4 (Refused fault.SplitsItem) ≡ codes "{\"fault\":\"SplitsItem\",\"id\":4}\n" }
     ensures kept { reply_text 4 (Refused fault.NotKept) ≡ codes "{\"fault\":\"NotKept\",\"id\":4}\n" }
     ensures encoder { reply_text 4 (Refused fault.NoEncoder) ≡ codes "{\"fault\":\"NoEncoder\",\"id\":4}\n" }

@@ -1,7 +1,7 @@
 //! Worked lines: their requests, computed on the definition.
 ghost use Rattle.std.specs.Prelude.{◌≡◌, ◌∷◌, [], codes, Ok, Err, Some, None};
 ghost use Rattle.enc_names.specs.declared.bom.Bom.TheVariants.{Sniff, Keep};
-ghost use Rattle.desk.specs.Commands.{asked_of, Opens, Closes, Splices, ChangesText, MakesChanges, Reads, ReadsBytes, Encodes, ListsErrors, ListsLines, FindsPosition, FindsOffset, FindsPlace, Measures};
+ghost use Rattle.desk.specs.Commands.{asked_of, Opens, Closes, Splices, ChangesText, MakesChanges, Plans, Reads, ReadsBytes, Encodes, ListsErrors, ListsLines, FindsPosition, FindsOffset, FindsPlace, Measures};
 ghost use Rattle.line_protocol.specs.Request.{request_of_line, position_of, range_of, text_change};
 ghost use Rattle.position_map.specs.declared.unit.Unit.TheVariants.{Utf8, Utf16, Utf32};
 ghost use Rattle.desk.specs.declared.place_unit.PlaceUnit.TheVariants as place_unit;
@@ -120,6 +120,8 @@ fn changes()
     ensures last { request_of_line (codes
         "{\"id\":9,\"op\":\"change\",\"doc\":\"d\",\"rev\":0,\"range\":{\"end\":{\"character\":3,\"line\":0},\"start\":7,\"rangeLength\":1,\"start\":{\"line\":4,\"character\":1,\"line\":0}},\"text\":\"x\"}")
         ≡ Ok (9, asked_of (codes "d") (ChangesText 0 Utf16 (Some (range_of (position_of 0 1) (position_of 0 3))) (codes "x"))) }
+    ensures plan { request_of_line (codes "{\"id\":9,\"op\":\"plan\",\"doc\":\"d\",\"rev\":7,\"unit\":\"utf-8\",\"text\":\"x\"}")
+        ≡ Ok (9, asked_of (codes "d") (Plans Utf8 None (codes "x"))) }
 {}
 
 /// A list of changes is read element by element.

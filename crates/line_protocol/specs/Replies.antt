@@ -1,8 +1,8 @@
 -- The text of a reply: one line, an object of JSON with no space and its keys in ascending order.
-use Rattle.std.specs.Prelude.{ℕ, Bool, List, [], ◌∷◌, ◌++◌, codes, Option, Some, None, if◌then◌else◌}
+use Rattle.std.specs.Prelude.{ℕ, Bool, List, [], ◌∷◌, ◌++◌, length, codes, Option, Some, None, if◌then◌else◌}
 use Rattle.std.specs.Cmp.Lexicographic.{slice_cmp}
 use Rattle.std.specs.Ordering.{nat_cmp, is_lt}
-use Rattle.serde_json.specs.Data.{Data, null, number, string, array, object, unsigned, Items, no_items, item, Members, no_members, member}
+use Rattle.serde_json.specs.Data.{Data, null, boolean, number, string, array, object, unsigned, Items, no_items, item, Members, no_members, member}
 use Rattle.serde_json.specs.Written.{compact_text}
 use Rattle.base64.specs.Engines.{standard}
 use Rattle.base64.specs.GeneralPurpose.{encode_of}
@@ -17,6 +17,7 @@ use Rattle.desk.specs.declared.ops.errors.ErrorsReply.{ErrorsReply}
 use Rattle.desk.specs.declared.ops.lines.LinesReply.{LinesReply}
 use Rattle.desk.specs.declared.ops.offset.OffsetReply.{OffsetReply}
 use Rattle.desk.specs.declared.ops.place.PlaceReply.{PlaceReply}
+use Rattle.desk.specs.declared.ops.plan.PlanReply.{PlanReply}
 use Rattle.desk.specs.declared.ops.position.PositionReply.{PositionReply}
 use Rattle.desk.specs.declared.ops.stat.StatReply.{StatReply}
 use Rattle.desk.specs.declared.ops.text.TextReply.{TextReply}
@@ -112,6 +113,16 @@ base64_data id rev text = object (member (codes "bytes") (string text) (member (
 -- bytes in base64 (RFC 4648, section 4)
 abbrev pub bytes_data : ℕ → BytesReply → Data
 bytes_data id r = base64_data id r.rev (encode_of standard r.bytes)
+
+-- the texts are bytes in base64
+abbrev pub plan_texts : ℕ → PlanReply → List ℕ → List ℕ → Data
+plan_texts id r bytes old =
+    object (member (codes "at") (whole r.at) (member (codes "bytes") (string bytes) (member (codes "del") (whole (length r.old))
+    (member (codes "id") (whole id) (member (codes "kept") (boolean r.kept) (member (codes "old") (string old)
+    (member (codes "rev") (whole r.rev) no_members)))))))
+
+abbrev pub plan_data : ℕ → PlanReply → Data
+plan_data id r = plan_texts id r (encode_of standard r.bytes) (encode_of standard r.old)
 
 abbrev pub errors_data : ℕ → ErrorsReply → Data
 errors_data id r =
@@ -236,6 +247,7 @@ reply_data id (Edited r) = edited_data id r
 reply_data id (Change r) = change_data id r
 reply_data id (Changes r) = changes_data id r
 reply_data id (Closed rev) = closed_data id rev
+reply_data id (replies.Plan r) = plan_data id r
 reply_data id (Text r) = text_data id r
 reply_data id (Bytes r) = bytes_data id r
 reply_data id (Errors r) = errors_data id r

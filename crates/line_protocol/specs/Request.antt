@@ -11,7 +11,7 @@ use Rattle.serde_json.specs.declared.value.Value.{Value}
 use Rattle.enc_names.specs.Json.{json_of}
 use Rattle.enc_names.specs.declared.bom.Bom.{Bom}
 use Rattle.enc_names.specs.declared.bom.Bom.TheVariants.{Sniff, Keep}
-use Rattle.desk.specs.Commands.{Asked, TextChange, asked_of, Opens, Closes, Splices, ChangesText, MakesChanges, Reads, ReadsBytes, Encodes, ListsErrors, ListsLines, FindsPosition, FindsOffset, FindsPlace, Measures, asked}
+use Rattle.desk.specs.Commands.{Asked, TextChange, asked_of, Opens, Closes, Splices, ChangesText, MakesChanges, Plans, Reads, ReadsBytes, Encodes, ListsErrors, ListsLines, FindsPosition, FindsOffset, FindsPlace, Measures, asked}
 use Rattle.desk.specs.Documents.{max_number}
 use Rattle.desk.specs.declared.ops.Command.{Command}
 use Rattle.position_map.specs.declared.position.Position.{Position}
@@ -223,6 +223,14 @@ changes_command d = do
   changes ← need field.Changes (changes_at d)
   Ok (asked_of doc (MakesChanges rev unit changes))
 
+abbrev pub plan_command : Data → Result Asked Field
+plan_command d = do
+  doc ← need field.Doc (name_at d)
+  unit ← need field.Unit (unit_at d)
+  range ← need field.Range (range_at d)
+  text ← need field.Text (text_at d (codes "text"))
+  Ok (asked_of doc (Plans unit range text))
+
 abbrev pub text_command : Data → Result Asked Field
 text_command d = do
   doc ← need field.Doc (name_at d)
@@ -299,6 +307,7 @@ command_of d id op =
     else (if bytes_eq op (codes "splice") then with_id id (splice_command d)
     else (if bytes_eq op (codes "change") then with_id id (change_command d)
     else (if bytes_eq op (codes "changes") then with_id id (changes_command d)
+    else (if bytes_eq op (codes "plan") then with_id id (plan_command d)
     else (if bytes_eq op (codes "text") then with_id id (text_command d)
     else (if bytes_eq op (codes "source") then with_id id (source_command d)
     else (if bytes_eq op (codes "encode") then with_id id (encode_command d)
@@ -308,7 +317,7 @@ command_of d id op =
     else (if bytes_eq op (codes "offset") then with_id id (offset_command d)
     else (if bytes_eq op (codes "place") then with_id id (place_command d)
     else (if bytes_eq op (codes "stat") then with_id id (stat_command d)
-    else Err (UnknownOp id))))))))))))))
+    else Err (UnknownOp id)))))))))))))))
 
 -- the request in an object: its number and its command
 abbrev pub request_of : Data → Result (ℕ × Asked) Refusal

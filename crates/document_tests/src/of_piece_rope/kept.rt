@@ -28,15 +28,19 @@ fn between(alloc: Global, front: usize, bytes: &[u8], back: usize) -> Result<Vec
     Ok(all)
 }
 
-/// What refuses the splice of the case, behind so many letters.
-fn refusal(doc: &mut Doc<'_>, case: &Case, front: usize) -> Option<DocFault> {
+/// What refuses the splice of the case, behind so many letters, as the document says before.
+fn refusal(rt: &impl Abort, doc: &mut Doc<'_>, case: &Case, front: usize) -> Option<DocFault> {
     let more = front as u64;
     let (at, del, ins) = case.splice;
     let (i, j, text) = case.replaced;
     let at = at.saturating_add(more);
     let (i, j) = (i.saturating_add(more), j.saturating_add(more));
-    doc.splice_kept(at, del, ins, i, j, text, &mut meter())
-        .err()
+    let kept = doc.keeps(at, del, ins, i, j, text, &mut meter());
+    let refused = doc
+        .splice_kept(at, del, ins, i, j, text, &mut meter())
+        .err();
+    assert_eq!(rt; kept.ok(), Some(refused.is_none()));
+    refused
 }
 
 /// The splice is made or refused as the case says, behind so many letters.
@@ -45,7 +49,7 @@ fn is_made_or_refused(rt: &impl Abort, doc: &mut Doc<'_>, case: &Case, front: us
         Some(_) => None,
         None => Some(DocFault::NotKept),
     };
-    let answer = refusal(doc, case, front);
+    let answer = refusal(rt, doc, case, front);
     let shows = case.shows;
     assert_eq!(rt; answer, refused, "{shows}, behind {front} letters");
 }

@@ -4,10 +4,10 @@ ghost use Rattle.serde_json.specs.Data.{array};
 ghost use Rattle.serde_json.specs.Events.{SendsValue};
 ghost use Rattle.line_protocol.specs.Writing.{IsLineOf};
 ghost use Rattle.line_protocol.specs.Inline.{is_short};
-ghost use Rattle.line_protocol.specs.Replies.{line_of, reply_text, text_data, base64_data, bytes_data, errors_data, lines_data, lines_items, pair_data, places_data};
+ghost use Rattle.line_protocol.specs.Replies.{line_of, reply_text, text_data, base64_data, bytes_data, plan_data, plan_texts, errors_data, lines_data, lines_items, pair_data, places_data};
 
 use base64::engine::general_purpose::STANDARD;
-use desk::ops::{ErrorsReply, LinesReply, TextReply};
+use desk::ops::{ErrorsReply, LinesReply, PlanReply, TextReply};
 use desk::{BytesReply, Line, Reply};
 use enc_names::Place;
 use serde::{Described, Serialize, Serializer};
@@ -19,6 +19,7 @@ pub(super) fn line_of(alloc: Global, id: u64, reply: &Reply) -> Result<Vec<u8>, 
     ensures { IfOk result (λ line. line.items ≡ reply_text id reply.now) }
 {
     match reply {
+        Reply::Plan(reply) => plan(alloc, id, reply),
         Reply::Text(reply) => text(alloc, id, reply),
         Reply::Bytes(reply) => bytes(alloc, id, reply),
         Reply::Errors(reply) => errors(alloc, id, reply),
@@ -41,6 +42,22 @@ fn bytes(alloc: Global, id: u64, reply: &BytesReply) -> Result<Vec<u8>, AllocErr
     let text = STANDARD.encode(alloc, reply.bytes.as_slice())?;
     let (text, rev) = (text.as_str(), reply.rev);
     line(alloc, &Base64Reply { id, rev, text })
+}
+
+/// The line with what a change would do, the bytes in base64.
+fn plan(alloc: Global, id: u64, reply: &PlanReply) -> Result<Vec<u8>, AllocError>
+    ensures { IfOk result (λ line. line.items ≡ line_of (plan_data id reply.now)) }
+{
+    let bytes = STANDARD.encode(alloc, reply.bytes.as_slice())?;
+    let old = STANDARD.encode(alloc, reply.old.as_slice())?;
+    let (bytes, old) = (bytes.as_str(), old.as_str());
+    let texts = PlanTexts {
+        id,
+        reply,
+        bytes,
+        old,
+    };
+    line(alloc, &texts)
 }
 
 /// The line with a page of error places.
@@ -115,6 +132,42 @@ impl Serialize for Base64Reply<'_> {
         out.u64(self.id)?;
         out.key("rev")?;
         out.u64(self.rev)?;
+        out.end_map()
+    }
+}
+
+/// The reply to `plan`.
+#[derive(Clone, Copy)]
+struct PlanTexts<'a> {
+    id: u64,
+    reply: &'a PlanReply,
+    /// The bytes that would be put in, in base64.
+    bytes: &'a str,
+    /// Those that would be taken out.
+    old: &'a str,
+}
+
+impl Described for PlanTexts<'_> {
+    ghost writes = { λ p. SendsValue (plan_texts p.id p.reply.now p.bytes.now p.old.now) };
+}
+
+impl Serialize for PlanTexts<'_> {
+    fn serialize<S: Serializer>(&self, out: &mut S) -> Result<(), S::Error> {
+        out.begin_map(Some(7))?;
+        out.key("at")?;
+        out.u64(self.reply.at)?;
+        out.key("bytes")?;
+        out.str(self.bytes)?;
+        out.key("del")?;
+        out.u64(self.reply.old.as_slice().len() as u64)?;
+        out.key("id")?;
+        out.u64(self.id)?;
+        out.key("kept")?;
+        out.bool(self.reply.kept)?;
+        out.key("old")?;
+        out.str(self.old)?;
+        out.key("rev")?;
+        out.u64(self.reply.rev)?;
         out.end_map()
     }
 }

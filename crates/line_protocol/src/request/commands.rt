@@ -2,7 +2,7 @@
 ghost use Rattle.std.specs.Prelude.{◌≡◌, map, option_map};
 ghost use Rattle.serde_json.specs.View.{view};
 ghost use Rattle.desk.specs.Commands.{change_of};
-ghost use Rattle.line_protocol.specs.Request.{changes_at, open_command, close_command, splice_command, change_command, text_command, source_command, encode_command, errors_command, lines_command, position_command, offset_command, place_command, stat_command, changes_command, request_of, command_asked, IsRequest};
+ghost use Rattle.line_protocol.specs.Request.{changes_at, open_command, close_command, splice_command, change_command, text_command, source_command, encode_command, errors_command, lines_command, position_command, offset_command, place_command, stat_command, changes_command, plan_command, request_of, command_asked, IsRequest};
 ghost use Rattle.line_protocol.specs.declared.request.refusal.Refusal.TheVariants.{BadRequest};
 
 use crate::request::change_list::change_list;
@@ -37,6 +37,7 @@ pub fn parse_request(alloc: Global, value: &Value) -> Result<(u64, Command<'_>),
         "splice" => splice(value),
         "change" => change(value),
         "changes" => changes(value, change_list(alloc, value)?),
+        "plan" => plan(value),
         "text" => text(value),
         "source" => source(value),
         "encode" => encode(value),
@@ -136,6 +137,22 @@ fn changes<'a>(value: &'a Value, list: Option<Vec<ContentChange<'a>>>) -> Result
         rev,
         unit,
         changes,
+    }))
+}
+
+/// The command `plan`, or the first faulty field.
+fn plan(value: &Value) -> Result<Command<'_>, Field>
+    ensures { command_asked result ≡ plan_command (view value.now) }
+{
+    let doc = fields::name(value).ok_or(Field::Doc)?;
+    let unit = fields::unit(value).ok_or(Field::Unit)?;
+    let range = fields::range(value).ok_or(Field::Range)?;
+    let text = fields::text(value, "text").ok_or(Field::Text)?;
+    Ok(Command::Plan(ops::Plan {
+        doc,
+        unit,
+        range,
+        text,
     }))
 }
 

@@ -1,25 +1,105 @@
-//! Splices that keep the text.
-ghost use Rattle.std.specs.Prelude.{◌≡◌, ◌≢◌, ℕ, ◌+◌, ◌*◌, ◌≤◌, length, None, OnOk, OnErr};
+//! Splices that keep the text: asked about, and made.
+ghost use Rattle.std.specs.Prelude.{◌≡◌, ◌≢◌, ℕ, ◌+◌, ◌*◌, ◌≤◌, length, None, IfOk, OnOk, OnErr};
 ghost use Rattle.std.specs.Str.{chars};
+ghost use Rattle.piece_rope.specs.Chain.{bytes_of};
+ghost use Rattle.piece_rope.specs.Document.{document};
+ghost use Rattle.piece_rope.specs.Edits.{Faults, is_kept, kept_fault};
+ghost use Rattle.piece_rope.specs.Kept.{IsKept, Resyncs};
+ghost use Rattle.piece_rope.specs.Sizes.{longest};
+ghost use Rattle.piece_rope.specs.Splice.{IsReady};
 
 use crate::compare::keeps_text;
 use crate::doc::Doc;
+use crate::edit::PreparedEdit;
 use crate::edited::Edited;
 use crate::fault::DocFault;
 use crate::install::install_edit;
+use crate::lengths::whole_sum;
+use crate::pieces::Pieces;
 use crate::splice::prepare_splice;
-use state_memo::Meter;
+use enc_names::Setting;
+use index_loader::Indexes;
+use state_memo::{Meter, Outcome};
+use std::alloc::Global;
+
+/// A splice that was prepared, and whether it keeps the text.
+#[derive(Drop)]
+struct Compared {
+    edit: PreparedEdit,
+    kept: bool,
+}
+
+/// Prepares a splice of the document of these pieces, and compares the text that it would leave.
+/// Refused as `Doc::keeps` is.
+#[tactic(auto, unfolding(crate::specs::Edits::range_fault))]
+fn prepare_compared(
+    alloc: Global,
+    indexes: &Indexes,
+    setting: Setting,
+    pieces: &Pieces,
+    tail: &Outcome,
+    at: u64,
+    del: u64,
+    ins: &[u8],
+    i: u64,
+    j: u64,
+    text: &str,
+    meter: &mut Meter,
+) -> Result<Compared, DocFault>
+    requires { IsKept indexes.now setting pieces.now.items tail.now }
+    ensures ready { IfOk result (λ c. IsReady indexes.now setting pieces.now.items at del ins.now c.edit) }
+    ensures kept { IfOk result (λ c. c.kept ≡ is_kept (document indexes.now setting (bytes_of pieces.now.items)) at del ins.now i j (chars text.now)) }
+    ensures faults { Faults (kept_fault (document indexes.now setting (bytes_of pieces.now.items)) at del ins.now i j) result }
+    ensures meter_least { meter.old ≤ meter.new }
+    ensures meter_most { (m : ℕ) → Resyncs (document indexes.now setting (bytes_of pieces.now.items)) at del ins.now m
+        → meter.new ≤ meter.old + (length ins.now + m + 4 * longest) }
+    ensures meter_refused { kept_fault (document indexes.now setting (bytes_of pieces.now.items)) at del ins.now i j ≢ None → meter.new ≡ meter.old }
+{
+    if i > j || j > whole_sum(pieces, tail).scalars {
+        return Err(DocFault::OutOfRange);
+    }
+    let edit = prepare_splice(alloc, indexes, setting, pieces, tail, at, del, ins, meter)?;
+    let edited = Edited {
+        pieces,
+        edit: &edit,
+    };
+    let kept = keeps_text(edited, tail, i, j, text);
+    Ok(Compared { edit, kept })
+}
 
 impl<'i> Doc<'i> {
-    ghost use Rattle.piece_rope.specs.Edits.{KeptAnswers, is_kept, kept_fault, spliced_document};
-    ghost use Rattle.piece_rope.specs.Kept.{Resyncs};
-    ghost use Rattle.piece_rope.specs.Sizes.{longest};
+    ghost use Rattle.piece_rope.specs.Edits.{KeptAnswers, spliced_document};
+
+    /// Whether `splice_kept` would make this splice, with the same refusals but for `NotKept`, and
+    /// the same work; the document stays as it is.
+    pub fn keeps(
+        &self,
+        at: u64,
+        del: u64,
+        ins: &[u8],
+        i: u64,
+        j: u64,
+        text: &str,
+        meter: &mut Meter,
+    ) -> Result<bool, DocFault>
+        ensures kept { IfOk result (λ kept. kept ≡ is_kept self.now at del ins.now i j (chars text.now)) }
+        ensures faults { Faults (kept_fault self.now at del ins.now i j) result }
+        ensures meter_least { meter.old ≤ meter.new }
+        ensures meter_most { (m : ℕ) → Resyncs self.now at del ins.now m → meter.new ≤ meter.old + (length ins.now + m + 4 * longest) }
+        ensures meter_refused { kept_fault self.now at del ins.now i j ≢ None → meter.new ≡ meter.old }
+    {
+        let (indexes, setting) = (self.indexes, self.setting);
+        let (pieces, tail) = (&self.pieces, &self.tail);
+        let compared = prepare_compared(
+            self.alloc, indexes, setting, pieces, tail, at, del, ins, i, j, text, meter,
+        )?;
+        Ok(compared.kept)
+    }
 
     /// As `splice`, but refused with `NotKept` where the new text wouldn't be the old text with the
     /// code points `i..j` replaced by `text`. Refused with `OutOfRange` also where `i` is above `j`
     /// or `j` past the text, and with `NotKept` last. Of the text only what the edit can have
     /// changed is compared, and the pieces that hold the ends of the range.
-    #[tactic(auto, unfolding(crate::specs::Edits::range_fault))]
     pub fn splice_kept(
         &mut self,
         at: u64,
@@ -37,19 +117,12 @@ impl<'i> Doc<'i> {
         ensures meter_most { (m : ℕ) → Resyncs self.old at del ins.now m → meter.new ≤ meter.old + (length ins.now + m + 4 * longest) }
         ensures meter_refused { kept_fault self.old at del ins.now i j ≢ None → meter.new ≡ meter.old }
     {
-        if i > j || j > self.lengths().scalars {
-            return Err(DocFault::OutOfRange);
-        }
         let (indexes, setting) = (self.indexes, self.setting);
         let (pieces, tail) = (&self.pieces, &self.tail);
-        let edit = prepare_splice(
-            self.alloc, indexes, setting, pieces, tail, at, del, ins, meter,
+        let compared = prepare_compared(
+            self.alloc, indexes, setting, pieces, tail, at, del, ins, i, j, text, meter,
         )?;
-        let edited = Edited {
-            pieces,
-            edit: &edit,
-        };
-        let kept = keeps_text(edited, tail, i, j, text);
+        let Compared { edit, kept } = compared;
         if !kept {
             return Err(DocFault::NotKept);
         }

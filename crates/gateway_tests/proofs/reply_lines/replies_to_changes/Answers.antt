@@ -8,6 +8,7 @@ unfolding digits escape_byte
 returns c = record {
   changed = refl;
   shifted = refl;
+  planned = refl;
   splits = refl;
   kept = refl;
   encoder = refl;

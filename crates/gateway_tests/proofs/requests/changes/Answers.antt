@@ -10,4 +10,5 @@ returns c = record {
   whole = refl;
   null_range = refl;
   last = refl;
+  plan = refl;
 }

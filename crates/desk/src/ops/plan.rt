@@ -1,0 +1,66 @@
+//! The op `plan`.
+ghost use Rattle.std.specs.Prelude.{refl};
+ghost use Rattle.desk.specs.Commands.{Plans};
+ghost use Rattle.desk.specs.Plan.{plan_reply};
+
+use crate::fault::Fault;
+use crate::open_document::OpenDocument;
+use crate::ops::Reply;
+use crate::question::Question;
+use crate::reply::ReplyList;
+use decoder_core::meter;
+use enc_names::Labels;
+use position_map::{PlannedBytes, Range, Unit, plan_change};
+use std::alloc::Global;
+use sum_tree::visits;
+
+/// Returns what a change of a range of a document's text would do.
+#[derive(Clone, Copy)]
+pub struct Plan<'a> {
+    /// The document's name.
+    pub doc: &'a str,
+    /// What the range's characters are counted in.
+    pub unit: Unit,
+    /// The range that would be replaced; the whole text without one.
+    pub range: Option<Range>,
+    /// The text that would be put in its place.
+    pub text: &'a str,
+}
+
+/// The reply to `plan`.
+#[derive(Drop)]
+pub struct PlanReply {
+    /// How many bytes stand before those that would be put in.
+    pub at: u64,
+    /// The bytes that would be put in.
+    pub bytes: PlannedBytes,
+    /// Whether the change would be made; if not, it would be refused with `NotKept`.
+    pub kept: bool,
+    /// The bytes that would be taken out.
+    pub old: ReplyList<u8>,
+    /// The document's revision.
+    pub rev: u64,
+}
+
+impl Question for Plan<'_> {
+    ghost asked = { λ q. Plans q.unit q.range q.text.now };
+
+    ghost answer = { λ q indexes _ h. plan_reply indexes h q.unit q.range q.text.now };
+
+    ghost asks = { λ _ _ _ _ _. refl };
+
+    fn ask(&self, alloc: Global, _: &Labels, opened: &OpenDocument<'_>) -> Result<Reply, Fault> {
+        let (document, text) = (&opened.document, self.text);
+        let plan = plan_change(alloc, document, self.range, self.unit, text, &mut visits())?;
+        let ins = plan.ins.as_slice();
+        let kept = document.keeps(plan.at, plan.del, ins, plan.i, plan.j, text, &mut meter())?;
+        let old = document.source(plan.at, plan.del)?;
+        Ok(Reply::Plan(PlanReply {
+            at: plan.at,
+            bytes: plan.ins,
+            kept,
+            old: ReplyList::new(old),
+            rev: opened.revision,
+        }))
+    }
+}

@@ -1,0 +1,15 @@
+use Rattle.std.proofs.Common.{ℕ, List, refl, ap, ◌∙◌}
+use Rattle.std.proofs.lemmas.Result.{IfOk-weaker}
+use Rattle.base64.specs.Engines.{standard}
+use Rattle.base64.specs.GeneralPurpose.{encode_of}
+use Rattle.line_protocol.specs.Replies.{plan_texts, line_of}
+use Rattle.line_protocol.proofs.SentLines.{line-of}
+use Rattle.line_protocol.proofs.reply_line.long.plan.Goals as goal
+
+pub returns : goal.returns
+returns c =
+    IfOk-weaker c.line.result _ _
+    (λ line sent. line-of (plan_texts c.args.id c.args.reply.now c.as_str-bytes.result.now c.as_str-old.result.now) line.items refl sent
+    ∙ ap (λ (text : List ℕ). line_of (plan_texts c.args.id c.args.reply.now text c.as_str-old.result.now)) (c.as_str-bytes.ensures.value ∙ c.in_ok-bytes.ensures.text ∙ ap (encode_of standard) c.as_slice.ensures)
+    ∙ ap (λ (text : List ℕ). line_of (plan_texts c.args.id c.args.reply.now (encode_of standard c.args.reply.now.bytes) text)) (c.as_str-old.ensures.value ∙ c.in_ok-old.ensures.text ∙ ap (encode_of standard) c.as_slice-2.ensures))
+    c.line.ensures

@@ -1,0 +1,67 @@
+use Rattle.std.proofs.Common.{ap, ◌∙◌, length, arith}
+use Rattle.std.proofs.lemmas.Result.{err_from_is_err_and}
+use Rattle.std.specs.Str.{chars}
+use Rattle.piece_rope.specs.Chain.{bytes_of}
+use Rattle.piece_rope.specs.Document.{Document, document}
+use Rattle.piece_rope.proofs.Kept.{join-kept}
+use Rattle.piece_rope.proofs.KeptAnswering.{kept-answer, kept-cut, parts-whole, range-absent, same-ends, scalars-kept}
+use Rattle.piece_rope.proofs.doc.kept.prepare_compared.Goals as goal
+use Rattle.piece_rope.proofs.doc.kept.prepare_compared.Goals.{then-i-j-via-then-i-j, then-i-j-via-else-i-j+then-j-whole_sum}
+
+pub whole_sum-requires-clause-few : goal.whole_sum-requires-clause-few
+whole_sum-requires-clause-few c = join-kept c.args.indexes.now c.args.setting c.args.pieces.now.items c.args.tail.now c.requires
+
+pub returns-then-i-j-clause-faults : goal.returns-then-i-j-clause-faults
+returns-then-i-j-clause-faults c =
+    let doc : Document = document c.args.indexes.now c.args.setting (bytes_of c.args.pieces.now.items) in
+    elim c.then-i-j.branch [
+      | then-i-j-via-then-i-j w ↦ range-absent doc c.args.at c.args.del c.args.ins.now c.args.i c.args.j (λ order. absurd (omega (arith, order, w.if-i-j.true)))
+      | then-i-j-via-else-i-j+then-j-whole_sum w ↦
+          let count = scalars-kept c.args.indexes.now c.args.setting c.args.pieces.now.items c.args.tail.now w.whole_sum.result w.whole_sum.ensures c.requires in
+          range-absent doc c.args.at c.args.del c.args.ins.now c.args.i c.args.j (λ order. omega (arith, count, w.if-j-whole_sum.true))
+    ]
+
+pub returns-in_err-edit-clause-faults : goal.returns-in_err-edit-clause-faults
+returns-in_err-edit-clause-faults c =
+    let e = err_from_is_err_and c.from_residual.result c.from_residual.ensures.1 in
+    let doc : Document = document c.args.indexes.now c.args.setting (bytes_of c.args.pieces.now.items) in
+    let count = scalars-kept c.args.indexes.now c.args.setting c.args.pieces.now.items c.args.tail.now c.whole_sum.result c.whole_sum.ensures c.requires in
+    rw (e.1, e.2)
+    (kept-cut doc c.args.at c.args.del c.args.ins.now c.args.i c.args.j (omega (arith, c.if-i-j.false)) (omega (arith, count, c.if-j-whole_sum.false)) ∙ c.in_err-edit.ensures.faults)
+
+pub returns-in_err-edit-clause-meter_refused : goal.returns-in_err-edit-clause-meter_refused
+returns-in_err-edit-clause-meter_refused c =
+    let doc : Document = document c.args.indexes.now c.args.setting (bytes_of c.args.pieces.now.items) in
+    let count = scalars-kept c.args.indexes.now c.args.setting c.args.pieces.now.items c.args.tail.now c.whole_sum.result c.whole_sum.ensures c.requires in
+    let cut = kept-cut doc c.args.at c.args.del c.args.ins.now c.args.i c.args.j (omega (arith, c.if-i-j.false)) (omega (arith, count, c.if-j-whole_sum.false)) in
+    λ refused. c.in_err-edit.ensures.meter_refused (λ none. refused (cut ∙ none))
+
+pub keeps_text-kept-requires-clause-ends : goal.keeps_text-kept-requires-clause-ends
+keeps_text-kept-requires-clause-ends c =
+    let ready = c.in_ok-edit.ensures.ready in
+    same-ends ready.decoder c.in_ok-edit.edit.tail c.args.tail.now (ready.kept.tail_is ready.decoder ready.chosen) (c.requires.tail_is ready.decoder ready.chosen)
+
+pub keeps_text-kept-requires-clause-within : goal.keeps_text-kept-requires-clause-within
+keeps_text-kept-requires-clause-within c =
+    let doc : Document = document c.args.indexes.now c.args.setting (bytes_of c.args.pieces.now.items) in
+    let text = parts-whole doc c.args.pieces.now.items c.args.tail.now c.requires.whole in
+    let count = scalars-kept c.args.indexes.now c.args.setting c.args.pieces.now.items c.args.tail.now c.whole_sum.result c.whole_sum.ensures c.requires in
+    omega (arith, ap length text, count, c.if-j-whole_sum.false)
+
+pub returns-clause-kept : goal.returns-clause-kept
+returns-clause-kept c =
+    kept-answer c.args.indexes.now c.args.setting c.args.pieces.now.items c.args.tail.now c.in_ok-edit.edit c.args.at c.args.del c.args.ins.now c.args.i c.args.j c.keeps_text-kept.result
+    (chars c.args.text.now) c.requires c.in_ok-edit.ensures.ready c.keeps_text-kept.ensures
+
+pub returns-clause-faults : goal.returns-clause-faults
+returns-clause-faults c =
+    let doc : Document = document c.args.indexes.now c.args.setting (bytes_of c.args.pieces.now.items) in
+    let count = scalars-kept c.args.indexes.now c.args.setting c.args.pieces.now.items c.args.tail.now c.whole_sum.result c.whole_sum.ensures c.requires in
+    kept-cut doc c.args.at c.args.del c.args.ins.now c.args.i c.args.j (omega (arith, c.if-i-j.false)) (omega (arith, count, c.if-j-whole_sum.false)) ∙ c.in_ok-edit.ensures.faults
+
+pub returns-clause-meter_refused : goal.returns-clause-meter_refused
+returns-clause-meter_refused c =
+    let doc : Document = document c.args.indexes.now c.args.setting (bytes_of c.args.pieces.now.items) in
+    let count = scalars-kept c.args.indexes.now c.args.setting c.args.pieces.now.items c.args.tail.now c.whole_sum.result c.whole_sum.ensures c.requires in
+    let cut = kept-cut doc c.args.at c.args.del c.args.ins.now c.args.i c.args.j (omega (arith, c.if-i-j.false)) (omega (arith, count, c.if-j-whole_sum.false)) in
+    λ refused. c.in_ok-edit.ensures.meter_refused (λ none. refused (cut ∙ none))
