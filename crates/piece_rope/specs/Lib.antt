@@ -17,6 +17,7 @@ pub mod Outcomes
 pub mod Outputs
 pub mod Parts
 pub mod Resync
+pub mod Runs
 pub mod Search
 pub mod Sizes
 pub mod Splice

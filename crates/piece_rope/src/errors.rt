@@ -14,7 +14,7 @@ use std::alloc::{AllocError, Global};
 use sum_tree::{Dimension, visits};
 
 /// The number of errors, as a dimension of sums.
-pub(crate) struct ErrorCount;
+pub struct ErrorCount;
 
 impl Dimension<Sum> for ErrorCount {
     ghost use Rattle.piece_rope.specs.ErrorCount.{errors_of_sum, errors-zero, errors-more};

@@ -30,6 +30,7 @@ mod window;
 
 pub use doc::Doc;
 pub use entered::Entered;
+pub use errors::ErrorCount;
 pub use fault::DocFault;
 pub use lengths::Lengths;
 pub use limits::{DOCUMENT_LIMIT, LONGEST_PIECE, SHORTEST_PIECE};

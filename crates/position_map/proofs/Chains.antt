@@ -4,10 +4,10 @@ use Rattle.std.specs.Option.{option_map, unwrap_or}
 use Rattle.std.proofs.lemmas.Bool.Decides.{nat_tests}
 use Rattle.enc_names.specs.declared.place.Place.{Place}
 use Rattle.piece_rope.specs.Decode.{Ended as Turned, Item, One, Two, Error, Placed, places, item_code_points, code_points, Ascii, decode, run_in, in_force, mark_length}
-use Rattle.piece_rope.specs.Search.{Scalar}
+use Rattle.piece_rope.specs.Search.{Scalar, measure}
 use Rattle.piece_rope.specs.Outcomes.{Ended, Outcome, Sum, total_of, all_scalars, item_of}
 use Rattle.piece_rope.specs.Document.{Document, decoded}
-use Rattle.position_map.specs.Found.{IsFoundOutcome}
+use Rattle.position_map.specs.Found.{IsFoundBy, IsFoundOutcome}
 use Rattle.piece_rope.specs.Made.{IsEnded, AreEnded, AreMade, ends_at}
 use Rattle.position_map.specs.Places.{place_of}
 use Rattle.position_map.specs.Placing.{bom_of, IsChained, last_to, HasItem, IsPlaced}
@@ -35,7 +35,7 @@ map_none None e = refl
 map_none (Some j) e = cc
 
 -- an item has a code point
-item_some : (i : Item) → 1 ≤ length (item_code_points i)
+pub item_some : (i : Item) → 1 ≤ length (item_code_points i)
 item_some (One c) = omega arith
 item_some (Two a b) = omega arith
 item_some Error = omega arith
@@ -55,7 +55,7 @@ from_is from (u ∷ us) p ws h = from_is u.to us p ws h.1
 place_test : (b : Bool) (n m : ℕ) (x y : Option Place) → nat_lt n m ≡ b → b ≡ false → cond (nat_lt n m) x y ≡ y
 place_test b n m x y e f = ap (λ t. cond t x y) (e ∙ f)
 
-not_here : (n m : ℕ) (x y : Option Place) → m ≤ n → cond (nat_lt n m) x y ≡ y
+pub not_here : (n m : ℕ) (x y : Option Place) → m ≤ n → cond (nat_lt n m) x y ≡ y
 not_here n m x y h = let t : nat_lt n m ≡ false = grind (arith, nat_tests) in ap (λ b. cond b x y) t
 
 pub place-append : (xs ys : List Placed) (n : ℕ) → length (code_points xs) ≤ n → place_of (xs ++ ys) n ≡ place_of ys (n - length (code_points xs))
@@ -193,7 +193,7 @@ item_within (e ∷ es) n k h =
     (λ t. let more = map_one (item_of es (n - e.scalars)) k (sym (ap (λ b. cond b (Some 0) (option_map (λ j. j + 1) (item_of es (n - e.scalars)))) t) ∙ h) in
     omega (arith, more.2, item_within es (n - e.scalars) more.0 more.1))
 
-pub place_some : (d : Pieced) (n k from to : ℕ) (s : Sum) (o : Outcome) (p : IsPlaced d n s o) → IsPieced d → item_of o.items (n - s.scalars) ≡ Some k
+pub place_some : (d : Pieced) (n k from to : ℕ) (s : Sum) (o : Outcome) (p : IsPlaced (measure Scalar) d n s o) → IsPieced d → item_of o.items (n - s.scalars) ≡ Some k
     → ((e : Ended) → to ≡ ends_at s.bytes (get_or o.items k e).end)
     → ((front back : List Outcome) (left ps : List Placed) (m : ℕ) → d.pieces ≡ front ++ back → s ≡ total_of front → AreMade 0 left front → (h : HasItem s.bytes ps o.items m k) → from ≡ last_to (bom_of d) (left ++ h.front))
     → Some (record { from = from; to = to }) ≡ place_of (items_of d) n
@@ -213,7 +213,7 @@ place_some d n k from to s o p w i x y =
     ap (λ v. Some (record { from = v; to = to })) from_is2 ∙ ap (λ v. Some (record { from = g.item.from; to = v })) to_is
     ∙ sym (ap (λ t. place_of t n) h.split ∙ place-append h.left h.right n le ∙ ap (λ v. place_of h.right (n - v)) count ∙ ap (λ t. place_of t (n - s.scalars)) m.2 ∙ g.place m.1)
 
-pub place_none : (d : Pieced) (n : ℕ) (s : Sum) (o : Outcome) (p : IsPlaced d n s o) → IsPieced d → item_of o.items (n - s.scalars) ≡ None → None ≡ place_of (items_of d) n
+pub place_none : (d : Pieced) (n : ℕ) (s : Sum) (o : Outcome) (p : IsPlaced (measure Scalar) d n s o) → IsPieced d → item_of o.items (n - s.scalars) ≡ None → None ≡ place_of (items_of d) n
 place_none d n s o p w i =
     let few = lacks_item o.items (n - s.scalars) i in
     let made : AreMade 0 (items_of d) (p.front ++ o ∷ p.back) = subst (AreMade 0 (items_of d)) p.split w.made in
@@ -224,11 +224,11 @@ place_none d n s o p w i =
       | inr g ↦ absurd (omega (arith, g, few, counted o, p.low))
     ]
 
--- what a search by code points finds, or the tail
-pub placed_by : (d : Pieced) (n : ℕ) (s : Sum) (r : Option (Bor Outcome)) (b h : Bor Outcome) → IsFoundOutcome Scalar n d.pieces s (option_copied r) → b.now ≡ d.tail → h ≡ unwrap_or r b → IsPlaced d n s h.now
-placed_by d n s None b h g tail same =
+-- what a search finds, or the tail
+pub placed_by : (measured : Sum → ℕ) (d : Pieced) (n : ℕ) (s : Sum) (r : Option (Bor Outcome)) (b h : Bor Outcome) → IsFoundBy measured n d.pieces s (option_copied r) → b.now ≡ d.tail → h ≡ unwrap_or r b → IsPlaced measured d n s h.now
+placed_by measured d n s None b h g tail same =
     let all : d.pieces ≡ g.front = g.split ∙ ap (λ t. g.front ++ t) (g.ends refl) ∙ append-nil g.front in
-    let p : IsPlaced d n s d.tail = record {
+    let p : IsPlaced measured d n s d.tail = record {
       front = g.front;
       pieces = [];
       back = [];
@@ -238,9 +238,9 @@ placed_by d n s None b h g tail same =
       low = g.low;
       high = inl refl;
     } in
-    subst (IsPlaced d n s) (sym (ap (λ (v : Bor Outcome). v.now) same ∙ tail)) p
-placed_by d n s (Some o) b h g tail same =
-    let p : IsPlaced d n s o.now = record {
+    subst (IsPlaced measured d n s) (sym (ap (λ (v : Bor Outcome). v.now) same ∙ tail)) p
+placed_by measured d n s (Some o) b h g tail same =
+    let p : IsPlaced measured d n s o.now = record {
       front = g.front;
       pieces = o.now ∷ g.back;
       back = g.back ++ d.tail ∷ [];
@@ -250,7 +250,7 @@ placed_by d n s (Some o) b h g tail same =
       low = g.low;
       high = inr g.high;
     } in
-    subst (λ (v : Bor Outcome). IsPlaced d n s v.now) (sym same) p
+    subst (λ (v : Bor Outcome). IsPlaced measured d n s v.now) (sym same) p
 
 -- where the items before a piece end, as a search finds it
 pub last_found : (d : Pieced) (count : ℕ) (s : Sum) (r : Option (Bor Outcome)) (b : Bor Outcome) (v : ℕ) → r ≡ Some b → 0 < count → IsFoundOutcome Scalar (count - 1) d.pieces s (option_copied r)

@@ -1,12 +1,12 @@
 -- The pieces of a document and its tail, as outcomes in a row.
 use Rattle.std.proofs.Common.{◌≡◌, refl, sym, ap, subst, ◌∙◌, ℕ, ◌+◌, ◌*◌, ◌<◌, ◌≤◌, List, [], ◌∷◌, ◌++◌, length, length-append, map, take-append-drop, append_assoc, append-nil, arith, Option, Some, None, Bor, option_copied}
 use Rattle.std.specs.Option.{option_to_list, option_map, IfSome}
-use Rattle.piece_rope.specs.Search.{IsFound, total, Axis, measure}
+use Rattle.piece_rope.specs.Search.{IsFound, total}
 use Rattle.piece_rope.specs.Decode.{Placed}
 use Rattle.piece_rope.specs.Outcomes.{Outcome, Sum, total_of, no_sum, joined}
 use Rattle.piece_rope.specs.Document.{Document, decoded}
 use Rattle.piece_rope.specs.Entry.{Entry, here_of, entry_sum}
-use Rattle.position_map.specs.Found.{sum_in_outcome, IsFoundOutcome}
+use Rattle.position_map.specs.Found.{sum_in_outcome, IsFoundBy}
 use Rattle.piece_rope.specs.Made.{IsMade, AreMade, body_of, tail_of, count_body}
 use Rattle.piece_rope.specs.Outputs.{HasOutputs, HaveOutputs}
 use Rattle.piece_rope.specs.Chain.{bytes_of}
@@ -77,8 +77,8 @@ at_most-found most [] o back h = h.0
 at_most-found most (x ∷ xs) o back h = at_most-found most xs o back h.1
 
 -- a piece that is found is short
-pub found-short : (axis : Axis) (target : ℕ) (d : Document) (os : List Outcome) (tail : Outcome) (s : Sum) (o : Outcome) → AreAllPieces d os tail → IsFoundOutcome axis target os s (Some o) → o.sum.bytes ≤ 2048
-found-short axis target d os tail s o w f = at_most-found 2048 f.front o f.back (subst (AreAtMost 2048) f.split w.short)
+pub found-short : (measured : Sum → ℕ) (target : ℕ) (d : Document) (os : List Outcome) (tail : Outcome) (s : Sum) (o : Outcome) → AreAllPieces d os tail → IsFoundBy measured target os s (Some o) → o.sum.bytes ≤ 2048
+found-short measured target d os tail s o w f = at_most-found 2048 f.front o f.back (subst (AreAtMost 2048) f.split w.short)
 
 map-append : (xs ys : List Entry) → map here_of (xs ++ ys) ≡ map here_of xs ++ map here_of ys
 map-append [] ys = refl
@@ -101,27 +101,27 @@ high-map P s None h = h
 high-map P s (Some x) h = h
 
 -- a search over pieces is one over what they decode to
-pub found-map : (axis : Axis) (target : ℕ) (es : List Entry) (s : Sum) (x : Option Entry) → IsFound (measure axis) target no_sum joined entry_sum es s x
-    → IsFoundOutcome axis target (map here_of es) s (option_map here_of x)
-found-map axis target es s x f = record {
+pub found-map : (measured : Sum → ℕ) (target : ℕ) (es : List Entry) (s : Sum) (x : Option Entry) → IsFound measured target no_sum joined entry_sum es s x
+    → IsFoundBy measured target (map here_of es) s (option_map here_of x)
+found-map measured target es s x f = record {
   front = map here_of f.front;
   back = map here_of f.back;
   split = ap (map here_of) f.split ∙ map-append f.front (option_to_list x ++ f.back) ∙ ap (λ t. map here_of f.front ++ t) (map-append (option_to_list x) f.back ∙ ap (λ t. t ++ map here_of f.back) (map-option x));
   ends = λ e. ap (map here_of) (f.ends (none-map x e));
   sum = f.sum ∙ total-map f.front;
   low = f.low;
-  high = high-map (λ v. target < measure axis v) s x f.high;
+  high = high-map (λ v. target < measured v) s x f.high;
 }
 
 -- what a search gives, by the piece's outcome
-pub found-some : (axis : Axis) (target : ℕ) (es : List Entry) (s : Sum) (r : Option (Bor Entry)) (b : Bor Entry) (o : Bor Outcome) → r ≡ Some b → o.now ≡ here_of b.now
-    → IsFound (measure axis) target no_sum joined entry_sum es s (option_copied r) → IsFoundOutcome axis target (map here_of es) s (Some o.now)
-found-some axis target es s r b o is here f =
-    let g : IsFound (measure axis) target no_sum joined entry_sum es s (Some b.now) = subst (λ (v : Option (Bor Entry)). IsFound (measure axis) target no_sum joined entry_sum es s (option_copied v)) is f in
-    subst (λ v. IsFoundOutcome axis target (map here_of es) s (Some v)) (sym here) (found-map axis target es s (Some b.now) g)
+pub found-some : (measured : Sum → ℕ) (target : ℕ) (es : List Entry) (s : Sum) (r : Option (Bor Entry)) (b : Bor Entry) (o : Bor Outcome) → r ≡ Some b → o.now ≡ here_of b.now
+    → IsFound measured target no_sum joined entry_sum es s (option_copied r) → IsFoundBy measured target (map here_of es) s (Some o.now)
+found-some measured target es s r b o is here f =
+    let g : IsFound measured target no_sum joined entry_sum es s (Some b.now) = subst (λ (v : Option (Bor Entry)). IsFound measured target no_sum joined entry_sum es s (option_copied v)) is f in
+    subst (λ v. IsFoundBy measured target (map here_of es) s (Some v)) (sym here) (found-map measured target es s (Some b.now) g)
 
-pub found-none : (axis : Axis) (target : ℕ) (es : List Entry) (s : Sum) (r : Option (Bor Entry)) → r ≡ None
-    → IsFound (measure axis) target no_sum joined entry_sum es s (option_copied r) → IsFoundOutcome axis target (map here_of es) s None
-found-none axis target es s r is f =
-    let g : IsFound (measure axis) target no_sum joined entry_sum es s None = subst (λ (v : Option (Bor Entry)). IsFound (measure axis) target no_sum joined entry_sum es s (option_copied v)) is f in
-    found-map axis target es s None g
+pub found-none : (measured : Sum → ℕ) (target : ℕ) (es : List Entry) (s : Sum) (r : Option (Bor Entry)) → r ≡ None
+    → IsFound measured target no_sum joined entry_sum es s (option_copied r) → IsFoundBy measured target (map here_of es) s None
+found-none measured target es s r is f =
+    let g : IsFound measured target no_sum joined entry_sum es s None = subst (λ (v : Option (Bor Entry)). IsFound measured target no_sum joined entry_sum es s (option_copied v)) is f in
+    found-map measured target es s None g

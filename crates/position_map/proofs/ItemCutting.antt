@@ -10,6 +10,7 @@ use Rattle.piece_rope.specs.Made.{AreEnded, AreMade, ends_at}
 use Rattle.piece_rope.specs.Outputs.{output_at, HasOutputs, HaveOutputs}
 use Rattle.position_map.specs.declared.item_cuts.Cut.{Cut}
 use Rattle.position_map.specs.ItemCuts.{cut_behind, cut_of}
+use Rattle.piece_rope.specs.Search.{Scalar, measure}
 use Rattle.position_map.specs.Placing.{last_to, IsPlaced}
 use Rattle.position_map.specs.Plan.{item_width, cut_at, cut}
 use Rattle.position_map.specs.Whole.{Pieced}
@@ -203,7 +204,7 @@ all_scalars-text : (d : Pieced) → IsPieced d → length (text_of d.doc) ≡ (t
 unfolding decoded_text
 all_scalars-text d w = made_count (d.pieces ++ d.tail ∷ []) 0 (items_of d) w.made
 
-pub cut_found : (d : Pieced) (n m : ℕ) (s : Sum) (o : Outcome) → IsPlaced d m s o → IsPieced d → m ≡ n - 1 → 0 < n → n ≤ length (text_of d.doc) → cut_behind s.bytes o.items (n - s.scalars) ≡ cut_of d.doc n
+pub cut_found : (d : Pieced) (n m : ℕ) (s : Sum) (o : Outcome) → IsPlaced (measure Scalar) d m s o → IsPieced d → m ≡ n - 1 → 0 < n → n ≤ length (text_of d.doc) → cut_behind s.bytes o.items (n - s.scalars) ≡ cut_of d.doc n
 cut_found d n m s o p w before some within =
     let made : AreMade 0 (items_of d) (p.front ++ o ∷ p.back) = subst (AreMade 0 (items_of d)) p.split w.made in
     let h = made_split p.front (o ∷ p.back) 0 (items_of d) made in

@@ -19,3 +19,6 @@ pub mod ItemCutting
 pub mod Ordering
 pub mod Planning
 pub mod Escaping
+pub mod ErrorRuns
+pub mod ErrorPieces
+pub mod ErrorLines

@@ -196,12 +196,12 @@ begun_cond : (o : ℕ) (b : Bool) (p : LineSpan) (xs ys : List LineSpan) (k : �
 begun_cond o true p xs ys k h g = h refl
 begun_cond o false p xs ys k h g = g refl
 
-begun_not : (o : ℕ) (p : LineSpan) (xs : List LineSpan) → o < p.start → begun o xs ≡ 0 → begun o (p ∷ xs) ≡ 0
+pub begun_not : (o : ℕ) (p : LineSpan) (xs : List LineSpan) → o < p.start → begun o xs ≡ 0 → begun o (p ∷ xs) ≡ 0
 begun_not o p xs h e =
     let t : nat_le p.start o ≡ false = grind (arith, nat_tests) in
     sum_by-cons (λ (l : LineSpan). cond (nat_le l.start o) 1 0) p xs ∙ ap (λ b. cond b 1 0 + begun o xs) t ∙ ap (λ m. 0 + m) e
 
-begun_one : (o : ℕ) (p : LineSpan) (xs : List LineSpan) (k : ℕ) → p.start ≤ o → begun o xs ≡ k → begun o (p ∷ xs) ≡ 1 + k
+pub begun_one : (o : ℕ) (p : LineSpan) (xs : List LineSpan) (k : ℕ) → p.start ≤ o → begun o xs ≡ k → begun o (p ∷ xs) ≡ 1 + k
 begun_one o p xs k h e =
     let t : nat_le p.start o ≡ true = grind (arith, nat_tests) in
     sum_by-cons (λ (l : LineSpan). cond (nat_le l.start o) 1 0) p xs ∙ ap (λ b. cond b 1 0 + begun o xs) t ∙ ap (λ m. 1 + m) e
@@ -260,7 +260,7 @@ begun_count : (o : ℕ) (b : Bool) (p : LineSpan) (xs ys : List LineSpan) (k e :
 begun_count o true p xs ys k e l h g = omega (arith, begun_one o p xs (begun o xs) l refl)
 begun_count o false p xs ys k e l h g = omega arith
 
-cond_le : (o : ℕ) (b : Bool) (x y : ℕ) → x ≤ o → y ≤ o → cond b x y ≤ o
+pub cond_le : (o : ℕ) (b : Bool) (x y : ℕ) → x ≤ o → y ≤ o → cond b x y ≤ o
 cond_le o true x y h g = h
 cond_le o false x y h g = g
 

@@ -1,5 +1,7 @@
 pub mod Along
 pub mod Cuts
+pub mod Diagnostics
+pub mod ErrorScalars
 pub mod Found
 pub mod Fronts
 pub mod ItemCuts

@@ -1,7 +1,7 @@
 -- Where items are among those of a document.
-use Rattle.std.specs.Prelude.{◌≡◌, ℕ, ◌+◌, ◌-◌, ◌<◌, ◌≤◌, ◌⊎◌, List, [], ◌∷◌, ◌++◌, length, get_or, Some}
+use Rattle.std.specs.Prelude.{◌≡◌, ℕ, ◌-◌, ◌<◌, ◌≤◌, ◌⊎◌, List, [], ◌∷◌, ◌++◌, length, get_or, Some}
 use Rattle.piece_rope.specs.Decode.{Placed}
-use Rattle.piece_rope.specs.Outcomes.{Ended, Outcome, Sum, total_of}
+use Rattle.piece_rope.specs.Outcomes.{Ended, Outcome, Sum, joined, total_of}
 use Rattle.piece_rope.specs.Document.{decoded}
 use Rattle.piece_rope.specs.Made.{IsEnded, ends_at}
 use Rattle.position_map.specs.Places.{place_of}
@@ -32,13 +32,13 @@ pub record HasItem (base : ℕ) (ps : List Placed) (es : List Ended) (n k : ℕ)
   pub last : (d : Ended) (from : ℕ) → 0 < k → last_to from front ≡ ends_at base (get_or es (k - 1) d).end
   pub place : (more : List Placed) → place_of (ps ++ more) n ≡ Some (record { from = item.from; to = item.to })
 
--- a piece that code point `n` is sought in, or the tail
-pub record IsPlaced (d : Pieced) (n : ℕ) (s : Sum) (here : Outcome) : Type 0 where
+-- a piece that number `n` of a measure is sought in, as a code point or an error, or the tail
+pub record IsPlaced (measured : Sum → ℕ) (d : Pieced) (n : ℕ) (s : Sum) (here : Outcome) : Type 0 where
   pub front : List Outcome
   pub pieces : List Outcome
   pub back : List Outcome
   pub cut : d.pieces ≡ front ++ pieces
   pub split : d.pieces ++ d.tail ∷ [] ≡ front ++ here ∷ back
   pub sum : s ≡ total_of front
-  pub low : s.scalars ≤ n
-  pub high : (back ≡ []) ⊎ (n < s.scalars + here.sum.scalars)
+  pub low : measured s ≤ n
+  pub high : (back ≡ []) ⊎ (n < measured (joined s here.sum))

@@ -41,12 +41,13 @@ abbrev pub character_at : List ℕ → TextUnit → Option LineSpan → ℕ → 
 character_at text unit None offset = 0
 character_at text unit (Some l) offset = width unit (between text l.start (min offset l.end))
 
+-- the position of an offset within the text
+abbrev pub position : List ℕ → TextUnit → ℕ → Position
+position text unit offset = record { line = line_at text offset; character = character_at text unit (slice_get (lines_of text) (line_at text offset)) offset }
+
 -- the position of an offset
 unfoldable pub position_of : List ℕ → TextUnit → ℕ → Result Position PosFault
-position_of text unit offset =
-    if nat_le offset (length text)
-    then Ok (record { line = line_at text offset; character = character_at text unit (slice_get (lines_of text) (line_at text offset)) offset })
-    else Err OutOfRange
+position_of text unit offset = if nat_le offset (length text) then Ok (position text unit offset) else Err OutOfRange
 
 -- how many units in `to` the code points take that take `n` units in `from`
 unfoldable pub converted : List ℕ → TextUnit → TextUnit → ℕ → Result ℕ PosFault

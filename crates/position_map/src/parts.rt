@@ -3,7 +3,7 @@ ghost use Rattle.std.specs.Prelude.{◌≡◌, ℕ, ◌+◌, ◌^◌, ◌<◌, �
 ghost use Rattle.piece_rope.specs.Document.{decoded, text_of};
 ghost use Rattle.piece_rope.specs.Entry.{here_of};
 ghost use Rattle.piece_rope.specs.Sizes.{longest};
-ghost use Rattle.position_map.specs.Found.{IsFoundOutcome};
+ghost use Rattle.position_map.specs.Found.{IsFoundBy, IsFoundOutcome, errors_in_sum};
 ghost use Rattle.position_map.specs.ItemCuts.{cut_of};
 ghost use Rattle.position_map.specs.Lines.{lines_of};
 ghost use Rattle.position_map.specs.Points.{IsTextEnd};
@@ -13,7 +13,7 @@ use crate::item_cuts::Cut;
 use crate::point::Point;
 use crate::unit::Unit;
 use iso2022jp::OutputState;
-use piece_rope::{Axis, Doc, Entered, Finder, Lengths, Outcome, Sum, Visits};
+use piece_rope::{Axis, Doc, Entered, ErrorCount, Finder, Lengths, Outcome, Sum, Visits};
 use std::marker::Model;
 
 /// A document as its pieces, which are reached by searches alone, and its tail. Contracts see what
@@ -123,6 +123,20 @@ impl<'d, 'i> Parts<'d, 'i> {
         ensures kept { visits.old ≤ visits.new }
     {
         let (before, found) = self.finder.find(&axis, target, visits);
+        match found {
+            Some(entered) => (before, Some(entered.here())),
+            None => (before, None),
+        }
+    }
+
+    // The piece behind which there are more than `n` errors, if there is one, and the sum of those
+    // in front of it, or of all.
+    pub(crate) fn find_error(&self, n: u64, visits: &mut Visits) -> (Sum, Option<&'d Outcome>)
+        ensures place { IsFoundBy errors_in_sum n self.now.pieces result.0 (option_copied result.1) }
+        ensures most { (d : ℕ) → length self.now.pieces < 2 ^ d → visits.new ≤ visits.old + (d + 2) }
+        ensures kept { visits.old ≤ visits.new }
+    {
+        let (before, found) = self.finder.find(&ErrorCount, n, visits);
         match found {
             Some(entered) => (before, Some(entered.here())),
             None => (before, None),

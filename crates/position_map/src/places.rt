@@ -81,6 +81,15 @@ pub fn scalar_to_place(doc: &Doc<'_>, n: u64, visits: &mut Visits) -> Option<Pla
     ensures kept { visits.old ≤ visits.new }
 {
     let parts = Parts::of(doc);
+    place_at(&parts, n, visits)
+}
+
+// The place of code point `n`.
+pub(crate) fn place_at(parts: &Parts<'_, '_>, n: u64, visits: &mut Visits) -> Option<Place>
+    ensures place { result ≡ place_of (decoded parts.now.doc).items n }
+    ensures most { (d : ℕ) → length parts.now.pieces < 2 ^ d → visits.new ≤ visits.old + 2 * (d + 2) }
+    ensures kept { visits.old ≤ visits.new }
+{
     let tail = parts.tail();
     let (before, found) = parts.find(Axis::Scalar, n, visits);
     let here = found.unwrap_or(tail);
@@ -88,7 +97,7 @@ pub fn scalar_to_place(doc: &Doc<'_>, n: u64, visits: &mut Visits) -> Option<Pla
         None => None,
         Some(k) => {
             let to = end_at(before.bytes, here, k);
-            let from = start_of(&parts, before, here, k, visits);
+            let from = start_of(parts, before, here, k, visits);
             Some(Place { from, to })
         }
     }

@@ -1,22 +1,7 @@
-use Rattle.std.proofs.Common.{◌≡◌, sym, subst, Some, None}
+use Rattle.std.proofs.Common.{◌≡◌, subst}
 use Rattle.piece_rope.specs.Document.{decoded}
 use Rattle.position_map.specs.Places.{place_of}
-use Rattle.position_map.proofs.Chains.{place_some, place_none, placed_by, item_within}
 use Rattle.position_map.proofs.places.scalar_to_place.Goals as goal
 
-pub end_at-to-requires : goal.end_at-to-requires
-end_at-to-requires c = record { within = item_within _ _ _ (sym c.in-Some.ensures) }
-
-pub start_of-from-requires : goal.start_of-from-requires
-start_of-from-requires c = record { within = item_within _ _ _ (sym c.in-Some.ensures) }
-
-pub returns-in-None-clause-place : goal.returns-in-None-clause-place
-returns-in-None-clause-place c =
-    let p = placed_by c.of-parts.result c.args.n _ _ c.tail-tail.result _ c.find.ensures.place c.tail-tail.ensures.tail c.unwrap_or-here.ensures in
-    subst (λ d. None ≡ place_of (decoded d).items c.args.n) c.of-parts.ensures.doc (place_none c.of-parts.result _ _ _ p c.tail-tail.ensures.whole (sym c.in-None.ensures))
-
-pub returns-in-Some-clause-place : goal.returns-in-Some-clause-place
-returns-in-Some-clause-place c =
-    let p = placed_by c.of-parts.result c.args.n _ _ c.tail-tail.result _ c.find.ensures.place c.tail-tail.ensures.tail c.unwrap_or-here.ensures in
-    subst (λ d. Some (record { from = c.start_of-from.result; to = c.end_at-to.result }) ≡ place_of (decoded d).items c.args.n) c.of-parts.ensures.doc
-    (place_some c.of-parts.result _ _ _ _ _ _ p c.tail-tail.ensures.whole (sym c.in-Some.ensures) c.end_at-to.ensures c.start_of-from.ensures.start)
+pub returns-clause-place : goal.returns-clause-place
+returns-clause-place c = subst (λ d. c.place_at.result ≡ place_of (decoded d).items c.args.n) c.of-parts.ensures.doc c.place_at.ensures.place

@@ -1,4 +1,5 @@
 use Rattle.std.proofs.Common.{subst, ap, Some, None}
+use Rattle.piece_rope.specs.Search.{measure}
 use Rattle.position_map.specs.Found.{IsFoundOutcome}
 use Rattle.position_map.specs.Whole.{Pieced}
 use Rattle.position_map.proofs.Finding.{found-some, found-none, found-short}
@@ -16,4 +17,4 @@ returns-in-None-clause-place c =
 
 pub returns-in-Some-clause-small : goal.returns-in-Some-clause-small
 returns-in-Some-clause-small c =
-    found-short _ _ _ _ _ _ _ c.self.invariant.0 (found-some c.args.axis c.args.target _ _ _ c.in-Some.entered c.here.result c.in-Some.is c.here.ensures c.find.ensures.place)
+    found-short _ _ _ _ _ _ _ c.self.invariant.0 (found-some (measure c.args.axis) c.args.target _ _ _ c.in-Some.entered c.here.result c.in-Some.is c.here.ensures c.find.ensures.place)

@@ -1,0 +1,342 @@
+-- The errors of a document, piece by piece.
+use Rattle.std.proofs.Common.{◌≡◌, refl, sym, ap, subst, ◌∙◌, ℕ, zero, suc, ◌+◌, ◌-◌, ◌<◌, ◌≤◌, inl, inr, Bool, true, false, cond, nat_lt, nat_le, List, [], ◌∷◌, ◌++◌, length, length-append, map, append-nil, arith, Option, Some, None, Result, Ok, Err}
+use Rattle.std.specs.List.{slice_get}
+use Rattle.std.specs.Option.{option_map}
+use Rattle.std.proofs.lemmas.List.{length-map, map-append}
+use Rattle.std.proofs.lemmas.List.Sums.{count_by-le-length}
+use Rattle.std.proofs.lemmas.Option.{slice_get-map}
+use Rattle.std.proofs.lemmas.Bool.Decides.{nat_tests}
+use Rattle.enc_names.specs.declared.place.Place.{Place}
+use Rattle.piece_rope.specs.Decode.{Item, One, Two, Error, Placed, item_code_points, code_points, error_place, error_places}
+use Rattle.piece_rope.specs.Document.{Document, decoded, text_of, decoded_text, errors_of, decoded_errors}
+use Rattle.piece_rope.specs.Made.{AreEnded, IsMade, AreMade}
+use Rattle.piece_rope.specs.Outcomes.{Ended, Outcome, Sum, joined, total_of, all_scalars, is_an_error}
+use Rattle.piece_rope.specs.Search.{Scalar, measure}
+use Rattle.position_map.specs.declared.diagnostic.Diagnostic.{Diagnostic}
+use Rattle.position_map.specs.declared.fault.PosFault.{PosFault}
+use Rattle.position_map.specs.declared.fault.PosFault.TheVariants.{OutOfRange}
+use Rattle.position_map.specs.declared.position.Position.{Position}
+use Rattle.position_map.specs.declared.unit.Unit.{Unit as TextUnit}
+use Rattle.position_map.specs.Diagnostics.{ErrorAt, error_if, errors_from, all_errors, diagnostic_at, diagnostics_of, place_in}
+use Rattle.position_map.specs.ErrorScalars.{error_scalars, scalar_of}
+use Rattle.position_map.specs.Found.{errors_in_sum}
+use Rattle.position_map.specs.Places.{place_of}
+use Rattle.position_map.specs.Placing.{IsPlaced}
+use Rattle.position_map.specs.Positions.{position, position_of}
+use Rattle.position_map.specs.Whole.{Pieced}
+use Rattle.position_map.proofs.Cases.{by_le, same_some, none_some}
+use Rattle.position_map.proofs.Chains.{item_some, not_here}
+use Rattle.position_map.proofs.ErrorRuns.{below, below-append, below-yes, below-no, cond-append, error_scalars-length, get-front, get-back}
+use Rattle.position_map.proofs.Items.{IsPieced, items_of, counted, piece_count, made_split, made_count, scalars-append}
+
+-- the errors of items are those of the document
+place-alone : (text : List ℕ) (unit : TextUnit) (i : Item) (x : ErrorAt) → map place_in (map (diagnostic_at text unit) (error_if i x)) ≡ error_place i x.place
+place-alone text unit (One c) x = refl
+place-alone text unit (Two a b) x = refl
+place-alone text unit Error x = refl
+
+places-from : (text : List ℕ) (unit : TextUnit) (n : ℕ) (ps : List Placed) → map place_in (map (diagnostic_at text unit) (errors_from n ps)) ≡ error_places ps
+places-from text unit n [] = refl
+places-from text unit n (p ∷ ps) =
+    let x : ErrorAt = record { place = record { from = p.from; to = p.to }; scalar = n } in
+    let rest = errors_from (n + length (item_code_points p.item)) ps in
+    ap (map place_in) (map-append (diagnostic_at text unit) (error_if p.item x) rest)
+    ∙ map-append place_in (map (diagnostic_at text unit) (error_if p.item x)) (map (diagnostic_at text unit) rest)
+    ∙ ap (λ t. t ++ map place_in (map (diagnostic_at text unit) rest)) (place-alone text unit p.item x)
+    ∙ ap (λ t. error_place p.item x.place ++ t) (places-from text unit (n + length (item_code_points p.item)) ps)
+
+pub places-are : (d : Document) (unit : TextUnit) → map place_in (diagnostics_of d unit) ≡ errors_of d
+unfolding diagnostics_of decoded_errors
+places-are d unit = places-from (text_of d) unit 0 (decoded d).items
+
+pub diagnostics-count : (d : Document) (unit : TextUnit) → length (diagnostics_of d unit) ≡ length (errors_of d)
+diagnostics-count d unit = sym (length-map (diagnostics_of d unit) place_in) ∙ ap length (places-are d unit)
+
+pub errors-count : (d : Document) (unit : TextUnit) → length (map scalar_of (all_errors d)) ≡ length (errors_of d)
+unfolding diagnostics_of
+errors-count d unit = length-map (all_errors d) scalar_of ∙ sym (length-map (all_errors d) (diagnostic_at (text_of d) unit)) ∙ diagnostics-count d unit
+
+-- the numbers of the errors' code points
+abbrev pub numbers : ℕ → List Placed → List ℕ
+numbers n ps = map scalar_of (errors_from n ps)
+
+item-number : (i : Item) (x : ErrorAt) (rest : List ℕ) → map scalar_of (error_if i x) ++ rest ≡ cond (is_an_error i) (x.scalar ∷ rest) rest
+item-number (One c) x rest = refl
+item-number (Two a b) x rest = refl
+item-number Error x rest = refl
+
+numbers-cons : (n : ℕ) (p : Placed) (ps : List Placed)
+    → numbers n (p ∷ ps) ≡ cond (is_an_error p.item) (n ∷ numbers (n + length (item_code_points p.item)) ps) (numbers (n + length (item_code_points p.item)) ps)
+numbers-cons n p ps =
+    let x : ErrorAt = record { place = record { from = p.from; to = p.to }; scalar = n } in
+    let rest = errors_from (n + length (item_code_points p.item)) ps in
+    map-append scalar_of (error_if p.item x) rest ∙ item-number p.item x (map scalar_of rest)
+
+numbers-append : (n : ℕ) (xs ys : List Placed) → numbers n (xs ++ ys) ≡ numbers n xs ++ numbers (n + length (code_points xs)) ys
+numbers-append n [] ys = let e : n ≡ n + 0 = omega arith in ap (λ m. numbers m ys) e
+numbers-append n (p ∷ xs) ys =
+    let w = n + length (item_code_points p.item) in
+    let e : w + length (code_points xs) ≡ n + length (code_points (p ∷ xs)) = omega (arith, length-append (item_code_points p.item) (code_points xs)) in
+    let more = numbers (n + length (code_points (p ∷ xs))) ys in
+    numbers-cons n p (xs ++ ys)
+    ∙ cond-append (is_an_error p.item) n (numbers w (xs ++ ys)) (numbers w xs) more (numbers-append w xs ys ∙ ap (λ m. numbers w xs ++ numbers m ys) e)
+    ∙ ap (λ t. t ++ more) (sym (numbers-cons n p xs))
+
+numbers-ended : (base n : ℕ) (ps : List Placed) (es : List Ended) → AreEnded base ps es → numbers n ps ≡ error_scalars n es
+numbers-ended base n [] [] w = refl
+numbers-ended base n [] (e ∷ es) w = absurd w
+numbers-ended base n (p ∷ ps) [] w = absurd w
+numbers-ended base n (p ∷ ps) (e ∷ es) w =
+    let next : n + length (item_code_points p.item) ≡ n + e.scalars = omega (arith, w.0.scalars) in
+    let rest : numbers (n + length (item_code_points p.item)) ps ≡ error_scalars (n + e.scalars) es =
+    numbers-ended base (n + length (item_code_points p.item)) ps es w.1 ∙ ap (λ m. error_scalars m es) next in
+    numbers-cons n p ps
+    ∙ ap (λ t. cond (is_an_error p.item) (n ∷ t) t) rest
+    ∙ ap (λ b. cond b (n ∷ error_scalars (n + e.scalars) es) (error_scalars (n + e.scalars) es)) (sym w.0.error)
+
+piece-errors : (base n : ℕ) (ps : List Placed) (o : Outcome) → IsMade base ps o → length (numbers n ps) ≡ o.sum.errors
+piece-errors base n ps o m = ap length (numbers-ended base n ps o.items m.items) ∙ error_scalars-length n o.items ∙ sym o.summed.errors
+
+made-errors : (os : List Outcome) (base n : ℕ) (ps : List Placed) → AreMade base ps os → length (numbers n ps) ≡ (total_of os).errors
+made-errors [] base n ps m = ap (λ t. length (numbers n t)) m
+made-errors (o ∷ os) base n ps m =
+    omega (
+      arith,
+      ap (λ t. length (numbers n t)) m.2,
+      ap length (numbers-append n m.0 m.1),
+      length-append (numbers n m.0) (numbers (n + length (code_points m.0)) m.1),
+      piece-errors base n m.0 o m.3,
+      made-errors os (base + o.sum.bytes) (n + length (code_points m.0)) m.1 m.4,
+    )
+
+-- each number is that of a code point of the items
+abbrev AreWithin : ℕ → ℕ → List ℕ → Type 0
+AreWithin low high [] = Unit {0}
+AreWithin low high (s ∷ ss) = (low ≤ s) × (s < high) × AreWithin low high ss
+
+within-cond : (low high n : ℕ) (b : Bool) (ss : List ℕ) → low ≤ n → n < high → AreWithin low high ss → AreWithin low high (cond b (n ∷ ss) ss)
+within-cond low high n true ss l h w = (l, h, w)
+within-cond low high n false ss l h w = w
+
+numbers-within : (low high n : ℕ) (ps : List Placed) → low ≤ n → n + length (code_points ps) ≤ high → AreWithin low high (numbers n ps)
+numbers-within low high n [] l h = tt
+numbers-within low high n (p ∷ ps) l h =
+    let size = length-append (item_code_points p.item) (code_points ps) in
+    let some = item_some p.item in
+    let w = n + length (item_code_points p.item) in
+    subst (AreWithin low high) (sym (numbers-cons n p ps))
+    (within-cond low high n (is_an_error p.item) (numbers w ps) l (omega (arith, h, size, some)) (numbers-within low high w ps (omega (arith, l)) (omega (arith, h, size))))
+
+within-get : (low high : ℕ) (ss : List ℕ) (k s : ℕ) → AreWithin low high ss → slice_get ss k ≡ Some s → s < high
+within-get low high [] k s w e = absurd (none_some e)
+within-get low high (x ∷ ss) zero s w e = let same : x ≡ s = same_some e in omega (arith, w.1, same)
+within-get low high (x ∷ ss) (suc k) s w e = within-get low high ss k s w.2 e
+
+cond-few : (b : Bool) (n k : ℕ) (ss : List ℕ) → length ss ≤ k → length (cond b (n ∷ ss) ss) ≤ k + 1
+cond-few true n k ss h = omega (arith, h)
+cond-few false n k ss h = omega (arith, h)
+
+numbers-few : (n : ℕ) (ps : List Placed) → length (numbers n ps) ≤ length (code_points ps)
+numbers-few n [] = omega arith
+numbers-few n (p ∷ ps) =
+    let w = n + length (item_code_points p.item) in
+    omega (
+      arith,
+      ap length (numbers-cons n p ps),
+      cond-few (is_an_error p.item) n (length (code_points ps)) (numbers w ps) (numbers-few w ps),
+      length-append (item_code_points p.item) (code_points ps),
+      item_some p.item,
+    )
+
+below-all : (m low : ℕ) (ss : List ℕ) → AreWithin low m ss → below m ss ≡ length ss
+below-all m low [] w = refl
+below-all m low (s ∷ ss) w = omega (arith, below-yes m s ss w.1, below-all m low ss w.2)
+
+below-none : (m high : ℕ) (ss : List ℕ) → AreWithin m high ss → below m ss ≡ 0
+below-none m high [] w = refl
+below-none m high (s ∷ ss) w = omega (arith, below-no m s ss w.0, below-none m high ss w.2)
+
+-- an error's code point is in the text
+pub number-within : (d : Document) (n s : ℕ) → Some s ≡ slice_get (map scalar_of (all_errors d)) n → s < length (text_of d)
+unfolding decoded_text
+number-within d n s e = within-get 0 (length (text_of d)) (numbers 0 (decoded d).items) n s (numbers-within 0 (length (text_of d)) 0 (decoded d).items (omega arith) (omega arith)) (sym e)
+
+numbers-in_text : (d : Document) → length (map scalar_of (all_errors d)) ≤ length (text_of d)
+unfolding decoded_text
+numbers-in_text d = numbers-few 0 (decoded d).items
+
+-- the piece in which an item is sought, among the pieces
+record IsCutAround (measured : Sum → ℕ) (d : Pieced) (n : ℕ) (s : Sum) (o : Outcome) : Type 0 where
+  base : ℕ
+  left : List Placed
+  here : List Placed
+  rest : List Placed
+  split : items_of d ≡ left ++ (here ++ rest)
+  count : length (code_points left) ≡ s.scalars
+  errors : length (numbers 0 left) ≡ s.errors
+  own : IsMade base here o
+  end : measured (joined s o.sum) ≤ n → rest ≡ []
+
+cut-around : (measured : Sum → ℕ) (d : Pieced) (n : ℕ) (s : Sum) (o : Outcome) → (p : IsPlaced measured d n s o) → IsPieced d → IsCutAround measured d n s o
+cut-around measured d n s o p w =
+    let made : AreMade 0 (items_of d) (p.front ++ o ∷ p.back) = subst (AreMade 0 (items_of d)) p.split w.made in
+    let h = made_split p.front (o ∷ p.back) 0 (items_of d) made in
+    let m = h.behind in
+    record {
+      base = 0 + (total_of p.front).bytes;
+      left = h.left;
+      here = m.0;
+      rest = m.1;
+      split = h.split ∙ ap (λ t. h.left ++ t) m.2;
+      count = made_count p.front 0 h.left h.before ∙ sym (ap (λ (v : Sum). v.scalars) p.sum);
+      errors = made-errors p.front 0 0 h.left h.before ∙ sym (ap (λ (v : Sum). v.errors) p.sum);
+      own = m.3;
+      end = λ l. elim p.high [
+        | inl e ↦ subst (AreMade (0 + (total_of p.front).bytes + o.sum.bytes) m.1) e m.4
+        | inr g ↦ absurd (omega (arith, l, g))
+      ];
+    }
+
+around-numbers : (measured : Sum → ℕ) (d : Pieced) (n : ℕ) (s : Sum) (o : Outcome) → (c : IsCutAround measured d n s o)
+    → numbers 0 (items_of d) ≡ numbers 0 c.left ++ (error_scalars s.scalars o.items ++ numbers (s.scalars + length (code_points c.here)) c.rest)
+around-numbers measured d n s o c =
+    let start : 0 + length (code_points c.left) ≡ s.scalars = omega (arith, c.count) in
+    ap (numbers 0) c.split ∙ numbers-append 0 c.left (c.here ++ c.rest) ∙ ap (λ m. numbers 0 c.left ++ numbers m (c.here ++ c.rest)) start
+    ∙ ap (λ t. numbers 0 c.left ++ t) (numbers-append s.scalars c.here c.rest)
+    ∙ ap (λ t. numbers 0 c.left ++ (t ++ numbers (s.scalars + length (code_points c.here)) c.rest)) (numbers-ended c.base s.scalars c.here o.items c.own.items)
+
+get-own : (xs ys : List ℕ) (k : ℕ) → (length xs ≤ k → ys ≡ []) → slice_get (xs ++ ys) k ≡ slice_get xs k
+get-own xs ys k h = by (nat_lt k (length xs)) refl
+  where
+    by : (b : Bool) → nat_lt k (length xs) ≡ b → slice_get (xs ++ ys) k ≡ slice_get xs k
+    by true e = get-front xs ys k (grind (arith, nat_tests))
+    by false e = ap (λ t. slice_get (xs ++ t) k) (h (grind (arith, nat_tests))) ∙ ap (λ t. slice_get t k) (append-nil xs)
+
+-- error `n` is found in its piece
+pub number-placed : (d : Pieced) (n : ℕ) (s : Sum) (o : Outcome) → (p : IsPlaced errors_in_sum d n s o) → IsPieced d
+    → slice_get (error_scalars s.scalars o.items) (n - s.errors) ≡ slice_get (map scalar_of (all_errors d.doc)) n
+number-placed d n s o p w =
+    let c = cut-around errors_in_sum d n s o p w in
+    let here = error_scalars s.scalars o.items in
+    let more = numbers (s.scalars + length (code_points c.here)) c.rest in
+    let low : length (numbers 0 c.left) ≤ n = omega (arith, c.errors, p.low) in
+    let size : length here ≡ o.sum.errors = error_scalars-length s.scalars o.items ∙ sym o.summed.errors in
+    let none : length here ≤ n - s.errors → more ≡ [] = λ l. let past : s.errors + o.sum.errors ≤ n = omega (arith, l, size, p.low) in ap (numbers (s.scalars + length (code_points c.here))) (c.end past) in
+    sym (ap (λ ss. slice_get ss n) (around-numbers errors_in_sum d n s o c)
+    ∙ get-back (numbers 0 c.left) (here ++ more) n low
+    ∙ ap (λ m. slice_get (here ++ more) (n - m)) c.errors
+    ∙ get-own here more (n - s.errors) none)
+
+-- no more code points are in front of a piece and in it than in the text
+pub placed-room : (measured : Sum → ℕ) (d : Pieced) (n : ℕ) (s : Sum) (o : Outcome) → IsPlaced measured d n s o → IsPieced d → s.scalars + all_scalars o.items ≤ length (text_of d.doc)
+unfolding decoded_text
+placed-room measured d n s o p w =
+    let made : AreMade 0 (items_of d) (p.front ++ o ∷ p.back) = subst (AreMade 0 (items_of d)) p.split w.made in
+    omega (arith, made_count (p.front ++ o ∷ p.back) 0 (items_of d) made, scalars-append p.front (o ∷ p.back), ap (λ (v : Sum). v.scalars) p.sum, counted o)
+
+-- the errors in front of a code point: those of the pieces in front of its piece, and some of the piece's own
+pub numbers-before : (d : Pieced) (n : ℕ) (s : Sum) (o : Outcome) → (p : IsPlaced (measure Scalar) d n s o) → IsPieced d
+    → s.errors + below n (error_scalars s.scalars o.items) ≡ below n (map scalar_of (all_errors d.doc))
+numbers-before d n s o p w =
+    let c = cut-around (measure Scalar) d n s o p w in
+    let here = error_scalars s.scalars o.items in
+    let behind = s.scalars + length (code_points c.here) in
+    let more = numbers behind c.rest in
+    let left = below-all n 0 (numbers 0 c.left) (numbers-within 0 n 0 c.left (omega arith) (omega (arith, c.count, p.low))) in
+    let size = piece_count c.base c.here o c.own in
+    let high = behind + length (code_points c.rest) in
+    let none : below n more ≡ 0 =
+    by_le behind n (λ l. let past : s.scalars + o.sum.scalars ≤ n = omega (arith, l, size) in ap (λ ps. below n (numbers behind ps)) (c.end past))
+    (λ l. below-none n high more (numbers-within n high behind c.rest (omega (arith, l)) (omega arith))) in
+    omega (
+      arith,
+      ap (below n) (around-numbers (measure Scalar) d n s o c),
+      below-append n (numbers 0 c.left) (here ++ more),
+      below-append n here more,
+      left,
+      c.errors,
+      none,
+    )
+
+pub numbers-room : (d : Pieced) (n : ℕ) (s : Sum) (o : Outcome) → (p : IsPlaced (measure Scalar) d n s o) → IsPieced d → s.errors + below n (error_scalars s.scalars o.items) ≤ length (text_of d.doc)
+numbers-room d n s o p w = omega (arith, numbers-before d n s o p w, count_by-le-length (λ (x : ℕ). nat_lt x n) (map scalar_of (all_errors d.doc)), numbers-in_text d.doc)
+
+-- an error's place is that of its code point
+error-here : (i : Item) (from to n k : ℕ) (ps : List Placed) (e : ErrorAt)
+    → ((j : ℕ) → slice_get (errors_from (n + length (item_code_points i)) ps) j ≡ Some e → (n + length (item_code_points i) ≤ e.scalar) × (place_of ps (e.scalar - (n + length (item_code_points i))) ≡ Some e.place))
+    → slice_get (error_if i (record { place = record { from = from; to = to }; scalar = n }) ++ errors_from (n + length (item_code_points i)) ps) k ≡ Some e
+    → (n ≤ e.scalar) × (cond (nat_lt (e.scalar - n) (length (item_code_points i))) (Some (record { from = from; to = to })) (place_of ps (e.scalar - n - length (item_code_points i))) ≡ Some e.place)
+error-here (One c) from to n k ps e more h =
+    let w = more k h in
+    let at : e.scalar - n - 1 ≡ e.scalar - (n + 1) = omega arith in
+    (omega (arith, w.0), not_here (e.scalar - n) 1 (Some (record { from = from; to = to })) (place_of ps (e.scalar - n - 1)) (omega (arith, w.0)) ∙ ap (place_of ps) at ∙ w.1)
+error-here (Two a b) from to n k ps e more h =
+    let w = more k h in
+    let at : e.scalar - n - 2 ≡ e.scalar - (n + 2) = omega arith in
+    (omega (arith, w.0), not_here (e.scalar - n) 2 (Some (record { from = from; to = to })) (place_of ps (e.scalar - n - 2)) (omega (arith, w.0)) ∙ ap (place_of ps) at ∙ w.1)
+error-here Error from to n zero ps e more h =
+    let x : ErrorAt = record { place = record { from = from; to = to }; scalar = n } in
+    let same : x ≡ e = same_some h in
+    let number : n ≡ e.scalar = ap scalar_of same in
+    let t : nat_lt (e.scalar - n) 1 ≡ true = grind (arith, nat_tests, number) in
+    (omega (arith, number), ap (λ b. cond b (Some (record { from = from; to = to })) (place_of ps (e.scalar - n - 1))) t ∙ ap (λ (y : ErrorAt). Some y.place) same)
+error-here Error from to n (suc k) ps e more h =
+    let w = more k h in
+    let at : e.scalar - n - 1 ≡ e.scalar - (n + 1) = omega arith in
+    (omega (arith, w.0), not_here (e.scalar - n) 1 (Some (record { from = from; to = to })) (place_of ps (e.scalar - n - 1)) (omega (arith, w.0)) ∙ ap (place_of ps) at ∙ w.1)
+
+error-place : (n : ℕ) (ps : List Placed) (k : ℕ) (e : ErrorAt) → slice_get (errors_from n ps) k ≡ Some e → (n ≤ e.scalar) × (place_of ps (e.scalar - n) ≡ Some e.place)
+error-place n [] k e h = absurd (none_some h)
+error-place n (p ∷ ps) k e h = error-here p.item p.from p.to n k ps e (λ j x. error-place (n + length (item_code_points p.item)) ps j e x) h
+
+map-some : (o : Option ErrorAt) (s : ℕ) → Some s ≡ option_map scalar_of o → (e : ErrorAt) × (o ≡ Some e) × (e.scalar ≡ s)
+map-some None s h = absurd (none_some (sym h))
+map-some (Some e) s h = (e, refl, sym (same_some h))
+
+map-none : (o : Option ErrorAt) → None ≡ option_map scalar_of o → o ≡ None
+map-none None h = refl
+map-none (Some e) h = absurd (none_some h)
+
+abbrev position_or : Result Position PosFault → Position → Position
+position_or (Ok p) q = p
+position_or (Err fault) q = q
+
+position-alone : (text : List ℕ) (unit : TextUnit) (s : ℕ) (p : Position) → Ok p ≡ position_of text unit s → s ≤ length text → p ≡ position text unit s
+unfolding position_of
+position-alone text unit s p e h =
+    let t : nat_le s (length text) ≡ true = grind (arith, nat_tests) in
+    ap (λ r. position_or r p) (e ∙ ap (λ b. cond b (Ok (position text unit s)) (Err OutOfRange)) t)
+
+-- an error has a place
+pub some-place : (d : Document) (n s : ℕ) → Some s ≡ slice_get (map scalar_of (all_errors d)) n → None ≡ place_of (decoded d).items s → ⊥
+some-place d n s e none =
+    let w = map-some (slice_get (all_errors d) n) s (e ∙ slice_get-map scalar_of (all_errors d) n) in
+    let here = error-place 0 (decoded d).items n w.0 w.1 in
+    let number : s ≡ w.0.scalar - 0 = omega (arith, w.2) in
+    none_some (none ∙ ap (place_of (decoded d).items) number ∙ here.1)
+
+-- what is shown of an error
+pub shown : (d : Document) (unit : TextUnit) (n s : ℕ) (x : Diagnostic) → Some s ≡ slice_get (map scalar_of (all_errors d)) n → Some x.place ≡ place_of (decoded d).items s
+    → Ok x.range.start ≡ position_of (text_of d) unit s → Ok x.range.end ≡ position_of (text_of d) unit (s + 1) → Some x ≡ slice_get (diagnostics_of d unit) n
+unfolding diagnostics_of
+shown d unit n s x e at start end =
+    let text = text_of d in
+    let w = map-some (slice_get (all_errors d) n) s (e ∙ slice_get-map scalar_of (all_errors d) n) in
+    let found = w.0 in
+    let here = error-place 0 (decoded d).items n found w.1 in
+    let number : s ≡ found.scalar - 0 = omega (arith, w.2) in
+    let place : x.place ≡ found.place = same_some (at ∙ ap (place_of (decoded d).items) number ∙ here.1) in
+    let within = number-within d n s e in
+    let first : x.range.start ≡ position text unit found.scalar = position-alone text unit s x.range.start start (omega (arith, within)) ∙ ap (position text unit) (sym w.2) in
+    let last : x.range.end ≡ position text unit (found.scalar + 1) = position-alone text unit (s + 1) x.range.end end (omega (arith, within)) ∙ ap (λ m. position text unit (m + 1)) (sym w.2) in
+    ap (λ (p : Place). Some (record { place = p; range = x.range })) place
+    ∙ ap (λ (p : Position). Some (record { place = found.place; range = record { start = p; end = x.range.end } })) first
+    ∙ ap (λ (p : Position). Some (record { place = found.place; range = record { start = position text unit found.scalar; end = p } })) last
+    ∙ sym (slice_get-map (diagnostic_at text unit) (all_errors d) n ∙ ap (option_map (diagnostic_at text unit)) w.1)
+
+-- nothing is shown behind the last error
+pub not-shown : (d : Document) (unit : TextUnit) (n : ℕ) → None ≡ slice_get (map scalar_of (all_errors d)) n → None ≡ slice_get (diagnostics_of d unit) n
+unfolding diagnostics_of
+not-shown d unit n e =
+    let none = map-none (slice_get (all_errors d) n) (e ∙ slice_get-map scalar_of (all_errors d) n) in
+    sym (slice_get-map (diagnostic_at (text_of d) unit) (all_errors d) n ∙ ap (option_map (diagnostic_at (text_of d) unit)) none)

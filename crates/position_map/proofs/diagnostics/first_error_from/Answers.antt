@@ -1,0 +1,16 @@
+use Rattle.std.proofs.Common.{◌≡◌, ◌≤◌, ◌∙◌, subst, length}
+use Rattle.piece_rope.specs.Document.{text_of}
+use Rattle.position_map.specs.declared.unit.Unit.TheVariants.{Utf8}
+use Rattle.position_map.specs.Diagnostics.{errors_before_line}
+use Rattle.position_map.specs.Lines.{lines_of}
+use Rattle.position_map.proofs.ErrorLines.{before-end, before-line}
+use Rattle.position_map.proofs.diagnostics.first_error_from.Goals as goal
+
+pub returns-in-None-clause-number : goal.returns-in-None-clause-number
+returns-in-None-clause-number c =
+    c.lengths.ensures.errors ∙ before-end c.args.doc.now c.args.line (subst (λ d. length (lines_of (text_of d)) ≤ c.args.line) c.of-parts.ensures.doc c.in-None.ensures.start)
+
+pub returns-in-Some-clause-number : goal.returns-in-Some-clause-number
+returns-in-Some-clause-number c =
+    subst (λ d. c.errors_before.result ≡ errors_before_line d c.args.line) c.of-parts.ensures.doc
+    (c.errors_before.ensures.count ∙ before-line c.of-parts.result.doc Utf8 c.args.line _ c.in-Some.ensures.start)

@@ -1,0 +1,10 @@
+use Rattle.std.proofs.Common.{◌≡◌, ◌+◌, drop, slice_get}
+use Rattle.piece_rope.specs.Outcomes.{all_scalars}
+use Rattle.piece_rope.specs.Runs.{items_of_runs}
+use Rattle.position_map.specs.ErrorScalars.{error_scalars}
+use Rattle.position_map.proofs.error_runs.error_scalar_in.Given as goal
+
+abbrev pub invariant-runs : goal.invariant-runs
+invariant-runs l =
+    (slice_get (error_scalars l.scalars (items_of_runs (drop l.run-index l.runs))) l.left ≡ slice_get (error_scalars l.from (items_of_runs l.runs)) l.n)
+    × (l.scalars + all_scalars (items_of_runs (drop l.run-index l.runs)) ≡ l.from + all_scalars (items_of_runs l.runs))

@@ -1,0 +1,11 @@
+use Rattle.std.proofs.Common.{◌≡◌, ◌+◌, drop}
+use Rattle.piece_rope.specs.Outcomes.{all_scalars}
+use Rattle.piece_rope.specs.Runs.{items_of_runs}
+use Rattle.position_map.specs.ErrorScalars.{error_scalars}
+use Rattle.position_map.proofs.ErrorRuns.{below}
+use Rattle.position_map.proofs.error_runs.errors_before_in.Given as goal
+
+abbrev pub invariant-runs : goal.invariant-runs
+invariant-runs l =
+    (l.errors + below l.n (error_scalars l.scalars (items_of_runs (drop l.run-index l.runs))) ≡ below l.n (error_scalars l.from (items_of_runs l.runs)))
+    × (l.scalars + all_scalars (items_of_runs (drop l.run-index l.runs)) ≡ l.from + all_scalars (items_of_runs l.runs))
