@@ -14,6 +14,7 @@ mod Moves
 mod Names
 mod Offset
 mod Open
+mod Pages
 mod Place
 mod Position
 mod Row

@@ -63,26 +63,23 @@ field_name field.Changes = codes "changes"
 abbrev pub whole : ℕ → Data
 whole n = number (unsigned n)
 
-abbrev pub pair_data : ℕ → ℕ → Data
-pair_data a b = array (item (whole a) (item (whole b) no_items))
+-- the items of a list, each by its data
+abbrev pub items_of : {A : Type 0} → (A → Data) → List A → Items
+items_of json [] = no_items
+items_of json (x ∷ xs) = item (json x) (items_of json xs)
+
+abbrev pub numbers_data : List ℕ → Data
+numbers_data ns = array (items_of whole ns)
 
 abbrev pub place_data : Place → Data
-place_data p = pair_data p.from p.to
+place_data p = numbers_data (p.from ∷ p.to ∷ [])
 
 abbrev pub line_data : Line → Data
-line_data l = pair_data l.start l.end
+line_data l = numbers_data (l.start ∷ l.end ∷ [])
 
 abbrev pub place_or_null : Option Place → Data
 place_or_null None = null
 place_or_null (Some p) = place_data p
-
-abbrev pub places_data : List Place → Items
-places_data [] = no_items
-places_data (p ∷ ps) = item (place_data p) (places_data ps)
-
-abbrev pub lines_items : List Line → Items
-lines_items [] = no_items
-lines_items (l ∷ ls) = item (line_data l) (lines_items ls)
 
 abbrev pub edited_data : ℕ → EditedReply → Data
 edited_data id r =
@@ -115,13 +112,13 @@ bytes_data id r = base64_data id r.rev (encode_of standard r.bytes)
 
 abbrev pub errors_data : ℕ → ErrorsReply → Data
 errors_data id r =
-    object (member (codes "errors") (array (places_data r.places)) (member (codes "id") (whole id)
+    object (member (codes "errors") (array (items_of place_data r.places)) (member (codes "id") (whole id)
     (member (codes "rev") (whole r.rev) (member (codes "total") (whole r.total) no_members))))
 
 abbrev pub lines_data : ℕ → LinesReply → Data
 lines_data id r =
     object (member (codes "count") (whole r.count) (member (codes "id") (whole id)
-    (member (codes "lines") (array (lines_items r.lines)) (member (codes "rev") (whole r.rev) no_members))))
+    (member (codes "lines") (array (items_of line_data r.lines)) (member (codes "rev") (whole r.rev) no_members))))
 
 abbrev pub position_data : ℕ → PositionReply → Data
 position_data id r =

@@ -1,15 +1,14 @@
 //! The replies that hold a text or a list. They are written straight from what they hold.
-ghost use Rattle.std.specs.Prelude.{◌≡◌, false, IfOk, OnOk};
-ghost use Rattle.serde_json.specs.Data.{array};
+ghost use Rattle.std.specs.Prelude.{◌≡◌, false, IfOk};
 ghost use Rattle.serde_json.specs.Events.{SendsValue};
 ghost use Rattle.line_protocol.specs.Writing.{IsLineOf};
 ghost use Rattle.line_protocol.specs.Inline.{is_short};
-ghost use Rattle.line_protocol.specs.Replies.{line_of, reply_text, text_data, base64_data, bytes_data, errors_data, lines_data, lines_items, pair_data, places_data};
+ghost use Rattle.line_protocol.specs.Replies.{line_of, reply_text, text_data, base64_data, bytes_data, errors_data, lines_data};
 
+use crate::reply_line::entries::send_list;
 use base64::engine::general_purpose::STANDARD;
 use desk::ops::{ErrorsReply, LinesReply, TextReply};
-use desk::{BytesReply, Line, Reply};
-use enc_names::Place;
+use desk::{BytesReply, Reply};
 use serde::{Described, Serialize, Serializer};
 use std::alloc::{AllocError, Global};
 
@@ -127,7 +126,7 @@ impl Serialize for WithId<'_, ErrorsReply> {
     fn serialize<S: Serializer>(&self, out: &mut S) -> Result<(), S::Error> {
         out.begin_map(Some(4))?;
         out.key("errors")?;
-        send_places(self.reply.places.as_slice(), out)?;
+        send_list(self.reply.places.as_slice(), out)?;
         out.key("id")?;
         out.u64(self.id)?;
         out.key("rev")?;
@@ -136,17 +135,6 @@ impl Serialize for WithId<'_, ErrorsReply> {
         out.u64(self.reply.total)?;
         out.end_map()
     }
-}
-
-/// Writes a list of places.
-fn send_places<S: Serializer>(places: &[Place], out: &mut S) -> Result<(), S::Error>
-    ensures { OnOk result (SendsValue (array (places_data places.now)) (S.written out.old) (S.written out.new)) }
-{
-    out.begin_seq(Some(places.len()))?;
-    for place in places {
-        send_pair(place.from, place.to, out)?;
-    }
-    out.end_seq()
 }
 
 impl Described for WithId<'_, LinesReply> {
@@ -161,30 +149,9 @@ impl Serialize for WithId<'_, LinesReply> {
         out.key("id")?;
         out.u64(self.id)?;
         out.key("lines")?;
-        send_lines(self.reply.lines.as_slice(), out)?;
+        send_list(self.reply.lines.as_slice(), out)?;
         out.key("rev")?;
         out.u64(self.reply.rev)?;
         out.end_map()
     }
-}
-
-/// Writes a list of lines.
-fn send_lines<S: Serializer>(lines: &[Line], out: &mut S) -> Result<(), S::Error>
-    ensures { OnOk result (SendsValue (array (lines_items lines.now)) (S.written out.old) (S.written out.new)) }
-{
-    out.begin_seq(Some(lines.len()))?;
-    for line in lines {
-        send_pair(line.start, line.end, out)?;
-    }
-    out.end_seq()
-}
-
-/// Writes two numbers as a list.
-fn send_pair<S: Serializer>(first: u64, second: u64, out: &mut S) -> Result<(), S::Error>
-    ensures { OnOk result (SendsValue (pair_data first second) (S.written out.old) (S.written out.new)) }
-{
-    out.begin_seq(Some(2))?;
-    out.u64(first)?;
-    out.u64(second)?;
-    out.end_seq()
 }
