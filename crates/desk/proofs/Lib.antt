@@ -4,6 +4,7 @@ mod Begins
 mod Change
 mod Changes
 mod Close
+mod Diagnostics
 mod Edits
 mod Encode
 mod Errors

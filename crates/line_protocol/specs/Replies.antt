@@ -13,6 +13,7 @@ use Rattle.desk.specs.declared.fault.Fault.TheVariants.{BadBase64, NoDocument, N
 use Rattle.desk.specs.Change.{cause_fault}
 use Rattle.desk.specs.declared.ops.change.ChangeReply.{ChangeReply}
 use Rattle.desk.specs.declared.ops.changes.ChangesReply.{ChangesReply}
+use Rattle.desk.specs.declared.ops.diagnostics.DiagnosticsReply.{DiagnosticsReply}
 use Rattle.desk.specs.declared.ops.errors.ErrorsReply.{ErrorsReply}
 use Rattle.desk.specs.declared.ops.lines.LinesReply.{LinesReply}
 use Rattle.desk.specs.declared.ops.offset.OffsetReply.{OffsetReply}
@@ -24,8 +25,9 @@ use Rattle.desk.specs.declared.reply.BytesReply.{BytesReply}
 use Rattle.desk.specs.declared.reply.EditedReply.{EditedReply}
 use Rattle.desk.specs.declared.ops.Reply.{Reply}
 use Rattle.desk.specs.declared.line.Line.{Line}
-use Rattle.desk.specs.declared.ops.Reply.TheVariants.{Edited, Change, Changes, Closed, Text, Bytes, Errors, Lines, Position, Offset, Stat, Refused}
+use Rattle.desk.specs.declared.ops.Reply.TheVariants.{Edited, Change, Changes, Closed, Text, Bytes, Errors, Diagnostics, Lines, Position, Offset, Stat, Refused}
 use Rattle.desk.specs.declared.ops.Reply.TheVariants as replies
+use Rattle.position_map.specs.declared.diagnostic.Diagnostic.{Diagnostic}
 use Rattle.line_protocol.specs.declared.request.field.Field.{Field}
 use Rattle.line_protocol.specs.declared.request.field.Field.TheVariants as field
 use Rattle.line_protocol.specs.declared.request.refusal.Refusal.{Refusal}
@@ -77,6 +79,11 @@ place_data p = numbers_data (p.from ∷ p.to ∷ [])
 abbrev pub line_data : Line → Data
 line_data l = numbers_data (l.start ∷ l.end ∷ [])
 
+-- the place in the bytes, then the position of its start and the one of its end
+abbrev pub diagnostic_data : Diagnostic → Data
+diagnostic_data x =
+    numbers_data (x.place.from ∷ x.place.to ∷ x.range.start.line ∷ x.range.start.character ∷ x.range.end.line ∷ x.range.end.character ∷ [])
+
 abbrev pub place_or_null : Option Place → Data
 place_or_null None = null
 place_or_null (Some p) = place_data p
@@ -113,6 +120,11 @@ bytes_data id r = base64_data id r.rev (encode_of standard r.bytes)
 abbrev pub errors_data : ℕ → ErrorsReply → Data
 errors_data id r =
     object (member (codes "errors") (array (items_of place_data r.places)) (member (codes "id") (whole id)
+    (member (codes "rev") (whole r.rev) (member (codes "total") (whole r.total) no_members))))
+
+abbrev pub diagnostics_data : ℕ → DiagnosticsReply → Data
+diagnostics_data id r =
+    object (member (codes "diagnostics") (array (items_of diagnostic_data r.diagnostics)) (member (codes "id") (whole id)
     (member (codes "rev") (whole r.rev) (member (codes "total") (whole r.total) no_members))))
 
 abbrev pub lines_data : ℕ → LinesReply → Data
@@ -236,6 +248,7 @@ reply_data id (Closed rev) = closed_data id rev
 reply_data id (Text r) = text_data id r
 reply_data id (Bytes r) = bytes_data id r
 reply_data id (Errors r) = errors_data id r
+reply_data id (Diagnostics r) = diagnostics_data id r
 reply_data id (Lines r) = lines_data id r
 reply_data id (Position r) = position_data id r
 reply_data id (Offset r) = offset_data id r

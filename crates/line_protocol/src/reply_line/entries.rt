@@ -2,10 +2,11 @@
 ghost use Rattle.std.specs.Prelude.{OnOk};
 ghost use Rattle.serde_json.specs.Data.{Data, array};
 ghost use Rattle.serde_json.specs.Events.{SendsValue};
-ghost use Rattle.line_protocol.specs.Replies.{whole, place_data, line_data, items_of};
+ghost use Rattle.line_protocol.specs.Replies.{whole, place_data, line_data, diagnostic_data, items_of};
 
 use desk::Line;
 use enc_names::Place;
+use position_map::Diagnostic;
 use serde::Serializer;
 
 /// An entry of a list. Contracts see the data that is written for it.
@@ -49,5 +50,24 @@ impl Entry for Line {
 
     fn send<S: Serializer>(&self, out: &mut S) -> Result<(), S::Error> {
         send_list(&[self.start, self.end], out)
+    }
+}
+
+impl Entry for Diagnostic {
+    ghost json = { diagnostic_data };
+
+    fn send<S: Serializer>(&self, out: &mut S) -> Result<(), S::Error> {
+        let (place, start, end) = (self.place, self.range.start, self.range.end);
+        send_list(
+            &[
+                place.from,
+                place.to,
+                start.line,
+                start.character,
+                end.line,
+                end.character,
+            ],
+            out,
+        )
     }
 }

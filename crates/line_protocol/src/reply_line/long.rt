@@ -3,11 +3,11 @@ ghost use Rattle.std.specs.Prelude.{◌≡◌, false, IfOk};
 ghost use Rattle.serde_json.specs.Events.{SendsValue};
 ghost use Rattle.line_protocol.specs.Writing.{IsLineOf};
 ghost use Rattle.line_protocol.specs.Inline.{is_short};
-ghost use Rattle.line_protocol.specs.Replies.{line_of, reply_text, text_data, base64_data, bytes_data, errors_data, lines_data};
+ghost use Rattle.line_protocol.specs.Replies.{line_of, reply_text, text_data, base64_data, bytes_data, errors_data, diagnostics_data, lines_data};
 
 use crate::reply_line::entries::send_list;
 use base64::engine::general_purpose::STANDARD;
-use desk::ops::{ErrorsReply, LinesReply, TextReply};
+use desk::ops::{DiagnosticsReply, ErrorsReply, LinesReply, TextReply};
 use desk::{BytesReply, Reply};
 use serde::{Described, Serialize, Serializer};
 use std::alloc::{AllocError, Global};
@@ -21,6 +21,7 @@ pub(super) fn line_of(alloc: Global, id: u64, reply: &Reply) -> Result<Vec<u8>, 
         Reply::Text(reply) => text(alloc, id, reply),
         Reply::Bytes(reply) => bytes(alloc, id, reply),
         Reply::Errors(reply) => errors(alloc, id, reply),
+        Reply::Diagnostics(reply) => diagnostics(alloc, id, reply),
         Reply::Lines(reply) => lines(alloc, id, reply),
         _ => unreachable!(),
     }
@@ -45,6 +46,13 @@ fn bytes(alloc: Global, id: u64, reply: &BytesReply) -> Result<Vec<u8>, AllocErr
 /// The line with a page of error places.
 fn errors(alloc: Global, id: u64, reply: &ErrorsReply) -> Result<Vec<u8>, AllocError>
     ensures { IfOk result (λ line. line.items ≡ line_of (errors_data id reply.now)) }
+{
+    line(alloc, &WithId { id, reply })
+}
+
+/// The line with a page of errors with their positions.
+fn diagnostics(alloc: Global, id: u64, reply: &DiagnosticsReply) -> Result<Vec<u8>, AllocError>
+    ensures { IfOk result (λ line. line.items ≡ line_of (diagnostics_data id reply.now)) }
 {
     line(alloc, &WithId { id, reply })
 }
@@ -127,6 +135,25 @@ impl Serialize for WithId<'_, ErrorsReply> {
         out.begin_map(Some(4))?;
         out.key("errors")?;
         send_list(self.reply.places.as_slice(), out)?;
+        out.key("id")?;
+        out.u64(self.id)?;
+        out.key("rev")?;
+        out.u64(self.reply.rev)?;
+        out.key("total")?;
+        out.u64(self.reply.total)?;
+        out.end_map()
+    }
+}
+
+impl Described for WithId<'_, DiagnosticsReply> {
+    ghost writes = { λ n. SendsValue (diagnostics_data n.id n.reply.now) };
+}
+
+impl Serialize for WithId<'_, DiagnosticsReply> {
+    fn serialize<S: Serializer>(&self, out: &mut S) -> Result<(), S::Error> {
+        out.begin_map(Some(4))?;
+        out.key("diagnostics")?;
+        send_list(self.reply.diagnostics.as_slice(), out)?;
         out.key("id")?;
         out.u64(self.id)?;
         out.key("rev")?;

@@ -27,7 +27,11 @@ pub(super) fn line_of(id: u64, reply: &Reply) -> Option<ShortText>
         Reply::Place(reply) => Some(place(id, reply)),
         Reply::Stat(reply) => Some(stat(id, reply)),
         Reply::Refused { fault } => Some(Reason::of_fault(id, *fault).line()),
-        Reply::Text(_) | Reply::Bytes(_) | Reply::Errors(_) | Reply::Lines(_) => None,
+        Reply::Text(_)
+        | Reply::Bytes(_)
+        | Reply::Errors(_)
+        | Reply::Diagnostics(_)
+        | Reply::Lines(_) => None,
     }
 }
 

@@ -26,3 +26,7 @@ returns-clause-whole c = refl
 pub returns-clause-fault : goal.returns-clause-fault
 unfolding digits escape_byte
 returns-clause-fault c = refl
+
+pub returns-clause-diagnostics : goal.returns-clause-diagnostics
+unfolding digits escape_byte
+returns-clause-diagnostics c = refl

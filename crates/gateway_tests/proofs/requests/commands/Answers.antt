@@ -38,3 +38,7 @@ returns-clause-encode c = refl
 pub returns-clause-html : goal.returns-clause-html
 unfolding is_utf8 chars serde_json_on_literals
 returns-clause-html c = refl
+
+pub returns-clause-diagnostics : goal.returns-clause-diagnostics
+unfolding is_utf8 chars serde_json_on_literals
+returns-clause-diagnostics c = refl

@@ -22,3 +22,7 @@ returns-clause-other_mode c = refl
 pub returns-clause-max : goal.returns-clause-max
 unfolding is_utf8 chars serde_json_on_literals
 returns-clause-max c = refl
+
+pub returns-clause-starts : goal.returns-clause-starts
+unfolding is_utf8 chars serde_json_on_literals
+returns-clause-starts c = refl
