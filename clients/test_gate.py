@@ -27,6 +27,12 @@ class Documents(unittest.TestCase):
         document.splice(2, 0, b"\xac")
         self.assertEqual((document.text(), document.errors(), document.rev), ("€A", [], 1))
 
+    def test_an_error_has_a_place_and_positions(self):
+        document = self.gate.open("d", "utf-8", b"\xff\nA\xe2\x82")
+        behind = ((3, 5), (1, 1), (1, 2))
+        self.assertEqual(document.diagnostics(), [((0, 1), (0, 0), (0, 1)), behind])
+        self.assertEqual((document.diagnostics(1), document.diagnostics(2), document.diagnostics(most=0)), ([behind], [], []))
+
     def test_only_the_edited_bytes_differ(self):
         content = b"A\x1b$B$\"\x1b(B"
         document = self.gate.open("d", "iso-2022-jp", content)

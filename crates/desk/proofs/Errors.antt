@@ -9,7 +9,7 @@ use Rattle.desk.specs.Documents.{document_of}
 use Rattle.desk.specs.Errors.{errors_reply}
 use Rattle.desk.proofs.Row.{IsRow, question, IsOther, Caused, caused-if, decided-unless}
 
-caused-errors : (d : Document) (from : ℕ) → Caused (errors_fault d from)
+pub caused-errors : (d : Document) (from : ℕ) → Caused (errors_fault d from)
 unfolding number_fault
 caused-errors d from = caused-if (nat_le from (length (errors_of d))) _ _ (λ e. cc) (λ e. cc)
 

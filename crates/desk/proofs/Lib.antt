@@ -5,6 +5,7 @@ mod Begins
 mod Change
 mod Changes
 mod Close
+mod Diagnostics
 mod Edits
 mod Encode
 mod Errors
@@ -15,6 +16,7 @@ mod Moves
 mod Names
 mod Offset
 mod Open
+mod Pages
 mod Place
 mod Plan
 mod Position

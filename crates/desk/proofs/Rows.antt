@@ -4,7 +4,7 @@ use Rattle.std.specs.FinMap.{get}
 use Rattle.enc_names.specs.Labels.{LabelTable}
 use Rattle.index_loader.specs.Files.{Files}
 use Rattle.desk.specs.Accepted.{reports_change, OnlyChangesChange, RefusalsChangeNothing, MemoryIsNeverWanted}
-use Rattle.desk.specs.Commands.{Ask, Asked, Opens, Closes, Splices, ChangesText, MakesChanges, Plans, Reads, ReadsBytes, Encodes, ListsErrors, ListsLines, FindsPosition, FindsOffset, FindsPlace, Measures}
+use Rattle.desk.specs.Commands.{Ask, Asked, Opens, Closes, Splices, ChangesText, MakesChanges, Plans, Reads, ReadsBytes, Encodes, ListsErrors, ListsDiagnostics, ListsLines, FindsPosition, FindsOffset, FindsPlace, Measures}
 use Rattle.desk.specs.Desk.{Office, Outcome, Answers, IsOutcome, moved, answer_of, has_place}
 use Rattle.desk.specs.Documents.{Names}
 use Rattle.desk.specs.declared.fault.Fault.TheVariants.{OutOfMemory}
@@ -12,6 +12,7 @@ use Rattle.desk.specs.declared.ops.Reply.{Reply}
 use Rattle.desk.specs.declared.ops.Reply.TheVariants.{Refused}
 use Rattle.desk.proofs.Row.{IsRow}
 use Rattle.desk.proofs.Close as close
+use Rattle.desk.proofs.Diagnostics as diagnostics
 use Rattle.desk.proofs.Encode as encode
 use Rattle.desk.proofs.Errors as errors
 use Rattle.desk.proofs.Lines as lines
@@ -38,6 +39,7 @@ row indexes labels (Reads from to mode) = text.row indexes labels from to mode
 row indexes labels (ReadsBytes at len) = source.row indexes labels at len
 row indexes labels (Encodes from to label mode) = encode.row indexes labels from to label mode
 row indexes labels (ListsErrors from max) = errors.row indexes labels from max
+row indexes labels (ListsDiagnostics start max unit) = diagnostics.row indexes labels start max unit
 row indexes labels (ListsLines from max) = lines.row indexes labels from max
 row indexes labels (FindsPosition offset unit) = position.row indexes labels offset unit
 row indexes labels (FindsOffset line character unit) = offset.row indexes labels line character unit

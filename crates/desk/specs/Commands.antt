@@ -5,8 +5,9 @@ use Rattle.position_map.specs.declared.position.Range.{Range}
 use Rattle.position_map.specs.declared.unit.Unit.{Unit as TextUnit}
 use Rattle.encoders.specs.declared.mode.EncodeMode.{EncodeMode}
 use Rattle.desk.specs.declared.ops.Command.{Command}
-use Rattle.desk.specs.declared.ops.Command.TheVariants.{Open, Close, Splice, Change, Changes, Plan, Text, Source, Encode, Errors, Lines, Position, Offset, Place, Stat}
+use Rattle.desk.specs.declared.ops.Command.TheVariants.{Open, Close, Splice, Change, Changes, Plan, Text, Source, Encode, Errors, Diagnostics, Lines, Position, Offset, Place, Stat}
 use Rattle.desk.specs.declared.ops.changes.ContentChange.{ContentChange}
+use Rattle.desk.specs.declared.page_start.PageStart.{PageStart}
 use Rattle.desk.specs.declared.place_unit.PlaceUnit.{PlaceUnit}
 use Rattle.desk.specs.declared.text_mode.TextMode.{TextMode}
 
@@ -39,6 +40,8 @@ pub data Ask : Type 0 where
   Encodes : ℕ → ℕ → List ℕ → EncodeMode → Ask
   -- from max
   ListsErrors : ℕ → ℕ → Ask
+  -- start max unit
+  ListsDiagnostics : PageStart → ℕ → TextUnit → Ask
   -- from max
   ListsLines : ℕ → ℕ → Ask
   -- offset unit
@@ -68,6 +71,7 @@ asked (Text c) = asked_of c.doc.now (Reads c.from c.to c.mode)
 asked (Source c) = asked_of c.doc.now (ReadsBytes c.at c.len)
 asked (Encode c) = asked_of c.doc.now (Encodes c.from c.to c.label.now c.mode)
 asked (Errors c) = asked_of c.doc.now (ListsErrors c.from c.max)
+asked (Diagnostics c) = asked_of c.doc.now (ListsDiagnostics c.start c.max c.unit)
 asked (Lines c) = asked_of c.doc.now (ListsLines c.from c.max)
 asked (Position c) = asked_of c.doc.now (FindsPosition c.offset c.unit)
 asked (Offset c) = asked_of c.doc.now (FindsOffset c.line c.character c.unit)

@@ -4,7 +4,7 @@ use Rattle.std.specs.FinMap.{get, insert, remove, len}
 use Rattle.enc_names.specs.declared.setting.Setting.{Setting}
 use Rattle.enc_names.specs.Labels.{LabelTable, lookup_in}
 use Rattle.index_loader.specs.Files.{Files}
-use Rattle.desk.specs.Commands.{Ask, Asked, Opens, Closes, Splices, ChangesText, MakesChanges, Plans, Reads, ReadsBytes, Encodes, ListsErrors, ListsLines, FindsPosition, FindsOffset, FindsPlace, Measures}
+use Rattle.desk.specs.Commands.{Ask, Asked, Opens, Closes, Splices, ChangesText, MakesChanges, Plans, Reads, ReadsBytes, Encodes, ListsErrors, ListsDiagnostics, ListsLines, FindsPosition, FindsOffset, FindsPlace, Measures}
 use Rattle.desk.specs.Documents.{Entry, Names}
 use Rattle.desk.specs.Effects.{Move, Stays, Puts, Goes, Effect, replied, of_document, base64_bytes, with_bytes}
 use Rattle.desk.specs.Open.{opened, adopted}
@@ -17,6 +17,7 @@ use Rattle.desk.specs.Text.{text_reply}
 use Rattle.desk.specs.Source.{source_reply}
 use Rattle.desk.specs.Encode.{encode_reply_as}
 use Rattle.desk.specs.Errors.{errors_reply}
+use Rattle.desk.specs.Diagnostics.{diagnostics_reply}
 use Rattle.desk.specs.Lines.{lines_reply}
 use Rattle.desk.specs.Position.{position_reply}
 use Rattle.desk.specs.Offset.{offset_reply}
@@ -53,6 +54,7 @@ effect indexes labels place found (Reads from to mode) = of_document found (λ h
 effect indexes labels place found (ReadsBytes at len) = of_document found (λ h. replied (source_reply h at len))
 effect indexes labels place found (Encodes from to label mode) = of_document found (λ h. replied (encode_reply_as indexes h from to (lookup_in labels label) mode))
 effect indexes labels place found (ListsErrors from max) = of_document found (λ h. replied (errors_reply indexes h from max))
+effect indexes labels place found (ListsDiagnostics start max unit) = of_document found (λ h. replied (diagnostics_reply indexes h start max unit))
 effect indexes labels place found (ListsLines from max) = of_document found (λ h. replied (lines_reply indexes h from max))
 effect indexes labels place found (FindsPosition offset unit) = of_document found (λ h. replied (position_reply indexes h offset unit))
 effect indexes labels place found (FindsOffset line character unit) = of_document found (λ h. replied (offset_reply indexes h line character unit))

@@ -7,6 +7,7 @@ pub mod Close
 pub mod Codes
 pub mod Commands
 pub mod Desk
+pub mod Diagnostics
 pub mod Documents
 pub mod Edits
 pub mod Effects

@@ -13,6 +13,7 @@ mod line;
 mod max_number;
 mod open_document;
 pub mod ops;
+mod page_start;
 mod place_unit;
 mod question;
 mod reply;
@@ -28,6 +29,7 @@ pub use laws::{
 pub use line::Line;
 pub use max_number::MAX_NUMBER;
 pub use ops::{Command, Reply};
+pub use page_start::PageStart;
 pub use place_unit::PlaceUnit;
 pub use reply::{BytesReply, EditedReply, ReplyList, ReplyText};
 pub use text_mode::TextMode;

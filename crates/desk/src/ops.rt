@@ -6,6 +6,7 @@ ghost use Rattle.desk.specs.Documents.{reply_of};
 mod change;
 mod changes;
 mod close;
+mod diagnostics;
 mod encode;
 mod errors;
 mod lines;
@@ -25,6 +26,7 @@ use crate::reply::{BytesReply, EditedReply};
 pub use change::{Change, ChangeReply};
 pub use changes::{Changes, ChangesReply, ContentChange};
 pub use close::Close;
+pub use diagnostics::{Diagnostics, DiagnosticsReply};
 pub use encode::Encode;
 pub use errors::{Errors, ErrorsReply};
 pub use lines::{Lines, LinesReply};
@@ -61,6 +63,8 @@ pub enum Command<'a> {
     Encode(Encode<'a>),
     /// Returns a page of the places of a document's errors.
     Errors(Errors<'a>),
+    /// Returns a page of a document's errors with their positions.
+    Diagnostics(Diagnostics<'a>),
     /// Returns a page of a document's lines.
     Lines(Lines<'a>),
     /// Returns the position of an offset.
@@ -96,6 +100,8 @@ pub enum Reply {
     Bytes(BytesReply),
     /// A page of the places of errors.
     Errors(ErrorsReply),
+    /// A page of errors with their positions.
+    Diagnostics(DiagnosticsReply),
     /// A page of lines.
     Lines(LinesReply),
     /// The position of an offset.
@@ -129,6 +135,7 @@ impl Desk<'_> {
             Command::Source(source) => self.ask(source.doc, source),
             Command::Encode(encode) => self.ask(encode.doc, encode),
             Command::Errors(errors) => self.ask(errors.doc, errors),
+            Command::Diagnostics(diagnostics) => self.ask(diagnostics.doc, diagnostics),
             Command::Lines(lines) => self.ask(lines.doc, lines),
             Command::Position(position) => self.ask(position.doc, position),
             Command::Offset(offset) => self.ask(offset.doc, offset),

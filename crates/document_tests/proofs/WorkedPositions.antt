@@ -7,19 +7,23 @@ use Rattle.index_loader.specs.Files.{no_files}
 use Rattle.decoder_core.specs.Queue.{run, turns}
 use Rattle.piece_rope.specs.Decode.{decode}
 use Rattle.piece_rope.specs.Document.{decoded_text, decoded_errors}
+use Rattle.piece_rope.specs.Edits.{number_fault}
+use Rattle.position_map.specs.Diagnostics.{diagnostics_of, errors_before_line}
 use Rattle.position_map.specs.Lines.{lines_of}
 use Rattle.position_map.specs.Places.{scalar_of_byte}
 use Rattle.position_map.specs.Positions.{offset_of, position_of, converted}
 use Rattle.position_map.specs.declared.unit.Unit.TheVariants.{Utf16}
 use Rattle.desk.specs.Stat.{stat_reply}
+use Rattle.desk.specs.Diagnostics.{diagnostics_reply}
 use Rattle.desk.specs.Lines.{lines_reply}
 use Rattle.desk.specs.Offset.{offset_reply}
 use Rattle.desk.specs.Place.{place_reply}
 use Rattle.desk.specs.Position.{position_reply}
 use Rattle.document_tests.specs.Session.{truncated, pair_and_cr_lf}
 use Rattle.desk.specs.declared.fault.Fault.TheVariants.{OutOfRange, SplitsCharacter}
+use Rattle.desk.specs.declared.page_start.PageStart.TheVariants.{Line}
 use Rattle.desk.specs.declared.place_unit.PlaceUnit.TheVariants.{Byte, Text}
-use Rattle.desk.specs.declared.ops.Reply.TheVariants.{Stat, Lines, Position, Offset, Place}
+use Rattle.desk.specs.declared.ops.Reply.TheVariants.{Stat, Diagnostics, Lines, Position, Offset, Place}
 
 pub stat_worked : stat_reply no_files pair_and_cr_lf ≡ Stat (record { rev = 0; given = Utf8; encoding = Utf8; bom = 0; bytes = 8; errors = 0; lines = 2; utf8 = 8; utf16 = 6; utf32 = 5 })
 unfolding decoded_text decoded_errors decode run turns lines_of
@@ -52,3 +56,7 @@ end_worked = refl
 pub past_worked : place_reply no_files truncated Byte 4 ≡ Err OutOfRange
 unfolding decoded_text decode run turns scalar_of_byte
 past_worked = refl
+
+pub shown_worked : diagnostics_reply no_files truncated (Line 0) 10 Utf16 ≡ Ok (Diagnostics (record { rev = 0; total = 1; diagnostics = record { place = record { from = 0; to = 2 }; range = record { start = record { line = 0; character = 0 }; end = record { line = 0; character = 1 } } } ∷ [] }))
+unfolding decoded_text decoded_errors decode run turns number_fault lines_of diagnostics_of errors_before_line
+shown_worked = refl

@@ -5,7 +5,7 @@ ghost use Rattle.line_protocol.specs.Replies.{reply_text, refusal_text};
 ghost use Rattle.desk.specs.declared.change_cause.ChangeCause.TheVariants.{Plan};
 ghost use Rattle.desk.specs.declared.fault.Fault.TheVariants as fault;
 ghost use Rattle.position_map.specs.declared.change_fault.ChangeFault.TheVariants as change_fault;
-ghost use Rattle.desk.specs.declared.ops.Reply.TheVariants.{Edited, Change, Changes, Closed, Text, Errors, Lines, Position, Offset, Stat, Refused};
+ghost use Rattle.desk.specs.declared.ops.Reply.TheVariants.{Edited, Change, Changes, Closed, Text, Errors, Diagnostics, Lines, Position, Offset, Stat, Refused};
 ghost use Rattle.desk.specs.declared.ops.Reply.TheVariants as replies;
 ghost use Rattle.line_protocol.specs.declared.request.field.Field.TheVariants as field;
 ghost use Rattle.line_protocol.specs.declared.request.refusal.Refusal.TheVariants as refusal;
@@ -21,6 +21,8 @@ fn stored_session()
         ≡ codes "{\"id\":2,\"rev\":0,\"text\":\"" ++ 239 ∷ 191 ∷ 189 ∷ codes "A\"}\n" }
     ensures errors { reply_text 3 (Errors (record { rev = 0; total = 1; places = record { from = 0; to = 2 } ∷ [] }))
         ≡ codes "{\"errors\":[[0,2]],\"id\":3,\"rev\":0,\"total\":1}\n" }
+    ensures diagnostics { reply_text 3 (Diagnostics (record { rev = 0; total = 9; diagnostics = record { place = record { from = 0; to = 2 }; range = record { start = record { line = 3; character = 4 }; end = record { line = 5; character = 6 } } } ∷ [] }))
+        ≡ codes "{\"diagnostics\":[[0,2,3,4,5,6]],\"id\":3,\"rev\":0,\"total\":9}\n" }
     ensures splice { reply_text 4 (Edited (record { bom = 0; encoding = Utf8; rev = 1 }))
         ≡ codes "{\"bom\":0,\"encoding\":\"UTF-8\",\"id\":4,\"rev\":1}\n" }
     ensures whole { reply_text 5 (Text (record { rev = 1; text = 226 ∷ 130 ∷ 172 ∷ 65 ∷ [] }))

@@ -1,9 +1,10 @@
 //! Worked lines: their requests, computed on the definition.
 ghost use Rattle.std.specs.Prelude.{◌≡◌, ◌∷◌, [], codes, Ok, Err, Some, None};
 ghost use Rattle.enc_names.specs.declared.bom.Bom.TheVariants.{Sniff, Keep};
-ghost use Rattle.desk.specs.Commands.{asked_of, Opens, Closes, Splices, ChangesText, MakesChanges, Plans, Reads, ReadsBytes, Encodes, ListsErrors, ListsLines, FindsPosition, FindsOffset, FindsPlace, Measures};
+ghost use Rattle.desk.specs.Commands.{asked_of, Opens, Closes, Splices, ChangesText, MakesChanges, Plans, Reads, ReadsBytes, Encodes, ListsErrors, ListsDiagnostics, ListsLines, FindsPosition, FindsOffset, FindsPlace, Measures};
 ghost use Rattle.line_protocol.specs.Request.{request_of_line, position_of, range_of, text_change};
 ghost use Rattle.position_map.specs.declared.unit.Unit.TheVariants.{Utf8, Utf16, Utf32};
+ghost use Rattle.desk.specs.declared.page_start.PageStart.TheVariants as page_start;
 ghost use Rattle.desk.specs.declared.place_unit.PlaceUnit.TheVariants as place_unit;
 ghost use Rattle.encoders.specs.declared.mode.EncodeMode.TheVariants as encode_mode;
 ghost use Rattle.desk.specs.declared.text_mode.TextMode.TheVariants.{Replacement, Fatal};
@@ -106,6 +107,9 @@ fn commands()
     ensures errors { request_of_line (codes
         "{\"id\":3,\"op\":\"errors\",\"doc\":\"a\",\"from\":0,\"max\":10000}")
         ≡ Ok (3, asked_of (codes "a") (ListsErrors 0 10000)) }
+    ensures diagnostics { request_of_line (codes
+        "{\"id\":3,\"op\":\"diagnostics\",\"doc\":\"a\",\"line\":7,\"max\":1,\"unit\":\"utf-8\"}")
+        ≡ Ok (3, asked_of (codes "a") (ListsDiagnostics (page_start.Line 7) 1 Utf8)) }
 {}
 
 /// A range is two positions, and the whole text where it is absent or null.
@@ -176,4 +180,7 @@ fn faulty_fields()
     ensures max { request_of_line (codes
         "{\"id\":1,\"op\":\"errors\",\"doc\":\"a\",\"from\":0,\"max\":10001}")
         ≡ Err (BadRequest (Some 1) field.Max) }
+    ensures starts { request_of_line (codes
+        "{\"id\":1,\"op\":\"diagnostics\",\"doc\":\"a\",\"from\":0,\"line\":0,\"max\":-1}")
+        ≡ Err (BadRequest (Some 1) field.Line) }
 {}

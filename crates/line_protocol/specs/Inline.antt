@@ -2,7 +2,7 @@
 use Rattle.std.specs.Prelude.{◌≡◌, ◌≤◌, ℕ, length, List, Bool, true, false}
 use Rattle.serde_json.specs.Data.{Data}
 use Rattle.desk.specs.declared.ops.Reply.{Reply}
-use Rattle.desk.specs.declared.ops.Reply.TheVariants.{Plan, Text, Bytes, Errors, Lines}
+use Rattle.desk.specs.declared.ops.Reply.TheVariants.{Plan, Text, Bytes, Errors, Diagnostics, Lines}
 use Rattle.line_protocol.specs.Replies.{line_of}
 
 -- the most bytes of a line that is stored inline
@@ -19,5 +19,6 @@ is_short (Plan r) = false
 is_short (Text r) = false
 is_short (Bytes r) = false
 is_short (Errors r) = false
+is_short (Diagnostics r) = false
 is_short (Lines r) = false
 is_short reply = true

@@ -13,6 +13,7 @@ use Rattle.desk.specs.declared.fault.Fault.TheVariants.{BadBase64, NoDocument, N
 use Rattle.desk.specs.Change.{cause_fault}
 use Rattle.desk.specs.declared.ops.change.ChangeReply.{ChangeReply}
 use Rattle.desk.specs.declared.ops.changes.ChangesReply.{ChangesReply}
+use Rattle.desk.specs.declared.ops.diagnostics.DiagnosticsReply.{DiagnosticsReply}
 use Rattle.desk.specs.declared.ops.errors.ErrorsReply.{ErrorsReply}
 use Rattle.desk.specs.declared.ops.lines.LinesReply.{LinesReply}
 use Rattle.desk.specs.declared.ops.offset.OffsetReply.{OffsetReply}
@@ -25,8 +26,9 @@ use Rattle.desk.specs.declared.reply.BytesReply.{BytesReply}
 use Rattle.desk.specs.declared.reply.EditedReply.{EditedReply}
 use Rattle.desk.specs.declared.ops.Reply.{Reply}
 use Rattle.desk.specs.declared.line.Line.{Line}
-use Rattle.desk.specs.declared.ops.Reply.TheVariants.{Edited, Change, Changes, Closed, Text, Bytes, Errors, Lines, Position, Offset, Stat, Refused}
+use Rattle.desk.specs.declared.ops.Reply.TheVariants.{Edited, Change, Changes, Closed, Text, Bytes, Errors, Diagnostics, Lines, Position, Offset, Stat, Refused}
 use Rattle.desk.specs.declared.ops.Reply.TheVariants as replies
+use Rattle.position_map.specs.declared.diagnostic.Diagnostic.{Diagnostic}
 use Rattle.line_protocol.specs.declared.request.field.Field.{Field}
 use Rattle.line_protocol.specs.declared.request.field.Field.TheVariants as field
 use Rattle.line_protocol.specs.declared.request.refusal.Refusal.{Refusal}
@@ -64,26 +66,28 @@ field_name field.Changes = codes "changes"
 abbrev pub whole : ℕ → Data
 whole n = number (unsigned n)
 
-abbrev pub pair_data : ℕ → ℕ → Data
-pair_data a b = array (item (whole a) (item (whole b) no_items))
+-- the items of a list, each by its data
+abbrev pub items_of : {A : Type 0} → (A → Data) → List A → Items
+items_of json [] = no_items
+items_of json (x ∷ xs) = item (json x) (items_of json xs)
+
+abbrev pub numbers_data : List ℕ → Data
+numbers_data ns = array (items_of whole ns)
 
 abbrev pub place_data : Place → Data
-place_data p = pair_data p.from p.to
+place_data p = numbers_data (p.from ∷ p.to ∷ [])
 
 abbrev pub line_data : Line → Data
-line_data l = pair_data l.start l.end
+line_data l = numbers_data (l.start ∷ l.end ∷ [])
+
+-- the place in the bytes, then the position of its start and the one of its end
+abbrev pub diagnostic_data : Diagnostic → Data
+diagnostic_data x =
+    numbers_data (x.place.from ∷ x.place.to ∷ x.range.start.line ∷ x.range.start.character ∷ x.range.end.line ∷ x.range.end.character ∷ [])
 
 abbrev pub place_or_null : Option Place → Data
 place_or_null None = null
 place_or_null (Some p) = place_data p
-
-abbrev pub places_data : List Place → Items
-places_data [] = no_items
-places_data (p ∷ ps) = item (place_data p) (places_data ps)
-
-abbrev pub lines_items : List Line → Items
-lines_items [] = no_items
-lines_items (l ∷ ls) = item (line_data l) (lines_items ls)
 
 abbrev pub edited_data : ℕ → EditedReply → Data
 edited_data id r =
@@ -126,13 +130,18 @@ plan_data id r = plan_texts id r (encode_of standard r.bytes) (encode_of standar
 
 abbrev pub errors_data : ℕ → ErrorsReply → Data
 errors_data id r =
-    object (member (codes "errors") (array (places_data r.places)) (member (codes "id") (whole id)
+    object (member (codes "errors") (array (items_of place_data r.places)) (member (codes "id") (whole id)
+    (member (codes "rev") (whole r.rev) (member (codes "total") (whole r.total) no_members))))
+
+abbrev pub diagnostics_data : ℕ → DiagnosticsReply → Data
+diagnostics_data id r =
+    object (member (codes "diagnostics") (array (items_of diagnostic_data r.diagnostics)) (member (codes "id") (whole id)
     (member (codes "rev") (whole r.rev) (member (codes "total") (whole r.total) no_members))))
 
 abbrev pub lines_data : ℕ → LinesReply → Data
 lines_data id r =
     object (member (codes "count") (whole r.count) (member (codes "id") (whole id)
-    (member (codes "lines") (array (lines_items r.lines)) (member (codes "rev") (whole r.rev) no_members))))
+    (member (codes "lines") (array (items_of line_data r.lines)) (member (codes "rev") (whole r.rev) no_members))))
 
 abbrev pub position_data : ℕ → PositionReply → Data
 position_data id r =
@@ -251,6 +260,7 @@ reply_data id (replies.Plan r) = plan_data id r
 reply_data id (Text r) = text_data id r
 reply_data id (Bytes r) = bytes_data id r
 reply_data id (Errors r) = errors_data id r
+reply_data id (Diagnostics r) = diagnostics_data id r
 reply_data id (Lines r) = lines_data id r
 reply_data id (Position r) = position_data id r
 reply_data id (Offset r) = offset_data id r

@@ -11,7 +11,7 @@ use Rattle.serde_json.specs.declared.value.Value.{Value}
 use Rattle.enc_names.specs.Json.{json_of}
 use Rattle.enc_names.specs.declared.bom.Bom.{Bom}
 use Rattle.enc_names.specs.declared.bom.Bom.TheVariants.{Sniff, Keep}
-use Rattle.desk.specs.Commands.{Asked, TextChange, asked_of, Opens, Closes, Splices, ChangesText, MakesChanges, Plans, Reads, ReadsBytes, Encodes, ListsErrors, ListsLines, FindsPosition, FindsOffset, FindsPlace, Measures, asked}
+use Rattle.desk.specs.Commands.{Asked, TextChange, asked_of, Opens, Closes, Splices, ChangesText, MakesChanges, Plans, Reads, ReadsBytes, Encodes, ListsErrors, ListsDiagnostics, ListsLines, FindsPosition, FindsOffset, FindsPlace, Measures, asked}
 use Rattle.desk.specs.Documents.{max_number}
 use Rattle.desk.specs.declared.ops.Command.{Command}
 use Rattle.position_map.specs.declared.position.Position.{Position}
@@ -20,6 +20,8 @@ use Rattle.position_map.specs.declared.unit.Unit.{Unit as TextUnit}
 use Rattle.position_map.specs.declared.unit.Unit.TheVariants.{Utf8, Utf16, Utf32}
 use Rattle.encoders.specs.declared.mode.EncodeMode.{EncodeMode}
 use Rattle.encoders.specs.declared.mode.EncodeMode.TheVariants as encode_mode
+use Rattle.desk.specs.declared.page_start.PageStart.{PageStart}
+use Rattle.desk.specs.declared.page_start.PageStart.TheVariants.{Number, Line}
 use Rattle.desk.specs.declared.place_unit.PlaceUnit.{PlaceUnit}
 use Rattle.desk.specs.declared.place_unit.PlaceUnit.TheVariants.{Byte, Text}
 use Rattle.desk.specs.declared.text_mode.TextMode.{TextMode}
@@ -128,6 +130,17 @@ as_place_unit text = if bytes_eq text (codes "byte") then Some Byte else option_
 -- what the value of `place` counts, which has to be there
 abbrev pub place_unit_at : Data → Option PlaceUnit
 place_unit_at d = option_and_then as_place_unit (text_at d (codes "unit"))
+
+-- ---- where a page of errors begins
+
+-- at the number `from`, or, where `line` is there in its place, at that line; of both together `line` is the faulty one
+abbrev pub page_start_at : Data → Result PageStart Field
+page_start_at d =
+    if is_some (get (codes "line") d)
+    then (if is_some (get (codes "from") d)
+    then Err field.Line
+    else need field.Line (option_map Line (number_at d (codes "line") max_number)))
+    else need field.From (option_map Number (number_at d (codes "from") max_number))
 
 -- ---- the range of a change
 
@@ -262,6 +275,14 @@ errors_command d = do
   max ← need field.Max (number_at d (codes "max") max_entries)
   Ok (asked_of doc (ListsErrors from max))
 
+abbrev pub diagnostics_command : Data → Result Asked Field
+diagnostics_command d = do
+  doc ← need field.Doc (name_at d)
+  start ← page_start_at d
+  max ← need field.Max (number_at d (codes "max") max_entries)
+  unit ← need field.Unit (unit_at d)
+  Ok (asked_of doc (ListsDiagnostics start max unit))
+
 abbrev pub lines_command : Data → Result Asked Field
 lines_command d = do
   doc ← need field.Doc (name_at d)
@@ -312,12 +333,13 @@ command_of d id op =
     else (if bytes_eq op (codes "source") then with_id id (source_command d)
     else (if bytes_eq op (codes "encode") then with_id id (encode_command d)
     else (if bytes_eq op (codes "errors") then with_id id (errors_command d)
+    else (if bytes_eq op (codes "diagnostics") then with_id id (diagnostics_command d)
     else (if bytes_eq op (codes "lines") then with_id id (lines_command d)
     else (if bytes_eq op (codes "position") then with_id id (position_command d)
     else (if bytes_eq op (codes "offset") then with_id id (offset_command d)
     else (if bytes_eq op (codes "place") then with_id id (place_command d)
     else (if bytes_eq op (codes "stat") then with_id id (stat_command d)
-    else Err (UnknownOp id)))))))))))))))
+    else Err (UnknownOp id))))))))))))))))
 
 -- the request in an object: its number and its command
 abbrev pub request_of : Data → Result (ℕ × Asked) Refusal

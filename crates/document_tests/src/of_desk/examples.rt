@@ -4,14 +4,16 @@ ghost use Rattle.enc_names.specs.declared.encoding.Encoding.TheVariants.{Utf8};
 ghost use Rattle.index_loader.specs.Files.{no_files};
 ghost use Rattle.position_map.specs.declared.unit.Unit.TheVariants.{Utf16};
 ghost use Rattle.desk.specs.Stat.{stat_reply};
+ghost use Rattle.desk.specs.Diagnostics.{diagnostics_reply};
 ghost use Rattle.desk.specs.Lines.{lines_reply};
 ghost use Rattle.desk.specs.Offset.{offset_reply};
 ghost use Rattle.desk.specs.Place.{place_reply};
 ghost use Rattle.desk.specs.Position.{position_reply};
 ghost use Rattle.document_tests.specs.Session.{truncated, pair_and_cr_lf};
 ghost use Rattle.desk.specs.declared.fault.Fault.TheVariants.{OutOfRange, SplitsCharacter};
+ghost use Rattle.desk.specs.declared.page_start.PageStart.TheVariants.{Line};
 ghost use Rattle.desk.specs.declared.place_unit.PlaceUnit.TheVariants.{Byte, Text};
-ghost use Rattle.desk.specs.declared.ops.Reply.TheVariants.{Stat, Lines, Position, Offset, Place};
+ghost use Rattle.desk.specs.declared.ops.Reply.TheVariants.{Stat, Diagnostics, Lines, Position, Offset, Place};
 
 /// `a`, U+1F600, CR, LF, `b` in UTF-8.
 fn pair_and_cr_lf()
@@ -27,4 +29,5 @@ fn truncated_sequence()
     ensures inside { place_reply no_files truncated Byte 1 ≡ Ok (Place (record { rev = 0; place = Some (record { from = 0; to = 2 }); utf8 = 0; utf16 = 0; utf32 = 0 })) }
     ensures end { place_reply no_files truncated Byte 3 ≡ Ok (Place (record { rev = 0; place = None; utf8 = 4; utf16 = 2; utf32 = 2 })) }
     ensures past { place_reply no_files truncated Byte 4 ≡ Err OutOfRange }
+    ensures shown { diagnostics_reply no_files truncated (Line 0) 10 Utf16 ≡ Ok (Diagnostics (record { rev = 0; total = 1; diagnostics = record { place = record { from = 0; to = 2 }; range = record { start = record { line = 0; character = 0 }; end = record { line = 0; character = 1 } } } ∷ [] })) }
 {}

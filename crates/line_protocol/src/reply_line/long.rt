@@ -1,15 +1,14 @@
 //! The replies that hold a text or a list. They are written straight from what they hold.
-ghost use Rattle.std.specs.Prelude.{◌≡◌, false, IfOk, OnOk};
-ghost use Rattle.serde_json.specs.Data.{array};
+ghost use Rattle.std.specs.Prelude.{◌≡◌, false, IfOk};
 ghost use Rattle.serde_json.specs.Events.{SendsValue};
 ghost use Rattle.line_protocol.specs.Writing.{IsLineOf};
 ghost use Rattle.line_protocol.specs.Inline.{is_short};
-ghost use Rattle.line_protocol.specs.Replies.{line_of, reply_text, text_data, base64_data, bytes_data, plan_data, plan_texts, errors_data, lines_data, lines_items, pair_data, places_data};
+ghost use Rattle.line_protocol.specs.Replies.{line_of, reply_text, text_data, base64_data, bytes_data, plan_data, plan_texts, errors_data, diagnostics_data, lines_data};
 
+use crate::reply_line::entries::send_list;
 use base64::engine::general_purpose::STANDARD;
-use desk::ops::{ErrorsReply, LinesReply, PlanReply, TextReply};
-use desk::{BytesReply, Line, Reply};
-use enc_names::Place;
+use desk::ops::{DiagnosticsReply, ErrorsReply, LinesReply, PlanReply, TextReply};
+use desk::{BytesReply, Reply};
 use serde::{Described, Serialize, Serializer};
 use std::alloc::{AllocError, Global};
 
@@ -23,6 +22,7 @@ pub(super) fn line_of(alloc: Global, id: u64, reply: &Reply) -> Result<Vec<u8>, 
         Reply::Text(reply) => text(alloc, id, reply),
         Reply::Bytes(reply) => bytes(alloc, id, reply),
         Reply::Errors(reply) => errors(alloc, id, reply),
+        Reply::Diagnostics(reply) => diagnostics(alloc, id, reply),
         Reply::Lines(reply) => lines(alloc, id, reply),
         _ => unreachable!(),
     }
@@ -63,6 +63,13 @@ fn plan(alloc: Global, id: u64, reply: &PlanReply) -> Result<Vec<u8>, AllocError
 /// The line with a page of error places.
 fn errors(alloc: Global, id: u64, reply: &ErrorsReply) -> Result<Vec<u8>, AllocError>
     ensures { IfOk result (λ line. line.items ≡ line_of (errors_data id reply.now)) }
+{
+    line(alloc, &WithId { id, reply })
+}
+
+/// The line with a page of errors with their positions.
+fn diagnostics(alloc: Global, id: u64, reply: &DiagnosticsReply) -> Result<Vec<u8>, AllocError>
+    ensures { IfOk result (λ line. line.items ≡ line_of (diagnostics_data id reply.now)) }
 {
     line(alloc, &WithId { id, reply })
 }
@@ -180,7 +187,7 @@ impl Serialize for WithId<'_, ErrorsReply> {
     fn serialize<S: Serializer>(&self, out: &mut S) -> Result<(), S::Error> {
         out.begin_map(Some(4))?;
         out.key("errors")?;
-        send_places(self.reply.places.as_slice(), out)?;
+        send_list(self.reply.places.as_slice(), out)?;
         out.key("id")?;
         out.u64(self.id)?;
         out.key("rev")?;
@@ -191,15 +198,23 @@ impl Serialize for WithId<'_, ErrorsReply> {
     }
 }
 
-/// Writes a list of places.
-fn send_places<S: Serializer>(places: &[Place], out: &mut S) -> Result<(), S::Error>
-    ensures { OnOk result (SendsValue (array (places_data places.now)) (S.written out.old) (S.written out.new)) }
-{
-    out.begin_seq(Some(places.len()))?;
-    for place in places {
-        send_pair(place.from, place.to, out)?;
+impl Described for WithId<'_, DiagnosticsReply> {
+    ghost writes = { λ n. SendsValue (diagnostics_data n.id n.reply.now) };
+}
+
+impl Serialize for WithId<'_, DiagnosticsReply> {
+    fn serialize<S: Serializer>(&self, out: &mut S) -> Result<(), S::Error> {
+        out.begin_map(Some(4))?;
+        out.key("diagnostics")?;
+        send_list(self.reply.diagnostics.as_slice(), out)?;
+        out.key("id")?;
+        out.u64(self.id)?;
+        out.key("rev")?;
+        out.u64(self.reply.rev)?;
+        out.key("total")?;
+        out.u64(self.reply.total)?;
+        out.end_map()
     }
-    out.end_seq()
 }
 
 impl Described for WithId<'_, LinesReply> {
@@ -214,30 +229,9 @@ impl Serialize for WithId<'_, LinesReply> {
         out.key("id")?;
         out.u64(self.id)?;
         out.key("lines")?;
-        send_lines(self.reply.lines.as_slice(), out)?;
+        send_list(self.reply.lines.as_slice(), out)?;
         out.key("rev")?;
         out.u64(self.reply.rev)?;
         out.end_map()
     }
-}
-
-/// Writes a list of lines.
-fn send_lines<S: Serializer>(lines: &[Line], out: &mut S) -> Result<(), S::Error>
-    ensures { OnOk result (SendsValue (array (lines_items lines.now)) (S.written out.old) (S.written out.new)) }
-{
-    out.begin_seq(Some(lines.len()))?;
-    for line in lines {
-        send_pair(line.start, line.end, out)?;
-    }
-    out.end_seq()
-}
-
-/// Writes two numbers as a list.
-fn send_pair<S: Serializer>(first: u64, second: u64, out: &mut S) -> Result<(), S::Error>
-    ensures { OnOk result (SendsValue (pair_data first second) (S.written out.old) (S.written out.new)) }
-{
-    out.begin_seq(Some(2))?;
-    out.u64(first)?;
-    out.u64(second)?;
-    out.end_seq()
 }

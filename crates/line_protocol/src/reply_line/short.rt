@@ -27,8 +27,12 @@ pub(super) fn line_of(id: u64, reply: &Reply) -> Option<ShortText>
         Reply::Place(reply) => Some(place(id, reply)),
         Reply::Stat(reply) => Some(stat(id, reply)),
         Reply::Refused { fault } => Some(Reason::of_fault(id, *fault).line()),
-        Reply::Plan(_) | Reply::Text(_) | Reply::Bytes(_) | Reply::Errors(_) | Reply::Lines(_) =>
-            None,
+        Reply::Plan(_)
+        | Reply::Text(_)
+        | Reply::Bytes(_)
+        | Reply::Errors(_)
+        | Reply::Diagnostics(_)
+        | Reply::Lines(_) => None,
     }
 }
 

@@ -2,7 +2,7 @@
 ghost use Rattle.std.specs.Prelude.{◌≡◌, map, option_map};
 ghost use Rattle.serde_json.specs.View.{view};
 ghost use Rattle.desk.specs.Commands.{change_of};
-ghost use Rattle.line_protocol.specs.Request.{changes_at, open_command, close_command, splice_command, change_command, text_command, source_command, encode_command, errors_command, lines_command, position_command, offset_command, place_command, stat_command, changes_command, plan_command, request_of, command_asked, IsRequest};
+ghost use Rattle.line_protocol.specs.Request.{changes_at, open_command, close_command, splice_command, change_command, text_command, source_command, encode_command, errors_command, diagnostics_command, lines_command, position_command, offset_command, place_command, stat_command, changes_command, plan_command, request_of, command_asked, IsRequest};
 ghost use Rattle.line_protocol.specs.declared.request.refusal.Refusal.TheVariants.{BadRequest};
 
 use crate::request::change_list::change_list;
@@ -42,6 +42,7 @@ pub fn parse_request(alloc: Global, value: &Value) -> Result<(u64, Command<'_>),
         "source" => source(value),
         "encode" => encode(value),
         "errors" => errors(value),
+        "diagnostics" => diagnostics(value),
         "lines" => lines(value),
         "position" => position(value),
         "offset" => offset(value),
@@ -208,6 +209,22 @@ fn errors(value: &Value) -> Result<Command<'_>, Field>
     let from = fields::number(value, "from", MAX_NUMBER).ok_or(Field::From)?;
     let max = fields::number(value, "max", MAX_ENTRIES).ok_or(Field::Max)?;
     Ok(Command::Errors(ops::Errors { doc, from, max }))
+}
+
+/// The command `diagnostics`, or the first faulty field.
+fn diagnostics(value: &Value) -> Result<Command<'_>, Field>
+    ensures { command_asked result ≡ diagnostics_command (view value.now) }
+{
+    let doc = fields::name(value).ok_or(Field::Doc)?;
+    let start = fields::page_start(value)?;
+    let max = fields::number(value, "max", MAX_ENTRIES).ok_or(Field::Max)?;
+    let unit = fields::unit(value).ok_or(Field::Unit)?;
+    Ok(Command::Diagnostics(ops::Diagnostics {
+        doc,
+        start,
+        max,
+        unit,
+    }))
 }
 
 /// The command `lines`, or the first faulty field.

@@ -1,9 +1,10 @@
 //! The fields of an object, each by its kind. An absent field and one of another kind are alike.
 ghost use Rattle.std.specs.Prelude.{◌≡◌, option_map};
 ghost use Rattle.serde_json.specs.View.{view};
-ghost use Rattle.line_protocol.specs.Request.{number_at, text_at, name_at, bom_at, text_mode_at, encode_mode_at, as_unit, unit_at, place_unit_at, position_at, range_at};
+ghost use Rattle.line_protocol.specs.Request.{number_at, text_at, name_at, bom_at, text_mode_at, encode_mode_at, as_unit, unit_at, place_unit_at, page_start_at, position_at, range_at};
 
-use desk::{MAX_NUMBER, PlaceUnit, TextMode};
+use crate::request::field::Field;
+use desk::{MAX_NUMBER, PageStart, PlaceUnit, TextMode};
 use enc_names::Bom;
 use encoders::EncodeMode;
 use position_map::{Position, Range, Unit};
@@ -110,6 +111,22 @@ pub(super) fn place_unit(value: &Value) -> Option<PlaceUnit>
         "byte" => Some(PlaceUnit::Byte),
         name => named_unit(name).map(PlaceUnit::Text),
     }
+}
+
+/// Where a page of errors begins: at a number, or at a line, where that is there in its place; or
+/// which of the two fields is faulty.
+pub(super) fn page_start(value: &Value) -> Result<PageStart, Field>
+    ensures { result ≡ page_start_at (view value.now) }
+{
+    if value.get("line").is_none() {
+        let from = number(value, "from", MAX_NUMBER).ok_or(Field::From)?;
+        return Ok(PageStart::Number(from));
+    }
+    if value.get("from").is_some() {
+        return Err(Field::Line);
+    }
+    let line = number(value, "line", MAX_NUMBER).ok_or(Field::Line)?;
+    Ok(PageStart::Line(line))
 }
 
 /// A position: a line and a character, both whole numbers.

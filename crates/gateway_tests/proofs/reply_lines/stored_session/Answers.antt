@@ -12,4 +12,5 @@ returns c = record {
   splice = refl;
   whole = refl;
   fault = refl;
+  diagnostics = refl;
 }

@@ -15,4 +15,5 @@ returns c = record {
   encode = refl;
   html = refl;
   errors = refl;
+  diagnostics = refl;
 }

@@ -11,4 +11,5 @@ returns c = record {
   null_mode = refl;
   other_mode = refl;
   max = refl;
+  starts = refl;
 }

@@ -1,11 +1,12 @@
-use Rattle.std.proofs.Common.{◌≡◌, ◌≤◌, ◌<◌, ◌+◌, ◌-◌, ◌*◌, ◌^◌, List, ◌∷◌, ◌++◌, [], min, length, length-append, arith, sym, ap, ◌∙◌, Some, slice_get, subst}
+use Rattle.std.proofs.Common.{◌≡◌, ◌≤◌, ◌<◌, ◌+◌, ◌-◌, ◌*◌, ◌^◌, List, ◌∷◌, ◌++◌, [], min, length, length-append, map, arith, sym, ap, ◌∙◌, Some, slice_get, subst}
 use Rattle.piece_rope.specs.Document.{text_of}
 use Rattle.position_map.specs.Lines.{lines_of}
 use Rattle.position_map.specs.NextLines.{LinesFrom}
 use Rattle.position_map.specs.Whole.{pieces_most}
-use Rattle.desk.specs.Lines.{page_of}
+use Rattle.desk.specs.Lines.{line_of, page_of}
 use Rattle.desk.specs.declared.line.Line.{Line}
-use Rattle.desk.proofs.Lines.{page_and_line, page_of_all_left, one_more}
+use Rattle.desk.proofs.Lines.{page_and_line}
+use Rattle.desk.proofs.Pages.{page_of_all_left, one_more}
 use Rattle.desk.proofs.ops.lines.page.Goals as goal
 
 pub lines-init : goal.lines-init
@@ -33,7 +34,7 @@ lines-preserved c =
           ∙ sym (page_and_line text c.args.from c.lines.counter (record { start = c.in-Some.start; end = c.in-Some.end }) at);
       count = ap length c.in_ok-push.ensures.items ∙ length-append c.lines.lines.items _ ∙ ap (λ n. n + 1) c.lines.invariant.count;
       most = λ d few.
-          one_more c.lines.counter (2 * (d + 2)) c.args.visits.now c.lines.visits c.next.new.visits (c.lines.invariant.most d few)
+          one_more (c.lines.counter + 1) (2 * (d + 2)) c.args.visits.now c.lines.visits c.next.new.visits (c.lines.invariant.most d few)
           (c.in-Some.ensures.most d (subst (λ x. pieces_most x < 2 ^ d) (sym c.lines.invariant.doc) few));
     }
 
@@ -42,7 +43,7 @@ returns-clause-page c =
     let text = text_of c.args.document.now in
     let all : c.lines.counter ≡ min c.args.max (length (lines_of text) - c.args.from) =
     omega (arith, c.lines-test.false, c.lines.auto.counter-end, c.min-count.ensures, c.saturating_sub.ensures, c.line_count.ensures.lines) in
-    c.lines.invariant.page ∙ ap (page_of text c.args.from) all ∙ page_of_all_left text c.args.from c.args.max
+    c.lines.invariant.page ∙ ap (page_of text c.args.from) all ∙ ap (map line_of) (page_of_all_left (lines_of text) c.args.from c.args.max)
 
 pub returns-clause-most : goal.returns-clause-most
 returns-clause-most c = λ d few. subst (λ n. c.lines.visits ≤ c.args.visits.now + (n + 1) * (2 * (d + 2))) (sym c.lines.invariant.count) (c.lines.invariant.most d few)
