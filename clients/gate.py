@@ -203,8 +203,11 @@ class Document:
         """Replaces the text from one position, a line and a character, to another; without positions the whole text.
         Returns the edit. A change of the whole text encodes all of it anew, and so bytes that nobody meant: send the
         smallest range that differs."""
-        reply = self._take(self._gate.ask("change", doc=self.name, rev=self.rev, unit=unit, **_change(text, start, end)))
-        return self._put(reply["at"], reply["del"], self.source(reply["at"], reply["ins"]))
+        fields = {"doc": self.name, "unit": unit, **_change(text, start, end)}
+        plan = self._gate.send("plan", **fields)
+        self._take(self._gate.ask("change", rev=self.rev, **fields))
+        reply = plan.get()
+        return self._put(reply["at"], reply["del"], base64.b64decode(reply["bytes"]))
 
     def changes(self, listed: Sequence[Change], unit: str = "utf-16") -> Edit:
         """Makes changes in one command, as an editor lists them, or none of them: each is what `change` takes, and its
