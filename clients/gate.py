@@ -203,8 +203,11 @@ class Document:
         """Replaces the text from one position, a line and a character, to another; without positions the whole text.
         Returns the edit. A change of the whole text encodes all of it anew, and so bytes that nobody meant: send the
         smallest range that differs."""
-        reply = self._take(self._gate.ask("change", doc=self.name, rev=self.rev, unit=unit, **_change(text, start, end)))
-        return self._put(reply["at"], reply["del"], self.source(reply["at"], reply["ins"]))
+        fields = {"doc": self.name, "unit": unit, **_change(text, start, end)}
+        plan = self._gate.send("plan", **fields)
+        self._take(self._gate.ask("change", rev=self.rev, **fields))
+        reply = plan.get()
+        return self._put(reply["at"], reply["del"], base64.b64decode(reply["bytes"]))
 
     def plan(self, text: str, start: Optional[Pair] = None, end: Optional[Pair] = None, unit: str = "utf-16") -> Tuple[Edit, bool]:
         """The edit that `change` would make, and whether it would: where not, it would be refused as "NotKept"."""
@@ -247,20 +250,25 @@ class Document:
         """The places of all errors, each the first byte and the one behind the last."""
         return [tuple(it) for it in self._pages("errors", "total")]
 
-    def diagnostics(self, line: int = 0, most: int = PAGE, unit: str = "utf-16") -> List[Tuple[Pair, Pair, Pair]]:
-        """The errors on a line and behind it, at most so many: of each its place, and the positions where its U+FFFD
+    def diagnostics(
+        self, line: Optional[int] = None, most: int = PAGE, unit: str = "utf-16"
+    ) -> List[Tuple[Pair, Pair, Pair]]:
+        """All errors, or those from a line on, at most so many: of each its place, and the positions where its U+FFFD
         begins and ends."""
-        page = self._gate.ask("diagnostics", doc=self.name, line=line, max=most, unit=unit)["diagnostics"]
-        return [((it[0], it[1]), (it[2], it[3]), (it[4], it[5])) for it in page]
+        if line is None:
+            found = self._pages("diagnostics", "total", unit=unit)
+        else:
+            found = self._gate.ask("diagnostics", doc=self.name, line=line, max=most, unit=unit)["diagnostics"]
+        return [((it[0], it[1]), (it[2], it[3]), (it[4], it[5])) for it in found]
 
     def lines(self) -> List[Pair]:
         """All lines, each the code points where it begins and ends, its line end not included."""
         return [tuple(it) for it in self._pages("lines", "count")]
 
-    def _pages(self, op: str, total: str) -> List[List[int]]:
+    def _pages(self, op: str, total: str, **fields: Any) -> List[List[int]]:
         found: List[List[int]] = []
         while True:
-            page = self._gate.ask(op, doc=self.name, max=PAGE, **{"from": len(found)})
+            page = self._gate.ask(op, doc=self.name, max=PAGE, **{"from": len(found)}, **fields)
             found += page[op]
             if len(found) >= page[total]:
                 return found

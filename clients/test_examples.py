@@ -47,10 +47,10 @@ class Examples(unittest.TestCase):
         self.assertEqual(ran.stdout.decode().splitlines(), found)
 
     def test_check_prints_errors_and_writes_nothing(self):
-        path = self.file("a", b"A\xc2B")
+        path = self.file("a", "A\n😀".encode() + b"\xc2B")
         ran = self.run_example("check.py", INDEXES, "utf-8", path)
-        self.assertEqual(ran.stdout.decode(), f"{path}: bytes 1 to 2: c2\n")
-        self.assertEqual(path.read_bytes(), b"A\xc2B")
+        self.assertEqual(ran.stdout.decode(), f"{path}, line 2, character 2: bytes 6 to 7: c2\n")
+        self.assertEqual(path.read_bytes(), "A\n😀".encode() + b"\xc2B")
 
     def test_check_mends_letters_alone_and_keeps_the_mode(self):
         path = self.file("a", b"A\xc2C\xff\xb5")

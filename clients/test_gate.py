@@ -4,6 +4,7 @@ import pathlib
 import socket
 import subprocess
 import unittest
+from unittest import mock
 
 from gate import Document, Fault, Gate, Gone, WINDOW
 
@@ -31,7 +32,13 @@ class Documents(unittest.TestCase):
         document = self.gate.open("d", "utf-8", b"\xff\nA\xe2\x82")
         behind = ((3, 5), (1, 1), (1, 2))
         self.assertEqual(document.diagnostics(), [((0, 1), (0, 0), (0, 1)), behind])
-        self.assertEqual((document.diagnostics(1), document.diagnostics(2), document.diagnostics(most=0)), ([behind], [], []))
+        self.assertEqual((document.diagnostics(1), document.diagnostics(2), document.diagnostics(0, most=0)), ([behind], [], []))
+
+    def test_more_errors_than_a_page(self):
+        document = self.gate.open("d", "utf-8", b"\xff\n" * 5)
+        with mock.patch("gate.PAGE", 2):
+            found = document.diagnostics()
+        self.assertEqual(found, [((2 * line, 2 * line + 1), (line, 0), (line, 1)) for line in range(5)])
 
     def test_only_the_edited_bytes_differ(self):
         content = b"A\x1b$B$\"\x1b(B"

@@ -1,7 +1,7 @@
 #!/usr/bin/env python3
 """Checks an archive for damage, and mends one kind of it: an ASCII letter in which the highest bit is set.
 
-    examples/check.py INDEXES LABEL FILE ..      prints each error, with its bytes
+    examples/check.py INDEXES LABEL FILE ..      prints each error, with its line and character, and its bytes
     examples/check.py --mend INDEXES LABEL FILE ..      and mends single bytes that are errors
 
 A byte is mended only where that leaves one error less, and taken back otherwise. A file that was mended is written
@@ -32,8 +32,9 @@ def main(mends, indexes, label, *files):
     with Gate.start(PROGRAM, "stdio", "--indexes", indexes) as gate:
         for path in map(pathlib.Path, files):
             document = gate.open("file", label, path.read_bytes())
-            for begin, end in document.errors():
-                print(f"{path}: bytes {begin} to {end}: {document.bytes[begin:end].hex(' ')}")
+            for (begin, end), (line, character), _ in document.diagnostics(unit="utf-32"):
+                where = f"{path}, line {line + 1}, character {character + 1}"
+                print(f"{where}: bytes {begin} to {end}: {document.bytes[begin:end].hex(' ')}")
             if mends:
                 mend(document)
             if document.rev:

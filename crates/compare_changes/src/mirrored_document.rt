@@ -53,10 +53,31 @@ fn planned(
     plan_change(alloc, doc, change.range, change.unit, text, &mut visits())
 }
 
-/// Makes a change by its plan.
-fn make(doc: &mut Doc<'_>, plan: &Plan, text: &str, meter: &mut Meter) -> Result<(), DocFault> {
+/// What has to be said of a splice, before it is made, by what it leads to then.
+fn foretold(made: &Result<(), DocFault>) -> Result<bool, DocFault> {
+    match made {
+        Ok(()) => Ok(true),
+        Err(DocFault::NotKept) => Ok(false),
+        Err(fault) => Err(*fault),
+    }
+}
+
+/// Makes a change by its plan, and counts whether it is made exactly where that was said before, for
+/// as many bytes decoded.
+fn make(
+    doc: &mut Doc<'_>,
+    plan: &Plan,
+    text: &str,
+    made: &mut Meter,
+    tally: &mut Tally,
+) -> Result<(), DocFault> {
+    let Plan { at, del, i, j, .. } = *plan;
     let ins = plan.ins.as_slice();
-    doc.splice_kept(plan.at, plan.del, ins, plan.i, plan.j, text, meter)
+    let mut asked = meter();
+    let kept = doc.keeps(at, del, ins, i, j, text, &mut asked);
+    let result = doc.splice_kept(at, del, ins, i, j, text, made);
+    tally.compare(kept == foretold(&result) && asked.decoded() == made.decoded());
+    result
 }
 
 /// What a change leads to.
@@ -65,10 +86,11 @@ fn changed(
     doc: &mut Doc<'_>,
     change: &RangeChange,
     meter: &mut Meter,
+    tally: &mut Tally,
 ) -> Result<Plan, ChangeRefusal> {
     let text = change.string(alloc).ok_or(DocFault::OutOfMemory)?;
     let plan = planned(alloc, doc, change, &text)?;
-    make(doc, &plan, &text, meter)?;
+    make(doc, &plan, &text, meter, tally)?;
     Ok(plan)
 }
 
@@ -106,7 +128,7 @@ impl MirroredDocument<'_> {
     pub fn made(&mut self, alloc: Global, change: &RangeChange, tally: &mut Tally) -> Option<bool> {
         let wanted = self.source.changed(alloc, change);
         let mut meter = meter();
-        let found = changed(alloc, &mut self.doc, change, &mut meter);
+        let found = changed(alloc, &mut self.doc, change, &mut meter, tally);
         let as_wanted = is_as_wanted(&found, &wanted, meter.decoded());
         let refusal = match wanted {
             Ok(after) => {

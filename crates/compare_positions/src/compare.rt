@@ -6,8 +6,8 @@ use enc_names::Setting;
 use oracle::{PlacedText, WalkedText};
 use piece_rope::Doc;
 use position_map::{
-    PosFault, Position, Unit, byte_to_scalar, convert, line, line_count, scalar_to_place,
-    to_offset, to_position,
+    PosFault, Position, Unit, byte_to_scalar, convert, first_error_from, line, line_count,
+    nth_diagnostic, scalar_to_place, to_offset, to_position,
 };
 use rand::rngs::SmallRng;
 use std::alloc::Global;
@@ -15,6 +15,10 @@ use sum_tree::visits;
 
 /// The units.
 const UNITS: [Unit; 3] = [Unit::Utf8, Unit::Utf16, Unit::Utf32];
+
+/// The most nodes that the call for an error with its positions may visit in a document of any
+/// length.
+const MOST_FOR_ERROR: u64 = 180;
 
 /// A document, what it has to answer, and what was compared so far.
 #[derive(Drop)]
@@ -35,10 +39,15 @@ fn none_found(found: bool) -> Option<PosFault> {
 
 impl Comparison<'_> {
     /// Each call at all these numbers, and the number of lines.
-    fn at_all(&mut self, numbers: &[u64]) {
+    fn at_all(&mut self, spots: &Spots) {
         self.line_count();
-        for n in numbers {
+        for n in &spots.numbers {
             self.at(*n);
+        }
+        for n in &spots.errors {
+            for unit in &UNITS {
+                self.error(*n, *unit);
+            }
         }
     }
 
@@ -51,6 +60,7 @@ impl Comparison<'_> {
     /// Each call at a number, taken for a line, a byte, a code point and a unit.
     fn at(&mut self, n: u64) {
         self.line(n);
+        self.errors_before(n);
         self.place(n);
         for unit in &UNITS {
             self.position(n, *unit);
@@ -67,6 +77,25 @@ impl Comparison<'_> {
         let same = found == self.plain.line(n);
         let fault = none_found(found.is_some());
         self.tally.count(same, fault, visits.visited());
+    }
+
+    /// How many errors are in front of the line of this number.
+    fn errors_before(&mut self, n: u64) {
+        let mut visits = visits();
+        let found = first_error_from(self.doc, n, &mut visits);
+        let same = self.plain.are_errors_before(found, n);
+        self.tally.count(same, None, visits.visited());
+    }
+
+    /// The error of this number. Its visits are not among those that all calls are held to.
+    fn error(&mut self, n: u64, unit: Unit) {
+        let mut visits = visits();
+        let found = nth_diagnostic(self.doc, n, unit, &mut visits);
+        let same = found == self.plain.nth_diagnostic(n, unit);
+        let few = visits.visited() <= MOST_FOR_ERROR;
+        let fault = none_found(found.is_some());
+        self.tally.count(same && few, fault, 0);
+        self.tally.pass_error(found);
     }
 
     /// Code points by bytes, and bytes by code points.
@@ -140,6 +169,6 @@ pub fn compare(
         plain: &plain,
         tally,
     };
-    comparison.at_all(&spots.numbers);
+    comparison.at_all(&spots);
     Some(())
 }

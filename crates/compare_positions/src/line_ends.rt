@@ -17,8 +17,9 @@ pub struct LineEnd {
     line_end: &'static [u8],
 }
 
-/// One with a byte a letter, and two with two.
-pub const LINE_ENDS: [LineEnd; 3] = [
+/// One with a byte a letter, two with two, and one whose letters are errors, a third of them without
+/// bytes.
+pub const LINE_ENDS: [LineEnd; 4] = [
     LineEnd {
         given: Encoding::Utf8,
         letter: b"a",
@@ -33,6 +34,11 @@ pub const LINE_ENDS: [LineEnd; 3] = [
         given: Encoding::Utf16Be,
         letter: b"\0a",
         line_end: b"\0\r\0\n",
+    },
+    LineEnd {
+        given: Encoding::Iso2022Jp,
+        letter: b"\x1B$B$\x1BA",
+        line_end: b"\x1B(B\r\n",
     },
 ];
 
@@ -67,6 +73,7 @@ impl LineEnd {
 /// where a call is refused.
 fn one_document(
     alloc: Global,
+    indexes: &Indexes,
     rng: &mut SmallRng,
     case: &LineEnd,
     near: usize,
@@ -75,20 +82,24 @@ fn one_document(
 ) -> Option<()> {
     let middle = (len / 2).checked_div(case.letter.len())?;
     let bytes = case.bytes(alloc, middle.saturating_sub(near), len)?;
-    let indexes = Indexes::new();
     let bom = Bom::Sniff;
-    let doc = Doc::open(alloc, &indexes, case.given, bom, &bytes, &mut meter()).ok()?;
+    let doc = Doc::open(alloc, indexes, case.given, bom, &bytes, &mut meter()).ok()?;
     let setting = Setting::new(case.given, bom);
     compare(alloc, rng, &doc, setting, &bytes, tally)
 }
 
 /// The calls on documents with a line end at each place round the border of two pieces; `None`
 /// where a call is refused.
-pub fn line_ends(alloc: Global, rng: &mut SmallRng, case: &LineEnd) -> Option<CallTally> {
+pub fn line_ends(
+    alloc: Global,
+    indexes: &Indexes,
+    rng: &mut SmallRng,
+    case: &LineEnd,
+) -> Option<CallTally> {
     let mut tally = CallTally::new();
     for more in 0..LENGTHS {
         for near in 0..NEAR {
-            one_document(alloc, rng, case, near, LEAST + more, &mut tally)?;
+            one_document(alloc, indexes, rng, case, near, LEAST + more, &mut tally)?;
         }
     }
     Some(tally)

@@ -1,6 +1,6 @@
 //! The program: documents in ten encodings, spliced at places that look random, and every call for
-//! lines, positions and places compared with a plain walk over their whole text. It ends with
-//! status 1 where anything differs.
+//! lines, positions, places and errors compared with a plain walk over their whole text. It ends
+//! with status 1 where anything differs.
 #![tactic(auto)]
 
 mod compare;
@@ -36,6 +36,8 @@ fn print_tally(rt: &HostRuntime, given: Encoding, tally: Option<CallTally>) -> i
     println!(rt; "    {out_of_range} out of range, {split} inside a character")?;
     let (borders, cut, visited) = (tally.borders, tally.cut, tally.visited);
     println!(rt; "    {borders} borders, {cut} between CR and LF, at most {visited} nodes a call")?;
+    let (errors, empty) = (tally.errors, tally.empty);
+    println!(rt; "    {errors} errors, {empty} without bytes")?;
     if !tally.is_telling() {
         println!(rt; "    not as it should be")?;
     }
@@ -57,7 +59,7 @@ fn compare_all(rt: &HostRuntime) -> io::Result<bool> {
     }
     println!(rt; "A line end at each place round a border:")?;
     for case in &LINE_ENDS {
-        let tally = line_ends(rt.alloc(), &mut rng, case);
+        let tally = line_ends(rt.alloc(), &indexes, &mut rng, case);
         all = print_tally(rt, case.given, tally)? && all;
     }
     println!(rt; "Documents of 16,777,216 bytes:")?;

@@ -18,6 +18,8 @@ const SKIPPED: u64 = 2_500_000;
 pub struct Spots {
     /// The numbers.
     pub numbers: Vec<u64>,
+    /// Numbers of errors at which calls for these are compared.
+    pub errors: Vec<u64>,
     /// How many borders there are.
     pub borders: usize,
     /// How many of them stand between CR and LF.
@@ -44,6 +46,7 @@ impl Spots {
         numbers.push(u64::MAX).ok()?;
         Some(Spots {
             numbers,
+            errors: Vec::new(alloc),
             borders: 0,
             cut: 0,
         })
@@ -55,7 +58,8 @@ impl Spots {
         push_near(&mut self.numbers, before.scalars)?;
         push_near(&mut self.numbers, before.utf16)?;
         push_near(&mut self.numbers, before.utf8)?;
-        push_near(&mut self.numbers, before.marks)
+        push_near(&mut self.numbers, before.marks)?;
+        push_near(&mut self.errors, before.errors)
     }
 
     /// Counts the border between a part with these sums and a text that begins with LF or not.

@@ -1,7 +1,7 @@
 //! What was compared.
 ghost use Rattle.std.specs.Prelude.{◌≡◌, ◌≤◌, ◌+◌, ◌-◌, ◌^◌, true, min, max, slice_index, if◌then◌else◌};
 
-use position_map::PosFault;
+use position_map::{Diagnostic, PosFault};
 
 /// The most nodes that a call may visit in a document of any length.
 const MOST_VISITED: u64 = 72;
@@ -33,6 +33,10 @@ pub struct CallTally {
     pub borders: usize,
     /// Those between CR and LF.
     pub cut: usize,
+    /// Calls that found an error.
+    pub errors: u64,
+    /// Those of an error without bytes.
+    pub empty: u64,
 }
 
 impl CallTally {
@@ -44,6 +48,8 @@ impl CallTally {
             documents: 0,
             borders: 0,
             cut: 0,
+            errors: 0,
+            empty: 0,
         }
     }
 
@@ -69,6 +75,17 @@ impl CallTally {
         self.documents = self.documents.saturating_add(1);
         self.borders = self.borders.saturating_add(borders);
         self.cut = self.cut.saturating_add(cut);
+    }
+
+    /// Counts an error that was found or not, and whether it has bytes.
+    pub fn pass_error(&mut self, found: Option<Diagnostic>) {
+        let Some(Diagnostic { place, .. }) = found else {
+            return;
+        };
+        self.errors = self.errors.saturating_add(1);
+        if place.from == place.to {
+            self.empty = self.empty.saturating_add(1);
+        }
     }
 
     /// Whether every answer was that of the plain computation at few visits, and there was enough

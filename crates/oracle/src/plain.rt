@@ -1,9 +1,9 @@
-//! Lines, positions and places, computed plainly over a whole text.
+//! Lines, positions, places and errors, computed plainly over a whole text.
 
 use crate::ruler::Ruler;
 use crate::text::PlacedText;
 use enc_names::Place;
-use position_map::{PosFault, Position, Unit};
+use position_map::{Diagnostic, PosFault, Position, Range, Unit};
 use std::alloc::Global;
 
 /// Where a line starts and ends, in code points.
@@ -159,5 +159,31 @@ impl WalkedText {
     /// The place of code point `n`.
     pub fn scalar_to_place(&self, n: u64) -> Option<Place> {
         self.text.places.get(n as usize).copied()
+    }
+
+    /// Error `n`, with the position of its code point and the one behind it.
+    pub fn nth_diagnostic(&self, n: u64, unit: Unit) -> Option<Diagnostic> {
+        let scalar = *self.text.errors.get(n as usize)? as u64;
+        let place = self.scalar_to_place(scalar)?;
+        let start = self.to_position(scalar, unit).ok()?;
+        let end = self.to_position(scalar.saturating_add(1), unit).ok()?;
+        let range = Range { start, end };
+        Some(Diagnostic { place, range })
+    }
+
+    /// Whether error `n` is on a line in front of this one, and not past the last error.
+    fn is_error_before(&self, n: usize, line: u64) -> Option<bool> {
+        let scalar = *self.text.errors.get(n)?;
+        Some((*self.line_at.get(scalar)? as u64) < line)
+    }
+
+    /// Whether so many errors are on lines in front of this one, and all others are not.
+    pub fn are_errors_before(&self, count: u64, line: u64) -> bool {
+        let count = count as usize;
+        let last = match count.checked_sub(1) {
+            None => true,
+            Some(last) => self.is_error_before(last, line) == Some(true),
+        };
+        last && self.is_error_before(count, line) != Some(true)
     }
 }

@@ -18,6 +18,8 @@ pub struct PlacedText {
     pub chars: Vec<char>,
     /// The places.
     pub places: Vec<Place>,
+    /// The numbers of the code points that are errors.
+    pub errors: Vec<usize>,
 }
 
 impl PlacedText {
@@ -36,6 +38,7 @@ impl PlacedText {
             bom_len,
             chars: Vec::new(alloc),
             places: Vec::new(alloc),
+            errors: Vec::new(alloc),
         };
         for placed in &items {
             let place = Place {
@@ -55,7 +58,10 @@ impl PlacedText {
                 self.push(first.to_char(), place)?;
                 self.push(second.to_char(), place)
             }
-            Item::Error => self.push(char::REPLACEMENT_CHARACTER, place),
+            Item::Error => {
+                self.errors.push(self.chars.len()).ok()?;
+                self.push(char::REPLACEMENT_CHARACTER, place)
+            }
         }
     }
 

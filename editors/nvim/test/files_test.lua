@@ -114,6 +114,15 @@ it.test('damaged places are diagnostics', true, function()
   it.buffer():show()
   it.same(places(), { { 1, 4, 7, 'byte 6' } }, 'one is mended')
   it.same(vim.b.legacy_damaged, 1)
+  -- A CR ends a line of the program and none of the buffer.
+  it.open('utf-8', '\255\ra\255\r\n\r\255\n\255\r\255')
+  it.same(places(), {
+    { 0, 0, 3, 'byte 0' }, { 0, 5, 8, 'byte 3' }, { 1, 1, 4, 'byte 7' }, { 2, 0, 3, 'byte 9' }, { 2, 4, 7, 'byte 11' },
+  })
+  it.open('utf-8', 'a\r\n\255\r\n')
+  it.keys('i<C-V><CR><Esc>')
+  it.buffer():show()
+  it.same(places(), { { 1, 0, 3, 'byte 4' } }, 'behind a CR that was typed')
   -- Errors at 0 to 5, 5 to 5 and 5 to 6.
   it.open('iso-2022-jp', '\27$B$\27A')
   it.same(it.lines(), { ('\239\191\189'):rep(3) })

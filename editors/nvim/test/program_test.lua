@@ -88,6 +88,36 @@ it.test('a program that ends within an undo', false, function()
   it.same(it.written(path), '\255a\n')
 end)
 
+it.test('an edit is one round trip, and so is what is damaged', false, function()
+  it.open('utf-8', ('a\255\n'):rep(20))
+  local connection, trips = it.buffer().document.connection, 0
+  local ask = connection.ask
+  connection.ask = function(...)
+    trips = trips + 1
+    return ask(...)
+  end
+  it.keys('rb')
+  it.same(trips, 1)
+  it.buffer():show()
+  it.same(trips, 2)
+  connection.ask = nil
+end)
+
+it.test('a change whose plan finds no memory is made anew', false, function()
+  local path = it.open('utf-8', '\255a\n')
+  local connection = it.buffer().document.connection
+  local ask = connection.ask
+  connection.ask = function(self, commands)
+    local replies = ask(self, commands)
+    replies[1] = commands[1].op == 'plan' and { fault = 'OutOfMemory' } or replies[1]
+    return replies
+  end
+  it.same(pcall(it.keys, '$rb'), false)
+  it.same(it.written(path), '\255b\n')
+  it.undo()
+  it.same(it.written(path), '\255a\n')
+end)
+
 it.test('edits go to the program by themselves', false, function()
   it.open('utf-8', 'a\255\n')
   vim.api.nvim_feedkeys('rb', 'nx', false)

@@ -338,10 +338,10 @@ end
 
 ---Shows the damaged places.
 function Buffer:show()
-  local places, total = self.document:damage(self.settings.marks)
+  local damage, total = self.document:damage(self.settings.marks)
   vim.b[self.number].legacy_encoding = self.document.encoding
   vim.b[self.number].legacy_damaged = total
-  diagnostics.set(self.number, places, self.mirror, self.document.encoding, self.refusals)
+  diagnostics.set(self.number, damage, self.mirror, self.document.encoding, self.refusals)
 end
 
 ---Shows them once edits rest, since each costs the program a look.

@@ -4,18 +4,19 @@ local M = {}
 local namespace = vim.api.nvim_create_namespace('legacy')
 local WIDTH = #'\239\191\189'
 
----@param damage legacy.Damage
+---@param from integer
+---@param to integer
 ---@param row integer
 ---@param column integer
 ---@param encoding string
-local function place(damage, row, column, encoding)
+local function place(from, to, row, column, encoding)
   local bytes
-  if damage.to > damage.from + 1 then
-    bytes = ('bytes %d to %d are'):format(damage.from, damage.to - 1)
-  elseif damage.to > damage.from then
-    bytes = ('byte %d is'):format(damage.from)
+  if to > from + 1 then
+    bytes = ('bytes %d to %d are'):format(from, to - 1)
+  elseif to > from then
+    bytes = ('byte %d is'):format(from)
   else
-    bytes = ('between bytes %d and %d is'):format(damage.from - 1, damage.from)
+    bytes = ('between bytes %d and %d is'):format(from - 1, from)
   end
   return {
     lnum = row,
@@ -28,17 +29,18 @@ local function place(damage, row, column, encoding)
   }
 end
 
----@param places legacy.Damage[] in the order of the text
+---@param damage integer[][] in the order of the text
 ---@param mirror legacy.Mirror
 ---@param encoding string
-local function located(places, mirror, encoding)
-  local list, row, start = {}, 0, 0
-  for i, damage in ipairs(places) do
-    while damage.offset > start + #mirror.lines[row + 1] do
-      start = start + #mirror.lines[row + 1] + #mirror.line_end
+local function located(damage, mirror, encoding)
+  local list, row, first = {}, 0, 0
+  for i, it in ipairs(damage) do
+    local from, to, line, character = unpack(it)
+    while line >= first + mirror:line_count(row) do
+      first = first + mirror:line_count(row)
       row = row + 1
     end
-    list[i] = place(damage, row, damage.offset - start, encoding)
+    list[i] = place(from, to, row, mirror:start(row, line - first) + character, encoding)
   end
   return list
 end
@@ -48,12 +50,12 @@ end
 ---@field reason string
 
 ---@param number integer the buffer
----@param places legacy.Damage[]
+---@param damage integer[][]
 ---@param mirror legacy.Mirror
 ---@param encoding string
 ---@param refusals legacy.Refusal[]
-function M.set(number, places, mirror, encoding, refusals)
-  local list = located(places, mirror, encoding)
+function M.set(number, damage, mirror, encoding, refusals)
+  local list = located(damage, mirror, encoding)
   local rows = vim.api.nvim_buf_line_count(number)
   for _, it in ipairs(refusals) do
     list[#list + 1] = {

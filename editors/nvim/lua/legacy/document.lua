@@ -1,6 +1,5 @@
----A document that the program holds, with a copy of its bytes kept here: a change's reply names places alone, and what
----is undone has to be put back as the bytes that were there. The copy also opens the document again where the program
----has ended.
+---A document that the program holds, with a copy of its bytes kept here: it opens the document again where the program
+---has ended, and tells at a write whether an edit went astray.
 local base64 = require('legacy.base64')
 local splicing = require('legacy.splices')
 
@@ -62,6 +61,9 @@ function Document:send(connection)
   self.connection, self.rev, self.encoding = connection, last.rev, last.encoding
 end
 
+local EDITS = { change = true, splice = true }
+
+---Sends commands, the edits among them with the revisions that they have where those in front are accepted.
 ---@private
 ---@param commands table[]
 ---@return table[]
@@ -72,12 +74,13 @@ function Document:ask(commands)
     if refusal then
       error("legacy: the document can't be opened again: " .. refusal.fault, 0)
     end
-    for i, command in ipairs(commands) do
-      command.rev = command.rev and self.rev + i - 1
-    end
   end
+  local rev = self.rev
   for _, command in ipairs(commands) do
     command.doc = self.name
+    if EDITS[command.op] then
+      command.rev, rev = rev, rev + 1
+    end
   end
   return connection:ask(commands)
 end
@@ -112,50 +115,36 @@ function Document:source()
   return table.concat(pages)
 end
 
----Asks for changes of the text, that of the last place first, all in flight with the revisions that they would have.
+---Asks for changes of the text, all in flight, each behind its plan, which has the bytes that go out and come in.
 ---Behind a refusal the revisions are wrong, and the changes there are left undecided.
 ---@param changes table[] each with `range` and `text`, in bytes of UTF-8
 ---@return (legacy.Splice|table)[] the decided ones: what was taken, or the reply that refuses
 function Document:change(changes)
   local commands = {}
-  for i, change in ipairs(changes) do
-    local rev = self.rev + i - 1
-    commands[i] = { op = 'change', rev = rev, unit = 'utf-8', range = change.range, text = change.text }
-  end
-  local decided, accepted, refused = {}, {}, false
-  for i, reply in ipairs(self:ask(commands)) do
-    if refused and reply.fault == 'Stale' then
-      break
+  for _, change in ipairs(changes) do
+    for _, op in ipairs({ 'plan', 'change' }) do
+      commands[#commands + 1] = { op = op, unit = 'utf-8', range = change.range, text = change.text }
     end
-    decided[i] = reply
-    if reply.fault then
-      refused = true
+  end
+  local decided, taken, replies = {}, {}, self:ask(commands)
+  for i = 2, #replies, 2 do
+    local plan, reply = replies[i - 1], replies[i]
+    if reply.fault == 'Stale' and #decided > #taken then
+      break
+    elseif reply.fault then
+      decided[#decided + 1] = reply
+    elseif plan.fault then
+      -- The change was made all the same. The program begins anew, with the bytes from before.
+      self.connection:stop()
+      error('legacy: a change was not planned: ' .. plan.fault, 0)
     else
       self.rev, self.encoding = reply.rev, reply.encoding
-      accepted[#accepted + 1] = reply
+      taken[#taken + 1] = { at = plan.at, gone = base64.decode(plan.old), put = base64.decode(plan.bytes) }
+      decided[#decided + 1] = taken[#taken]
     end
   end
-  self:take(accepted)
+  self.bytes = splicing.made(self.bytes, taken)
   return decided
-end
-
----Brings the copy in step with accepted changes, each of which lies before the ones in front of it in the list, and
----gives each the bytes that went out and came in.
----@private
----@param accepted table[]
-function Document:take(accepted)
-  local commands, moved = {}, 0
-  for i = #accepted, 1, -1 do
-    local reply = accepted[i]
-    commands[#commands + 1] = { op = 'source', at = reply.at + moved, len = reply.ins }
-    moved = moved + reply.ins - reply.del
-  end
-  for i, source in ipairs(#commands > 0 and self:ask(commands) or {}) do
-    local reply = accepted[#accepted + 1 - i]
-    reply.gone = self.bytes:sub(reply.at + 1, reply.at + reply.del)
-    reply.put = base64.decode(source.bytes)
-  end
-  self.bytes = splicing.made(self.bytes, accepted)
 end
 
 ---Replaces bytes by bytes, one splice after another, all in flight.
@@ -168,7 +157,6 @@ function Document:splice(splices)
       local put = splice.put:sub(from + 1, from + self.part)
       commands[#commands + 1] = {
         op = 'splice',
-        rev = self.rev + #commands,
         at = splice.at + from,
         del = from == 0 and #splice.gone or 0,
         bytes = base64.encode(put),
@@ -185,34 +173,12 @@ function Document:splice(splices)
   self.bytes = splicing.made(self.bytes, splices)
 end
 
----A damaged place: its bytes, and where its U+FFFD is in the text, in bytes of UTF-8.
----@class legacy.Damage
----@field from integer
----@field to integer
----@field offset integer
-
 ---@param most integer
----@return legacy.Damage[], integer the first places, and how many there are
+---@return integer[][], integer the first damaged places, and how many there are: of each the first byte and the one
+---behind the last, and line and character, in bytes of UTF-8, where its U+FFFD begins and where it ends
 function Document:damage(most)
-  local page = self:must({ op = 'errors', from = 0, max = math.min(most, 10000) })
-  local commands = {}
-  for i, place in ipairs(page.errors) do
-    commands[i] = { op = 'place', unit = 'byte', value = place[1] }
-  end
-  local found, replies = {}, #commands > 0 and self:ask(commands) or {}
-  for i = #replies, 1, -1 do
-    local from, to = unpack(page.errors[i])
-    local offset = replies[i].utf8
-    if from == to then
-      -- A place of no width is complete at its byte, so `place` names what is behind it: the next such place, or this
-      -- one's end.
-      local behind = found[i + 1]
-      local next_empty = behind and behind.from == from and behind.to == from
-      offset = (next_empty and behind.offset or offset) - 3
-    end
-    found[i] = { from = from, to = to, offset = offset }
-  end
-  return found, page.total
+  local page = self:must({ op = 'diagnostics', from = 0, max = math.min(most, 10000), unit = 'utf-8' })
+  return page.diagnostics, page.total
 end
 
 ---Closes the document, at the latest before the next command.

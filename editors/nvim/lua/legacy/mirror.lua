@@ -61,18 +61,33 @@ function Mirror:inside_line_end(row, column)
   return self.line_end == '\n' and row + 1 < #self.lines and column == #line and line:byte(-1) == 13
 end
 
----The program's line and character of a place: for it a CR ends a line too.
+---How many of the program's lines a row is: for it a CR ends a line too, and one in front of LF the same line.
+function Mirror:line_count(row)
+  local line = self.lines[row + 1]
+  if self.returns == 0 or not line:find('\r', 1, true) then
+    return 1
+  end
+  return 1 + count(line, '\r') - (self:inside_line_end(row, #line) and 1 or 0)
+end
+
+---The column behind so many CRs of a row.
+function Mirror:start(row, returns)
+  local start = 0
+  for _ = 1, returns do
+    start = self.lines[row + 1]:find('\r', start + 1, true)
+  end
+  return start
+end
+
+---The program's line and character of a place.
 ---@private
 function Mirror:position(row, column)
   if self.returns == 0 then
     return { line = row, character = column }
   end
-  local line = row
-  for i = 1, row do
-    local it = self.lines[i]
-    if it:find('\r', 1, true) then
-      line = line + count(it, '\r') - (self.line_end == '\n' and it:byte(-1) == 13 and 1 or 0)
-    end
+  local line = 0
+  for before = 0, row - 1 do
+    line = line + self:line_count(before)
   end
   local head, start = self.lines[row + 1]:sub(1, column), 0
   for behind in head:gmatch('\r()') do
