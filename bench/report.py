@@ -74,23 +74,23 @@ def machine():
 
 
 def table(kind, rows, unit):
-    """What gate takes by size, and its memory; at the greatest size that they were measured with, both peers, and how
-    many times gate's cost the faster one's is."""
+    """What gate takes at the least and the greatest size, and its memory; at the greatest size that both were measured
+    with, the faster peer, and how many times gate's cost its is."""
     sizes = sorted({int(row["bytes"]) for row in rows})
     met = max((int(row["bytes"]) for row in rows if row["ratio"]), default=None)
-    heads = [f"{size // 1024} KiB" for size in sizes]
-    # Name of the column, name of the figure, and the size that it is of.
-    further = []
+    # Name of the column, its figure, and the size that it is of.
+    columns = [(f"{size // 1024} KiB", lambda row: row[f"gate_{unit}"], size) for size in dict.fromkeys((sizes[0], sizes[-1]))]
     if met:
-        further += [("peer", f"peer_{unit}", met), ("typed peer", f"typed_{unit}", met), ("faster peer over gate", "ratio", met)]
+        faster = lambda row: min(row[f"peer_{unit}"], row[f"typed_{unit}"], key=float)
+        columns += [("faster peer", faster, met), ("over gate", lambda row: row["ratio"], met)]
     if unit == "us":
-        further += [("MB", "gate_MB", sizes[-1])] + ([("peer's MB", "peer_MB", met)] if met else [])
-    heads = ["encoding", *heads, *(head for head, _, _ in further)]
-    lines = [f"### {TITLES[kind]}", "", line(heads), line(["---"] + ["---:"] * (len(heads) - 1))]
+        columns += [("MB", lambda row: row["gate_MB"], sizes[-1])]
+        columns += [("peer's MB", lambda row: row["peer_MB"], met)] if met else []
+    heads = ["encoding", *(head for head, _, _ in columns)]
+    lines = [f"### {TITLES[kind]}", "", line(heads), line(["---"] + ["---:"] * len(columns))]
     for encoding in dict.fromkeys(row["encoding"] for row in rows):
         own = {int(row["bytes"]): row for row in rows if row["encoding"] == encoding}
-        figures = [(f"gate_{unit}", size) for size in sizes] + [(name, size) for _, name, size in further]
-        lines.append(line([encoding, *(own[size][name] for name, size in figures)]))
+        lines.append(line([encoding, *(figure(own[size]) for _, figure, size in columns)]))
     return "\n".join(lines)
 
 
