@@ -12,6 +12,17 @@ use std::alloc::Global;
 use std::process::Abort;
 use std::test::Fail;
 
+/// What the piece decodes to from this state. The one call of `Piece::compute` here: to prove a
+/// function with it takes half a minute.
+fn computed(
+    piece: &Piece,
+    decoder: &AnyDecoder<'_>,
+    entry: AnyState,
+    meter: &mut Meter,
+) -> Result<Outcome, OutOfMemory> {
+    piece.compute(decoder, entry, meter)
+}
+
 /// What a piece of the bytes decodes to from this state.
 fn outcome_from(
     alloc: Global,
@@ -20,7 +31,20 @@ fn outcome_from(
     bytes: &[u8],
     meter: &mut Meter,
 ) -> Result<Outcome, OutOfMemory> {
-    Piece::new(alloc, bytes)?.compute(decoder, entry, meter)
+    let piece = Piece::new(alloc, bytes)?;
+    computed(&piece, decoder, entry, meter)
+}
+
+/// What the second of two pieces decodes to.
+fn outcome_of_second(
+    alloc: Global,
+    decoder: &AnyDecoder<'_>,
+    front: &[u8],
+    back: &[u8],
+    meter: &mut Meter,
+) -> Result<Outcome, OutOfMemory> {
+    let first = outcome_from(alloc, decoder, start_of(decoder), front, meter)?;
+    outcome_from(alloc, decoder, first.exit, back, meter)
 }
 
 /// The texts of two pieces and of what the end gives, one behind another.
@@ -84,43 +108,45 @@ fn decodes(
     Ok(decodes_cut(rt, alloc, &decoder, bytes, text)?)
 }
 
+/// Texts of each family, cut short by the end or not, and of each byte order mark.
+const FAMILIES: [(Encoding, &[u8], &str); 16] = [
+    (
+        Encoding::Utf8,
+        b"a\xE2\x82\xACb\xF0\x9F\x98",
+        "a\u{20AC}b\u{FFFD}",
+    ),
+    (Encoding::Windows1252, b"\x80A\xFF", "\u{20AC}A\u{FFFD}"),
+    (Encoding::ShiftJis, b"A\x82\xA0\x81", "A\u{3042}\u{FFFD}"),
+    (
+        Encoding::EucJp,
+        b"A\x8F\xA2\xAF\xA4\xA2",
+        "A\u{2D8}\u{3042}",
+    ),
+    (Encoding::Iso2022Jp, b"A\x1B$B$\"\x1B(BA", "A\u{3042}A"),
+    (Encoding::EucKr, b"A\xB0\xA1\xB0A", "A\u{AC00}\u{FFFD}A"),
+    (
+        Encoding::Big5,
+        b"A\xA4\x40\x88\x62",
+        "A\u{4E00}\u{CA}\u{304}",
+    ),
+    (
+        Encoding::Gb18030,
+        b"A\xB0\xA1\x810\x81A",
+        "A\u{554A}\u{FFFD}0\u{4E04}",
+    ),
+    (Encoding::Gbk, b"A\x81\x40\x80", "A\u{4E02}\u{20AC}"),
+    (Encoding::Utf16Be, b"\0A\x30\x42\xD8", "A\u{3042}\u{FFFD}"),
+    (Encoding::Utf16Le, b"A\0\x3D\xD8\0\xDEB\0", "A\u{1F600}B"),
+    (Encoding::XUserDefined, b"A\x80", "A\u{F780}"),
+    (Encoding::Replacement, b"AB", "\u{FFFD}"),
+    (Encoding::Windows1252, b"\xEF\xBB\xBF\xC2\xA3", "\u{A3}"),
+    (Encoding::ShiftJis, b"\xFF\xFEA\0B\0", "AB"),
+    (Encoding::Utf8, b"\xFE\xFF\0A", "A"),
+];
+
 #[test]
 fn each_family_of_encodings(rt: HostRuntime) -> Result<(), Fail> {
-    let cases: [(Encoding, &[u8], &str); 16] = [
-        (
-            Encoding::Utf8,
-            b"a\xE2\x82\xACb\xF0\x9F\x98",
-            "a\u{20AC}b\u{FFFD}",
-        ),
-        (Encoding::Windows1252, b"\x80A\xFF", "\u{20AC}A\u{FFFD}"),
-        (Encoding::ShiftJis, b"A\x82\xA0\x81", "A\u{3042}\u{FFFD}"),
-        (
-            Encoding::EucJp,
-            b"A\x8F\xA2\xAF\xA4\xA2",
-            "A\u{2D8}\u{3042}",
-        ),
-        (Encoding::Iso2022Jp, b"A\x1B$B$\"\x1B(BA", "A\u{3042}A"),
-        (Encoding::EucKr, b"A\xB0\xA1\xB0A", "A\u{AC00}\u{FFFD}A"),
-        (
-            Encoding::Big5,
-            b"A\xA4\x40\x88\x62",
-            "A\u{4E00}\u{CA}\u{304}",
-        ),
-        (
-            Encoding::Gb18030,
-            b"A\xB0\xA1\x810\x81A",
-            "A\u{554A}\u{FFFD}0\u{4E04}",
-        ),
-        (Encoding::Gbk, b"A\x81\x40\x80", "A\u{4E02}\u{20AC}"),
-        (Encoding::Utf16Be, b"\0A\x30\x42\xD8", "A\u{3042}\u{FFFD}"),
-        (Encoding::Utf16Le, b"A\0\x3D\xD8\0\xDEB\0", "A\u{1F600}B"),
-        (Encoding::XUserDefined, b"A\x80", "A\u{F780}"),
-        (Encoding::Replacement, b"AB", "\u{FFFD}"),
-        (Encoding::Windows1252, b"\xEF\xBB\xBF\xC2\xA3", "\u{A3}"),
-        (Encoding::ShiftJis, b"\xFF\xFEA\0B\0", "AB"),
-        (Encoding::Utf8, b"\xFE\xFF\0A", "A"),
-    ];
-    for (encoding, bytes, text) in cases.iter() {
+    for (encoding, bytes, text) in &FAMILIES {
         decodes(&rt, rt.alloc(), *encoding, bytes, text)?;
     }
     Ok(())
@@ -135,8 +161,14 @@ fn outcome_behind(
 ) -> Result<Outcome, Fail> {
     let indexes = small_indexes(alloc)?;
     let decoder = AnyDecoder::new(&indexes, encoding, Bom::Sniff).ok_or(CodecFault::NoIndex)?;
-    let before = outcome_from(alloc, &decoder, start_of(&decoder), before, &mut meter())?;
-    Ok(outcome_from(alloc, &decoder, before.exit, bytes, &mut meter())?)
+    Ok(outcome_of_second(alloc, &decoder, before, bytes, &mut meter())?)
+}
+
+/// Whether the items are one run, the last of which is this.
+fn is_one_run(outcome: &Outcome, last: Ended) -> bool {
+    outcome.items.runs().len() == 1
+        && outcome.items.last() == Some(last)
+        && outcome.items.get(outcome.sum.scalars).is_none()
 }
 
 /// A piece that is entered behind the first two bytes of itself has one run, whose last item this is.
@@ -149,9 +181,7 @@ fn has_one_run(
 ) -> Result<(), Fail> {
     let (front, _) = bytes.split_at(bytes.len().min(2));
     let piece = outcome_behind(alloc, encoding, front, bytes)?;
-    assert_eq!(rt; piece.items.runs().len(), 1);
-    assert_eq!(rt; piece.items.last(), Some(last));
-    assert_eq!(rt; piece.items.get(piece.sum.scalars), None);
+    assert!(rt; is_one_run(&piece, last), "{encoding:?}");
     Ok(())
 }
 
@@ -235,33 +265,62 @@ fn stretches_of_one_width_are_runs(rt: HostRuntime) -> Result<(), Fail> {
     Ok(())
 }
 
-#[test]
-fn items_of_two_code_points(rt: HostRuntime) -> Result<(), Fail> {
-    let here = outcome_behind(rt.alloc(), Encoding::Big5, b"", b"\x88\x62A")?;
-    let before: [(i64, u64); 4] = [(1, 0), (2, 2), (3, 3), (-1, 0)];
-    for (limit, scalars) in before.iter() {
-        assert_eq!(&rt; here.scalars_before(*limit), *scalars);
-    }
-    let items: [(u64, Option<u64>); 4] = [(0, Some(0)), (1, Some(0)), (2, Some(1)), (3, None)];
-    for (scalar, item) in items.iter() {
-        assert_eq!(&rt; here.item_of(*scalar), *item);
-    }
-    Ok(())
+/// How many code points end before a place, in a pair of bytes that is two of them and a letter.
+fn are_before(here: &Outcome) -> bool {
+    here.scalars_before(1) == 0
+        && here.scalars_before(2) == 2
+        && here.scalars_before(3) == 3
+        && here.scalars_before(-1) == 0
+}
+
+/// The items of their code points.
+fn are_items(here: &Outcome) -> bool {
+    here.item_of(0) == Some(0)
+        && here.item_of(1) == Some(0)
+        && here.item_of(2) == Some(1)
+        && here.item_of(3).is_none()
 }
 
 #[test]
-fn output_state_behind_an_escape(rt: HostRuntime) -> Result<(), Fail> {
-    let here = outcome_behind(rt.alloc(), Encoding::Iso2022Jp, b"", b"\x1B(J\\")?;
+fn items_of_two_code_points(rt: HostRuntime) -> Result<(), Fail> {
+    let here = outcome_behind(rt.alloc(), Encoding::Big5, b"", b"\x88\x62A")?;
+    assert!(&rt; are_before(&here));
+    assert!(&rt; are_items(&here));
+    Ok(())
+}
+
+/// A yen sign behind an escape.
+fn is_yen(here: &Outcome) -> bool {
     let yen = Ended {
         scalars: 1,
         end: 4,
         error: false,
         output: OutputState::Roman,
     };
-    assert_eq!(&rt; here.text.as_str(), "\u{A5}");
-    assert_eq!(&rt; here.items.last(), Some(yen));
-    assert_eq!(&rt; here.exit.output(), OutputState::Roman);
+    here.text.as_str() == "\u{A5}"
+        && here.items.last() == Some(yen)
+        && here.exit.output() == OutputState::Roman
+}
+
+#[test]
+fn output_state_behind_an_escape(rt: HostRuntime) -> Result<(), Fail> {
+    let here = outcome_behind(rt.alloc(), Encoding::Iso2022Jp, b"", b"\x1B(J\\")?;
+    assert!(&rt; is_yen(&here));
     Ok(())
+}
+
+/// An error that the end gives, which has no byte.
+fn is_error_at_the_end(last: &Outcome) -> bool {
+    let error = Ended {
+        scalars: 1,
+        end: 0,
+        error: true,
+        output: OutputState::Ascii,
+    };
+    last.text.as_str() == "\u{FFFD}"
+        && last.items.last() == Some(error)
+        && last.sum.errors == 1
+        && last.sum.bytes == 0
 }
 
 #[test]
@@ -269,20 +328,11 @@ fn utf8_sequence_cut_short_by_the_end(rt: HostRuntime) -> Result<(), Fail> {
     let alloc = rt.alloc();
     let indexes = Indexes::new();
     let decoder = AnyDecoder::new(&indexes, Encoding::Utf8, Bom::Sniff).ok_or(CodecFault::NoIndex)?;
-    let piece = Piece::new(alloc, b"\xF0\x9F\x98")?;
-    let here = piece.compute(&decoder, start_of(&decoder), &mut meter())?;
-    assert_eq!(&rt; here.text.as_str(), "");
+    let start = start_of(&decoder);
+    let here = outcome_from(alloc, &decoder, start, b"\xF0\x9F\x98", &mut meter())?;
+    assert!(&rt; here.text.as_str() == "");
     let last = finish_of(alloc, &decoder, here.exit)?;
-    let error = Ended {
-        scalars: 1,
-        end: 0,
-        error: true,
-        output: OutputState::Ascii,
-    };
-    assert_eq!(&rt; last.text.as_str(), "\u{FFFD}");
-    assert_eq!(&rt; last.items.last(), Some(error));
-    assert_eq!(&rt; last.sum.errors, 1);
-    assert_eq!(&rt; last.sum.bytes, 0);
+    assert!(&rt; is_error_at_the_end(&last));
     Ok(())
 }
 
@@ -292,7 +342,7 @@ fn remember(
     decoder: &AnyDecoder<'_>,
     prefix: Prefix,
 ) -> Result<(), OutOfMemory> {
-    let outcome = piece.compute(decoder, AnyState::Sniffing(prefix), &mut meter())?;
+    let outcome = computed(piece, decoder, AnyState::Sniffing(prefix), &mut meter())?;
     piece.install(AnyState::Sniffing(prefix), outcome);
     Ok(())
 }
