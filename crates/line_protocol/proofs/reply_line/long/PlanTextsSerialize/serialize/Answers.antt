@@ -1,0 +1,51 @@
+use Rattle.std.proofs.lemmas.Result.{IfOk-weaker}
+use Rattle.line_protocol.proofs.reply_line.long.PlanTextsSerialize.serialize.Goals as goal
+
+-- the members one in another, each with the events so far behind its key and behind its value
+pub returns : goal.returns
+returns g c =
+    let written = g.S.Serializer.written in
+    let counted = rw c.as_slice.ensures at c.in_ok-u64-2.ensures in
+    IfOk-weaker c.end_map.result _ _
+    (λ _ ended. (
+      written c.begin_map.new.self,
+      c.in_ok-begin_map.ensures,
+      (
+        written c.key.new.self,
+        written c.u64.new.self,
+        c.in_ok-key.ensures,
+        c.in_ok-u64.ensures,
+        (
+          written c.key-2.new.self,
+          written c.str.new.self,
+          c.in_ok-key-2.ensures,
+          c.in_ok-str.ensures,
+          (
+            written c.key-3.new.self,
+            written c.u64-2.new.self,
+            c.in_ok-key-3.ensures,
+            counted,
+            (
+              written c.key-4.new.self,
+              written c.u64-3.new.self,
+              c.in_ok-key-4.ensures,
+              c.in_ok-u64-3.ensures,
+              (
+                written c.key-5.new.self,
+                written c.bool.new.self,
+                c.in_ok-key-5.ensures,
+                c.in_ok-bool.ensures,
+                (
+                  written c.key-6.new.self,
+                  written c.str-2.new.self,
+                  c.in_ok-key-6.ensures,
+                  c.in_ok-str-2.ensures,
+                  (written c.key-7.new.self, written c.u64-4.new.self, c.in_ok-key-7.ensures, c.in_ok-u64-4.ensures, ended),
+                ),
+              ),
+            ),
+          ),
+        ),
+      ),
+    ))
+    c.end_map.ensures
