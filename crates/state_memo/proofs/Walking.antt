@@ -210,8 +210,8 @@ walked-first {stride} {text} {len} here {kind} {output} one from before capacity
     walked-at stride kind output text from before capacity (0 + len) len closed count end end first.more first.step refl (none len)
     (next-walked here from from [] refl (at-start from) kind output one before before capacity count room closed end first.more first.step end_is (sym (append-nil before))
     (ap (λ (k : ItemKind). items_of_runs closed ++ items_until k first.step end (suc first.more)) (sym kind_is)
-        ∙ ap (λ (l : ℤ). items_of_runs closed ++ items_until first.kind first.step l (suc first.more)) (sym last_is)
-        ∙ items_are)
+    ∙ ap (λ (l : ℤ). items_of_runs closed ++ items_until first.kind first.step l (suc first.more)) (sym last_is)
+    ∙ items_are)
     some few)
   where
     none : (n : ℕ) → n ≡ 0 + n
@@ -228,11 +228,11 @@ module _ {stride : Stride} {text : List ℕ} {at len width : ℕ} (here : IsItem
     walked-on then_more then_step more_is step_is same =
         next-walked here from last held.front held.parts held.place kind output one before (items_of_runs closed ++ items_until kind step last (suc more)) capacity count count closed end then_more then_step end_is held.items
         (ap (λ (n : ℕ). items_of_runs closed ++ items_until kind then_step end (suc n)) (more_is ∙ one_more more)
-            ∙ ap (λ (n : ℕ). items_of_runs closed ++ items_until kind n end (suc (suc more))) step_is
-            ∙ ap (λ (z : ℤ). items_of_runs closed ++ items_until kind width z (suc (suc more))) end_is
-            ∙ ap (λ (is : List Ended). items_of_runs closed ++ is) (until-more kind step width more last same)
-            ∙ sym (append_assoc (items_of_runs closed) (items_until kind step last (suc more)) (item_of_kind kind (last +ℤ pos width) ∷ []))
-            ∙ ap (λ (z : ℤ). (items_of_runs closed ++ items_until kind step last (suc more)) ++ item_of_kind kind z ∷ []) (sym end_is))
+        ∙ ap (λ (n : ℕ). items_of_runs closed ++ items_until kind n end (suc (suc more))) step_is
+        ∙ ap (λ (z : ℤ). items_of_runs closed ++ items_until kind width z (suc (suc more))) end_is
+        ∙ ap (λ (is : List Ended). items_of_runs closed ++ is) (until-more kind step width more last same)
+        ∙ sym (append_assoc (items_of_runs closed) (items_until kind step last (suc more)) (item_of_kind kind (last +ℤ pos width) ∷ []))
+        ∙ ap (λ (z : ℤ). (items_of_runs closed ++ items_until kind step last (suc more)) ++ item_of_kind kind z ∷ []) (sym end_is))
         held.room (omega arith)
       where
         one_more : (n : ℕ) → n + 1 ≡ suc n
@@ -244,7 +244,7 @@ module _ {stride : Stride} {text : List ℕ} {at len width : ℕ} (here : IsItem
     walked-new run then then_count then_capacity run_is then_is count_is capacity_is =
         next-walked here from last held.front held.parts held.place kind output one before (items_of_runs closed ++ items_until kind step last (suc more)) then_capacity then_count count then end 0 step end_is held.items
         (ap (λ (rs : List Run). items_of_runs rs ++ item_of_kind kind end ∷ []) then_is
-            ∙ ap (λ (is : List Ended). is ++ item_of_kind kind end ∷ []) (flat_map-append items_of_run closed (run ∷ []) ∙ ap (λ (is : List Ended). items_of_runs closed ++ is) (append-nil (items_of_run run)) ∙ ap (λ (r : Run). items_of_runs closed ++ items_of_run r) run_is))
+        ∙ ap (λ (is : List Ended). is ++ item_of_kind kind end ∷ []) (flat_map-append items_of_run closed (run ∷ []) ∙ ap (λ (is : List Ended). items_of_runs closed ++ is) (append-nil (items_of_run run)) ∙ ap (λ (r : Run). items_of_runs closed ++ items_of_run r) run_is))
         (omega (arith, held.room, capacity_is)) (omega (arith, count_is))
 
 -- one behind the first
