@@ -31,6 +31,10 @@ TITLES = {
 }
 
 
+# Of what is measured by time, memory is shown for these alone: what the others hold is the document of the edits.
+WITH_MEMORY = ("edits", "bulk")
+
+
 def main():
     words = argparse.ArgumentParser(description=__doc__)
     words.add_argument("figures", nargs="+", help="what run.py printed, by time or by instructions")
@@ -83,7 +87,7 @@ def table(kind, rows, unit):
     if met:
         faster = lambda row: min(row[f"peer_{unit}"], row[f"typed_{unit}"], key=float)
         columns += [("faster peer", faster, met), ("over gate", lambda row: row["ratio"], met)]
-    if unit == "us":
+    if unit == "us" and kind in WITH_MEMORY:
         columns += [("MB", lambda row: row["gate_MB"], sizes[-1])]
         columns += [("peer's MB", lambda row: row["peer_MB"], met)] if met else []
     heads = ["encoding", *(head for head, _, _ in columns)]
