@@ -1,5 +1,5 @@
 -- One turn of a decoder that is made of its handler.
-use Rattle.std.proofs.Common.{◌≡◌, ◌≢◌, ℕ, ◌+◌, ◌*◌, ◌<◌, ◌≤◌, List, [], ◌∷◌, ◌++◌, length, Option, Some, None, refl, sym, ap, ◌∙◌, append_assoc}
+use Rattle.std.proofs.Common.{◌≡◌, ◌≢◌, ℕ, ◌+◌, ◌*◌, ◌<◌, ◌≤◌, List, [], ◌∷◌, ◌++◌, length, Option, Some, None, refl, sym, ap, ◌∙◌, append_assoc, append-nil}
 use Rattle.decoder_core.specs.declared.item.Item.{Item}
 use Rattle.decoder_core.specs.declared.item.Ended.{Ended}
 use Rattle.decoder_core.specs.declared.handler.Answer.{Answer}
@@ -7,6 +7,16 @@ use Rattle.decoder_core.specs.declared.handler.Answer.TheVariants.{Gives, Finish
 use Rattle.decoder_core.specs.Queue.{Table, Fed, Falls, front, behind, turn_at, queue_after, told, run, fed_after, feed}
 use Rattle.decoder_core.specs.Counts.{Counts, cost}
 use Rattle.decoder_core.proofs.Running.{run-turn, feed-nil, feed-turn, fed_items-told, fed_state-on}
+
+-- an item that is put behind the others
+pub pushed : (xs all later new : List Ended) (i : Item) (n left : ℕ) (a : Answer)
+    → new ≡ xs ++ record { item = i; back = n } ∷ [] → n ≡ left → a ≡ Gives i → all ≡ told a left later → new ++ later ≡ xs ++ all
+pushed xs all later new i n left a new_is n_is a_is all_is =
+    rw (new_is, all_is, a_is, n_is) (append_assoc xs (record { item = i; back = left } ∷ []) later)
+
+-- nothing is put where a queue gives nothing
+pub nothing_more : {S : Type 0} (xs : List Ended) (fed : Fed S) (s : S) → fed ≡ record { state = s; items = [] } → xs ≡ xs ++ fed.items
+nothing_more xs fed s none = sym (append-nil xs) ∙ ap (λ (x : Fed _). xs ++ x.items) (sym none)
 
 module _ {S : Type 0} (table : Table S) (f : Falls table) (c : Counts table) where
   -- what a turn that isn't finished does to the queue and to what is to come
@@ -16,6 +26,8 @@ module _ {S : Type 0} (table : Table S) (f : Falls table) (c : Counts table) whe
     pub runs : run table s q ≡ told a (length left) (run table next left)
 
   pub record FedOn (s : S) (q : List ℕ) (next : S) (a : Answer) (left : List ℕ) : Type 0 where
+    pub weight : 8 * length left + f.held next < 8 * length q + f.held s
+    pub room : length left + c.bytes next + cost a ≤ length q + c.bytes s
     pub state : (feed table s q).state ≡ (feed table next left).state
     pub items : (feed table s q).items ≡ told a (length left) (feed table next left).items
 
@@ -36,6 +48,8 @@ module _ {S : Type 0} (table : Table S) (f : Falls table) (c : Counts table) whe
   fed_on-at : (s : S) (b : ℕ) (q : List ℕ) → (table s (Some b)).answer ≢ Finished
       → FedOn s (b ∷ q) (table s (Some b)).state (table s (Some b)).answer (queue_after table s (b ∷ q))
   fed_on-at s b q going = record {
+    weight = f.falls s (b ∷ q) going;
+    room = c.costs s (b ∷ q);
     state = ap (λ (x : Fed S). x.state) (feed-turn table f s b q) ∙ fed_state-on table f (table s (Some b)).answer (length (queue_after table s (b ∷ q))) (table s (Some b)).state (feed table (table s (Some b)).state (queue_after table s (b ∷ q))) going;
     items = ap (λ (x : Fed S). x.items) (feed-turn table f s b q) ∙ fed_items-told table f (table s (Some b)).answer (length (queue_after table s (b ∷ q))) (table s (Some b)).state (feed table (table s (Some b)).state (queue_after table s (b ∷ q)));
   }
@@ -64,11 +78,6 @@ module _ {S : Type 0} (table : Table S) (f : Falls table) (c : Counts table) whe
       run-turn table f s q
       ∙ ap (λ (x : Answer). told x (length (queue_after table s q)) (run table (turn_at table s q).state (queue_after table s q)))
       (ap (λ (x : Option ℕ). (table s x).answer) (sym o_is) ∙ sym a_is ∙ finished)
-
-  pub pushed : (xs all later new : List Ended) (i : Item) (n left : ℕ) (a : Answer)
-      → new ≡ xs ++ record { item = i; back = n } ∷ [] → n ≡ left → a ≡ Gives i → all ≡ told a left later → new ++ later ≡ xs ++ all
-  pushed xs all later new i n left a new_is n_is a_is all_is =
-      rw (new_is, all_is, a_is, n_is) (append_assoc xs (record { item = i; back = left } ∷ []) later)
 
   -- a step that is one turn
   pub one_turn : (s next : S) (back : List ℕ) (b : ℕ) (a : Answer)

@@ -36,6 +36,13 @@ onward-goes now later index next (Ok put) rest e =
     ∙ ap (λ (p : Put _). behind p.bytes (rest p.state)) same
 onward-goes now later index next (Err c) rest e = absurd (cc)
 
+-- a code point takes at least one byte
+pub fewer : (text rest : List ℕ) (c : ℕ) → text ≡ encode_utf8 c ++ rest → length rest + 1 ≤ length text
+fewer text rest c parts =
+    let e : length text ≡ len_utf8 c + length rest = ap length parts ∙ length-append (encode_utf8 c) rest ∙ ap (λ n. n + length rest) (length-encode c) in
+    let w = (len_utf8_bounds c).0 in
+    omega arith
+
 module _ {S : Type 0} (table : Table S) (html : Bool) where
   -- a code point that was put
   pub goes : (now later : List ℕ) (index : ℕ) (s next : S) (c : ℕ) (cs : List ℕ)
@@ -100,6 +107,23 @@ module _ {S : Type 0} (table : Table S) (html : Bool) where
             ∙ ap (behind now) (sym parts.1),
       )
 
+  -- the same, where a code point stands behind the run
+  pub record IsPastRun (index : ℕ) (s : S) (text rest now later others : List ℕ) (c : ℕ) : Type 0 where
+    pub spelt : IsUtf8 others
+    pub within : length rest ≤ length text
+    pub less : length others + 1 ≤ length rest
+    pub whole : behind later (encoded_from table html (index + (length text - length rest)) s (c ∷ chars others)) ≡ behind now (encoded_from table html index s (chars text))
+
+  pub past-run-char : (index : ℕ) (s : S) (text rest now later others : List ℕ) (c : ℕ) → IsUtf8 text → IsRun table s text rest now later → rest ≡ encode_utf8 c ++ others → IsPastRun index s text rest now later others c
+  past-run-char index s text rest now later others c is run parts =
+      let ran = past-run index s text rest now later is run in
+      record {
+        spelt = IsUtf8-past_char rest others c ran.0 parts;
+        within = ran.1;
+        less = fewer rest others c parts;
+        whole = ap (λ (cs : List ℕ). behind later (encoded_from table html (index + (length text - length rest)) s cs)) (sym (chars_past_char rest others c ran.0 parts)) ∙ ran.2;
+      }
+
   -- a text may be cut behind such a run
   pub run-boundary : (s : S) (text : List ℕ) (n : ℕ) → IsUtf8 text → n ≤ length text → All (PutsItself table s) (take n text) → IsCharBoundary text n
   run-boundary s text n is le plain =
@@ -107,13 +131,6 @@ module _ {S : Type 0} (table : Table S) (html : Bool) where
 
 pub chars_of_empty : (text : List ℕ) → length text ≡ 0 → chars text ≡ []
 chars_of_empty text none = ap chars (nil_from_length text none) ∙ chars-nil
-
--- a code point takes at least one byte
-pub fewer : (text rest : List ℕ) (c : ℕ) → text ≡ encode_utf8 c ++ rest → length rest + 1 ≤ length text
-fewer text rest c parts =
-    let e : length text ≡ len_utf8 c + length rest = ap length parts ∙ length-append (encode_utf8 c) rest ∙ ap (λ n. n + length rest) (length-encode c) in
-    let w = (len_utf8_bounds c).0 in
-    omega arith
 
 -- the text behind its first code point
 pub char-boundary : (text rest : List ℕ) (c : ℕ) → IsUtf8 text → text ≡ encode_utf8 c ++ rest → IsCharBoundary text (len_utf8 c)

@@ -1,21 +1,17 @@
-use Rattle.std.proofs.Common.{◌≡◌, ◌≢◌, ◌++◌, suc, List, length, sym, ap, ◌∙◌, arith, length-append, append-nil}
+use Rattle.std.proofs.Common.{◌≡◌, ◌++◌, suc, List, length, sym, ap, ◌∙◌, arith, length-append, append-nil}
 use Rattle.decoder_core.specs.declared.item.Ended.{Ended}
 use Rattle.decoder_core.specs.Queue.{run}
 use Rattle.decoder_core.specs.Counts.{cost}
 use Rattle.decoder_core.specs.Steps.{bytes_of}
 use Rattle.decoder_core.specs.declared.handler.Answer.{Answer}
-use Rattle.decoder_core.specs.declared.handler.Answer.TheVariants.{Finished}
 use Rattle.decoder_core.proofs.Driving.{turned, run_finished, pushed}
 use Rattle.decoder_core.proofs.turns.finish_by.Goals as goal
 
 pub turns-preserved-in-Nothing : goal.turns-preserved-in-Nothing
 turns-preserved-in-Nothing g c =
-    let table = g.H.Handler.table c.args.handler.now in
-    let ends = g.met.H.Handler.ends c.args.handler.now in
-    let counts = g.met.H.Handler.counts c.args.handler.now in
-    let going : c.turn-next.result.answer ≢ Finished = λ e. cc in
-    let turn = turned table ends counts c.turns.reached c.turn-next.result.state (bytes_of c.turns.queue) (bytes_of c.turn-next.result.back) (bytes_of c.split-byte.result.1) (bytes_of c.before-queue.result) c.split-byte.result.0 c.turn-next.result.answer
-    c.split-byte.ensures.front c.split-byte.ensures.behind c.turn-next.ensures.state c.turn-next.ensures.answer c.turn-next.ensures.back c.before-queue.ensures going in
+    let turn = turned (g.H.Handler.table c.args.handler.now) (g.met.H.Handler.ends c.args.handler.now) (g.met.H.Handler.counts c.args.handler.now)
+    c.turns.reached c.turn-next.result.state (bytes_of c.turns.queue) (bytes_of c.turn-next.result.back) (bytes_of c.split-byte.result.1) (bytes_of c.before-queue.result) c.split-byte.result.0 c.turn-next.result.answer
+    c.split-byte.ensures.front c.split-byte.ensures.behind c.turn-next.ensures.state c.turn-next.ensures.answer c.turn-next.ensures.back c.before-queue.ensures (λ e. cc) in
     let items = rw c.in-Nothing.is at turn.runs in
     record {
       weight = omega (arith, turn.weight);
@@ -25,18 +21,16 @@ turns-preserved-in-Nothing g c =
 
 pub turns-preserved : goal.turns-preserved
 turns-preserved g c =
-    let table = g.H.Handler.table c.args.handler.now in
-    let ends = g.met.H.Handler.ends c.args.handler.now in
-    let counts = g.met.H.Handler.counts c.args.handler.now in
-    let going : c.turn-next.result.answer ≢ Finished = λ e. cc in
-    let turn = turned table ends counts c.turns.reached c.turn-next.result.state (bytes_of c.turns.queue) (bytes_of c.turn-next.result.back) (bytes_of c.split-byte.result.1) (bytes_of c.before-queue-in-Gives.result) c.split-byte.result.0 c.turn-next.result.answer
-    c.split-byte.ensures.front c.split-byte.ensures.behind c.turn-next.ensures.state c.turn-next.ensures.answer c.turn-next.ensures.back c.before-queue-in-Gives.ensures going in
+    let turn = turned (g.H.Handler.table c.args.handler.now) (g.met.H.Handler.ends c.args.handler.now) (g.met.H.Handler.counts c.args.handler.now)
+    c.turns.reached c.turn-next.result.state (bytes_of c.turns.queue) (bytes_of c.turn-next.result.back) (bytes_of c.split-byte.result.1) (bytes_of c.before-queue-in-Gives.result) c.split-byte.result.0 c.turn-next.result.answer
+    c.split-byte.ensures.front c.split-byte.ensures.behind c.turn-next.ensures.state c.turn-next.ensures.answer c.turn-next.ensures.back c.before-queue-in-Gives.ensures (λ e. cc) in
     let paid : cost c.turn-next.result.answer ≡ 1 = ap (λ (a : Answer). cost a) c.in-Gives.is in
     let longer : length c.push.new.self ≡ suc (length c.turns.items) = rw c.push.ensures (rw length-append (omega arith)) in
     record {
       weight = omega (arith, turn.weight);
       room = omega (arith, turn.room, paid, longer);
-      items = pushed table ends counts c.turns.items (run table c.turns.reached (bytes_of c.turns.queue)) (run table c.turn-next.result.state (bytes_of c.before-queue-in-Gives.result)) c.push.new.self c.in-Gives.item c.count.result (length (bytes_of c.before-queue-in-Gives.result)) c.turn-next.result.answer
+      items = pushed c.turns.items (run (g.H.Handler.table c.args.handler.now) c.turns.reached (bytes_of c.turns.queue)) (run (g.H.Handler.table c.args.handler.now) c.turn-next.result.state (bytes_of c.before-queue-in-Gives.result))
+          c.push.new.self c.in-Gives.item c.count.result (length (bytes_of c.before-queue-in-Gives.result)) c.turn-next.result.answer
           c.push.ensures c.count.ensures c.in-Gives.is turn.runs ∙ c.turns.invariant.items;
     }
 
