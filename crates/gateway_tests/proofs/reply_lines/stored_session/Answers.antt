@@ -6,7 +6,7 @@ use Rattle.gateway_tests.proofs.reply_lines.stored_session.Goals as goal
 pub returns : goal.returns
 unfolding digits escape_byte
 returns c = record {
-  open = refl;
+  «open» = refl;
   replaced = refl;
   errors = refl;
   splice = refl;
