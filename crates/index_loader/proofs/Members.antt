@@ -1,8 +1,10 @@
 -- What a filtered or mapped list has, and the least and the greatest of the numbers that a list has.
-use Rattle.std.proofs.Common.{◌≡◌, ℕ, zero, suc, ◌≤◌, ◌<◌, Bool, true, false, cond, List, [], ◌∷◌, length, get_or, map, filter, Option, Some, None, min, max, refl, sym, ◌∙◌, ap, subst, arith, ◌⊎◌, inl, inr, ⊎_elim, Contains}
-use Rattle.std.proofs.lemmas.Bool.{cases_lt}
+use Rattle.std.proofs.Common.{◌≡◌, ℕ, zero, suc, ◌+◌, ◌-◌, ◌≤◌, ◌<◌, nat_le, leb, Bool, true, false, cond, List, [], ◌∷◌, length, get_or, map, filter, Option, Some, None, min, max, refl, sym, ◌∙◌, ap, subst, arith, ◌⊎◌, inl, inr, ⊎_elim, All, Contains}
+use Rattle.std.proofs.lemmas.Bool.{cases_lt, le-leb, leb-true, leb-false}
+use Rattle.std.proofs.lemmas.List.{get_or_default}
+use Rattle.std.proofs.lemmas.List.Elements.{All-contains}
 use Rattle.std.proofs.lemmas.List.Sorted.{Contains-permutation}
-use Rattle.std.specs.List.Sorted.{IsPermutation}
+use Rattle.std.specs.List.Sorted.{IsNonDecreasingBy, IsPartitionPoint, IsPermutation}
 use Rattle.index_loader.specs.Pairs.{least, lesser, greatest, greater}
 
 -- x is an element
@@ -28,6 +30,13 @@ has-contains xs x c = rw (← c.2) (has-get_or xs c.0 x c.1)
 pub contains-has : {X : Type 0} (xs : List X) (x : X) → Has x xs → Contains xs x
 contains-has xs x h = let p = place-has xs x h in (p.0, p.1, p.2 x)
 
+-- what holds of each element
+pub all-has : {X : Type 0} (P : X → Type 0) (xs : List X) (x : X) → All P xs → Has x xs → P x
+all-has P xs x all h = All-contains P xs x all (contains-has xs x h)
+
+pub all-from : {X : Type 0} (P : X → Type 0) (xs : List X) → ((x : X) → Has x xs → P x) → All P xs
+all-from P xs each = λ k d lt. each (get_or xs k d) (has-get_or xs k d lt)
+
 -- an element that passes is kept
 pub has-filter : {X : Type 0} (test : X → Bool) (xs : List X) (x : X) → Has x xs → test x ≡ true → Has x (filter test xs)
 has-filter test [] x h passes = h
@@ -36,15 +45,10 @@ has-filter test (y ∷ ys) x (inr h) passes =
     elim (test y) as (λ t. Has x (cond t (y ∷ filter test ys) (filter test ys)))
     [ true ↦ inr (has-filter test ys x h passes) | false ↦ has-filter test ys x h passes ]
 
-from-filter-cons : {X : Type 0} (test : X → Bool) (y : X) (ys : List X) (x : X) (t : Bool) → (Has x (filter test ys) → Has x ys × (test x ≡ true)) → test y ≡ t → Has x (cond t (y ∷ filter test ys) (filter test ys)) → Has x (y ∷ ys) × (test x ≡ true)
-from-filter-cons test y ys x true behind e (inl same) = (inl same, ap test (sym same) ∙ e)
-from-filter-cons test y ys x true behind e (inr h) = let r = behind h in (inr r.0, r.1)
-from-filter-cons test y ys x false behind e h = let r = behind h in (inr r.0, r.1)
-
 -- what is kept is an element that passes
 pub from-filter : {X : Type 0} (test : X → Bool) (xs : List X) (x : X) → Has x (filter test xs) → Has x xs × (test x ≡ true)
 from-filter test [] x h = absurd h
-from-filter test (y ∷ ys) x h = from-filter-cons test y ys x (test y) (from-filter test ys x) refl h
+from-filter test (y ∷ ys) x h = grind (arith, from-filter test ys x)
 
 pub has-map : {X Y : Type 0} (f : X → Y) (xs : List X) (x : X) → Has x xs → Has (f x) (map f xs)
 has-map f [] x h = absurd h
@@ -69,36 +73,26 @@ abbrev pub IsGreatest : List ℕ → Option ℕ → Type 0
 IsGreatest ns o = IsFirst (λ m n. n ≤ m) ns o
 
 least-cons : (n : ℕ) (ns : List ℕ) (o : Option ℕ) → IsLeast ns o → IsLeast (n ∷ ns) (Some (lesser n o))
-least-cons n ns None none = (inl refl, λ k h. ⊎_elim (λ (e : n ≡ k). omega arith) (λ (h : Has k ns). absurd (none k h)) h)
-least-cons n ns (Some m) (there, below) =
-    ⊎_elim
-    (λ (lt : n < m).
-    subst (λ (k : ℕ). IsLeast (n ∷ ns) (Some k)) (let e : n ≡ min n m = omega arith in e)
-    (inl refl, λ k h. ⊎_elim (λ (e : n ≡ k). omega arith) (λ (h : Has k ns). let b = below k h in omega arith) h))
-    (λ (le : m ≤ n).
-    subst (λ (k : ℕ). IsLeast (n ∷ ns) (Some k)) (let e : m ≡ min n m = omega arith in e)
-    (inr there, λ k h. ⊎_elim (λ (e : n ≡ k). omega arith) (λ (h : Has k ns). below k h) h))
-    (cases_lt n m)
+least-cons n ns None is = grind arith
+least-cons n ns (Some m) is = grind arith
 
 pub is-least : (ns : List ℕ) → IsLeast ns (least ns)
 is-least [] = λ n h. h
 is-least (n ∷ ns) = least-cons n ns (least ns) (is-least ns)
 
+pub of-least : (ns : List ℕ) (o : Option ℕ) → o ≡ least ns → IsLeast ns o
+of-least ns o is = rw is (is-least ns)
+
 greatest-cons : (n : ℕ) (ns : List ℕ) (o : Option ℕ) → IsGreatest ns o → IsGreatest (n ∷ ns) (Some (greater n o))
-greatest-cons n ns None none = (inl refl, λ k h. ⊎_elim (λ (e : n ≡ k). omega arith) (λ (h : Has k ns). absurd (none k h)) h)
-greatest-cons n ns (Some m) (there, above) =
-    ⊎_elim
-    (λ (lt : n < m).
-    subst (λ (k : ℕ). IsGreatest (n ∷ ns) (Some k)) (let e : m ≡ max n m = omega arith in e)
-    (inr there, λ k h. ⊎_elim (λ (e : n ≡ k). omega arith) (λ (h : Has k ns). above k h) h))
-    (λ (le : m ≤ n).
-    subst (λ (k : ℕ). IsGreatest (n ∷ ns) (Some k)) (let e : n ≡ max n m = omega arith in e)
-    (inl refl, λ k h. ⊎_elim (λ (e : n ≡ k). omega arith) (λ (h : Has k ns). let b = above k h in omega arith) h))
-    (cases_lt n m)
+greatest-cons n ns None is = grind arith
+greatest-cons n ns (Some m) is = grind arith
 
 pub is-greatest : (ns : List ℕ) → IsGreatest ns (greatest ns)
 is-greatest [] = λ n h. h
 is-greatest (n ∷ ns) = greatest-cons n ns (greatest ns) (is-greatest ns)
+
+pub of-greatest : (ns : List ℕ) (o : Option ℕ) → o ≡ greatest ns → IsGreatest ns o
+of-greatest ns o is = rw is (is-greatest ns)
 
 -- there is one
 same-first : (order : ℕ → ℕ → Type 0) (ns : List ℕ) → ((m n : ℕ) → order m n → order n m → m ≡ n) → (o p : Option ℕ) → IsFirst order ns o → IsFirst order ns p → o ≡ p
@@ -138,3 +132,29 @@ within-map f xs ys to n h = let r = from-map f xs n h in rw (← r.2) (has-map f
 -- a list in another order
 pub within-permutation : {X : Type 0} (xs ys : List X) → IsPermutation xs ys → Within xs ys
 within-permutation xs ys moved x h = has-contains ys x (Contains-permutation xs ys x moved (contains-has xs x h))
+
+-- the greatest key up to a bound, where there is none and where an element has it
+pub key-none : {X : Type 0} (key : X → ℕ) (xs : List X) (bound : ℕ) → ((x : X) → Has x xs → bound < key x) → None ≡ greatest (filter (λ n. nat_le n bound) (map key xs))
+key-none key xs bound above =
+    greatest-is _ None (λ n h.
+    let f = from-filter (λ n. nat_le n bound) (map key xs) n h in let m = from-map key xs n f.0 in
+    let low = leb-true n bound f.1 in let same = m.2 in let high = above m.0 m.1 in omega arith)
+
+pub key-some : {X : Type 0} (key : X → ℕ) (xs : List X) (bound : ℕ) (last : X) → Has last xs → key last ≤ bound → ((x : X) → Has x xs → key x ≤ bound → key x ≤ key last) → Some (key last) ≡ greatest (filter (λ n. nat_le n bound) (map key xs))
+key-some key xs bound last there within greatest =
+    greatest-is _ (Some (key last)) (has-filter (λ n. nat_le n bound) (map key xs) (key last) (has-map key xs last there) (le-leb (key last) bound within), λ n h.
+    let f = from-filter (λ n. nat_le n bound) (map key xs) n h in let m = from-map key xs n f.0 in
+    let low = leb-true n bound f.1 in let same = m.2 in let up = greatest m.0 m.1 (omega arith) in omega arith)
+
+-- the last of the elements up to a bound by a key, where an order doesn't fall
+pub last-up_to : {X : Type 0} (key rank : X → ℕ) (xs : List X) (bound at : ℕ) → IsNonDecreasingBy rank xs → IsPartitionPoint (λ y. leb (key y) bound ≡ true) (λ y. leb (key y) bound ≡ false) xs at → 0 < at → at ≤ length xs → (x : X) → get_or xs (at - 1) x ≡ x
+    → Contains xs x × (key x ≤ bound) × All (λ other. key other ≤ bound → rank other ≤ rank x) xs
+last-up_to key rank xs bound at rising parts positive within x is = (
+  (at - 1, omega arith, is),
+  let low = parts.0 (at - 1) x (omega arith) (omega arith) in leb-true (key x) bound (rw is at low),
+  λ k d lt le.
+      ⊎_elim
+      (λ (before : k < at). rw is at (rw (get_or_default xs (at - 1) d x (omega arith)) at (rising k (at - 1) d (omega arith) (omega arith))))
+      (λ (behind : at ≤ k). let high = leb-false _ _ (parts.1 k d behind lt) in absurd (omega arith))
+      (cases_lt k at),
+)
