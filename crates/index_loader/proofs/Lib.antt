@@ -16,4 +16,3 @@ pub mod PlainLemmas
 pub mod RowLemmas
 pub mod SlotLemmas
 pub mod Split
-pub mod TableLemmas
