@@ -4,7 +4,6 @@ pub mod Digits
 pub mod ExceptionLemmas
 pub mod Exclusion
 pub mod FormLemmas
-pub mod Found
 pub mod FileLawLemmas
 pub mod IndexLemmas
 pub mod KindPlaces

@@ -1,4 +1,4 @@
-use Rattle.index_loader.proofs.Found.{place-of_byte}
+use Rattle.index_loader.proofs.Split.{place-of_byte}
 use Rattle.index_loader.proofs.line.place_of.Goals as goal
 
 pub returns : goal.returns
