@@ -9,10 +9,6 @@ use Rattle.std.specs.Char.{digit_value, is_digit}
 use Rattle.std.specs.List.{list_all, range_with_len}
 use Rattle.std.specs.Str.Parse.{digits_value}
 
--- a product with a factor of at least 1 is above the limit where the other factor is
-above_limit : (n base limit : ℕ) → 1 ≤ base → limit ≤ n → limit ≤ n * base
-above_limit n base limit one above = let e : limit * 1 ≤ n * base = mul-le-mul above one in omega arith
-
 -- one more digit behind a number that was capped
 capped-digit : (n base digit limit : ℕ) → 1 ≤ base → min (min (min n limit * base) limit + digit) limit ≡ min (n * base + digit) limit
 capped-digit n base digit limit one =
@@ -20,8 +16,8 @@ capped-digit n base digit limit one =
     (λ (below : n < limit). let e : min n limit ≡ n = omega arith in rw e (omega arith))
     (λ (above : limit ≤ n).
     let e : min n limit ≡ limit = omega arith in
-    let f : limit ≤ limit * base = above_limit limit base limit one (omega arith) in
-    let g : limit ≤ n * base = above_limit n base limit one above in rw e (omega arith))
+    let f : limit * 1 ≤ limit * base = mul-le-mul (omega arith) one in
+    let g : limit * 1 ≤ n * base = mul-le-mul above one in rw e (omega arith))
     (cases_lt n limit)
 
 -- one more byte that is a digit

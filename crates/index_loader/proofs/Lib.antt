@@ -6,7 +6,6 @@ pub mod Exclusion
 pub mod FormLemmas
 pub mod FileLawLemmas
 pub mod IndexLemmas
-pub mod KindPlaces
 pub mod LineLemmas
 pub mod Members
 pub mod NumberedLemmas

@@ -1,63 +1,59 @@
 -- Indexes at the places of their kinds.
-use Rattle.std.proofs.Common.{◌≡◌, ◌≢◌, ℕ, zero, suc, ◌<◌, ◌≤◌, List, length, get_or, set, replicate, Bor, Option, Some, None, MatchOption, option_copied, refl, sym, ◌∙◌, ap, ⊎_elim}
-use Rattle.std.proofs.lemmas.Bool.{cases_eq, cases_lt}
-use Rattle.std.proofs.lemmas.List.{get_or-map, get_or-set_same, get_or-set_other, get_or_past, length-map, map-set, set_past}
+use Rattle.std.proofs.Common.{◌≡◌, ℕ, zero, suc, true, [], ◌∷◌, List, get_or, set, replicate, Bor, Option, Some, None, MatchOption, option_copied, refl, sym, ◌∙◌, ap, ◌⊎◌, inl, inr, ⊎_elim, arith}
+use Rattle.std.proofs.Math.ListN.{get_or-map}
+use Rattle.std.proofs.lemmas.List.Quantifiers.{position-Some}
 use Rattle.std.specs.Option.{option_map}
+use denote.Enum.Bare.{same_true}
+use Rattle.enc_names.specs.contracts.encoding.Encoding.{the_type}
 use Rattle.index_loader.specs.declared.kind.IndexKind.{IndexKind}
+use Rattle.index_loader.specs.declared.kind.IndexKind.TheVariants.{SingleByte, Jis0208, Jis0212, Big5, EucKr, Gb18030, Gb18030Ranges, Katakana}
 use Rattle.index_loader.specs.Exceptions.{ExceptionTable}
 use Rattle.index_loader.specs.Files.{index_of}
 use Rattle.index_loader.specs.Index.{Loaded}
-use Rattle.index_loader.specs.Kinds.{home_of, slot_of}
+use Rattle.index_loader.specs.Kinds.{home_of, kinds, same_kind, slot_of}
 use Rattle.index_loader.specs.Slots.{AreInTheirSlots, kind_at, pairs_kept}
-use Rattle.index_loader.proofs.KindPlaces.{kind-at}
 
--- the pairs at a place
-pairs-at : (slots : List (Option Loaded)) (k : ℕ) → get_or (pairs_kept slots) k None ≡ option_map (λ index. index.pairs) (get_or slots k None)
-pairs-at slots k =
-    ⊎_elim
-    (λ (within : k < length slots). get_or-map (λ slot. option_map (λ index. index.pairs) slot) slots k None None within)
-    (λ (past : length slots ≤ k).
-    rw (get_or_past slots k None past) (get_or_past (pairs_kept slots) k None (rw (length-map slots (λ slot. option_map (λ index. index.pairs) slot)) past)))
-    (cases_lt k (length slots))
+one_kind : (a b : IndexKind) → same_kind a b ≡ true → a ≡ b
+one_kind (SingleByte a) (SingleByte b) same = ap SingleByte (same_true the_type tt a b same)
+one_kind Jis0208 Jis0208 same = refl
+one_kind Jis0212 Jis0212 same = refl
+one_kind Big5 Big5 same = refl
+one_kind EucKr EucKr same = refl
+one_kind Gb18030 Gb18030 same = refl
+one_kind Gb18030Ranges Gb18030Ranges same = refl
+one_kind Katakana Katakana same = refl
+one_kind a b same = absurd (cc)
 
-kept-put_within : (slots : List (Option Loaded)) (index : Loaded) (slot : ℕ) → AreInTheirSlots slots → kind_at slot ≡ index.kind → slot < length slots → AreInTheirSlots (set slots slot (Some index))
-kept-put_within slots index slot kept home within k other is =
-    ⊎_elim
-    (λ (same : k ≡ slot).
-    let there : Some index ≡ Some other = sym (get_or-set_same slots slot (Some index) None within) ∙ ap (λ n. get_or (set slots slot (Some index)) n None) (sym same) ∙ is in
-    let that : index ≡ other = cc in
-    rw (← that, same) (sym home))
-    (λ (apart : k ≢ slot). kept k other (sym (get_or-set_other slots slot k (Some index) None apart) ∙ is))
-    (cases_eq k slot)
+-- each kind stands at its place among the kinds
+kind-at : (kind : IndexKind) (slot : ℕ) → slot_of kind ≡ Some slot → kind_at slot ≡ home_of kind
+unfolding slot_of kind_at
+kind-at kind slot place = sym (one_kind (home_of kind) (kind_at slot) (position-Some (same_kind (home_of kind)) kinds slot Jis0208 place).1)
+
+-- what is at a place after another was put somewhere
+at-put : (slots : List (Option Loaded)) (slot k : ℕ) (new : Option Loaded) (other : Loaded) → get_or (set slots slot new) k None ≡ Some other → ((k ≡ slot) × (new ≡ Some other)) ⊎ (get_or slots k None ≡ Some other)
+at-put [] slot k new other is = inr is
+at-put (first ∷ slots) zero zero new other is = inl (refl, is)
+at-put (first ∷ slots) zero (suc k) new other is = inr is
+at-put (first ∷ slots) (suc slot) zero new other is = inr is
+at-put (first ∷ slots) (suc slot) (suc k) new other is = grind (arith, at-put slots slot k new other is)
 
 -- an index put at the place of its kind
 pub kept-put : (slots : List (Option Loaded)) (index : Loaded) (slot : ℕ) → AreInTheirSlots slots → home_of index.kind ≡ index.kind → slot_of index.kind ≡ Some slot → AreInTheirSlots (set slots slot (Some index))
-kept-put slots index slot kept home place =
-    let home : kind_at slot ≡ index.kind = kind-at index.kind slot place ∙ home in
+kept-put slots index slot kept home place k other is =
     ⊎_elim
-    (λ (within : slot < length slots). kept-put_within slots index slot kept home within)
-    (λ (past : length slots ≤ slot). rw (set_past slots slot (Some index) past) kept)
-    (cases_lt slot (length slots))
-
-pub pairs-put : (slots : List (Option Loaded)) (slot : ℕ) (index : Loaded) → pairs_kept (set slots slot (Some index)) ≡ set (pairs_kept slots) slot (Some index.pairs)
-pairs-put slots slot index = map-set (λ slot. option_map (λ index. index.pairs) slot) slots slot (Some index)
-
--- the index at the place of a kind
-index-there : (exceptions : ExceptionTable) (slots : List (Option Loaded)) (kind : IndexKind) (slot : ℕ) (index : Loaded) → AreInTheirSlots slots → slot_of kind ≡ Some slot → get_or slots slot None ≡ Some index → index_of (record { slots = pairs_kept slots; exceptions = exceptions }) kind ≡ Some index
-index-there exceptions slots kind slot index kept place is =
-    let home : index.kind ≡ home_of kind = kept slot index is ∙ kind-at kind slot place in
-    let pairs : get_or (pairs_kept slots) slot None ≡ Some index.pairs = pairs-at slots slot ∙ ap (λ o. option_map (λ index. index.pairs) o) is in
-    rw (place, pairs, ← home) refl
-
-index-absent : (exceptions : ExceptionTable) (slots : List (Option Loaded)) (kind : IndexKind) (slot : ℕ) → slot_of kind ≡ Some slot → get_or slots slot None ≡ None → index_of (record { slots = pairs_kept slots; exceptions = exceptions }) kind ≡ None
-index-absent exceptions slots kind slot place is =
-    let pairs : get_or (pairs_kept slots) slot None ≡ None = pairs-at slots slot ∙ ap (λ o. option_map (λ index. index.pairs) o) is in
-    rw (place, pairs) refl
+    (λ (put : (k ≡ slot) × (Some index ≡ Some other)). let that : index ≡ other = cc in rw (← that, put.0) (sym (kind-at index.kind slot place ∙ home)))
+    (λ (old : get_or slots k None ≡ Some other). kept k other old)
+    (at-put slots slot k (Some index) other is)
 
 -- what a look at a place finds
 pub index-at : (exceptions : ExceptionTable) (slots : List (Option Loaded)) (kind : IndexKind) (slot : ℕ) (found : Option (Bor Loaded)) → AreInTheirSlots slots → slot_of kind ≡ Some slot → option_copied found ≡ get_or slots slot None → MatchOption found (index_of (record { slots = pairs_kept slots; exceptions = exceptions }) kind ≡ None) (λ index. index_of (record { slots = pairs_kept slots; exceptions = exceptions }) kind ≡ Some index.now)
-index-at exceptions slots kind slot None kept place is = index-absent exceptions slots kind slot place (sym is)
-index-at exceptions slots kind slot (Some index) kept place is = index-there exceptions slots kind slot index.now kept place (sym is)
+index-at exceptions slots kind slot None kept place is =
+    let pairs : get_or (pairs_kept slots) slot None ≡ None = get_or-map (option_map (λ index. index.pairs)) slots slot None ∙ ap (option_map (λ index. index.pairs)) (sym is) in
+    rw (place, pairs) refl
+index-at exceptions slots kind slot (Some index) kept place is =
+    let home : index.now.kind ≡ home_of kind = kept slot index.now (sym is) ∙ kind-at kind slot place in
+    let pairs : get_or (pairs_kept slots) slot None ≡ Some index.now.pairs = get_or-map (option_map (λ index. index.pairs)) slots slot None ∙ ap (option_map (λ index. index.pairs)) (sym is) in
+    rw (place, pairs, ← home) refl
 
 -- an empty place
 pub none-at : (n k : ℕ) → get_or {A = Option Loaded} (replicate n None) k None ≡ None

@@ -1,5 +1,7 @@
 use Rattle.std.proofs.Common.{◌≡◌, ◌∙◌, Some, [], ap, sym, unwrap_or}
-use Rattle.index_loader.proofs.SlotLemmas.{kept-put, pairs-put}
+use Rattle.std.proofs.lemmas.List.{map-set}
+use Rattle.std.specs.Option.{option_map}
+use Rattle.index_loader.proofs.SlotLemmas.{kept-put}
 use Rattle.index_loader.specs.Files.{Files}
 use Rattle.index_loader.specs.Kinds.{home_of, slot_of}
 use Rattle.index_loader.proofs.indexes.Indexes.put.Goals as goal
@@ -13,4 +15,4 @@ invariant_of-self c =
 pub returns : goal.returns
 returns c =
     let place : slot_of c.args.index.kind ≡ Some c.in-Some.slot = sym (c.in-Some.ensures.value ∙ ap slot_of c.kind.ensures.value) in
-    rw (← c.self.view_is, place) (ap (λ pairs. let files : Files = record { slots = pairs; exceptions = unwrap_or c.self.inside.exceptions [] } in files) (pairs-put c.self.inside.slots c.in-Some.slot c.args.index))
+    rw (← c.self.view_is, place) (ap (λ pairs. let files : Files = record { slots = pairs; exceptions = unwrap_or c.self.inside.exceptions [] } in files) (map-set (option_map (λ index. index.pairs)) c.self.inside.slots c.in-Some.slot (Some c.args.index)))
