@@ -1,5 +1,5 @@
 -- The lines of a file of exceptions in the form that most have.
-use Rattle.std.proofs.Common.{◌≡◌, ℕ, ◌==◌, Bool, true, false, List, ◌∷◌, length, take, Option, Some, None, Ok, if◌then◌else◌, option_and_then, IfSome, arith, refl, sym}
+use Rattle.std.proofs.Common.{◌≡◌, ℕ, ◌==◌, Bool, true, false, List, ◌∷◌, length, Option, Some, None, Ok, if◌then◌else◌, option_and_then, IfSome, arith, refl, sym}
 use Rattle.std.proofs.lemmas.Option.{option_and_then_some}
 use Rattle.std.specs.Char.{is_digit}
 use Rattle.std.specs.List.{list_all}

@@ -1,5 +1,5 @@
 -- The laws of a reading, from its definition.
-use Rattle.std.proofs.Common.{◌≡◌, ℕ, zero, suc, ◌+◌, ◌<◌, ◌≤◌, Bool, true, false, List, [], ◌∷◌, length, drop, get_or, Option, Some, None, is_some, Result, Ok, Err, if◌then◌else◌, option_and_then, refl, sym, subst, ◌∙◌, ap, arith, ◌⊎◌, inl, inr, ⊎_elim, below_more, All, nat_eq, nat_lt, IfErr, IfOk, not, ◌&&◌}
+use Rattle.std.proofs.Common.{◌≡◌, ℕ, zero, suc, ◌+◌, ◌<◌, ◌≤◌, Bool, true, false, List, [], ◌∷◌, length, drop, get_or, Option, Some, None, is_some, Result, Ok, Err, if◌then◌else◌, option_and_then, refl, sym, subst, ◌∙◌, ap, arith, ◌⊎◌, inl, inr, ⊎_elim, below_more, nat_eq, IfErr, IfOk, not, ◌&&◌}
 use Rattle.std.proofs.lemmas.Bool.{cases_eq, cases_lt, ne_eqb, lt-ltb, le-ltb, false≢true}
 use Rattle.std.proofs.lemmas.Bool.Decides.{nat_tests}
 use Rattle.std.proofs.lemmas.List.{drop_more, drop_all}
@@ -7,7 +7,6 @@ use Rattle.std.proofs.lemmas.List.Elements.{All-nil}
 use Rattle.std.specs.Char.{IsScalar}
 use Rattle.std.specs.List.{starts_with}
 use Rattle.std.specs.Str.Lines.{strip_carriage_return}
-use lib.Utf8.{scalar}
 use Rattle.index_loader.proofs.NumberedLemmas.{stays}
 use Rattle.index_loader.proofs.Members.{Has, all-from, all-has, contains-has, has-contains, has-get_or}
 use Rattle.index_loader.specs.declared.fault.IndexCause.{IndexCause}
@@ -16,8 +15,8 @@ use Rattle.index_loader.specs.declared.fault.IndexFault.{IndexFault}
 use Rattle.index_loader.specs.declared.kind.IndexKind.{IndexKind}
 use Rattle.index_loader.specs.File.{IsReading, has_needed_rows, if_complete, is_out_of_memory, pairs_from, pairs_with, with_line}
 use Rattle.index_loader.specs.Index.{Loaded, is_ranges}
-use Rattle.index_loader.specs.FileLaws.{AreParsed, IsEntry, IsFaulty, IsFirstFault, Repeats, reading_at}
-use Rattle.index_loader.specs.Lines.{lines_of, allows, code_point_in, scalar_in, fields_of, is_skipped, number_in, pair_behind, pair_in, pair_of_text, pair_with, refusal_of, stripped}
+use Rattle.index_loader.specs.FileLaws.{AreParsed, IsEntry, IsFaulty, IsFirstFault, reading_at}
+use Rattle.index_loader.specs.Lines.{lines_of, allows, code_point_in, fields_of, is_skipped, number_in, pair_behind, pair_in, pair_with, refusal_of, stripped}
 use Rattle.index_loader.specs.Numbered.{FaultIs}
 use Rattle.index_loader.specs.Pairs.{Pairs, code_point_at, inserted}
 use Rattle.index_loader.specs.Rows.{IsRising}
@@ -55,13 +54,18 @@ rising-inserted : (new : ℕ × ℕ) (pairs : Pairs) → IsRising pairs → ((pa
 rising-inserted new [] up fresh = (All-nil (λ (pair : ℕ × ℕ). new.0 < pair.0), tt)
 rising-inserted new (other ∷ others) up fresh =
     ⊎_elim
-    (λ (lt : new.0 < other.0). rw (lt-ltb new.0 other.0 lt) (all-from (λ pair. new.0 < pair.0) (other ∷ others) (λ pair h.
-        ⊎_elim (λ (e : other ≡ pair). rw (← e) lt) (λ (b : Has pair others). let above = all-has (λ pair. other.0 < pair.0) others pair up.0 b in omega arith) h), up))
+    (λ (lt : new.0 < other.0). rw (lt-ltb new.0 other.0 lt) (
+      all-from (λ pair. new.0 < pair.0) (other ∷ others) (λ pair h.
+          ⊎_elim (λ (e : other ≡ pair). rw (← e) lt) (λ (b : Has pair others). let above = all-has (λ pair. other.0 < pair.0) others pair up.0 b in omega arith) h),
+      up,
+    ))
     (λ (le : other.0 ≤ new.0).
     let apart : other.0 ≡ new.0 → ⊥ = fresh other (inl refl) in
-    rw (le-ltb new.0 other.0 le) (all-from (λ pair. other.0 < pair.0) (inserted new others) (λ pair h.
-        ⊎_elim (λ (e : new ≡ pair). rw (← e) (omega arith)) (λ (b : Has pair others). all-has (λ pair. other.0 < pair.0) others pair up.0 b) (from-inserted new pair others h)),
-      rising-inserted new others up.1 (λ pair h. fresh pair (inr h))))
+    rw (le-ltb new.0 other.0 le) (
+      all-from (λ pair. other.0 < pair.0) (inserted new others) (λ pair h.
+          ⊎_elim (λ (e : new ≡ pair). rw (← e) (omega arith)) (λ (b : Has pair others). all-has (λ pair. other.0 < pair.0) others pair up.0 b) (from-inserted new pair others h)),
+      rising-inserted new others up.1 (λ pair h. fresh pair (inr h)),
+    ))
     (cases_lt new.0 other.0)
 
 -- the pairs after some lines, of which none is faulty

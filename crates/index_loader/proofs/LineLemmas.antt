@@ -1,16 +1,12 @@
 -- The lines of a file, one after another.
-use Rattle.std.proofs.Common.{◌≡◌, ℕ, ◌+◌, ◌<◌, ◌&&◌, not, true, false, List, [], ◌∷◌, length, get_or, set, Option, Some, None, is_some, Ok, Err, Result, refl, sym, ap, ◌∙◌, nat_le, arith, if◌then◌else◌}
+use Rattle.std.proofs.Common.{◌≡◌, ℕ, ◌<◌, ◌&&◌, not, true, false, List, [], length, get_or, set, Option, Some, None, is_some, Ok, Err, refl, ap, ◌∙◌, arith}
 use Rattle.std.proofs.lemmas.Bool.Decides.{nat_tests}
-use Rattle.std.proofs.lemmas.Bool.{false≢true, leb-true}
 use Rattle.index_loader.proofs.Places.{code_point-in_table, inserted-in_table}
-use Rattle.index_loader.specs.declared.fault.IndexCause.{IndexCause}
 use Rattle.index_loader.specs.declared.fault.IndexCause.TheVariants.{BadRanges, DuplicatePointer}
-use Rattle.index_loader.specs.declared.fault.IndexFault.{IndexFault}
 use Rattle.index_loader.specs.declared.kind.IndexKind.{IndexKind}
-use Rattle.index_loader.specs.File.{has_needed_rows, if_complete, is_out_of_memory, pairs_beside, pairs_from, pairs_parsed, with_line}
-use Rattle.index_loader.specs.Lines.{allows, allows_row, greatest_pointer, lines_of}
+use Rattle.index_loader.specs.File.{has_needed_rows, if_complete, pairs_beside, pairs_from, pairs_parsed}
+use Rattle.index_loader.specs.Lines.{allows, lines_of}
 use Rattle.index_loader.specs.Index.{is_ranges}
-use Rattle.index_loader.specs.Numbered.{FaultIs}
 use Rattle.index_loader.specs.Pairs.{Pairs}
 use Rattle.index_loader.specs.Table.{pairs_in, table_len}
 

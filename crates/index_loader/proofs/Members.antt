@@ -1,5 +1,5 @@
 -- What a filtered or mapped list has, and the least and the greatest of the numbers that a list has.
-use Rattle.std.proofs.Common.{◌≡◌, ℕ, zero, suc, ◌+◌, ◌-◌, ◌≤◌, ◌<◌, nat_le, leb, Bool, true, false, cond, List, [], ◌∷◌, length, get_or, map, filter, Option, Some, None, min, max, refl, sym, ◌∙◌, ap, subst, arith, ◌⊎◌, inl, inr, ⊎_elim, All, Contains}
+use Rattle.std.proofs.Common.{◌≡◌, ℕ, zero, suc, ◌-◌, ◌≤◌, ◌<◌, nat_le, leb, Bool, true, false, cond, List, [], ◌∷◌, length, get_or, map, filter, Option, Some, None, refl, ◌∙◌, ap, arith, ◌⊎◌, inl, inr, ⊎_elim, All, Contains}
 use Rattle.std.proofs.lemmas.Bool.{cases_lt, le-leb, leb-true, leb-false}
 use Rattle.std.proofs.lemmas.List.{get_or_default}
 use Rattle.std.proofs.lemmas.List.Elements.{All-contains}
@@ -142,9 +142,12 @@ key-none key xs bound above =
 
 pub key-some : {X : Type 0} (key : X → ℕ) (xs : List X) (bound : ℕ) (last : X) → Has last xs → key last ≤ bound → ((x : X) → Has x xs → key x ≤ bound → key x ≤ key last) → Some (key last) ≡ greatest (filter (λ n. nat_le n bound) (map key xs))
 key-some key xs bound last there within greatest =
-    greatest-is _ (Some (key last)) (has-filter (λ n. nat_le n bound) (map key xs) (key last) (has-map key xs last there) (le-leb (key last) bound within), λ n h.
-    let f = from-filter (λ n. nat_le n bound) (map key xs) n h in let m = from-map key xs n f.0 in
-    let low = leb-true n bound f.1 in let same = m.2 in let up = greatest m.0 m.1 (omega arith) in omega arith)
+    greatest-is _ (Some (key last)) (
+      has-filter (λ n. nat_le n bound) (map key xs) (key last) (has-map key xs last there) (le-leb (key last) bound within),
+      λ n h.
+          let f = from-filter (λ n. nat_le n bound) (map key xs) n h in let m = from-map key xs n f.0 in
+          let low = leb-true n bound f.1 in let same = m.2 in let up = greatest m.0 m.1 (omega arith) in omega arith,
+    )
 
 -- the last of the elements up to a bound by a key, where an order doesn't fall
 pub last-up_to : {X : Type 0} (key rank : X → ℕ) (xs : List X) (bound at : ℕ) → IsNonDecreasingBy rank xs → IsPartitionPoint (λ y. leb (key y) bound ≡ true) (λ y. leb (key y) bound ≡ false) xs at → 0 < at → at ≤ length xs → (x : X) → get_or xs (at - 1) x ≡ x

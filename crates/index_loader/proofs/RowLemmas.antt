@@ -1,12 +1,10 @@
 -- Look-ups in rows that stand in the order of their pointers.
-use Rattle.std.proofs.Common.{◌≡◌, ℕ, zero, suc, ◌+◌, ◌-◌, ◌≤◌, ◌<◌, true, false, [], ◌∷◌, length, get_or, map, filter, nat_le, leb, Option, Some, None, refl, sym, ◌∙◌, ap, arith, inl, inr, ⊎_elim}
-use Rattle.std.proofs.lemmas.Bool.{cases_lt, eq-eqb, ne_eqb, le-leb, leb-true, leb-false}
-use Rattle.std.proofs.lemmas.List.{get_or_default}
-use Rattle.std.proofs.lemmas.List.Sorted.{IsPartitionedBy-leb}
+use Rattle.std.proofs.Common.{◌≡◌, ℕ, zero, suc, ◌+◌, ◌-◌, ◌≤◌, ◌<◌, true, false, [], ◌∷◌, length, get_or, leb, Option, Some, None, refl, sym, arith, inl, inr}
+use Rattle.std.proofs.lemmas.Bool.{eq-eqb, ne_eqb, leb-false}
 use Rattle.std.specs.Char.{IsScalar}
 use Rattle.std.specs.Option.{SomeIff, option_and_then}
-use Rattle.std.specs.List.Sorted.{IsNonDecreasingBy, IsPartitionedBy, IsPartitionPoint}
-use Rattle.index_loader.proofs.Members.{Has, all-has, key-none, key-some, last-up_to, has-contains, place-has, has-filter, from-filter, has-map, from-map, greatest-is}
+use Rattle.std.specs.List.Sorted.{IsNonDecreasingBy, IsPartitionPoint}
+use Rattle.index_loader.proofs.Members.{Has, all-has, key-none, key-some, last-up_to, has-contains}
 use Rattle.index_loader.specs.Pairs.{Pairs, code_point_at}
 use Rattle.index_loader.specs.Ranges.{code_point_in_row, row_pointer}
 use Rattle.index_loader.specs.Scalars.{as_scalar}

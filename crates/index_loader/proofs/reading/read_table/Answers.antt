@@ -1,7 +1,7 @@
 use Rattle.std.proofs.Common.{◌+◌, arith, refl, ◌∙◌}
 use Rattle.std.proofs.lemmas.List.{length-replicate}
 use Rattle.std.proofs.lemmas.Result.{err_from_is_err_and}
-use Rattle.index_loader.specs.File.{pairs_parsed, with_line}
+use Rattle.index_loader.specs.File.{with_line}
 use Rattle.index_loader.specs.Table.{pairs_in}
 use Rattle.index_loader.proofs.NumberedLemmas.{fault-of_file}
 use Rattle.index_loader.proofs.Places.{pairs_at-empty}

@@ -1,4 +1,4 @@
-use Rattle.std.proofs.Common.{◌≡◌, get_or, None, Some, append-nil, refl, sym, ◌∙◌}
+use Rattle.std.proofs.Common.{◌≡◌, get_or, None, append-nil, refl, sym}
 use Rattle.std.proofs.lemmas.List.{get_or_read}
 use Rattle.index_loader.proofs.Places.{pairs_in-more}
 use Rattle.index_loader.proofs.table.pairs_of_places.Goals as goal
