@@ -99,7 +99,7 @@ absent files setting there = none (decoder_in files setting) ((chosen files sett
 
 -- ---- behind a byte order mark
 
-by_mark : (P : Option Mark → Type 0) (setting : Setting) (bytes : List ℕ) → P (Some (record { encoding = Utf8; len = 3 }))
+pub by_mark : (P : Option Mark → Type 0) (setting : Setting) (bytes : List ℕ) → P (Some (record { encoding = Utf8; len = 3 }))
     → P (Some (record { encoding = Utf16Be; len = 2 })) → P (Some (record { encoding = Utf16Le; len = 2 })) → P None → P (mark_under setting bytes)
 by_mark P setting bytes utf8 utf16_be utf16_le none =
     by_bom P setting.bom (mark_of bytes) none

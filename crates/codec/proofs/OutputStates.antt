@@ -31,224 +31,15 @@ use Rattle.codec.specs.declared.state.AnyState.{AnyState}
 use Rattle.codec.specs.declared.state.AnyState.TheVariants.{Sniffing as in_sniffing, Iso2022Jp as in_iso_2022_jp}
 use Rattle.codec.specs.Any.{AnyDecoding, any, output_of, standing, of_both, decoder_in, under}
 use Rattle.codec.specs.Behind.{state_in, state_behind}
+use Rattle.codec.specs.Coding.{looked_up}
 use Rattle.codec.specs.Mark.{Mark, mark_of, if_sniffed, mark_under, in_force, mark_length}
 use Rattle.codec.specs.Output.{output_in, output_behind}
 use Rattle.codec.specs.Sniffing.{spelt, prefix_of, prefix_under}
+use Rattle.codec.proofs.Choosing.{by_mark}
 
--- ---- encodings without escapes
+-- ---- the first bytes of a mark, in ISO-2022-JP
 
-abbrev IsPlain : Family (Option Loaded) → Type 0
-IsPlain family = (bytes : List ℕ) → (output_of ((standing family).state bytes) ≡ Ascii) × (output_in family bytes ≡ Ascii)
-
--- the one with escapes
-record HasEscapes (family : Family (Option Loaded)) : Type 0 where
-  jis0208 : Option Loaded
-  katakana : Option Loaded
-  is : family ≡ of.Iso2022Jp jis0208 katakana
-
-by_family : (family : Family (Option Loaded)) → HasEscapes family ⊎ IsPlain family
-by_family (of.Iso2022Jp jis0208 katakana) = inl (record { jis0208 = jis0208; katakana = katakana; is = refl })
-by_family family = inr (λ bytes. (refl, refl))
-
-iso_prefix : (jis0208 katakana : Option Loaded) (p : Prefix) → output_in (of.Iso2022Jp jis0208 katakana) (spelt p) ≡ Ascii
-unfolding feed feed_for
-iso_prefix jis0208 katakana Nothing = refl
-iso_prefix jis0208 katakana Ef = refl
-iso_prefix jis0208 katakana EfBb = refl
-iso_prefix jis0208 katakana Fe = refl
-iso_prefix jis0208 katakana Ff = refl
-
-prefix_output : (family : Family (Option Loaded)) (p : Prefix) → HasEscapes family ⊎ IsPlain family → output_in family (spelt p) ≡ Ascii
-prefix_output family p (inl iso) = subst (λ (f : Family (Option Loaded)). output_in f (spelt p) ≡ Ascii) (sym iso.is) (iso_prefix iso.jis0208 iso.katakana p)
-prefix_output family p (inr plain) = (plain (spelt p)).1
-
-state_output : (family : Family (Option Loaded)) (bytes : List ℕ) → HasEscapes family ⊎ IsPlain family → output_of ((standing family).state bytes) ≡ output_in family bytes
-state_output family bytes (inl iso) = subst (λ (f : Family (Option Loaded)). output_of ((standing f).state bytes) ≡ output_in f bytes) (sym iso.is) refl
-state_output family bytes (inr plain) = (plain bytes).0 ∙ sym (plain bytes).1
-
--- before the first byte
-at_start : (family : Family (Option Loaded)) → HasEscapes family ⊎ IsPlain family → output_of ((standing family).state []) ≡ Ascii
-at_start family which = state_output family [] which ∙ prefix_output family Nothing which
-
--- ---- byte order marks
-
--- no mark that counts, or one of these
-data Shape (setting : Setting) (bytes : List ℕ) : Type 0 where
-  bare : mark_under setting bytes ≡ None → Shape setting bytes
-  utf8_mark : setting.bom ≡ Sniff → (rest : List ℕ) → bytes ≡ 0xEF ∷ 0xBB ∷ 0xBF ∷ rest → Shape setting bytes
-  be_mark : setting.bom ≡ Sniff → (rest : List ℕ) → bytes ≡ 0xFE ∷ 0xFF ∷ rest → Shape setting bytes
-  le_mark : setting.bom ≡ Sniff → (rest : List ℕ) → bytes ≡ 0xFF ∷ 0xFE ∷ rest → Shape setting bytes
-
--- a look that finds nothing
-unfound : {A : Type 0} (bom : Bom) → if_sniffed {A = A} bom None ≡ None
-unfound Sniff = refl
-unfound Keep = refl
-
--- what a look has found was there
-found_by : {A : Type 0} {a : A} (bom : Bom) (o : Option A) → if_sniffed bom o ≡ Some a → o ≡ Some a
-found_by Sniff o is = is
-found_by {a = a} Keep o is = absurd (let never : None ≡ Some a = is in cc)
-
--- what a look finds under a setting whose marks are looked for
-sniffs : {A : Type 0} (setting : Setting) → setting.bom ≡ Sniff → (found : Option A) → if_sniffed setting.bom found ≡ found
-sniffs setting sniff found = ap (λ (b : Bom). if_sniffed b found) sniff
-
-begins : (bytes mark : List ℕ) → starts_with eqb bytes mark ≡ true → bytes ≡ mark ++ drop (length mark) bytes
-begins bytes mark h = (starts_is Decides-eqb bytes mark (starts_with eqb bytes mark) refl).0 h
-
-module _ (setting : Setting) (sniff : setting.bom ≡ Sniff) where
-  shape-le : (bytes : List ℕ) (t : Bool) → starts_with eqb bytes (0xFF ∷ 0xFE ∷ []) ≡ t → (mark_of bytes ≡ (if t then Some (record { encoding = Utf16Le; len = 2 }) else None)) → Shape setting bytes
-  shape-le bytes true e is = le_mark sniff (drop 2 bytes) (begins bytes (0xFF ∷ 0xFE ∷ []) e)
-  shape-le bytes false e is = bare (sniffs setting sniff (mark_of bytes) ∙ is)
-
-  shape-be : (bytes : List ℕ) (t : Bool) → starts_with eqb bytes (0xFE ∷ 0xFF ∷ []) ≡ t
-      → (mark_of bytes ≡ (if t then Some (record { encoding = Utf16Be; len = 2 }) else if starts_with eqb bytes (0xFF ∷ 0xFE ∷ []) then Some (record { encoding = Utf16Le; len = 2 }) else None)) → Shape setting bytes
-  shape-be bytes true e is = be_mark sniff (drop 2 bytes) (begins bytes (0xFE ∷ 0xFF ∷ []) e)
-  shape-be bytes false e is = shape-le bytes (starts_with eqb bytes (0xFF ∷ 0xFE ∷ [])) refl is
-
-  shape-utf8 : (bytes : List ℕ) (t : Bool) → starts_with eqb bytes (0xEF ∷ 0xBB ∷ 0xBF ∷ []) ≡ t
-      → (mark_of bytes ≡ (if t then Some (record { encoding = Utf8; len = 3 }) else if starts_with eqb bytes (0xFE ∷ 0xFF ∷ []) then Some (record { encoding = Utf16Be; len = 2 }) else if starts_with eqb bytes (0xFF ∷ 0xFE ∷ []) then Some (record { encoding = Utf16Le; len = 2 }) else None)) → Shape setting bytes
-  shape-utf8 bytes true e is = utf8_mark sniff (drop 3 bytes) (begins bytes (0xEF ∷ 0xBB ∷ 0xBF ∷ []) e)
-  shape-utf8 bytes false e is = shape-be bytes (starts_with eqb bytes (0xFE ∷ 0xFF ∷ [])) refl is
-
-shape-under : (setting : Setting) (bytes : List ℕ) (bom : Bom) → setting.bom ≡ bom → Shape setting bytes
-shape-under setting bytes Sniff sniff = shape-utf8 setting sniff bytes (starts_with eqb bytes (0xEF ∷ 0xBB ∷ 0xBF ∷ [])) refl refl
-shape-under setting bytes Keep keep = bare (ap (λ (b : Bom). if_sniffed b (mark_of bytes)) keep)
-
-shape : (setting : Setting) (bytes : List ℕ) → Shape setting bytes
-shape setting bytes = shape-under setting bytes setting.bom refl
-
--- the first bytes of bytes without a mark have none
-bare-first : (setting : Setting) (first rest : List ℕ) → mark_under setting (first ++ rest) ≡ None → Shape setting first → mark_under setting first ≡ None
-bare-first setting first rest none (bare is) = is
-bare-first setting first rest none (utf8_mark sniff r is) = absurd (let h : mark_of (0xEF ∷ 0xBB ∷ 0xBF ∷ (r ++ rest)) ≡ None = sym (sniffs setting sniff _) ∙ subst (λ (x : List ℕ). mark_under setting (x ++ rest) ≡ None) is none in cc)
-bare-first setting first rest none (be_mark sniff r is) = absurd (let h : mark_of (0xFE ∷ 0xFF ∷ (r ++ rest)) ≡ None = sym (sniffs setting sniff _) ∙ subst (λ (x : List ℕ). mark_under setting (x ++ rest) ≡ None) is none in cc)
-bare-first setting first rest none (le_mark sniff r is) = absurd (let h : mark_of (0xFF ∷ 0xFE ∷ (r ++ rest)) ≡ None = sym (sniffs setting sniff _) ∙ subst (λ (x : List ℕ). mark_under setting (x ++ rest) ≡ None) is none in cc)
-
-bare-taken : (setting : Setting) (bytes : List ℕ) (n : ℕ) → mark_under setting bytes ≡ None → mark_under setting (take n bytes) ≡ None
-bare-taken setting bytes n none = bare-first setting (take n bytes) (drop n bytes) (rw (take-append-drop n bytes) none) (shape setting (take n bytes))
-
-module _ (files : Files) where
-  abbrev out : Setting → List ℕ → OutputState
-  out setting bytes = output_of (state_behind files setting bytes)
-
-  behind_prefix : (o : Option Prefix) (s : AnyState) → output_of s ≡ Ascii → output_of (unwrap_or (option_map in_sniffing o) s) ≡ Ascii
-  behind_prefix (Some p) s e = refl
-  behind_prefix None s e = e
-
-  -- from a mark on, and within it, the output state is ASCII
-  utf8_marked : (setting : Setting) → setting.bom ≡ Sniff → (rest : List ℕ) (n : ℕ) → out setting (take n (0xEF ∷ 0xBB ∷ 0xBF ∷ rest)) ≡ Ascii
-  unfolding state_behind
-  utf8_marked setting sniff rest zero = rw sniff refl
-  utf8_marked setting sniff rest (suc zero) = rw sniff refl
-  utf8_marked setting sniff rest (suc (suc zero)) = rw sniff refl
-  utf8_marked setting sniff rest (suc (suc (suc n))) = rw sniff refl
-
-  be_marked : (setting : Setting) → setting.bom ≡ Sniff → (rest : List ℕ) (n : ℕ) → out setting (take n (0xFE ∷ 0xFF ∷ rest)) ≡ Ascii
-  unfolding state_behind
-  be_marked setting sniff rest zero = rw sniff refl
-  be_marked setting sniff rest (suc zero) = rw sniff refl
-  be_marked setting sniff rest (suc (suc n)) = rw sniff refl
-
-  le_marked : (setting : Setting) → setting.bom ≡ Sniff → (rest : List ℕ) (n : ℕ) → out setting (take n (0xFF ∷ 0xFE ∷ rest)) ≡ Ascii
-  unfolding state_behind
-  le_marked setting sniff rest zero = rw sniff refl
-  le_marked setting sniff rest (suc zero) = rw sniff refl
-  le_marked setting sniff rest (suc (suc n)) = rw sniff refl
-
-  -- without a mark the state is that of the encoding given, behind the look
-  bare_state : (setting : Setting) (bytes : List ℕ) → mark_under setting bytes ≡ None
-      → state_behind files setting bytes ≡ unwrap_or (option_map in_sniffing (prefix_under setting bytes)) (state_in files setting.given bytes)
-  unfolding state_behind
-  bare_state setting bytes none =
-      ap (λ (m : Option Mark). unwrap_or (option_map in_sniffing (prefix_under setting bytes)) (state_in files (unwrap_or (option_map (λ (m : Mark). m.encoding) m) setting.given) (drop (unwrap_or (option_map (λ (m : Mark). m.len) m) 0) bytes))) none
-
-  whole_of : (setting : Setting) (bytes : List ℕ) {marked : List ℕ} → bytes ≡ marked → ((n : ℕ) → out setting (take n marked) ≡ Ascii) → out setting bytes ≡ Ascii
-  whole_of setting bytes {marked = marked} is h = ap (out setting) (is ∙ sym (take-length marked)) ∙ h (length marked)
-
-  first_of : (setting : Setting) (bytes : List ℕ) {marked : List ℕ} (n : ℕ) → bytes ≡ marked → ((n : ℕ) → out setting (take n marked) ≡ Ascii) → out setting (take n bytes) ≡ Ascii
-  first_of setting bytes n is h = ap (λ (x : List ℕ). out setting (take n x)) is ∙ h n
-
-  plain_out : (setting : Setting) → IsPlain (indexes_of files setting.given) → (bytes : List ℕ) → Shape setting bytes → out setting bytes ≡ Ascii
-  plain_out setting plain bytes (bare none) =
-      ap output_of (bare_state setting bytes none) ∙ behind_prefix (prefix_under setting bytes) (state_in files setting.given bytes) (plain bytes).0
-  plain_out setting plain bytes (utf8_mark sniff r is) = whole_of setting bytes is (utf8_marked setting sniff r)
-  plain_out setting plain bytes (be_mark sniff r is) = whole_of setting bytes is (be_marked setting sniff r)
-  plain_out setting plain bytes (le_mark sniff r is) = whole_of setting bytes is (le_marked setting sniff r)
-
-  start_out : (setting : Setting) → out setting [] ≡ Ascii
-  start_out setting =
-      ap output_of (bare_state setting [] (unfound setting.bom))
-      ∙ behind_prefix (prefix_under setting []) (state_in files setting.given []) (at_start (indexes_of files setting.given) (by_family (indexes_of files setting.given)))
-
-  at_mark : (setting : Setting) (bytes : List ℕ) → Shape setting bytes → out setting (take (mark_length setting bytes) bytes) ≡ Ascii
-  at_mark setting bytes (bare none) = ap (λ (m : Option Mark). out setting (take (unwrap_or (option_map (λ (m : Mark). m.len) m) 0) bytes)) none ∙ start_out setting
-  at_mark setting bytes (utf8_mark sniff r is) = ap (λ (x : List ℕ). out setting (take (mark_length setting x) x)) is ∙ utf8_marked setting sniff r _
-  at_mark setting bytes (be_mark sniff r is) = ap (λ (x : List ℕ). out setting (take (mark_length setting x) x)) is ∙ be_marked setting sniff r _
-  at_mark setting bytes (le_mark sniff r is) = ap (λ (x : List ℕ). out setting (take (mark_length setting x) x)) is ∙ le_marked setting sniff r _
-
-pub output_at_mark : (files : Files) (setting : Setting) (bytes : List ℕ) → output_of (state_behind files setting (take (mark_length setting bytes) bytes)) ≡ Ascii
-output_at_mark files setting bytes = at_mark files setting bytes (shape setting bytes)
-
-mark-fits : (setting : Setting) (bytes : List ℕ) → Shape setting bytes → mark_length setting bytes ≤ length bytes
-mark-fits setting bytes (bare none) = subst (λ (m : Option Mark). unwrap_or (option_map (λ (m : Mark). m.len) m) 0 ≤ length bytes) (sym none) (omega arith)
-mark-fits setting bytes (utf8_mark sniff r is) = subst (λ (x : List ℕ). mark_length setting x ≤ length x) (sym is) (rw sniff (omega arith))
-mark-fits setting bytes (be_mark sniff r is) = subst (λ (x : List ℕ). mark_length setting x ≤ length x) (sym is) (rw sniff (omega arith))
-mark-fits setting bytes (le_mark sniff r is) = subst (λ (x : List ℕ). mark_length setting x ≤ length x) (sym is) (rw sniff (omega arith))
-
-pub mark_fits : (setting : Setting) (bytes : List ℕ) → mark_length setting bytes ≤ length bytes
-mark_fits setting bytes = mark-fits setting bytes (shape setting bytes)
-
--- a mark's encoding needs no file
-force : (files : Files) (setting : Setting) (bytes : List ℕ) → Shape setting bytes → has_files files setting.given ≡ true → has_files files (in_force setting bytes) ≡ true
-unfolding has_files
-force files setting bytes (bare none) h = ap (λ (m : Option Mark). has_files files (unwrap_or (option_map (λ (m : Mark). m.encoding) m) setting.given)) none ∙ h
-force files setting bytes (utf8_mark sniff r is) h = ap (λ (x : List ℕ). has_files files (in_force setting x)) is ∙ rw sniff refl
-force files setting bytes (be_mark sniff r is) h = ap (λ (x : List ℕ). has_files files (in_force setting x)) is ∙ rw sniff refl
-force files setting bytes (le_mark sniff r is) h = ap (λ (x : List ℕ). has_files files (in_force setting x)) is ∙ rw sniff refl
-
-pub decoded_in_force : (files : Files) (setting : Setting) (bytes : List ℕ) → has_files files setting.given ≡ true → has_files files (in_force setting bytes) ≡ true
-decoded_in_force files setting bytes = force files setting bytes (shape setting bytes)
-
--- the prefix is all of the bytes
-prefix-is : (p q : Prefix) (o : Option Prefix) (bytes : List ℕ) → (o ≡ Some p → bytes ≡ spelt p) → (if bytes_eq (spelt q) bytes then Some q else o) ≡ Some p → bytes ≡ spelt p
-prefix-is p q o bytes later = by_test (λ (x : Option Prefix). x ≡ Some p → bytes ≡ spelt p) (bytes_eq (spelt q) bytes)
-    (λ e h. let same : spelt q ≡ bytes = (bytes_eq-Decides (spelt q) bytes).0 e in let found : q ≡ p = cc in sym same ∙ ap spelt found)
-    (λ e h. later h)
-
-prefix-spelt : (bytes : List ℕ) (p : Prefix) → prefix_of bytes ≡ Some p → bytes ≡ spelt p
-prefix-spelt bytes p =
-    prefix-is p Nothing _ bytes (prefix-is p Ef _ bytes (prefix-is p EfBb _ bytes (prefix-is p Fe _ bytes (prefix-is p Ff _ bytes (λ h. absurd (let x : None ≡ Some p = h in cc))))))
-
-is_prefix : (setting : Setting) (bytes : List ℕ) (p : Prefix) → prefix_under setting bytes ≡ Some p → bytes ≡ spelt p
-is_prefix setting bytes p found = prefix-spelt bytes p (found_by setting.bom (prefix_of bytes) found)
-
--- ---- the output state by the decoder in force alone
-
-module _ (files : Files) (setting : Setting) where
-  looked : (bytes : List ℕ) (o : Option Prefix) → prefix_under setting bytes ≡ o → output_of (unwrap_or (option_map in_sniffing o) (state_in files setting.given bytes)) ≡ output_in (indexes_of files setting.given) bytes
-  looked bytes (Some p) is =
-      sym (ap (output_in (indexes_of files setting.given)) (is_prefix setting bytes p is) ∙ prefix_output (indexes_of files setting.given) p (by_family (indexes_of files setting.given)))
-  looked bytes None is = state_output (indexes_of files setting.given) bytes (by_family (indexes_of files setting.given))
-
-  unmarked : (bytes : List ℕ) → mark_under setting bytes ≡ None → output_behind files setting bytes ≡ output_in (indexes_of files setting.given) bytes
-  unfolding output_behind
-  unmarked bytes none =
-      ap (λ (m : Option Mark). output_in (indexes_of files (unwrap_or (option_map (λ (m : Mark). m.encoding) m) setting.given)) (drop (unwrap_or (option_map (λ (m : Mark). m.len) m) 0) bytes)) none
-
-  by_shape : (bytes : List ℕ) → Shape setting bytes → out files setting bytes ≡ output_behind files setting bytes
-  unfolding output_behind
-  by_shape bytes (bare none) = ap output_of (bare_state files setting bytes none) ∙ looked bytes (prefix_under setting bytes) refl ∙ sym (unmarked bytes none)
-  by_shape bytes (utf8_mark sniff r is) = whole_of files setting bytes is (utf8_marked files setting sniff r) ∙ sym (ap (output_behind files setting) is ∙ rw sniff refl)
-  by_shape bytes (be_mark sniff r is) = whole_of files setting bytes is (be_marked files setting sniff r) ∙ sym (ap (output_behind files setting) is ∙ rw sniff refl)
-  by_shape bytes (le_mark sniff r is) = whole_of files setting bytes is (le_marked files setting sniff r) ∙ sym (ap (output_behind files setting) is ∙ rw sniff refl)
-
-pub output_of_state : (files : Files) (setting : Setting) (bytes : List ℕ) → output_of (state_behind files setting bytes) ≡ output_behind files setting bytes
-output_of_state files setting bytes = by_shape files setting bytes (shape setting bytes)
-
-module _ (jis0208 : ℕ → Option ℕ)
-    (stays : (p : List ℕ) (b : ℕ) → iso_2022_jp_bytes (feed (iso_2022_jp jis0208) iso_2022_jp_start p).state ≤ 1
-    → (feed (iso_2022_jp jis0208) iso_2022_jp_start (p ++ b ∷ [])).state.output ≡ (feed (iso_2022_jp jis0208) iso_2022_jp_start p).state.output) where
+module _ (jis0208 : ℕ → Option ℕ) where
   abbrev iso_out : List ℕ → OutputState
   iso_out p = (feed (iso_2022_jp jis0208) iso_2022_jp_start p).state.output
 
@@ -276,17 +67,169 @@ module _ (jis0208 : ℕ → Option ℕ)
   prefix_out : (p : Prefix) → iso_out (spelt p) ≡ Ascii
   prefix_out p = ap iso_out (sym (take-length (spelt p))) ∙ in_prefix p (length (spelt p))
 
-  behind_prefix_out : (p : Prefix) (b : ℕ) → iso_out (spelt p ++ b ∷ []) ≡ Ascii
-  behind_prefix_out p b = stays (spelt p) b (few_held p) ∙ prefix_out p
-
   -- the first bytes of a prefix and a byte are those of the prefix, or all
-  at_prefix : (p : Prefix) (b n : ℕ) → iso_out (take n (spelt p ++ b ∷ [])) ≡ Ascii
-  at_prefix p b n =
+  at_prefix : ((p : List ℕ) (b : ℕ) → iso_2022_jp_bytes (feed (iso_2022_jp jis0208) iso_2022_jp_start p).state ≤ 1 → iso_out (p ++ b ∷ []) ≡ iso_out p)
+      → (p : Prefix) (b n : ℕ) → iso_out (take n (spelt p ++ b ∷ [])) ≡ Ascii
+  at_prefix stays p b n =
       ⊎_elim
       (λ (short : n < length (spelt p) + 1). ap iso_out (take-append-le n (spelt p) (b ∷ []) (omega arith)) ∙ in_prefix p n)
       (λ (long : length (spelt p) + 1 ≤ n).
-      ap iso_out (take_all n (spelt p ++ b ∷ []) (omega (arith, length-append (spelt p) (b ∷ [])))) ∙ behind_prefix_out p b)
+      ap iso_out (take_all n (spelt p ++ b ∷ []) (omega (arith, length-append (spelt p) (b ∷ [])))) ∙ stays (spelt p) b (few_held p) ∙ prefix_out p)
       (cases_lt n (length (spelt p) + 1))
+
+-- ---- encodings with and without escapes
+
+abbrev IsPlain : Family (Option Loaded) → Type 0
+IsPlain family = (bytes : List ℕ) → output_in family bytes ≡ Ascii
+
+-- the one with escapes
+record HasEscapes (family : Family (Option Loaded)) : Type 0 where
+  jis0208 : Option Loaded
+  katakana : Option Loaded
+  is : family ≡ of.Iso2022Jp jis0208 katakana
+
+by_family : (family : Family (Option Loaded)) → HasEscapes family ⊎ IsPlain family
+by_family (of.Iso2022Jp jis0208 katakana) = inl (record { jis0208 = jis0208; katakana = katakana; is = refl })
+by_family family = inr (λ bytes. refl)
+
+prefix_output : (family : Family (Option Loaded)) (p : Prefix) → output_in family (spelt p) ≡ Ascii
+prefix_output (of.Iso2022Jp jis0208 katakana) p = prefix_out (looked_up jis0208) p
+prefix_output family p = refl
+
+state_output : (family : Family (Option Loaded)) (bytes : List ℕ) → output_of ((standing family).state bytes) ≡ output_in family bytes
+state_output (of.Iso2022Jp jis0208 katakana) bytes = refl
+state_output family bytes = refl
+
+-- ---- byte order marks
+
+-- what a look has found was there
+found_by : {A : Type 0} {a : A} (bom : Bom) (o : Option A) → if_sniffed bom o ≡ Some a → o ≡ Some a
+found_by Sniff o is = is
+found_by {a = a} Keep o is = absurd (let never : None ≡ Some a = is in cc)
+
+data Form : Type 0 where
+  utf8 : Form
+  utf16_be : Form
+  utf16_le : Form
+
+abbrev bytes_of : Form → List ℕ
+bytes_of utf8 = 0xEF ∷ 0xBB ∷ 0xBF ∷ []
+bytes_of utf16_be = 0xFE ∷ 0xFF ∷ []
+bytes_of utf16_le = 0xFF ∷ 0xFE ∷ []
+
+-- bytes behind a mark that counts
+record HasMark (setting : Setting) (bytes : List ℕ) : Type 0 where
+  sniff : setting.bom ≡ Sniff
+  form : Form
+  rest : List ℕ
+  is : bytes ≡ bytes_of form ++ rest
+
+-- no mark that counts, or one
+abbrev Shape : Setting → List ℕ → Type 0
+Shape setting bytes = (mark_under setting bytes ≡ None) ⊎ HasMark setting bytes
+
+shape : (setting : Setting) (bytes : List ℕ) → Shape setting bytes
+shape setting bytes = go setting.bom refl where
+  go : (bom : Bom) → setting.bom ≡ bom → Shape setting bytes
+  go Keep keep = inl (ap (λ (b : Bom). if_sniffed b (mark_of bytes)) keep)
+  go Sniff sniff =
+      let P : Option Mark → Type 0 = λ m. (if_sniffed setting.bom m ≡ None) ⊎ HasMark setting bytes in
+      let has : (form : Form) → starts_with eqb bytes (bytes_of form) ≡ true → HasMark setting bytes =
+      λ form e. record { sniff = sniff; form = form; rest = drop (length (bytes_of form)) bytes; is = (starts_is Decides-eqb bytes (bytes_of form) (starts_with eqb bytes (bytes_of form)) refl).0 e } in
+      by_test P (starts_with eqb bytes (bytes_of utf8)) (λ e. inr (has utf8 e)) (λ _.
+      by_test P (starts_with eqb bytes (bytes_of utf16_be)) (λ e. inr (has utf16_be e)) (λ _.
+      by_test P (starts_with eqb bytes (bytes_of utf16_le)) (λ e. inr (has utf16_le e)) (λ _. inl (ap (λ (b : Bom). if_sniffed b None) sniff))))
+
+-- the first bytes of bytes without a mark have none
+never-bare : (form : Form) (rest more : List ℕ) → mark_of ((bytes_of form ++ rest) ++ more) ≡ None → ⊥
+never-bare utf8 rest more e = cc
+never-bare utf16_be rest more e = cc
+never-bare utf16_le rest more e = cc
+
+bare-first : (setting : Setting) (first rest : List ℕ) → mark_under setting (first ++ rest) ≡ None → Shape setting first → mark_under setting first ≡ None
+bare-first setting first rest none (inl is) = is
+bare-first setting first rest none (inr mark) = absurd (never-bare mark.form mark.rest rest (rw (mark.is, mark.sniff) at none))
+
+bare-taken : (setting : Setting) (bytes : List ℕ) (n : ℕ) → mark_under setting bytes ≡ None → mark_under setting (take n bytes) ≡ None
+bare-taken setting bytes n none = bare-first setting (take n bytes) (drop n bytes) (rw (take-append-drop n bytes) none) (shape setting (take n bytes))
+
+fits : (form : Form) (rest : List ℕ) → unwrap_or (option_map (λ (m : Mark). m.len) (mark_of (bytes_of form ++ rest))) 0 ≤ length (bytes_of form ++ rest)
+fits utf8 rest = omega arith
+fits utf16_be rest = omega arith
+fits utf16_le rest = omega arith
+
+pub mark_fits : (setting : Setting) (bytes : List ℕ) → mark_length setting bytes ≤ length bytes
+mark_fits setting bytes = elim (shape setting bytes) [ inl none ↦ rw none (omega arith) | inr mark ↦ rw (mark.is, mark.sniff) (fits mark.form mark.rest) ]
+
+-- a mark's encoding needs no file
+pub decoded_in_force : (files : Files) (setting : Setting) (bytes : List ℕ) → has_files files setting.given ≡ true → has_files files (in_force setting bytes) ≡ true
+unfolding has_files
+decoded_in_force files setting bytes h = by_mark (λ m. has_files files (unwrap_or (option_map (λ (m : Mark). m.encoding) m) setting.given) ≡ true) setting bytes refl refl refl h
+
+-- the prefix is all of the bytes
+prefix-is : (p q : Prefix) (o : Option Prefix) (bytes : List ℕ) → (o ≡ Some p → bytes ≡ spelt p) → (if bytes_eq (spelt q) bytes then Some q else o) ≡ Some p → bytes ≡ spelt p
+prefix-is p q o bytes later = by_test (λ (x : Option Prefix). x ≡ Some p → bytes ≡ spelt p) (bytes_eq (spelt q) bytes)
+    (λ e h. let same : spelt q ≡ bytes = (bytes_eq-Decides (spelt q) bytes).0 e in let found : q ≡ p = cc in sym same ∙ ap spelt found)
+    (λ e h. later h)
+
+prefix-spelt : (bytes : List ℕ) (p : Prefix) → prefix_of bytes ≡ Some p → bytes ≡ spelt p
+prefix-spelt bytes p =
+    prefix-is p Nothing _ bytes (prefix-is p Ef _ bytes (prefix-is p EfBb _ bytes (prefix-is p Fe _ bytes (prefix-is p Ff _ bytes (λ h. absurd (let x : None ≡ Some p = h in cc))))))
+
+is_prefix : (setting : Setting) (bytes : List ℕ) (p : Prefix) → prefix_under setting bytes ≡ Some p → bytes ≡ spelt p
+is_prefix setting bytes p found = prefix-spelt bytes p (found_by setting.bom (prefix_of bytes) found)
+
+-- ---- the output state by the decoder in force alone
+
+behind_prefix : (o : Option Prefix) (s : AnyState) → output_of s ≡ Ascii → output_of (unwrap_or (option_map in_sniffing o) s) ≡ Ascii
+behind_prefix (Some p) s e = refl
+behind_prefix None s e = e
+
+looked : (files : Files) (setting : Setting) (bytes : List ℕ) (o : Option Prefix) → prefix_under setting bytes ≡ o → output_of (unwrap_or (option_map in_sniffing o) (state_in files setting.given bytes)) ≡ output_in (indexes_of files setting.given) bytes
+looked files setting bytes (Some p) is = sym (ap (output_in (indexes_of files setting.given)) (is_prefix setting bytes p is) ∙ prefix_output (indexes_of files setting.given) p)
+looked files setting bytes None is = state_output (indexes_of files setting.given) bytes
+
+pub output_of_state : (files : Files) (setting : Setting) (bytes : List ℕ) → output_of (state_behind files setting bytes) ≡ output_behind files setting bytes
+unfolding state_behind output_behind
+output_of_state files setting bytes =
+    by_mark (λ m. let e = unwrap_or (option_map (λ (m : Mark). m.encoding) m) setting.given in let rest = drop (unwrap_or (option_map (λ (m : Mark). m.len) m) 0) bytes in
+        output_of (unwrap_or (option_map in_sniffing (prefix_under setting bytes)) (state_in files e rest)) ≡ output_in (indexes_of files e) rest) setting bytes
+    (behind_prefix (prefix_under setting bytes) _ refl) (behind_prefix (prefix_under setting bytes) _ refl) (behind_prefix (prefix_under setting bytes) _ refl)
+    (looked files setting bytes (prefix_under setting bytes) refl)
+
+module _ (files : Files) (setting : Setting) where
+  abbrev out : List ℕ → OutputState
+  out bytes = output_of (state_behind files setting bytes)
+
+  -- from a mark on the output state is ASCII, so it is where that of the encoding given is
+  out-given : (bytes : List ℕ) → output_in (indexes_of files setting.given) bytes ≡ Ascii → out bytes ≡ Ascii
+  unfolding output_behind
+  out-given bytes own =
+      output_of_state files setting bytes
+      ∙ by_mark (λ m. output_in (indexes_of files (unwrap_or (option_map (λ (m : Mark). m.encoding) m) setting.given)) (drop (unwrap_or (option_map (λ (m : Mark). m.len) m) 0) bytes) ≡ Ascii) setting bytes refl refl refl own
+
+  -- and so it is within a mark
+  in_mark : setting.bom ≡ Sniff → (form : Form) (rest : List ℕ) (n : ℕ) → out (take n (bytes_of form ++ rest)) ≡ Ascii
+  unfolding state_behind
+  in_mark sniff utf8 rest zero = rw sniff refl
+  in_mark sniff utf8 rest (suc zero) = rw sniff refl
+  in_mark sniff utf8 rest (suc (suc zero)) = rw sniff refl
+  in_mark sniff utf8 rest (suc (suc (suc n))) = rw sniff refl
+  in_mark sniff utf16_be rest zero = rw sniff refl
+  in_mark sniff utf16_be rest (suc zero) = rw sniff refl
+  in_mark sniff utf16_be rest (suc (suc n)) = rw sniff refl
+  in_mark sniff utf16_le rest zero = rw sniff refl
+  in_mark sniff utf16_le rest (suc zero) = rw sniff refl
+  in_mark sniff utf16_le rest (suc (suc n)) = rw sniff refl
+
+  first_marked : (bytes : List ℕ) → HasMark setting bytes → (n : ℕ) → out (take n bytes) ≡ Ascii
+  first_marked bytes mark n = rw mark.is (in_mark mark.sniff mark.form mark.rest n)
+
+pub output_at_mark : (files : Files) (setting : Setting) (bytes : List ℕ) → output_of (state_behind files setting (take (mark_length setting bytes) bytes)) ≡ Ascii
+output_at_mark files setting bytes = elim (shape setting bytes) [
+  | inl none ↦ rw none (out-given files setting [] (prefix_output (indexes_of files setting.given) Nothing))
+  | inr mark ↦ first_marked files setting bytes mark (mark_length setting bytes)
+]
 
 -- the one decoder, where it is that of ISO-2022-JP
 pub record IsIso (files : Files) (setting : Setting) (d : AnyDecoding) : Type 0 where
@@ -334,85 +277,62 @@ module _ (files : Files) (setting : Setting) (d : AnyDecoding) (iso : IsIso file
   abbrev out_here : List ℕ → OutputState
   out_here bytes = out files setting bytes
 
-  abbrev iso_at : List ℕ → OutputState
-  iso_at p = iso_out lead laws.stays p
-
-  at_option : (bytes : List ℕ) (o : Option Prefix) → prefix_under setting bytes ≡ o → output_of (unwrap_or (option_map in_sniffing o) (state_in files setting.given bytes)) ≡ iso_at bytes
-  at_option bytes (Some p) e = sym (ap iso_at (is_prefix setting bytes p e) ∙ prefix_out lead laws.stays p)
-  at_option bytes None e = ap output_of (iso.own bytes)
-
-  bare_iso : (bytes : List ℕ) → mark_under setting bytes ≡ None → out_here bytes ≡ iso_at bytes
-  bare_iso bytes none = ap output_of (bare_state files setting bytes none) ∙ at_option bytes (prefix_under setting bytes) refl
+  bare_iso : (bytes : List ℕ) → mark_under setting bytes ≡ None → out_here bytes ≡ iso_out lead bytes
+  unfolding output_behind
+  bare_iso bytes none = output_of_state files setting bytes ∙ rw none (sym (state_output (indexes_of files setting.given) bytes) ∙ ap output_of (iso.own bytes))
 
   own_state : (bytes : List ℕ) → mark_under setting bytes ≡ None → prefix_under setting bytes ≡ None → state_behind files setting bytes ≡ in_iso_2022_jp (feed (iso_2022_jp lead) iso_2022_jp_start bytes).state
-  own_state bytes none long =
-      bare_state files setting bytes none ∙ ap (λ (o : Option Prefix). unwrap_or (option_map in_sniffing o) (state_in files setting.given bytes)) long ∙ iso.own bytes
+  unfolding state_behind
+  own_state bytes none long = rw (none, long) (iso.own bytes)
 
-  same_iso : (bytes : List ℕ) (n : ℕ) → mark_under setting bytes ≡ None → iso_at (take n bytes) ≡ iso_at bytes → out_here (take n bytes) ≡ out_here bytes
+  same_iso : (bytes : List ℕ) (n : ℕ) → mark_under setting bytes ≡ None → iso_out lead (take n bytes) ≡ iso_out lead bytes → out_here (take n bytes) ≡ out_here bytes
   same_iso bytes n none h = bare_iso (take n bytes) (bare-taken setting bytes n none) ∙ h ∙ sym (bare_iso bytes none)
 
-  marked_iso : (bytes : List ℕ) (n : ℕ) {marked : List ℕ} → bytes ≡ marked → ((n : ℕ) → out_here (take n marked) ≡ Ascii) → out_here (take n bytes) ≡ out_here bytes
-  marked_iso bytes n is h = first_of files setting bytes n is h ∙ sym (whole_of files setting bytes is h)
+  -- the same where the first bytes are all in ASCII
+  ascii_iso : (bytes : List ℕ) (n : ℕ) → mark_under setting bytes ≡ None → ((n : ℕ) → iso_out lead (take n bytes) ≡ Ascii) → out_here (take n bytes) ≡ out_here bytes
+  ascii_iso bytes n none ascii = same_iso bytes n none (ascii n ∙ sym (rw (take-length bytes) at (ascii (length bytes))))
 
-  looks_byte : (p : List ℕ) (b : ℕ) (x : Prefix) → p ≡ spelt x → mark_under setting (p ++ b ∷ []) ≡ None → (n : ℕ) → out_here (take n (p ++ b ∷ [])) ≡ out_here (p ++ b ∷ [])
-  looks_byte p b x is none n =
-      same_iso (p ++ b ∷ []) n none
-      (ap (λ (q : List ℕ). iso_at (take n (q ++ b ∷ []))) is ∙ at_prefix lead laws.stays x b n
-      ∙ sym (ap (λ (q : List ℕ). iso_at (q ++ b ∷ [])) is ∙ behind_prefix_out lead laws.stays x b))
-
-  looks_end : (p : List ℕ) (x : Prefix) → p ≡ spelt x → mark_under setting p ≡ None → (n : ℕ) → out_here (take n p) ≡ out_here p
-  looks_end p x is none n =
-      same_iso p n none
-      (ap (λ (q : List ℕ). iso_at (take n q)) is ∙ in_prefix lead laws.stays x n ∙ sym (ap (λ (q : List ℕ). iso_at q) is ∙ prefix_out lead laws.stays x))
-
-  byte_own : (p : List ℕ) (b : ℕ) → mark_under setting (p ++ b ∷ []) ≡ None → mark_under setting p ≡ None → (o : Option Prefix) → prefix_under setting p ≡ o
+  byte_own : (p : List ℕ) (b : ℕ) → mark_under setting (p ++ b ∷ []) ≡ None → (o : Option Prefix) → prefix_under setting p ≡ o
       → All (λ (e : Ended). out_here (take (length p + 1 - e.back) (p ++ b ∷ [])) ≡ out_here (p ++ b ∷ [])) (feed (any d) (state_behind files setting p) (b ∷ [])).items
-  byte_own p b none first (Some x) e = λ k c lt.
-      looks_byte p b x (is_prefix setting p x e) none _
-  byte_own p b none first None e =
+  byte_own p b none (Some x) e = λ k c lt. ascii_iso (p ++ b ∷ []) _ none (λ n. rw (is_prefix setting p x e) (at_prefix lead laws.stays x b n))
+  byte_own p b none None e =
+      let first : mark_under setting p ≡ None = rw (take-append_seam p (b ∷ [])) at (bare-taken setting (p ++ b ∷ []) (length p) none) in
       let s = (feed (iso_2022_jp lead) iso_2022_jp_start p).state in
       let items : (feed (any d) (state_behind files setting p) (b ∷ [])).items ≡ (feed (iso_2022_jp lead) s (b ∷ [])).items =
       ap (λ (t : AnyState). (feed (any d) t (b ∷ [])).items) (own_state p first e)
       ∙ ap (λ (f : Fed AnyState). f.items) (laws.feeds d iso.lift s (b ∷ [])) in
-      subst (λ (es : List Ended). All (λ (e : Ended). out_here (take (length p + 1 - e.back) (p ++ b ∷ [])) ≡ out_here (p ++ b ∷ [])) es) (sym items)
-      (λ k c lt. same_iso (p ++ b ∷ []) _ none (laws.byte p b k c lt))
-
-  byte_iso : (p : List ℕ) (b : ℕ) → Shape setting (p ++ b ∷ [])
-      → All (λ (e : Ended). out_here (take (length p + 1 - e.back) (p ++ b ∷ [])) ≡ out_here (p ++ b ∷ [])) (feed (any d) (state_behind files setting p) (b ∷ [])).items
-  byte_iso p b (bare none) =
-      byte_own p b none (rw (take-append_seam p (b ∷ [])) at (bare-taken setting (p ++ b ∷ []) (length p) none)) (prefix_under setting p) refl
-  byte_iso p b (utf8_mark sniff r is) = λ k c lt. marked_iso (p ++ b ∷ []) _ is (utf8_marked files setting sniff r)
-  byte_iso p b (be_mark sniff r is) = λ k c lt. marked_iso (p ++ b ∷ []) _ is (be_marked files setting sniff r)
-  byte_iso p b (le_mark sniff r is) = λ k c lt. marked_iso (p ++ b ∷ []) _ is (le_marked files setting sniff r)
+      rw items (λ k c lt. same_iso (p ++ b ∷ []) _ none (laws.byte p b k c lt))
 
   end_own : (p : List ℕ) → mark_under setting p ≡ None → (o : Option Prefix) → prefix_under setting p ≡ o
       → All (λ (e : Ended). out_here (take (length p - e.back) p) ≡ out_here p) (run (any d) (state_behind files setting p) [])
-  end_own p none (Some x) e = λ k c lt.
-      looks_end p x (is_prefix setting p x e) none _
+  end_own p none (Some x) e = λ k c lt. ascii_iso p _ none (λ n. rw (is_prefix setting p x e) (in_prefix lead x n))
   end_own p none None e =
       let s = (feed (iso_2022_jp lead) iso_2022_jp_start p).state in
       let items : run (any d) (state_behind files setting p) [] ≡ run (iso_2022_jp lead) s [] =
       ap (λ (t : AnyState). run (any d) t []) (own_state p none e) ∙ laws.runs d iso.lift s [] in
-      subst (λ (es : List Ended). All (λ (e : Ended). out_here (take (length p - e.back) p) ≡ out_here p) es) (sym items)
-      (λ k c lt. same_iso p _ none (laws.end p k c lt))
+      rw items (λ k c lt. same_iso p _ none (laws.end p k c lt))
 
-  end_iso : (p : List ℕ) → Shape setting p
-      → All (λ (e : Ended). out_here (take (length p - e.back) p) ≡ out_here p) (run (any d) (state_behind files setting p) [])
-  end_iso p (bare none) = end_own p none (prefix_under setting p) refl
-  end_iso p (utf8_mark sniff r is) = λ k c lt. marked_iso p _ is (utf8_marked files setting sniff r)
-  end_iso p (be_mark sniff r is) = λ k c lt. marked_iso p _ is (be_marked files setting sniff r)
-  end_iso p (le_mark sniff r is) = λ k c lt. marked_iso p _ is (le_marked files setting sniff r)
+-- behind its first bytes the output state is as behind all, or there are escapes and no mark
+same_or_iso : (files : Files) (setting : Setting) (d : AnyDecoding) (bytes : List ℕ) → decoder_in files setting ≡ Some d
+    → ((n : ℕ) → out files setting (take n bytes) ≡ out files setting bytes) ⊎ ((mark_under setting bytes ≡ None) × IsIso files setting d)
+same_or_iso files setting d bytes chosen =
+    let same : ((n : ℕ) → out files setting (take n bytes) ≡ Ascii) → (n : ℕ) → out files setting (take n bytes) ≡ out files setting bytes =
+    λ ascii n. ascii n ∙ sym (rw (take-length bytes) at (ascii (length bytes))) in
+    elim (by_family (indexes_of files setting.given)) [
+      | inr plain ↦ inl (same (λ n. out-given files setting (take n bytes) (plain (take n bytes))))
+      | inl escapes ↦ elim (shape setting bytes) [ inl none ↦ inr (none, is_iso files setting d escapes chosen) | inr mark ↦ inl (same (first_marked files setting bytes mark)) ]
+    ]
 
 pub output_at_byte : (laws : (jis0208 : Loaded) → IsoLaws jis0208) (files : Files) (setting : Setting) (d : AnyDecoding) (p : List ℕ) (b : ℕ) → decoder_in files setting ≡ Some d
     → All (λ (e : Ended). out files setting (take (length p + 1 - e.back) (p ++ b ∷ [])) ≡ out files setting (p ++ b ∷ [])) (feed (any d) (state_behind files setting p) (b ∷ [])).items
-output_at_byte laws files setting d p b chosen = elim (by_family (indexes_of files setting.given)) [
-  | inr plain ↦ λ k c lt. plain_out files setting plain _ (shape setting _) ∙ sym (plain_out files setting plain (p ++ b ∷ []) (shape setting (p ++ b ∷ [])))
-  | inl escapes ↦ let iso = is_iso files setting d escapes chosen in byte_iso files setting d iso (laws iso.jis0208) p b (shape setting (p ++ b ∷ []))
+output_at_byte laws files setting d p b chosen = elim (same_or_iso files setting d (p ++ b ∷ []) chosen) [
+  | inl same ↦ λ k c lt. same _
+  | inr iso ↦ byte_own files setting d iso.1 (laws iso.1.jis0208) p b iso.0 (prefix_under setting p) refl
 ]
 
 pub output_at_last : (laws : (jis0208 : Loaded) → IsoLaws jis0208) (files : Files) (setting : Setting) (d : AnyDecoding) (p : List ℕ) → decoder_in files setting ≡ Some d
     → All (λ (e : Ended). out files setting (take (length p - e.back) p) ≡ out files setting p) (run (any d) (state_behind files setting p) [])
-output_at_last laws files setting d p chosen = elim (by_family (indexes_of files setting.given)) [
-  | inr plain ↦ λ k c lt. plain_out files setting plain _ (shape setting _) ∙ sym (plain_out files setting plain p (shape setting p))
-  | inl escapes ↦ let iso = is_iso files setting d escapes chosen in end_iso files setting d iso (laws iso.jis0208) p (shape setting p)
+output_at_last laws files setting d p chosen = elim (same_or_iso files setting d p chosen) [
+  | inl same ↦ λ k c lt. same _
+  | inr iso ↦ end_own files setting d iso.1 (laws iso.1.jis0208) p iso.0 (prefix_under setting p) refl
 ]

@@ -2,8 +2,7 @@ use Rattle.std.proofs.Common.{◌≡◌, ℕ, ◌+◌, ◌-◌, sym, ap, ◌∙�
 use Rattle.std.proofs.lemmas.List.{take_all, length-drop}
 use Rattle.std.specs.String.{string_bytes}
 use Rattle.std.proofs.lemmas.Str.{chars_from_encodes, IsUtf8-string_bytes}
-use Rattle.decoder_core.specs.Queue.{Fed}
-use Rattle.decoder_core.specs.Queue.{run}
+use Rattle.decoder_core.specs.Queue.{Fed, run}
 use Rattle.codec.proofs.Gathered.{Laws, IsGathered, gathered-whole}
 use Rattle.codec.proofs.decoding.decode_by.Goals as goal
 use Rattle.codec.proofs.decoding.decode_by.Given.{Over}
