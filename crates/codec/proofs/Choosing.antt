@@ -1,30 +1,13 @@
 -- The decoder of an encoding is there exactly where the encoding can be decoded, and does what that encoding's own decoder does.
-use Rattle.std.proofs.Common.{◌≡◌, ◌∙◌, refl, sym, ap, ℕ, eqb, Bool, ◌&&◌, true, false, List, [], ◌∷◌, length, drop, Option, Some, None}
-use Rattle.std.specs.List.{list_all, starts_with}
-use Rattle.std.specs.Option.{is_some, IfSome, option_map, unwrap_or}
+use Rattle.std.proofs.Common.{◌≡◌, ◌∙◌, refl, sym, ap, ℕ, eqb, Bool, ◌&&◌, true, false, List, [], ◌∷◌, length, drop, Option, Some, None, is_some, IfSome, option_map, unwrap_or}
+use Rattle.codec.proofs.Prelude.{list_all, starts_with, Utf8, Utf16Be, Utf16Le, Setting, Family, Loaded, Ended, by_if, places, OwnDecoder, AnyState, Sniffing, AnyDecoding, Standing, decoder_in, in_force_of, own_in, run_behind, standing, standing_of, stands_behind, under, state_in, state_behind, coding, coding_run, decode, run_in, Mark, mark_of, mark_under, in_force, mark_length, prefix_under}
 use Rattle.enc_names.specs.declared.encoding.Encoding.{Encoding}
-use Rattle.enc_names.specs.declared.encoding.Encoding.TheVariants.{Utf8, Utf16Be, Utf16Le}
-use Rattle.enc_names.specs.declared.setting.Setting.{Setting}
-use Rattle.index_loader.specs.declared.family.Family.{Family}
 use Rattle.index_loader.specs.Families.{family_map, family_of, needed}
 use Rattle.index_loader.specs.declared.family.Family.TheVariants as of
 use Rattle.index_loader.specs.declared.kind.IndexKind.{IndexKind}
-use Rattle.index_loader.specs.Index.{Loaded}
 use Rattle.index_loader.specs.Kinds.{home_of}
 use Rattle.index_loader.specs.Pairs.{Pairs}
 use Rattle.index_loader.specs.Files.{Files, pairs_of, index_of, indexes_of, has_files}
-use Rattle.decoder_core.specs.declared.item.Ended.{Ended}
-use Rattle.decoder_core.specs.ByCases.{by_if}
-use Rattle.decoder_core.specs.Placed.{places}
-use Rattle.codec.specs.declared.own.OwnDecoder.{OwnDecoder}
-use Rattle.codec.specs.declared.state.AnyState.{AnyState}
-use Rattle.codec.specs.declared.state.AnyState.TheVariants.{Sniffing}
-use Rattle.codec.specs.Any.{AnyDecoding, Standing, decoder_in, in_force_of, own_in, run_behind, standing, standing_of, stands_behind, under}
-use Rattle.codec.specs.Behind.{state_in, state_behind}
-use Rattle.codec.specs.Coding.{coding, coding_run}
-use Rattle.codec.specs.Decode.{decode, run_in}
-use Rattle.codec.specs.Mark.{Mark, mark_of, mark_under, in_force, mark_length}
-use Rattle.codec.specs.Sniffing.{prefix_under}
 use Rattle.codec.proofs.Looking.{by_bom}
 
 -- a decoder does what is wanted of it

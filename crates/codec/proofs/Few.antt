@@ -1,18 +1,13 @@
 -- How many items a decoder gives: one for each byte read, and at most seven more.
 use Rattle.std.proofs.Common.{◌≡◌, refl, ap, ℕ, zero, suc, ◌+◌, ◌*◌, ◌≤◌, List, [], ◌∷◌, length, length-append, arith, Some}
-use Rattle.decoder_core.specs.declared.item.Ended.{Ended}
-use Rattle.decoder_core.specs.declared.handler.Answer.{Answer}
+use Rattle.codec.proofs.Prelude.{Ended, Answer, Table, Fed, turn_at, queue_after, told, fed_after, turns, run, feed_for, feed, Counts, cost, shown_at, shown_from}
 use Rattle.decoder_core.specs.declared.handler.Answer.TheVariants.{Nothing, Gives, Finished}
-use Rattle.decoder_core.specs.Queue.{Table, Fed, turn_at, queue_after, told, fed_after, turns, run, feed_for, feed}
-use Rattle.decoder_core.specs.Counts.{Counts, cost}
-use Rattle.decoder_core.specs.Shown.{shown_at, shown_from}
 
 module _ {S : Type 0} (table : Table S) (c : Counts table) where
   after_turn : (a : Answer) (n left room bytes : ℕ) (next : S) (f : Fed S) → left + c.bytes next + cost a ≤ room → length f.items + c.bytes f.state ≤ left + c.bytes next
       → length (fed_after a n next f).items + c.bytes (fed_after a n next f).state ≤ room
-  after_turn Nothing n left room bytes next f h k = Prim.omega (arith, h, k)
   after_turn (Gives i) n left room bytes next f h k = Prim.omega (arith, h, k)
-  after_turn Finished n left room bytes next f h k = Prim.omega (arith, h, k)
+  after_turn a n left room bytes next f h k = Prim.omega (arith, h, k)
 
   few-feed_for : (n : ℕ) (s : S) (q : List ℕ) → length (feed_for table n s q).items + c.bytes (feed_for table n s q).state ≤ length q + c.bytes s
   unfolding feed_for
@@ -27,9 +22,8 @@ module _ {S : Type 0} (table : Table S) (c : Counts table) where
   few-feed s q = few-feed_for (8 * length q + 32) s q
 
   few-told : (a : Answer) (n left room : ℕ) (next : S) (es : List Ended) → left + c.bytes next + cost a ≤ room → length es ≤ left + c.bytes next → length (told a n es) ≤ room
-  few-told Nothing n left room next es h k = Prim.omega (arith, h, k)
   few-told (Gives i) n left room next es h k = Prim.omega (arith, h, k)
-  few-told Finished n left room next es h k = Prim.omega (arith, h, k)
+  few-told a n left room next es h k = Prim.omega (arith, h, k)
 
   few-turns : (n : ℕ) (s : S) (q : List ℕ) → length (turns table n s q) ≤ length q + c.bytes s
   unfolding turns

@@ -1,15 +1,7 @@
 -- Decoding gives no more items than there are bytes.
 use Rattle.std.proofs.Common.{◌≡◌, refl, ap, ℕ, suc, ◌-◌, ◌≤◌, List, [], ◌∷◌, length, drop, length-drop, arith, Option}
-use Rattle.enc_names.specs.declared.setting.Setting.{Setting}
-use Rattle.index_loader.specs.declared.family.Family.{Family}
+use Rattle.codec.proofs.Prelude.{Setting, Family, Loaded, Ended, places, lawful_alone, coding, coding_run, decode, mark_length, in_force}
 use Rattle.index_loader.specs.Files.{Files, indexes_of}
-use Rattle.index_loader.specs.Index.{Loaded}
-use Rattle.decoder_core.specs.declared.item.Ended.{Ended}
-use Rattle.decoder_core.specs.Placed.{places}
-use Rattle.codec.specs.AnyLaws.{lawful_alone}
-use Rattle.codec.specs.Coding.{coding, coding_run}
-use Rattle.codec.specs.Decode.{decode}
-use Rattle.codec.specs.Mark.{mark_length, in_force}
 use Rattle.codec.proofs.Few.{few-run_from}
 
 in_family : (family : Family (Option Loaded)) (bytes : List ℕ) → length (coding_run (coding family) bytes) ≤ length bytes

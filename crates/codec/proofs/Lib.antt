@@ -1,8 +1,10 @@
 pub mod Choosing
 pub mod Few
+pub mod Filled
 pub mod Gathered
 pub mod ItemCounts
 pub mod Looking
 pub mod Near
 pub mod OutputStates
+pub mod Prelude
 pub mod Windows

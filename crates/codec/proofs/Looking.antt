@@ -1,17 +1,9 @@
 -- What a decoder does that looks for a byte order mark first.
-use Rattle.std.proofs.Common.{◌≡◌, refl, sym, subst, ◌∙◌, ℕ, false, ◌==◌, List, [], ◌∷◌, ◌++◌, Option, Some, None, option_map, inl, inr}
+use Rattle.std.proofs.Common.{◌≡◌, refl, sym, subst, ◌∙◌, ℕ, false, ◌==◌, List, [], ◌∷◌, ◌++◌, Option, Some, None, option_map, inl, inr, unwrap_or}
 use Rattle.std.proofs.lemmas.Bool.Decides.{eqb_tells}
-use Rattle.std.specs.Option.{unwrap_or}
-use Rattle.enc_names.specs.declared.bom.Bom.{Bom}
-use Rattle.enc_names.specs.declared.bom.Bom.TheVariants.{Sniff, Keep}
+use Rattle.codec.proofs.Prelude.{Bom, Sniff, Keep, Prefix, Nothing, Ef, EfBb, Fe, Ff, AnyState, in_sniffing, in_utf8, in_utf16_be, in_utf16_le, Mark, mark_of, if_sniffed, spelt, prefix_of, sniffing}
 use Rattle.decoder_core.specs.Utf8.{utf8_start}
 use Rattle.decoder_core.specs.Utf16.{utf16_start}
-use Rattle.codec.specs.declared.prefix.Prefix.{Prefix}
-use Rattle.codec.specs.declared.prefix.Prefix.TheVariants.{Nothing, Ef, EfBb, Fe, Ff}
-use Rattle.codec.specs.declared.state.AnyState.{AnyState}
-use Rattle.codec.specs.declared.state.AnyState.TheVariants.{Sniffing as in_sniffing, Utf8 as in_utf8, Utf16Be as in_utf16_be, Utf16Le as in_utf16_le}
-use Rattle.codec.specs.Mark.{Mark, mark_of, if_sniffed}
-use Rattle.codec.specs.Sniffing.{spelt, prefix_of, sniffing}
 
 by_byte : (P : ℕ → Type 0) (k b : ℕ) → P k → ((b == k) ≡ false → (k == b) ≡ false → P b) → P b
 by_byte P k b hit miss = elim (eqb_tells b k) [

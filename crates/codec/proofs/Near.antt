@@ -1,12 +1,7 @@
 -- How far before the bytes read so far an item ends: by the bytes given back, of which there are few.
 use Rattle.std.proofs.Common.{ℕ, zero, suc, ◌+◌, ◌*◌, ◌≤◌, List, [], ◌∷◌, length, arith}
-use Rattle.decoder_core.specs.declared.item.Ended.{Ended}
-use Rattle.decoder_core.specs.declared.handler.Answer.{Answer}
+use Rattle.codec.proofs.Prelude.{Ended, Answer, Table, turn_at, queue_after, told, turns, run, Counts, cost, AnyDecoding, any, any_counts}
 use Rattle.decoder_core.specs.declared.handler.Answer.TheVariants.{Nothing, Gives, Finished}
-use Rattle.decoder_core.specs.Queue.{Table, turn_at, queue_after, told, turns, run}
-use Rattle.decoder_core.specs.Counts.{Counts, cost}
-use Rattle.codec.specs.Any.{AnyDecoding, any}
-use Rattle.codec.specs.AnyLaws.{any_counts}
 use Rattle.codec.specs.Near.{AreNear}
 
 near-more : (m n : ℕ) (es : List Ended) → m ≤ n → AreNear m es → AreNear n es

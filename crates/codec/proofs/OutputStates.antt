@@ -1,40 +1,19 @@
 -- The output state behind the byte that gives an item is that behind the item's end.
-use Rattle.std.proofs.Common.{◌≡◌, refl, sym, ap, subst, ◌∙◌, ℕ, zero, suc, ◌+◌, ◌-◌, ◌≤◌, eqb, Bool, true, false, List, [], ◌∷◌, ◌++◌, length, take, drop, Option, Some, None, All, ◌⊎◌, ⊎_elim, ◌<◌, inl, inr, arith, lit≤, if◌then◌else◌}
-use Rattle.std.specs.Option.{option_map, unwrap_or}
-use Rattle.std.specs.Str.{bytes_eq}
-use Rattle.std.specs.List.{starts_with}
+use Rattle.std.proofs.Common.{◌≡◌, refl, sym, ap, subst, ◌∙◌, ℕ, zero, suc, ◌+◌, ◌-◌, ◌≤◌, eqb, Bool, true, false, List, [], ◌∷◌, ◌++◌, length, take, drop, Option, Some, None, All, ◌⊎◌, ⊎_elim, ◌<◌, inl, inr, arith, lit≤, if◌then◌else◌, option_map, unwrap_or, bytes_eq}
+use Rattle.codec.proofs.Prelude.{starts_with, Bom, Sniff, Keep, Utf8, Utf16Be, Utf16Le, Setting, Family, Loaded, code_point_of, Ended, by_test, IsLifted, lift_fed, Fed, run, feed, feed_for, Prefix, Nothing, Ef, EfBb, Fe, Ff, AnyState, in_sniffing, in_iso_2022_jp, AnyDecoding, any, output_of, standing, of_both, decoder_in, under, state_in, state_behind, looked_up, Mark, mark_of, if_sniffed, mark_under, in_force, mark_length, spelt, prefix_of, prefix_under}
 use Rattle.std.proofs.Math.Seq.{take-nil, take-length, take-append_seam}
 use Rattle.std.proofs.lemmas.List.{take_all, take-append-drop, take-append-le, length-append}
 use Rattle.std.proofs.lemmas.Bool.{cases_lt}
 use Rattle.std.proofs.lemmas.Bool.Decides.{Decides-eqb}
 use Rattle.std.proofs.lemmas.Slice.Eq.{bytes_eq-Decides, starts_is}
-use Rattle.enc_names.specs.declared.bom.Bom.{Bom}
-use Rattle.enc_names.specs.declared.bom.Bom.TheVariants.{Sniff, Keep}
-use Rattle.enc_names.specs.declared.encoding.Encoding.TheVariants.{Utf8, Utf16Be, Utf16Le}
-use Rattle.enc_names.specs.declared.setting.Setting.{Setting}
-use Rattle.index_loader.specs.declared.family.Family.{Family}
 use Rattle.index_loader.specs.declared.family.Family.TheVariants as of
-use Rattle.index_loader.specs.Index.{Loaded, code_point_of}
 use Rattle.index_loader.specs.Files.{Files, indexes_of, has_files}
-use Rattle.decoder_core.specs.declared.item.Ended.{Ended}
-use Rattle.decoder_core.specs.ByCases.{by_test}
-use Rattle.decoder_core.specs.Lift.{IsLifted, lift_fed}
-use Rattle.decoder_core.specs.Queue.{Fed, run, feed, feed_for}
 use Rattle.iso2022jp.specs.declared.output.OutputState.{OutputState}
 use Rattle.iso2022jp.specs.declared.output.OutputState.TheVariants.{Ascii}
 use Rattle.iso2022jp.specs.Iso2022Jp.{Iso2022Jp as Values, iso_2022_jp, iso_2022_jp_start}
 use Rattle.iso2022jp.specs.Iso2022JpLaws.{iso_2022_jp_bytes}
 use Rattle.codec.specs.declared.own.OwnDecoder.TheVariants as by
-use Rattle.codec.specs.declared.prefix.Prefix.{Prefix}
-use Rattle.codec.specs.declared.prefix.Prefix.TheVariants.{Nothing, Ef, EfBb, Fe, Ff}
-use Rattle.codec.specs.declared.state.AnyState.{AnyState}
-use Rattle.codec.specs.declared.state.AnyState.TheVariants.{Sniffing as in_sniffing, Iso2022Jp as in_iso_2022_jp}
-use Rattle.codec.specs.Any.{AnyDecoding, any, output_of, standing, of_both, decoder_in, under}
-use Rattle.codec.specs.Behind.{state_in, state_behind}
-use Rattle.codec.specs.Coding.{looked_up}
-use Rattle.codec.specs.Mark.{Mark, mark_of, if_sniffed, mark_under, in_force, mark_length}
 use Rattle.codec.specs.Output.{output_in, output_behind}
-use Rattle.codec.specs.Sniffing.{spelt, prefix_of, prefix_under}
 use Rattle.codec.proofs.Choosing.{by_mark}
 
 -- ---- the first bytes of a mark, in ISO-2022-JP
@@ -193,7 +172,7 @@ pub output_of_state : (files : Files) (setting : Setting) (bytes : List ℕ) →
 unfolding state_behind output_behind
 output_of_state files setting bytes =
     by_mark (λ m. let e = unwrap_or (option_map (λ (m : Mark). m.encoding) m) setting.given in let rest = drop (unwrap_or (option_map (λ (m : Mark). m.len) m) 0) bytes in
-        output_of (unwrap_or (option_map in_sniffing (prefix_under setting bytes)) (state_in files e rest)) ≡ output_in (indexes_of files e) rest) setting bytes
+    output_of (unwrap_or (option_map in_sniffing (prefix_under setting bytes)) (state_in files e rest)) ≡ output_in (indexes_of files e) rest) setting bytes
     (behind_prefix (prefix_under setting bytes) _ refl) (behind_prefix (prefix_under setting bytes) _ refl) (behind_prefix (prefix_under setting bytes) _ refl)
     (looked files setting bytes (prefix_under setting bytes) refl)
 

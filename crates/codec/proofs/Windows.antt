@@ -3,9 +3,7 @@ use Rattle.std.proofs.Common.{◌≡◌, ℕ, ◌+◌, ◌≤◌, List, [], ◌�
 use Rattle.std.proofs.Math.Seq.{take-append-add, drop-append-add}
 use Rattle.std.proofs.lemmas.Grind.{flat_map-append}
 use Rattle.std.proofs.lemmas.List.{append_cancel_left, append_cancel_right, take-append-le, drop-append-le}
-use Rattle.decoder_core.specs.declared.item.Ended.{Ended}
-use Rattle.decoder_core.specs.Queue.{Table, run, feed, further}
-use Rattle.decoder_core.specs.Text.{item_code_points}
+use Rattle.codec.proofs.Prelude.{Ended, Table, run, feed, further, item_code_points}
 use Rattle.codec.specs.Texts.{ended_text, run_text, fed_text, replaced}
 
 -- ---- lists
@@ -14,13 +12,7 @@ use Rattle.codec.specs.Texts.{ended_text, run_text, fed_text, replaced}
 pub replaced-within : (front part back put : List ℕ) (i j : ℕ) → i ≤ length part → j ≤ length part
     → replaced (front ++ (part ++ back)) (length front + i) (length front + j) put ≡ front ++ (replaced part i j put ++ back)
 replaced-within front part back put i j i_in j_in =
-    ap (λ (xs : List ℕ). (xs ++ put) ++ drop (length front + j) (front ++ (part ++ back))) (take-append-add front (part ++ back) i)
-    ∙ ap (λ (xs : List ℕ). ((front ++ take i (part ++ back)) ++ put) ++ xs) (drop-append-add front (part ++ back) j)
-    ∙ ap (λ (xs : List ℕ). ((front ++ xs) ++ put) ++ drop j (part ++ back)) (take-append-le i part back i_in)
-    ∙ ap (λ (xs : List ℕ). ((front ++ take i part) ++ put) ++ xs) (drop-append-le j part back j_in)
-    ∙ ap (λ (xs : List ℕ). xs ++ (drop j part ++ back)) (append_assoc front (take i part) put)
-    ∙ append_assoc front (take i part ++ put) (drop j part ++ back)
-    ∙ ap (λ (xs : List ℕ). front ++ xs) (sym (append_assoc (take i part ++ put) (drop j part) back))
+    simp (take-append-add front (part ++ back) i, drop-append-add front (part ++ back) j, take-append-le i part back i_in, drop-append-le j part back j_in, append_assoc)
 
 -- so a list is the replaced one exactly where the part is
 pub replaced_part : (front old new back put : List ℕ) (i j : ℕ) → i ≤ length old → j ≤ length old
@@ -34,11 +26,7 @@ replaced_part front old new back put i j i_in j_in = (
 -- the same where nothing is behind
 pub replaced-behind : (front part put : List ℕ) (i j : ℕ)
     → replaced (front ++ part) (length front + i) (length front + j) put ≡ front ++ replaced part i j put
-replaced-behind front part put i j =
-    ap (λ (xs : List ℕ). (xs ++ put) ++ drop (length front + j) (front ++ part)) (take-append-add front part i)
-    ∙ ap (λ (xs : List ℕ). ((front ++ take i part) ++ put) ++ xs) (drop-append-add front part j)
-    ∙ ap (λ (xs : List ℕ). xs ++ drop j part) (append_assoc front (take i part) put)
-    ∙ append_assoc front (take i part ++ put) (drop j part)
+replaced-behind front part put i j = simp (take-append-add front part i, drop-append-add front part j, append_assoc)
 
 pub replaced_rest : (front old new put : List ℕ) (i j : ℕ)
     → (front ++ new ≡ replaced (front ++ old) (length front + i) (length front + j) put) ↔ (new ≡ replaced old i j put)
@@ -70,9 +58,7 @@ module _ {S : Type 0} (table : Table S) (parts : Parts table) where
   -- the text before, between and behind
   run_text-parts : (s : S) (front part back : List ℕ) → let at = (feed table s front).state in
       run_text table s (front ++ (part ++ back)) ≡ fed_text table s front ++ (fed_text table at part ++ run_text table (feed table at part).state back)
-  run_text-parts s front part back =
-      run_text-append s front (part ++ back)
-      ∙ ap (λ (xs : List ℕ). fed_text table s front ++ xs) (run_text-append (feed table s front).state part back)
+  run_text-parts s front part back = rw (run_text-append s front (part ++ back), run_text-append (feed table s front).state part back) refl
 
   -- Where old and new bytes stand between the same bytes, and the states behind them agree, the whole text is replaced as it should be exactly
   -- where the text between is.

@@ -1,11 +1,8 @@
 -- Pairs in cells, and the others beside them.
-use Rattle.std.proofs.Common.{◌≡◌, ◌≢◌, true, false, cond, ℕ, zero, suc, ◌+◌, ◌-◌, ◌≤◌, ◌<◌, ◌⊎◌, inl, inr, List, [], ◌∷◌, ◌++◌, length, get_or, set, map, filter, nat_le, replicate, Option, Some, None, All, refl, sym, ap, subst, arith, ◌∙◌, ⊎_elim}
+use Rattle.std.proofs.Common.{◌≡◌, ◌≢◌, true, false, cond, ℕ, zero, suc, ◌+◌, ◌-◌, ◌≤◌, ◌<◌, ◌⊎◌, inl, inr, List, [], ◌∷◌, ◌++◌, length, get_or, set, map, filter, nat_le, replicate, Option, Some, None, All, refl, sym, ap, subst, arith, ◌∙◌, ⊎_elim, append_assoc, get_or-set_other, IsPermutation, IfSome}
 use Rattle.std.proofs.lemmas.Bool.{cases_eq, leb-true}
 use Rattle.std.proofs.lemmas.Grind.{get_or-set_at}
-use Rattle.std.proofs.lemmas.List.{append_assoc, get_or-set_other}
 use Rattle.std.proofs.lemmas.List.Sorted.{All-permutation, IsPermutation-append_comm, IsPermutation-append_left, IsPermutation-append_right, IsPermutation-cons, IsPermutation-middle, IsPermutation-refl, IsPermutation-sym, IsPermutation-trans}
-use Rattle.std.specs.List.Sorted.{IsPermutation}
-use Rattle.std.specs.Option.{IfSome}
 use Rattle.index_loader.proofs.ByCodePointLemmas.{has-pointer, pair-of_pointer}
 use Rattle.index_loader.proofs.Members.{Has, all-from, all-has, key-none, key-some, of-greatest, within-permutation, has-filter, from-filter, least-is, greatest-is, least-same, within-filter}
 use Rattle.index_loader.specs.FirstPointers.{AreFirst, IsPut, IsTaken, first_in, greatest_of, pairs_held, pairs_in_cells, pairs_left, pointer_in}

@@ -1,6 +1,5 @@
 -- The least and the greatest of the numbers of a list that pass a test.
-use Rattle.std.proofs.Common.{◌≡◌, ℕ, ◌+◌, ◌≤◌, ◌<◌, ◌&&◌, Bool, true, not, List, filter, Option, Some, None, IfSome, nat_le, arith}
-use Rattle.std.proofs.lemmas.Bool.{leb-true}
+use Rattle.std.proofs.Common.{◌≡◌, ℕ, ◌+◌, ◌≤◌, ◌<◌, ◌&&◌, Bool, true, not, List, filter, Option, Some, None, IfSome, nat_le, arith, leb-true}
 use Rattle.std.proofs.lemmas.Bool.Decides.{nat_tests}
 use Rattle.index_loader.specs.Pairs.{least, greatest}
 use Rattle.index_loader.proofs.Members.{IsFirst, has-filter, from-filter, of-least, of-greatest, least-is, least-same, greatest-is}

@@ -1,8 +1,6 @@
 -- Look-ups in rows that stand in the order of their pointers.
-use Rattle.std.proofs.Common.{◌≡◌, ℕ, zero, suc, ◌+◌, ◌-◌, ◌≤◌, ◌<◌, true, false, [], ◌∷◌, length, get_or, leb, Option, Some, None, refl, sym, arith, inl, inr}
-use Rattle.std.proofs.lemmas.Bool.{eq-eqb, ne_eqb, leb-false}
+use Rattle.std.proofs.Common.{◌≡◌, ℕ, zero, suc, ◌+◌, ◌-◌, ◌≤◌, ◌<◌, true, false, [], ◌∷◌, length, get_or, leb, Option, Some, None, refl, sym, arith, inl, inr, eq-eqb, ne_eqb, leb-false, SomeIff, option_and_then}
 use Rattle.std.specs.Char.{IsScalar}
-use Rattle.std.specs.Option.{SomeIff, option_and_then}
 use Rattle.std.specs.List.Sorted.{IsNonDecreasingBy, IsPartitionPoint}
 use Rattle.index_loader.proofs.Members.{Has, all-has, key-none, key-some, last-up_to, has-contains}
 use Rattle.index_loader.specs.Pairs.{Pairs, code_point_at}

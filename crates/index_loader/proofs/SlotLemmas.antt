@@ -1,8 +1,7 @@
 -- Indexes at the places of their kinds.
-use Rattle.std.proofs.Common.{◌≡◌, ℕ, zero, suc, true, [], ◌∷◌, List, get_or, set, replicate, Bor, Option, Some, None, MatchOption, option_copied, refl, sym, ◌∙◌, ap, ◌⊎◌, inl, inr, ⊎_elim, arith}
+use Rattle.std.proofs.Common.{◌≡◌, ℕ, zero, suc, true, [], ◌∷◌, List, get_or, set, replicate, Bor, Option, Some, None, MatchOption, option_copied, refl, sym, ◌∙◌, ap, ◌⊎◌, inl, inr, ⊎_elim, arith, option_map}
 use Rattle.std.proofs.Math.ListN.{get_or-map}
 use Rattle.std.proofs.lemmas.List.Quantifiers.{position-Some}
-use Rattle.std.specs.Option.{option_map}
 use denote.Enum.Bare.{same_true}
 use Rattle.enc_names.specs.contracts.encoding.Encoding.{the_type}
 use Rattle.index_loader.specs.declared.kind.IndexKind.{IndexKind}

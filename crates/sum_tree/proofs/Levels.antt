@@ -1,6 +1,5 @@
 -- How many levels a tree has, and what a search visits of them.
-use Rattle.std.proofs.Common.{◌≡◌, ℕ, zero, suc, ◌+◌, ◌-◌, ◌*◌, ◌/◌, ◌^◌, ◌<◌, ◌≤◌, length, sym, ap, ◌∙◌, subst, arith}
-use Rattle.std.specs.Prelude.{List, Option, Some}
+use Rattle.std.proofs.Common.{◌≡◌, ℕ, zero, suc, ◌+◌, ◌-◌, ◌*◌, ◌/◌, ◌^◌, ◌<◌, ◌≤◌, length, sym, ap, ◌∙◌, subst, arith, List, Option, Some}
 use Rattle.sum_tree.specs.Row.{Row}
 use Rattle.sum_tree.specs.Visited.{RisesBy}
 use Rattle.sum_tree.specs.Listed.{items_in, IsSoundRoot}

@@ -1,6 +1,5 @@
 -- What a search at the root gives for the list.
-use Rattle.std.proofs.Common.{◌≡◌, ℕ, ◌+◌, ◌<◌, ◌≤◌, List, [], ◌∷◌, ◌++◌, length, take, drop, ap, sym, ◌∙◌, subst, refl, arith, length-append, append_assoc, append-nil}
-use Rattle.std.specs.Prelude.{Option, Some, None, option_to_list}
+use Rattle.std.proofs.Common.{◌≡◌, ℕ, ◌+◌, ◌<◌, ◌≤◌, List, [], ◌∷◌, ◌++◌, length, take, drop, ap, sym, ◌∙◌, subst, refl, arith, length-append, append_assoc, append-nil, Option, Some, None, option_to_list}
 use Rattle.std.proofs.lemmas.List.{take_at, take-append-le, take-append-drop}
 use Rattle.sum_tree.specs.Sums.{MonoidLaws, total, IsSummable}
 use Rattle.sum_tree.specs.Reached.{IsReachable, IsElement, IsPrefix, IsSearched, IsFirstAbove}

@@ -1,13 +1,8 @@
-use Rattle.std.proofs.Common.{◌≡◌, ap, sym, subst, ◌∙◌, ℕ, List, length, Option, option_map}
-use Rattle.std.specs.Option.{unwrap_or}
+use Rattle.std.proofs.Common.{◌≡◌, ap, sym, subst, ◌∙◌, ℕ, List, length, Option, option_map, unwrap_or}
 use Rattle.std.proofs.lemmas.Result.{IfOk-weaker}
-use Rattle.enc_names.specs.declared.setting.Setting.{Setting}
+use Rattle.codec.proofs.Prelude.{Setting, places, run, AnyDecoding, any, any_start, run_behind, Mark, mark_under, mark_length}
 use Rattle.decoder_core.specs.declared.placed.Placed.{Placed}
-use Rattle.decoder_core.specs.Placed.{places}
-use Rattle.decoder_core.specs.Queue.{run}
 use Rattle.codec.specs.Decoding.{IsDecoding}
-use Rattle.codec.specs.Any.{AnyDecoding, any, any_start, run_behind}
-use Rattle.codec.specs.Mark.{Mark, mark_under, mark_length}
 use Rattle.codec.proofs.by_any.decode_any.Goals as goal
 
 -- the items behind a byte order mark, if there is one

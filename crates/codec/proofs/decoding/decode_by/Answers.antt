@@ -1,6 +1,4 @@
-use Rattle.std.proofs.Common.{◌≡◌, ℕ, ◌+◌, ◌-◌, sym, ap, ◌∙◌, arith, List, length, take, drop, Result, Ok, Err, IfOk}
-use Rattle.std.proofs.lemmas.List.{take_all, length-drop}
-use Rattle.std.specs.String.{string_bytes}
+use Rattle.std.proofs.Common.{◌≡◌, ℕ, ◌+◌, ◌-◌, sym, ap, ◌∙◌, arith, List, length, take, drop, Result, Ok, Err, IfOk, take_all, length-drop, string_bytes}
 use Rattle.std.proofs.lemmas.Str.{chars_from_encodes, IsUtf8-string_bytes}
 use Rattle.decoder_core.specs.Queue.{Fed, run}
 use Rattle.codec.proofs.Gathered.{Laws, IsGathered, gathered-whole}

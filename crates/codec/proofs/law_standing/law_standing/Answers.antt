@@ -1,19 +1,9 @@
 use Rattle.std.proofs.Common.{◌≡◌, refl, sym, ap, ◌∙◌, ℕ, List, [], ◌∷◌, length, append-nil, Option, Some, None}
-use Rattle.enc_names.specs.declared.setting.Setting.{Setting}
+use Rattle.codec.proofs.Prelude.{Setting, Answer, Ended, IsLifted, lift_fed, Table, Fed, front, queue_after, told, run, fed_after, feed, OwnDecoder, Prefix, AnyState, AnyDecoding, Standing, any, given_start, standing, standing_of, run_behind, stands_behind, under, mark_of, spelt, prefix_of, sniffing}
 use Rattle.index_loader.specs.declared.family.Family.TheVariants as of
-use Rattle.decoder_core.specs.declared.handler.Answer.{Answer}
-use Rattle.decoder_core.specs.declared.item.Ended.{Ended}
 use Rattle.decoder_core.specs.declared.utf16.ByteOrder.TheVariants.{BigEndian, LittleEndian}
-use Rattle.decoder_core.specs.Lift.{IsLifted, lift_fed}
-use Rattle.decoder_core.specs.Queue.{Table, Fed, front, queue_after, told, run, fed_after, feed}
-use Rattle.codec.specs.declared.own.OwnDecoder.{OwnDecoder}
 use Rattle.codec.specs.declared.own.OwnDecoder.TheVariants as by
-use Rattle.codec.specs.declared.prefix.Prefix.{Prefix}
-use Rattle.codec.specs.declared.state.AnyState.{AnyState}
 use Rattle.codec.specs.declared.state.AnyState.TheVariants as state
-use Rattle.codec.specs.Any.{AnyDecoding, Standing, any, given_start, standing, standing_of, run_behind, stands_behind, under}
-use Rattle.codec.specs.Mark.{mark_of}
-use Rattle.codec.specs.Sniffing.{spelt, prefix_of, sniffing}
 use Rattle.codec.specs.SniffedLaws.{sniffing-answer}
 use Rattle.codec.proofs.Looking.{begun, spelt-looks, looked}
 use Rattle.codec.proofs.law_standing.law_standing.Goals as goal

@@ -1,13 +1,6 @@
-use Rattle.std.proofs.Common.{◌≡◌, ap, sym, subst, ◌∙◌, ℕ, List, [], Some, Option}
-use Rattle.std.specs.Option.{IfSome}
-use Rattle.enc_names.specs.declared.setting.Setting.{Setting}
+use Rattle.std.proofs.Common.{◌≡◌, ap, sym, subst, ◌∙◌, ℕ, List, [], Some, Option, IfSome}
+use Rattle.codec.proofs.Prelude.{Setting, Loaded, Fed, feed, AnyState, in_iso_2022_jp, AnyDecoding, any, any_start, decoder_in, state_behind}
 use Rattle.index_loader.specs.Files.{Files}
-use Rattle.index_loader.specs.Index.{Loaded}
-use Rattle.decoder_core.specs.Queue.{Fed, feed}
-use Rattle.codec.specs.declared.state.AnyState.{AnyState}
-use Rattle.codec.specs.declared.state.AnyState.TheVariants.{Iso2022Jp as in_iso_2022_jp}
-use Rattle.codec.specs.Any.{AnyDecoding, any, any_start, decoder_in}
-use Rattle.codec.specs.Behind.{state_behind}
 use Rattle.codec.proofs.Choosing.{IsUnder, chosen, behind}
 use Rattle.codec.proofs.OutputStates.{IsoLaws, output_of_state, output_at_mark, mark_fits, decoded_in_force, output_at_byte, output_at_last}
 use Rattle.codec.proofs.output_laws.law_output_at_the_end.Goals as goal

@@ -1,7 +1,6 @@
-use Rattle.std.proofs.Common.{refl, ◌≡◌, drop}
+use Rattle.std.proofs.Common.{refl, ◌≡◌, drop, bytes_eq}
 use Rattle.std.specs.Char.{is_ascii_whitespace}
 use Rattle.std.specs.List.{prefix_len}
-use Rattle.std.specs.Str.{bytes_eq}
 use Rattle.std.proofs.lemmas.Bool.Decides.{same_from_decides}
 use Rattle.std.proofs.lemmas.Slice.Eq.{bytes_eq-Decides}
 use Rattle.std.proofs.lemmas.Str.Ascii.{trim_ascii_is}

@@ -1,5 +1,4 @@
-use Rattle.std.proofs.Common.{sym, ap, ◌∙◌, arith}
-use Rattle.std.proofs.lemmas.List.{take_all}
+use Rattle.std.proofs.Common.{sym, ap, ◌∙◌, arith, take_all}
 use Rattle.sum_tree.specs.Sums.{total}
 use Rattle.sum_tree.proofs.Searching.{reach_root, prefix_taken}
 use Rattle.sum_tree.proofs.root.summed.Goals as goal

@@ -1,8 +1,6 @@
 use Rattle.std.proofs.Common.{ap, ◌∙◌, length}
 use Rattle.std.proofs.lemmas.Option.{IfSome_then}
-use Rattle.decoder_core.specs.Placed.{places}
-use Rattle.codec.specs.Any.{decoder_in}
-use Rattle.codec.specs.Mark.{mark_length}
+use Rattle.codec.proofs.Prelude.{places, decoder_in, mark_length}
 use Rattle.codec.proofs.Choosing.{chosen, decodes, behind}
 use Rattle.codec.proofs.decoder.AnyDecoder.under.Goals as goal
 

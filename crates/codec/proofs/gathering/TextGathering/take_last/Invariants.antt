@@ -1,5 +1,4 @@
-use Rattle.std.proofs.Common.{◌≡◌, length, take}
-use Rattle.std.specs.Prelude.{fold}
+use Rattle.std.proofs.Common.{◌≡◌, length, take, fold}
 use Rattle.codec.specs.Gathering.{with_ended}
 use Rattle.codec.proofs.gathering.TextGathering.take_last.Given as goal
 

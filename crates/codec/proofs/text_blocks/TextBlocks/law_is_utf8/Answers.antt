@@ -1,6 +1,5 @@
-use Rattle.std.proofs.Common.{ap, subst}
+use Rattle.std.proofs.Common.{ap, subst, IsUtf8}
 use Rattle.std.proofs.lemmas.Str.{IsUtf8-append, IsUtf8-string_bytes}
-use Rattle.std.specs.Str.{IsUtf8}
 use Rattle.codec.specs.Gathering.{WrittenText}
 use Rattle.codec.proofs.text_blocks.TextBlocks.law_is_utf8.Goals as goal
 

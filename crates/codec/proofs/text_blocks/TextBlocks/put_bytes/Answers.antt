@@ -1,12 +1,8 @@
 use Rattle.std.proofs.Common.{◌≡◌, ℕ, ◌+◌, ◌-◌, ◌≤◌, List, ◌++◌, length, take, arith, ap, sym, ◌∙◌, append_assoc, string_bytes}
-use Rattle.std.proofs.lemmas.Slice.{take-put_mid}
 use Rattle.std.proofs.lemmas.Str.{IsUtf8-append}
-use borrow.Rule.Slice.PartMut.{put_mid}
+use Rattle.codec.proofs.Filled.{filled_more}
 use Rattle.codec.specs.Gathering.{WrittenText}
 use Rattle.codec.proofs.text_blocks.TextBlocks.put_bytes.Goals as goal
-
-filled_more : (at k n : ℕ) (block put text : List ℕ) → put ≡ text → length text ≡ n → at ≤ length block → take (at + n) (put_mid at k block put) ≡ take at block ++ text
-filled_more at k n block put text e f l = take-put_mid at k block put (at + n) (rw e (omega (arith, f))) l ∙ ap (λ (t : List ℕ). take at block ++ t) e
 
 pub invariant_of-self : goal.invariant_of-self
 invariant_of-self g c =

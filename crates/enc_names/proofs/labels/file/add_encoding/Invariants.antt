@@ -1,6 +1,5 @@
 -- The labels so far and those of the texts to come are those of all texts.
-use Rattle.std.proofs.Common.{◌≡◌, drop, option_map}
-use Rattle.std.specs.List.{flat_map}
+use Rattle.std.proofs.Common.{◌≡◌, drop, option_map, flat_map}
 use Rattle.serde_json.specs.Find.{as_str}
 use Rattle.serde_json.specs.View.{items_view}
 use Rattle.enc_names.specs.LabelAnswers.{behind}

@@ -1,6 +1,5 @@
-use Rattle.std.proofs.Common.{◌≡◌, ◌∙◌, Some, [], ap, sym, unwrap_or}
+use Rattle.std.proofs.Common.{◌≡◌, ◌∙◌, Some, [], ap, sym, unwrap_or, option_map}
 use Rattle.std.proofs.lemmas.List.{map-set}
-use Rattle.std.specs.Option.{option_map}
 use Rattle.index_loader.proofs.SlotLemmas.{kept-put}
 use Rattle.index_loader.specs.Files.{Files}
 use Rattle.index_loader.specs.Kinds.{home_of, slot_of}

@@ -1,5 +1,4 @@
-use Rattle.std.proofs.Common.{subst}
-use Rattle.std.specs.Prelude.{option_copied}
+use Rattle.std.proofs.Common.{subst, option_copied}
 use Rattle.sum_tree.specs.Reached.{IsFound}
 use Rattle.sum_tree.proofs.finder.Finder.find.Goals as goal
 

@@ -1,6 +1,5 @@
 use Rattle.std.proofs.lemmas.Grind.{common_steps}
-use Rattle.std.proofs.Common.{length, sym, ap, ◌∙◌, arith}
-use Rattle.std.specs.List.{insert}
+use Rattle.std.proofs.Common.{length, sym, ap, ◌∙◌, arith, insert}
 use Rattle.std.proofs.lemmas.List.Edits.{length-insert}
 use Rattle.sum_tree.specs.Listed.{items_in}
 use Rattle.sum_tree.proofs.Totals.{summable_as, whole_fits}

@@ -1,6 +1,5 @@
 use Rattle.std.proofs.lemmas.Grind.{common_steps}
-use Rattle.std.proofs.Common.{length, sym, ap, ◌∙◌, arith}
-use Rattle.std.specs.List.{remove}
+use Rattle.std.proofs.Common.{length, sym, ap, ◌∙◌, arith, remove}
 use Rattle.std.proofs.lemmas.List.Edits.{length-remove}
 use Rattle.sum_tree.specs.Listed.{items_in, nodes_in}
 use Rattle.sum_tree.proofs.Totals.{summable_as, whole_fits}
