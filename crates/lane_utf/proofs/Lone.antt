@@ -13,47 +13,39 @@ later : (at : ℕ) (o : Option ℕ) → option_map (λ i. at + 1 + i) o ≡ opti
 later at None = refl
 later at (Some i) = ap Some (omega arith)
 
--- where a lead stands before
-behind_lead : (at : ℕ) (trail : Bool) (o : Option ℕ)
-    → cond trail (option_map (λ i. at + 1 + i) o) (Some at) ≡ option_map (λ i. at + i) (cond (not trail || false) (Some 0) (option_map (λ i. i + 1) o))
-behind_lead at true o = later at o
-behind_lead at false o = ap Some (omega arith)
+-- One unit, where the scan from the next on is r, and the first lone surrogate there o: behind a lead, and elsewhere.
+step_pending : (lead trail pair : Bool) (at : ℕ) (o r : Option ℕ) → (trail ≡ true → lead ≡ false)
+    → r ≡ cond (lead && not pair) (Some (at + 1 - 1)) (option_map (λ i. at + 1 + i) o)
+    → cond trail r (Some (at - 1))
+    ≡ cond (not trail) (Some (at - 1)) (option_map (λ i. at + i) (cond ((lead && not pair) || (trail && false)) (Some 0) (option_map (λ i. i + 1) o)))
+step_pending true true pair at o r h e = absurd cc (h refl)
+step_pending false true pair at o r h e = e ∙ later at o
+step_pending lead false pair at o r h e = refl
 
-step : (lead trail : Bool) (us : List ℕ) (at : ℕ) → (trail ≡ true → lead ≡ false)
-    → lone_from false (at + 1) us ≡ option_map (λ i. at + 1 + i) (first_lone_after false us)
-    → lone_from true (at + 1) us ≡ cond (begins_with_trail us) (option_map (λ i. at + 1 + i) (first_lone_after true us)) (Some at)
-    → cond trail (Some at) (lone_from lead (at + 1) us)
-    ≡ option_map (λ i. at + i) (cond ((lead && not (begins_with_trail us)) || (trail && not false)) (Some 0) (option_map (λ i. i + 1) (first_lone_after lead us)))
-step true true us at h p q = absurd cc (h refl)
-step false true us at h p q = ap Some (omega arith)
-step true false us at h p q = q ∙ behind_lead at (begins_with_trail us) (first_lone_after true us)
-step false false us at h p q = p ∙ later at (first_lone_after false us)
+step : (lead trail pair : Bool) (at : ℕ) (o r : Option ℕ) → (trail ≡ true → lead ≡ false)
+    → r ≡ cond (lead && not pair) (Some (at + 1 - 1)) (option_map (λ i. at + 1 + i) o)
+    → cond trail (Some at) r ≡ option_map (λ i. at + i) (cond ((lead && not pair) || (trail && true)) (Some 0) (option_map (λ i. i + 1) o))
+step true true pair at o r h e = absurd cc (h refl)
+step false true pair at o r h e = ap Some (omega arith)
+step true false false at o r h e = e ∙ ap Some (omega arith)
+step true false true at o r h e = e ∙ later at o
+step false false pair at o r h e = e ∙ later at o
 
-step_pending : (lead trail : Bool) (us : List ℕ) (at : ℕ) → (trail ≡ true → lead ≡ false)
-    → lone_from false (at + 1 + 1) us ≡ option_map (λ i. at + 1 + 1 + i) (first_lone_after false us)
-    → cond trail (lone_from lead (at + 1 + 1) us) (Some (at + 1 - 1))
-    ≡ cond trail (option_map (λ i. at + 1 + i) (cond ((lead && not (begins_with_trail us)) || (trail && not true)) (Some 0) (option_map (λ i. i + 1) (first_lone_after lead us)))) (Some at)
-step_pending true true us at h p = absurd cc (h refl)
-step_pending false true us at h p = p ∙ later (at + 1) (first_lone_after false us)
-step_pending true false us at h p = ap Some (omega arith)
-step_pending false false us at h p = ap Some (omega arith)
-
-both : (us : List ℕ)
-    → ((at : ℕ) → lone_from false at us ≡ option_map (λ i. at + i) (first_lone_after false us))
-    × ((at : ℕ) → lone_from true (at + 1) us ≡ cond (begins_with_trail us) (option_map (λ i. at + 1 + i) (first_lone_after true us)) (Some at))
-both [] = (λ at. refl, λ at. ap Some (omega arith))
-both (u ∷ us) =
-    let more = both us in (
-      λ at. step (is_lead u) (is_trail u) us at (trail_leads_none u) (more.0 (at + 1)) (more.1 at),
-      λ at. step_pending (is_lead u) (is_trail u) us at (trail_leads_none u) (more.0 (at + 1 + 1)),
-    )
+scan_is : (after : Bool) (at : ℕ) (us : List ℕ)
+    → lone_from after at us ≡ cond (after && not (begins_with_trail us)) (Some (at - 1)) (option_map (λ i. at + i) (first_lone_after after us))
+scan_is true at [] = refl
+scan_is false at [] = refl
+scan_is true at (u ∷ us) = step_pending (is_lead u) (is_trail u) (begins_with_trail us) at (first_lone_after (is_lead u) us) _ (trail_leads_none u)
+    (scan_is (is_lead u) (at + 1) us)
+scan_is false at (u ∷ us) = step (is_lead u) (is_trail u) (begins_with_trail us) at (first_lone_after (is_lead u) us) _ (trail_leads_none u)
+    (scan_is (is_lead u) (at + 1) us)
 
 from_front : (o : Option ℕ) → option_map (λ i. 0 + i) o ≡ o
 from_front None = refl
 from_front (Some i) = ap Some (omega arith)
 
 pub scanned : (us : List ℕ) → lone_from false 0 us ≡ first_lone us
-scanned us = (both us).0 0 ∙ from_front (first_lone us)
+scanned us = scan_is false 0 us ∙ from_front (first_lone us)
 
 -- What the first answer says of the units behind.
 not_first : (lone : Bool) (o : Option ℕ) (j : ℕ) → cond lone (Some 0) (option_map (λ i. i + 1) o) ≡ Some (suc j) → (lone ≡ false) × (o ≡ Some j)

@@ -1,9 +1,8 @@
 -- Sums and places over the bytes of a text are those over its code points.
-use Rattle.std.proofs.Common.{◌≡◌, refl, sym, ap, ◌∙◌, ℕ, zero, suc, ◌+◌, ◌-◌, ◌/◌, ◌%◌, ◌<◌, ◌≤◌, Bool, true, false, cond, ◌==◌, ◌&&◌, nat_lt, nat_le, List, [], ◌∷◌, ◌++◌, length, take, Some, None, arith}
+use Rattle.std.proofs.Common.{◌≡◌, refl, sym, ap, ◌∙◌, ℕ, zero, suc, ◌+◌, ◌-◌, ◌/◌, ◌%◌, ◌<◌, ◌≤◌, Bool, true, false, cond, ◌==◌, nat_lt, List, [], ◌∷◌, ◌++◌, length, Some, None, arith, ltb-true, ltb-false}
 use Rattle.std.proofs.Math.Utf8.{encode, encodes}
 use Rattle.std.proofs.lemmas.Bool.Decides.{nat_tests}
-use Rattle.std.proofs.lemmas.Bool.{le-leb, lt-leb, leb-true, leb-false, ltb-true, ltb-false}
-use Rattle.std.proofs.lemmas.Str.{encodes-chars}
+use Rattle.std.proofs.lemmas.Str.{encodes-chars, length-encode}
 use Rattle.std.specs.Option.{option_map}
 use Rattle.std.specs.Str.{chars, IsUtf8}
 use Rattle.lane_utf.specs.Selected.{moved, selected, scalar_place, place_index}
@@ -28,12 +27,6 @@ pub record IsLed (weight width : ℕ → ℕ) (c : ℕ) : Type 0 where
   pub weighs : weight lead ≡ width c
   pub some : 1 ≤ width c
   pub rest : Weightless weight trail
-  pub long : suc (length trail) ≡ utf8_width c
-
-both : (x y : Bool) → x && y ≡ true → (x ≡ true) × (y ≡ true)
-both true true e = (refl, refl)
-both true false e = cc
-both false y e = cc
 
 module _ (weight width : ℕ → ℕ) (led : (c : ℕ) → IsLed weight width c) where
   weightless-total : (trail rest : List ℕ) → Weightless weight trail → total_width weight (trail ++ rest) ≡ total_width weight rest
@@ -42,11 +35,7 @@ module _ (weight width : ℕ → ℕ) (led : (c : ℕ) → IsLed weight width c)
 
   weightless-place : (trail rest : List ℕ) (n : ℕ) → Weightless weight trail → place_in weight (trail ++ rest) n ≡ moved (length trail) (place_in weight rest n)
   weightless-place [] rest n h = sym (moved-none (place_in weight rest n))
-  weightless-place (b ∷ bs) rest n h =
-      let none : (weight b == 0) ≡ true = grind (arith, nat_tests, h.0) in
-      let one : 1 + length bs ≡ suc (length bs) = omega arith in
-      ap (λ k. cond k (moved 1 (place_in weight (bs ++ rest) n)) (cond (n == 0) (At 0) (cond (nat_lt n (weight b)) Inside (moved 1 (place_in weight (bs ++ rest) (n - weight b)))))) none
-      ∙ ap (moved 1) (weightless-place bs rest n h.1) ∙ moved-more 1 (length bs) (place_in weight rest n) ∙ ap (λ k. moved k (place_in weight rest n)) one
+  weightless-place (b ∷ bs) rest n h = grind (arith, nat_tests, h.0, weightless-place bs rest n h.1, moved-more)
 
   pub text-total : (cs : List ℕ) → total_width weight (encodes cs) ≡ total_width width cs
   text-total [] = refl
@@ -55,23 +44,22 @@ module _ (weight width : ℕ → ℕ) (led : (c : ℕ) → IsLed weight width c)
       let first : total_width weight (encode c ++ encodes cs) ≡ weight l.lead + total_width weight (l.trail ++ encodes cs) = ap (λ k. total_width weight (k ++ encodes cs)) l.bytes in
       omega (arith, first, l.weighs, weightless-total l.trail (encodes cs) l.rest, text-total cs)
 
+  -- over one code point
+  past_char : (c n : ℕ) (rest : List ℕ) (s : Select) → place_in weight rest (n - width c) ≡ s
+      → place_in weight (encode c ++ rest) n ≡ cond (n == 0) (At 0) (cond (nat_lt n (width c)) Inside (moved (utf8_width c) s))
+  past_char c n rest s e =
+      let l = led c in
+      let behind = weightless-place l.trail rest (n - width c) l.rest in
+      rw l.bytes (grind (arith, nat_tests, l.weighs, l.some, behind, moved-more, ap length l.bytes, length-encode c))
+
   pub text-place : (cs : List ℕ) (n : ℕ) → place_in weight (encodes cs) n ≡ selected width cs n
   text-place [] n = refl
-  text-place (c ∷ cs) n =
-      let l = led c in
-      let es = encodes cs in
-      let some : (weight l.lead == 0) ≡ false = grind (arith, nat_tests, l.weighs, l.some) in
-      let one : 1 + length l.trail ≡ utf8_width c = omega (arith, l.long) in
-      ap (λ k. place_in weight (k ++ es) n) l.bytes
-      ∙ ap (λ k. cond k (moved 1 (place_in weight (l.trail ++ es) n)) (cond (n == 0) (At 0) (cond (nat_lt n (weight l.lead)) Inside (moved 1 (place_in weight (l.trail ++ es) (n - weight l.lead)))))) some
-      ∙ ap (λ w. cond (n == 0) (At 0) (cond (nat_lt n w) Inside (moved 1 (place_in weight (l.trail ++ es) (n - w))))) l.weighs
-      ∙ ap (λ s. cond (n == 0) (At 0) (cond (nat_lt n (width c)) Inside (moved 1 s))) (weightless-place l.trail es (n - width c) l.rest ∙ ap (moved (length l.trail)) (text-place cs (n - width c)))
-      ∙ ap (λ s. cond (n == 0) (At 0) (cond (nat_lt n (width c)) Inside s)) (moved-more 1 (length l.trail) (selected width cs (n - width c)) ∙ ap (λ k. moved k (selected width cs (n - width c))) one)
+  text-place (c ∷ cs) n = past_char c n (encodes cs) _ (text-place cs (n - width c))
 
-  pub total-of : (bytes text : List ℕ) → IsUtf8 text → bytes ≡ text → total_width weight bytes ≡ total_width width (chars text)
+  total-of : (bytes text : List ℕ) → IsUtf8 text → bytes ≡ text → total_width weight bytes ≡ total_width width (chars text)
   total-of bytes text u e = ap (total_width weight) (e ∙ sym (encodes-chars text u)) ∙ text-total (chars text)
 
-  pub place-of : (bytes text : List ℕ) (n : ℕ) → IsUtf8 text → bytes ≡ text → place_in weight bytes n ≡ selected width (chars text) n
+  place-of : (bytes text : List ℕ) (n : ℕ) → IsUtf8 text → bytes ≡ text → place_in weight bytes n ≡ selected width (chars text) n
   place-of bytes text n u e = ap (λ k. place_in weight k n) (e ∙ sym (encodes-chars text u)) ∙ text-place (chars text) n
 
 -- a weight by ranges
@@ -79,55 +67,40 @@ module _ (weight width : ℕ → ℕ)
     (low : (c : ℕ) → c < 128 → weight c ≡ width c)
     (middle : (b c : ℕ) → 192 ≤ b → b < 240 → c < 65536 → weight b ≡ width c)
     (high : (b c : ℕ) → 240 ≤ b → 65536 ≤ c → weight b ≡ width c)
-    (trail : (b : ℕ) → 128 ≤ b → b < 192 → weight b ≡ 0)
+    (trail : (b : ℕ) → weight (128 + b % 64) ≡ 0)
     (some : (c : ℕ) → 1 ≤ width c) where
   led_one : (c : ℕ) → c < 128 → IsLed weight width c
-  led_one c h = record { lead = c; trail = []; bytes = encode_one c h; weighs = low c h; some = some c; rest = tt; long = sym (width_one c h) }
-    where
-      width_one : (c : ℕ) → c < 128 → utf8_width c ≡ 1
-      width_one c h = grind (arith, nat_tests)
+  led_one c h = record { lead = c; trail = []; bytes = encode_one c h; weighs = low c h; some = some c; rest = tt }
 
   led_two : (c : ℕ) → 128 ≤ c → c < 2048 → IsLed weight width c
   led_two c l h = record {
     lead = 192 + c / 64;
-    trail = (128 + c % 64) ∷ [];
+    trail = _;
     bytes = encode_two c l h;
     weighs = middle _ c (omega arith) (omega arith) (omega arith);
     some = some c;
-    rest = (trail _ (omega arith) (omega arith), tt);
-    long = sym (width_two c l h);
+    rest = (trail c, tt);
   }
-    where
-      width_two : (c : ℕ) → 128 ≤ c → c < 2048 → utf8_width c ≡ 2
-      width_two c l h = grind (arith, nat_tests)
 
   led_three : (c : ℕ) → 2048 ≤ c → c < 65536 → IsLed weight width c
   led_three c l h = record {
     lead = 224 + c / 4096;
-    trail = (128 + c / 64 % 64) ∷ (128 + c % 64) ∷ [];
+    trail = _;
     bytes = encode_three c l h;
     weighs = middle _ c (omega arith) (omega arith) h;
     some = some c;
-    rest = (trail _ (omega arith) (omega arith), (trail _ (omega arith) (omega arith), tt));
-    long = sym (width_three c l h);
+    rest = (trail (c / 64), (trail c, tt));
   }
-    where
-      width_three : (c : ℕ) → 2048 ≤ c → c < 65536 → utf8_width c ≡ 3
-      width_three c l h = grind (arith, nat_tests)
 
   led_four : (c : ℕ) → 65536 ≤ c → IsLed weight width c
   led_four c l = record {
     lead = 240 + c / 262144;
-    trail = (128 + c / 4096 % 64) ∷ (128 + c / 64 % 64) ∷ (128 + c % 64) ∷ [];
+    trail = _;
     bytes = encode_four c l;
     weighs = high _ c (omega arith) l;
     some = some c;
-    rest = (trail _ (omega arith) (omega arith), (trail _ (omega arith) (omega arith), (trail _ (omega arith) (omega arith), tt)));
-    long = sym (width_four c l);
+    rest = (trail (c / 4096), (trail (c / 64), (trail c, tt)));
   }
-    where
-      width_four : (c : ℕ) → 65536 ≤ c → utf8_width c ≡ 4
-      width_four c l = grind (arith, nat_tests)
 
   pub led_by_ranges : (c : ℕ) → IsLed weight width c
   led_by_ranges c =
@@ -135,40 +108,29 @@ module _ (weight width : ℕ → ℕ)
       (λ t. by_test (nat_lt c 2048) (λ u. led_two c (ltb-false c 128 t) (ltb-true c 2048 u))
       (λ u. by_test (nat_lt c 65536) (λ v. led_three c (ltb-false c 2048 u) (ltb-true c 65536 v)) (λ v. led_four c (ltb-false c 65536 v))))
 
-scalar_low : (c : ℕ) → c < 128 → scalar_weight c ≡ utf32_width c
-scalar_low c h = grind (arith, nat_tests)
+scalar_led : (c : ℕ) → IsLed scalar_weight utf32_width c
+scalar_led =
+    led_by_ranges scalar_weight utf32_width (λ c h. grind (arith, nat_tests)) (λ b c l h k. grind (arith, nat_tests))
+    (λ b c l h. grind (arith, nat_tests)) (λ b. grind (arith, nat_tests)) (λ c. omega arith)
 
-scalar_lead : (b c : ℕ) → 192 ≤ b → scalar_weight b ≡ utf32_width c
-scalar_lead b c h = grind (arith, nat_tests)
-
-scalar_trail : (b : ℕ) → 128 ≤ b → b < 192 → scalar_weight b ≡ 0
-scalar_trail b l h = grind (arith, nat_tests)
-
-pub scalar_led : (c : ℕ) → IsLed scalar_weight utf32_width c
-scalar_led = led_by_ranges scalar_weight utf32_width scalar_low (λ b c l h k. scalar_lead b c l) (λ b c l h. scalar_lead b c (omega arith)) scalar_trail (λ c. omega arith)
-
-utf16_low : (c : ℕ) → c < 128 → utf16_weight c ≡ utf16_width c
-utf16_low c h = grind (arith, nat_tests)
-
-utf16_middle : (b c : ℕ) → 192 ≤ b → b < 240 → c < 65536 → utf16_weight b ≡ utf16_width c
-utf16_middle b c l h k = grind (arith, nat_tests)
-
-utf16_high : (b c : ℕ) → 240 ≤ b → 65536 ≤ c → utf16_weight b ≡ utf16_width c
-utf16_high b c l h = grind (arith, nat_tests)
-
-utf16_trail : (b : ℕ) → 128 ≤ b → b < 192 → utf16_weight b ≡ 0
-utf16_trail b l h = grind (arith, nat_tests)
-
-utf16_some : (c : ℕ) → 1 ≤ utf16_width c
-utf16_some c = grind (arith, nat_tests)
-
-pub utf16_led : (c : ℕ) → IsLed utf16_weight utf16_width c
-utf16_led = led_by_ranges utf16_weight utf16_width utf16_low utf16_middle utf16_high utf16_trail utf16_some
+utf16_led : (c : ℕ) → IsLed utf16_weight utf16_width c
+utf16_led =
+    led_by_ranges utf16_weight utf16_width (λ c h. grind (arith, nat_tests)) (λ b c l h k. grind (arith, nat_tests))
+    (λ b c l h. grind (arith, nat_tests)) (λ b. grind (arith, nat_tests)) (λ c. grind (arith, nat_tests))
 
 -- code points are counted one by one
-pub ones-length : (cs : List ℕ) → total_width utf32_width cs ≡ length cs
+ones-length : (cs : List ℕ) → total_width utf32_width cs ≡ length cs
 ones-length [] = refl
 ones-length (c ∷ cs) = omega (arith, ones-length cs)
+
+pub scalars_of_text : (bytes text : List ℕ) → IsUtf8 text → bytes ≡ text → total_width scalar_weight bytes ≡ length (chars text)
+scalars_of_text bytes text u e = total-of scalar_weight utf32_width scalar_led bytes text u e ∙ ones-length (chars text)
+
+pub units_of_text : (bytes text : List ℕ) → IsUtf8 text → bytes ≡ text → total_width utf16_weight bytes ≡ total_width utf16_width (chars text)
+units_of_text = total-of utf16_weight utf16_width utf16_led
+
+pub unit_place : (bytes text : List ℕ) (n : ℕ) → IsUtf8 text → bytes ≡ text → place_in utf16_weight bytes n ≡ selected utf16_width (chars text) n
+unit_place = place-of utf16_weight utf16_width utf16_led
 
 moved-index : (k : ℕ) (s : Select) → place_index (moved k s) ≡ option_map (λ i. k + i) (place_index s)
 moved-index k (At i) = refl
@@ -179,25 +141,12 @@ map-if : (b : Bool) (k i : ℕ) → option_map (λ j. k + j) (cond b (Some i) No
 map-if true k i = refl
 map-if false k i = refl
 
-one_less : (m n : ℕ) → nat_le m n ≡ nat_le (suc m) (suc n)
-one_less m n = by_test (nat_le m n) (λ t. t ∙ sym (le-leb (suc m) (suc n) (omega (arith, leb-true m n t)))) (λ t. t ∙ sym (lt-leb (suc m) (suc n) (omega (arith, leb-false m n t))))
-
-pub scalar-index : (cs : List ℕ) (n : ℕ) → place_index (selected utf32_width cs n) ≡ scalar_place cs n
+scalar-index : (cs : List ℕ) (n : ℕ) → place_index (selected utf32_width cs n) ≡ scalar_place cs n
 scalar-index [] zero = refl
-scalar-index [] (suc m) =
-    let some : (suc m == 0) ≡ false = grind (arith, nat_tests) in
-    let more : nat_le (suc m) 0 ≡ false = grind (arith, nat_tests) in
-    ap (λ k. place_index (cond k (At 0) Past)) some ∙ sym (ap (λ k. cond k (Some (total_width utf8_width (take (suc m) []))) None) more)
-scalar-index (c ∷ cs) zero =
-    sym (ap (λ k. cond k (Some (total_width utf8_width (take zero (c ∷ cs)))) None) (le-leb zero (suc (length cs)) (omega arith)))
-scalar-index (c ∷ cs) (suc m) =
-    let some : (suc m == 0) ≡ false = grind (arith, nat_tests) in
-    let less : nat_lt (suc m) 1 ≡ false = grind (arith, nat_tests) in
-    let one : suc m - 1 ≡ m = omega arith in
-    ap (λ k. place_index (cond k (At 0) (cond (nat_lt (suc m) 1) Inside (moved (utf8_width c) (selected utf32_width cs (suc m - 1)))))) some
-    ∙ ap (λ k. place_index (cond k Inside (moved (utf8_width c) (selected utf32_width cs (suc m - 1))))) less
-    ∙ ap (λ k. place_index (moved (utf8_width c) (selected utf32_width cs k))) one
-    ∙ moved-index (utf8_width c) (selected utf32_width cs m)
-    ∙ ap (option_map (λ i. utf8_width c + i)) (scalar-index cs m)
-    ∙ map-if (nat_le m (length cs)) (utf8_width c) (total_width utf8_width (take m cs))
-    ∙ ap (λ k. cond k (Some (utf8_width c + total_width utf8_width (take m cs))) None) (one_less m (length cs))
+scalar-index [] (suc m) = grind (arith, nat_tests)
+scalar-index (c ∷ cs) zero = grind (arith, nat_tests)
+scalar-index (c ∷ cs) (suc m) = grind (arith, nat_tests, moved-index, map-if, scalar-index cs m)
+
+pub scalar_place_of : (bytes text : List ℕ) (n : ℕ) → IsUtf8 text → bytes ≡ text
+    → place_index (place_in scalar_weight bytes n) ≡ scalar_place (chars text) n
+scalar_place_of bytes text n u e = ap place_index (place-of scalar_weight utf32_width scalar_led bytes text n u e) ∙ scalar-index (chars text) n

@@ -4,25 +4,30 @@ use Rattle.std.proofs.lemmas.Bool.Decides.{nat_tests}
 use Rattle.lane_utf.specs.Widths.{total_width, utf8_width}
 use Rattle.lane_utf.specs.Weights.{unit_weight}
 use Rattle.std.proofs.Math.Utf8.{encode, encodes, scalars}
-use Rattle.std.proofs.lemmas.Bool.{le-leb, lt-leb, lt-ltb, le-ltb}
-use Rattle.std.proofs.lemmas.List.{drop_more, drop_all, length-drop}
+use Rattle.std.proofs.lemmas.Bool.{le-leb, lt-leb, le-ltb}
+use Rattle.std.proofs.lemmas.List.{drop_more, length-drop}
 use Rattle.std.proofs.lemmas.Simd.{chunk-drop}
 use Rattle.std.proofs.lemmas.Str.{length-encode}
 use Rattle.lane_utf.specs.Conversions.{utf8_answer}
 use Rattle.lane_utf.specs.declared.faults.ToUtf8Fault.TheVariants.{NeedsRoom as needs_room}
 use Rattle.lane_utf.specs.Utf16.{is_lead, is_trail, code_points, pair_code_point, first_lone, utf16_form, utf16_forms}
+use Rattle.lane_utf.proofs.Putting.{form_low}
+use Rattle.std.proofs.Math.Nat.{mul-suc, mul-le-mul_left}
 use Rattle.lane_utf.proofs.Fronts.{single_front, pair_front, single_trails, pair_trails, lead_bounds, trail_bounds}
 
 pub total-append : (width : ℕ → ℕ) (xs ys : List ℕ) → total_width width (xs ++ ys) ≡ total_width width xs + total_width width ys
 total-append width [] ys = omega arith
 total-append width (x ∷ xs) ys = omega (arith, total-append width xs ys)
 
-weight-le : (u : ℕ) → unit_weight u ≤ 3
+bounded : (width : ℕ → ℕ) (n : ℕ) → ((x : ℕ) → width x ≤ n) → (xs : List ℕ) → total_width width xs ≤ n * length xs
+bounded width n h [] = omega arith
+bounded width n h (x ∷ xs) = omega (arith, h x, bounded width n h xs, mul-suc n (length xs))
+
+pub weight-le : (u : ℕ) → unit_weight u ≤ 3
 weight-le u = grind (arith, nat_tests)
 
 pub units-bound : (us : List ℕ) → total_width unit_weight us ≤ 3 * length us
-units-bound [] = omega arith
-units-bound (u ∷ us) = omega (arith, weight-le u, units-bound us)
+units-bound = bounded unit_weight 3 weight-le
 
 weight-some : (u : ℕ) → 1 ≤ unit_weight u
 weight-some u = grind (arith, nat_tests)
@@ -50,9 +55,6 @@ pub record IsPaired (us : List ℕ) : Type 0 where
   pub are_scalars : scalars (code_points us) ≡ true
   pub form : utf16_forms (code_points us) ≡ us
 
-form_of_single : (u : ℕ) (rest : List ℕ) → u < 65536 → utf16_form u ++ rest ≡ u ∷ rest
-form_of_single u rest h = rw (lt-ltb u 65536 h) refl
-
 form_of_pair : (u v : ℕ) (rest : List ℕ) → is_lead u ≡ true → is_trail v ≡ true → utf16_form (pair_code_point u v) ++ rest ≡ u ∷ v ∷ rest
 form_of_pair u v rest e f =
     let l = lead_bounds u e in
@@ -65,39 +67,34 @@ form_of_pair u v rest e f =
 single_paired : (u : ℕ) (us : List ℕ) → u < 65536 → first_lone (u ∷ us) ≡ None → is_lead u ≡ false → IsPaired us → IsPaired (u ∷ us)
 single_paired u us h e lead more =
     let front = single_front u us h e lead in
-    let same = single_weight u h lead (single_trails u us e lead) in
-    let first : total_width utf8_width (code_points (u ∷ us)) ≡ utf8_width u + total_width utf8_width (code_points us) = ap (total_width utf8_width) front.first in
     record {
-      total = omega (arith, same, more.total, first);
-      are_scalars = ap scalars front.first ∙ rw (front.scalar, more.are_scalars) refl;
-      form = ap utf16_forms front.first ∙ form_of_single u (utf16_forms (code_points us)) h ∙ ap (λ k. u ∷ k) more.form;
+      total = omega (arith, single_weight u h lead (single_trails u us e lead), more.total, ap (total_width utf8_width) front.first);
+      are_scalars = rw (front.first, front.scalar, more.are_scalars) refl;
+      form = rw (front.first, form_low u h, more.form) refl;
     }
 
 pair_paired : (u v : ℕ) (us : List ℕ) → first_lone (u ∷ v ∷ us) ≡ None → is_lead u ≡ true → IsPaired us → IsPaired (u ∷ v ∷ us)
 pair_paired u v us e lead more =
     let front = pair_front u (v ∷ us) e lead in
-    let trail = pair_trails u v us e lead in
+    let trail = pair_trails u (v ∷ us) e lead in
     let l = lead_bounds u lead in
     let t = trail_bounds v trail in
     let here = surrogate_weight u l.0 (omega (arith, l)) in
     let there = surrogate_weight v (omega (arith, t)) t.1 in
     let four = above_width (pair_code_point u v) (omega arith) in
-    let first : total_width utf8_width (code_points (u ∷ v ∷ us)) ≡ utf8_width (pair_code_point u v) + total_width utf8_width (code_points us) = ap (total_width utf8_width) front.first in
     record {
-      total = omega (arith, here, there, four, more.total, first);
-      are_scalars = ap scalars front.first ∙ rw (front.scalar, more.are_scalars) refl;
-      form = ap utf16_forms front.first ∙ form_of_pair u v (utf16_forms (code_points us)) lead trail ∙ ap (λ k. u ∷ v ∷ k) more.form;
+      total = omega (arith, here, there, four, more.total, ap (total_width utf8_width) front.first);
+      are_scalars = rw (front.first, front.scalar, more.are_scalars) refl;
+      form = rw front.first (form_of_pair u v (utf16_forms (code_points us)) lead trail ∙ ap (λ k. u ∷ v ∷ k) more.form);
     }
 
 pub paired : (us : List ℕ) → ((k : ℕ) → Fits w16 (get_or us k 0)) → first_lone us ≡ None → IsPaired us
 paired [] fits e = record { total = refl; are_scalars = refl; form = refl }
 paired (u ∷ []) fits e =
-    by_test (is_lead u)
-    (λ lead. let f = pair_front u [] e lead in absurd (omega (arith, f.within)))
+    by_test (is_lead u) (λ lead. absurd (omega (arith, (pair_front u [] e lead).within)))
     (λ lead. single_paired u [] (fits 0).fits e lead (paired [] (λ k. fits (suc k)) refl))
 paired (u ∷ v ∷ us) fits e =
-    by_test (is_lead u)
-    (λ lead. pair_paired u v us e lead (paired us (λ k. fits (suc (suc k))) (pair_front u (v ∷ us) e lead).paired))
+    by_test (is_lead u) (λ lead. pair_paired u v us e lead (paired us (λ k. fits (suc (suc k))) (pair_front u (v ∷ us) e lead).paired))
     (λ lead. single_paired u (v ∷ us) (fits 0).fits e lead (paired (v ∷ us) (λ k. fits (suc k)) (single_front u (v ∷ us) (fits 0).fits e lead).paired))
 
 -- the bytes of UTF-8
@@ -121,22 +118,22 @@ lacks_room us needed room fits e n h =
     let whole : total_width utf8_width (code_points us) ≡ needed = sym (n ∙ (paired us fits e).total) in
     rw (e, whole, lt-leb needed room h) refl
 
--- Sums along a slice.
-pub total-block : (width : ℕ → ℕ) (xs : List ℕ) (at n : ℕ) → total_width width (drop at xs) ≡ total_width width (take n (drop at xs)) + total_width width (drop (at + n) xs)
-total-block width xs at n = ap (total_width width) (chunk-drop at n xs) ∙ total-append width (take n (drop at xs)) (drop (at + n) xs)
+-- The items from one index to another weigh so much.
+pub record IsSum (width : ℕ → ℕ) (xs : List ℕ) (from at sum : ℕ) : Type 0 where
+  pub within : at ≤ length xs
+  pub same : sum + total_width width (drop at xs) ≡ total_width width (drop from xs)
 
-pub total-one : (width : ℕ → ℕ) (xs : List ℕ) (at : ℕ) → at < length xs → total_width width (drop at xs) ≡ width (get_or xs at 0) + total_width width (drop (at + 1) xs)
-total-one width xs at h = ap (total_width width) (drop_more xs at 0 h)
+module _ {width : ℕ → ℕ} {xs : List ℕ} {from at sum : ℕ} (s : IsSum width xs from at sum) where
+  pub block_summed : (n : ℕ) {r : ℕ} → at + n ≤ length xs → r ≡ total_width width (take n (drop at xs)) → IsSum width xs from (at + n) (sum + r)
+  block_summed n room is = record {
+    within = room;
+    same = omega (arith, s.same, is, ap (total_width width) (chunk-drop at n xs), total-append width (take n (drop at xs)) (drop (at + n) xs));
+  }
 
-pub total-none : (width : ℕ → ℕ) (xs : List ℕ) (at : ℕ) → length xs ≤ at → total_width width (drop at xs) ≡ 0
-total-none width xs at h = ap (total_width width) (drop_all at xs h)
+  pub one_summed : {r : ℕ} → at < length xs → r ≡ width (get_or xs at 0) → IsSum width xs from (at + 1) (sum + r)
+  one_summed room is = record { within = omega arith; same = omega (arith, s.same, is, ap (total_width width) (drop_more xs at 0 room)) }
 
-pub small-bound : (width : ℕ → ℕ) → ((x : ℕ) → width x ≤ 2) → (xs : List ℕ) → total_width width xs ≤ 2 * length xs
-small-bound width h [] = omega arith
-small-bound width h (x ∷ xs) = omega (arith, h x, small-bound width h xs)
-
-pub small-from : (width : ℕ → ℕ) → ((x : ℕ) → width x ≤ 2) → (xs : List ℕ) (at : ℕ) → total_width width (drop at xs) ≤ 2 * length xs
-small-from width h xs at = omega (arith, small-bound width h (drop at xs), length-drop at xs)
-
-pub units-from : (us : List ℕ) (at : ℕ) → total_width unit_weight (drop at us) ≤ 3 * length us
-units-from us at = omega (arith, units-bound (drop at us), length-drop at us)
+  pub sum_bound : (n : ℕ) → ((x : ℕ) → width x ≤ n) → sum + total_width width (drop at xs) ≤ n * length xs
+  sum_bound n h =
+      let less : length (drop from xs) ≤ length xs = omega (arith, length-drop from xs) in
+      omega (arith, s.same, bounded width n h (drop from xs), mul-le-mul_left n less)

@@ -1,12 +1,9 @@
-use Rattle.std.proofs.Common.{length, drop, ◌-◌, ◌+◌, ◌≡◌, ◌≤◌}
-use Rattle.lane_utf.specs.Widths.{total_width}
+use Rattle.std.proofs.Common.{length, ◌-◌}
+use Rattle.lane_utf.proofs.UnitSums.{IsSum}
 use Rattle.lane_utf.proofs.counts.total.Given as goal
 
 abbrev pub invariant-whole : goal.invariant-whole
-invariant-whole g l = record {
-  within : l.at ≤ length l.bytes;
-  same : l.sum + total_width g.M.Measure.weight (drop l.at l.bytes) ≡ total_width g.M.Measure.weight l.bytes;
-}
+invariant-whole g l = IsSum g.M.Measure.weight l.bytes 0 l.at l.sum
 
 abbrev pub decreases-whole : goal.decreases-whole
 decreases-whole g l = length l.bytes - l.at

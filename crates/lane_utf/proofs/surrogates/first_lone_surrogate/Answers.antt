@@ -1,27 +1,19 @@
 use Rattle.std.proofs.Common.{◌∙◌, ap, sym, drop, arith}
+use Rattle.std.proofs.lemmas.Bool.Decides.{nat_tests}
 use Rattle.lane_utf.specs.Scan.{lone_from}
 use Rattle.lane_utf.proofs.Lone.{front_of}
-use Rattle.lane_utf.proofs.UnitMasks.{begins, has_some, goes_on}
+use Rattle.lane_utf.proofs.UnitMasks.{begins, goes_on}
 use Rattle.lane_utf.proofs.surrogates.first_lone_surrogate.Goals as goal
 
 pub whole-init : goal.whole-init
-whole-init c =
-    let some = has_some c.args.units.now (sym c.if-is_empty.false ∙ c.is_empty.ensures) in
-    record { some = omega arith; within = some; same = begins c.args.units.now some (sym c.is_trail.ensures ∙ c.if-is_trail.false) }
+whole-init c = begins c.args.units.now (grind (arith, nat_tests, c.if-is_empty.false, c.is_empty.ensures))
+    (sym c.is_trail.ensures ∙ c.if-is_trail.false)
 
 pub whole-preserved : goal.whole-preserved
-whole-preserved c = record {
-  some = omega arith;
-  within = omega arith;
-  same = goes_on c.args.units.now 32 c.whole.at (omega arith) c.whole.invariant.some (omega arith) (c.is_matched.ensures c.if-is_matched.true) ∙ c.whole.invariant.same;
-}
+whole-preserved c = goes_on 32 c.whole.invariant (omega arith) (omega arith) (c.is_matched.ensures c.if-is_matched.true)
 
 pub steps-preserved : goal.steps-preserved
-steps-preserved c = record {
-  some = omega arith;
-  within = omega arith;
-  same = goes_on c.args.units.now 8 c.steps.at (omega arith) c.steps.invariant.some (omega arith) (c.is_matched-in-steps.ensures c.if-is_matched-2.true) ∙ c.steps.invariant.same;
-}
+steps-preserved c = goes_on 8 c.steps.invariant (omega arith) (omega arith) (c.is_matched-in-steps.ensures c.if-is_matched-2.true)
 
 pub returns-clause-front : goal.returns-clause-front
 returns-clause-front c =

@@ -1,7 +1,8 @@
-use Rattle.std.proofs.Common.{◌≤◌, ◌∙◌, ◌==◌, length, arith, lit<}
+use Rattle.std.proofs.Common.{arith, lit<}
 use Rattle.std.proofs.lemmas.Simd.{shifts_fit_splat, zip2_splat, zip2_of_maps, splat_is_map}
 use Rattle.lane_utf.specs.Utf16.{is_surrogate}
-use Rattle.lane_utf.proofs.UnitMasks.{shifted, same_lane, mask_of_units, top_one, surrogate-by_bits}
+use Rattle.lane_utf.proofs.Measures.{mask_of_lanes}
+use Rattle.lane_utf.proofs.UnitMasks.{shifted, same_lane, surrogate-by_bits}
 use Rattle.lane_utf.proofs.surrogates.surrogates.Goals as goal
 
 pub overflow_shr-highest : goal.overflow_shr-highest
@@ -12,6 +13,5 @@ returns g c =
     let v = c.args.lanes in
     let n = g.row.N in
     let long = c.fits-lanes.0 in
-    let few : length v ≤ 64 = omega (arith, long) in
-    mask_of_units _ is_surrogate v _ few (zip2_of_maps same_lane _ _ v (zip2_splat shifted v n 11 long) (splat_is_map v n 27 long))
-    (λ u. top_one (shifted u 11 == 27) ∙ surrogate-by_bits u)
+    mask_of_lanes 15 _ is_surrogate v n long (omega arith)
+    (zip2_of_maps same_lane _ _ v (zip2_splat shifted v n 11 long) (splat_is_map v n 27 long)) surrogate-by_bits

@@ -1,15 +1,6 @@
-use Rattle.std.proofs.Common.{◌≤◌, length, arith, bit_and, nat_le, nat_lt}
-use Rattle.std.proofs.lemmas.Simd.{zip2_splat, zip2_splat_left, zip2_of_maps}
-use Rattle.lane_utf.specs.Utf16.{is_trail}
-use Rattle.lane_utf.proofs.UnitMasks.{at_most, below, mask_of_units, top_both}
+use Rattle.std.proofs.Common.{arith}
+use Rattle.lane_utf.proofs.UnitMasks.{mask_between}
 use Rattle.lane_utf.proofs.surrogates.trails.Goals as goal
 
 pub returns : goal.returns
-returns g c =
-    let v = c.args.lanes in
-    let n = g.row.N in
-    let long = c.fits-lanes.0 in
-    let few : length v ≤ 64 = omega (arith, long) in
-    let from = zip2_splat_left at_most 56320 n v long in
-    let to = zip2_splat below v n 57344 long in
-    mask_of_units _ is_trail v _ few (zip2_of_maps bit_and _ _ v from to) (λ u. top_both (nat_le 56320 u) (nat_lt u 57344))
+returns g c = mask_between g.row.N 56320 57344 c.args.lanes c.fits-lanes.0 (omega arith)

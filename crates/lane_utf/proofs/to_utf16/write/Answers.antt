@@ -1,19 +1,18 @@
-use Rattle.std.proofs.Common.{◌+◌, ◌≤◌, ◌∙◌, ap, subst, length, drop, take, ◌++◌, arith}
-use Rattle.std.proofs.lemmas.List.{drop-drop, drop_all, length-drop}
+use Rattle.std.proofs.Common.{◌+◌, ◌≤◌, ◌∙◌, ap, subst, length, drop, take, ◌++◌, arith, drop-drop, length-drop}
+use Rattle.std.proofs.lemmas.List.{drop_all}
 use Rattle.std.proofs.lemmas.Simd.{length-chunk}
 use Rattle.std.proofs.lemmas.Str.{chars-nil}
 use Rattle.std.specs.Str.{chars, IsUtf8}
 use Rattle.lane_utf.specs.Utf16.{utf16_form, utf16_forms}
 use Rattle.lane_utf.proofs.Decoding.{ascii-text, ascii-forms, form-width}
-use Rattle.lane_utf.proofs.Putting.{block_room, block_goes_on, form_room, form_goes_on, writing_done}
+use Rattle.lane_utf.proofs.Putting.{writing_room, writing_goes_on, writing_done}
 use Rattle.lane_utf.proofs.to_utf16.write.Goals as goal
 
 pub widen-requires-clause-units : goal.widen-requires-clause-units
 widen-requires-clause-units c =
-    let front = take 16 (drop c.text.read c.args.bytes.now) in
-    block_room (utf16_forms (chars c.args.bytes.now)) c.text.written c.text.units _ _ front (utf16_forms (chars (drop 16 (drop c.text.read c.args.bytes.now)))) 16 c.text.invariant.writing
-    (omega (arith, c.requires.room, c.text.auto.units))
-    (ascii-forms (drop c.text.read c.args.bytes.now) 16 (c.is_ascii_block.ensures c.if-is_ascii_block.true)) (length-chunk c.text.read 16 c.args.bytes.now (omega arith))
+    let behind = drop c.text.read c.args.bytes.now in
+    let room = writing_room (take 16 behind) _ c.text.invariant.writing (ascii-forms behind 16 (c.is_ascii_block.ensures c.if-is_ascii_block.true)) in
+    omega (arith, c.requires.room, c.text.auto.units, room, length-chunk c.text.read 16 c.args.bytes.now (omega arith))
 
 pub text-preserved-then-is_ascii_block : goal.text-preserved-then-is_ascii_block
 text-preserved-then-is_ascii_block c =
@@ -25,14 +24,16 @@ text-preserved-then-is_ascii_block c =
     record {
       within = within;
       text = subst IsUtf8 same (ascii-text behind 16 c.text.invariant.text (omega (arith, within, length-drop c.text.read bytes)) ascii);
-      writing = block_goes_on (utf16_forms (chars bytes)) c.text.written c.text.units _ _ (take 16 behind) _ 16 c.widen.new.units c.text.invariant.writing (omega (arith, c.requires.room, c.text.auto.units))
-          (ascii-forms behind 16 ascii ∙ ap (λ k. take 16 behind ++ utf16_forms (chars k)) same) (length-chunk c.text.read 16 bytes within) c.widen.ensures;
+      writing = writing_goes_on (take 16 behind) _ _ _ c.text.invariant.writing (omega (arith, c.requires.room, c.text.auto.units))
+          (ascii-forms behind 16 ascii ∙ ap (λ k. take 16 behind ++ utf16_forms (chars k)) same)
+          (omega (arith, length-chunk c.text.read 16 bytes within)) c.widen.ensures;
     }
 
 pub put-written-requires-clause-room : goal.put-written-requires-clause-room
 put-written-requires-clause-room c =
-    form_room (utf16_forms (chars c.args.bytes.now)) c.text.written c.text.units _ _ _ c.next-code_point.result.0 c.text.invariant.writing
-    (omega (arith, c.requires.room, c.text.auto.units)) (ap utf16_forms c.next-code_point.ensures.first) (form-width c.next-code_point.result.0)
+    let n = c.next-code_point in
+    let room = writing_room (utf16_form n.result.0) _ c.text.invariant.writing (ap utf16_forms n.ensures.first) in
+    omega (arith, c.requires.room, c.text.auto.units, room, form-width n.result.0)
 
 pub text-preserved : goal.text-preserved
 text-preserved c =
@@ -41,12 +42,13 @@ text-preserved c =
     record {
       within = omega (arith, n.ensures.within, length-drop c.text.read c.args.bytes.now, c.text-test.true);
       text = subst IsUtf8 same n.ensures.text;
-      writing = form_goes_on (utf16_forms (chars c.args.bytes.now)) c.text.written c.text.units _ _ _ n.result.0 c.put-written.result c.put-written.new.units c.text.invariant.writing (omega (arith, c.requires.room, c.text.auto.units))
-          (ap utf16_forms n.ensures.first ∙ ap (λ k. utf16_form n.result.0 ++ utf16_forms (chars k)) same) (form-width n.result.0)
-          c.put-written.ensures.end c.put-written.ensures.units;
+      writing = writing_goes_on (utf16_form n.result.0) _ _ _ c.text.invariant.writing (omega (arith, c.requires.room, c.text.auto.units))
+          (ap utf16_forms n.ensures.first ∙ ap (λ k. utf16_form n.result.0 ++ utf16_forms (chars k)) same)
+          (omega (arith, c.put-written.ensures.end, form-width n.result.0))
+          c.put-written.ensures.units;
     }
 
 pub returns : goal.returns
 returns c =
-    let none = drop_all c.text.read c.args.bytes.now c.text-test.false in
-    writing_done _ c.text.written c.text.units c.args.units.now _ c.text.invariant.writing (ap (λ k. utf16_forms (chars k)) none ∙ ap utf16_forms chars-nil)
+    writing_done c.text.invariant.writing
+    (ap (λ k. utf16_forms (chars k)) (drop_all c.text.read c.args.bytes.now c.text-test.false) ∙ ap utf16_forms chars-nil)

@@ -11,5 +11,5 @@ put_scalar-written-requires-clause-room c =
 pub returns-clause-up_to : goal.returns-clause-up_to
 returns-clause-up_to c old u =
     let f = c.front-code_point in
-    scalar_up_to c.args.units.now c.args.bytes.now old c.put_scalar-written.new.bytes c.args.from f.result.0 f.result.1 c.put_scalar-written.result
-    c.requires.within c.requires.room f.ensures c.put_scalar-written.ensures.end c.put_scalar-written.ensures.bytes u
+    scalar_up_to c.put_scalar-written.new.bytes f.result.0 f.result.1 c.put_scalar-written.result c.requires.within c.requires.room f.ensures
+    c.put_scalar-written.ensures.end c.put_scalar-written.ensures.bytes u

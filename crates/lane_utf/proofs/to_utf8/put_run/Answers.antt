@@ -1,6 +1,4 @@
 use Rattle.std.proofs.Common.{◌*◌, length, refl, arith}
-use Rattle.lane_utf.specs.UnitRuns.{is_one, is_two, one_forms, two_forms, three_forms}
-use Rattle.lane_utf.specs.Weights.{has_three}
 use Rattle.lane_utf.proofs.Progress.{run_room, run_up_to, ones, twos, threes}
 use Rattle.lane_utf.proofs.to_utf8.put_run.Goals as goal
 
@@ -9,21 +7,21 @@ put_ones-requires c = omega (arith, run_room c.args.units.now c.args.from (lengt
 
 pub returns-then-count-gt0-clause-up_to : goal.returns-then-count-gt0-clause-up_to
 returns-then-count-gt0-clause-up_to c old u =
-    run_up_to is_one one_forms 1 ones c.args.units.now c.args.bytes.now old c.put_ones.new.bytes c.args.from c.ones_front-count.result c.ones_front-count.result
-    c.type_inv.units c.requires.left c.requires.room c.ones_front-count.ensures.run (omega arith) c.put_ones.ensures u
+    let k = c.ones_front-count in
+    run_up_to ones _ k.result k.result c.type_inv.units c.requires.left c.requires.room k.ensures.run (omega arith) c.put_ones.ensures u
 
 pub put_threes-requires : goal.put_threes-requires
 put_threes-requires c = omega (arith, run_room c.args.units.now c.args.from (length c.args.bytes.now) c.type_inv.units c.requires.left c.requires.paired c.requires.room)
 
 pub returns-then-count-gt0-3-clause-up_to : goal.returns-then-count-gt0-3-clause-up_to
 returns-then-count-gt0-3-clause-up_to c old u =
-    run_up_to has_three three_forms 3 threes c.args.units.now c.args.bytes.now old c.put_threes.new.bytes c.args.from c.threes_front-count.result (3 * c.threes_front-count.result)
-    c.type_inv.units c.requires.left c.requires.room c.threes_front-count.ensures.run refl c.put_threes.ensures u
+    let k = c.threes_front-count in
+    run_up_to threes _ k.result (3 * k.result) c.type_inv.units c.requires.left c.requires.room k.ensures.run refl c.put_threes.ensures u
 
 pub put_twos-requires : goal.put_twos-requires
 put_twos-requires c = omega (arith, run_room c.args.units.now c.args.from (length c.args.bytes.now) c.type_inv.units c.requires.left c.requires.paired c.requires.room)
 
 pub returns-then-count-gt0-2-clause-up_to : goal.returns-then-count-gt0-2-clause-up_to
 returns-then-count-gt0-2-clause-up_to c old u =
-    run_up_to is_two two_forms 2 twos c.args.units.now c.args.bytes.now old c.put_twos.new.bytes c.args.from c.twos_front-count.result (2 * c.twos_front-count.result)
-    c.type_inv.units c.requires.left c.requires.room c.twos_front-count.ensures.run refl c.put_twos.ensures u
+    let k = c.twos_front-count in
+    run_up_to twos _ k.result (2 * k.result) c.type_inv.units c.requires.left c.requires.room k.ensures.run refl c.put_twos.ensures u

@@ -1,4 +1,3 @@
-use Rattle.std.proofs.Common.{refl}
 use Rattle.lane_utf.proofs.UnitRuns.{parts, small_parts, cast_parts}
 use Rattle.lane_utf.proofs.unit_runs.part_of.Goals as goal
 
@@ -6,4 +5,5 @@ pub overflow_cast-result : goal.overflow_cast-result
 overflow_cast-result c = small_parts c.args.lanes _ c.args.shift c.args.mask c.args.mark c.requires.byte (parts c.args.lanes c.args.shift c.args.mask c.args.mark c.fits-lanes.0)
 
 pub returns : goal.returns
-returns c = cast_parts _ (λ x. refl) c.args.lanes _ c.args.shift c.args.mask c.args.mark c.requires.byte (parts c.args.lanes c.args.shift c.args.mask c.args.mark c.fits-lanes.0)
+returns c = cast_parts c.args.lanes _ c.args.shift c.args.mask c.args.mark c.requires.byte
+    (parts c.args.lanes c.args.shift c.args.mask c.args.mark c.fits-lanes.0)

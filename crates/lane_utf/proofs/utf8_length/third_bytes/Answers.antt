@@ -1,7 +1,8 @@
-use Rattle.std.proofs.Common.{◌≤◌, length, arith, bit_and, bit_or, nat_le, nat_lt}
+use Rattle.std.proofs.Common.{arith, bit_and, bit_or, nat_le, nat_lt}
 use Rattle.std.proofs.lemmas.Simd.{zip2_splat, zip2_splat_left, zip2_of_maps}
 use Rattle.lane_utf.specs.Weights.{has_three}
-use Rattle.lane_utf.proofs.UnitMasks.{at_most, below, mask_of_units, top_either}
+use Rattle.lane_utf.proofs.Measures.{mask_of_lanes}
+use Rattle.lane_utf.proofs.UnitMasks.{at_most, below, top_either}
 use Rattle.lane_utf.proofs.utf8_length.third_bytes.Goals as goal
 
 pub returns : goal.returns
@@ -9,8 +10,6 @@ returns g c =
     let v = c.args.lanes in
     let n = g.row.N in
     let long = c.fits-lanes.0 in
-    let few : length v ≤ 64 = omega (arith, long) in
-    let from = zip2_splat_left at_most 2048 n v long in
-    let to = zip2_splat below v n 55296 long in
-    let above = zip2_splat_left at_most 57344 n v long in
-    mask_of_units _ has_three v _ few (zip2_of_maps bit_or _ _ v (zip2_of_maps bit_and _ _ v from to) above) (λ u. top_either (nat_le 2048 u) (nat_lt u 55296) (nat_le 57344 u))
+    let low = zip2_of_maps bit_and _ _ v (zip2_splat_left at_most 2048 n v long) (zip2_splat below v n 55296 long) in
+    mask_of_lanes 15 _ has_three v n long (omega arith) (zip2_of_maps bit_or _ _ v low (zip2_splat_left at_most 57344 n v long))
+    (λ u. top_either (nat_le 2048 u) (nat_lt u 55296) (nat_le 57344 u))

@@ -1,13 +1,10 @@
-use Rattle.std.proofs.Common.{◌≡◌, ◌≤◌, ◌+◌, ◌-◌, drop, length}
+use Rattle.std.proofs.Common.{length, ◌-◌}
 use Rattle.lane_utf.specs.Weights.{unit_weight}
-use Rattle.lane_utf.specs.Widths.{total_width}
+use Rattle.lane_utf.proofs.UnitSums.{IsSum}
 use Rattle.lane_utf.proofs.utf8_length.utf8_length.Given as goal
 
 abbrev pub invariant-whole : goal.invariant-whole
-invariant-whole l = record {
-  within : l.at ≤ length l.units;
-  same : l.total + total_width unit_weight (drop l.at l.units) ≡ total_width unit_weight l.units;
-}
+invariant-whole l = IsSum unit_weight l.units 0 l.at l.total
 
 abbrev pub decreases-whole : goal.decreases-whole
 decreases-whole l = length l.units - l.at
