@@ -1,60 +1,64 @@
 -- Counting marks block by block.
-use Rattle.std.proofs.Common.{◌≡◌, ℕ, ◌+◌, ◌-◌, ◌/◌, ◌^◌, ◌<◌, ◌≤◌, Bool, List, length, take, drop, sym, ap, ◌∙◌, arith, length-drop}
-use Rattle.std.proofs.lemmas.List.{length-take}
+use Rattle.std.proofs.Common.{◌≡◌, ℕ, ◌+◌, ◌-◌, ◌/◌, ◌^◌, ◌<◌, ◌≤◌, Bool, List, length, take, drop, ap, ◌∙◌, arith, subst, length-drop, length-take, take_all, drop-drop}
 use Rattle.std.specs.Int.RustNames.{count_ones}
 use Rattle.lane_ascii.specs.Flags.{flags_set, IsNthFlag}
 use Rattle.lane_ascii.specs.Marks.{marks, mark_flags, IsNthMark}
-use Rattle.lane_ascii.proofs.Flags.{ones-mask, set-le, set-more, set-rest, mask-drop, drop-drop, take_whole, nth_in, nth_behind}
+use Rattle.lane_ascii.proofs.Flags.{ones_of, set-le, set-more, set-rest, mask-drop, nth_in, nth_behind}
 use Rattle.lane_ascii.proofs.MarkLanes.{marks-flags, length-flags, nth_mark}
 use lib.Lanes.{mask_l}
 
-module _ (f : Bool) (bytes : List ℕ) where
+-- so many are set in front of an index
+pub record IsCounted (f : Bool) (bytes : List ℕ) (at count : ℕ) : Type 0 where
+  pub some : 0 < at
+  pub within : at ≤ length bytes
+  pub counted : count ≡ flags_set (take at (mark_flags f bytes))
+
+-- the place of the flag that has k set ones in front of it, in whichever flags have the mask
+abbrev Finds : ℕ → ℕ → ℕ → Type 0
+Finds mask k r = (fs : List Bool) → length fs ≤ 64 → mask ≡ mask_l fs → k < flags_set fs → IsNthFlag fs k r
+
+module _ {f : Bool} {bytes : List ℕ} {at count : ℕ} (c : IsCounted f bytes at count) where
   abbrev flags : List Bool
   flags = mark_flags f bytes
 
   -- as many as there are bytes, at most
-  pub counted-le : (at : ℕ) → flags_set (take at flags) ≤ length bytes
-  counted-le at = omega (arith, set-rest flags at, set-le flags, length-flags f bytes)
+  pub counted-le : count ≤ length bytes
+  counted-le = omega (arith, c.counted, set-rest flags at, set-le flags, length-flags f bytes)
 
-  pub block_set : (at n mask : ℕ) → mask ≡ mask_l (take n (drop at flags)) → count_ones mask ≡ flags_set (take n (drop at flags))
-  block_set at n mask is = ap count_ones is ∙ ones-mask (take n (drop at flags))
+  pub counted_more : (n : ℕ) {mask : ℕ} → at + n ≤ length bytes → mask ≡ mask_l (take n (drop at flags))
+      → IsCounted f bytes (at + n) (count + count_ones mask)
+  counted_more n room is = record {
+    some = omega (arith, c.some);
+    within = room;
+    counted = omega (arith, c.counted, ones_of (take n (drop at flags)) is, set-more flags at n);
+  }
 
-  pub block_counted : (at n mask : ℕ) → mask ≡ mask_l (take n (drop at flags)) → flags_set (take at flags) + count_ones mask ≡ flags_set (take (at + n) flags)
-  block_counted at n mask is = ap (λ m. flags_set (take at flags) + m) (block_set at n mask is) ∙ sym (set-more flags at n)
-
-  pub rest_set : (at mask : ℕ) → mask ≡ mask_l (drop at flags) → count_ones mask ≡ flags_set (drop at flags)
-  rest_set at mask is = ap count_ones is ∙ ones-mask (drop at flags)
-
-  pub rest_counted : (at mask : ℕ) → mask ≡ mask_l (drop at flags) → flags_set (take at flags) + count_ones mask ≡ marks f bytes
-  rest_counted at mask is = ap (λ m. flags_set (take at flags) + m) (rest_set at mask is) ∙ sym (set-rest flags at) ∙ sym (marks-flags f bytes)
-
-  -- what the block at the end has behind what was seen
-  pub end_of_block : (last n at mask : ℕ) → last + n ≡ length bytes → last ≤ at → mask ≡ mask_l (take n (drop last flags)) → mask / 2 ^ (at - last) ≡ mask_l (drop at flags)
-  end_of_block last n at mask room from is =
-      let whole : take n (drop last flags) ≡ drop last flags = take_whole n (drop last flags) (omega (arith, length-drop last flags, length-flags f bytes)) in
-      let to : last + (at - last) ≡ at = omega arith in
-      ap (λ m. m / 2 ^ (at - last)) is ∙ mask-drop (at - last) (take n (drop last flags)) ∙ ap (λ fs. mask_l (drop (at - last) fs)) whole
-      ∙ ap mask_l (drop-drop last (at - last) flags) ∙ ap (λ k. mask_l (drop k flags)) to
+  pub counted_all : {mask : ℕ} → mask ≡ mask_l (drop at flags) → count + count_ones mask ≡ marks f bytes
+  counted_all is = omega (arith, c.counted, ones_of (drop at flags) is, set-rest flags at, marks-flags f bytes)
 
   -- the flag that is found in what a mask has is the mark
-  pub mark_in_block : (at m before n mask r : ℕ) → before ≡ flags_set (take at flags) → before ≤ n → m ≤ 64 → n - before < count_ones mask → mask ≡ mask_l (take m (drop at flags))
-      → ((fs : List Bool) → length fs ≤ 64 → mask ≡ mask_l fs → n - before < flags_set fs → IsNthFlag fs (n - before) r) → IsNthMark f bytes n (at + r)
-  mark_in_block at m before n mask r counted le short less is place =
-      let few : length (take m (drop at flags)) ≤ 64 = omega (arith, length-take m (drop at flags)) in
-      let h = place (take m (drop at flags)) few is (omega (arith, block_set at m mask is)) in
-      let e : flags_set (take at flags) + (n - before) ≡ n = omega arith in
-      nth_mark f bytes n (at + r) (ap_nth e (nth_in flags at m (n - before) r h))
-    where
-      ap_nth : {a b : ℕ} → a ≡ b → IsNthFlag flags a (at + r) → IsNthFlag flags b (at + r)
-      ap_nth e h = rw (← e) h
+  mark_in : (gs : List Bool) (n mask r : ℕ) → ((k : ℕ) → IsNthFlag gs k r → IsNthFlag flags (flags_set (take at flags) + k) (at + r)) → count ≤ n
+      → length gs ≤ 64 → n - count < count_ones mask → mask ≡ mask_l gs → Finds mask (n - count) r → IsNthMark f bytes n (at + r)
+  mark_in gs n mask r among le few less is place =
+      let e : flags_set (take at flags) + (n - count) ≡ n = omega (arith, c.counted) in
+      nth_mark f bytes n (at + r) (subst (λ k. IsNthFlag flags k (at + r)) e (among (n - count) (place gs few is (omega (arith, ones_of gs is)))))
 
-  pub mark_in_rest : (at before n mask r : ℕ) → before ≡ flags_set (take at flags) → before ≤ n → length bytes ≤ at + 64 → n - before < count_ones mask → mask ≡ mask_l (drop at flags)
-      → ((fs : List Bool) → length fs ≤ 64 → mask ≡ mask_l fs → n - before < flags_set fs → IsNthFlag fs (n - before) r) → IsNthMark f bytes n (at + r)
-  mark_in_rest at before n mask r counted le short less is place =
-      let few : length (drop at flags) ≤ 64 = omega (arith, length-drop at flags, length-flags f bytes) in
-      let h = place (drop at flags) few is (omega (arith, rest_set at mask is)) in
-      let e : flags_set (take at flags) + (n - before) ≡ n = omega arith in
-      nth_mark f bytes n (at + r) (ap_nth e (nth_behind flags at (n - before) r h))
-    where
-      ap_nth : {a b : ℕ} → a ≡ b → IsNthFlag flags a (at + r) → IsNthFlag flags b (at + r)
-      ap_nth e h = rw (← e) h
+  pub mark_in_block : (m n mask r : ℕ) → count ≤ n → m ≤ 64 → n - count < count_ones mask → mask ≡ mask_l (take m (drop at flags))
+      → Finds mask (n - count) r → IsNthMark f bytes n (at + r)
+  mark_in_block m n mask r le short = mark_in (take m (drop at flags)) n mask r (λ k. nth_in flags at m k r) le
+      (omega (arith, length-take m (drop at flags)))
+
+  pub mark_in_rest : (n mask r : ℕ) → count ≤ n → length bytes ≤ at + 64 → n - count < count_ones mask → mask ≡ mask_l (drop at flags)
+      → Finds mask (n - count) r → IsNthMark f bytes n (at + r)
+  mark_in_rest n mask r le short = mark_in (drop at flags) n mask r (λ k. nth_behind flags at k r) le
+      (omega (arith, length-drop at flags, length-flags f bytes))
+
+-- what the block at the end has behind what was seen
+pub end_of_block : (f : Bool) (bytes : List ℕ) (last n at mask : ℕ) → last + n ≡ length bytes → last ≤ at
+    → mask ≡ mask_l (take n (drop last (mark_flags f bytes))) → mask / 2 ^ (at - last) ≡ mask_l (drop at (mark_flags f bytes))
+end_of_block f bytes last n at mask room from is =
+    let flags = mark_flags f bytes in
+    let to : last + (at - last) ≡ at = omega arith in
+    ap (λ m. m / 2 ^ (at - last)) is ∙ mask-drop (at - last) (take n (drop last flags))
+    ∙ ap (λ fs. mask_l (drop (at - last) fs)) (take_all n (drop last flags) (omega (arith, length-drop last flags, length-flags f bytes)))
+    ∙ ap mask_l (drop-drop (at - last) last flags ∙ ap (λ k. drop k flags) to)

@@ -1,18 +1,19 @@
 -- Flags of elements and the masks that have them as bits.
-use Rattle.std.proofs.Common.{◌≡◌, ℕ, zero, suc, ◌+◌, ◌*◌, ◌-◌, ◌/◌, ◌%◌, ◌^◌, ◌<◌, ◌≤◌, Bool, true, false, cond, List, [], ◌∷◌, ◌++◌, length, take, drop, Some, refl, sym, ap, ◌∙◌, arith, take-add}
+use Rattle.std.proofs.Common.{◌≡◌, ℕ, zero, suc, ◌+◌, ◌*◌, ◌-◌, ◌/◌, ◌%◌, ◌^◌, ◌<◌, ◌≤◌, Bool, true, false, cond, List, [], ◌∷◌, ◌++◌, length, take, drop, Some, refl, sym, ap, ◌∙◌, arith, take-add, take-take, take_all, drop-drop, take-append-drop, length-drop, length-take, get_or-drop, get_or-take, pow_pos}
 use Rattle.std.specs.Prelude.{slice_get}
 use Rattle.std.specs.Int.RustNames.{count_ones}
 use Rattle.std.proofs.lemmas.Simd.{ones-mask_l_cons}
-use Rattle.std.proofs.lemmas.List.{take-append-drop, length-drop, length-take}
+use Rattle.std.proofs.lemmas.Bool.{cases_Bool}
+use Rattle.std.proofs.lemmas.List.{drop-take}
+use Rattle.std.proofs.lemmas.Option.{slice_get-get_or, get_or_from_slice_get}
 use Rattle.lane_ascii.specs.Flags.{flags_set, IsNthFlag, IsSought}
 use Rattle.lane_ascii.specs.declared.bits.Sought.{Sought}
 use lib.Lanes.{mask_l}
 use Rattle.std.proofs.Math.Nat.{pow-suc}
-use Rattle.std.proofs.lemmas.Nat.{pow_pos, shr_high, mod_low}
+use Rattle.std.proofs.lemmas.Nat.{shr_high, mod_low}
 
 one_lt : (b : Bool) → cond b 1 0 < 2
-one_lt true = omega arith
-one_lt false = omega arith
+one_lt b = grind (arith, cases_Bool b)
 
 low-lt : (k : ℕ) (fs : List Bool) → mask_l (take k fs) < 2 ^ k
 low-lt zero fs = omega arith
@@ -29,15 +30,18 @@ pub mask-drop : (k : ℕ) (fs : List Bool) → mask_l fs / 2 ^ k ≡ mask_l (dro
 mask-drop k fs = ap (λ m. m / 2 ^ k) (mask-split k fs) ∙ shr_high (mask_l (drop k fs)) k (mask_l (take k fs)) (low-lt k fs)
 
 -- the bits below k
-pub mask-take : (k : ℕ) (fs : List Bool) → mask_l fs % 2 ^ k ≡ mask_l (take k fs)
+mask-take : (k : ℕ) (fs : List Bool) → mask_l fs % 2 ^ k ≡ mask_l (take k fs)
 mask-take k fs = ap (λ m. m % 2 ^ k) (mask-split k fs) ∙ mod_low (mask_l (drop k fs)) k (mask_l (take k fs)) (low-lt k fs)
 
-pub ones-mask : (fs : List Bool) → count_ones (mask_l fs) ≡ flags_set fs
+ones-mask : (fs : List Bool) → count_ones (mask_l fs) ≡ flags_set fs
 unfolding count_ones
 ones-mask [] = refl
 ones-mask (f ∷ fs) = ones-mask_l_cons f fs ∙ ap (λ n. cond f 1 0 + n) (ones-mask fs)
 
-pub set-append : (fs gs : List Bool) → flags_set (fs ++ gs) ≡ flags_set fs + flags_set gs
+pub ones_of : {mask : ℕ} (fs : List Bool) → mask ≡ mask_l fs → count_ones mask ≡ flags_set fs
+ones_of fs is = ap count_ones is ∙ ones-mask fs
+
+set-append : (fs gs : List Bool) → flags_set (fs ++ gs) ≡ flags_set fs + flags_set gs
 set-append [] gs = omega arith
 set-append (f ∷ fs) gs = omega (arith, set-append fs gs)
 
@@ -53,42 +57,12 @@ set-more fs at n = ap flags_set (take-add at n fs) ∙ set-append (take at fs) (
 pub set-rest : (fs : List Bool) (at : ℕ) → flags_set fs ≡ flags_set (take at fs) + flags_set (drop at fs)
 set-rest fs at = ap flags_set (sym (take-append-drop at fs)) ∙ set-append (take at fs) (drop at fs)
 
-take-take : (n m : ℕ) (fs : List Bool) → n ≤ m → take n (take m fs) ≡ take n fs
-take-take zero m fs h = refl
-take-take (suc n) zero fs h = absurd (omega arith)
-take-take (suc n) (suc m) [] h = refl
-take-take (suc n) (suc m) (f ∷ fs) h = ap (λ r. f ∷ r) (take-take n m fs (omega arith))
-
-pub take_whole : (m : ℕ) (fs : List Bool) → length fs ≤ m → take m fs ≡ fs
-take_whole zero [] h = refl
-take_whole zero (f ∷ fs) h = absurd (omega arith)
-take_whole (suc m) [] h = refl
-take_whole (suc m) (f ∷ fs) h = ap (λ r. f ∷ r) (take_whole m fs (omega arith))
-
-take-nil : (m : ℕ) → take {A = Bool} m [] ≡ []
-take-nil zero = refl
-take-nil (suc m) = refl
-
-drop-nil : (m : ℕ) → drop {A = Bool} m [] ≡ []
-drop-nil zero = refl
-drop-nil (suc m) = refl
-
-drop-take : (n m : ℕ) (fs : List Bool) → drop n (take (n + m) fs) ≡ take m (drop n fs)
-drop-take zero m fs = let e : 0 + m ≡ m = omega arith in ap (λ k. take k fs) e
-drop-take (suc n) m [] = ap (drop (suc n)) (take-nil (suc n + m)) ∙ sym (take-nil m)
-drop-take (suc n) m (f ∷ fs) = let e : suc n + m ≡ suc (n + m) = omega arith in ap (λ k. drop (suc n) (take k (f ∷ fs))) e ∙ drop-take n m fs
-
-pub drop-drop : (n m : ℕ) (fs : List Bool) → drop m (drop n fs) ≡ drop (n + m) fs
-drop-drop zero m fs = let e : m ≡ 0 + m = omega arith in ap (λ k. drop k fs) e
-drop-drop (suc n) m [] = drop-nil m ∙ sym (drop-nil (suc n + m))
-drop-drop (suc n) m (f ∷ fs) = let e : suc (n + m) ≡ suc n + m = omega arith in drop-drop n m fs ∙ ap (λ k. drop k (f ∷ fs)) e
-
 -- the lower half of the bits
 lower : (fs : List Bool) (w bits : ℕ) → bits ≡ mask_l (take (w + w) fs) → bits % 2 ^ w ≡ mask_l (take w fs)
 lower fs w bits is = ap (λ b. b % 2 ^ w) is ∙ mask-take w (take (w + w) fs) ∙ ap mask_l (take-take w (w + w) fs (omega arith))
 
 lower_set : (fs : List Bool) (w bits low : ℕ) → bits ≡ mask_l (take (w + w) fs) → low ≡ bits % 2 ^ w → count_ones low ≡ flags_set (take w fs)
-lower_set fs w bits low is cut = ap count_ones (cut ∙ lower fs w bits is) ∙ ones-mask (take w fs)
+lower_set fs w bits low is cut = ones_of (take w fs) (cut ∙ lower fs w bits is)
 
 pub in_lower : (fs : List Bool) (n w low : ℕ) (s : Sought) → IsSought fs n (w + w) s → low ≡ s.bits % 2 ^ w → s.left < count_ones low
     → IsSought fs n w (record { bits = low; left = s.left; at = s.at })
@@ -103,7 +77,7 @@ pub in_upper : (fs : List Bool) (n w low : ℕ) (s : Sought) → IsSought fs n (
 in_upper fs n w low s h cut more =
     let rest = drop s.at fs in
     let below = lower_set rest w s.bits low h.bits cut in
-    let upper : take w (drop w rest) ≡ take w (drop (s.at + w) fs) = ap (take w) (drop-drop s.at w fs) in
+    let upper : take w (drop w rest) ≡ take w (drop (s.at + w) fs) = ap (take w) (drop-drop w s.at fs) in
     record {
       bits = ap (λ b. b / 2 ^ w) h.bits ∙ mask-drop w (take (w + w) rest) ∙ ap mask_l (drop-take w w rest ∙ upper);
       before = omega (arith, h.before, below, set-more fs s.at w);
@@ -112,7 +86,7 @@ in_upper fs n w low s h cut more =
 
 pub from_all : (fs : List Bool) (n mask : ℕ) → length fs ≤ 64 → mask ≡ mask_l fs → n < flags_set fs → IsSought fs n 64 (record { bits = mask; left = n; at = 0 })
 from_all fs n mask few is less =
-    let whole : take 64 fs ≡ fs = take_whole 64 fs few in
+    let whole : take 64 fs ≡ fs = take_all 64 fs few in
     record { bits = is ∙ ap mask_l (sym whole); before = omega arith; among = omega (arith, ap flags_set whole) }
 
 one_left : (fs : List Bool) (at left : ℕ) → left < flags_set (take 1 (drop at fs)) → (at < length fs) × (slice_get fs at ≡ Some true) × (left ≡ 0)
@@ -125,32 +99,23 @@ one_left (f ∷ fs) (suc at) left h = let r = one_left fs at left h in (omega (a
 pub found : (fs : List Bool) (n : ℕ) (s : Sought) → IsSought fs n 1 s → IsNthFlag fs n s.at
 found fs n s h = let r = one_left fs s.at s.left h.among in record { within = r.0; before = omega (arith, h.before, r.2); is = r.1 }
 
-get-take : (fs : List Bool) (m r : ℕ) → slice_get (take m fs) r ≡ Some true → slice_get fs r ≡ Some true
-get-take fs zero zero h = cc
-get-take fs zero (suc r) h = cc
-get-take [] (suc m) zero h = cc
-get-take [] (suc m) (suc r) h = cc
-get-take (f ∷ fs) (suc m) zero h = h
-get-take (f ∷ fs) (suc m) (suc r) h = get-take fs m r h
-
-get-drop : (fs : List Bool) (at r : ℕ) → slice_get (drop at fs) r ≡ slice_get fs (at + r)
-get-drop fs zero r = let e : r ≡ 0 + r = omega arith in ap (slice_get fs) e
-get-drop [] (suc at) zero = let e : suc at ≡ suc at + 0 = omega arith in ap (λ k. slice_get {X = Bool} [] k) e
-get-drop [] (suc at) (suc r) = let e : suc (at + suc r) ≡ suc at + suc r = omega arith in ap (λ k. slice_get {X = Bool} [] k) e
-get-drop (f ∷ fs) (suc at) r = let e : suc (at + r) ≡ suc at + r = omega arith in get-drop fs at r ∙ ap (slice_get (f ∷ fs)) e
-
+-- what is set in a part of the flags is set at its place in all of them
 pub nth_behind : (fs : List Bool) (at k r : ℕ) → IsNthFlag (drop at fs) k r → IsNthFlag fs (flags_set (take at fs) + k) (at + r)
-nth_behind fs at k r h = record {
-  within = omega (arith, h.within, length-drop at fs);
-  before = set-more fs at r ∙ ap (λ m. flags_set (take at fs) + m) h.before;
-  is = sym (get-drop fs at r) ∙ h.is;
-}
+nth_behind fs at k r h =
+    let within : at + r < length fs = omega (arith, h.within, length-drop at fs) in
+    record {
+      within = within;
+      before = set-more fs at r ∙ ap (λ m. flags_set (take at fs) + m) h.before;
+      is = slice_get-get_or fs (at + r) true within ∙ ap Some (sym (get_or-drop at fs r true) ∙ get_or_from_slice_get (drop at fs) r true true h.is);
+    }
 
 pub nth_in : (fs : List Bool) (at m k r : ℕ) → IsNthFlag (take m (drop at fs)) k r → IsNthFlag fs (flags_set (take at fs) + k) (at + r)
 nth_in fs at m k r h =
     let rest = drop at fs in
+    let few : r < m = omega (arith, h.within, length-take m rest) in
+    let within : r < length rest = omega (arith, h.within, length-take m rest) in
     nth_behind fs at k r (record {
-      within = omega (arith, h.within, length-take m rest);
-      before = ap flags_set (sym (take-take r m rest (omega (arith, h.within, length-take m rest)))) ∙ h.before;
-      is = get-take rest m r h.is;
+      within = within;
+      before = ap flags_set (sym (take-take r m rest (omega (arith, few)))) ∙ h.before;
+      is = slice_get-get_or rest r true within ∙ ap Some (sym (get_or-take m rest r true few) ∙ get_or_from_slice_get (take m rest) r true true h.is);
     })

@@ -1,69 +1,56 @@
 -- Runs at the front, block by block.
-use Rattle.std.proofs.Common.{◌≡◌, ℕ, zero, suc, ◌+◌, ◌<◌, ◌≤◌, Bool, true, false, not, cond, List, [], ◌∷◌, length, take, drop, map, refl, sym, ap, ◌∙◌, arith}
-use Rattle.std.proofs.lemmas.List.{length-drop}
-use Rattle.std.proofs.lemmas.Simd.{leading_from_mask_l, first_set_mask_l}
-use Rattle.std.proofs.Math.Seq.{take-length}
+use Rattle.std.proofs.Common.{◌≡◌, ℕ, ◌+◌, ◌<◌, ◌≤◌, Bool, not, cond, List, length, take, drop, map, sym, ap, ◌∙◌, arith, ◌==◌, take_all, take-append-drop, length-drop, length-take, length-take-le}
+use Rattle.std.proofs.Math.Bool.{not-not}
+use Rattle.std.proofs.lemmas.Bool.Decides.{nat_tests}
+use Rattle.std.proofs.lemmas.List.Folds.{prefix_len-append}
+use Rattle.std.proofs.lemmas.List.Sums.{prefix_len-le-length}
+use mathlib.Core.Path.{fun_ext}
+use Rattle.std.proofs.lemmas.Simd.{leading_from_mask_l, first_set_mask_l, length-chunk}
 use Rattle.std.specs.List.{prefix_len}
 use Rattle.lane_ascii.specs.Bits.{first_set}
 use lib.Lanes.{mask_l}
 
 module _ (p : ℕ → Bool) where
   not_not : (xs : List ℕ) → prefix_len (λ x. not (not (p x))) xs ≡ prefix_len p xs
-  not_not [] = refl
-  not_not (x ∷ xs) = go (p x) (not_not xs)
-    where
-      go : (b : Bool) → {m n : ℕ} → m ≡ n → cond (not (not b)) (1 + m) 0 ≡ cond b (1 + n) 0
-      go true e = ap (λ k. 1 + k) e
-      go false e = refl
+  not_not xs = ap (λ q. prefix_len q xs) (fun_ext (λ x. not-not (p x)))
+
+  -- the run by a block in front: it stops there, or goes on behind
+  split : (n : ℕ) (xs : List ℕ) → n ≤ length xs
+      → prefix_len p xs ≡ cond (prefix_len p (take n xs) == n) (n + prefix_len p (drop n xs)) (prefix_len p (take n xs))
+  split n xs h =
+      let cut = prefix_len-append p (take n xs) (drop n xs) in
+      ap (prefix_len p) (sym (take-append-drop n xs)) ∙ (rw (length-take-le n xs h) at cut)
 
   -- behind bytes of the run comes the rest of it
-  pub behind : (k : ℕ) (xs : List ℕ) → k ≤ prefix_len p xs → k + prefix_len p (drop k xs) ≡ prefix_len p xs
-  behind zero xs h = omega arith
-  behind (suc k) [] h = absurd (omega arith)
-  behind (suc k) (x ∷ xs) h = go (p x) _ _ (behind k xs) h
-    where
-      go : (b : Bool) (m n : ℕ) → (k ≤ n → k + m ≡ n) → suc k ≤ cond b (1 + n) 0 → suc k + m ≡ cond b (1 + n) 0
-      go true m n e h = omega (arith, e (omega arith))
-      go false m n e h = absurd (omega arith)
-
-  -- the run of a block that stops inside it
-  stops : (n : ℕ) (xs : List ℕ) → n ≤ length xs → prefix_len p (take n xs) < n → prefix_len p xs ≡ prefix_len p (take n xs)
-  stops zero xs l h = absurd (omega arith)
-  stops (suc n) [] l h = absurd (omega arith)
-  stops (suc n) (x ∷ xs) l h = go (p x) _ _ (stops n xs (omega arith)) h
-    where
-      go : (b : Bool) (m k : ℕ) → (m < n → k ≡ m) → cond b (1 + m) 0 < suc n → cond b (1 + k) 0 ≡ cond b (1 + m) 0
-      go true m k e h = omega (arith, e (omega arith))
-      go false m k e h = refl
-
-  -- the run of a block is part of the run
-  part : (n : ℕ) (xs : List ℕ) → prefix_len p (take n xs) ≤ prefix_len p xs
-  part zero xs = omega arith
-  part (suc n) [] = omega arith
-  part (suc n) (x ∷ xs) = go (p x) _ _ (part n xs)
-    where
-      go : (b : Bool) (m k : ℕ) → m ≤ k → cond b (1 + m) 0 ≤ cond b (1 + k) 0
-      go true m k e = omega arith
-      go false m k e = omega arith
+  behind : (k : ℕ) (xs : List ℕ) → k ≤ prefix_len p xs → k + prefix_len p (drop k xs) ≡ prefix_len p xs
+  behind k xs h =
+      let within : k ≤ length xs = omega (arith, prefix_len-le-length p xs) in
+      grind (arith, nat_tests, split k xs within, prefix_len-le-length p (take k xs), length-take-le k xs within)
 
   pub ends_in : (xs : List ℕ) (at n r : ℕ) → at ≤ prefix_len p xs → at + n ≤ length xs → r ≡ prefix_len p (take n (drop at xs)) → r < n → at + r ≡ prefix_len p xs
   ends_in xs at n r front room run h =
-      let rest : n ≤ length (drop at xs) = omega (arith, length-drop at xs) in
-      omega (arith, behind at xs front, stops n (drop at xs) rest (omega (arith, run)))
+      grind (arith, nat_tests, behind at xs front, split n (drop at xs) (omega (arith, length-drop at xs)))
 
   pub goes_on : (xs : List ℕ) (at n r : ℕ) → at ≤ prefix_len p xs → r ≡ prefix_len p (take n (drop at xs)) → n ≤ r → at + n ≤ prefix_len p xs
-  goes_on xs at n r front run h = omega (arith, behind at xs front, part n (drop at xs))
+  goes_on xs at n r front run h =
+      let less = prefix_len-le-length p (take n (drop at xs)) in
+      let within : n ≤ length (drop at xs) = omega (arith, less, length-take n (drop at xs)) in
+      let long = length-take-le n (drop at xs) within in
+      grind (arith, nat_tests, behind at xs front, split n (drop at xs) within, less, long)
 
   -- a block at the end, which may begin in front of what was seen
   pub last_block : (xs : List ℕ) (at n r seen : ℕ) → seen ≤ prefix_len p xs → at ≤ seen → at + n ≡ length xs → r ≡ prefix_len p (take n (drop at xs)) → at + r ≡ prefix_len p xs
   last_block xs at n r seen front overlaps room run =
       let long : length (drop at xs) ≡ n = omega (arith, length-drop at xs) in
-      let whole : take n (drop at xs) ≡ drop at xs = ap (λ k. take k (drop at xs)) (sym long) ∙ take-length (drop at xs) in
+      let whole : take n (drop at xs) ≡ drop at xs = take_all n (drop at xs) (omega (arith, long)) in
       omega (arith, behind at xs (omega arith), run, ap (prefix_len p) whole)
 
   -- no bit is set where all lanes are of the class
   pub none_set : (v : List ℕ) → mask_l (map (λ b. not (p b)) v) ≡ 0 → prefix_len p v ≡ length v
   none_set v e = sym (not_not v) ∙ leading_from_mask_l (λ b. not (p b)) v e
 
-  pub first_other : (v : List ℕ) (n : ℕ) → length v ≡ n → n ≤ 64 → first_set (mask_l (map (λ b. not (p b)) v)) n ≡ prefix_len p v
-  first_other v n long few = first_set_mask_l (λ b. not (p b)) v n long few ∙ not_not v
+  pub run_of_block : (xs : List ℕ) (at n mask r : ℕ) → at + n ≤ length xs → n ≤ 64 → mask ≡ mask_l (map (λ b. not (p b)) (take n (drop at xs)))
+      → r ≡ first_set mask n → r ≡ prefix_len p (take n (drop at xs))
+  run_of_block xs at n mask r room few is first =
+      let block = take n (drop at xs) in
+      first ∙ ap (λ m. first_set m n) is ∙ first_set_mask_l (λ b. not (p b)) block n (length-chunk at n xs room) few ∙ not_not block

@@ -1,5 +1,5 @@
 -- Swapping block by block.
-use Rattle.std.proofs.Common.{◌≡◌, ℕ, zero, suc, ◌+◌, ◌*◌, ◌<◌, ◌≤◌, T, List, [], ◌∷◌, ◌++◌, length, take, drop, get_or, refl, sym, ap, ap₂, ◌∙◌, arith, append_assoc, length-drop}
+use Rattle.std.proofs.Common.{◌≡◌, ℕ, zero, suc, ◌+◌, ◌*◌, ◌<◌, ◌≤◌, T, List, [], ◌∷◌, ◌++◌, length, take, drop, get_or, refl, sym, ap, ap₂, ◌∙◌, arith, append_assoc, length-drop, drop-cons}
 use Rattle.std.proofs.Math.ListN.{set}
 use Rattle.std.proofs.Math.Seq.{drop-append_seam}
 use Rattle.std.proofs.lemmas.List.{length-take-le, length-append, drop_all, take-append-drop}
@@ -15,10 +15,7 @@ crossed a zero = []
 crossed a (suc k) = suc a ∷ a ∷ crossed (suc (suc a)) k
 
 pair_at : (xs : List ℕ) (a : ℕ) → a + 2 ≤ length xs → drop a xs ≡ get_or xs a 0 ∷ get_or xs (suc a) 0 ∷ drop (suc (suc a)) xs
-pair_at [] a h = absurd (omega arith)
-pair_at (x ∷ []) a h = absurd (omega arith)
-pair_at (x ∷ y ∷ xs) zero h = refl
-pair_at (x ∷ y ∷ xs) (suc a) h = pair_at (y ∷ xs) a (omega arith)
+pair_at xs a h = drop-cons xs a 0 (omega arith) ∙ ap (λ r. get_or xs a 0 ∷ r) (drop-cons xs (suc a) 0 (omega arith))
 
 picked : (xs : List ℕ) (k a : ℕ) → a + 2 * k ≡ length xs → pick_l 0 xs (crossed a k) ≡ swapped (drop a xs)
 picked xs zero a h = ap swapped (sym (drop_all a xs (omega arith)))

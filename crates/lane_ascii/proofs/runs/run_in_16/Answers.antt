@@ -1,10 +1,6 @@
-use Rattle.std.proofs.Common.{ℕ, take, drop, ◌∙◌, ap, arith}
-use Rattle.std.proofs.lemmas.Simd.{length-chunk}
-use Rattle.lane_ascii.specs.Bits.{first_set}
-use Rattle.lane_ascii.proofs.Prefixes.{first_other}
+use Rattle.std.proofs.Common.{arith}
+use Rattle.lane_ascii.proofs.Prefixes.{run_of_block}
 use Rattle.lane_ascii.proofs.runs.run_in_16.Goals as goal
 
 pub returns : goal.returns
-returns g c =
-    let v = take 16 (drop c.args.at c.args.bytes.now) in
-    c.lowest_set.ensures ∙ ap (λ (m : ℕ). first_set m 16) c.others_of_16.ensures ∙ first_other g.C.Class.holds v 16 (length-chunk c.args.at 16 c.args.bytes.now c.requires) (omega arith)
+returns g c = run_of_block g.C.Class.holds c.args.bytes.now c.args.at 16 _ _ c.requires (omega arith) c.others_of_16.ensures c.lowest_set.ensures
