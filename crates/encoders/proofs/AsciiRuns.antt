@@ -9,18 +9,12 @@ use Rattle.lane_ascii.specs.Runs.{ascii_len}
 use Rattle.encoders.specs.Stateless.{bytes_turn, stateless}
 use Rattle.encoders.specs.Steps.{PutsItself}
 
-below : (b : ℕ) → nat_lt b 0x80 ≡ true → b < 0x80
-below b low = grind (arith, nat_tests)
-
-ascii : (b : ℕ) → nat_lt b 0x80 ≡ true → is_ascii b ≡ true
-ascii b low = grind (arith, nat_tests)
-
 pub ascii_within : (text : List ℕ) → ascii_len text ≤ length text
 ascii_within text = prefix_len-le-length (λ b. nat_lt b 0x80) text
 
 module _ (bytes : ℕ → Option (List ℕ)) (same : (c : ℕ) → is_ascii c ≡ true → bytes c ≡ Some (c ∷ [])) where
   itself : (b : ℕ) → nat_lt b 0x80 ≡ true → PutsItself (stateless bytes) tt b
-  itself b low = (below b low, ap (bytes_turn b) (same b (ascii b low)))
+  itself b low = (grind (arith, nat_tests), ap (bytes_turn b) (same b (grind (arith, nat_tests))))
 
   pub ascii_run : (text : List ℕ) → All (PutsItself (stateless bytes) tt) (take (ascii_len text) text)
   ascii_run text = λ k d lt.

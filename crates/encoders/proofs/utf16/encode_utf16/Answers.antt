@@ -1,5 +1,6 @@
 use Rattle.std.proofs.Common.{arith, length, ◌<◌, ◌∙◌, sym}
-use Rattle.encoders.proofs.Utf16Forms.{part-some, part-text, behind-text, parts-go-on, parts-end, some-left}
+use Rattle.std.proofs.lemmas.Str.{IsUtf8-take, IsUtf8-drop}
+use Rattle.encoders.proofs.Utf16Forms.{part-some, parts-go-on, parts-end, some-left}
 use Rattle.encoders.proofs.utf16.encode_utf16.Goals as goal
 
 pub parts-smaller : goal.parts-smaller
@@ -17,8 +18,9 @@ parts-preserved c =
     let part = c.split_at.result.0.now in
     let behind = c.split_at.result.1.now in
     let spelt = c.parts.invariant.0 in (
-      behind-text rest behind end spelt here c.split_at.ensures.back,
-      c.parts.invariant.1 ∙ parts-go-on c.args.order rest part behind c.parts.bytes.items c.put_part.new.bytes.items end (part-text rest part end spelt here c.split_at.ensures.front)
+      rw c.split_at.ensures.back (IsUtf8-drop rest end spelt here),
+      c.parts.invariant.1 ∙ parts-go-on c.args.order rest part behind c.parts.bytes.items c.put_part.new.bytes.items end
+          (rw c.split_at.ensures.front (IsUtf8-take rest end spelt here))
           c.split_at.ensures.front c.split_at.ensures.back c.in_ok-put_part.ensures,
     )
 
