@@ -90,17 +90,19 @@ fn advance<D: Decoder, K: Sink<D::State>>(
     ensures items { IfOk result (λ m. K.seen sink.new ≡ fold K.taken (K.seen sink.old) (shown_from (D.table decoder.now) read state (take m.taken rest.now))) }
     ensures err { OnErr result (TookPrefix K.taken (K.seen sink.old) (shown_from (D.table decoder.now) read state rest.now) (K.seen sink.new)) }
 {
-    let taken = bulk_into(decoder, state, rest, read, block, sink)?;
-    if taken > 0 {
-        return Ok(Moved {
-            state,
-            taken,
-            stretch: if taken < RUN { stretch } else { SHORTEST },
-        });
-    }
     let (steps, next) = match decoder.steps_ahead(rest) {
         Some(steps) => (steps.max(1), SHORTEST),
-        None => (stretch, longer(stretch)),
+        None => {
+            let taken = bulk_into(decoder, state, rest, read, block, sink)?;
+            if taken > 0 {
+                return Ok(Moved {
+                    state,
+                    taken,
+                    stretch: if taken < RUN { stretch } else { SHORTEST },
+                });
+            }
+            (stretch, longer(stretch))
+        }
     };
     let taken = rest.len().min(steps);
     let after = step_over(decoder, state, &rest[..taken], read, sink)?;
@@ -191,6 +193,24 @@ fn step_into<D: Decoder, K: Sink<D::State>>(
         }
         return Ok(after);
     }
+    step_whole(decoder, state, byte, read, sink)
+}
+
+/// The same, by the step in its long form.
+// Once in a while: its storage of eight items would be cleared in the loop over the bytes.
+#[inline(never)]
+fn step_whole<D: Decoder, K: Sink<D::State>>(
+    decoder: &D,
+    state: D::State,
+    byte: u8,
+    read: usize,
+    sink: &mut K,
+) -> Result<D::State, OutOfMemory>
+    requires { read < 2 ^ 63 }
+    ensures state { IfOk result (λ after. after ≡ (feed (D.table decoder.now) state (byte ∷ [])).state) }
+    ensures items { let fed = feed (D.table decoder.now) state (byte ∷ []) in OnOk result (K.seen sink.new ≡ fold K.taken (K.seen sink.old) (shown_at read fed.state fed.items)) }
+    ensures err { let fed = feed (D.table decoder.now) state (byte ∷ []) in OnErr result (TookPrefix K.taken (K.seen sink.old) (shown_at read fed.state fed.items) (K.seen sink.new)) }
+{
     let Step {
         state: after,
         items,

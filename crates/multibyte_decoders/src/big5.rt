@@ -1,11 +1,12 @@
 //! The Big5 decoder.
-ghost use Rattle.std.specs.Prelude.{◌≡◌, Some, IfSome};
+ghost use Rattle.std.specs.Prelude.{◌≡◌, ℕ, true, Option, Some, IfSome};
 ghost use Rattle.std.proofs.Common.{rules};
 ghost use Rattle.index_loader.specs.Index.{code_point_of};
 ghost use Rattle.decoder_core.specs.declared.item.Item.TheVariants.{One};
 ghost use Rattle.multibyte_decoders.specs.Big5.{big5_pair, big5_pointer, big5_item, is_big5_lead, is_big5_trail};
-ghost use Rattle.multibyte_decoders.specs.Pairs.{ascii_item};
+ghost use Rattle.multibyte_decoders.specs.Pairs.{ascii_item, one_of};
 
+use crate::pair_tables::{BIG5_COLUMNS, BIG5_ROWS};
 use crate::pairs::{PairDecoder, PairRules};
 use crate::turns::{ascii_item, one_of};
 use decoder_core::Item;
@@ -34,18 +35,6 @@ fn item(index: &FormedIndex<'_>, pointer: u32) -> Option<Item>
     }
 }
 
-/// The UTF-8 form of the code point of a pointer that gives one alone.
-// In the loop over the bytes.
-#[inline(always)]
-fn entry(index: &FormedIndex<'_>, pointer: u32) -> Utf8Form
-    ensures { IfSome result (λ code_point. big5_item (code_point_of index.now) pointer ≡ Some (One code_point)) }
-{
-    match pointer {
-        1133 | 1135 | 1164 | 1166 => Utf8Form::none(),
-        _ => index.form(pointer),
-    }
-}
-
 /// The pointer of a lead and a trail.
 // In the loop over the bytes.
 #[inline(always)]
@@ -58,6 +47,21 @@ fn pointer(lead: u8, trail: u8) -> u32
         trail - 0x62
     };
     u32::from(lead.saturating_sub(0x81)) * 157 + u32::from(column)
+}
+
+/// The pointer of a lead and a trail that is looked up in bulk: one that gives one code point.
+// In the loop over the bytes.
+#[inline(always)]
+fn known_pointer(lead: u8, trail: u8) -> Option<u32>
+    ensures { IfSome result (λ p. (is_big5_lead lead ≡ true) × (is_big5_trail trail ≡ true) × (p ≡ big5_pointer lead trail) × ((index : ℕ → Option ℕ) → big5_item index p ≡ one_of (index p))) }
+{
+    let row = u32::from(BIG5_ROWS[usize::from(lead)]);
+    let pointer = row + u32::from(BIG5_COLUMNS[usize::from(trail)]);
+    if pointer < 0x8000 {
+        Some(pointer)
+    } else {
+        None
+    }
 }
 
 /// Whether the byte is the trail of a pair.
@@ -102,9 +106,9 @@ impl PairRules for Big5Rules {
     // In the loop over the bytes.
     #[inline(always)]
     fn form(index: &FormedIndex<'_>, lead: u8, byte: u8) -> Utf8Form {
-        match lead {
-            0x81..=0xFE if is_trail(byte) => entry(index, pointer(lead, byte)),
-            _ => Utf8Form::none(),
+        match known_pointer(lead, byte) {
+            Some(pointer) => index.form(pointer),
+            None => Utf8Form::none(),
         }
     }
 

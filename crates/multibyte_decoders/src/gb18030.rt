@@ -1,13 +1,15 @@
 //! The gb18030 decoder.
-ghost use Rattle.std.specs.Prelude.{◌≡◌, IfSome, Some};
+ghost use Rattle.std.specs.Prelude.{◌≡◌, true, IfSome, Some};
 ghost use Rattle.std.proofs.Common.{rules};
 ghost use Rattle.index_loader.specs.Index.{code_point_of};
+ghost use Rattle.decoder_core.specs.Forms.{within};
 ghost use Rattle.decoder_core.specs.Steps.{bytes_of};
 ghost use Rattle.decoder_core.specs.Holding.{falls_of, counts_of};
 ghost use Rattle.multibyte_decoders.specs.declared.gb18030.Gb18030State.TheVariants.{Idle};
 ghost use Rattle.multibyte_decoders.specs.Gb18030.{gb18030, gb18030_single, is_gb18030_trail, gb18030_pair, gb18030_pointer, gb18030_four};
 ghost use Rattle.multibyte_decoders.specs.Holdings.{gb18030_holding};
 
+use crate::pair_tables::{GB18030_COLUMNS, GB18030_ROWS};
 use crate::turns::{ascii_item, begin, complete, one_of};
 use decoder_core::forms::{finish, found, give, hold, restore, scalar};
 use decoder_core::{AsciiRuns, Characters, Few, Handled, Handler, Item};
@@ -76,12 +78,12 @@ impl<'i> Gb18030Decoder<'i> {
     // In the loop over the bytes.
     #[inline(always)]
     fn form(&self, first: u8, byte: u8) -> Utf8Form
-        ensures { IfSome result (λ code_point. gb18030_pair (code_point_of self.now.index) first byte ≡ Some code_point) }
+        ensures first { IfSome result (λ _. within 0x81 0xFE first ≡ true) }
+        ensures pair { IfSome result (λ code_point. gb18030_pair (code_point_of self.now.index) first byte ≡ Some code_point) }
     {
-        if is_trail(byte) {
-            self.index.form(pointer(first, byte))
-        } else {
-            Utf8Form::none()
+        match known_pointer(first, byte) {
+            Some(pointer) => self.index.form(pointer),
+            None => Utf8Form::none(),
         }
     }
 }
@@ -98,6 +100,21 @@ fn pointer(first: u8, trail: u8) -> u32
         trail - 0x41
     };
     u32::from(first.saturating_sub(0x81)) * 190 + u32::from(column)
+}
+
+/// The pointer of two bytes that is looked up in bulk.
+// In the loop over the bytes.
+#[inline(always)]
+fn known_pointer(first: u8, trail: u8) -> Option<u32>
+    ensures { IfSome result (λ p. (within 0x81 0xFE first ≡ true) × (is_gb18030_trail trail ≡ true) × (p ≡ gb18030_pointer first trail)) }
+{
+    let row = u32::from(GB18030_ROWS[usize::from(first)]);
+    let pointer = row + u32::from(GB18030_COLUMNS[usize::from(trail)]);
+    if pointer < 0x8000 {
+        Some(pointer)
+    } else {
+        None
+    }
 }
 
 /// Whether the byte is the second of two.
@@ -164,7 +181,7 @@ impl<'i> Handler for Gb18030Decoder<'i> {
     #[inline(always)]
     fn known_pair(&self, state: Gb18030State, lead: u8, trail: u8) -> Utf8Form {
         match (state, lead) {
-            (Gb18030State::Idle, 0x81..=0xFE) => self.form(lead, trail),
+            (Gb18030State::Idle, _) => self.form(lead, trail),
             _ => Utf8Form::none(),
         }
     }

@@ -7,6 +7,7 @@ mod big5;
 mod euc_jp;
 mod euc_kr;
 mod gb18030;
+mod pair_tables;
 mod pairs;
 mod shift_jis;
 mod turns;

@@ -1,9 +1,10 @@
 //! The Shift_JIS decoder.
-ghost use Rattle.std.specs.Prelude.{◌≡◌, ◌+◌, ◌-◌, ◌≤◌, IfSome, Some};
+ghost use Rattle.std.specs.Prelude.{◌≡◌, ◌+◌, ◌-◌, ◌≤◌, ◌<◌, true, IfSome, Some};
 ghost use Rattle.std.proofs.Common.{rules};
 ghost use Rattle.index_loader.specs.Index.{code_point_of};
 ghost use Rattle.multibyte_decoders.specs.ShiftJis.{shift_jis_single, shift_jis_pair, shift_jis_pointer, shift_jis_code_point, is_shift_jis_lead, is_shift_jis_trail};
 
+use crate::pair_tables::{SHIFT_JIS_COLUMNS, SHIFT_JIS_ROWS};
 use crate::pairs::{PairDecoder, PairRules};
 use crate::turns::one_of;
 use decoder_core::Item;
@@ -41,18 +42,6 @@ fn entry(index: &FormedIndex<'_>, pointer: u32) -> Option<Scalar>
     }
 }
 
-/// Its UTF-8 form, but for private use, which is decoded byte by byte.
-// In the loop over the bytes.
-#[inline(always)]
-fn entry_form(index: &FormedIndex<'_>, pointer: u32) -> Utf8Form
-    ensures { IfSome result (λ code_point. shift_jis_code_point (code_point_of index.now) pointer ≡ Some code_point) }
-{
-    match pointer {
-        8836..=10715 => Utf8Form::none(),
-        _ => index.form(pointer),
-    }
-}
-
 /// The pointer of a lead and a trail.
 // In the loop over the bytes.
 #[inline(always)]
@@ -70,6 +59,18 @@ fn pointer(lead: u8, trail: u8) -> u32
         trail - 0x41
     };
     u32::from(row) * 188 + u32::from(column)
+}
+
+/// The pointer of a lead and a trail that is looked up in bulk: one below those of private use, which
+/// are decoded byte by byte, as are the few behind them.
+// In the loop over the bytes.
+#[inline(always)]
+fn known_pointer(lead: u8, trail: u8) -> Option<u32>
+    ensures { IfSome result (λ p. (is_shift_jis_lead lead ≡ true) × (is_shift_jis_trail trail ≡ true) × (p ≡ shift_jis_pointer lead trail) × (p < 8836)) }
+{
+    let row = u32::from(SHIFT_JIS_ROWS[usize::from(lead)]);
+    let pointer = row + u32::from(SHIFT_JIS_COLUMNS[usize::from(trail)]);
+    if pointer < 8836 { Some(pointer) } else { None }
 }
 
 /// Whether the byte is the lead of a pair.
@@ -131,10 +132,9 @@ impl PairRules for ShiftJisRules {
     // In the loop over the bytes.
     #[inline(always)]
     fn form(index: &FormedIndex<'_>, lead: u8, byte: u8) -> Utf8Form {
-        if is_lead(lead) && is_trail(byte) {
-            entry_form(index, pointer(lead, byte))
-        } else {
-            Utf8Form::none()
+        match known_pointer(lead, byte) {
+            Some(pointer) => index.form(pointer),
+            None => Utf8Form::none(),
         }
     }
 
