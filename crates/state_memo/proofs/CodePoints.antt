@@ -154,6 +154,27 @@ pub ascii-even : (stride : Stride) (text cs : List ℕ) (n : ℕ) → stride ≡
 ascii-even stride text cs n e width same count =
     subst (λ (t : Stride). IsEven t 1 cs) (sym e) (ascii-pairs cs (even-of Utf8 1 ascii-wide cs (omega (arith, utf8-run cs, width, same, count))))
 
+pair-few : (c : ℕ) → width_of Pairs c ≤ 2
+pair-few c = at_most_two (nat_lt c 0x80)
+  where
+    at_most_two : (t : Bool) → cond t 1 2 ≤ 2
+    at_most_two true = omega arith
+    at_most_two false = omega arith
+
+pairs-few : (cs : List ℕ) → run_width Pairs cs ≤ 2 * length cs
+pairs-few [] = omega arith
+pairs-few (c ∷ cs) = omega (arith, pairs-few cs, pair-few c)
+
+-- no ASCII: as many pairs as code points
+pairs-wide : (c : ℕ) (cs : List ℕ) → run_width Pairs (c ∷ cs) ≡ 2 * length (c ∷ cs) → AllWide Pairs 2 c cs
+pairs-wide c cs e =
+    let few = pair-few c in
+    let rest = pairs-few cs in
+    record { first = omega (arith, e, few, rest); rest = omega (arith, e, few, rest) }
+
+pub pairs-even : (stride : Stride) (cs : List ℕ) (n : ℕ) → stride ≡ Pairs → run_width Pairs cs + n ≡ 2 * length cs → n ≡ 0 → IsEven stride 2 cs
+pairs-even stride cs n e all none = subst (λ (t : Stride). IsEven t 2 cs) (sym e) (even-of Pairs 2 pairs-wide cs (omega (arith, all, none)))
+
 bytes-by : (cs : List ℕ) → IsEven Bytes 1 cs
 bytes-by [] = tt
 bytes-by (c ∷ cs) = (refl, bytes-by cs)

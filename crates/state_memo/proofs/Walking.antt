@@ -1,15 +1,19 @@
 -- A text's items, taken in one walk over its code points.
-use Rattle.std.proofs.Common.{◌≡◌, refl, sym, ap, subst, ◌∙◌, ℕ, zero, suc, ◌+◌, ◌-◌, ◌*◌, ◌<◌, ◌≤◌, List, [], ◌∷◌, ◌++◌, append_assoc, append-nil, length, length-append, min, take, drop, get_or, arith, ℤ, pos, ◌+ℤ◌, ◌-ℤ◌, ◌<ℤ◌, false, nat_lt}
+use Rattle.std.proofs.Common.{◌≡◌, refl, sym, ap, subst, ◌∙◌, ℕ, zero, suc, ◌+◌, ◌-◌, ◌*◌, ◌<◌, ◌≤◌, List, [], ◌∷◌, ◌++◌, append_assoc, append-nil, length, length-append, min, take, drop, get_or, arith, ℤ, pos, ◌+ℤ◌, ◌-ℤ◌, ◌<ℤ◌, false, leb, map, nat_lt, not}
 use Rattle.std.proofs.lemmas.Bool.Decides.{nat_tests}
 use Rattle.std.proofs.lemmas.Grind.{flat_map-append}
 use Rattle.std.proofs.lemmas.Int.{ints}
 use Rattle.std.proofs.lemmas.List.{get_or-drop, length-drop, take_all}
 use Rattle.std.proofs.lemmas.List.Sums.{prefix_len-le-length, prefix_len_passes}
+use Rattle.std.proofs.lemmas.Simd.{length-chunk, run_in_chunk_fails, run_in_chunk_le, trailing_mask_l}
 use Rattle.std.proofs.lemmas.Str.{chars_past_char, drop_past_char, length-encode, len_utf8_bounds, IsUtf8-past_char}
 use Rattle.std.proofs.Math.Utf8.{encode}
 use Rattle.std.proofs.StrCases.{chars_of_empty}
 use Rattle.std.specs.Char.{len_utf8}
+use Rattle.std.specs.List.{prefix_len}
 use Rattle.std.specs.Str.{chars, continuation_len, IsUtf8}
+use lib.Count.{count_trailing_zeros}
+use lib.Lanes.{mask_l}
 use Rattle.lane_ascii.specs.Runs.{ascii_len}
 use Rattle.decoder_core.specs.declared.bulk.Stride.{Stride}
 use Rattle.decoder_core.specs.declared.item.Item.TheVariants.{One}
@@ -269,6 +273,21 @@ ascii-alike bytes n is k lt =
     lead : (b : ℕ) → b < 128 → 1 ≡ continuation_len b + 1
     lead b h = grind (arith, nat_tests)
 
+-- sixteen bytes: as many as are in front of the first that isn't ASCII
+pub front-alike : (bytes : List ℕ) (others : ℕ) → 16 ≤ length bytes → others ≡ mask_l (map (leb 128) (take 16 bytes)) → 0 < others → AreAlike bytes 0 1 (count_trailing_zeros 64 others)
+front-alike bytes others room is some =
+    let run = count_trailing_zeros 64 others in
+    let counted : run ≡ prefix_len (λ x. not (leb 128 x)) (take 16 bytes) =
+    ap (count_trailing_zeros 64) is ∙ trailing_mask_l (leb 128) 64 (take 16 bytes) (omega (arith, length-chunk 0 16 bytes room)) (omega (arith, is, some)) in
+    let few : run ≤ 16 = run_in_chunk_le (leb 128) bytes 0 16 run 0 room counted in
+    λ k lt. (omega (arith, room, few, lt), subst (λ (m : ℕ). 1 ≡ continuation_len (get_or bytes m 0) + 1) (far k) (lead (get_or bytes k 0) (run_in_chunk_fails (leb 128) bytes 0 16 run 0 room counted k (omega arith) (omega (arith, lt)))))
+  where
+    far : (k : ℕ) → k ≡ 0 + k * 1
+    far k = omega arith
+
+    lead : (b : ℕ) → leb 128 b ≡ false → 1 ≡ continuation_len b + 1
+    lead b h = grind (arith, nat_tests)
+
 -- the same of a part that goes to the end, and fewer
 pub alike-part : (bytes text : List ℕ) (at len n most m : ℕ) → bytes ≡ text → AreAlike (take (length bytes - at) (drop at bytes)) 0 len n → m ≡ min n most → AreAlike text at len m
 alike-part bytes text at len n most m same alike is k lt =
@@ -325,13 +344,12 @@ module _ (stride : Stride) (kind : ItemKind) (output : OutputState) (text : List
 pub walked-run : {stride : Stride} {text : List ℕ} {at len width : ℕ} → IsItemAt stride text at len width
     → {kind : ItemKind} {output : OutputState} {from last : ℤ} {before : List Ended} {capacity count more step : ℕ} {closed : List Run} → IsWalked stride kind output text from before capacity at closed count last more step
     → ((end : ℤ) → item_of_kind kind end ≡ record { scalars = 1; end = end; error = false; output = output })
-    → (n : ℕ) (mid end : ℤ) → mid ≡ last +ℤ pos width → step ≡ width → AreAlike text (at + len) len n → end ≡ mid +ℤ pos (n * width)
-    → IsWalked stride kind output text from before capacity (at + len + n * len) closed count end (more + 1 + n) step
+    → (n : ℕ) (mid end : ℤ) → mid ≡ last +ℤ pos width → (0 < more → step ≡ width) → AreAlike text (at + len) len n → end ≡ mid +ℤ pos (n * width)
+    → IsWalked stride kind output text from before capacity (at + len + n * len) closed count end (more + 1 + n) width
 walked-run {stride} {text} {at} {len} {width} here {kind} {output} {from} {last} {before} {capacity} {count} {more} {step} {closed} held one n mid end mid_is same alike end_is =
-    subst (λ (w : ℕ). IsWalked stride kind output text from before capacity (at + len + n * len) closed count end (more + 1 + n) w) (sym same)
-    (walked-at stride kind output text from before capacity (at + len + n * len) (at + len + n * len) closed count (mid +ℤ pos (n * width)) end (more + 1 + n) width end_is refl
+    walked-at stride kind output text from before capacity (at + len + n * len) (at + len + n * len) closed count (mid +ℤ pos (n * width)) end (more + 1 + n) width end_is refl
     (walked-alike stride kind output text from before capacity closed count width len one here.wide n (at + len) (more + 1) mid alike
-    (walked-on here held one mid mid_is (more + 1) width refl refl (λ _. same))))
+    (walked-on here held one mid mid_is (more + 1) width refl refl same))
 
 -- how many bytes those of a run can have
 pub few-bytes : (n len : ℕ) → n ≤ 65535 → len ≤ 4 → n * len ≤ 262140
@@ -346,7 +364,7 @@ few-bytes n (suc (suc (suc (suc (suc len))))) few short = absurd (omega (arith, 
 pub run-fits : {stride : Stride} {text : List ℕ} {at len width : ℕ} → IsItemAt stride text at len width
     → {kind : ItemKind} {output : OutputState} {from last : ℤ} {before : List Ended} {capacity count more step : ℕ} {closed : List Run} → IsWalked stride kind output text from before capacity at closed count last more step
     → ((end : ℤ) → item_of_kind kind end ≡ record { scalars = 1; end = end; error = false; output = output })
-    → (n : ℕ) (mid limit start : ℤ) → mid ≡ last +ℤ pos width → step ≡ width → AreAlike text (at + len) len n → from ≡ start → (start +ℤ pos (run_width stride (chars text))) <ℤ limit → (mid +ℤ pos (n * width)) <ℤ limit
+    → (n : ℕ) (mid limit start : ℤ) → mid ≡ last +ℤ pos width → (0 < more → step ≡ width) → AreAlike text (at + len) len n → from ≡ start → (start +ℤ pos (run_width stride (chars text))) <ℤ limit → (mid +ℤ pos (n * width)) <ℤ limit
 run-fits {stride} {text} {at} {len} {width} here {from = from} held one n mid limit start mid_is same alike from_is fits =
     let walked = walked-run here held one n mid (mid +ℤ pos (n * width)) mid_is same alike refl in
     by from (mid +ℤ pos (n * width)) limit start (run_width stride (chars text)) (run_width stride walked.front) (run_width stride (chars (drop (at + len + n * len) text)))

@@ -9,7 +9,7 @@ ghost use Rattle.state_memo.specs.Runs.{items_of_run, items_of_runs, items_under
 use crate::ended::Ended;
 use crate::kind::ItemKind;
 use crate::plain::{alike_front, scalar_len, widths_of};
-use crate::run::{Run, end_behind, end_behind_all};
+use crate::run::{Run, end_behind, end_behind_all, goes_on};
 use decoder_core::Stride;
 use iso2022jp::OutputState;
 use std::alloc::{AllocError, Global};
@@ -103,19 +103,14 @@ impl OpenRuns {
             let ended = last;
             last = end_behind(last, width);
             at += len;
-            if step == width && more < u16::MAX {
+            if goes_on(more, step, width) {
+                step = width;
                 more += 1;
                 // As long as they are alike, the run goes on with all of them.
                 let run = alike_front(&bytes[at..], len).min(usize::from(u16::MAX - more));
                 last = end_behind_all(last, run as u16, width);
                 at += run * len;
                 more += run as u16;
-                continue;
-            }
-            if more == 0 {
-                // Where one item stands, the next says how far apart they end.
-                step = width;
-                more = 1;
                 continue;
             }
             self.closed.push_reserved(Run {

@@ -1,5 +1,5 @@
 //! Texts whose code points are items without gaps.
-ghost use Rattle.std.specs.Prelude.{◌≡◌, ◌<◌, ◌≤◌, ◌+◌, ◌-◌, ◌*◌, ◌^◌, ℕ, nat_lt, if◌then◌else◌, slice_index, IfSome, length, pos, ◌-ℤ◌, ◌+ℤ◌, ◌<ℤ◌};
+ghost use Rattle.std.specs.Prelude.{◌≡◌, ◌<◌, ◌≤◌, ◌+◌, ◌-◌, ◌*◌, ◌^◌, ℕ, nat_lt, if◌then◌else◌, slice_index, IfSome, length, map, take, pos, ◌-ℤ◌, ◌+ℤ◌, ◌<ℤ◌};
 ghost use Rattle.std.specs.Char.{len_utf8};
 ghost use Rattle.std.specs.Str.{chars, continuation_len};
 ghost use Rattle.decoder_core.specs.declared.bulk.Stride.{Stride};
@@ -9,6 +9,8 @@ ghost use Rattle.lane_utf.specs.Widths.{total_width};
 ghost use Rattle.state_memo.specs.Alike.{AreAlike};
 ghost use Rattle.state_memo.specs.Gathering.{plain_items, IsEven};
 ghost use Rattle.state_memo.specs.Runs.{items_of_run};
+ghost use lib.Dec.{leb};
+ghost use lib.Lanes.{mask_l};
 
 use crate::kind::ItemKind;
 use crate::run::Run;
@@ -16,6 +18,7 @@ use decoder_core::Stride;
 use iso2022jp::OutputState;
 use lane_ascii::ascii_run;
 use lane_utf::count_utf16;
+use std::simd::prelude::*;
 
 /// How many bytes are looked at together for ASCII.
 const BLOCK: usize = 128;
@@ -43,7 +46,7 @@ pub(crate) fn even_run(
     })
 }
 
-/// The length of each item, where all are seen at once to be as short as can be.
+/// The length of each item, where all are seen at once to be as short as can be, or as long.
 fn even_width(text: &str, count: usize, stride: Stride) -> Option<u8>
     requires { count ≡ length (chars text.now) }
     ensures { IfSome result (λ width. IsEven stride width (chars text.now)) }
@@ -52,6 +55,7 @@ fn even_width(text: &str, count: usize, stride: Stride) -> Option<u8>
         Stride::Utf8 if text.len() == count => Some(1),
         Stride::Utf16 if count_utf16(text) == count => Some(2),
         Stride::Pairs if text.len() == count => Some(1),
+        Stride::Pairs if count_ascii(text) == 0 => Some(2),
         Stride::Bytes => Some(1),
         _ => None,
     }
@@ -142,7 +146,7 @@ pub(crate) fn alike_front(bytes: &[u8], len: usize) -> usize
     ensures { AreAlike bytes.now 0 len result }
 {
     if len == 1 {
-        return ascii_run(bytes);
+        return ascii_front(bytes);
     }
     let (low, high) = leads_of(len);
     let mut at = 0;
@@ -152,6 +156,31 @@ pub(crate) fn alike_front(bytes: &[u8], len: usize) -> usize
         count += 1;
     }
     count
+}
+
+/// How many ASCII bytes are at the front: mostly fewer than sixteen, which are seen at once.
+#[inline(always)]
+fn ascii_front(bytes: &[u8]) -> usize
+    ensures { AreAlike bytes.now 0 1 result }
+{
+    if bytes.len() >= 16 {
+        let others = others_in_16(bytes);
+        if others != 0 {
+            return others.trailing_zeros() as usize;
+        }
+    }
+    ascii_run(bytes)
+}
+
+/// A mask with a bit for each of the first sixteen bytes that isn't ASCII.
+#[inline(always)]
+fn others_in_16(bytes: &[u8]) -> u64
+    requires { 16 ≤ length bytes.now }
+    ensures { result ≡ mask_l (map (leb 0x80) (take 16 bytes.now)) }
+{
+    u8x16::from_slice(bytes)
+        .simd_ge(Simd::splat(0x80))
+        .to_bitmask()
 }
 
 /// The first bytes of code points of so many bytes of UTF-8: from the first of these on, below the second.

@@ -1,5 +1,5 @@
 //! Runs of items.
-ghost use Rattle.std.specs.Prelude.{◌≡◌, ◌+◌, ◌-◌, ◌*◌, ◌^◌, ◌<◌, ◌≤◌, ◌++◌, [], ◌∷◌, slice_get, Some, IfSome, IfNone, pos, ◌+ℤ◌, ◌<ℤ◌, ◌-ℤ◌};
+ghost use Rattle.std.specs.Prelude.{◌≡◌, ◌+◌, ◌-◌, ◌*◌, ◌^◌, ◌<◌, ◌≤◌, ◌++◌, [], ◌∷◌, slice_get, Some, IfSome, IfNone, IsTrue, pos, ◌+ℤ◌, ◌<ℤ◌, ◌-ℤ◌};
 ghost use Rattle.state_memo.specs.Items.{scalars_before, item_of, all_scalars, errors_in};
 ghost use Rattle.state_memo.specs.Runs.{items_of_run, item_of_kind, scalars_of};
 
@@ -37,6 +37,17 @@ pub(crate) fn end_behind_all(last: i32, count: u16, width: u8) -> i32
     ensures { result ≡ last +ℤ pos (count * width) }
 {
     last + i32::from(count) * i32::from(width)
+}
+
+/// Whether an item so long goes on with a run: with any where one item stands, since the next says
+/// how far apart they end.
+// In the loop over the bytes.
+#[inline(always)]
+pub(crate) fn goes_on(more: u16, step: u8, width: u8) -> bool
+    ensures few { IsTrue result → more < 65535 }
+    ensures same { IsTrue result → 0 < more → step ≡ width }
+{
+    more == 0 || (step == width && more < u16::MAX)
 }
 
 impl Run {

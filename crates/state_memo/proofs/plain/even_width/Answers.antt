@@ -1,5 +1,5 @@
 use Rattle.std.specs.Str.{chars}
-use Rattle.state_memo.proofs.CodePoints.{utf8-even, utf16-even, ascii-even, bytes-even}
+use Rattle.state_memo.proofs.CodePoints.{utf8-even, utf16-even, ascii-even, pairs-even, bytes-even}
 use Rattle.state_memo.proofs.Numbers.{width-chars}
 use Rattle.state_memo.proofs.plain.even_width.Goals as goal
 
@@ -17,3 +17,6 @@ returns-in-Bytes c = bytes-even c.args.stride (chars c.args.text.now) c.in-Bytes
 pub returns-in-Pairs : goal.returns-in-Pairs
 returns-in-Pairs c =
     ascii-even c.args.stride c.args.text.now (chars c.args.text.now) c.args.count c.in-Pairs.is (width-chars c.args.text.now c.utf8.text) c.if-text-count-2.true c.requires
+
+pub returns-in-Pairs-2 : goal.returns-in-Pairs-2
+returns-in-Pairs-2 c = pairs-even c.args.stride (chars c.args.text.now) c.count_ascii.result c.in-Pairs-2.is c.count_ascii.ensures c.if-count_ascii-eq0.true

@@ -6,7 +6,7 @@ use Rattle.std.proofs.StrCases.{chars_of_empty}
 use Rattle.state_memo.specs.declared.ended.Ended.{Ended}
 use Rattle.state_memo.specs.Gathering.{plain_items_from}
 use Rattle.state_memo.specs.Runs.{items_under_way}
-use Rattle.state_memo.proofs.Walking.{alike-part, few-bytes, item-at, next-len, at-start, next-within, next-fits, walked-fits, walked-first, walked-on, walked-new, walked-run, run-fits, walked-some, walked-whole}
+use Rattle.state_memo.proofs.Walking.{alike-part, few-bytes, item-at, next-len, at-start, next-within, next-fits, walked-fits, walked-first, walked-new, walked-run, run-fits, walked-some, walked-whole}
 use Rattle.state_memo.proofs.items.OpenRuns.put_plain.Goals as goal
 
 pub returns-then-is_empty : goal.returns-then-is_empty
@@ -62,22 +62,25 @@ overflow_mul-at c =
     let few : c.min-run.result ≤ 65535 = omega (arith, c.min-run.ensures, c.from.ensures) in
     omega (arith, few-bytes c.min-run.result c.scalar_len-len.result few short)
 
+pub overflow_add-at-then-goes_on : goal.overflow_add-at-then-goes_on
+overflow_add-at-then-goes_on c =
+    let within =
+    (walked-run (item-at c.widths_of-widths.result c.widths_of-widths.ensures c.as_bytes-bytes.ensures.value c.items-test.true c.items.invariant.spelt c.scalar_len-len.ensures) c.items.invariant c.one-kind.ensures
+    c.min-run.result _ _ refl (c.goes_on.ensures.same c.if-goes_on.true)
+    (alike-part _ c.args.text.now _ _ _ _ _ c.as_bytes-bytes.ensures.value c.alike_front.ensures c.min-run.ensures) refl).within in
+    search (rules, within)
+
 pub end_behind_all-last-requires : goal.end_behind_all-last-requires
 end_behind_all-last-requires c =
     run-fits (item-at c.widths_of-widths.result c.widths_of-widths.ensures c.as_bytes-bytes.ensures.value c.items-test.true c.items.invariant.spelt c.scalar_len-len.ensures) c.items.invariant c.one-kind.ensures
-    c.min-run.result _ _ _ (search rules) (search rules)
+    c.min-run.result _ _ _ (search rules) (c.goes_on.ensures.same c.if-goes_on.true)
     (alike-part _ c.args.text.now _ _ _ _ _ c.as_bytes-bytes.ensures.value c.alike_front.ensures c.min-run.ensures) (to_z-of_z {w = w32} c.ranges.from) c.requires.fits
 
-pub items-preserved-then-more-lt65535 : goal.items-preserved-then-more-lt65535
-items-preserved-then-more-lt65535 c =
+pub items-preserved-then-goes_on : goal.items-preserved-then-goes_on
+items-preserved-then-goes_on c =
     walked-run (item-at c.widths_of-widths.result c.widths_of-widths.ensures c.as_bytes-bytes.ensures.value c.items-test.true c.items.invariant.spelt c.scalar_len-len.ensures) c.items.invariant c.one-kind.ensures
-    c.min-run.result (to_z w32 (of_z w32 c.end_behind-last-in-items.result)) _ (search rules) (search rules)
+    c.min-run.result (to_z w32 (of_z w32 c.end_behind-last-in-items.result)) _ (search rules) (c.goes_on.ensures.same c.if-goes_on.true)
     (alike-part c.as_bytes-bytes.result.now c.args.text.now _ _ _ _ _ c.as_bytes-bytes.ensures.value c.alike_front.ensures c.min-run.ensures) (search rules)
-
-pub items-preserved-then-more-eq0 : goal.items-preserved-then-more-eq0
-items-preserved-then-more-eq0 c =
-    walked-on (item-at c.widths_of-widths.result c.widths_of-widths.ensures c.as_bytes-bytes.ensures.value c.items-test.true c.items.invariant.spelt c.scalar_len-len.ensures) c.items.invariant c.one-kind.ensures
-    _ (search rules) 1 _ (omega (arith, c.if-more-eq0.true)) refl (λ some. absurd (omega (arith, c.if-more-eq0.true, some)))
 
 pub push_reserved-requires : goal.push_reserved-requires
 push_reserved-requires c =
