@@ -12,7 +12,7 @@ use Rattle.iso2022jp.specs.declared.output.OutputState.{OutputState}
 use Rattle.state_memo.specs.declared.ended.Ended.{Ended}
 use Rattle.state_memo.specs.declared.kind.ItemKind.{ItemKind}
 use Rattle.state_memo.specs.Gathering.{Gathered, with_item, with_shown, with_more, plain_items_from, plain_items, IsEven}
-use Rattle.state_memo.specs.Items.{kept_item}
+use Rattle.state_memo.specs.Items.{errors_in, kept_item}
 use Rattle.state_memo.specs.Runs.{item_of_kind, items_until}
 use Rattle.state_memo.proofs.Gathered.{more-nil}
 use Rattle.state_memo.proofs.Splitting.{first-until}
@@ -45,6 +45,10 @@ fold-plain output stride from after (c ∷ cs) g =
     fold-plain output stride end after cs (with_item g (One c) end (output after))
     ∙ ap (λ (t : List ℕ). record { text = t; items = (g.items ++ item ∷ []) ++ items }) (append_assoc g.text (c ∷ []) cs)
     ∙ ap (λ (t : List Ended). record { text = g.text ++ c ∷ cs; items = t }) (append_assoc g.items (item ∷ []) items)
+
+pub plain-no-errors : (stride : Stride) (from : ℤ) (output : OutputState) (cs : List ℕ) → errors_in (plain_items_from stride from output cs) ≡ 0
+plain-no-errors stride from output [] = refl
+plain-no-errors stride from output (c ∷ cs) = omega (arith, plain-no-errors stride (from +ℤ pos (width_of stride c)) output cs)
 
 -- ---- each as long as the others
 

@@ -28,6 +28,10 @@ pub errors-append : (a b : List Ended) → errors_in (a ++ b) ≡ errors_in a + 
 errors-append [] b = omega arith
 errors-append (e ∷ a) b = omega (arith, errors-append a b)
 
+-- no error where none was and none comes
+pub no-errors-more : (old new add : List Ended) → new ≡ old ++ add → errors_in old ≡ 0 → errors_in add ≡ 0 → errors_in new ≡ 0
+no-errors-more old new add e a b = ap errors_in e ∙ omega (arith, errors-append old add, a, b)
+
 more : (n s : ℕ) → suc n * s ≡ n * s + s
 more n s = grind (arith)
 

@@ -1,5 +1,5 @@
 //! Numbers of a text and its items.
-ghost use Rattle.std.specs.Prelude.{◌≡◌, length};
+ghost use Rattle.std.specs.Prelude.{◌≡◌, ◌<◌, ◌^◌, false, length};
 ghost use Rattle.std.specs.Str.{chars};
 ghost use Rattle.lane_ascii.specs.Marks.{marks, ends_cr};
 ghost use Rattle.state_memo.specs.Items.{errors_in, all_scalars};
@@ -11,9 +11,11 @@ use crate::sum::Sum;
 use lane_ascii::count_line_ends;
 use lane_utf::count_both;
 
-/// The numbers of a part of a document of so many bytes, by two passes over the text.
-pub(crate) fn sum_of(bytes: usize, text: &str, items: &ItemRuns) -> Sum
-    requires { length (chars text.now) ≡ all_scalars items.now }
+/// The numbers of a part of a document of so many bytes, by two passes over the text; `erring` says
+/// whether one of the items may be an error.
+pub(crate) fn sum_of(bytes: usize, text: &str, items: &ItemRuns, erring: bool) -> Sum
+    requires counted { length (chars text.now) ≡ all_scalars items.now }
+    requires none { erring ≡ false → errors_in items.now ≡ 0 }
     ensures { result ≡ sum_of bytes (chars text.now) items.now }
 {
     let counts = count_both(text);
@@ -22,11 +24,20 @@ pub(crate) fn sum_of(bytes: usize, text: &str, items: &ItemRuns) -> Sum
         scalars: counts.scalars as u64,
         utf16: counts.utf16 as u64,
         utf8: text.len() as u64,
-        errors: items.count_errors(),
+        errors: count_errors(items, erring),
         marks: count_marks(text, false),
         lf_first: begins_lf(text),
         cr_last: ends_cr(text, false),
     }
+}
+
+/// How many of the items are errors, which are counted only where one may be.
+fn count_errors(items: &ItemRuns, erring: bool) -> u64
+    requires few { all_scalars items.now < 2 ^ 64 }
+    requires none { erring ≡ false → errors_in items.now ≡ 0 }
+    ensures { result ≡ errors_in items.now }
+{
+    if erring { items.count_errors() } else { 0 }
 }
 
 /// The number of line marks, where `after_cr` says that a CR stands in front of the text.

@@ -1,12 +1,12 @@
 //! The sink in which a piece's outcome is gathered.
-ghost use Rattle.std.specs.Prelude.{◌≡◌, ◌≤◌, ◌+◌, [], ◌∷◌, ◌++◌, ◌^◌, pos, ◌+ℤ◌, ◌<ℤ◌, length, fold, IfOk, OnOk, OnErr};
+ghost use Rattle.std.specs.Prelude.{◌≡◌, ◌≤◌, ◌+◌, [], ◌∷◌, ◌++◌, ◌^◌, pos, ◌+ℤ◌, ◌<ℤ◌, false, length, fold, IfOk, OnOk, OnErr};
 ghost use Rattle.std.specs.Str.{chars};
 ghost use Rattle.decoder_core.specs.Bulk.{run_width};
 ghost use Rattle.decoder_core.specs.Text.{item_code_points};
 ghost use Rattle.state_memo.specs.Facts.{IsDone};
 ghost use Rattle.state_memo.specs.Gathering.{Gathered, with_shown, with_item, with_ended, with_more, plain_items_from};
 ghost use Rattle.state_memo.specs.Outcome.{contents_of};
-ghost use Rattle.state_memo.specs.Runs.{items_of_run};
+ghost use Rattle.state_memo.specs.Runs.{error_of, items_of_run};
 ghost use Rattle.state_memo.specs.Sums.{sum_of};
 
 use crate::counting::sum_of;
@@ -23,21 +23,26 @@ use lane_utf::count_scalars;
 use std::alloc::{AllocError, Global};
 use std::marker::Model;
 
-/// The text and the items so far.
+/// The text and the items so far, and whether one of these may be an error.
 #[derive(Drop)]
 pub(crate) struct Gathering {
     text: TextBlocks,
     items: OpenRuns,
+    erring: bool,
 }
 
 impl Model for Gathering {
+    ghost use Rattle.std.specs.Prelude.{◌≡◌, false};
     ghost use Rattle.std.specs.Str.{chars};
     ghost use Rattle.state_memo.specs.Gathering.{Gathered};
+    ghost use Rattle.state_memo.specs.Items.{errors_in};
     ghost use Rattle.state_memo.specs.Runs.{items_under_way};
 
     ghost Value = { Gathered };
 
     ghost view = { λ s. record { text = chars s.text.bytes; items = items_under_way s.items.closed.items s.items.last } };
+
+    ghost invariant = { λ s. s.erring ≡ false → errors_in (items_under_way s.items.closed.items s.items.last) ≡ 0 };
 }
 
 impl Gathering {
@@ -48,6 +53,7 @@ impl Gathering {
         Gathering {
             text: TextBlocks::new(alloc),
             items: OpenRuns::new(alloc),
+            erring: false,
         }
     }
 
@@ -65,7 +71,9 @@ impl Gathering {
         self.items.reserve(1)?;
         let (kept, written) = (item, item);
         put_item(&mut self.text, written);
-        self.items.put(Run::one(ItemKind::of(kept, output), last));
+        let kind = ItemKind::of(kept, output);
+        self.erring = may_err(self.erring, kind);
+        self.items.put(Run::one(kind, last));
         Ok(())
     }
 
@@ -76,6 +84,7 @@ impl Gathering {
     {
         self.items.reserve(1)?;
         self.text.put_text(text)?;
+        self.erring = may_err(self.erring, run.kind);
         self.items.put(run);
         Ok(())
     }
@@ -120,12 +129,16 @@ impl Gathering {
         requires { IsDone bytes self }
         ensures { IfOk result (λ o. contents_of o ≡ record { text = self.text; items = self.items; exit = exit; sum = sum_of bytes self.text self.items }) }
     {
-        let Gathering { text, items } = self;
+        let Gathering {
+            text,
+            items,
+            erring,
+        } = self;
         let mut written = text.finish()?;
         written.shrink_to_fit();
         let text = Text::new(*written.allocator(), written)?;
         let items = items.finish()?;
-        let sum = sum_of(bytes, text.as_str(), &items);
+        let sum = sum_of(bytes, text.as_str(), &items, erring);
         Ok(Outcome {
             text,
             items,
@@ -161,6 +174,16 @@ impl<S: Outputs> Sink<S> for Gathering {
         self.take_runs(text, count, from, stride, output)?;
         Ok(())
     }
+}
+
+/// Whether an item may be an error, of items of which one may be and those of this kind.
+// In the loop over the bytes.
+#[inline(always)]
+fn may_err(erring: bool, kind: ItemKind) -> bool
+    ensures before { result ≡ false → erring ≡ false }
+    ensures kind { result ≡ false → error_of kind ≡ false }
+{
+    erring || kind.is_error()
 }
 
 /// Writes the code points of an item, an error as U+FFFD.

@@ -55,7 +55,7 @@ fn even_width(text: &str, count: usize, stride: Stride) -> Option<u8>
         Stride::Utf8 if text.len() == count => Some(1),
         Stride::Utf16 if count_utf16(text) == count => Some(2),
         Stride::Pairs if text.len() == count => Some(1),
-        Stride::Pairs if count_ascii(text) == 0 => Some(2),
+        Stride::Pairs if text.len() / 3 == count && count_ascii(text) == 0 => Some(2),
         Stride::Bytes => Some(1),
         _ => None,
     }

@@ -1,10 +1,11 @@
-use Rattle.std.proofs.Common.{◌≡◌, ap, ◌∙◌, ℕ, ℤ, List, [], ◌∷◌, ◌++◌, rules, to_z, of_z, w32}
+use Rattle.std.proofs.Common.{◌≡◌, ap, sym, ◌∙◌, ℕ, ℤ, List, [], ◌∷◌, ◌++◌, rules, to_z, of_z, w32}
 use Rattle.std.specs.Str.{chars}
 use Rattle.decoder_core.specs.Text.{item_code_points}
 use Rattle.state_memo.specs.declared.ended.Ended.{Ended}
-use Rattle.state_memo.specs.Items.{kept_item}
-use Rattle.state_memo.specs.Runs.{items_of_run, items_under_way}
+use Rattle.state_memo.specs.Items.{errors_in, kept_item}
+use Rattle.state_memo.specs.Runs.{error_of, items_of_run, items_under_way}
 use Rattle.state_memo.proofs.Gathered.{taken-is}
+use Rattle.state_memo.proofs.Walks.{no-errors-more, run-no-errors}
 use Rattle.state_memo.proofs.gathering.Gathering.take.Goals as goal
 
 pub returns-clause-ok : goal.returns-clause-ok
@@ -15,4 +16,9 @@ returns-clause-ok c =
     (kept_item c.args.item c.args.end c.args.output ∷ []) c.self.view_is
     (c.put_item.ensures ∙ ap (λ (b : List ℕ). chars b ++ item_code_points c.args.item) c.in_ok-reserve.ensures.bytes)
     (c.put.ensures ∙ ap (λ (is : List Ended). is ++ items_of_run c.one.result) c.in_ok-reserve-2.ensures.same
-    ∙ ap (λ (is : List Ended). old ++ is) (c.one.ensures.items ∙ ap (λ (i : Ended). i ∷ []) (c.of.ensures (to_z w32 (of_z w32 c.in-Ok.last)) ∙ ap (λ (l : ℤ). kept_item c.args.item l c.args.output) last)))
+    ∙ ap (λ (is : List Ended). old ++ is) (c.one.ensures.items ∙ ap (λ (i : Ended). i ∷ []) (c.of-kind.ensures (to_z w32 (of_z w32 c.in-Ok.last)) ∙ ap (λ (l : ℤ). kept_item c.args.item l c.args.output) last)))
+
+pub invariant_of-self-2 : goal.invariant_of-self-2
+invariant_of-self-2 c = λ e.
+    no-errors-more _ _ _ c.put.ensures (ap errors_in c.in_ok-reserve-2.ensures.same ∙ c.self.invariant (c.may_err-self-inside.ensures.before e))
+    (sym (run-no-errors c.one.result (ap error_of c.one.ensures.kind ∙ c.may_err-self-inside.ensures.kind e)))

@@ -1,9 +1,11 @@
-use Rattle.std.proofs.Common.{ap, ◌∙◌, List, ◌++◌}
+use Rattle.std.proofs.Common.{ap, sym, ◌∙◌, List, ◌++◌}
 use Rattle.std.specs.Str.{chars}
 use Rattle.std.proofs.lemmas.Str.{chars-append}
 use Rattle.state_memo.specs.declared.ended.Ended.{Ended}
+use Rattle.state_memo.specs.Items.{errors_in}
 use Rattle.state_memo.specs.Runs.{items_of_run, items_under_way}
 use Rattle.state_memo.proofs.Gathered.{taken-is}
+use Rattle.state_memo.proofs.Walks.{no-errors-more, run-no-errors}
 use Rattle.state_memo.proofs.gathering.Gathering.take_run.Goals as goal
 
 pub returns-clause-ok : goal.returns-clause-ok
@@ -12,3 +14,7 @@ returns-clause-ok c =
     (items_under_way c.self.inside.items.closed.items c.self.inside.items.last) (items_under_way c.put.new.self.closed.items c.put.new.self.last) (items_of_run c.args.run) c.self.view_is
     (ap chars c.in_ok-put_text.ensures.ok ∙ chars-append c.self.inside.text.bytes c.args.text.now c.in_ok-put_text.ensures.utf8)
     (c.put.ensures ∙ ap (λ (is : List Ended). is ++ items_of_run c.args.run) c.in_ok-reserve.ensures.same)
+
+pub invariant_of-self-2 : goal.invariant_of-self-2
+invariant_of-self-2 c = λ e.
+    no-errors-more _ _ _ c.put.ensures (ap errors_in c.in_ok-reserve.ensures.same ∙ c.self.invariant (c.may_err-self-inside.ensures.before e)) (sym (run-no-errors c.args.run (c.may_err-self-inside.ensures.kind e)))

@@ -4,8 +4,11 @@ use Rattle.std.proofs.Math.Facts.{to_z-of_z}
 use Rattle.std.proofs.lemmas.Str.{chars-append}
 use Rattle.state_memo.specs.declared.ended.Ended.{Ended}
 use Rattle.state_memo.specs.Gathering.{plain_items_from}
+use Rattle.state_memo.specs.Items.{errors_in}
 use Rattle.state_memo.specs.Runs.{items_under_way}
+use Rattle.state_memo.proofs.CodePoints.{plain-no-errors}
 use Rattle.state_memo.proofs.Gathered.{taken-is}
+use Rattle.state_memo.proofs.Walks.{no-errors-more}
 use Rattle.state_memo.proofs.gathering.Gathering.take_runs.Goals as goal
 
 pub returns-clause-ok : goal.returns-clause-ok
@@ -18,3 +21,7 @@ returns-clause-ok c =
     (ap chars c.in_ok-put_text.ensures.ok ∙ chars-append c.self.inside.text.bytes c.args.text.now c.in_ok-put_text.ensures.utf8)
     (c.put_plain.ensures ∙ ap (λ (is : List Ended). is ++ plain_items_from c.args.stride (to_z w32 (of_z w32 c.args.from)) c.args.output text) c.in_ok-reserve.ensures.same
     ∙ ap (λ (z : ℤ). old ++ plain_items_from c.args.stride z c.args.output text) from)
+
+pub invariant_of-self-2 : goal.invariant_of-self-2
+invariant_of-self-2 c = λ e.
+    no-errors-more _ _ _ c.put_plain.ensures (ap errors_in c.in_ok-reserve.ensures.same ∙ c.self.invariant e) (plain-no-errors c.args.stride _ c.args.output (chars c.args.text.now))
