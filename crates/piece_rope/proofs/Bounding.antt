@@ -1,10 +1,8 @@
 -- What the bytes of a document can give, by the number of its items.
-use Rattle.std.specs.Prelude.{◌==◌, ◌&&◌, ◌||◌, not}
 use Rattle.std.proofs.Common.{ℕ, ◌+◌, ◌*◌, ◌≤◌, Bool, true, false, List, [], ◌∷◌, length, length-append, arith}
-use Rattle.enc_names.specs.declared.place.Place.{Place}
-use Rattle.state_memo.specs.Decoding.{Item, One, Two, Error, Placed, item_code_points, code_points, error_place, error_places, marks, one_if, utf8_width, utf16_width, total_width}
 use Rattle.piece_rope.specs.Bounds.{HasFew}
-use Rattle.piece_rope.specs.Document.{Document, decoded, decoded_text, decoded_errors}
+use Rattle.piece_rope.proofs.Prelude.{◌==◌, ◌&&◌, ◌||◌, not, Place, Item, One, Placed, item_code_points, code_points, error_place, error_places}
+use Rattle.piece_rope.proofs.Prelude.{marks, one_if, utf8_width, utf16_width, total_width, Document, decoded, decoded_text, decoded_errors}
 
 item_few : (i : Item) → length (item_code_points i) ≤ 2
 item_few (One c) = omega arith
@@ -36,7 +34,7 @@ utf16_few c = grind arith
 utf8_few : (c : ℕ) → utf8_width c ≤ 4
 utf8_few c = grind arith
 
-one_few : (b : Bool) → one_if b ≤ 1
+pub one_few : (b : Bool) → one_if b ≤ 1
 one_few true = omega arith
 one_few false = omega arith
 

@@ -1,23 +1,12 @@
 -- The sums of pieces count their bytes.
-use Rattle.std.proofs.Common.{◌≡◌, refl, ap, ◌∙◌, ℕ, zero, suc, ◌+◌, ◌<◌, ◌≤◌, List, [], ◌∷◌, take, length, Option, Some, None, option_map, arith, length-append, add-one}
-use Rattle.state_memo.specs.Decoding.{AnyDecoding, AnyState, feed, any}
+use Rattle.std.proofs.Common.{◌≡◌, refl, ap, ◌∙◌, ℕ, zero, suc, ◌+◌, ◌≤◌, List, [], ◌∷◌, take, length, Option, Some, None, option_map, arith, length-append, add-one}
 use Rattle.state_memo.specs.declared.axis.Axis.TheVariants.{Byte}
-use Rattle.state_memo.specs.declared.outcome.Outcome.{Outcome}
-use Rattle.state_memo.specs.Outcome.{Contents, contents_of, outcome_of}
-use Rattle.state_memo.specs.declared.sum.Sum.{Sum}
-use Rattle.state_memo.specs.Sums.{no_sum, joined, measure}
-use Rattle.sum_tree.specs.Reached.{IsFirstAbove}
-use Rattle.piece_rope.specs.Entry.{Entry, here, entry_sum, outcome_or, sums_of}
-use Rattle.piece_rope.specs.Chain.{Chain, bytes_of}
-use Rattle.piece_rope.specs.Sizes.{AreSized, AreCounted, AreShort}
+use Rattle.piece_rope.proofs.Prelude.{AnyDecoding, AnyState, feed, any, Outcome, Contents, contents_of, outcome_of, Sum, no_sum, joined, measure}
+use Rattle.piece_rope.proofs.Prelude.{IsFirstAbove, Entry, here, entry_sum, outcome_or, sums_of, Chain, bytes_of, AreSized, AreCounted, AreShort}
+use Rattle.piece_rope.proofs.Prelude.{bytes_before, IsPlace}
 use Rattle.piece_rope.proofs.Chaining.{Laws}
-use Rattle.piece_rope.specs.Window.{bytes_before, IsPlace}
 
--- the sum of pieces
-abbrev pub sums : List Entry → Sum
-sums ps = sums_of ps
-
-pub sums-bytes : (ps : List Entry) → AreCounted ps → (sums ps).bytes ≡ length (bytes_of ps)
+pub sums-bytes : (ps : List Entry) → AreCounted ps → (sums_of ps).bytes ≡ length (bytes_of ps)
 sums-bytes [] c = refl
 sums-bytes (p ∷ ps) c = omega (arith, c.0, sums-bytes ps c.1, length-append p.piece.bytes (bytes_of ps))
 
@@ -47,12 +36,12 @@ few-pieces least (p ∷ ps) some s = omega (arith, some, s.0, few-pieces least p
 pub found-low : (measure : Sum → ℕ) (ps : List Entry) (target k : ℕ) (s : Sum) → measure no_sum ≡ 0 → IsFirstAbove measure target no_sum joined entry_sum ps k s → measure s ≤ target
 found-low measure ps target zero s none found = omega (arith, ap measure found.sum, none)
 found-low measure ps target (suc j) s none found =
-    omega (arith, ap measure found.sum, ap (λ (n : ℕ). measure (sums (take n ps))) (add-one j), found.before j (omega arith))
+    omega (arith, ap measure found.sum, ap (λ (n : ℕ). measure (sums_of (take n ps))) (add-one j), found.before j (omega arith))
 
 -- a search by bytes finds the place
 pub found-place : (ps : List Entry) (target k : ℕ) (s : Sum) → AreCounted ps → IsFirstAbove (measure Byte) target no_sum joined entry_sum ps k s → IsPlace ps target k s.bytes
 found-place ps target k s c found =
-    let count : (n : ℕ) → (sums (take n ps)).bytes ≡ bytes_before ps n = λ n. sums-bytes (take n ps) (counted-take n ps c) in
+    let count : (n : ℕ) → (sums_of (take n ps)).bytes ≡ bytes_before ps n = λ n. sums-bytes (take n ps) (counted-take n ps c) in
     let before : s.bytes ≡ bytes_before ps k = ap (λ (t : Sum). t.bytes) found.sum ∙ count k in
     record {
       within = found.within;

@@ -1,11 +1,7 @@
 -- Lists of pieces, changed at a place.
-use Rattle.std.proofs.Common.{◌≡◌, refl, sym, ap, ◌∙◌, subst, ℕ, zero, suc, ◌+◌, ◌<◌, ◌≤◌, List, [], ◌∷◌, ◌++◌, take, drop, length, slice_get, Some, arith, append_assoc, append-nil, length-append, length-drop, min}
-use Rattle.std.proofs.lemmas.List.{length-take-le, drop-drop, take_at, drop_at}
-use Rattle.std.specs.List.{remove}
-use Rattle.state_memo.specs.Decoding.{feed, AnyDecoding, AnyState, any}
-use Rattle.piece_rope.specs.Entry.{Entry}
-use Rattle.piece_rope.specs.Chain.{IsOwn, Chain, AreRenewed, bytes_of, renewed, state_after}
-use Rattle.piece_rope.specs.Sizes.{AreSized}
+use Rattle.std.proofs.Common.{◌≡◌, refl, ap, ◌∙◌, ℕ, zero, suc, ◌+◌, ◌<◌, ◌≤◌, List, [], ◌∷◌, ◌++◌, take, drop, length, arith, append_assoc, append-nil, length-append, min}
+use Rattle.piece_rope.proofs.Prelude.{length-take-le, drop-drop, take_at, drop_at, remove, feed, AnyDecoding, AnyState, any, Entry, IsOwn, Chain}
+use Rattle.piece_rope.proofs.Prelude.{AreRenewed, bytes_of, renewed, state_after, AreSized}
 use Rattle.piece_rope.proofs.Chaining.{Laws, bytes-append, chain-append, state-append, renewed-are}
 
 -- a list put in where others were taken out
@@ -13,25 +9,20 @@ pub put-in : {X : Type 0} (xs zs ys : List X) (first : ℕ) → first ≤ length
     → take first (take first xs ++ ys) ++ (zs ++ drop first (take first xs ++ ys)) ≡ take first xs ++ (zs ++ ys)
 put-in xs zs ys first l =
     let long = length-take-le first xs l in
-    ap (λ (f : List _). f ++ (zs ++ drop first (take first xs ++ ys))) (take_at (take first xs) ys first long)
-    ∙ ap (λ (b : List _). take first xs ++ (zs ++ b)) (drop_at (take first xs) ys first long)
+    cc (take_at (take first xs) ys first long, drop_at (take first xs) ys first long)
 
 -- renewed pieces put in where the old ones were taken out
 pub renewed-in : (ps rs now : List Entry) (first last count : ℕ) → first ≤ last → last + length rs ≤ length ps → count ≡ length rs → AreRenewed (drop last ps) rs
     → now ≡ take first ps ++ drop (last + count) ps → take first now ++ (rs ++ drop first now) ≡ take first ps ++ renewed (drop last ps) rs
 renewed-in ps rs now first last count order within count_is renewed_are now_is =
-    let behind : rs ++ drop (last + count) ps ≡ renewed (drop last ps) rs =
-    ap (λ (n : ℕ). rs ++ drop (last + n) ps) count_is ∙ ap (λ (xs : List Entry). rs ++ xs) (sym (drop-drop (length rs) last ps)) ∙ sym (renewed-are (drop last ps) rs renewed_are) in
-    ap (λ (xs : List Entry). take first xs ++ (rs ++ drop first xs)) now_is
-    ∙ put-in ps rs (drop (last + count) ps) first (omega (arith, order, within))
-    ∙ ap (λ (xs : List Entry). take first ps ++ xs) behind
+    let behind = drop-drop (length rs) last ps in
+    cc (behind, renewed-are (drop last ps) rs renewed_are, put-in ps rs (drop (last + count) ps) first (omega (arith, order, within)))
 
 pub removed-range : {X : Type 0} (xs : List X) (first a : ℕ) → first < length xs → first ≤ a
     → take first (remove xs first) ++ drop a (remove xs first) ≡ take first xs ++ drop (suc a) xs
-removed-range [] first a less order = absurd (omega (arith, less))
 removed-range (x ∷ xs) zero a less order = refl
-removed-range (x ∷ xs) (suc first) zero less order = absurd (omega (arith, order))
 removed-range (x ∷ xs) (suc first) (suc a) less order = ap (λ (ys : List _). x ∷ ys) (removed-range xs first a (omega (arith, less)) (omega (arith, order)))
+removed-range xs first a less order = absurd (omega (arith, less, order))
 
 pub sized-append : (least : ℕ) (xs ys : List Entry) → AreSized least xs → AreSized least ys → AreSized least (xs ++ ys)
 sized-append least [] ys a b = b
@@ -43,34 +34,23 @@ metered-step start made part more meter new before now all = omega (arith, befor
 
 pub added-length : (made more : List Entry) (p : Entry) (part : List ℕ) → more ≡ made ++ p ∷ [] → p.piece.bytes ≡ part → length (bytes_of more) ≡ length (bytes_of made) + length part
 added-length made more p part more_is own =
-    ap (λ (ps : List Entry). length (bytes_of ps)) more_is
-    ∙ ap length (bytes-append made (p ∷ []) ∙ ap (λ (bs : List ℕ). bytes_of made ++ bs) (append-nil p.piece.bytes ∙ own))
-    ∙ length-append (bytes_of made) part
+    let all : bytes_of more ≡ bytes_of made ++ part = cc (bytes-append made (p ∷ []), append-nil p.piece.bytes) in
+    ap length all ∙ length-append (bytes_of made) part
 
 pub added-bytes : (made more : List Entry) (p : Entry) (part later rest bytes : List ℕ) → more ≡ made ++ p ∷ [] → p.piece.bytes ≡ part → rest ≡ part ++ later
     → bytes_of made ++ rest ≡ bytes → bytes_of more ++ later ≡ bytes
 added-bytes made more p part later rest bytes more_is own cut all =
-    ap (λ (ps : List Entry). bytes_of ps ++ later) more_is
-    ∙ ap (λ (bs : List ℕ). bs ++ later) (bytes-append made (p ∷ []) ∙ ap (λ (bs : List ℕ). bytes_of made ++ bs) (append-nil p.piece.bytes ∙ own))
-    ∙ append_assoc (bytes_of made) part later
-    ∙ ap (λ (bs : List ℕ). bytes_of made ++ bs) (sym cut)
-    ∙ all
+    cc (bytes-append made (p ∷ []), append-nil p.piece.bytes, append_assoc (bytes_of made) part later)
 
 module _ (d : AnyDecoding) (laws : Laws d) where
   pub added-chain : (entry state : AnyState) (made more : List Entry) (p : Entry) (part : List ℕ) → more ≡ made ++ p ∷ [] → p.piece.bytes ≡ part
       → Chain d entry made → state ≡ state_after d entry made → p.entry ≡ state → IsOwn d p → Chain d entry more
   added-chain entry state made more p part more_is own chain state_is entry_is own_is =
-      subst (λ (ps : List Entry). Chain d entry ps) (sym more_is)
-      (chain-append d laws entry made (p ∷ []) chain (entry_is ∙ state_is, own_is, tt))
+      rw more_is (chain-append d laws entry made (p ∷ []) chain (entry_is ∙ state_is, own_is, tt))
 
   pub added-state : (entry state exit : AnyState) (made more : List Entry) (p : Entry) (part : List ℕ) → more ≡ made ++ p ∷ [] → p.piece.bytes ≡ part
       → state ≡ state_after d entry made → exit ≡ (feed (any d) state part).state → exit ≡ state_after d entry more
-  added-state entry state exit made more p part more_is own state_is exit_is =
-      exit_is
-      ∙ ap (λ (bs : List ℕ). (feed (any d) state bs).state) (sym own ∙ sym (append-nil p.piece.bytes))
-      ∙ ap (λ (s : AnyState). state_after d s (p ∷ [])) state_is
-      ∙ sym (state-append d laws entry made (p ∷ []))
-      ∙ ap (λ (ps : List Entry). state_after d entry ps) (sym more_is)
+  added-state entry state exit made more p part more_is own state_is exit_is = cc (append-nil p.piece.bytes, state-append d laws entry made (p ∷ []))
 
 pub none-before : (n m : ℕ) → 0 < m → (0 < n → m ≡ 0) → n ≡ 0
 none-before zero m some h = refl

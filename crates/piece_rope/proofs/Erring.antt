@@ -1,33 +1,20 @@
 -- The errors of pieces in a row are those of the document.
 use Rattle.std.proofs.Common.{◌≡◌, refl, sym, ap, ◌∙◌, subst, ℕ, zero, suc, ◌+◌, ◌-◌, ◌<◌, ◌≤◌, Bool, true, false, List, [], ◌∷◌, ◌++◌, take, drop, get_or, length, map, slice_get, Some, None, arith, append_assoc, append-nil, length-append, take-append-drop, add-one, Option}
-use Rattle.std.specs.Prelude.{ℤ, pos, ◌-ℤ◌}
-use Rattle.enc_names.specs.declared.place.Place.{Place}
-use Rattle.state_memo.specs.Decoding.{Item, One, Two, Error, Placed, decode, error_place, error_places, mark_length, one_if, places, Ended as EndedItem}
-use Rattle.state_memo.specs.declared.ended.Ended.{Ended}
 use Rattle.state_memo.specs.declared.kind.ItemKind.{ItemKind}
 use Rattle.state_memo.specs.declared.kind.ItemKind.TheVariants.{AsciiOne}
-use Rattle.state_memo.specs.declared.outcome.Outcome.{Outcome}
 use Rattle.state_memo.specs.declared.run.Run.{Run}
-use Rattle.state_memo.specs.declared.sum.Sum.{Sum}
-use Rattle.state_memo.specs.Items.{errors_in, is_an_error}
-use Rattle.state_memo.specs.Runs.{item_of_kind, items_of_run, items_of_runs, items_until}
-use Rattle.piece_rope.specs.Document.{Document, decoded, errors_of, decoded_errors, document}
-use Rattle.piece_rope.specs.Entry.{Entry, entry_sum, here_of, sums_of}
-use Rattle.piece_rope.specs.Errors.{all_errors, errors_at, errors_from, last_at, last_from, place_if}
-use Rattle.piece_rope.specs.Made.{AreEnded, AreMade, IsWhole, body_of, tail_of, count_body, ends_at}
-use Rattle.std.proofs.lemmas.List.{take_all}
-use Rattle.std.proofs.lemmas.Option.{slice_get_within, slice_get-get_or}
-use Rattle.sum_tree.specs.Reached.{IsFirstAbove}
-use Rattle.state_memo.specs.Sums.{joined, no_sum}
 use Rattle.piece_rope.specs.declared.errors.ErrorCount.{ErrorCount}
 use Rattle.piece_rope.specs.ErrorCount.{errors_of_sum}
+use Rattle.piece_rope.proofs.Prelude.{ℤ, pos, ◌-ℤ◌, Place, Item, One, Placed, decode, error_place, error_places, mark_length, one_if, places}
+use Rattle.piece_rope.proofs.Prelude.{EndedItem, Ended, Outcome, Sum, errors_in, is_an_error, item_of_kind, items_of_run, items_of_runs, items_until}
+use Rattle.piece_rope.proofs.Prelude.{Document, decoded, errors_of, decoded_errors, document, Entry, entry_sum, here_of, sums_of, all_errors}
+use Rattle.piece_rope.proofs.Prelude.{errors_at, errors_from, last_at, last_from, place_if, AreEnded, AreMade, IsWhole, body_of, tail_of, count_body}
+use Rattle.piece_rope.proofs.Prelude.{ends_at, take_all, slice_get_within, slice_get-get_or, IsFirstAbove, joined, no_sum, Setting, Files, bytes_of}
+use Rattle.piece_rope.proofs.Prelude.{IsKept}
 use Rattle.piece_rope.proofs.Answering.{error_places-append, errors-append}
+use Rattle.piece_rope.proofs.Bounding.{one_few}
 use Rattle.piece_rope.proofs.Lists.{element, take-next, drop-next, get-front, get-back}
 use Rattle.piece_rope.proofs.Counting.{found-low, sums-bytes}
-use Rattle.enc_names.specs.declared.setting.Setting.{Setting}
-use Rattle.index_loader.specs.Files.{Files}
-use Rattle.piece_rope.specs.Chain.{bytes_of}
-use Rattle.piece_rope.specs.Kept.{IsKept}
 
 -- each item begins where the one before ends
 abbrev Follow : ℕ → List Placed → Type 0
@@ -46,34 +33,23 @@ doc-follow : (doc : Document) → Follow (decoded doc).bom (decoded doc).items
 unfolding decode
 doc-follow doc = places-follow (length doc.bytes) (mark_length doc.setting doc.bytes) _
 
-follow-front : (from : ℕ) (xs ys : List Placed) → Follow from (xs ++ ys) → Follow from xs
-follow-front from [] ys f = tt
-follow-front from (x ∷ xs) ys f = (f.0, follow-front x.to xs ys f.1)
-
-follow-back : (from : ℕ) (xs ys : List Placed) → Follow from (xs ++ ys) → Follow (last_to from xs) ys
-follow-back from [] ys f = f
-follow-back from (x ∷ xs) ys f = follow-back x.to xs ys f.1
+follow-split : (from : ℕ) (xs ys : List Placed) → Follow from (xs ++ ys) → Follow from xs × Follow (last_to from xs) ys
+follow-split from [] ys f = (tt, f)
+follow-split from (x ∷ xs) ys f = let rest = follow-split x.to xs ys f.1 in ((f.0, rest.0), rest.1)
 
 error-place : (i : Item) (place : Place) → error_place i place ≡ place_if (is_an_error i) place.from place.to
 error-place (One c) place = refl
 error-place i place = refl
 
-ended-places : (base from : ℕ) (ps : List Placed) (es : List Ended) → AreEnded base ps es → Follow from ps → error_places ps ≡ errors_at base from es
-ended-places base from [] [] ended f = refl
-ended-places base from [] (e ∷ es) ended f = absurd ended
-ended-places base from (p ∷ ps) [] ended f = absurd ended
+-- the places of the errors among items, and where the last item ends
+ended-places : (base from : ℕ) (ps : List Placed) (es : List Ended) → AreEnded base ps es → Follow from ps
+    → (error_places ps ≡ errors_at base from es) × (last_to from ps ≡ last_at base from es)
+ended-places base from [] [] ended f = (refl, refl)
 ended-places base from (p ∷ ps) (e ∷ es) ended f =
     let rest = ended-places base p.to ps es ended.1 f.1 in
-    let own = ended.0 in
-    ap (λ (xs : List Place). xs ++ error_places ps) (error-place p.item (record { from = p.from; to = p.to }) ∙ ap (λ (b : Bool). place_if b p.from p.to) (sym own.error) ∙ ap (λ (n : ℕ). place_if e.error n p.to) f.0)
-    ∙ ap (λ (xs : List Place). place_if e.error from p.to ++ xs) rest
-    ∙ ap (λ (n : ℕ). place_if e.error from n ++ errors_at base n es) own.end
-
-ended-last : (base from : ℕ) (ps : List Placed) (es : List Ended) → AreEnded base ps es → last_to from ps ≡ last_at base from es
-ended-last base from [] [] ended = refl
-ended-last base from [] (e ∷ es) ended = absurd ended
-ended-last base from (p ∷ ps) [] ended = absurd ended
-ended-last base from (p ∷ ps) (e ∷ es) ended = ended-last base p.to ps es ended.1 ∙ ap (λ (n : ℕ). last_at base n es) ended.0.end
+    let own = error-place p.item (record { from = p.from; to = p.to }) in
+    (cc (rest.0, own, ended.0.error, ended.0.end, f.0), cc (rest.1, ended.0.end))
+ended-places base from ps es ended f = absurd ended
 
 last_to-append : (from : ℕ) (xs ys : List Placed) → last_to from (xs ++ ys) ≡ last_to (last_to from xs) ys
 last_to-append from [] ys = refl
@@ -83,28 +59,20 @@ made-places : (base from : ℕ) (is : List Placed) (ps : List Entry) → AreMade
     → (error_places is ≡ errors_from base from ps) × (last_to from is ≡ last_from base from ps)
 made-places base from is [] made f = (ap error_places made, ap (last_to from) made)
 made-places base from is (p ∷ ps) (own, rest, split, here, more) f =
-    let g = subst (λ (xs : List Placed). Follow from xs) split f in
-    let es = (here_of p).items in
-    let next = base + (here_of p).sum.bytes in
-    let last = ended-last base from own es here.items in
-    let later = made-places next (last_at base from es) rest ps more (subst (λ (n : ℕ). Follow n rest) last (follow-back from own rest g)) in (
-      ap error_places split ∙ error_places-append own rest ∙ ap (λ (xs : List Place). xs ++ error_places rest) (ended-places base from own es here.items (follow-front from own rest g)) ∙ ap (λ (xs : List Place). errors_at base from es ++ xs) later.0,
-      ap (last_to from) split ∙ last_to-append from own rest ∙ ap (λ (n : ℕ). last_to n rest) last ∙ later.1,
-    )
+    let parts = follow-split from own rest (rw split at f) in
+    let first = ended-places base from own (here_of p).items here.items parts.0 in
+    let later = made-places (base + (here_of p).sum.bytes) (last_at base from (here_of p).items) rest ps more (rw first.1 at parts.1) in
+    (cc (error_places-append own rest, first.0, later.0), cc (last_to-append from own rest, first.1, later.1))
 
 pub errors-are : (doc : Document) (ps : List Entry) (tail : Outcome) → IsWhole doc (map here_of ps) tail → (sums_of ps).bytes ≡ length doc.bytes → errors_of doc ≡ all_errors (decoded doc).bom ps tail
 unfolding decoded_errors
 errors-are doc ps tail whole bytes =
     let bom = (decoded doc).bom in
     let cut = take-append-drop (count_body doc) (decoded doc).items in
-    let f = subst (λ (xs : List Placed). Follow bom xs) (sym cut) (doc-follow doc) in
-    let body = made-places 0 bom (body_of doc) ps whole.made (follow-front bom (body_of doc) (tail_of doc) f) in
-    let behind = subst (λ (n : ℕ). Follow n (tail_of doc)) body.1 (follow-back bom (body_of doc) (tail_of doc) f) in
-    ap error_places (sym cut)
-    ∙ error_places-append (body_of doc) (tail_of doc)
-    ∙ ap (λ (xs : List Place). xs ++ error_places (tail_of doc)) body.0
-    ∙ ap (λ (xs : List Place). errors_from 0 bom ps ++ xs) (ended-places (length doc.bytes) (last_from 0 bom ps) (tail_of doc) tail.items whole.ended.items behind)
-    ∙ ap (λ (n : ℕ). errors_from 0 bom ps ++ errors_at n (last_from 0 bom ps) tail.items) (sym bytes)
+    let parts = follow-split bom (body_of doc) (tail_of doc) (subst (λ (xs : List Placed). Follow bom xs) (sym cut) (doc-follow doc)) in
+    let body = made-places 0 bom (body_of doc) ps whole.made parts.0 in
+    let end = ended-places (length doc.bytes) (last_from 0 bom ps) (tail_of doc) tail.items whole.ended.items (rw body.1 at parts.1) in
+    cc (cut, error_places-append (body_of doc) (tail_of doc), body.0, end.0)
 
 -- the same of the document that contracts see
 pub errors-seen : (files : Files) (setting : Setting) (ps : List Entry) (tail : Outcome) (earlier : Option (List ℕ)) (self : Document) → record (document files setting (bytes_of ps)) { earlier = earlier } ≡ self
@@ -119,7 +87,7 @@ pub errors_at-append : (base from : ℕ) (xs ys : List Ended) → errors_at base
 errors_at-append base from [] ys = refl
 errors_at-append base from (x ∷ xs) ys =
     let to = ends_at base x.end in
-    ap (λ (ps : List Place). place_if x.error from to ++ ps) (errors_at-append base to xs ys) ∙ sym (append_assoc (place_if x.error from to) (errors_at base to xs) (errors_at base (last_at base to xs) ys))
+    cc (errors_at-append base to xs ys, append_assoc (place_if x.error from to) (errors_at base to xs) (errors_at base (last_at base to xs) ys))
 
 last_at-append : (base from : ℕ) (xs ys : List Ended) → last_at base from (xs ++ ys) ≡ last_at base (last_at base from xs) ys
 last_at-append base from [] ys = refl
@@ -132,19 +100,16 @@ place-counted false from to = refl
 pub errors_at-length : (base from : ℕ) (es : List Ended) → length (errors_at base from es) ≡ errors_in es
 errors_at-length base from [] = refl
 errors_at-length base from (e ∷ es) =
-    omega (arith, length-append (place_if e.error from (ends_at base e.end)) (errors_at base (ends_at base e.end) es), place-counted e.error from (ends_at base e.end), errors_at-length base (ends_at base e.end) es)
+    let to = ends_at base e.end in
+    omega (arith, length-append (place_if e.error from to) (errors_at base to es), place-counted e.error from to, errors_at-length base to es)
 
-kind-end : (k : ItemKind) (z : ℤ) → (item_of_kind k z).end ≡ z
-kind-end AsciiOne z = refl
-kind-end k z = refl
-
-kind-error : (k : ItemKind) (z : ℤ) → (item_of_kind k z).error ≡ (item_of_kind k (pos 0)).error
-kind-error AsciiOne z = refl
-kind-error k z = refl
+kind-end : (k : ItemKind) (z : ℤ) → ((item_of_kind k z).end ≡ z) × ((item_of_kind k z).error ≡ (item_of_kind k (pos 0)).error)
+kind-end AsciiOne z = (refl, refl)
+kind-end k z = (refl, refl)
 
 pub run-last : (base from : ℕ) (r : Run) → last_at base from (items_of_run r) ≡ ends_at base r.last
 run-last base from r =
-    last_at-append base from (items_until r.kind r.step (r.last -ℤ pos r.step) r.more) (item_of_kind r.kind r.last ∷ []) ∙ ap (ends_at base) (kind-end r.kind r.last)
+    cc (last_at-append base from (items_until r.kind r.step (r.last -ℤ pos r.step) r.more) (item_of_kind r.kind r.last ∷ []), (kind-end r.kind r.last).0)
 
 -- every item is an error
 abbrev AreErrors : List Ended → Type 0
@@ -157,12 +122,14 @@ errors-snoc (x ∷ es) e h k = (h.0, errors-snoc es e h.1 k)
 
 until-errors : (k : ItemKind) (step : ℕ) (last : ℤ) (n : ℕ) → (item_of_kind k (pos 0)).error ≡ true → AreErrors (items_until k step last n)
 until-errors k step last zero e = tt
-until-errors k step last (suc n) e = errors-snoc (items_until k step (last -ℤ pos step) n) (item_of_kind k last) (until-errors k step (last -ℤ pos step) n e) (kind-error k last ∙ e)
+until-errors k step last (suc n) e =
+    errors-snoc (items_until k step (last -ℤ pos step) n) (item_of_kind k last) (until-errors k step (last -ℤ pos step) n e) ((kind-end k last).1 ∙ e)
 
 until-none : (k : ItemKind) (step : ℕ) (last : ℤ) (n : ℕ) → (item_of_kind k (pos 0)).error ≡ false → errors_in (items_until k step last n) ≡ 0
 until-none k step last zero e = refl
 until-none k step last (suc n) e =
-    omega (arith, errors-append (items_until k step (last -ℤ pos step) n) (item_of_kind k last ∷ []), until-none k step (last -ℤ pos step) n e, ap one_if (kind-error k last ∙ e))
+    let before = items_until k step (last -ℤ pos step) n in
+    omega (arith, errors-append before (item_of_kind k last ∷ []), until-none k step (last -ℤ pos step) n e, ap one_if ((kind-end k last).1 ∙ e))
 
 pub run-errors : (r : Run) (n : ℕ) → n < errors_in (items_of_run r) → AreErrors (items_of_run r)
 run-errors r n l = by_kind (item_of_kind r.kind (pos 0)).error refl
@@ -174,22 +141,13 @@ run-errors r n l = by_kind (item_of_kind r.kind (pos 0)).error refl
 -- the first error, and a later one, of items that are all errors
 pub error-first : (base from : ℕ) (es : List Ended) (e : Ended) → AreErrors es → slice_get es 0 ≡ Some e → slice_get (errors_at base from es) 0 ≡ Some (record { from = from; to = ends_at base e.end })
 error-first base from [] e h at = absurd cc
-error-first base from (x ∷ es) e h at =
-    let same : x ≡ e = cc in
-    ap (λ (b : Bool). slice_get (place_if b from (ends_at base x.end) ++ errors_at base (ends_at base x.end) es) 0) h.0
-    ∙ ap (λ (y : Ended). Some (record { from = from; to = ends_at base y.end })) same
+error-first base from (x ∷ es) e h at = cc (h.0)
 
 pub error-later : (base from n : ℕ) (es : List Ended) (before e : Ended) → AreErrors es → slice_get es n ≡ Some before → slice_get es (suc n) ≡ Some e
     → slice_get (errors_at base from es) (suc n) ≡ Some (record { from = ends_at base before.end; to = ends_at base e.end })
 error-later base from n [] before e h at next = absurd cc
-error-later base from zero (x ∷ es) before e h at next =
-    let same : x ≡ before = cc in
-    ap (λ (b : Bool). slice_get (place_if b from (ends_at base x.end) ++ errors_at base (ends_at base x.end) es) 1) h.0
-    ∙ error-first base (ends_at base x.end) es e h.1 next
-    ∙ ap (λ (y : Ended). Some (record { from = ends_at base y.end; to = ends_at base e.end })) same
-error-later base from (suc n) (x ∷ es) before e h at next =
-    ap (λ (b : Bool). slice_get (place_if b from (ends_at base x.end) ++ errors_at base (ends_at base x.end) es) (suc (suc n))) h.0
-    ∙ error-later base (ends_at base x.end) n es before e h.1 at next
+error-later base from zero (x ∷ es) before e h at next = cc (h.0, error-first base (ends_at base x.end) es e h.1 next)
+error-later base from (suc n) (x ∷ es) before e h at next = cc (h.0, error-later base (ends_at base x.end) n es before e h.1 at next)
 
 -- one more run gone past
 pub run-passed : (base from left : ℕ) (r : Run) (rs : List Run) → errors_in (items_of_run r) ≤ left
@@ -197,17 +155,15 @@ pub run-passed : (base from left : ℕ) (r : Run) (rs : List Run) → errors_in 
 run-passed base from left r rs l =
     let here = items_of_run r in
     let size = errors_at-length base from here in
-    ap (λ (ps : List Place). slice_get ps left) (errors_at-append base from here (items_of_runs rs))
-    ∙ get-back (errors_at base from here) (errors_at base (last_at base from here) (items_of_runs rs)) left (omega (arith, size, l))
-    ∙ ap (λ (n : ℕ). slice_get (errors_at base (last_at base from here) (items_of_runs rs)) (left - n)) size
-    ∙ ap (λ (n : ℕ). slice_get (errors_at base n (items_of_runs rs)) (left - errors_in here)) (run-last base from r)
+    let back = get-back (errors_at base from here) (errors_at base (last_at base from here) (items_of_runs rs)) left (omega (arith, size, l)) in
+    cc (errors_at-append base from here (items_of_runs rs), back, size, run-last base from r)
 
 pub run-holds : (base from left : ℕ) (r : Run) (rs : List Run) → left < errors_in (items_of_run r)
     → slice_get (errors_at base from (items_of_run r)) left ≡ slice_get (errors_at base from (items_of_runs (r ∷ rs))) left
 run-holds base from left r rs l =
     let here = items_of_run r in
-    sym (ap (λ (ps : List Place). slice_get ps left) (errors_at-append base from here (items_of_runs rs))
-    ∙ get-front (errors_at base from here) (errors_at base (last_at base from here) (items_of_runs rs)) left (omega (arith, errors_at-length base from here, l)))
+    let later = errors_at base (last_at base from here) (items_of_runs rs) in
+    cc (errors_at-append base from here (items_of_runs rs), get-front (errors_at base from here) later left (omega (arith, errors_at-length base from here, l)))
 
 -- ---- over pieces
 
@@ -216,55 +172,43 @@ errors_from-append base from [] ys = let e : base + 0 ≡ base = omega arith in 
 errors_from-append base from (x ∷ xs) ys =
     let o = here_of x in
     let e : base + o.sum.bytes + (sums_of xs).bytes ≡ base + (o.sum.bytes + (sums_of xs).bytes) = omega arith in
-    let front = errors_at base from o.items in
-    ap (λ (ps : List Place). front ++ ps) (errors_from-append (base + o.sum.bytes) (last_at base from o.items) xs ys)
-    ∙ sym (append_assoc front _ _)
-    ∙ ap (λ (n : ℕ). (front ++ errors_from (base + o.sum.bytes) (last_at base from o.items) xs) ++ errors_from n (last_from (base + o.sum.bytes) (last_at base from o.items) xs) ys) e
+    cc (e, errors_from-append (base + o.sum.bytes) (last_at base from o.items) xs ys, append_assoc (errors_at base from o.items) _ _)
 
 pub last_from-append : (base from : ℕ) (xs ys : List Entry) → last_from base from (xs ++ ys) ≡ last_from (base + (sums_of xs).bytes) (last_from base from xs) ys
 last_from-append base from [] ys = let e : base + 0 ≡ base = omega arith in ap (λ (n : ℕ). last_from n from ys) (sym e)
 last_from-append base from (x ∷ xs) ys =
     let o = here_of x in
     let e : base + o.sum.bytes + (sums_of xs).bytes ≡ base + (o.sum.bytes + (sums_of xs).bytes) = omega arith in
-    last_from-append (base + o.sum.bytes) (last_at base from o.items) xs ys ∙ ap (λ (n : ℕ). last_from n (last_from (base + o.sum.bytes) (last_at base from o.items) xs) ys) e
+    cc (e, last_from-append (base + o.sum.bytes) (last_at base from o.items) xs ys)
 
 pub errors_from-length : (base from : ℕ) (ps : List Entry) → length (errors_from base from ps) ≡ (sums_of ps).errors
 errors_from-length base from [] = refl
 errors_from-length base from (p ∷ ps) =
     let o = here_of p in
-    omega (arith, length-append (errors_at base from o.items) (errors_from (base + o.sum.bytes) (last_at base from o.items) ps), errors_at-length base from o.items, o.summed.errors, errors_from-length (base + o.sum.bytes) (last_at base from o.items) ps)
+    let rest = errors_from-length (base + o.sum.bytes) (last_at base from o.items) ps in
+    omega (arith, rest, length-append {A = Place}, errors_at-length base from o.items, o.summed.errors)
 
 errors-few : (es : List Ended) → errors_in es ≤ length es
 errors-few [] = omega arith
-errors-few (e ∷ es) = omega (arith, errors-few es, one (e.error))
-  where
-    one : (b : Bool) → one_if b ≤ 1
-    one true = omega arith
-    one false = omega arith
+errors-few (e ∷ es) = omega (arith, errors-few es, one_few e.error)
 
 -- an item that there is
 pub none-left : (es : List Ended) (n k : ℕ) → n < errors_in es → k ≤ n → slice_get es k ≡ None → ⊥
-none-left es n k l m e = let p = element es k (omega (arith, l, m, errors-few es)) in let h : Some p.0 ≡ None = sym p.1 ∙ e in absurd cc
+none-left es n k l m e = let p = element es k (omega (arith, l, m, errors-few es)) in cc (p.1)
 
 piece-cut : (bom k : ℕ) (ps : List Entry) (p : Entry) (tail : Outcome) → slice_get ps k ≡ Some p
     → (more : List Place) × (all_errors bom ps tail ≡ errors_from 0 bom (take k ps) ++ (errors_at (sums_of (take k ps)).bytes (last_from 0 bom (take k ps)) (here_of p).items ++ more))
 piece-cut bom k ps p tail at =
-    let front = take k ps in
-    let b = (sums_of front).bytes in
-    let last = last_from 0 bom front in
+    let front = errors_from 0 bom (take k ps) in
+    let b = (sums_of (take k ps)).bytes in
+    let last = last_from 0 bom (take k ps) in
     let o = here_of p in
     let later = errors_from (b + o.sum.bytes) (last_at b last o.items) (drop (suc k) ps) in
     let end = errors_at (sums_of ps).bytes (last_from 0 bom ps) tail.items in
     let zero-b : 0 + b ≡ b = omega arith in
-    let cut : errors_from 0 bom ps ≡ errors_from 0 bom front ++ (errors_at b last o.items ++ later) =
-    ap (errors_from 0 bom) (sym (take-append-drop k ps) ∙ ap (λ (xs : List Entry). front ++ xs) (drop-next ps k p at))
-    ∙ errors_from-append 0 bom front (p ∷ drop (suc k) ps)
-    ∙ ap (λ (n : ℕ). errors_from 0 bom front ++ errors_from n last (p ∷ drop (suc k) ps)) zero-b in (
-      later ++ end,
-      ap (λ (xs : List Place). xs ++ end) cut
-          ∙ append_assoc (errors_from 0 bom front) (errors_at b last o.items ++ later) end
-          ∙ ap (λ (xs : List Place). errors_from 0 bom front ++ xs) (append_assoc (errors_at b last o.items) later end),
-    )
+    let cut : errors_from 0 bom ps ≡ front ++ (errors_at b last o.items ++ later) =
+    cc (zero-b, take-append-drop k ps, drop-next ps k p at, errors_from-append 0 bom (take k ps) (p ∷ drop (suc k) ps)) in
+    (later ++ end, cc (cut, append_assoc front (errors_at b last o.items ++ later) end, append_assoc (errors_at b last o.items) later end))
 
 -- the sum of one piece more, by a number that adds up
 sums-next : (measure : Sum → ℕ) → ((a b : Sum) → measure (joined a b) ≡ measure a + measure b) → (ps : List Entry) (k : ℕ) (p : Entry) → slice_get ps k ≡ Some p
@@ -274,100 +218,76 @@ sums-next measure more (x ∷ ps) zero p at = let e : x ≡ p = cc in omega (ari
 sums-next measure more (x ∷ ps) (suc k) p at =
     omega (arith, more (entry_sum x) (sums_of (take (suc k) ps)), more (entry_sum x) (sums_of (take k ps)), sums-next measure more ps k p at)
 
-pub error-in-piece : (count : ErrorCount) (bom n k : ℕ) (ps : List Entry) (s : Sum) (p : Entry) (tail : Outcome) → IsFirstAbove (errors_of_sum count) n no_sum joined entry_sum ps k s → slice_get ps k ≡ Some p
-    → slice_get (errors_at s.bytes (last_from 0 bom (take k ps)) (here_of p).items) (n - s.errors) ≡ slice_get (all_errors bom ps tail) n
-error-in-piece count bom n k ps s p tail found at =
-    let front = take k ps in
-    let b = (sums_of front).bytes in
-    let last = last_from 0 bom front in
-    let o = here_of p in
-    let cut = piece-cut bom k ps p tail at in
-    let size : length (errors_from 0 bom front) ≡ s.errors = errors_from-length 0 bom front ∙ sym (ap (λ (t : Sum). t.errors) found.sum) in
-    let low = found-low (errors_of_sum count) ps n k s refl found in
-    let high : n - s.errors < length (errors_at b last o.items) =
-    omega (
-      arith,
-      found.behind (slice_get_within ps k p at),
-      ap (λ (m : ℕ). (sums_of (take m ps)).errors) (add-one k),
-      sums-next (λ (t : Sum). t.errors) (λ a b. refl) ps k p at,
-      ap (λ (t : Sum). t.errors) found.sum,
-      errors_at-length b last o.items,
-      o.summed.errors,
-      low,
-    ) in
-    ap (λ (m : ℕ). slice_get (errors_at m last o.items) (n - s.errors)) (ap (λ (t : Sum). t.bytes) found.sum)
-    ∙ sym (get-front (errors_at b last o.items) cut.0 (n - s.errors) high)
-    ∙ ap (λ (m : ℕ). slice_get (errors_at b last o.items ++ cut.0) (n - m)) (sym size)
-    ∙ sym (get-back (errors_from 0 bom front) (errors_at b last o.items ++ cut.0) n (omega (arith, size, low)))
-    ∙ ap (λ (xs : List Place). slice_get xs n) (sym cut.1)
+pub bytes-back : (k : ℕ) (ps : List Entry) (p : Entry) → slice_get ps k ≡ Some p → (sums_of (take (suc k) ps)).bytes ≡ (sums_of (take k ps)).bytes + (here_of p).sum.bytes
+bytes-back k ps p at = sums-next (λ (s : Sum). s.bytes) (λ a b. refl) ps k p at
 
-pub error-in-tail : (count : ErrorCount) (bom n k : ℕ) (ps : List Entry) (s : Sum) (tail : Outcome) → IsFirstAbove (errors_of_sum count) n no_sum joined entry_sum ps k s → length ps ≤ k
-    → slice_get (errors_at s.bytes (last_from 0 bom (take k ps)) tail.items) (n - s.errors) ≡ slice_get (all_errors bom ps tail) n
-error-in-tail count bom n k ps s tail found l =
-    let all : take k ps ≡ ps = take_all k ps l in
-    let sum : s ≡ sums_of ps = found.sum ∙ ap sums_of all in
-    let size : length (errors_from 0 bom ps) ≡ s.errors = errors_from-length 0 bom ps ∙ sym (ap (λ (t : Sum). t.errors) sum) in
-    let end = errors_at (sums_of ps).bytes (last_from 0 bom ps) tail.items in
-    ap (λ (xs : List Entry). slice_get (errors_at s.bytes (last_from 0 bom xs) tail.items) (n - s.errors)) all
-    ∙ ap (λ (t : Sum). slice_get (errors_at t.bytes (last_from 0 bom ps) tail.items) (n - s.errors)) sum
-    ∙ ap (λ (m : ℕ). slice_get end (n - m)) (sym size)
-    ∙ sym (get-back (errors_from 0 bom ps) end n (omega (arith, size, found-low (errors_of_sum count) ps n k s refl found)))
+module _ (count : ErrorCount) (bom n k : ℕ) (ps : List Entry) (s : Sum) (found : IsFirstAbove (errors_of_sum count) n no_sum joined entry_sum ps k s) where
+  low : s.errors ≤ n
+  low = found-low (errors_of_sum count) ps n k s refl found
+
+  pub error-in-piece : (p : Entry) (tail : Outcome) → slice_get ps k ≡ Some p
+      → slice_get (errors_at s.bytes (last_from 0 bom (take k ps)) (here_of p).items) (n - s.errors) ≡ slice_get (all_errors bom ps tail) n
+  error-in-piece p tail at =
+      let front = errors_from 0 bom (take k ps) in
+      let o = here_of p in
+      let here = errors_at (sums_of (take k ps)).bytes (last_from 0 bom (take k ps)) o.items in
+      let cut = piece-cut bom k ps p tail at in
+      let size : length front ≡ s.errors = cc (errors_from-length 0 bom (take k ps), found.sum) in
+      let next = sums-next (λ (t : Sum). t.errors) (λ a b. refl) ps k p at in
+      let next_is : (sums_of (take (k + 1) ps)).errors ≡ s.errors + o.sum.errors = cc (add-one k, next, found.sum) in
+      let long : length here ≡ o.sum.errors = errors_at-length _ _ o.items ∙ sym o.summed.errors in
+      let inside = get-front here cut.0 (n - s.errors) (omega (arith, found.behind (slice_get_within ps k p at), next_is, long, low)) in
+      cc (inside, size, get-back front (here ++ cut.0) n (omega (arith, size, low)), cut.1, found.sum)
+
+  pub error-in-tail : (tail : Outcome) → length ps ≤ k
+      → slice_get (errors_at s.bytes (last_from 0 bom (take k ps)) tail.items) (n - s.errors) ≡ slice_get (all_errors bom ps tail) n
+  error-in-tail tail l =
+      let all : take k ps ≡ ps = take_all k ps l in
+      let size : length (errors_from 0 bom ps) ≡ s.errors = cc (all, errors_from-length 0 bom ps, found.sum) in
+      let end = errors_at (sums_of ps).bytes (last_from 0 bom ps) tail.items in
+      cc (all, size, found.sum, get-back (errors_from 0 bom ps) end n (omega (arith, size, low)))
 
 -- one piece back
 pub last-back : (bom k : ℕ) (ps : List Entry) (p : Entry) → slice_get ps k ≡ Some p → last_from 0 bom (take (suc k) ps) ≡ last_at (sums_of (take k ps)).bytes (last_from 0 bom (take k ps)) (here_of p).items
 last-back bom k ps p at =
-    let front = take k ps in
-    let e : 0 + (sums_of front).bytes ≡ (sums_of front).bytes = omega arith in
-    ap (last_from 0 bom) (take-next ps k p at) ∙ last_from-append 0 bom front (p ∷ []) ∙ ap (λ (n : ℕ). last_at n (last_from 0 bom front) (here_of p).items) e
-
-pub bytes-back : (k : ℕ) (ps : List Entry) (p : Entry) → slice_get ps k ≡ Some p → (sums_of (take (suc k) ps)).bytes ≡ (sums_of (take k ps)).bytes + (here_of p).sum.bytes
-bytes-back k ps p at = sums-next (λ (s : Sum). s.bytes) (λ a b. refl) ps k p at
+    let e : 0 + (sums_of (take k ps)).bytes ≡ (sums_of (take k ps)).bytes = omega arith in
+    cc (e, take-next ps k p at, last_from-append 0 bom (take k ps) (p ∷ []))
 
 pub runs-last : (base from : ℕ) (rs : List Run) (r : Run) → slice_get rs (length rs - 1) ≡ Some r → last_at base from (items_of_runs rs) ≡ ends_at base r.last
 runs-last base from [] r at = absurd cc
-runs-last base from (x ∷ []) r at =
-    let e : x ≡ r = cc in
-    ap (last_at base from) (append-nil (items_of_run x)) ∙ run-last base from x ∙ ap (λ (y : Run). ends_at base y.last) e
+runs-last base from (x ∷ []) r at = cc (append-nil (items_of_run x), run-last base from x)
 runs-last base from (x ∷ y ∷ rs) r at =
     let k : suc (length (y ∷ rs) - 1) ≡ length (x ∷ y ∷ rs) - 1 = omega arith in
-    last_at-append base from (items_of_run x) (items_of_runs (y ∷ rs)) ∙ runs-last base (last_at base from (items_of_run x)) (y ∷ rs) r (ap (λ (n : ℕ). slice_get (x ∷ y ∷ rs) n) k ∙ at)
+    let later = runs-last base (last_at base from (items_of_run x)) (y ∷ rs) r (ap (λ (n : ℕ). slice_get (x ∷ y ∷ rs) n) k ∙ at) in
+    last_at-append base from (items_of_run x) (items_of_runs (y ∷ rs)) ∙ later
 
-pub run-holds-at : (base from left k : ℕ) (rs : List Run) (d : Run) → k < length rs → left < errors_in (items_of_run (get_or rs k d))
-    → slice_get (errors_at base from (items_of_run (get_or rs k d))) left ≡ slice_get (errors_at base from (items_of_runs (drop k rs))) left
-run-holds-at base from left k rs d l m =
-    let r = get_or rs k d in
-    run-holds base from left r (drop (suc k) rs) m ∙ ap (λ (xs : List Run). slice_get (errors_at base from (items_of_runs xs)) left) (sym (drop-next rs k r (slice_get-get_or rs k d l)))
+module _ (base from left k : ℕ) (rs : List Run) (d : Run) (l : k < length rs) where
+  abbrev r : Run
+  r = get_or rs k d
 
-pub run-passed-at : (base from left next rest k : ℕ) (rs : List Run) (d : Run) → k < length rs → rest ≡ left - errors_in (items_of_run (get_or rs k d)) → errors_in (items_of_run (get_or rs k d)) ≤ left
-    → next ≡ ends_at base (get_or rs k d).last
-    → slice_get (errors_at base next (items_of_runs (drop (k + 1) rs))) rest ≡ slice_get (errors_at base from (items_of_runs (drop k rs))) left
-run-passed-at base from left next rest k rs d l rest_is m next_is =
-    let r = get_or rs k d in
-    ap (λ (n : ℕ). slice_get (errors_at base next (items_of_runs (drop n rs))) rest) (add-one k)
-    ∙ ap (λ (n : ℕ). slice_get (errors_at base n (items_of_runs (drop (suc k) rs))) rest) next_is
-    ∙ ap (λ (n : ℕ). slice_get (errors_at base (ends_at base r.last) (items_of_runs (drop (suc k) rs))) n) rest_is
-    ∙ sym (run-passed base from left r (drop (suc k) rs) m)
-    ∙ ap (λ (xs : List Run). slice_get (errors_at base from (items_of_runs xs)) left) (sym (drop-next rs k r (slice_get-get_or rs k d l)))
+  next : drop k rs ≡ r ∷ drop (suc k) rs
+  next = drop-next rs k r (slice_get-get_or rs k d l)
 
-pub end-back : (bom k place base here next : ℕ) (ps : List Entry) (p : Entry) → k ≡ suc next → slice_get ps next ≡ Some p → base ≡ (sums_of (take k ps)).bytes
-    → here ≡ (here_of p).sum.bytes → base - here ≡ (sums_of (take next ps)).bytes
-end-back bom k place base here next ps p k_is at base_is here_is =
-    omega (arith, base_is, here_is, bytes-back next ps p at, ap (λ (n : ℕ). (sums_of (take n ps)).bytes) k_is)
+  pub run-holds-at : left < errors_in (items_of_run r) → slice_get (errors_at base from (items_of_run r)) left ≡ slice_get (errors_at base from (items_of_runs (drop k rs))) left
+  run-holds-at m = cc (run-holds base from left r (drop (suc k) rs) m, next)
 
-pub last-none : (bom next : ℕ) (ps : List Entry) (p : Entry) (rs : List Run) → slice_get ps next ≡ Some p → items_of_runs rs ≡ (here_of p).items → slice_get rs (length rs - 1) ≡ None
-    → last_from 0 bom (take next ps) ≡ last_from 0 bom (take (suc next) ps)
-last-none bom next ps p rs at own none =
-    sym (last-back bom next ps p at ∙ ap (last_at (sums_of (take next ps)).bytes (last_from 0 bom (take next ps))) (sym own ∙ ap items_of_runs (no-runs rs none)))
-  where
-    no-runs : (rs : List Run) → slice_get rs (length rs - 1) ≡ None → rs ≡ []
-    no-runs [] none = refl
-    no-runs (r ∷ rs) none = let p = element (r ∷ rs) (length (r ∷ rs) - 1) (omega arith) in let h : Some p.0 ≡ None = sym p.1 ∙ none in absurd cc
+  pub run-passed-at : (to rest : ℕ) → rest ≡ left - errors_in (items_of_run r) → errors_in (items_of_run r) ≤ left → to ≡ ends_at base r.last
+      → slice_get (errors_at base to (items_of_runs (drop (k + 1) rs))) rest ≡ slice_get (errors_at base from (items_of_runs (drop k rs))) left
+  run-passed-at to rest rest_is m to_is = cc (run-passed base from left r (drop (suc k) rs) m, next, add-one k)
 
-pub last-some : (bom next : ℕ) (ps : List Entry) (p : Entry) (rs : List Run) (r : Run) (base : ℕ) → slice_get ps next ≡ Some p → items_of_runs rs ≡ (here_of p).items → slice_get rs (length rs - 1) ≡ Some r
-    → base ≡ (sums_of (take next ps)).bytes → ends_at base r.last ≡ last_from 0 bom (take (suc next) ps)
-last-some bom next ps p rs r base at own some base_is =
-    let last = last_from 0 bom (take next ps) in
-    sym (last-back bom next ps p at
-    ∙ ap (λ (n : ℕ). last_at n last (here_of p).items) (sym base_is)
-    ∙ ap (last_at base last) (sym own)
-    ∙ runs-last base last rs r some)
+module _ (bom next : ℕ) (ps : List Entry) (p : Entry) (at : slice_get ps next ≡ Some p) where
+  pub end-back : (k base here : ℕ) → k ≡ suc next → base ≡ (sums_of (take k ps)).bytes → here ≡ (here_of p).sum.bytes → base - here ≡ (sums_of (take next ps)).bytes
+  end-back k base here k_is base_is here_is =
+      let sum : (sums_of (take k ps)).bytes ≡ (sums_of (take next ps)).bytes + (here_of p).sum.bytes = cc (bytes-back next ps p at) in
+      omega (arith, base_is, here_is, sum)
+
+  pub last-none : (rs : List Run) → items_of_runs rs ≡ (here_of p).items → slice_get rs (length rs - 1) ≡ None → last_from 0 bom (take next ps) ≡ last_from 0 bom (take (suc next) ps)
+  last-none rs own none = cc (last-back bom next ps p at, no-runs rs none)
+    where
+      no-runs : (rs : List Run) → slice_get rs (length rs - 1) ≡ None → rs ≡ []
+      no-runs [] none = refl
+      no-runs (r ∷ rs) none = let p = element (r ∷ rs) (length (r ∷ rs) - 1) (omega arith) in absurd (cc (p.1))
+
+  pub last-some : (rs : List Run) (r : Run) (base : ℕ) → items_of_runs rs ≡ (here_of p).items → slice_get rs (length rs - 1) ≡ Some r
+      → base ≡ (sums_of (take next ps)).bytes → ends_at base r.last ≡ last_from 0 bom (take (suc next) ps)
+  last-some rs r base own some base_is = cc (last-back bom next ps p at, runs-last base (last_from 0 bom (take next ps)) rs r some)

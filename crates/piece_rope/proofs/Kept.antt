@@ -1,16 +1,7 @@
 -- The numbers that a document keeps are its own.
 use Rattle.std.proofs.Common.{◌≡◌, refl, sym, ap, ◌∙◌, ℕ, ◌+◌, ◌^◌, ◌<◌, ◌≤◌, false, List, [], ◌∷◌, ◌++◌, length, slice_get, Option, Some, arith, append-nil, rules}
-use Rattle.enc_names.specs.declared.setting.Setting.{Setting}
-use Rattle.index_loader.specs.Files.{Files}
-use Rattle.state_memo.specs.Decoding.{mark_of, mark_length, marks, total_width, utf16_width, utf8_width}
-use Rattle.state_memo.specs.declared.outcome.Outcome.{Outcome}
-use Rattle.state_memo.specs.declared.sum.Sum.{Sum}
-use Rattle.state_memo.specs.Sums.{joined}
-use Rattle.piece_rope.specs.Chain.{bytes_of}
-use Rattle.piece_rope.specs.Document.{Document, document, text_of, errors_of}
-use Rattle.piece_rope.specs.Entry.{Entry, sums_of}
-use Rattle.piece_rope.specs.Kept.{IsKept}
-use Rattle.piece_rope.specs.Sizes.{CanJoin, HasSizes}
+use Rattle.piece_rope.proofs.Prelude.{Setting, Files, mark_of, mark_length, marks, total_width, utf16_width, utf8_width, Outcome, Sum, joined}
+use Rattle.piece_rope.proofs.Prelude.{bytes_of, Document, document, text_of, errors_of, Entry, sums_of, IsKept, CanJoin, HasSizes}
 use Rattle.piece_rope.proofs.Answering.{errors-whole, text-whole}
 use Rattle.piece_rope.proofs.Counting.{few-pieces, short-of, sums-bytes}
 use Rattle.piece_rope.proofs.Joining.{whole-marks}
@@ -47,10 +38,8 @@ kept-lengths files setting ps tail earlier kept =
     }
 
 mark-front : (xs ys : List ℕ) → 3 ≤ length xs → mark_of (xs ++ ys) ≡ mark_of xs
-mark-front [] ys l = absurd (omega (arith, l))
-mark-front (a ∷ []) ys l = absurd (omega (arith, l))
-mark-front (a ∷ b ∷ []) ys l = absurd (omega (arith, l))
 mark-front (a ∷ b ∷ c ∷ xs) ys l = refl
+mark-front xs ys l = absurd (omega (arith, l))
 
 -- only the mark counts for its length
 pub mark-length-by : (setting : Setting) (xs ys : List ℕ) → mark_of xs ≡ mark_of ys → mark_length setting xs ≡ mark_length setting ys
@@ -59,8 +48,6 @@ mark-length-by setting xs ys e = search rules
 -- the first piece has a byte order mark whole
 pub mark-first : (ps : List Entry) (p : Entry) → HasSizes ps → slice_get ps 0 ≡ Some p → mark_of p.piece.bytes ≡ mark_of (bytes_of ps)
 mark-first [] p sizes at = absurd cc
-mark-first (q ∷ []) p sizes at = let e : p ≡ q = cc in ap (λ (x : Entry). mark_of x.piece.bytes) e ∙ ap mark_of (sym (append-nil q.piece.bytes))
+mark-first (q ∷ []) p sizes at = cc (append-nil q.piece.bytes)
 mark-first (q ∷ r ∷ ps) p sizes at =
-    let e : p ≡ q = cc in
-    let wide = sizes.wide (omega arith) in
-    ap (λ (x : Entry). mark_of x.piece.bytes) e ∙ sym (mark-front q.piece.bytes (bytes_of (r ∷ ps)) (omega (arith, wide.0)))
+    let wide = sizes.wide (omega arith) in cc (mark-front q.piece.bytes (bytes_of (r ∷ ps)) (omega (arith, wide.0)))

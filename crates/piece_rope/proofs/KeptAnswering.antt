@@ -1,65 +1,37 @@
 -- What a splice that is to keep the text answers.
-use Rattle.std.proofs.Common.{◌≡◌, refl, sym, ap, ◌∙◌, subst, ℕ, ◌+◌, ◌≤◌, ◌<◌, Bool, true, false, ◌&&◌, nat_le, List, map, length, Option, Some, None, Err, if◌then◌else◌}
+use Rattle.std.proofs.Common.{◌≡◌, refl, sym, ap, ◌∙◌, ℕ, ◌+◌, ◌≤◌, ◌<◌, Bool, true, false, ◌&&◌, nat_le, List, map, length, Option, Some, None, Err, if◌then◌else◌}
 use Rattle.std.specs.Bool.{one_answer}
-use Rattle.std.specs.Prelude.{Decides}
 use Rattle.std.proofs.lemmas.Slice.Eq.{bytes_eq-Decides}
-use Rattle.std.proofs.lemmas.Bool.{le-leb, leb-true, lt-leb}
-use Rattle.enc_names.specs.declared.setting.Setting.{Setting}
-use Rattle.index_loader.specs.Files.{Files}
-use Rattle.state_memo.specs.Decoding.{AnyDecoding}
-use Rattle.state_memo.specs.Outcome.{Contents, contents_of, ending_of}
-use Rattle.state_memo.specs.declared.outcome.Outcome.{Outcome}
-use Rattle.state_memo.specs.declared.sum.Sum.{Sum}
-use Rattle.state_memo.specs.Sums.{joined}
-use Rattle.piece_rope.specs.declared.edit.PreparedEdit.{PreparedEdit}
 use Rattle.piece_rope.specs.declared.fault.DocFault.{DocFault}
-use Rattle.piece_rope.specs.declared.fault.DocFault.TheVariants.{NoIndex, OutOfRange, TooLarge, NotKept, OutOfMemory}
-use Rattle.piece_rope.specs.Document.{Document, document, text_of}
-use Rattle.piece_rope.specs.Chain.{bytes_of}
-use Rattle.piece_rope.specs.Edit.{edited}
-use Rattle.piece_rope.specs.Edits.{document_limit, spliced, spliced_document, kept_fault, is_kept, text_fault, range_fault, splice_fault, first_of, named, replaced, KeptAnswers}
-use Rattle.piece_rope.specs.Entry.{Entry, here_of, sums_of}
-use Rattle.piece_rope.specs.Made.{IsWhole}
-use Rattle.piece_rope.specs.Kept.{IsKept}
-use Rattle.piece_rope.specs.Parts.{parts_of, edited_parts, text_in}
+use Rattle.piece_rope.specs.declared.fault.DocFault.TheVariants.{OutOfRange, TooLarge, NotKept}
 use Rattle.piece_rope.specs.Splice.{IsReady}
+use Rattle.piece_rope.proofs.Prelude.{Decides, le-leb, leb-true, lt-leb, Setting, Files, AnyDecoding, Contents, contents_of, ending_of, Outcome, Sum}
+use Rattle.piece_rope.proofs.Prelude.{joined, PreparedEdit, Document, document, text_of, bytes_of, edited, document_limit, spliced, spliced_document}
+use Rattle.piece_rope.proofs.Prelude.{kept_fault, is_kept, text_fault, range_fault, splice_fault, first_of, named, replaced, KeptAnswers, Entry}
+use Rattle.piece_rope.proofs.Prelude.{here_of, sums_of, IsWhole, IsKept, parts_of, edited_parts, text_in}
 use Rattle.piece_rope.proofs.Answering.{text-whole}
 use Rattle.piece_rope.proofs.Kept.{kept-lengths}
 use Rattle.piece_rope.proofs.Parting.{parts-text}
 
-both : (b c : Bool) → b ≡ true → c ≡ true → (b && c) ≡ true
-both true true e f = refl
-both true false e f = cc
-both false c e f = cc
-
 range-there : (d : Document) (i j : ℕ) → i ≤ j → j ≤ length (text_of d) → text_fault d i j ≡ None
 unfolding range_fault
-range-there d i j order within =
-    let e = both (nat_le i j) (nat_le j (length (text_of d))) (le-leb i j order) (le-leb j (length (text_of d)) within) in
-    rw e refl
+range-there d i j order within = rw (le-leb i j order, le-leb j (length (text_of d)) within) refl
 
 neither : (b c : Bool) → (b ≡ true → c ≡ false) → (b && c) ≡ false
 neither true c e = e refl
 neither false c e = refl
 
-out-of-text : (d : Document) (i j : ℕ) → (i ≤ j → length (text_of d) < j) → text_fault d i j ≡ Some OutOfRange
-unfolding range_fault
-out-of-text d i j absent =
-    let no = neither (nat_le i j) (nat_le j (length (text_of d))) (λ order. lt-leb j (length (text_of d)) (absent (leb-true i j order))) in
-    rw no refl
-
 -- a range that isn't there is refused first
 pub range-absent : (d : Document) (at del : ℕ) (ins : List ℕ) (i j : ℕ) → (i ≤ j → length (text_of d) < j) → kept_fault d at del ins i j ≡ Some OutOfRange
-range-absent d at del ins i j absent = ap (λ (fault : Option DocFault). first_of fault (splice_fault d.bytes at del ins)) (out-of-text d i j absent)
+unfolding range_fault
+range-absent d at del ins i j absent =
+    rw (neither (nat_le i j) (nat_le j (length (text_of d))) (λ order. lt-leb j (length (text_of d)) (absent (leb-true i j order)))) refl
 
+-- no cause of a number of tests
 one_of : (b c : Bool) → (if b then (if c then None else Some TooLarge) else Some OutOfRange) ≡ Some NotKept → ⊥
 one_of true true e = cc
 one_of true false e = cc
 one_of false c e = cc
-
-past_of : (b : Bool) → (if b then None else Some OutOfRange) ≡ Some NotKept → ⊥
-past_of true e = cc
-past_of false e = cc
 
 cut-causes : (bytes : List ℕ) (at del : ℕ) (ins : List ℕ) → splice_fault bytes at del ins ≡ Some NotKept → ⊥
 unfolding splice_fault
@@ -67,7 +39,7 @@ cut-causes bytes at del ins e = one_of (nat_le (at + del) (length bytes)) (nat_l
 
 range-causes : (d : Document) (i j : ℕ) → text_fault d i j ≡ Some NotKept → ⊥
 unfolding range_fault
-range-causes d i j e = past_of (nat_le i j && nat_le j (length (text_of d))) e
+range-causes d i j e = one_of (nat_le i j && nat_le j (length (text_of d))) true e
 
 first-causes : (first cut : Option DocFault) → (first ≡ Some NotKept → ⊥) → (cut ≡ Some NotKept → ⊥) → first_of first cut ≡ Some NotKept → ⊥
 first-causes None cut none other e = other e
@@ -78,15 +50,12 @@ pub kept-causes : (d : Document) (at del : ℕ) (ins : List ℕ) (i j : ℕ) →
 kept-causes d at del ins i j e = first-causes (text_fault d i j) (splice_fault d.bytes at del ins) (range-causes d i j) (cut-causes d.bytes at del ins) e
 
 pub kept-fails : (A : Type 0) (fault : Option DocFault) (kept : Bool) (e : DocFault) → fault ≡ named e → (fault ≡ Some NotKept → ⊥) → KeptAnswers {A = A} fault kept (Err e)
-kept-fails A fault kept NoIndex is other = is
-kept-fails A fault kept OutOfRange is other = is
-kept-fails A fault kept TooLarge is other = is
 kept-fails A fault kept NotKept is other = absurd (other is)
-kept-fails A fault kept OutOfMemory is other = is
+kept-fails A fault kept e is other = is
 
 -- where the range is there, the splice alone can have a cause
 pub kept-cut : (d : Document) (at del : ℕ) (ins : List ℕ) (i j : ℕ) → i ≤ j → j ≤ length (text_of d) → kept_fault d at del ins i j ≡ splice_fault d.bytes at del ins
-kept-cut d at del ins i j order within = ap (λ (fault : Option DocFault). first_of fault (splice_fault d.bytes at del ins)) (range-there d i j order within)
+kept-cut d at del ins i j order within = cc (range-there d i j order within)
 
 -- the text of a document, by its parts
 pub parts-whole : (d : Document) (ps : List Entry) (tail : Outcome) → IsWhole d (map here_of ps) tail → text_in (parts_of ps tail) ≡ text_of d
@@ -97,15 +66,6 @@ pub scalars-kept : (files : Files) (setting : Setting) (ps : List Entry) (tail :
     → s.scalars ≡ length (text_of (document files setting (bytes_of ps)))
 scalars-kept files setting ps tail s e kept = ap (λ (x : Sum). x.scalars) e ∙ (kept-lengths files setting ps tail None kept).scalars
 
--- what was compared is what is asked
-kept-is : (d after : Document) (at del : ℕ) (ins : List ℕ) (i j : ℕ) (r : Bool) (put old new : List ℕ) → after ≡ spliced_document d at del ins → new ≡ text_of after → old ≡ text_of d
-    → Decides r (new ≡ replaced old i j put) → r ≡ is_kept d at del ins i j put
-kept-is d after at del ins i j r put old new is new_is old_is decides =
-    let n : new ≡ text_of (spliced_document d at del ins) = new_is ∙ ap text_of is in
-    let same : Decides r (text_of (spliced_document d at del ins) ≡ replaced (text_of d) i j put) =
-    subst (λ (xs : List ℕ). Decides r (xs ≡ replaced (text_of d) i j put)) n (subst (λ (xs : List ℕ). Decides r (new ≡ replaced xs i j put)) old_is decides) in
-    one_answer r (is_kept d at del ins i j put) same (bytes_eq-Decides (text_of (spliced_document d at del ins)) (replaced (text_of d) i j put))
-
 -- once a splice is ready no cause is left, and what was compared is what is asked
 pub kept-answer : (files : Files) (setting : Setting) (ps : List Entry) (tail : Outcome) (e : PreparedEdit) (at del : ℕ) (ins : List ℕ) (i j : ℕ) (r : Bool) (put : List ℕ)
     → IsKept files setting ps tail → IsReady files setting ps at del ins e
@@ -113,10 +73,10 @@ pub kept-answer : (files : Files) (setting : Setting) (ps : List Entry) (tail : 
     → r ≡ is_kept (document files setting (bytes_of ps)) at del ins i j put
 kept-answer files setting ps tail e at del ins i j r put kept ready decides =
     let d : Document = document files setting (bytes_of ps) in
-    let after : Document = document files setting (bytes_of (edited ps e)) in
-    let is = ap (λ (bs : List ℕ). document files setting bs) ready.bytes in
-    kept-is d after at del ins i j r put (text_in (parts_of ps tail)) (text_in (edited_parts ps e)) is (parts-whole after (edited ps e) e.tail ready.kept.whole)
-    (parts-whole d ps tail kept.whole) decides
+    let after = spliced_document d at del ins in
+    let new : text_in (edited_parts ps e) ≡ text_of after =
+    cc (parts-whole (document files setting (bytes_of (edited ps e))) (edited ps e) e.tail ready.kept.whole, ready.bytes) in
+    one_answer r (is_kept d at del ins i j put) (rw (new, parts-whole d ps tail kept.whole) at decides) (bytes_eq-Decides (text_of after) (replaced (text_of d) i j put))
 
 -- ends from one state give one text
 pub same-ends : (d : AnyDecoding) (new old : Outcome) → contents_of new ≡ ending_of d new.exit → contents_of old ≡ ending_of d old.exit → new.exit ≡ old.exit → new.text ≡ old.text

@@ -18,6 +18,7 @@ pub mod Metering
 pub mod Offsets
 pub mod Outputs
 pub mod Parting
+pub mod Prelude
 pub mod Preparing
 pub mod Reading
 pub mod Remembering

@@ -1,8 +1,6 @@
 -- Lists, by the places of their elements.
 use Rattle.std.proofs.Common.{◌≡◌, refl, sym, ap, ◌∙◌, ℕ, zero, suc, ◌+◌, ◌-◌, ◌<◌, ◌≤◌, List, [], ◌∷◌, ◌++◌, take, drop, get_or, length, slice_get, Some, arith, length-append, length-drop}
-use Rattle.std.proofs.lemmas.List.{get_or-drop}
-use Rattle.std.proofs.lemmas.Option.{slice_get_within, slice_get_read, get_or_from_slice_get}
-use Rattle.std.proofs.Math.Seq.{take-suc, drop-cons}
+use Rattle.piece_rope.proofs.Prelude.{get_or-drop, slice_get_within, slice_get_read, get_or_from_slice_get, take-suc, drop-cons}
 
 pub element : {X : Type 0} (xs : List X) (k : ℕ) → k < length xs → (x : X) × (slice_get xs k ≡ Some x)
 element [] k less = absurd (omega (arith, less))

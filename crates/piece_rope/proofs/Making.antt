@@ -1,19 +1,12 @@
 -- The pieces in order and then the end make up what decoding from scratch gives.
 use Rattle.std.proofs.Common.{◌≡◌, refl, sym, ap, ◌∙◌, subst, ℕ, suc, ◌+◌, ◌-◌, ◌^◌, ◌<◌, List, [], ◌∷◌, ◌++◌, take, drop, length, map, Option, Some, arith, append_assoc, length-append}
-use Rattle.std.specs.Prelude.{ℤ, pos, ◌-ℤ◌}
 use Rattle.std.proofs.lemmas.Int.{ints}
-use Rattle.std.proofs.Math.Seq.{take-append_seam, drop-append_seam}
-use Rattle.state_memo.specs.Decoding.{Item, One, Two, Error, Ended as EndedItem, Placed, places, AnyDecoding, AnyState, any, any_start, feed, run, further, Shown, shown_from, shown_items, ended_at, item_code_points, code_points, decoder_in, output_of, mark_length}
-use Rattle.state_memo.specs.declared.ended.Ended.{Ended}
-use Rattle.state_memo.specs.declared.outcome.Outcome.{Outcome}
-use Rattle.state_memo.specs.Items.{scalar_count, is_an_error}
 use Rattle.state_memo.specs.Near.{AreNear}
-use Rattle.state_memo.specs.Outcome.{Contents, contents_of, outcome_of, ending_of, text_of_shown, items_of_shown, text_of_ended, items_of_ended}
-use Rattle.state_memo.specs.Sums.{sum_of}
-use Rattle.piece_rope.specs.Chain.{Chain, bytes_of, state_after}
-use Rattle.piece_rope.specs.Document.{Document, decoded}
-use Rattle.piece_rope.specs.Entry.{Entry, here, here_of}
-use Rattle.piece_rope.specs.Made.{ends_at, AreEnded, EndWithin, IsMade, AreMade, IsWhole, body_of, tail_of, ended_by}
+use Rattle.piece_rope.proofs.Prelude.{ℤ, pos, ◌-ℤ◌, take-append_seam, drop-append_seam, Item, One, EndedItem, Placed, places, AnyDecoding, AnyState}
+use Rattle.piece_rope.proofs.Prelude.{any, any_start, feed, run, further, Shown, shown_from, shown_items, ended_at, item_code_points, code_points}
+use Rattle.piece_rope.proofs.Prelude.{decoder_in, output_of, mark_length, Outcome, scalar_count, is_an_error, Contents, contents_of, outcome_of}
+use Rattle.piece_rope.proofs.Prelude.{ending_of, text_of_shown, items_of_shown, text_of_ended, items_of_ended, sum_of, Chain, bytes_of, state_after}
+use Rattle.piece_rope.proofs.Prelude.{Document, decoded, Entry, here, here_of, ends_at, AreEnded, EndWithin, IsMade, AreMade, IsWhole, ended_by}
 use Rattle.piece_rope.proofs.Counting.{here-contents}
 use Rattle.piece_rope.proofs.Chaining.{Laws}
 
@@ -45,7 +38,7 @@ places-length : (total from : ℕ) (es : List EndedItem) → length (places tota
 places-length total from [] = refl
 places-length total from (e ∷ es) = ap suc (places-length total (total - e.back) es)
 
-end_of : (base read back : ℕ) → base + read < 2 ^ 64 → ends_at base (pos read -ℤ pos back) ≡ base + read - back
+pub end_of : (base read back : ℕ) → base + read < 2 ^ 64 → ends_at base (pos read -ℤ pos back) ≡ base + read - back
 end_of base read back bound = grind (arith, ints)
 
 near-front : (k n : ℕ) (xs ys : List EndedItem) → AreNear (k + n) (further n xs ++ ys) → AreNear k xs
@@ -61,11 +54,8 @@ same-head x xs m e es same =
 
 shown-text : (m : ℕ) (xs : List (Shown AnyState)) (es : List EndedItem) → shown_items xs ≡ ended_at m es → text_of_shown xs ≡ text_of_ended es
 shown-text m [] [] same = refl
-shown-text m [] (e ∷ es) same = absurd cc
-shown-text m (x ∷ xs) [] same = absurd cc
-shown-text m (x ∷ xs) (e ∷ es) same =
-    let parts = same-head x xs m e es same in
-    ap (λ (i : Item). item_code_points i ++ text_of_shown xs) parts.0 ∙ ap (λ (cs : List ℕ). item_code_points e.item ++ cs) (shown-text m xs es parts.2)
+shown-text m (x ∷ xs) (e ∷ es) same = let parts = same-head x xs m e es same in cc (parts.0, shown-text m xs es parts.2)
+shown-text m xs es same = absurd cc
 
 placed-text : (total from n : ℕ) (es : List EndedItem) → code_points (places total from (further n es)) ≡ text_of_ended es
 placed-text total from n [] = refl
@@ -78,18 +68,14 @@ ending-text total from (e ∷ es) = ap (λ (cs : List ℕ). item_code_points e.i
 shown-ended : (base total m n from : ℕ) (xs : List (Shown AnyState)) (es : List EndedItem) → shown_items xs ≡ ended_at m es → total ≡ base + (m + n) → total < 2 ^ 64
     → AreEnded base (places total from (further n es)) (items_of_shown xs)
 shown-ended base total m n from [] [] same whole bound = tt
-shown-ended base total m n from [] (e ∷ es) same whole bound = absurd cc
-shown-ended base total m n from (x ∷ xs) [] same whole bound = absurd cc
 shown-ended base total m n from (x ∷ xs) (e ∷ es) same whole bound =
     let parts = same-head x xs m e es same in
-    let here : total - (e.back + n) ≡ base + m - e.back = omega (arith, whole) in (
-      record {
-        scalars = ap scalar_count parts.0 ∙ scalars-of e.item;
-        error = ap is_an_error parts.0;
-        end = here ∙ sym (end_of base m e.back (omega (arith, whole, bound))) ∙ ap (λ (z : ℤ). ends_at base z) (sym parts.1);
-      },
+    let here : total - (e.back + n) ≡ base + m - e.back = omega (arith, whole) in
+    let end = end_of base m e.back (omega (arith, whole, bound)) in (
+      record { scalars = ap scalar_count parts.0 ∙ scalars-of e.item; error = ap is_an_error parts.0; end = cc (here, end, parts.1) },
       shown-ended base total m n (total - (e.back + n)) xs es parts.2 whole bound,
     )
+shown-ended base total m n from xs es same whole bound = absurd cc
 
 placed-within : (base total m n from : ℕ) (es : List EndedItem) → total ≡ base + (m + n) → AreNear (m + 7) es → EndWithin base m (places total from (further n es))
 placed-within base total m n from [] whole near = tt
@@ -98,14 +84,9 @@ placed-within base total m n from (e ∷ es) whole near =
 
 tail-ended : (total from : ℕ) (output : _) (es : List EndedItem) → total < 2 ^ 64 → AreEnded total (places total from es) (items_of_ended output es)
 tail-ended total from output [] bound = tt
-tail-ended total from output (e ∷ es) bound = (
-  record {
-    scalars = scalars-of e.item;
-    error = refl;
-    end = omega (arith, end_of total 0 e.back (omega (arith, bound)));
-  },
-  tail-ended total (total - e.back) output es bound,
-)
+tail-ended total from output (e ∷ es) bound =
+    let end = end_of total 0 e.back (omega (arith, bound)) in
+    (record { scalars = scalars-of e.item; error = refl; end = omega (arith, end) }, tail-ended total (total - e.back) output es bound)
 
 tail-within : (total from : ℕ) (es : List EndedItem) → AreNear 7 es → EndWithin total 0 (places total from es)
 tail-within total from [] near = tt
@@ -127,24 +108,20 @@ module _ (d : AnyDecoding) (laws : Laws d) (items : ItemLaws d) where
   piece-made base total n from s q o own whole bound near =
       let es = (feed (any d) s q).items in
       let xs = shown_from (any d) 0 s q in
-      let bytes : o.sum.bytes ≡ length q = ap (λ (c : Contents). c.sum.bytes) own in
       record {
         text = ap (λ (c : Contents). c.text) own ∙ shown-text (length q) xs es (items.shown s q) ∙ sym (placed-text total from n es);
-        items =
-            subst (λ (is : List Ended). AreEnded base (places total from (further n es)) is) (sym (ap (λ (c : Contents). c.items) own))
-            (shown-ended base total (length q) n from xs es (items.shown s q) whole bound);
-        within = subst (λ (k : ℕ). EndWithin base k (places total from (further n es))) (sym bytes) (placed-within base total (length q) n from es whole near);
+        items = rw (ap (λ (c : Contents). c.items) own) (shown-ended base total (length q) n from xs es (items.shown s q) whole bound);
+        within = rw (ap (λ (c : Contents). c.sum.bytes) own) (placed-within base total (length q) n from es whole near);
       }
 
   tail-made : (total from : ℕ) (s : AnyState) (o : Outcome) → contents_of o ≡ ending_of d s → total < 2 ^ 64 → IsMade total (places total from (run (any d) s [])) o
   unfolding ending_of sum_of
   tail-made total from s o own bound =
       let es = run (any d) s [] in
-      let bytes : o.sum.bytes ≡ 0 = ap (λ (c : Contents). c.sum.bytes) own in
       record {
         text = ap (λ (c : Contents). c.text) own ∙ sym (ending-text total from es);
-        items = subst (λ (is : List Ended). AreEnded total (places total from es) is) (sym (ap (λ (c : Contents). c.items) own)) (tail-ended total from (output_of s) es bound);
-        within = subst (λ (k : ℕ). EndWithin total k (places total from es)) (sym bytes) (tail-within total from es (items.near s []));
+        items = rw (ap (λ (c : Contents). c.items) own) (tail-ended total from (output_of s) es bound);
+        within = rw (ap (λ (c : Contents). c.sum.bytes) own) (tail-within total from es (items.near s []));
       }
 
   parts : (base total from : ℕ) (s : AnyState) (ps : List Entry) (tail : Outcome) → Chain d s ps → total ≡ base + length (bytes_of ps) → total < 2 ^ 64
@@ -155,7 +132,7 @@ module _ (d : AnyDecoding) (laws : Laws d) (items : ItemLaws d) where
     all = refl;
     made = refl;
     ended = tail-made total from s tail (own ∙ ap (ending_of d) (laws.none s)) bound;
-    count = places-length total from (run (any d) s []) ∙ ap (λ (t : AnyState). length (run (any d) t [])) (sym (laws.none s));
+    count = cc (places-length total from (run (any d) s []), laws.none s);
   }
   parts base total from s (p ∷ ps) tail chain whole bound own =
       let q = p.piece.bytes in
@@ -163,39 +140,33 @@ module _ (d : AnyDecoding) (laws : Laws d) (items : ItemLaws d) where
       let n = length more in
       let f = feed (any d) s q in
       let es = further n f.items in
-      let o = here_of p in
       let later = last_end total from es in
-      let own-here : contents_of o ≡ outcome_of d s q = here-contents p.entry (here p) (outcome_of d p.entry q) chain.1.here_is ∙ ap (λ (t : AnyState). outcome_of d t q) chain.0 in
-      let bytes : o.sum.bytes ≡ length q = ap (λ (c : Contents). c.sum.bytes) own-here ∙ laws.bytes s q in
+      let own-here : contents_of (here_of p) ≡ outcome_of d s q = here-contents p.entry (here p) (outcome_of d p.entry q) chain.1.here_is ∙ ap (λ (t : AnyState). outcome_of d t q) chain.0 in
+      let bytes : (here_of p).sum.bytes ≡ length q = ap (λ (c : Contents). c.sum.bytes) own-here ∙ laws.bytes s q in
       let size : total ≡ base + (length q + n) = omega (arith, whole, length-append q more) in
-      let near : AreNear (length q + 7) f.items =
-      near-front (length q + 7) n f.items (run (any d) f.state more)
-      (subst (λ (xs : List EndedItem). AreNear (length q + 7 + n) xs) (items.runs s q more) (subst (λ (k : ℕ). AreNear k (run (any d) s (q ++ more))) (omega (arith, length-append q more)) (items.near s (q ++ more)))) in
+      let longer : length (q ++ more) + 7 ≡ length q + 7 + n = omega (arith, length-append q more) in
+      let near = near-front (length q + 7) n f.items (run (any d) f.state more) (rw (longer, items.runs s q more) at (items.near s (q ++ more))) in
       let after = parts (base + length q) total later f.state ps tail chain.2 (omega (arith, size)) bound (own ∙ ap (ending_of d) (laws.parts s q more)) in
       record {
         body = places total from es ++ after.body;
         rest = after.rest;
-        all =
-            ap (places total from) (items.runs s q more)
-            ∙ places-append total from es (run (any d) f.state more)
-            ∙ ap (λ (xs : List Placed). places total from es ++ xs) after.all
-            ∙ sym (append_assoc (places total from es) after.body after.rest);
+        all = cc (items.runs s q more, places-append total from es (run (any d) f.state more), after.all, append_assoc (places total from es) after.body after.rest);
         made = (
           places total from es,
           after.body,
           refl,
-          piece-made base total n from s q o own-here size bound near,
+          piece-made base total n from s q (here_of p) own-here size bound near,
           subst (λ (k : ℕ). AreMade (base + k) after.body (map here_of ps)) (sym bytes) after.made,
         );
         ended = after.ended;
-        count = after.count ∙ ap (λ (t : AnyState). length (run (any d) t [])) (sym (laws.parts s q more));
+        count = cc (after.count, laws.parts s q more);
       }
 
-  front-part : {X : Type 0} (xs ys : List X) (n : ℕ) → length ys ≡ n → take (length (xs ++ ys) - n) (xs ++ ys) ≡ xs
-  front-part xs ys n e = let k : length (xs ++ ys) - n ≡ length xs = omega (arith, length-append xs ys, e) in ap (λ (m : ℕ). take m (xs ++ ys)) k ∙ take-append_seam xs ys
-
-  back-part : {X : Type 0} (xs ys : List X) (n : ℕ) → length ys ≡ n → drop (length (xs ++ ys) - n) (xs ++ ys) ≡ ys
-  back-part xs ys n e = let k : length (xs ++ ys) - n ≡ length xs = omega (arith, length-append xs ys, e) in ap (λ (m : ℕ). drop m (xs ++ ys)) k ∙ drop-append_seam xs ys
+  -- a list in two parts, cut by the length of the second
+  cut-behind : {X : Type 0} (all xs ys : List X) (n : ℕ) → all ≡ xs ++ ys → length ys ≡ n → (take (length all - n) all ≡ xs) × (drop (length all - n) all ≡ ys)
+  cut-behind all xs ys n all_is e =
+      let k : length all - n ≡ length xs = omega (arith, ap length all_is, length-append xs ys) in
+      (cc (k, take-append_seam xs ys), cc (k, drop-append_seam xs ys))
 
   pub whole : (doc : Document) (ps : List Entry) (tail : Outcome) → decoder_in doc.indexes doc.setting ≡ Some d → doc.bytes ≡ bytes_of ps → Chain d (any_start d) ps
       → places (length doc.bytes) (mark_length doc.setting doc.bytes) (run (any d) (any_start d) doc.bytes) ≡ (decoded doc).items
@@ -203,14 +174,8 @@ module _ (d : AnyDecoding) (laws : Laws d) (items : ItemLaws d) where
   whole doc ps tail chosen bytes chain scratch bound own =
       let size = length doc.bytes in
       let made = parts 0 size (mark_length doc.setting doc.bytes) (any_start d) ps tail chain (ap length bytes ∙ omega arith) bound own in
-      let all : (decoded doc).items ≡ made.body ++ made.rest = sym scratch ∙ ap (λ (bs : List ℕ). places size (mark_length doc.setting doc.bytes) (run (any d) (any_start d) bs)) bytes ∙ made.all in
+      let all : (decoded doc).items ≡ made.body ++ made.rest = cc (scratch, bytes, made.all) in
       let last : ended_by (decoder_in doc.indexes doc.setting) doc.bytes ≡ length (run (any d) (state_after d (any_start d) ps) []) =
       ap (λ (o : Option AnyDecoding). ended_by o doc.bytes) chosen ∙ ap (λ (bs : List ℕ). length (run (any d) (feed (any d) (any_start d) bs).state [])) bytes in
-      let count = made.count ∙ sym last in
-      let k = ended_by (decoder_in doc.indexes doc.setting) doc.bytes in
-      let body : body_of doc ≡ made.body = ap (λ (is : List Placed). take (length is - k) is) all ∙ front-part made.body made.rest k count in
-      let rest : tail_of doc ≡ made.rest = ap (λ (is : List Placed). drop (length is - k) is) all ∙ back-part made.body made.rest k count in
-      record {
-        made = subst (λ (is : List Placed). AreMade 0 is (map here_of ps)) (sym body) made.made;
-        ended = subst (λ (is : List Placed). IsMade size is tail) (sym rest) made.ended;
-      }
+      let cut = cut-behind (decoded doc).items made.body made.rest (ended_by (decoder_in doc.indexes doc.setting) doc.bytes) all (made.count ∙ sym last) in
+      record { made = rw (cut.0) made.made; ended = rw (cut.1) made.ended }

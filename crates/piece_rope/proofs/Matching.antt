@@ -1,9 +1,7 @@
 -- Bytes found in a text that lies in pieces.
-use Rattle.std.proofs.Common.{◌≡◌, ◌==◌, true, false, Option, Some, None, ◌-◌, ℕ, ◌+◌, ◌≤◌, ◌<◌, min, List, [], ◌++◌, length, take, drop, sym, ap, ◌∙◌, subst, arith, append_assoc, append-nil, length-append}
-use Rattle.std.proofs.lemmas.Bool.Decides.{nat_tests, Decides-eqb}
-use Rattle.std.proofs.lemmas.List.{append_cancel_left, length-drop, take-append-drop, take-append-le, take_rest, nil_from_length}
-use Rattle.std.specs.Option.{IfNone}
-use Rattle.piece_rope.specs.Compare.{IsMatch}
+use Rattle.std.proofs.Common.{◌≡◌, ◌==◌, true, false, Option, Some, None, ◌-◌, ℕ, ◌≤◌, ◌<◌, min, List, [], ◌++◌, length, take, drop, sym, ap, ◌∙◌, subst, arith, append_assoc, append-nil, length-append}
+use Rattle.piece_rope.proofs.Prelude.{nat_tests, Decides-eqb, append_cancel_left, length-drop, take-append-drop, take-append-le, take_rest}
+use Rattle.piece_rope.proofs.Prelude.{nil_from_length, IfNone, IsMatch}
 
 -- what was found so far stands before what is left of the part, and before what is left of the text
 pub record Found (part left : List ℕ) (text rest : List ℕ) : Type 0 where
@@ -14,34 +12,25 @@ pub record Found (part left : List ℕ) (text rest : List ℕ) : Type 0 where
 pub unmatched : (part left text head behind : List ℕ) → Found part left text (head ++ behind) → ((x y : List ℕ) → head ++ x ≡ left ++ y → ⊥)
     → (rest : List ℕ) → text ≡ part ++ rest → ⊥
 unmatched part left text head behind f none rest e =
-    none behind rest (append_cancel_left f.eaten (head ++ behind) (left ++ rest)
-    (sym f.text_is ∙ e ∙ ap (λ (xs : List ℕ). xs ++ rest) f.part_is ∙ append_assoc f.eaten left rest))
+    none behind rest (append_cancel_left f.eaten (head ++ behind) (left ++ rest) (cc (f.text_is, f.part_is, append_assoc f.eaten left rest)))
 
 -- the matched bytes are found too
 pub found-more : (part left text head behind : List ℕ) (n : ℕ) → Found part left text (head ++ behind) → IsMatch head left n
     → Found part (drop n left) text (drop n head ++ behind)
-found-more part left text head behind n f m = record {
-  eaten = f.eaten ++ take n left;
-  part_is = f.part_is ∙ ap (λ (xs : List ℕ). f.eaten ++ xs) (sym (take-append-drop n left)) ∙ sym (append_assoc f.eaten (take n left) (drop n left));
-  text_is = f.text_is
-      ∙ ap (λ (xs : List ℕ). f.eaten ++ (xs ++ behind)) (sym (take-append-drop n head))
-      ∙ ap (λ (xs : List ℕ). f.eaten ++ ((xs ++ drop n head) ++ behind)) m.same
-      ∙ ap (λ (xs : List ℕ). f.eaten ++ xs) (append_assoc (take n left) (drop n head) behind)
-      ∙ sym (append_assoc f.eaten (take n left) (drop n head ++ behind));
-}
+found-more part left text head behind n f m =
+    let here = take n left in record {
+      eaten = f.eaten ++ here;
+      part_is = cc (f.part_is, take-append-drop n left, append_assoc f.eaten here (drop n left));
+      text_is = cc (f.text_is, take-append-drop n head, m.same, append_assoc here (drop n head) behind, append_assoc f.eaten here (drop n head ++ behind));
+    }
 
 -- nothing of the part is left
 pub found-all : (part left text rest : List ℕ) → Found part left text rest → left ≡ [] → text ≡ part ++ rest
-found-all part left text rest f none =
-    f.text_is ∙ ap (λ (xs : List ℕ). xs ++ rest) (sym (f.part_is ∙ ap (λ (xs : List ℕ). f.eaten ++ xs) none ∙ append-nil f.eaten))
+found-all part left text rest f none = cc (f.text_is, f.part_is, append-nil f.eaten)
 
 -- nothing of the text is left, but some of the part is
 pub found-short : (part left text : List ℕ) → Found part left text [] → 0 < length left → (rest : List ℕ) → text ≡ part ++ rest → ⊥
-found-short part left text f some rest e =
-    let t : length text ≡ length f.eaten = ap length f.text_is ∙ ap length (append-nil f.eaten) in
-    let p : length part ≡ length f.eaten + length left = ap length f.part_is ∙ length-append f.eaten left in
-    let w : length text ≡ length part + length rest = ap length e ∙ length-append part rest in
-    omega arith
+found-short part left text f some rest e = omega (arith, some, ap length f.text_is, ap length f.part_is, ap length e, length-append {A = ℕ})
 
 both-take : (head left x y : List ℕ) (n : ℕ) → n ≤ length head → n ≤ length left → head ++ x ≡ left ++ y → take n head ≡ take n left
 both-take head left x y n h l e = sym (take-append-le n head x h) ∙ ap (take n) e ∙ take-append-le n left y l

@@ -1,12 +1,7 @@
 -- The numbers of bytes of pieces.
-use Rattle.std.proofs.Common.{◌≡◌, refl, sym, ap, ◌∙◌, subst, ℕ, zero, suc, ◌+◌, ◌<◌, ◌≤◌, List, [], ◌∷◌, ◌++◌, take, drop, length, slice_get, Some, arith, length-append, take-append-drop, ◌⊎◌, inl, inr}
-use Rattle.piece_rope.specs.Entry.{Entry}
-use Rattle.piece_rope.specs.Chain.{bytes_of}
-use Rattle.piece_rope.specs.Sizes.{AreSized, longest}
-use Rattle.piece_rope.specs.Window.{bytes_before, IsPlace}
+use Rattle.std.proofs.Common.{◌≡◌, sym, ap, ◌∙◌, ℕ, zero, suc, ◌+◌, ◌≤◌, List, [], ◌∷◌, ◌++◌, take, drop, length, slice_get, Some, arith, length-append, take-append-drop, inl, inr}
+use Rattle.piece_rope.proofs.Prelude.{Entry, bytes_of, AreSized, longest, bytes_before, IsPlace, cases_lt, take_all}
 use Rattle.piece_rope.proofs.Chaining.{bytes-append, bytes-next}
-use Rattle.std.proofs.lemmas.Bool.{cases_lt}
-use Rattle.std.proofs.lemmas.List.{take_all}
 use Rattle.piece_rope.proofs.Lists.{element, take-take}
 
 pub bytes-split : (ps : List Entry) (k : ℕ) → bytes_of ps ≡ bytes_of (take k ps) ++ bytes_of (drop k ps)
@@ -23,7 +18,7 @@ before-all ps k l = ap (λ (xs : List Entry). length (bytes_of xs)) (take_all k 
 
 pub sized-at : (least : ℕ) (ps : List Entry) (k : ℕ) (p : Entry) → AreSized least ps → slice_get ps k ≡ Some p → (least ≤ length p.piece.bytes) × (length p.piece.bytes ≤ longest)
 sized-at least [] k p s at = absurd cc
-sized-at least (x ∷ ps) zero p s at = let e : x ≡ p = cc in subst (λ (y : Entry). (least ≤ length y.piece.bytes) × (length y.piece.bytes ≤ longest)) e (s.0, s.1)
+sized-at least (x ∷ ps) zero p s at = let e : x ≡ p = cc in rw (← e) (s.0, s.1)
 sized-at least (x ∷ ps) (suc k) p s at = sized-at least ps k p s.2 at
 
 -- a step further, by at most so many bytes
@@ -38,11 +33,3 @@ place-near ps at k before place within small = elim (cases_lt k (length ps)) [
   | inl l ↦ omega (arith, place.high l, before-step ps k small, place.before_is)
   | inr h ↦ omega (arith, before-all ps k h, place.before_is, within)
 ]
-
-pub place-last : (ps : List Entry) (at k before : ℕ) → IsPlace ps at k before → length (bytes_of ps) ≤ at → k ≡ length ps
-place-last ps at k before place all = elim (cases_lt k (length ps)) [
-  | inl l ↦ absurd (omega (arith, place.high l, before-le ps (suc k), all))
-  | inr h ↦ omega (arith, h, place.within)
-]
-
-pub ruleset lengths = (before-le)

@@ -1,25 +1,12 @@
 -- What items remember of the output state is the decoder's behind their ends, taken literally.
 use Rattle.std.proofs.Common.{◌≡◌, refl, sym, ap, ◌∙◌, subst, ℕ, ◌+◌, ◌-◌, ◌^◌, ◌<◌, true, List, [], ◌∷◌, ◌++◌, take, length, map, Option, Some, None, All, arith, append_assoc, length-append}
-use Rattle.std.specs.Option.{is_some}
-use Rattle.std.specs.Prelude.{pos, ◌-ℤ◌}
-use Rattle.std.proofs.lemmas.Int.{ints}
-use Rattle.std.proofs.lemmas.List.{take-append-le}
 use Rattle.std.proofs.lemmas.List.Elements.{All-map, All-append, All-nil}
-use Rattle.enc_names.specs.declared.setting.Setting.{Setting}
-use Rattle.index_loader.specs.Files.{Files, has_files}
-use Rattle.state_memo.specs.Decoding.{Ended as EndedItem, AnyDecoding, AnyState, any, any_start, feed, run, decoder_in, output_of, output_behind, state_behind, Shown, shown_from}
-use Rattle.state_memo.specs.declared.ended.Ended.{Ended}
-use Rattle.state_memo.specs.declared.outcome.Outcome.{Outcome}
-use Rattle.state_memo.specs.Items.{kept_item}
-use Rattle.state_memo.specs.Outcome.{Contents, contents_of, outcome_of, ending_of, items_of_shown}
-use Rattle.state_memo.specs.Sums.{sum_of}
-use Rattle.piece_rope.specs.Chain.{Chain, bytes_of}
-use Rattle.piece_rope.specs.Document.{Document}
-use Rattle.piece_rope.specs.Edit.{IsRope}
-use Rattle.piece_rope.specs.Entry.{Entry, here, here_of}
-use Rattle.piece_rope.specs.Made.{ends_at}
-use Rattle.piece_rope.specs.Outputs.{output_at, HasOutputs, HaveOutputs}
+use Rattle.piece_rope.proofs.Prelude.{is_some, pos, ◌-ℤ◌, take-append-le, Setting, Files, has_files, EndedItem, AnyDecoding, AnyState, any, any_start}
+use Rattle.piece_rope.proofs.Prelude.{feed, run, decoder_in, output_of, output_behind, state_behind, Shown, shown_from, Ended, Outcome, kept_item}
+use Rattle.piece_rope.proofs.Prelude.{Contents, contents_of, outcome_of, ending_of, items_of_shown, sum_of, Chain, bytes_of, Document, IsRope, Entry}
+use Rattle.piece_rope.proofs.Prelude.{here, here_of, ends_at, output_at, HasOutputs, HaveOutputs}
 use Rattle.piece_rope.proofs.Counting.{here-contents}
+use Rattle.piece_rope.proofs.Making.{end_of}
 
 -- what is said of one decoder's states
 pub record StateLaws (files : Files) (setting : Setting) (d : AnyDecoding) : Type 0 where
@@ -42,15 +29,12 @@ there-by files setting None is some = absurd cc
 pub is_there : (files : Files) (setting : Setting) → is_some (decoder_in files setting) ≡ has_files files setting.given → has_files files setting.given ≡ true → IsThere files setting
 is_there files setting same can = there-by files setting (decoder_in files setting) refl (same ∙ can)
 
-ends : (base read back : ℕ) → base + read < 2 ^ 64 → ends_at base (pos read -ℤ pos back) ≡ base + read - back
-ends base read back bound = grind (arith, ints)
-
 module _ (doc : Document) (d : AnyDecoding) (laws : StateLaws doc.indexes doc.setting d) (bound : length doc.bytes < 2 ^ 64) where
   abbrev state : List ℕ → AnyState
   state p = state_behind doc.indexes doc.setting p
 
   next : (p q : List ℕ) → (feed (any d) (state p) q).state ≡ state (p ++ q)
-  next p q = ap (λ (s : AnyState). (feed (any d) s q).state) (sym (laws.behind p)) ∙ sym (laws.parts (any_start d) p q) ∙ laws.behind (p ++ q)
+  next p q = cc (laws.behind p, laws.parts (any_start d) p q, laws.behind (p ++ q))
 
   -- the items of one byte
   byte-outputs : (base read : ℕ) (p : List ℕ) (b : ℕ) (rest : List ℕ) → length p + 1 ≡ base + read → doc.bytes ≡ (p ++ b ∷ []) ++ rest → base + read < 2 ^ 64 → (after : AnyState) → after ≡ state (p ++ b ∷ [])
@@ -61,7 +45,7 @@ module _ (doc : Document) (d : AnyDecoding) (laws : StateLaws doc.indexes doc.se
     where
       at_item : (back : ℕ) → output_of (state (take (length p + 1 - back) (p ++ b ∷ []))) ≡ output_of (state (p ++ b ∷ [])) → output_of after ≡ output_at doc (ends_at base (pos read -ℤ pos back))
       at_item back same =
-          let place : ends_at base (pos read -ℤ pos back) ≡ length p + 1 - back = ends base read back fits ∙ omega (arith, size) in
+          let place : ends_at base (pos read -ℤ pos back) ≡ length p + 1 - back = end_of base read back fits ∙ omega (arith, size) in
           let front : take (length p + 1 - back) doc.bytes ≡ take (length p + 1 - back) (p ++ b ∷ []) =
           ap (take (length p + 1 - back)) whole ∙ take-append-le (length p + 1 - back) (p ++ b ∷ []) rest (omega (arith, length-append p (b ∷ []))) in
           ap output_of is ∙ sym same ∙ ap (λ (q : List ℕ). output_of (state q)) (sym front) ∙ laws.output (take (length p + 1 - back) doc.bytes) ∙ ap (output_at doc) (sym place)
@@ -126,5 +110,5 @@ module _ (doc : Document) (d : AnyDecoding) (laws : StateLaws doc.indexes doc.se
       at_item : (back : ℕ) → output_of (state (take (length doc.bytes - back) doc.bytes)) ≡ output_of (state doc.bytes) → output_of tail.exit ≡ output_at doc (ends_at (length doc.bytes) (pos 0 -ℤ pos back))
       at_item back same =
           let exit : tail.exit ≡ state doc.bytes = rope.end_is ∙ laws.behind (bytes_of ps) ∙ ap state (sym whole) in
-          let place : ends_at (length doc.bytes) (pos 0 -ℤ pos back) ≡ length doc.bytes - back = ends (length doc.bytes) 0 back (omega (arith, bound)) ∙ omega arith in
+          let place : ends_at (length doc.bytes) (pos 0 -ℤ pos back) ≡ length doc.bytes - back = end_of (length doc.bytes) 0 back (omega (arith, bound)) ∙ omega arith in
           ap output_of exit ∙ sym same ∙ laws.output (take (length doc.bytes - back) doc.bytes) ∙ ap (output_at doc) (sym place)

@@ -1,20 +1,13 @@
 -- The parts of a document, one by one.
 use Rattle.std.proofs.Common.{◌≡◌, refl, sym, ap, ◌∙◌, ℕ, zero, suc, ◌+◌, ◌<◌, ◌≤◌, List, [], ◌∷◌, ◌++◌, take, drop, length, slice_get, Some, None, arith, append_assoc, length-append, length-drop, take-append-drop, append-nil, add-one}
-use Rattle.std.proofs.lemmas.Grind.{flat_map-append}
-use Rattle.std.proofs.lemmas.List.{length-take-le, drop-drop, take_all, drop_all}
-use Rattle.std.proofs.lemmas.Option.{slice_get_past, slice_get_within}
-use Rattle.std.specs.Str.{encode_utf8_all, chars, IsUtf8}
-use Rattle.std.proofs.lemmas.Str.{encodes-append, encodes-chars}
-use Rattle.state_memo.specs.declared.outcome.Outcome.{Outcome}
-use Rattle.piece_rope.specs.declared.edit.PreparedEdit.{PreparedEdit}
-use Rattle.piece_rope.specs.Chain.{renew, renewed}
-use Rattle.piece_rope.specs.Edit.{edited}
-use Rattle.piece_rope.specs.Entry.{Entry, here_of, texts_of}
-use Rattle.piece_rope.specs.Parts.{parts_of, text_in, edited_parts, later_parts, made_pieces, IsPrepared}
+use Rattle.piece_rope.proofs.Prelude.{flat_map-append, length-take-le, drop-drop, take_all, drop_all, slice_get_past, slice_get_within}
+use Rattle.piece_rope.proofs.Prelude.{encode_utf8_all, chars, IsUtf8, encodes-append, encodes-chars, Outcome, PreparedEdit, renew, renewed, edited}
+use Rattle.piece_rope.proofs.Prelude.{Entry, here_of, sums_of, texts_of, parts_of, text_in, edited_parts, later_parts, made_pieces, IsPrepared, Sum}
+use Rattle.piece_rope.proofs.Prelude.{joined}
 use Rattle.piece_rope.proofs.Chaining.{renewed-whole}
 use Rattle.piece_rope.proofs.Joining.{renewed-length}
-use Rattle.piece_rope.proofs.Texts.{texts-append, texts-next}
-use Rattle.piece_rope.proofs.Lists.{element, take-next, drop-next, get-front}
+use Rattle.piece_rope.proofs.Texts.{sums-scalars, texts-append, texts-next}
+use Rattle.piece_rope.proofs.Lists.{drop-next, get-front}
 
 pub parts-length : (ps : List Entry) (tail : Outcome) → length (parts_of ps tail) ≡ suc (length ps)
 parts-length [] tail = refl
@@ -27,108 +20,81 @@ parts-get (q ∷ ps) tail (suc n) p at = parts-get ps tail n p at
 
 pub parts-behind : (xs ys : List Entry) (tail : Outcome) (n : ℕ) → slice_get (parts_of (xs ++ ys) tail) (length xs + n) ≡ slice_get (parts_of ys tail) n
 parts-behind [] ys tail n = let e : 0 + n ≡ n = omega arith in ap (λ (k : ℕ). slice_get (parts_of ys tail) k) e
-parts-behind (x ∷ xs) ys tail n =
-    let e : suc (length xs) + n ≡ suc (length xs + n) = omega arith in
-    ap (λ (k : ℕ). slice_get (parts_of ((x ∷ xs) ++ ys) tail) k) e ∙ parts-behind xs ys tail n
+parts-behind (x ∷ xs) ys tail n = let e : suc (length xs) + n ≡ suc (length xs + n) = omega arith in rw e (parts-behind xs ys tail n)
 
 pub parts-front : (xs ys : List Entry) (tail : Outcome) (n : ℕ) (p : Entry) → slice_get xs n ≡ Some p → slice_get (parts_of (xs ++ ys) tail) n ≡ Some (here_of p)
 parts-front xs ys tail n p at = parts-get (xs ++ ys) tail n p (get-front xs ys n (slice_get_within xs n p at) ∙ at)
 
 -- the parts behind the first k pieces
 pub parts-from : (ps : List Entry) (tail : Outcome) (k n : ℕ) → k ≤ length ps → slice_get (parts_of (drop k ps) tail) n ≡ slice_get (parts_of ps tail) (k + n)
-parts-from ps tail k n l =
-    sym (parts-behind (take k ps) (drop k ps) tail n)
-    ∙ ap (λ (i : ℕ). slice_get (parts_of (take k ps ++ drop k ps) tail) (i + n)) (length-take-le k ps l)
-    ∙ ap (λ (xs : List Entry). slice_get (parts_of xs tail) (k + n)) (take-append-drop k ps)
+parts-from ps tail k n l = cc (parts-behind (take k ps) (drop k ps) tail n, length-take-le k ps l, take-append-drop k ps)
 
 pub renewed-get : (xs : List Entry) (rs : List Entry) (n : ℕ) (p : Entry) (r : Entry) → slice_get xs n ≡ Some p → slice_get rs n ≡ Some r
     → slice_get (renewed xs rs) n ≡ Some (renew p r)
-renewed-get [] rs n p r at too = absurd cc
-renewed-get (x ∷ xs) [] n p r at too = absurd cc
-renewed-get (x ∷ xs) (q ∷ rs) zero p r at too =
-    let e : x ≡ p = cc in
-    let f : q ≡ r = cc in
-    ap (λ (y : Entry). Some (renew y q)) e ∙ ap (λ (s : Entry). Some (renew p s)) f
+renewed-get (x ∷ xs) (q ∷ rs) zero p r at too = cc
 renewed-get (x ∷ xs) (q ∷ rs) (suc n) p r at too = renewed-get xs rs n p r at too
+renewed-get xs rs n p r at too = absurd cc
 
 -- behind the pieces that are renewed nothing changes
 pub renewed-past : (xs : List Entry) (rs : List Entry) (tail : Outcome) (n : ℕ) → length rs ≤ n → length rs ≤ length xs
     → slice_get (parts_of (renewed xs rs) tail) n ≡ slice_get (parts_of xs tail) n
 renewed-past xs [] tail n l w = refl
-renewed-past [] (r ∷ rs) tail n l w = absurd (omega (arith, w))
-renewed-past (x ∷ xs) (r ∷ rs) tail zero l w = absurd (omega (arith, l))
 renewed-past (x ∷ xs) (r ∷ rs) tail (suc n) l w = renewed-past xs rs tail n (omega (arith, l)) (omega (arith, w))
+renewed-past xs (r ∷ rs) tail n l w = absurd (omega (arith, l, w))
 
 module _ (ps : List Entry) (e : PreparedEdit) (fits : IsPrepared ps e) where
+  abbrev later : List Entry
+  later = drop e.last ps
+
+  abbrev left : List Entry
+  left = renewed later e.renewals.items
+
+  few-renewed : length e.renewals.items ≤ length later
+  few-renewed = omega (arith, fits.within, length-drop e.last ps)
+
   first-length : length (take e.first ps) ≡ e.first
   first-length = length-take-le e.first ps (omega (arith, fits.order, fits.within))
 
   -- a piece that is made anew
   pub made-part : (n m : ℕ) (p : Entry) → n ≡ e.first + m → slice_get e.fresh.items m ≡ Some p → slice_get (edited_parts ps e) n ≡ Some (here_of p)
-  made-part n m p n_is at =
-      let same : n ≡ length (take e.first ps) + m = omega (arith, n_is, first-length) in
-      ap (λ (k : ℕ). slice_get (edited_parts ps e) k) same
-      ∙ parts-behind (take e.first ps) (e.fresh.items ++ renewed (drop e.last ps) e.renewals.items) e.tail m
-      ∙ parts-front e.fresh.items (renewed (drop e.last ps) e.renewals.items) e.tail m p at
+  made-part n m p n_is at = cc (first-length, parts-behind (take e.first ps) (e.fresh.items ++ left) e.tail m, parts-front e.fresh.items left e.tail m p at)
 
   -- a part behind these
   pub part-later : (n m : ℕ) → n ≡ e.first + (length e.fresh.items + m) → slice_get (edited_parts ps e) n ≡ slice_get (later_parts ps e) m
   part-later n m n_is =
-      let same : n ≡ length (take e.first ps) + (length e.fresh.items + m) = omega (arith, n_is, first-length) in
-      ap (λ (k : ℕ). slice_get (edited_parts ps e) k) same
-      ∙ parts-behind (take e.first ps) (e.fresh.items ++ renewed (drop e.last ps) e.renewals.items) e.tail (length e.fresh.items + m)
-      ∙ parts-behind e.fresh.items (renewed (drop e.last ps) e.renewals.items) e.tail m
+      cc (first-length, parts-behind (take e.first ps) (e.fresh.items ++ left) e.tail (length e.fresh.items + m), parts-behind e.fresh.items left e.tail m)
 
-  later-length : length (later_parts ps e) ≡ suc (length (drop e.last ps))
-  later-length =
-      parts-length (renewed (drop e.last ps) e.renewals.items) e.tail
-      ∙ ap suc (renewed-length (drop e.last ps) e.renewals.items (omega (arith, fits.within, length-drop e.last ps)))
+  pub none-later : (n : ℕ) → length later < n → slice_get (later_parts ps e) n ≡ None
+  none-later n past = slice_get_past (later_parts ps e) n (omega (arith, past, parts-length left e.tail, renewed-length later e.renewals.items few-renewed))
 
-  pub none-later : (n : ℕ) → length (drop e.last ps) < n → slice_get (later_parts ps e) n ≡ None
-  none-later n past = slice_get_past (later_parts ps e) n (omega (arith, past, later-length))
-
-  pub renewed-part : (n : ℕ) (p : Entry) (r : Entry) → slice_get (drop e.last ps) n ≡ Some p → slice_get e.renewals.items n ≡ Some r
+  pub renewed-part : (n : ℕ) (p : Entry) (r : Entry) → slice_get later n ≡ Some p → slice_get e.renewals.items n ≡ Some r
       → slice_get (later_parts ps e) n ≡ Some (here_of (renew p r))
-  renewed-part n p r at too =
-      parts-get (renewed (drop e.last ps) e.renewals.items) e.tail n (renew p r) (renewed-get (drop e.last ps) e.renewals.items n p r at too)
+  renewed-part n p r at too = parts-get left e.tail n (renew p r) (renewed-get later e.renewals.items n p r at too)
 
   pub same-part : (n : ℕ) → length e.renewals.items ≤ n → slice_get (later_parts ps e) n ≡ slice_get (parts_of ps e.tail) (e.last + n)
-  same-part n past =
-      renewed-past (drop e.last ps) e.renewals.items e.tail n past (omega (arith, fits.within, length-drop e.last ps))
-      ∙ parts-from ps e.tail e.last n (omega (arith, fits.within))
+  same-part n past = renewed-past later e.renewals.items e.tail n past few-renewed ∙ parts-from ps e.tail e.last n (omega (arith, fits.within))
 
   -- what an edit leaves are the pieces before those that it touches, those made anew, and those behind
-  pub edited-is : edited ps e ≡ take e.first ps ++ (made_pieces ps e ++ drop (e.last + length e.renewals.items) ps)
+  abbrev pub behind : List Entry
+  behind = drop (e.last + length e.renewals.items) ps
+
+  pub edited-is : edited ps e ≡ take e.first ps ++ (made_pieces ps e ++ behind)
   edited-is =
-      let later = drop e.last ps in
       let count = length e.renewals.items in
-      ap (λ (xs : List Entry). take e.first ps ++ (e.fresh.items ++ xs)) (renewed-whole later e.renewals.items count refl (omega (arith, fits.within, length-drop e.last ps)))
-      ∙ ap (λ (xs : List Entry). take e.first ps ++ xs) (sym (append_assoc e.fresh.items (renewed (take count later) e.renewals.items) (drop count later)))
-      ∙ ap (λ (xs : List Entry). take e.first ps ++ (made_pieces ps e ++ xs)) (drop-drop count e.last ps)
+      let whole = renewed-whole later e.renewals.items few-renewed in
+      cc (whole, append_assoc e.fresh.items (renewed (take count later) e.renewals.items) (drop count later), drop-drop count e.last ps)
 
   pub made-length : length (made_pieces ps e) ≡ length e.fresh.items + length e.renewals.items
   made-length =
-      let count = length e.renewals.items in
-      let own : length (take count (drop e.last ps)) ≡ count = length-take-le count (drop e.last ps) (omega (arith, fits.within, length-drop e.last ps)) in
-      omega (arith, length-append e.fresh.items (renewed (take count (drop e.last ps)) e.renewals.items), renewed-length (take count (drop e.last ps)) e.renewals.items (omega (arith, own)), own)
-
-  edited-length : length (edited ps e) ≡ e.first + (length (made_pieces ps e) + length (drop (e.last + length e.renewals.items) ps))
-  edited-length =
-      let behind = drop (e.last + length e.renewals.items) ps in
-      omega (arith, ap length edited-is, length-append (take e.first ps) (made_pieces ps e ++ behind), length-append (made_pieces ps e) behind, first-length)
-
-  pub few-made : e.first + (length e.fresh.items + length e.renewals.items) ≤ 4294967296
-  few-made = omega (arith, edited-length, made-length, fits.few)
+      let front = take (length e.renewals.items) later in
+      let own : length front ≡ length e.renewals.items = length-take-le (length e.renewals.items) later few-renewed in
+      omega (arith, length-append e.fresh.items (renewed front e.renewals.items), renewed-length front e.renewals.items (omega (arith, own)), own)
 
   -- a piece of those made anew is a part of what the edit leaves
   pub made-at : (m : ℕ) (p : Entry) → slice_get (made_pieces ps e) m ≡ Some p → slice_get (edited_parts ps e) (e.first + m) ≡ Some (here_of p)
   made-at m p at =
-      let behind = drop (e.last + length e.renewals.items) ps in
-      let same : e.first + m ≡ length (take e.first ps) + m = omega (arith, first-length) in
-      ap (λ (k : ℕ). slice_get (edited_parts ps e) k) same
-      ∙ ap (λ (xs : List Entry). slice_get (parts_of xs e.tail) (length (take e.first ps) + m)) edited-is
-      ∙ parts-behind (take e.first ps) (made_pieces ps e ++ behind) e.tail m
-      ∙ parts-front (made_pieces ps e) behind e.tail m p at
+      let front = parts-front (made_pieces ps e) behind e.tail m p at in
+      cc (first-length, edited-is, parts-behind (take e.first ps) (made_pieces ps e ++ behind) e.tail m, front)
 
 -- the text of parts
 pub text-append : (xs ys : List Outcome) → text_in (xs ++ ys) ≡ text_in xs ++ text_in ys
@@ -137,6 +103,11 @@ text-append xs ys = flat_map-append (λ (o : Outcome). o.text) xs ys
 pub parts-text : (ps : List Entry) (tail : Outcome) → text_in (parts_of ps tail) ≡ texts_of ps ++ tail.text
 parts-text [] tail = append-nil tail.text
 parts-text (p ∷ ps) tail = ap (λ (cs : List ℕ). (here_of p).text ++ cs) (parts-text ps tail) ∙ sym (append_assoc (here_of p).text (texts_of ps) tail.text)
+
+-- the numbers of all pieces and of the end count the code points
+pub whole-scalars : (ps : List Entry) (tail : Outcome) (s : Sum) → s ≡ joined (sums_of ps) tail.sum → s.scalars ≡ length (text_in (parts_of ps tail))
+whole-scalars ps tail s s_is =
+    omega (arith, ap (λ (t : Sum). t.scalars) s_is, sums-scalars ps, tail.summed.scalars, length-append (texts_of ps) tail.text, ap length (parts-text ps tail))
 
 -- the text from part number n on, where there is one
 pub text-next : (os : List Outcome) (n : ℕ) (o : Outcome) → slice_get os n ≡ Some o → text_in (drop n os) ≡ o.text ++ text_in (drop (suc n) os)
@@ -171,11 +142,7 @@ counted-off ps n left most p o at o_is so_far over = omega (arith, scalars-next 
 pub bytes-next-part : (os : List Outcome) (n : ℕ) (o : Outcome) (bytes : List ℕ) → slice_get os n ≡ Some o → IsUtf8 bytes → chars bytes ≡ o.text
     → encode_utf8_all (text_in (drop n os)) ≡ bytes ++ encode_utf8_all (text_in (drop (n + 1) os))
 bytes-next-part os n o bytes at utf8 own =
-    ap encode_utf8_all (text-next os n o at)
-    ∙ encodes-append o.text (text_in (drop (suc n) os))
-    ∙ ap (λ (cs : List ℕ). encode_utf8_all cs ++ encode_utf8_all (text_in (drop (suc n) os))) (sym own)
-    ∙ ap (λ (bs : List ℕ). bs ++ encode_utf8_all (text_in (drop (suc n) os))) (encodes-chars bytes utf8)
-    ∙ ap (λ (k : ℕ). bytes ++ encode_utf8_all (text_in (drop k os))) (sym (add-one n))
+    cc (text-next os n o at, encodes-append o.text (text_in (drop (suc n) os)), encodes-chars bytes utf8, add-one n)
 
 pub bytes-past : (os : List Outcome) (n : ℕ) → slice_get os n ≡ None → encode_utf8_all (text_in (drop n os)) ≡ []
 bytes-past os n at = ap encode_utf8_all (text-past os n at)

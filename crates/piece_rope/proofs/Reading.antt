@@ -1,19 +1,15 @@
 -- Parts of lists that stand in pieces, read piece by piece.
-use Rattle.std.proofs.Common.{◌≡◌, refl, sym, ap, ◌∙◌, ℕ, zero, suc, ◌+◌, ◌-◌, ◌<◌, ◌≤◌, min, List, [], ◌∷◌, ◌++◌, take, drop, length, slice_get, Some, arith, append_assoc, length-append, length-drop, add-one}
-use Rattle.std.proofs.lemmas.List.{drop-drop, drop-append-le, take_min}
-use Rattle.piece_rope.specs.Entry.{Entry}
-use Rattle.piece_rope.specs.Chain.{bytes_of}
-use Rattle.piece_rope.specs.Window.{bytes_before, IsPlace}
+use Rattle.std.proofs.Common.{◌≡◌, refl, ap, ℕ, zero, suc, ◌+◌, ◌-◌, ◌≤◌, min, List, [], ◌∷◌, ◌++◌, take, drop, length, slice_get, Some, arith, append_assoc, length-append, length-drop, add-one}
+use Rattle.piece_rope.proofs.Prelude.{drop-drop, drop-append-le, take_min, Entry, bytes_of, bytes_before, IsPlace, slice_get_within}
 use Rattle.piece_rope.proofs.Chaining.{bytes-next}
 use Rattle.piece_rope.proofs.Measuring.{bytes-split}
 use Rattle.piece_rope.proofs.Preparing.{bytes-rest}
 use Rattle.piece_rope.proofs.Lists.{drop-next}
 
 pub take-split : {X : Type 0} (n : ℕ) (xs ys : List X) → take n (xs ++ ys) ≡ take n xs ++ take (n - length xs) ys
-take-split zero [] ys = refl
-take-split zero (x ∷ xs) ys = let e : 0 - suc (length xs) ≡ 0 = omega arith in rw e refl
+take-split zero xs ys = let e : 0 - length xs ≡ 0 = omega arith in rw e refl
 take-split (suc n) [] ys = let e : suc n - 0 ≡ suc n = omega arith in rw e refl
-take-split (suc n) (x ∷ xs) ys = let e : suc n - suc (length xs) ≡ n - length xs = omega arith in rw e (ap (λ (zs : List _). x ∷ zs) (take-split n xs ys))
+take-split (suc n) (x ∷ xs) ys = let e : suc n - suc (length xs) ≡ n - length xs = omega arith in cc (take-split n xs ys)
 
 -- the part that one more piece gives
 pub part-step : {X : Type 0} (here behind : List X) (skip left : ℕ) → skip ≤ length here
@@ -21,45 +17,30 @@ pub part-step : {X : Type 0} (here behind : List X) (skip left : ℕ) → skip �
 part-step here behind skip left l =
     let rest = drop skip here in
     let less : left - length rest ≡ left - min left (length rest) = omega arith in
-    ap (λ (xs : List _). take left xs) (drop-append-le skip here behind l)
-    ∙ take-split left rest behind
-    ∙ ap (λ (xs : List _). xs ++ take (left - length rest) behind) (sym (take_min left rest))
-    ∙ ap (λ (n : ℕ). take (min left (length rest)) rest ++ take n behind) less
+    cc (less, drop-append-le skip here behind l, take-split left rest behind, take_min left rest)
 
 pub bytes-behind : (ps : List Entry) (k : ℕ) (p : Entry) → slice_get ps k ≡ Some p → bytes_of (drop k ps) ≡ p.piece.bytes ++ bytes_of (drop (k + 1) ps)
-bytes-behind ps k p at = ap bytes_of (drop-next ps k p at) ∙ ap (λ (n : ℕ). p.piece.bytes ++ bytes_of (drop n ps)) (sym (add-one k))
+bytes-behind ps k p at = cc (add-one k, drop-next ps k p at)
 
 -- where the bytes from a place on stand
 pub bytes-from : (ps : List Entry) (from k before : ℕ) → IsPlace ps from k before → drop (from - before) (bytes_of (drop k ps)) ≡ drop from (bytes_of ps)
 bytes-from ps from k before place =
     let e : bytes_before ps k + (from - before) ≡ from = omega (arith, place.before_is, place.low) in
-    ap (λ (bs : List ℕ). drop (from - before) bs) (sym (bytes-rest ps k)) ∙ drop-drop (from - before) (bytes_before ps k) (bytes_of ps) ∙ ap (λ (n : ℕ). drop n (bytes_of ps)) e
+    cc (e, bytes-rest ps k, drop-drop (from - before) (bytes_before ps k) (bytes_of ps))
 
 pub bytes-enough : (ps : List Entry) (from to k before : ℕ) → IsPlace ps from k before → from ≤ to → to ≤ length (bytes_of ps) → from - before + (to - from) ≤ length (bytes_of (drop k ps))
 bytes-enough ps from to k before place order within =
     omega (arith, place.before_is, place.low, order, within, ap length (bytes-split ps k), length-append (bytes_of (take k ps)) (bytes_of (drop k ps)))
 
 pub bytes-within : (ps : List Entry) (from k before : ℕ) → IsPlace ps from k before → (p : Entry) → slice_get ps k ≡ Some p → from - before ≤ length p.piece.bytes
-bytes-within ps from k before place p at =
-    omega (arith, place.high (inside ps k p at), bytes-next ps k p at, place.before_is)
-  where
-    inside : {X : Type 0} (xs : List X) (k : ℕ) (x : X) → slice_get xs k ≡ Some x → k < length xs
-    inside [] zero x at = absurd cc
-    inside [] (suc k) x at = absurd cc
-    inside (y ∷ xs) zero x at = omega arith
-    inside (y ∷ xs) (suc k) x at = omega (arith, inside xs k x at)
+bytes-within ps from k before place p at = omega (arith, place.high (slice_get_within ps k p at), bytes-next ps k p at, place.before_is)
 
 -- one more piece read: `whole` is what is left before, `more` behind it
 pub read-step : {X : Type 0} (whole here more : List X) (skip left count : ℕ) (old new rest : List X) → whole ≡ here ++ more → skip ≤ length here
     → rest ≡ drop skip here → count ≡ min left (length rest) → new ≡ old ++ take count rest
     → new ++ take (left - count) more ≡ old ++ take left (drop skip whole)
 read-step whole here more skip left count old new rest whole_is within rest_is count_is new_is =
-    let all : take left (drop skip whole) ≡ take count rest ++ take (left - count) more =
-    ap (λ (xs : List _). take left (drop skip xs)) whole_is
-    ∙ part-step here more skip left within
-    ∙ ap (λ (r : List _). take (min left (length r)) r ++ take (left - min left (length r)) more) (sym rest_is)
-    ∙ ap (λ (n : ℕ). take n rest ++ take (left - n) more) (sym count_is) in
-    ap (λ (xs : List _). xs ++ take (left - count) more) new_is ∙ append_assoc old (take count rest) (take (left - count) more) ∙ ap (λ (xs : List _). old ++ xs) (sym all)
+    cc (part-step here more skip left within, append_assoc old (take count rest) (take (left - count) more))
 
 pub read-enough : {X : Type 0} (whole here more : List X) (skip left count : ℕ) (rest : List X) → whole ≡ here ++ more → rest ≡ drop skip here → count ≡ min left (length rest)
     → skip + left ≤ length whole → 0 + (left - count) ≤ length more

@@ -1,14 +1,9 @@
 -- What a piece remembers stays its own.
-use Rattle.std.proofs.Common.{◌≡◌, ℕ, refl, sym, ap, ◌∙◌, subst, zero, suc, Bool, true, false, List, [], ◌∷◌, take, drop, Option, Some, None, option_map, cond, arith}
-use Rattle.state_memo.specs.Decoding.{feed, AnyState, AnyDecoding, any}
-use Rattle.state_memo.specs.declared.outcome.Outcome.{Outcome}
+use Rattle.std.proofs.Common.{◌≡◌, ℕ, refl, sym, ap, ◌∙◌, zero, suc, Bool, true, false, List, [], ◌∷◌, take, drop, Option, Some, option_map, cond, arith}
 use Rattle.state_memo.specs.declared.known.Known.{Known}
-use Rattle.state_memo.specs.Outcome.{Contents, contents_of, outcome_of, ending_of}
-use Rattle.state_memo.specs.Sums.{sum_of}
-use Rattle.state_memo.specs.Memo.{Memo, same_state, recalled, without, installed, entered, put_first}
-use Rattle.piece_rope.specs.Entry.{Entry}
+use Rattle.piece_rope.proofs.Prelude.{feed, AnyState, AnyDecoding, any, Outcome, Contents, contents_of, outcome_of, ending_of, sum_of, Memo}
+use Rattle.piece_rope.proofs.Prelude.{same_state, recalled, without, installed, entered, Entry, AreRight, IsOwn, IsRenewed}
 use Rattle.piece_rope.proofs.Chaining.{Laws}
-use Rattle.piece_rope.specs.Chain.{AreRight, IsOwn, IsRenewed}
 use Rattle.piece_rope.proofs.Lists.{take-take}
 
 module _ (d : AnyDecoding) (laws : Laws d) (bytes : List ℕ) where
@@ -39,9 +34,6 @@ module _ (d : AnyDecoding) (laws : Laws d) (bytes : List ℕ) where
   pub exit-recalled : (ks : List Known) (s : AnyState) (o : Outcome) → AreRight d bytes ks → recalled ks s ≡ Some o → o.exit ≡ (feed (any d) s bytes).state
   exit-recalled ks s o r found = ap (λ (x : Contents). x.exit) (right-recalled ks s o r found) ∙ laws.exit s bytes
 
-  pub right-entered : (ks : List Known) (s : AnyState) (o : Outcome) → AreRight d bytes ks → recalled ks s ≡ Some o → AreRight d bytes (put_first (Some o) ks s)
-  right-entered ks s o r found = (right-recalled ks s o r found, right-without ks s r)
-
 -- what is put first is found
 found-first : (b : Bool) (o : Outcome) (rest : Option Outcome) → b ≡ true → cond b (Some o) rest ≡ Some o
 found-first true o rest e = refl
@@ -55,34 +47,23 @@ module _ (d : AnyDecoding) (laws : Laws d) where
     here_is = ap (option_map contents_of) (found-first (same_state s s) o (recalled (take 3 (without known s)) s) (laws.same s)) ∙ ap Some is;
   }
 
-  own-entered : (p : Entry) (s : AnyState) (o : Outcome) → AreRight d p.piece.bytes p.piece.known → recalled p.piece.known s ≡ Some o
-      → IsOwn d (record { piece = record { bytes = p.piece.bytes; known = put_first (Some o) p.piece.known s }; entry = s })
-  own-entered p s o right found = record {
-    right = right-entered d laws p.piece.bytes p.piece.known s o right found;
-    here_is = ap (option_map contents_of) (found-first (same_state s s) o (recalled (without p.piece.known s) s) (laws.same s)) ∙ ap Some (right-recalled d laws p.piece.bytes p.piece.known s o right found);
-  }
-
   -- a piece entered in a state that it remembers
   pub own-renewed : (p : Entry) (m : Memo) (s : AnyState) (o : Outcome) → IsOwn d p → recalled p.piece.known s ≡ Some o
       → m ≡ record { bytes = p.piece.bytes; known = entered p.piece.known s } → IsOwn d (record { piece = m; entry = s })
   own-renewed p m s o own found is =
-      subst (λ (x : Memo). IsOwn d (record { piece = x; entry = s })) (sym is)
-      (subst (λ (x : Option Outcome). IsOwn d (record { piece = record { bytes = p.piece.bytes; known = put_first x p.piece.known s }; entry = s })) (sym found) (own-entered p s o own.right found))
+      let known = p.piece.known in
+      let right = right-recalled d laws p.piece.bytes known s o own.right found in
+      rw (is, found) (record {
+        right = (right, right-without d laws p.piece.bytes known s own.right);
+        here_is = ap (option_map contents_of) (found-first (same_state s s) o (recalled (without known s) s) (laws.same s)) ∙ ap Some right;
+      })
 
   -- and in one from which it was computed
   pub own-computed : (p : Entry) (m : Memo) (s : AnyState) (o : Outcome) → IsOwn d p → contents_of o ≡ outcome_of d s p.piece.bytes
       → m ≡ record { bytes = p.piece.bytes; known = installed p.piece.known s o } → IsOwn d (record { piece = m; entry = s })
-  own-computed p m s o own is m_is =
-      subst (λ (x : Memo). IsOwn d (record { piece = x; entry = s })) (sym m_is) (own-installed p.piece.bytes p.piece.known s o own.right is)
+  own-computed p m s o own is m_is = rw m_is (own-installed p.piece.bytes p.piece.known s o own.right is)
 
 -- what else the piece remembered is still there
-pub renewed-found : (p : Entry) (m : Memo) (s : AnyState) (o : Outcome) → recalled p.piece.known s ≡ Some o
-    → m ≡ record { bytes = p.piece.bytes; known = entered p.piece.known s } → IsRenewed p (record { piece = m; entry = s })
-renewed-found p m s o found is = record {
-  bytes = ap (λ (x : Memo). x.bytes) is;
-  others = ap (λ (x : Memo). take 3 (drop 1 x.known)) is ∙ ap (λ (x : Option Outcome). take 3 (drop 1 (put_first x p.piece.known s))) found;
-}
-
 pub renewed-computed : (p : Entry) (m : Memo) (s : AnyState) (o : Outcome) → m ≡ record { bytes = p.piece.bytes; known = installed p.piece.known s o }
     → IsRenewed p (record { piece = m; entry = s })
 renewed-computed p m s o is = record {

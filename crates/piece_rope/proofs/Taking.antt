@@ -1,10 +1,7 @@
 -- Taking the parts of one text off another.
-use Rattle.std.proofs.Common.{◌≡◌, refl, sym, ap, ◌∙◌, ℕ, ◌+◌, ◌-◌, ◌<◌, ◌≤◌, List, ◌++◌, take, drop, min, length, slice_get, Some, None, arith, append_assoc, length-drop, add-one}
-use Rattle.std.specs.Str.{encode_utf8_all, chars, IsUtf8}
-use Rattle.std.proofs.lemmas.List.{append_cancel_left}
-use Rattle.std.proofs.lemmas.Str.{encodes-append, encodes-chars, length-le-encodes}
-use Rattle.state_memo.specs.declared.outcome.Outcome.{Outcome}
-use Rattle.piece_rope.specs.Parts.{text_in}
+use Rattle.std.proofs.Common.{◌≡◌, refl, ap, ℕ, ◌+◌, ◌-◌, ◌<◌, ◌≤◌, List, ◌++◌, take, drop, min, length, slice_get, Some, None, arith, append_assoc, length-drop, add-one}
+use Rattle.piece_rope.proofs.Prelude.{encode_utf8_all, chars, IsUtf8, append_cancel_left, encodes-append, encodes-chars, length-le-encodes, Outcome}
+use Rattle.piece_rope.proofs.Prelude.{text_in}
 use Rattle.piece_rope.proofs.Matching.{Found}
 use Rattle.piece_rope.proofs.Parting.{text-next, text-past}
 use Rattle.piece_rope.proofs.Reading.{part-step, read-enough}
@@ -12,35 +9,31 @@ use Rattle.piece_rope.proofs.Reading.{part-step, read-enough}
 pub found-on : (part left more here text rest next : List ℕ) → Found part left text rest → left ≡ here ++ more → rest ≡ here ++ next → Found part more text next
 found-on part left more here text rest next f left_is rest_is = record {
   eaten = f.eaten ++ here;
-  part_is = f.part_is ∙ ap (λ (xs : List ℕ). f.eaten ++ xs) left_is ∙ sym (append_assoc f.eaten here more);
-  text_is = f.text_is ∙ ap (λ (xs : List ℕ). f.eaten ++ xs) rest_is ∙ sym (append_assoc f.eaten here next);
+  part_is = cc (f.part_is, append_assoc f.eaten here more);
+  text_is = cc (f.text_is, append_assoc f.eaten here next);
 }
 
 pub not-found-on : (part left more here text rest : List ℕ) → Found part left text rest → left ≡ here ++ more → ((r : List ℕ) → rest ≡ here ++ r → ⊥)
     → (r : List ℕ) → text ≡ part ++ r → ⊥
 not-found-on part left more here text rest f left_is none r e =
-    none (more ++ r)
-    (append_cancel_left f.eaten rest (here ++ (more ++ r))
-    (sym f.text_is ∙ e ∙ ap (λ (xs : List ℕ). xs ++ r) f.part_is ∙ append_assoc f.eaten left r ∙ ap (λ (xs : List ℕ). f.eaten ++ (xs ++ r)) left_is ∙ ap (λ (xs : List ℕ). f.eaten ++ xs) (append_assoc here more r)))
+    none (more ++ r) (append_cancel_left f.eaten rest (here ++ (more ++ r)) (cc (f.text_is, f.part_is, append_assoc f.eaten left r, append_assoc here more r)))
 
 -- the text of the parts from one on, some of whose code points were read, and what the next step reads
 module _ (os : List Outcome) (place skip left taken : ℕ) (o : Outcome) (at : slice_get os place ≡ Some o) (begun : skip ≤ length o.text)
     (taken_is : taken ≡ min left (o.sum.scalars - skip)) where
   next-is : text_in (drop place os) ≡ o.text ++ text_in (drop (place + 1) os)
-  next-is = text-next os place o at ∙ ap (λ (k : ℕ). o.text ++ text_in (drop k os)) (sym (add-one place))
+  next-is = cc (add-one place, text-next os place o at)
 
   taken-least : taken ≡ min left (length (drop skip o.text))
   taken-least = omega (arith, taken_is, o.summed.scalars, length-drop skip o.text)
 
-  pub step-bytes : (here : List ℕ) → here ≡ encode_utf8_all (take taken (drop skip o.text))
-      → encode_utf8_all (take left (drop skip (text_in (drop place os)))) ≡ here ++ encode_utf8_all (take (left - taken) (text_in (drop (place + 1) os)))
-  step-bytes here here_is =
+  -- the code points that the step reads, as a string gives them
+  pub step-bytes : (cs here bytes : List ℕ) → cs ≡ o.text → here ≡ encode_utf8_all (take (skip + taken - skip) (drop skip cs)) → bytes ≡ here
+      → encode_utf8_all (take left (drop skip (text_in (drop place os)))) ≡ bytes ++ encode_utf8_all (take (left - taken) (text_in (drop (place + 1) os)))
+  step-bytes cs here bytes own here_is bytes_is =
       let more = text_in (drop (place + 1) os) in
-      ap (λ (cs : List ℕ). encode_utf8_all (take left (drop skip cs))) next-is
-      ∙ ap encode_utf8_all (part-step o.text more skip left begun)
-      ∙ ap (λ (n : ℕ). encode_utf8_all (take n (drop skip o.text) ++ take (left - n) more)) (sym taken-least)
-      ∙ encodes-append (take taken (drop skip o.text)) (take (left - taken) more)
-      ∙ ap (λ (bs : List ℕ). bs ++ encode_utf8_all (take (left - taken) more)) (sym here_is)
+      let count : skip + taken - skip ≡ taken = omega arith in
+      cc (count, next-is, part-step o.text more skip left begun, taken-least, encodes-append (take taken (drop skip o.text)) (take (left - taken) more))
 
   pub step-enough : skip + left ≤ length (text_in (drop place os)) → 0 + (left - taken) ≤ length (text_in (drop (place + 1) os))
   step-enough enough = read-enough (text_in (drop place os)) o.text (text_in (drop (place + 1) os)) skip left taken (drop skip o.text) next-is refl taken-least enough
@@ -50,13 +43,6 @@ module _ (os : List Outcome) (place skip left taken : ℕ) (o : Outcome) (at : s
 
   pub step-fits : (bytes : List ℕ) → IsUtf8 bytes → chars bytes ≡ o.text → skip + taken ≤ length bytes
   step-fits bytes utf8 own = omega (arith, step-within, ap length own, length-le-encodes (chars bytes), ap length (encodes-chars bytes utf8))
-
--- the code points that a step reads, as a string gives them
-pub read-part : (skip taken : ℕ) (text cs here bytes : List ℕ) → cs ≡ text → here ≡ encode_utf8_all (take (skip + taken - skip) (drop skip cs)) → bytes ≡ here
-    → bytes ≡ encode_utf8_all (take taken (drop skip text))
-read-part skip taken text cs here bytes own here_is bytes_is =
-    let count : skip + taken - skip ≡ taken = omega arith in
-    bytes_is ∙ here_is ∙ ap (λ (n : ℕ). encode_utf8_all (take n (drop skip cs))) count ∙ ap (λ (xs : List ℕ). encode_utf8_all (take taken (drop skip xs))) own
 
 pub nothing-behind : (os : List Outcome) (place skip left : ℕ) → slice_get os place ≡ None → skip + left ≤ length (text_in (drop place os)) → 0 < left → ⊥
 nothing-behind os place skip left none enough some = omega (arith, ap length (text-past os place none), enough, some)

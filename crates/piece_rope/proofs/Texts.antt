@@ -1,37 +1,29 @@
 -- The texts of pieces, read piece by piece.
-use Rattle.std.proofs.Common.{◌≡◌, refl, sym, ap, ◌∙◌, ℕ, zero, suc, ◌+◌, ◌-◌, ◌<◌, ◌≤◌, List, [], ◌∷◌, ◌++◌, take, drop, length, slice_get, Some, arith, append_assoc, length-append, take-append-drop, add-one, append-nil}
-use Rattle.std.proofs.lemmas.Grind.{flat_map-append}
-use Rattle.std.proofs.lemmas.Option.{slice_get_within}
-use Rattle.std.proofs.Math.Seq.{drop-append-add}
-use Rattle.sum_tree.specs.Reached.{IsFirstAbove}
+use Rattle.std.proofs.Common.{◌≡◌, refl, ap, ◌∙◌, ℕ, suc, ◌+◌, ◌-◌, ◌<◌, ◌≤◌, List, [], ◌∷◌, ◌++◌, take, drop, length, slice_get, Some, arith, append_assoc, length-append, take-append-drop, add-one, append-nil}
 use Rattle.state_memo.specs.declared.axis.Axis.TheVariants.{Scalar}
-use Rattle.state_memo.specs.declared.sum.Sum.{Sum}
-use Rattle.state_memo.specs.Sums.{no_sum, joined, measure}
-use Rattle.piece_rope.specs.Entry.{Entry, entry_sum, here_of, texts_of}
-use Rattle.piece_rope.proofs.Counting.{sums, found-low}
+use Rattle.piece_rope.proofs.Prelude.{flat_map-append, slice_get_within, drop-append-add, IsFirstAbove, Sum, no_sum, joined, measure, Entry, sums_of}
+use Rattle.piece_rope.proofs.Prelude.{entry_sum, here_of, texts_of}
+use Rattle.piece_rope.proofs.Counting.{found-low}
 use Rattle.piece_rope.proofs.Lists.{take-next, drop-next}
 
 pub texts-append : (xs ys : List Entry) → texts_of (xs ++ ys) ≡ texts_of xs ++ texts_of ys
 texts-append xs ys = flat_map-append (λ (p : Entry). (here_of p).text) xs ys
 
-pub sums-scalars : (ps : List Entry) → (sums ps).scalars ≡ length (texts_of ps)
+pub sums-scalars : (ps : List Entry) → (sums_of ps).scalars ≡ length (texts_of ps)
 sums-scalars [] = refl
 sums-scalars (p ∷ ps) = omega (arith, (here_of p).summed.scalars, sums-scalars ps, length-append (here_of p).text (texts_of ps))
 
 pub texts-next : (ps : List Entry) (k : ℕ) (p : Entry) → slice_get ps k ≡ Some p → length (texts_of (take (suc k) ps)) ≡ length (texts_of (take k ps)) + length (here_of p).text
 texts-next ps k p at =
-    ap (λ (xs : List Entry). length (texts_of xs)) (take-next ps k p at)
-    ∙ ap length (texts-append (take k ps) (p ∷ []) ∙ ap (λ (cs : List ℕ). texts_of (take k ps) ++ cs) (append-nil (here_of p).text))
-    ∙ length-append (texts_of (take k ps)) (here_of p).text
+    let all : texts_of (take (suc k) ps) ≡ texts_of (take k ps) ++ (here_of p).text =
+    cc (take-next ps k p at, texts-append (take k ps) (p ∷ []), append-nil (here_of p).text) in
+    ap length all ∙ length-append (texts_of (take k ps)) (here_of p).text
 
 pub texts-split : (ps : List Entry) (k : ℕ) → texts_of ps ≡ texts_of (take k ps) ++ texts_of (drop k ps)
-texts-split ps k = ap texts_of (sym (take-append-drop k ps)) ∙ texts-append (take k ps) (drop k ps)
+texts-split ps k = cc (take-append-drop k ps, texts-append (take k ps) (drop k ps))
 
 pub texts-behind : (ps : List Entry) (end : List ℕ) (k : ℕ) (p : Entry) → slice_get ps k ≡ Some p → texts_of (drop k ps) ++ end ≡ (here_of p).text ++ (texts_of (drop (k + 1) ps) ++ end)
-texts-behind ps end k p at =
-    ap (λ (xs : List Entry). texts_of xs ++ end) (drop-next ps k p at)
-    ∙ append_assoc (here_of p).text (texts_of (drop (suc k) ps)) end
-    ∙ ap (λ (n : ℕ). (here_of p).text ++ (texts_of (drop n ps) ++ end)) (sym (add-one k))
+texts-behind ps end k p at = cc (add-one k, drop-next ps k p at, append_assoc (here_of p).text (texts_of (drop (suc k) ps)) end)
 
 -- where the code points from a place on stand
 pub record IsTextPlace (ps : List Entry) (target k before : ℕ) : Type 0 where
@@ -53,14 +45,14 @@ text-place ps target k s found =
 pub text-from : (ps : List Entry) (end : List ℕ) (from k before : ℕ) → IsTextPlace ps from k before → drop (from - before) (texts_of (drop k ps) ++ end) ≡ drop from (texts_of ps ++ end)
 text-from ps end from k before place =
     let front = texts_of (take k ps) in
+    let rest = texts_of (drop k ps) ++ end in
     let e : from ≡ length front + (from - before) = omega (arith, place.before_is, place.low) in
-    let all : texts_of ps ++ end ≡ front ++ (texts_of (drop k ps) ++ end) = ap (λ (cs : List ℕ). cs ++ end) (texts-split ps k) ∙ append_assoc front (texts_of (drop k ps)) end in
-    sym (drop-append-add front (texts_of (drop k ps) ++ end) (from - before)) ∙ ap (λ (cs : List ℕ). drop (length front + (from - before)) cs) (sym all) ∙ ap (λ (n : ℕ). drop n (texts_of ps ++ end)) (sym e)
+    cc (e, texts-split ps k, append_assoc front (texts_of (drop k ps)) end, drop-append-add front rest (from - before))
 
 pub text-enough : (ps : List Entry) (end : List ℕ) (from to k before : ℕ) → IsTextPlace ps from k before → from ≤ to → to ≤ length (texts_of ps ++ end)
     → from - before + (to - from) ≤ length (texts_of (drop k ps) ++ end)
 text-enough ps end from to k before place order within =
-    omega (arith, place.before_is, place.low, order, within, ap length (texts-split ps k), length-append (texts_of (take k ps)) (texts_of (drop k ps)), length-append (texts_of ps) end, length-append (texts_of (drop k ps)) end)
+    omega (arith, place.before_is, place.low, order, within, ap length (texts-split ps k), length-append {A = ℕ})
 
 pub text-within : (ps : List Entry) (from k before : ℕ) → IsTextPlace ps from k before → (p : Entry) → slice_get ps k ≡ Some p → from - before ≤ length (here_of p).text
 text-within ps from k before place p at = omega (arith, place.high (slice_get_within ps k p at), texts-next ps k p at, place.before_is)

@@ -1,5 +1,5 @@
 //! Kept splices, computed at worked examples.
-#![tactic(auto, unfolding(crate::specs::Document::decoded_text, state_memo::specs::Decoding::decode, state_memo::specs::Decoding::run, state_memo::specs::Decoding::turns, state_memo::specs::Decoding::feed, state_memo::specs::Feeding::feed_for))]
+#![tactic(auto, unfolding(crate::specs::Document::decoded_text, state_memo::specs::Decoding::decode, state_memo::specs::Decoding::run, state_memo::specs::Decoding::turns, state_memo::specs::Decoding::feed, state_memo::specs::Feeding::feed_for, index_loader::specs::Kinds::slot_of))]
 
 ghost use Rattle.std.specs.Prelude.{◌≡◌, [], ◌∷◌, true, false};
 ghost use Rattle.piece_rope.specs.Edits.{is_kept};

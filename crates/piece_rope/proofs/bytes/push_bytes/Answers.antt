@@ -1,6 +1,5 @@
 use Rattle.std.proofs.Common.{◌≡◌, rules, ap, ◌∙◌, ℕ, ◌+◌, ◌-◌, List, ◌++◌, take, drop, min, length, arith}
-use Rattle.std.proofs.lemmas.Option.{slice_get_within}
-use Rattle.piece_rope.specs.Chain.{bytes_of}
+use Rattle.piece_rope.proofs.Prelude.{slice_get_within, bytes_of}
 use Rattle.piece_rope.proofs.Reading.{bytes-behind, bytes-from, bytes-enough, bytes-within, read-step, read-enough}
 use Rattle.piece_rope.proofs.bytes.push_bytes.Goals as goal
 

@@ -1,6 +1,5 @@
 use Rattle.std.proofs.Common.{◌≡◌, ◌-◌, ◌≤◌, ◌++◌, ◌+◌, length, take, drop, slice_get, Some}
-use Rattle.piece_rope.specs.Entry.{Entry}
-use Rattle.piece_rope.specs.Chain.{bytes_of}
+use Rattle.piece_rope.proofs.Prelude.{Entry, bytes_of}
 use Rattle.piece_rope.proofs.bytes.push_bytes.Given as goal
 
 abbrev pub invariant-pieces : goal.invariant-pieces

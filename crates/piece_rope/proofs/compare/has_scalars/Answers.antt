@@ -1,11 +1,8 @@
 use Rattle.std.proofs.Common.{rules, ◌≡◌, ◌+◌, ℕ, length, take, drop, ap, ◌∙◌, arith, length-append}
-use Rattle.std.proofs.lemmas.Bool.Decides.{Decides-eqb}
-use Rattle.state_memo.specs.declared.sum.Sum.{Sum}
-use Rattle.piece_rope.specs.Entry.{texts_of}
+use Rattle.piece_rope.proofs.Prelude.{Decides-eqb, Sum, texts_of, edited_parts, made_pieces, text_in}
 use Rattle.piece_rope.proofs.Spanning.{edited-count}
 use Rattle.piece_rope.proofs.Parting.{texts-most}
 use Rattle.piece_rope.proofs.Texts.{sums-scalars, texts-split}
-use Rattle.piece_rope.specs.Parts.{edited_parts, made_pieces, text_in}
 use Rattle.piece_rope.proofs.compare.has_scalars.Goals.{In-Some}
 use Rattle.piece_rope.proofs.compare.has_scalars.Goals as goal
 

@@ -1,6 +1,5 @@
 use Rattle.std.proofs.Common.{rules, ◌≡◌, ◌+◌, length, slice_get, Some, None, ◌∙◌, arith}
-use Rattle.piece_rope.specs.Entry.{Entry, here_of}
-use Rattle.piece_rope.specs.Parts.{edited_parts, made_pieces}
+use Rattle.piece_rope.proofs.Prelude.{Entry, here_of, edited_parts, made_pieces}
 use Rattle.piece_rope.proofs.Lists.{element}
 use Rattle.piece_rope.proofs.Matching.{if_none}
 use Rattle.piece_rope.proofs.Parting.{made-at, made-length, scalars-next, texts-all, counted-off}

@@ -1,6 +1,5 @@
 use Rattle.std.proofs.Common.{◌-◌, ◌+◌, ◌≡◌, length, take}
-use Rattle.piece_rope.specs.Entry.{texts_of}
-use Rattle.piece_rope.specs.Parts.{made_pieces}
+use Rattle.piece_rope.proofs.Prelude.{texts_of, made_pieces}
 use Rattle.piece_rope.proofs.compare.made_counted.Given as goal
 
 abbrev pub invariant-pieces : goal.invariant-pieces

@@ -1,5 +1,5 @@
 use Rattle.std.proofs.Common.{ap, ◌∙◌, take}
-use Rattle.state_memo.specs.declared.sum.Sum.{Sum}
+use Rattle.piece_rope.proofs.Prelude.{Sum}
 use Rattle.piece_rope.proofs.Texts.{sums-scalars}
 use Rattle.piece_rope.proofs.compare.scalars_in.Goals as goal
 

@@ -1,7 +1,5 @@
 use Rattle.std.proofs.Common.{ap, sym, ◌∙◌, subst, ◌++◌, length, take, drop, arith, refl}
-use Rattle.state_memo.specs.Decoding.{any_start, AnyState}
-use Rattle.piece_rope.specs.Chain.{bytes_of, renewed, state_after}
-use Rattle.piece_rope.specs.Edit.{IsRope, Metered}
+use Rattle.piece_rope.proofs.Prelude.{any_start, AnyState, bytes_of, renewed, state_after, IsRope, Metered}
 use Rattle.piece_rope.proofs.Chaining.{Laws, laws_from, chain-drop, state-drop}
 use Rattle.piece_rope.proofs.Preparing.{metered, metered-early, behind-middle, edited-bytes, edited-rope}
 use Rattle.piece_rope.proofs.Remembering.{ending-exit, ending-own}

@@ -1,8 +1,5 @@
 use Rattle.std.proofs.Common.{◌≡◌, ap, ◌∙◌, ℕ, suc, ◌-◌, arith, rules, None, Some, slice_get, length, take}
-use Rattle.state_memo.specs.declared.outcome.Outcome.{Outcome}
-use Rattle.piece_rope.specs.Entry.{sums_of}
-use Rattle.piece_rope.specs.Errors.{last_from}
-use Rattle.piece_rope.specs.Made.{ends_at}
+use Rattle.piece_rope.proofs.Prelude.{Outcome, sums_of, last_from, ends_at}
 use Rattle.piece_rope.proofs.Erring.{bytes-back, end-back, last-none, last-some}
 use Rattle.piece_rope.proofs.errors.end_before.Goals.{After-here-here}
 use Rattle.piece_rope.proofs.errors.end_before.Goals as goal
@@ -10,8 +7,8 @@ use Rattle.piece_rope.proofs.errors.end_before.Goals as goal
 -- the bytes before the piece, and where the last item up to its end ends
 base : (c : After-here-here) → c.pieces.base - c.here-here.result.now.sum.bytes ≡ (sums_of (take (c.pieces.left - 1) c.args.pieces.now.items)).bytes
 base c =
-    end-back c.args.bom c.pieces.left c.args.place c.pieces.base c.here-here.result.now.sum.bytes (c.pieces.left - 1) c.args.pieces.now.items c.get.result.now (omega (arith, c.pieces-test.true))
-    c.get.ensures c.pieces.invariant.base (ap (λ (o : Outcome). o.sum.bytes) c.here-here.ensures)
+    end-back c.args.bom (c.pieces.left - 1) c.args.pieces.now.items c.get.result.now c.get.ensures c.pieces.left c.pieces.base c.here-here.result.now.sum.bytes (omega (arith, c.pieces-test.true))
+    c.pieces.invariant.base (ap (λ (o : Outcome). o.sum.bytes) c.here-here.ensures)
 
 last : (c : After-here-here) → last_from 0 c.args.bom (take (suc (c.pieces.left - 1)) c.args.pieces.now.items) ≡ last_from 0 c.args.bom (take c.args.place c.args.pieces.now.items)
 last c =
@@ -34,7 +31,7 @@ returns-in-Some c =
     let own = c.runs.ensures ∙ ap (λ (o : Outcome). o.items) c.here-here.ensures in
     let to_is : c.saturating_add_signed.result ≡ ends_at begun run.last = search rules in
     let at : slice_get runs (length runs - 1) ≡ Some run = search rules in
-    to_is ∙ last-some c.args.bom (c.pieces.left - 1) c.args.pieces.now.items c.get.result.now runs run begun c.get.ensures own at (base x) ∙ last x
+    to_is ∙ last-some c.args.bom (c.pieces.left - 1) c.args.pieces.now.items c.get.result.now c.get.ensures runs run begun own at (base x) ∙ last x
 
 pub pieces-preserved : goal.pieces-preserved
 pieces-preserved c =
@@ -44,5 +41,5 @@ pieces-preserved c =
     record {
       within = omega (arith, c.pieces.invariant.within);
       base = base x;
-      last = last-none c.args.bom (c.pieces.left - 1) c.args.pieces.now.items c.get.result.now runs c.get.ensures (c.runs.ensures ∙ ap (λ (o : Outcome). o.items) c.here-here.ensures) none ∙ last x;
+      last = last-none c.args.bom (c.pieces.left - 1) c.args.pieces.now.items c.get.result.now c.get.ensures runs (c.runs.ensures ∙ ap (λ (o : Outcome). o.items) c.here-here.ensures) none ∙ last x;
     }

@@ -1,6 +1,5 @@
 use Rattle.std.proofs.Common.{◌≡◌, ◌≤◌, length, take}
-use Rattle.piece_rope.specs.Entry.{sums_of}
-use Rattle.piece_rope.specs.Errors.{last_from}
+use Rattle.piece_rope.proofs.Prelude.{sums_of, last_from}
 use Rattle.piece_rope.proofs.errors.end_before.Given as goal
 
 abbrev pub invariant-pieces : goal.invariant-pieces

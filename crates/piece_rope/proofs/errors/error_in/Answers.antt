@@ -10,6 +10,6 @@ returns-then-left-errors c =
 
 pub runs-preserved : goal.runs-preserved
 runs-preserved c =
-    run-passed-at c.args.base c.runs.from c.runs.left c.saturating_add_signed-from.result (c.runs.left - c.errors-errors.result) c.runs.run-index c.runs-runs.result.now _ c.runs-test.true
+    run-passed-at c.args.base c.runs.from c.runs.left c.runs.run-index c.runs-runs.result.now _ c.runs-test.true c.saturating_add_signed-from.result (c.runs.left - c.errors-errors.result)
     (ap (λ (n : ℕ). c.runs.left - n) c.errors-errors.ensures) (omega (arith, c.if-left-errors.false, c.errors-errors.ensures)) (search rules)
     ∙ c.runs.invariant

@@ -1,6 +1,5 @@
 use Rattle.std.proofs.Common.{◌≡◌, drop, slice_get}
-use Rattle.state_memo.specs.Runs.{items_of_runs}
-use Rattle.piece_rope.specs.Errors.{errors_at}
+use Rattle.piece_rope.proofs.Prelude.{items_of_runs, errors_at}
 use Rattle.piece_rope.proofs.errors.error_in.Given as goal
 
 abbrev pub invariant-runs : goal.invariant-runs

@@ -1,7 +1,5 @@
 use Rattle.std.proofs.Common.{◌≡◌, sym, ap, ◌∙◌, ℕ, suc, arith, ◌-◌, slice_get, Some, rules}
-use Rattle.state_memo.specs.Runs.{items_of_run}
-use Rattle.piece_rope.specs.Errors.{errors_at}
-use Rattle.piece_rope.specs.Made.{ends_at}
+use Rattle.piece_rope.proofs.Prelude.{items_of_run, errors_at, ends_at}
 use Rattle.piece_rope.proofs.Erring.{none-left, run-errors, error-first, error-later}
 use Rattle.piece_rope.proofs.errors.error_in_run.Goals as goal
 

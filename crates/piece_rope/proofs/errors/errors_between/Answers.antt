@@ -1,6 +1,5 @@
 use Rattle.std.proofs.Common.{◌≡◌, sym, ap, ◌∙◌, List, [], ◌∷◌, ◌++◌, arith, rules, None, Some, slice_get}
-use Rattle.enc_names.specs.declared.place.Place.{Place}
-use Rattle.piece_rope.specs.Errors.{all_errors}
+use Rattle.piece_rope.proofs.Prelude.{Place, all_errors}
 use Rattle.piece_rope.proofs.Lists.{element, taken-more}
 use Rattle.piece_rope.proofs.errors.errors_between.Goals as goal
 

@@ -1,7 +1,5 @@
-use Rattle.std.proofs.lemmas.Grind.{common_steps}
 use Rattle.std.proofs.Common.{◌≡◌, rules, sym, ap, ◌∙◌, ◌+◌, ◌<◌, length, arith, [], ◌∷◌, ◌++◌, refl, length-append}
-use Rattle.piece_rope.specs.Sizes.{shortest}
-use Rattle.piece_rope.specs.Chain.{bytes_of}
+use Rattle.piece_rope.proofs.Prelude.{common_steps, shortest, bytes_of}
 use Rattle.piece_rope.proofs.Chaining.{laws_from}
 use Rattle.piece_rope.proofs.Editing.{sized-append, metered-step, added-length, added-bytes, added-chain, added-state, none-before}
 use Rattle.piece_rope.proofs.Lists.{length-snoc}

@@ -1,6 +1,5 @@
 use Rattle.std.proofs.Common.{◌≡◌, ◌+◌, ◌≤◌, ◌<◌, ◌++◌, ◌^◌, ◌-◌, min, length}
-use Rattle.piece_rope.specs.Chain.{Chain, state_after, bytes_of}
-use Rattle.piece_rope.specs.Sizes.{AreSized, longest, shortest}
+use Rattle.piece_rope.proofs.Prelude.{Chain, state_after, bytes_of, AreSized, longest, shortest}
 use Rattle.piece_rope.proofs.fresh.fresh_pieces.Given as goal
 
 abbrev pub invariant-rest : goal.invariant-rest

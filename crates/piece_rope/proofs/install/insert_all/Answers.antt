@@ -1,6 +1,5 @@
 use Rattle.std.proofs.Common.{◌≡◌, rules, subst, take, drop, List, [], ◌∷◌, ◌++◌}
-use Rattle.piece_rope.specs.Entry.{Entry}
-use Rattle.piece_rope.specs.Sizes.{CanJoin}
+use Rattle.piece_rope.proofs.Prelude.{Entry, CanJoin}
 use Rattle.piece_rope.proofs.Joining.{join-inserted}
 use Rattle.piece_rope.proofs.install.insert_all.Goals as goal
 

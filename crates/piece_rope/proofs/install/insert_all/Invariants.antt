@@ -1,5 +1,5 @@
 use Rattle.std.proofs.Common.{◌≡◌, ◌+◌, ◌≤◌, ◌++◌, length, take, drop}
-use Rattle.piece_rope.specs.Sizes.{CanJoin}
+use Rattle.piece_rope.proofs.Prelude.{CanJoin}
 use Rattle.piece_rope.proofs.install.insert_all.Given as goal
 
 abbrev pub invariant-fresh : goal.invariant-fresh

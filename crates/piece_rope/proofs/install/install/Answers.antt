@@ -1,7 +1,5 @@
 use Rattle.std.proofs.Common.{◌≡◌, rules, sym, ap, ◌∙◌, subst, ℕ, ◌+◌, ◌≤◌, List, ◌++◌, length, take, drop, arith}
-use Rattle.piece_rope.specs.Entry.{Entry}
-use Rattle.piece_rope.specs.Chain.{AreRenewed, renewed}
-use Rattle.piece_rope.specs.Sizes.{CanJoin}
+use Rattle.piece_rope.proofs.Prelude.{Entry, AreRenewed, renewed, CanJoin}
 use Rattle.piece_rope.proofs.Editing.{put-in, renewed-in}
 use Rattle.piece_rope.proofs.Joining.{join-without}
 use Rattle.piece_rope.proofs.install.install.Goals as goal

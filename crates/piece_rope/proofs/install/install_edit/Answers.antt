@@ -1,6 +1,5 @@
 use Rattle.std.proofs.Common.{subst, List}
-use Rattle.piece_rope.specs.Entry.{Entry}
-use Rattle.piece_rope.specs.Log.{Logs}
+use Rattle.piece_rope.proofs.Prelude.{Entry, Logs}
 use Rattle.piece_rope.proofs.install.install_edit.Goals as goal
 
 pub returns-clause-log : goal.returns-clause-log

@@ -1,8 +1,5 @@
-use Rattle.std.proofs.Common.{◌≡◌, true, false, rules, sym, ◌∙◌, List, length, take, drop, Some, slice_get, arith, [], ◌∷◌, ◌++◌, refl}
-use Rattle.std.proofs.lemmas.Option.{slice_get_within}
-use Rattle.state_memo.specs.Memo.{same_state}
-use Rattle.piece_rope.specs.Chain.{state_after}
-use Rattle.piece_rope.specs.Resync.{Passed}
+use Rattle.std.proofs.Common.{◌≡◌, true, false, rules, sym, ◌∙◌, length, take, drop, Some, slice_get, arith, [], ◌∷◌, ◌++◌}
+use Rattle.piece_rope.proofs.Prelude.{same_state, state_after, Passed}
 use Rattle.piece_rope.proofs.Chaining.{Laws, laws_from, differs, next-chain, state-next, differs-here, passed-more, bytes-next, rest-chains, same-end, entry-at, own-at, renewed-on}
 use Rattle.piece_rope.proofs.Lists.{at-behind, length-snoc}
 use Rattle.piece_rope.proofs.later.renewals_from.Goals.{After-law_pieces, After-get-piece, After-renewed}
@@ -45,19 +42,16 @@ pieces-init c = rw c.new-renewals.ensures.items (record {
 pub returns-then-eq-clause-chain : goal.returns-then-eq-clause-chain
 returns-then-eq-clause-chain c =
     let x = goal.at.returns-then-eq-clause-chain c in
-    let ps = drop c.args.first c.args.pieces.now.items in
-    let n = length c.pieces.renewals.items in
-    let at = here x.After-get-piece in
-    rest-chains c.args.decoder.now (laws x.After-law_pieces) c.args.entry c.requires.behind.from ps n c.get-piece.result.now c.pieces.renewals.items at refl
-    (omega (arith, slice_get_within ps n c.get-piece.result.now at)) c.requires.behind.chain c.pieces.invariant.chain (met c)
+    rest-chains c.args.decoder.now (laws x.After-law_pieces) c.args.entry c.requires.behind.from (drop c.args.first c.args.pieces.now.items) c.get-piece.result.now c.pieces.renewals.items
+    (here x.After-get-piece) c.requires.behind.chain c.pieces.invariant.chain (met c)
 
 pub returns-then-eq-clause-exit : goal.returns-then-eq-clause-exit
 returns-then-eq-clause-exit c =
     let x = goal.at.returns-then-eq-clause-exit c in
     let ps = drop c.args.first c.args.pieces.now.items in
-    let n = length c.pieces.renewals.items in
-    let same = sym (entry-at c.args.decoder.now (laws x.After-law_pieces) c.requires.behind.from ps n c.get-piece.result.now c.requires.behind.chain (here x.After-get-piece)) ∙ met c in
-    c.requires.behind.end_is ∙ same-end c.args.decoder.now (laws x.After-law_pieces) c.args.entry c.requires.behind.from ps n same
+    let l = laws x.After-law_pieces in
+    let old = entry-at c.args.decoder.now l c.requires.behind.from ps (length c.pieces.renewals.items) c.get-piece.result.now c.requires.behind.chain (here x.After-get-piece) in
+    c.requires.behind.end_is ∙ same-end c.args.decoder.now l c.args.entry c.requires.behind.from ps (length c.pieces.renewals.items) (sym old ∙ met c)
 
 pub renewed-requires : goal.renewed-requires
 renewed-requires c =
@@ -66,14 +60,10 @@ renewed-requires c =
     c.requires.behind.chain (here x.After-get-piece)
 
 pub returns-in_err-renewed-clause-meter : goal.returns-in_err-renewed-clause-meter
-returns-in_err-renewed-clause-meter c =
-    let x = goal.at.returns-in_err-renewed-clause-meter c in
-    passed x.After-renewed (laws x.After-law_pieces) (here x.After-get-piece)
+returns-in_err-renewed-clause-meter c = let x = goal.at.returns-in_err-renewed-clause-meter c in passed x.After-renewed (laws x.After-law_pieces) (here x.After-get-piece)
 
 pub returns-in_err-map_err-clause-meter : goal.returns-in_err-map_err-clause-meter
-returns-in_err-map_err-clause-meter c =
-    let x = goal.at.returns-in_err-map_err-clause-meter c in
-    passed x.After-renewed (laws x.After-law_pieces) (here x.After-get-piece)
+returns-in_err-map_err-clause-meter c = let x = goal.at.returns-in_err-map_err-clause-meter c in passed x.After-renewed (laws x.After-law_pieces) (here x.After-get-piece)
 
 pub pieces-preserved : goal.pieces-preserved
 pieces-preserved c =

@@ -1,6 +1,5 @@
 use Rattle.std.proofs.Common.{◌≡◌, ◌+◌, ◌-◌, ◌≤◌, length, take, drop}
-use Rattle.piece_rope.specs.Chain.{Chain, AreRenewed, renewed, state_after, bytes_of}
-use Rattle.piece_rope.specs.Resync.{LastDiffers}
+use Rattle.piece_rope.proofs.Prelude.{Chain, AreRenewed, renewed, state_after, bytes_of, LastDiffers}
 use Rattle.piece_rope.proofs.later.renewals_from.Given as goal
 
 abbrev pub invariant-pieces : goal.invariant-pieces

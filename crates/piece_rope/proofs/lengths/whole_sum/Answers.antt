@@ -1,6 +1,5 @@
 use Rattle.std.proofs.Common.{sym, subst}
-use Rattle.state_memo.specs.declared.sum.Sum.{Sum}
-use Rattle.state_memo.specs.Sums.{Fits, joined}
+use Rattle.piece_rope.proofs.Prelude.{Sum, Fits, joined}
 use Rattle.piece_rope.proofs.Joining.{whole-fits}
 use Rattle.piece_rope.proofs.lengths.whole_sum.Goals as goal
 

@@ -1,4 +1,4 @@
-use Rattle.std.specs.List.{insert}
+use Rattle.piece_rope.proofs.Prelude.{insert}
 use Rattle.piece_rope.proofs.Joining.{can-fit}
 use Rattle.piece_rope.proofs.pieces.put_piece.Goals as goal
 

@@ -1,4 +1,4 @@
-use Rattle.std.specs.List.{remove}
+use Rattle.piece_rope.proofs.Prelude.{remove}
 use Rattle.piece_rope.proofs.Joining.{can-fit}
 use Rattle.piece_rope.proofs.pieces.take_piece.Goals as goal
 

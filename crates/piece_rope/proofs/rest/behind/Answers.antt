@@ -1,7 +1,5 @@
 use Rattle.std.proofs.Common.{◌≡◌, ◌+◌, ◌-◌, ◌++◌, ℕ, List, [], length, take, drop, slice_get, None, ap, sym, ◌∙◌, arith}
-use Rattle.std.specs.Str.{encode_utf8_all}
-use Rattle.std.proofs.lemmas.Option.{slice_get_within}
-use Rattle.piece_rope.specs.Parts.{edited_parts, text_in}
+use Rattle.piece_rope.proofs.Prelude.{encode_utf8_all, slice_get_within, edited_parts, text_in}
 use Rattle.piece_rope.proofs.Matching.{unmatched, more-sliced, found-all, found-short, head-gone, if_none, none-left, positive, next-found}
 use Rattle.piece_rope.proofs.Parting.{bytes-next-part, bytes-past, few-parts}
 use Rattle.piece_rope.proofs.rest.behind.Goals as goal

@@ -1,6 +1,5 @@
 use Rattle.std.proofs.Common.{◌-◌, length}
-use Rattle.piece_rope.specs.Compare.{rest_of}
-use Rattle.piece_rope.specs.Parts.{edited_parts}
+use Rattle.piece_rope.proofs.Prelude.{rest_of, edited_parts}
 use Rattle.piece_rope.proofs.Matching.{Found}
 use Rattle.piece_rope.proofs.rest.behind.Given as goal
 

@@ -1,8 +1,5 @@
 use Rattle.std.proofs.Common.{◌-◌, ◌+◌, ◌≤◌, ◌≡◌, length, take, drop, slice_get, Some}
-use Rattle.std.specs.Str.{encode_utf8_all}
-use Rattle.state_memo.specs.declared.outcome.Outcome.{Outcome}
-use Rattle.piece_rope.specs.Compare.{rest_of}
-use Rattle.piece_rope.specs.Parts.{edited_parts, parts_of, text_in}
+use Rattle.piece_rope.proofs.Prelude.{encode_utf8_all, Outcome, rest_of, edited_parts, parts_of, text_in}
 use Rattle.piece_rope.proofs.Matching.{Found}
 use Rattle.piece_rope.proofs.rest.behind_standing.Given as goal
 

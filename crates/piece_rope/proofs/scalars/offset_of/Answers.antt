@@ -1,6 +1,5 @@
 use Rattle.std.proofs.Common.{ap, arith, rules, ◌+◌, length, ◌∙◌}
-use Rattle.std.specs.Str.{chars}
-use Rattle.std.proofs.lemmas.Bool.Decides.{nat_tests}
+use Rattle.piece_rope.proofs.Prelude.{chars, nat_tests}
 use Rattle.piece_rope.proofs.Offsets.{IsOffset, IsOffset-within, IsOffset-step, IsOffset-end}
 use Rattle.piece_rope.proofs.scalars.offset_of.Goals as goal
 

@@ -1,4 +1,4 @@
-use Rattle.std.specs.Str.{chars}
+use Rattle.piece_rope.proofs.Prelude.{chars}
 use Rattle.piece_rope.proofs.Offsets.{IsOffset}
 use Rattle.piece_rope.proofs.scalars.offset_of.Given as goal
 

@@ -1,5 +1,5 @@
 use Rattle.std.proofs.Common.{rules, arith}
-use Rattle.std.proofs.lemmas.Str.{chars_from_encodes}
+use Rattle.piece_rope.proofs.Prelude.{chars_from_encodes}
 use Rattle.piece_rope.proofs.scalars.scalar_count.Goals as goal
 
 pub returns-clause-count : goal.returns-clause-count

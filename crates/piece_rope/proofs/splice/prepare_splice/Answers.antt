@@ -1,11 +1,8 @@
 use Rattle.std.proofs.Common.{ap, sym, ◌∙◌, ◌≤◌, length, arith}
-use Rattle.piece_rope.specs.Chain.{bytes_of}
-use Rattle.piece_rope.specs.Document.{Document, document}
-use Rattle.piece_rope.specs.Edit.{edited}
-use Rattle.piece_rope.specs.Edits.{document_limit}
+use Rattle.piece_rope.proofs.Prelude.{bytes_of, Document, document, edited, document_limit}
 use Rattle.piece_rope.proofs.Chaining.{laws_from}
 use Rattle.piece_rope.proofs.Making.{item_laws}
-use Rattle.piece_rope.proofs.Keeping.{decoder-known, join-rope, kept-rope, exchanged-bytes}
+use Rattle.piece_rope.proofs.Keeping.{join-rope, kept-rope, exchanged-bytes}
 use Rattle.piece_rope.proofs.Metering.{metered-cut}
 use Rattle.piece_rope.proofs.splice.prepare_splice.Goals as goal
 
@@ -34,7 +31,7 @@ returns-clause-ready c =
     let within : length (bytes_of new) ≤ document_limit = omega (arith, ap length bytes, c.in_ok-at.ensures.small) in
     let old_joins = join-rope d laws old c.args.tail.now.exit (c.requires.rope d chosen) c.requires.within in
     let new_joins = join-rope d laws new edit.tail.exit c.in_ok-edit.ensures.rope within in
-    let scratch = decoder-known _ c.under.result c.in_ok-decoder.ensures.ok_part c.under.ensures.decode in
+    let scratch = rw c.in_ok-decoder.ensures.ok_part at c.under.ensures.decode in
     record {
       prepared = record {
         order = c.in_ok-edit.ensures.order;

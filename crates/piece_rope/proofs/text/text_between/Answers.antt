@@ -1,8 +1,5 @@
 use Rattle.std.proofs.Common.{◌≡◌, refl, [], ap, ◌∙◌, ℕ, ◌+◌, ◌-◌, List, ◌++◌, take, drop, min, length, arith, string_bytes}
-use Rattle.std.specs.Str.{chars}
-use Rattle.std.proofs.lemmas.Str.{chars-nil}
-use Rattle.state_memo.specs.declared.outcome.Outcome.{Outcome}
-use Rattle.piece_rope.specs.Entry.{here_of, texts_of}
+use Rattle.piece_rope.proofs.Prelude.{chars, chars-nil, Outcome, here_of, texts_of}
 use Rattle.piece_rope.proofs.Reading.{read-step, read-enough}
 use Rattle.piece_rope.proofs.Texts.{text-place, text-from, text-enough, text-within, texts-behind}
 use Rattle.piece_rope.proofs.text.text_between.Goals as goal

@@ -1,6 +1,5 @@
 use Rattle.std.proofs.Common.{◌≡◌, ◌-◌, ◌≤◌, ◌++◌, ◌+◌, length, take, drop, slice_get, Some, string_bytes}
-use Rattle.std.specs.Str.{chars}
-use Rattle.piece_rope.specs.Entry.{Entry, here_of, texts_of}
+use Rattle.piece_rope.proofs.Prelude.{chars, Entry, here_of, texts_of}
 use Rattle.piece_rope.proofs.text.text_between.Given as goal
 
 abbrev pub invariant-pieces : goal.invariant-pieces

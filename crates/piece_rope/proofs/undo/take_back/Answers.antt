@@ -1,10 +1,6 @@
 use Rattle.std.proofs.Common.{sym, ap, ◌∙◌, subst, ℕ, List}
-use Rattle.state_memo.specs.declared.outcome.Outcome.{Outcome}
-use Rattle.piece_rope.specs.Entry.{Entry}
-use Rattle.piece_rope.specs.Log.{GoBack, before_all, room_of, tail_before}
-use Rattle.piece_rope.specs.declared.log.LoggedEdit.{LoggedEdit}
+use Rattle.piece_rope.proofs.Prelude.{Outcome, Entry, GoBack, before_all, room_of, tail_before, LoggedEdit, CanJoin}
 use Rattle.piece_rope.proofs.Logging.{before-last, go-last, tail-last}
-use Rattle.piece_rope.specs.Sizes.{CanJoin}
 use Rattle.piece_rope.proofs.undo.take_back.Goals as goal
 
 pub take_back_edit-requires-clause-goes : goal.take_back_edit-requires-clause-goes

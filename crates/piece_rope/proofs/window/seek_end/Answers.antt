@@ -1,6 +1,5 @@
 use Rattle.std.proofs.Common.{◌≡◌, ap, ◌+◌, suc, ℕ, length, arith, add-one}
-use Rattle.std.proofs.lemmas.Option.{slice_get_within}
-use Rattle.piece_rope.specs.Window.{bytes_before}
+use Rattle.piece_rope.proofs.Prelude.{slice_get_within, bytes_before}
 use Rattle.piece_rope.proofs.Chaining.{bytes-next}
 use Rattle.piece_rope.proofs.Measuring.{before-le, sized-at}
 use Rattle.piece_rope.proofs.window.seek_end.Goals as goal
@@ -18,9 +17,5 @@ returns c =
     let next = bytes-next items place p c.get.ensures in
     let inside = slice_get_within items place p c.get.ensures in
     let step : bytes_before items (place + 1) ≡ bytes_before items (suc place) = ap (λ (k : ℕ). bytes_before items k) (add-one place) in
-    record {
-      within = omega (arith, inside);
-      behind_is = omega (arith, step, next, ap length c.bytes.ensures, c.seek-place.ensures.before_is);
-      back = omega (arith, c.seek-place.ensures.high inside, next, ap length c.bytes.ensures, c.seek-place.ensures.before_is);
-      close = omega (arith, c.seek-place.ensures.low, ap length c.bytes.ensures, (sized-at 1 items place p c.requires.measured.sizes.small c.get.ensures).1);
-    }
+    let small = (sized-at 1 items place p c.requires.measured.sizes.small c.get.ensures).1 in
+    omega (arith, step, next, inside, ap length c.bytes.ensures, c.seek-place.ensures, c.seek-place.ensures.high inside, small)

@@ -1,7 +1,5 @@
-use Rattle.std.proofs.Common.{◌≡◌, ◌≤◌, ap, sym, ◌∙◌, ◌-◌, ◌+◌, suc, ℕ, length, arith, add-one}
-use Rattle.std.proofs.lemmas.Option.{slice_get_within}
-use Rattle.piece_rope.specs.Sizes.{shortest}
-use Rattle.piece_rope.specs.Window.{bytes_before}
+use Rattle.std.proofs.Common.{◌≡◌, ◌≤◌, ap, ◌-◌, ◌+◌, suc, ℕ, length, arith, add-one}
+use Rattle.piece_rope.proofs.Prelude.{slice_get_within, shortest, bytes_before}
 use Rattle.piece_rope.proofs.Chaining.{bytes-next}
 use Rattle.piece_rope.proofs.Measuring.{before-le, before-all, before-step, sized-at}
 use Rattle.piece_rope.proofs.window.window_of.Goals as goal
@@ -33,49 +31,24 @@ returns-then-count-le1-clause-spans c =
     let all = before-all items 1 few in
     let short = before-step items 0 c.requires.measured.sizes.small in
     let last = before-all items c.whole.result.last (omega (arith, w.last)) in
-    record {
-      order = omega (arith, w.first);
-      within = omega (arith, w.last);
-      start = w.start ∙ ap (λ (k : ℕ). bytes_before items k) (sym w.first);
-      end = w.end ∙ sym last;
-      front = omega (arith, w.start);
-      near = omega (arith, c.requires.order, c.requires.within, all, short);
-      back = omega (arith, w.end, c.requires.within);
-      close = omega (arith, w.end, all, short);
-    }
+    let zero : bytes_before items c.whole.result.first ≡ 0 = ap (λ (k : ℕ). bytes_before items k) w.first in
+    omega (arith, w, zero, last, all, short, c.requires.order, c.requires.within)
 
 pub overflow_sub-start : goal.overflow_sub-start
 overflow_sub-start c = omega (arith, before c)
 
 pub returns-then-first-gt0-clause-spans : goal.returns-then-first-gt0-clause-spans
 returns-then-first-gt0-clause-spans c =
-    let w = c.touched-touched.result in
-    let t = c.touched-touched.ensures in
-    let start = before c in
-    let short = (sized-at 1 c.args.pieces.now.items (w.first - 1) c.get.result.now c.requires.measured.sizes.small c.get.ensures).1 in
-    record {
-      order = omega (arith, t.order);
-      within = t.within;
-      start = omega (arith, start);
-      end = t.end;
-      front = omega (arith, t.front);
-      near = omega (arith, t.near, start, ap length c.bytes.ensures, short);
-      back = t.back;
-      close = omega (arith, t.close);
-    }
+    let small = c.requires.measured.sizes.small in
+    let short = (sized-at 1 c.args.pieces.now.items (c.touched-touched.result.first - 1) c.get.result.now small c.get.ensures).1 in
+    omega (arith, c.touched-touched.ensures, before c, ap length c.bytes.ensures, short)
 
 pub returns-then-first-gt0-clause-roomy : goal.returns-then-first-gt0-clause-roomy
 returns-then-first-gt0-clause-roomy c =
     let items = c.args.pieces.now.items in
     let many : 2 ≤ length items = omega (arith, c.len-count.ensures, c.if-count-le1.false) in
     let wide = (sized-at shortest items (c.touched-touched.result.first - 1) c.get.result.now (c.requires.measured.sizes.wide many) c.get.ensures).0 in
-    let enough : shortest ≤ length c.bytes.result.now = omega (arith, wide, ap length c.bytes.ensures) in
-    let start = before c in
-    record {
-      in_front = λ _. omega (arith, c.touched-touched.ensures.front, enough, start);
-      behind = λ _. omega (arith, c.touched-touched.ensures.front, enough, start);
-      sole = λ one. absurd (omega (arith, one, many));
-    }
+    omega (arith, many, wide, ap length c.bytes.ensures, c.touched-touched.ensures.front, before c)
 
 pub overflow_add-end : goal.overflow_add-end
 overflow_add-end c =
@@ -87,28 +60,13 @@ returns-then-last-count-clause-spans c =
     let items = c.args.pieces.now.items in
     let last = c.touched-touched.result.last in
     let p = c.get-then-last-count.result.now in
-    let t = c.touched-touched.ensures in
-    let end = behind c in
     let short = (sized-at 1 items last p c.requires.measured.sizes.small c.get-then-last-count.ensures).1 in
-    record {
-      order = omega (arith, t.order);
-      within = omega (arith, slice_get_within items last p c.get-then-last-count.ensures);
-      start = t.start;
-      end = omega (arith, end, ap (λ (k : ℕ). bytes_before items k) (add-one last));
-      front = t.front;
-      near = omega (arith, t.near);
-      back = omega (arith, t.back);
-      close = omega (arith, t.close, ap length c.bytes-then-last-count.ensures, short);
-    }
+    let inside = slice_get_within items last p c.get-then-last-count.ensures in
+    omega (arith, c.touched-touched.ensures, behind c, ap (λ (k : ℕ). bytes_before items k) (add-one last), inside, ap length c.bytes-then-last-count.ensures, short)
 
 pub returns-then-last-count-clause-roomy : goal.returns-then-last-count-clause-roomy
 returns-then-last-count-clause-roomy c =
     let items = c.args.pieces.now.items in
     let many : 2 ≤ length items = omega (arith, c.len-count.ensures, c.if-count-le1.false) in
     let wide = (sized-at shortest items c.touched-touched.result.last c.get-then-last-count.result.now (c.requires.measured.sizes.wide many) c.get-then-last-count.ensures).0 in
-    let enough : shortest ≤ length c.bytes-then-last-count.result.now = omega (arith, wide, ap length c.bytes-then-last-count.ensures) in
-    record {
-      in_front = λ _. omega (arith, c.touched-touched.ensures.back, enough);
-      behind = λ _. omega (arith, c.touched-touched.ensures.back, enough);
-      sole = λ one. absurd (omega (arith, one, many));
-    }
+    omega (arith, many, wide, ap length c.bytes-then-last-count.ensures, c.touched-touched.ensures.back)

@@ -1,7 +1,5 @@
 use Rattle.std.proofs.Common.{ap, ◌∙◌}
-use Rattle.state_memo.specs.Decoding.{decode, mark_length}
-use Rattle.piece_rope.specs.Chain.{bytes_of}
-use Rattle.piece_rope.specs.Document.{Document}
+use Rattle.piece_rope.proofs.Prelude.{decode, mark_length, bytes_of, Document}
 use Rattle.piece_rope.proofs.Kept.{mark-length-by}
 use Rattle.piece_rope.proofs.doc.Doc.bom_len.Goals as goal
 

@@ -1,6 +1,5 @@
 use Rattle.std.proofs.Common.{ap}
-use Rattle.piece_rope.specs.Document.{Document}
-use Rattle.piece_rope.specs.Edits.{settled}
+use Rattle.piece_rope.proofs.Prelude.{Document, settled}
 use Rattle.piece_rope.proofs.doc.Doc.copy.Goals as goal
 
 pub invariant_of-result : goal.invariant_of-result

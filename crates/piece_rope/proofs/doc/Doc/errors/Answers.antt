@@ -1,8 +1,5 @@
 use Rattle.std.proofs.Common.{◌≡◌, ap, ◌∙◌, ℕ, ◌-◌, ◌+◌, min, List, take, drop, length, length-drop, arith}
-use Rattle.std.proofs.lemmas.List.{take_min}
-use Rattle.enc_names.specs.declared.place.Place.{Place}
-use Rattle.piece_rope.specs.Document.{errors_of}
-use Rattle.piece_rope.specs.Log.{earlier_of}
+use Rattle.piece_rope.proofs.Prelude.{take_min, Place, errors_of, earlier_of}
 use Rattle.piece_rope.proofs.Erring.{errors-seen}
 use Rattle.piece_rope.proofs.doc.Doc.errors.Goals as goal
 

@@ -1,7 +1,5 @@
 use Rattle.std.proofs.Common.{ap, ◌∙◌, List, slice_get}
-use Rattle.enc_names.specs.declared.place.Place.{Place}
-use Rattle.piece_rope.specs.Document.{decoded_errors}
-use Rattle.piece_rope.specs.Log.{earlier_of}
+use Rattle.piece_rope.proofs.Prelude.{Place, decoded_errors, earlier_of}
 use Rattle.piece_rope.proofs.Erring.{errors-seen}
 use Rattle.piece_rope.proofs.doc.Doc.fatal.Goals as goal
 

@@ -1,8 +1,5 @@
 use Rattle.std.proofs.Common.{refl, sym, subst, List, map, arith}
-use Rattle.piece_rope.specs.Chain.{bytes_of}
-use Rattle.piece_rope.specs.Document.{Document, document}
-use Rattle.piece_rope.specs.Entry.{Entry, here_of}
-use Rattle.piece_rope.specs.Outputs.{HaveOutputs}
+use Rattle.piece_rope.proofs.Prelude.{bytes_of, Document, document, Entry, here_of, HaveOutputs}
 use Rattle.piece_rope.proofs.Outputs.{StateLaws, is_there, body-outputs}
 use Rattle.piece_rope.proofs.doc.Doc.finder.Goals as goal
 

@@ -1,6 +1,5 @@
 use Rattle.std.proofs.Common.{◌≤◌, length, subst}
-use Rattle.piece_rope.specs.Document.{Document}
-use Rattle.piece_rope.specs.Edits.{document_limit}
+use Rattle.piece_rope.proofs.Prelude.{Document, document_limit}
 use Rattle.piece_rope.proofs.Bounding.{has_few}
 use Rattle.piece_rope.proofs.doc.Doc.law_bounds.Goals as goal
 

@@ -1,8 +1,5 @@
 use Rattle.std.proofs.Common.{◌≡◌, ◌∙◌, subst, sym, take, true}
-use Rattle.index_loader.specs.Files.{has_files}
-use Rattle.state_memo.specs.Decoding.{decode, mark_length}
-use Rattle.piece_rope.specs.Chain.{bytes_of}
-use Rattle.piece_rope.specs.Document.{Document, decoded}
+use Rattle.piece_rope.proofs.Prelude.{has_files, decode, mark_length, bytes_of, Document, decoded}
 use Rattle.piece_rope.proofs.doc.Doc.law_in_force.Goals as goal
 
 pub returns-clause-files : goal.returns-clause-files

@@ -1,11 +1,6 @@
 use Rattle.std.proofs.Common.{ap, sym, subst, ◌+◌, ℕ, arith, ◌≡◌}
-use Rattle.state_memo.specs.declared.sum.Sum.{Sum}
-use Rattle.piece_rope.specs.Chain.{bytes_of}
-use Rattle.piece_rope.specs.Document.{Document, document}
-use Rattle.piece_rope.specs.Log.{earlier_of}
+use Rattle.piece_rope.proofs.Prelude.{Sum, bytes_of, Document, document, earlier_of, joined, sums_of}
 use Rattle.piece_rope.proofs.Kept.{HasLengths, join-kept, kept-lengths}
-use Rattle.state_memo.specs.Sums.{joined}
-use Rattle.piece_rope.specs.Entry.{sums_of}
 use Rattle.piece_rope.proofs.doc.Doc.lengths.Goals.{After-self}
 use Rattle.piece_rope.proofs.doc.Doc.lengths.Goals as goal
 
@@ -23,20 +18,7 @@ whole_sum-sum-requires-clause-few c = join-kept c.self.inside.indexes.now c.self
 pub overflow_add-result : goal.overflow_add-result
 overflow_add-result c = omega (arith, (lengths (goal.at.overflow_add-result c).After-self c.whole_sum-sum.result c.whole_sum-sum.ensures).few)
 
-pub returns-clause-bytes : goal.returns-clause-bytes
-returns-clause-bytes c = (lengths (goal.at.returns-clause-bytes c).After-self c.whole_sum-sum.result c.whole_sum-sum.ensures).bytes
-
-pub returns-clause-scalars : goal.returns-clause-scalars
-returns-clause-scalars c = (lengths (goal.at.returns-clause-scalars c).After-self c.whole_sum-sum.result c.whole_sum-sum.ensures).scalars
-
-pub returns-clause-utf16 : goal.returns-clause-utf16
-returns-clause-utf16 c = (lengths (goal.at.returns-clause-utf16 c).After-self c.whole_sum-sum.result c.whole_sum-sum.ensures).utf16
-
-pub returns-clause-utf8 : goal.returns-clause-utf8
-returns-clause-utf8 c = (lengths (goal.at.returns-clause-utf8 c).After-self c.whole_sum-sum.result c.whole_sum-sum.ensures).utf8
-
-pub returns-clause-errors : goal.returns-clause-errors
-returns-clause-errors c = (lengths (goal.at.returns-clause-errors c).After-self c.whole_sum-sum.result c.whole_sum-sum.ensures).errors
-
-pub returns-clause-lines : goal.returns-clause-lines
-returns-clause-lines c = ap (λ (n : ℕ). n + 1) (lengths (goal.at.returns-clause-lines c).After-self c.whole_sum-sum.result c.whole_sum-sum.ensures).marks
+pub returns : goal.returns
+returns c =
+    let n = lengths (goal.at.returns c).After-self c.whole_sum-sum.result c.whole_sum-sum.ensures in
+    record { bytes = n.bytes; scalars = n.scalars; utf16 = n.utf16; utf8 = n.utf8; errors = n.errors; lines = ap (λ (m : ℕ). m + 1) n.marks }

@@ -1,12 +1,8 @@
 use Rattle.std.proofs.Common.{ap, sym, ◌∙◌, subst, List, length, arith}
-use Rattle.std.specs.Option.{is_some}
-use Rattle.state_memo.specs.Decoding.{AnyState}
-use Rattle.piece_rope.specs.Entry.{Entry}
-use Rattle.piece_rope.specs.Edit.{IsRope}
-use Rattle.piece_rope.specs.Kept.{IsKept}
+use Rattle.piece_rope.proofs.Prelude.{is_some, AnyState, Entry, IsRope, IsKept}
 use Rattle.piece_rope.proofs.Chaining.{laws_from}
 use Rattle.piece_rope.proofs.Making.{item_laws}
-use Rattle.piece_rope.proofs.Keeping.{decoder-known, join-rope, kept-rope, new-rope}
+use Rattle.piece_rope.proofs.Keeping.{join-rope, kept-rope, new-rope}
 use Rattle.piece_rope.proofs.Remembering.{ending-exit, ending-own}
 use Rattle.piece_rope.proofs.doc.Doc.open.Goals as goal
 
@@ -30,7 +26,7 @@ invariant_of-result c =
     let exit = c.in_ok-fresh.fresh.exit in
     let tail = c.in_ok-tail.tail in
     let rope = new-rope d c.start_of.result exit c.args.bytes.now ps c.start_of.ensures f.bytes f.chain f.exit f.small f.wide f.few in
-    let scratch = decoder-known _ c.under.result c.in_ok-decoder.ensures.ok_part c.under.ensures.decode in
+    let scratch = rw c.in_ok-decoder.ensures.ok_part at c.under.ensures.decode in
     let own = subst (λ (s : AnyState). IsRope d ps s) (sym (ending-exit d exit tail c.in_ok-tail.ensures)) rope in
     record {
       kept = subst (λ (xs : List Entry). IsKept c.args.indexes.now c.new-setting.result xs tail) (sym c.in_ok-pieces.ensures)

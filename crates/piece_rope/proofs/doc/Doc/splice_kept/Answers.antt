@@ -1,13 +1,9 @@
-use Rattle.std.proofs.Common.{ℕ, List, Option, ap, sym, ◌∙◌}
+use Rattle.std.proofs.Common.{ap, sym, ◌∙◌}
 use Rattle.std.specs.Bool.{⊤}
-use Rattle.std.specs.Str.{chars}
 use Rattle.std.proofs.lemmas.Result.{err_from_is_err_and}
-use Rattle.piece_rope.specs.Chain.{bytes_of}
-use Rattle.piece_rope.specs.Document.{Document, document}
-use Rattle.piece_rope.specs.Edits.{is_kept, kept_fault, spliced, spliced_document}
-use Rattle.piece_rope.specs.Log.{earlier_of}
+use Rattle.piece_rope.proofs.Prelude.{chars, Document, is_kept, kept_fault}
 use Rattle.piece_rope.proofs.KeptAnswering.{kept-causes, kept-fails}
-use Rattle.piece_rope.proofs.Logging.{can-return, held-still, same-earlier}
+use Rattle.piece_rope.proofs.Logging.{held-edited, held-still, seen-edited}
 use Rattle.piece_rope.proofs.Metering.{metered-as}
 use Rattle.piece_rope.proofs.doc.Doc.splice_kept.Goals as goal
 
@@ -36,24 +32,15 @@ invariant_of-self c =
 
 pub invariant_of-self-2 : goal.invariant_of-self-2
 invariant_of-self-2 c =
-    let ready = c.in_ok-compared.ensures.ready in
-    record {
-      kept = rw (c.in_ok-install_edit.ensures.pieces, c.in_ok-install_edit.ensures.tail) ready.kept;
-      back = can-return c.self.inside.indexes.now c.self.inside.setting c.self.inside.pieces c.install_edit.new.pieces c.self.inside.tail c.in_ok-compared.compared.edit c.install_edit.new.tail c.in_ok-install_edit.ensures.pieces
-          c.install_edit.ensures.room ready.old c.self.inside.log c.install_edit.new.log c.in_ok-install_edit.ensures.log c.self.invariant.back;
-    }
+    held-edited c.self.inside.indexes.now c.self.inside.setting c.self.inside.pieces c.install_edit.new.pieces c.self.inside.tail c.install_edit.new.tail c.in_ok-compared.compared.edit c.args.at c.args.del c.args.ins.now
+    c.in_ok-compared.ensures.ready c.in_ok-install_edit.ensures.pieces c.in_ok-install_edit.ensures.tail c.install_edit.ensures.room c.self.inside.log c.install_edit.new.log c.in_ok-install_edit.ensures.log
+    c.self.invariant
 
 pub returns-clause-ok : goal.returns-clause-ok
 returns-clause-ok c =
-    let ready = c.in_ok-compared.ensures.ready in
-    let old = c.self.inside in
-    let bytes = ap bytes_of c.in_ok-install_edit.ensures.pieces ∙ ready.bytes in
-    let earlier = same-earlier old.indexes.now old.setting old.pieces c.install_edit.new.pieces old.tail c.in_ok-compared.compared.edit c.install_edit.new.tail c.in_ok-install_edit.ensures.pieces c.install_edit.ensures.room ready.old
-    old.log c.install_edit.new.log c.in_ok-install_edit.ensures.log in
-    let doc : Document = document old.indexes.now old.setting (bytes_of old.pieces.items) in
-    ap (λ (bs : List ℕ). record doc { bytes = bs; earlier = earlier_of c.install_edit.new.pieces.items c.install_edit.new.log }) bytes
-    ∙ ap (λ (e : Option (List ℕ)). record doc { bytes = spliced doc.bytes c.args.at c.args.del c.args.ins.now; earlier = e }) earlier
-    ∙ ap (λ (x : Document). spliced_document x c.args.at c.args.del c.args.ins.now) c.self.view_is
+    seen-edited c.self.inside.indexes.now c.self.inside.setting c.self.inside.pieces c.install_edit.new.pieces c.self.inside.tail c.install_edit.new.tail c.in_ok-compared.compared.edit c.args.at c.args.del c.args.ins.now
+    c.in_ok-compared.ensures.ready c.in_ok-install_edit.ensures.pieces c.in_ok-install_edit.ensures.tail c.install_edit.ensures.room c.self.inside.log c.install_edit.new.log c.in_ok-install_edit.ensures.log
+    c.args.self.now c.self.view_is
 
 pub returns-in_err-compared-clause-meter_most : goal.returns-in_err-compared-clause-meter_most
 returns-in_err-compared-clause-meter_most c = metered-as _ c.args.self.now c.self.view_is c.args.at c.args.del c.args.meter.now c.prepare_compared.new.meter c.args.ins.now c.prepare_compared.ensures.meter_most

@@ -1,7 +1,5 @@
 use Rattle.std.proofs.Common.{refl, subst, length, arith}
-use Rattle.piece_rope.specs.Chain.{bytes_of}
-use Rattle.piece_rope.specs.Document.{Document, document}
-use Rattle.piece_rope.specs.Outputs.{HasOutputs}
+use Rattle.piece_rope.proofs.Prelude.{bytes_of, Document, document, HasOutputs}
 use Rattle.piece_rope.proofs.Outputs.{StateLaws, is_there, end-outputs}
 use Rattle.piece_rope.proofs.doc.Doc.tail.Goals as goal
 

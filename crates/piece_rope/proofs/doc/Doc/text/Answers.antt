@@ -1,7 +1,5 @@
 use Rattle.std.proofs.Common.{ap, sym, ◌∙◌, ◌-◌, ℕ, List, take, drop, length, arith, string_bytes}
-use Rattle.std.specs.Str.{encode_utf8_all}
-use Rattle.std.proofs.lemmas.Str.{encodes-chars, IsUtf8-string_bytes}
-use Rattle.piece_rope.specs.Log.{earlier_of}
+use Rattle.piece_rope.proofs.Prelude.{encode_utf8_all, encodes-chars, IsUtf8-string_bytes, earlier_of}
 use Rattle.piece_rope.proofs.Answering.{text-seen}
 use Rattle.piece_rope.proofs.doc.Doc.text.Goals as goal
 

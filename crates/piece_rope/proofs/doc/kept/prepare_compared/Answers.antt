@@ -1,12 +1,11 @@
-use Rattle.std.proofs.Common.{ap, ◌∙◌, length, arith}
+use Rattle.std.proofs.Common.{◌≡◌, ◌∙◌, arith}
 use Rattle.std.proofs.lemmas.Result.{err_from_is_err_and}
-use Rattle.std.specs.Str.{chars}
-use Rattle.piece_rope.specs.Chain.{bytes_of}
-use Rattle.piece_rope.specs.Document.{Document, document}
+use Rattle.piece_rope.proofs.Prelude.{chars, bytes_of, Document, document, kept_fault, splice_fault}
 use Rattle.piece_rope.proofs.Kept.{join-kept}
-use Rattle.piece_rope.proofs.KeptAnswering.{kept-answer, kept-cut, parts-whole, range-absent, same-ends, scalars-kept}
+use Rattle.piece_rope.proofs.Parting.{whole-scalars}
+use Rattle.piece_rope.proofs.KeptAnswering.{kept-answer, kept-cut, range-absent, same-ends, scalars-kept}
+use Rattle.piece_rope.proofs.doc.kept.prepare_compared.Goals.{After-prepare_splice, then-i-j-via-then-i-j, then-i-j-via-else-i-j+then-j-whole_sum}
 use Rattle.piece_rope.proofs.doc.kept.prepare_compared.Goals as goal
-use Rattle.piece_rope.proofs.doc.kept.prepare_compared.Goals.{then-i-j-via-then-i-j, then-i-j-via-else-i-j+then-j-whole_sum}
 
 pub whole_sum-requires-clause-few : goal.whole_sum-requires-clause-few
 whole_sum-requires-clause-few c = join-kept c.args.indexes.now c.args.setting c.args.pieces.now.items c.args.tail.now c.requires
@@ -21,20 +20,23 @@ returns-then-i-j-clause-faults c =
           range-absent doc c.args.at c.args.del c.args.ins.now c.args.i c.args.j (λ order. omega (arith, count, w.if-j-whole_sum.true))
     ]
 
+-- the range is there, so that the splice alone can be refused
+cut : (c : After-prepare_splice) → let doc = document c.args.indexes.now c.args.setting (bytes_of c.args.pieces.now.items) in
+    kept_fault doc c.args.at c.args.del c.args.ins.now c.args.i c.args.j ≡ splice_fault doc.bytes c.args.at c.args.del c.args.ins.now
+cut c =
+    let ps = c.args.pieces.now.items in
+    let count = scalars-kept c.args.indexes.now c.args.setting ps c.args.tail.now c.whole_sum.result c.whole_sum.ensures c.requires in
+    kept-cut (document c.args.indexes.now c.args.setting (bytes_of ps)) c.args.at c.args.del c.args.ins.now c.args.i c.args.j (omega (arith, c.if-i-j.false)) (omega (arith, count, c.if-j-whole_sum.false))
+
 pub returns-in_err-edit-clause-faults : goal.returns-in_err-edit-clause-faults
 returns-in_err-edit-clause-faults c =
     let e = err_from_is_err_and c.from_residual.result c.from_residual.ensures.1 in
-    let doc : Document = document c.args.indexes.now c.args.setting (bytes_of c.args.pieces.now.items) in
-    let count = scalars-kept c.args.indexes.now c.args.setting c.args.pieces.now.items c.args.tail.now c.whole_sum.result c.whole_sum.ensures c.requires in
-    rw (e.1, e.2)
-    (kept-cut doc c.args.at c.args.del c.args.ins.now c.args.i c.args.j (omega (arith, c.if-i-j.false)) (omega (arith, count, c.if-j-whole_sum.false)) ∙ c.in_err-edit.ensures.faults)
+    rw (e.1, e.2) (cut (goal.at.returns-in_err-edit-clause-faults c).After-prepare_splice ∙ c.in_err-edit.ensures.faults)
 
 pub returns-in_err-edit-clause-meter_refused : goal.returns-in_err-edit-clause-meter_refused
 returns-in_err-edit-clause-meter_refused c =
-    let doc : Document = document c.args.indexes.now c.args.setting (bytes_of c.args.pieces.now.items) in
-    let count = scalars-kept c.args.indexes.now c.args.setting c.args.pieces.now.items c.args.tail.now c.whole_sum.result c.whole_sum.ensures c.requires in
-    let cut = kept-cut doc c.args.at c.args.del c.args.ins.now c.args.i c.args.j (omega (arith, c.if-i-j.false)) (omega (arith, count, c.if-j-whole_sum.false)) in
-    λ refused. c.in_err-edit.ensures.meter_refused (λ none. refused (cut ∙ none))
+    let only = cut (goal.at.returns-in_err-edit-clause-meter_refused c).After-prepare_splice in
+    λ refused. c.in_err-edit.ensures.meter_refused (λ none. refused (only ∙ none))
 
 pub keeps_text-kept-requires-clause-ends : goal.keeps_text-kept-requires-clause-ends
 keeps_text-kept-requires-clause-ends c =
@@ -43,10 +45,7 @@ keeps_text-kept-requires-clause-ends c =
 
 pub keeps_text-kept-requires-clause-within : goal.keeps_text-kept-requires-clause-within
 keeps_text-kept-requires-clause-within c =
-    let doc : Document = document c.args.indexes.now c.args.setting (bytes_of c.args.pieces.now.items) in
-    let text = parts-whole doc c.args.pieces.now.items c.args.tail.now c.requires.whole in
-    let count = scalars-kept c.args.indexes.now c.args.setting c.args.pieces.now.items c.args.tail.now c.whole_sum.result c.whole_sum.ensures c.requires in
-    omega (arith, ap length text, count, c.if-j-whole_sum.false)
+    omega (arith, whole-scalars c.args.pieces.now.items c.args.tail.now c.whole_sum.result c.whole_sum.ensures, c.if-j-whole_sum.false)
 
 pub returns-clause-kept : goal.returns-clause-kept
 returns-clause-kept c =
@@ -54,14 +53,9 @@ returns-clause-kept c =
     (chars c.args.text.now) c.requires c.in_ok-edit.ensures.ready c.keeps_text-kept.ensures
 
 pub returns-clause-faults : goal.returns-clause-faults
-returns-clause-faults c =
-    let doc : Document = document c.args.indexes.now c.args.setting (bytes_of c.args.pieces.now.items) in
-    let count = scalars-kept c.args.indexes.now c.args.setting c.args.pieces.now.items c.args.tail.now c.whole_sum.result c.whole_sum.ensures c.requires in
-    kept-cut doc c.args.at c.args.del c.args.ins.now c.args.i c.args.j (omega (arith, c.if-i-j.false)) (omega (arith, count, c.if-j-whole_sum.false)) ∙ c.in_ok-edit.ensures.faults
+returns-clause-faults c = cut (goal.at.returns-clause-faults c).After-prepare_splice ∙ c.in_ok-edit.ensures.faults
 
 pub returns-clause-meter_refused : goal.returns-clause-meter_refused
 returns-clause-meter_refused c =
-    let doc : Document = document c.args.indexes.now c.args.setting (bytes_of c.args.pieces.now.items) in
-    let count = scalars-kept c.args.indexes.now c.args.setting c.args.pieces.now.items c.args.tail.now c.whole_sum.result c.whole_sum.ensures c.requires in
-    let cut = kept-cut doc c.args.at c.args.del c.args.ins.now c.args.i c.args.j (omega (arith, c.if-i-j.false)) (omega (arith, count, c.if-j-whole_sum.false)) in
-    λ refused. c.in_ok-edit.ensures.meter_refused (λ none. refused (cut ∙ none))
+    let only = cut (goal.at.returns-clause-meter_refused c).After-prepare_splice in
+    λ refused. c.in_ok-edit.ensures.meter_refused (λ none. refused (only ∙ none))

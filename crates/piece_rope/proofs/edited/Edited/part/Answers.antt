@@ -1,6 +1,5 @@
 use Rattle.std.proofs.Common.{◌≡◌, ap, sym, ◌∙◌, ◌-◌, Some, length, arith, rules}
-use Rattle.std.proofs.lemmas.Option.{slice_get_read}
-use Rattle.state_memo.specs.declared.outcome.Outcome.{Outcome}
+use Rattle.piece_rope.proofs.Prelude.{slice_get_read, Outcome}
 use Rattle.piece_rope.proofs.Parting.{made-part, part-later}
 use Rattle.piece_rope.proofs.edited.Edited.part.Goals as goal
 

@@ -1,6 +1,5 @@
 use Rattle.std.proofs.Common.{◌≡◌, ap, sym, ◌∙◌, Some, drop, length, arith, length-drop, rules}
-use Rattle.std.proofs.lemmas.Option.{slice_get_read}
-use Rattle.state_memo.specs.declared.outcome.Outcome.{Outcome}
+use Rattle.piece_rope.proofs.Prelude.{slice_get_read, Outcome}
 use Rattle.piece_rope.proofs.Parting.{none-later, renewed-part, same-part}
 use Rattle.piece_rope.proofs.Lists.{element}
 use Rattle.piece_rope.proofs.edited.Edited.part_behind.Goals as goal

@@ -1,7 +1,5 @@
 use Rattle.std.proofs.Common.{ap, ◌∙◌}
-use Rattle.state_memo.specs.Decoding.{any, feed}
-use Rattle.state_memo.specs.Outcome.{Contents}
-use Rattle.state_memo.specs.Memo.{Memo}
+use Rattle.piece_rope.proofs.Prelude.{any, feed, Contents, Memo}
 use Rattle.piece_rope.proofs.entered.Entered.new.Goals as goal
 
 pub returns-clause-exit : goal.returns-clause-exit
