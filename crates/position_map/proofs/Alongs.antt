@@ -1,28 +1,19 @@
 -- Places along a text by units.
 use Rattle.std.proofs.Common.{◌≡◌, refl, sym, ap, ◌∙◌, ℕ, zero, suc, ◌+◌, ◌-◌, ◌<◌, ◌≤◌, ◌⊎◌, inl, inr, true, false, cond, ◌==◌, nat_lt, List, [], ◌∷◌, ◌++◌, length, length-drop, take, drop, take-append-drop, append_assoc, arith, add-one, Option, Some, None}
-use Rattle.std.specs.Option.{option_map}
-use Rattle.std.proofs.lemmas.Bool.Decides.{nat_tests}
-use Rattle.std.proofs.lemmas.List.{length-take-le, take-take, drop-take}
-use Rattle.position_map.specs.declared.unit.Unit.{Unit as TextUnit}
-use Rattle.position_map.specs.Widths.{width, width_of}
-use Rattle.position_map.specs.Positions.{along, between}
+use Rattle.position_map.proofs.Words.{map_some, option_map, nat_tests, length-take-le, take-take, drop-take, TextUnit, width, width_of, along}
+use Rattle.position_map.proofs.Words.{between, by_test, by_le, same_some, none_some}
 use Rattle.position_map.proofs.Widths.{width-some, width-append}
-use Rattle.position_map.proofs.Cases.{by_test, by_le, same_some, none_some}
-
-not_zero : {A : Type 0} (n : ℕ) (x y : A) → 0 < n → cond (n == 0) x y ≡ y
-not_zero n x y h = let t : (n == 0) ≡ false = grind (arith, nat_tests) in ap (λ b. cond b x y) t
-
-not_below : {A : Type 0} (n m : ℕ) (x y : A) → m ≤ n → cond (nat_lt n m) x y ≡ y
-not_below n m x y h = let t : nat_lt n m ≡ false = grind (arith, nat_tests) in ap (λ b. cond b x y) t
-
-below : {A : Type 0} (n m : ℕ) (x y : A) → n < m → cond (nat_lt n m) x y ≡ x
-below n m x y h = let t : nat_lt n m ≡ true = grind (arith, nat_tests) in ap (λ b. cond b x y) t
 
 -- behind a whole code point
 pub along_step : (u : TextUnit) (c : ℕ) (cs : List ℕ) (n : ℕ) → width_of u c ≤ n → along u (c ∷ cs) n ≡ option_map (λ k. k + 1) (along u cs (n - width_of u c))
 along_step u c cs n h =
-    let w = width-some u c in
-    not_zero n _ _ (omega arith) ∙ not_below n (width_of u c) _ _ h
+    let some : 0 < n = omega (arith, width-some u c) in
+    let z : (n == 0) ≡ false = grind (arith, nat_tests) in let t : nat_lt n (width_of u c) ≡ false = grind (arith, nat_tests) in rw (z, t) refl
+
+-- the last of the units is inside the first one
+pub along_inside : (u : TextUnit) (c : ℕ) (cs : List ℕ) (n : ℕ) → 0 < n → n < width_of u c → along u (c ∷ cs) n ≡ None
+along_inside u c cs n some h =
+    let z : (n == 0) ≡ false = grind (arith, nat_tests) in let t : nat_lt n (width_of u c) ≡ true = grind (arith, nat_tests) in rw (z, t) refl
 
 map_map : (f g h : ℕ → ℕ) → ((k : ℕ) → f (g k) ≡ h k) → (o : Option ℕ) → option_map f (option_map g o) ≡ option_map h o
 map_map f g h e None = refl
@@ -48,8 +39,8 @@ pub along_within : (u : TextUnit) (a b : List ℕ) (n : ℕ) → n < width u a �
 along_within u [] b n h = absurd (omega arith)
 along_within u (c ∷ cs) b n h =
     by_le (width_of u c) n
-    (λ more. along_step u c (cs ++ b) n more ∙ ap (option_map (λ k. k + 1)) (along_within u cs b (n - width_of u c) (omega arith)) ∙ sym (along_step u c cs n more))
-    (λ less. ap (λ o. cond (n == 0) (Some 0) o) (below n (width_of u c) None (option_map (λ k. k + 1) (along u (cs ++ b) (n - width_of u c))) less ∙ sym (below n (width_of u c) None (option_map (λ k. k + 1) (along u cs (n - width_of u c))) less)))
+    (λ more. rw (along_step u c (cs ++ b) n more, along_step u c cs n more, along_within u cs b (n - width_of u c) (omega arith)) refl)
+    (λ less. let t : nat_lt n (width_of u c) ≡ true = grind (arith, nat_tests) in rw t refl)
 
 -- past the text is its end
 pub along_past : (u : TextUnit) (a : List ℕ) (n : ℕ) → width u a ≤ n → along u a n ≡ Some (length a)
@@ -98,33 +89,21 @@ past_line u text s e n h g l =
     let len : length (between text s e) ≡ e - s = length-take-le (e - s) (drop s text) (omega (arith, length-drop s text)) in
     ap (option_map (λ k. s + k)) (along_past u (between text s e) n (omega (arith, line_width u text s e h))) ∙ ap Some (omega (arith, len))
 
-map_some : (o : Option ℕ) (k : ℕ) → option_map (λ j. j + 1) o ≡ Some k → (j : ℕ) × (o ≡ Some j) × (j + 1 ≡ k)
-map_some None k e = cc
-map_some (Some j) k e = (j, refl, same_some e)
-
 -- a place along a text: the code points in front take just so many units, or all take fewer
 pub record IsPlaceAlong (u : TextUnit) (cs : List ℕ) (n k : ℕ) : Type 0 where
   pub within : k ≤ length cs
   pub exact : (n ≡ width u (take k cs)) ⊎ (width u cs < n)
 
 pub along_place : (u : TextUnit) (cs : List ℕ) (n k : ℕ) → along u cs n ≡ Some k → IsPlaceAlong u cs n k
-along_place u [] zero k e = let z : 0 ≡ k = same_some e in record { within = omega (arith, z); exact = inl (ap (λ j. width u (take j [])) z) }
+along_place u cs zero k e = let z : 0 ≡ k = same_some (sym (along_none u cs) ∙ e) in record { within = omega (arith, z); exact = inl (ap (λ j. width u (take j cs)) z) }
 along_place u [] (suc n) k e = let z : 0 ≡ k = same_some e in record { within = omega (arith, z); exact = inr (omega arith) }
-along_place u (c ∷ cs) n k e =
-    by_test (n == 0)
-    (λ z. let t : Some 0 ≡ Some k = sym (ap (λ b. cond b (Some 0) (cond (nat_lt n (width_of u c)) None (option_map (λ j. j + 1) (along u cs (n - width_of u c))))) z) ∙ e in
-    let none : n ≡ 0 = grind (arith, nat_tests) in
-    record { within = omega (arith, same_some t); exact = inl (none ∙ ap (λ j. width u (take j (c ∷ cs))) (same_some t)) })
-    (λ z. let t : cond (nat_lt n (width_of u c)) None (option_map (λ j. j + 1) (along u cs (n - width_of u c))) ≡ Some k =
-    sym (ap (λ b. cond b (Some 0) (cond (nat_lt n (width_of u c)) None (option_map (λ j. j + 1) (along u cs (n - width_of u c))))) z) ∙ e in
-    by_test (nat_lt n (width_of u c))
-    (λ y. let no : None ≡ Some k = sym (ap (λ b. cond b None (option_map (λ j. j + 1) (along u cs (n - width_of u c)))) y) ∙ t in absurd (none_some no))
-    (λ y. let yes : option_map (λ j. j + 1) (along u cs (n - width_of u c)) ≡ Some k = sym (ap (λ b. cond b None (option_map (λ j. j + 1) (along u cs (n - width_of u c)))) y) ∙ t in
-    let w = map_some (along u cs (n - width_of u c)) k yes in
-    let rest = along_place u cs (n - width_of u c) w.0 w.1 in
-    let wide : width_of u c ≤ n = grind (arith, nat_tests) in
+along_place u (c ∷ cs) (suc n) k e =
+    by_le (width_of u c) (suc n)
+    (λ le. let w = map_some (λ j. j + 1) (along u cs (suc n - width_of u c)) k (sym (along_step u c cs (suc n) le) ∙ e) in
+    let rest = along_place u cs (suc n - width_of u c) w.0 w.1 in
     let same : width_of u c + width u (take w.0 cs) ≡ width u (take k (c ∷ cs)) = ap (λ j. width u (take j (c ∷ cs))) (sym (add-one w.0) ∙ w.2) in
     record {
       within = omega (arith, w.2, rest.within);
-      exact = elim rest.exact [ inl h ↦ inl (omega (arith, h, same, wide)) | inr h ↦ inr (omega (arith, h)) ];
-    }))
+      exact = elim rest.exact [ inl h ↦ inl (omega (arith, h, same, le)) | inr h ↦ inr (omega (arith, h)) ];
+    })
+    (λ lt. absurd (none_some (sym (along_inside u c cs (suc n) (omega arith) lt) ∙ e)))

@@ -1,12 +1,8 @@
 -- A text cut in front of a mark of its bytes, or behind its last line end.
 use Rattle.std.proofs.Common.{◌≡◌, sym, ap, subst, ◌∙◌, ℕ, ◌+◌, ◌<◌, ◌≤◌, Bool, true, false, List, ◌∷◌, ◌++◌, take, drop, get_or, take-append-drop, arith}
-use Rattle.std.specs.Str.{chars, IsUtf8, IsCharBoundary}
-use Rattle.std.proofs.lemmas.Bool.Decides.{nat_tests}
-use Rattle.std.proofs.lemmas.List.{drop_more}
-use Rattle.std.proofs.lemmas.Str.{encode_ascii, chars-append, chars_past_char, IsUtf8-take, IsUtf8-drop, IsCharBoundary-before_ascii, IsCharBoundary-after_ascii}
-use Rattle.lane_ascii.specs.Marks.{is_mark, marks, ends_cr, IsNthMark}
-use Rattle.position_map.specs.LineEnds.{IsLastEnd, IsLastLine}
-use Rattle.position_map.specs.Marked.{IsMarkCut, begins_mark}
+use Rattle.position_map.proofs.Words.{chars, IsUtf8, IsCharBoundary, nat_tests, drop_more, encode_ascii, chars-append, chars_past_char, IsUtf8-take}
+use Rattle.position_map.proofs.Words.{IsUtf8-drop, IsCharBoundary-before_ascii, IsCharBoundary-after_ascii, is_mark, marks, ends_cr, IsNthMark}
+use Rattle.position_map.proofs.Words.{IsLastEnd, IsLastLine, IsMarkCut, begins_mark}
 
 -- a text that begins with an ASCII byte begins with that character
 first_ascii : (b : ℕ) (rest : List ℕ) → IsUtf8 (b ∷ rest) → b < 128 → chars (b ∷ rest) ≡ b ∷ chars rest

@@ -1,6 +1,9 @@
 -- Two cases, and what is there or not.
-use Rattle.std.proofs.Common.{◌≡◌, refl, ℕ, ◌<◌, ◌≤◌, Bool, true, false, nat_lt, Some, None, arith}
+use Rattle.std.proofs.Common.{◌≡◌, refl, sym, ◌∙◌, ℕ, ◌<◌, ◌≤◌, inl, inr, Bool, true, false, ◌&&◌, nat_lt, List, ◌∷◌, length, Option, Some, None, Result, Ok, arith}
+use Rattle.std.specs.List.{slice_get}
+use Rattle.std.specs.Option.{option_map, ok_or}
 use Rattle.std.proofs.lemmas.Bool.Decides.{nat_tests}
+use Rattle.std.proofs.lemmas.Option.{slice_get_cases}
 
 pub by_test : {A : Type 0} (b : Bool) → (b ≡ true → A) → (b ≡ false → A) → A
 by_test true p q = p refl
@@ -14,3 +17,28 @@ same_some h = cc
 
 pub none_some : {A : Type 0} {x : A} → None ≡ Some x → ⊥
 none_some h = cc
+
+pub map_some : {A B : Type 0} (f : A → B) (o : Option A) (y : B) → option_map f o ≡ Some y → (x : A) × (o ≡ Some x) × (f x ≡ y)
+map_some f None y e = absurd (none_some e)
+map_some f (Some x) y e = (x, refl, same_some e)
+
+pub map_none : {A B : Type 0} (f : A → B) (o : Option A) → option_map f o ≡ None → o ≡ None
+map_none f None e = refl
+map_none f (Some x) e = cc
+
+pub ok_some : {A E : Type 0} (o : Option A) (e : E) (x : A) → ok_or o e ≡ Ok x → o ≡ Some x
+ok_some None e x h = cc
+ok_some (Some y) e x h = cc
+
+pub none_past : {A : Type 0} (xs : List A) (k : ℕ) → slice_get xs k ≡ None → length xs ≤ k
+none_past xs k h = elim (slice_get_cases xs k).1 [ inl w ↦ absurd (none_some (sym h ∙ w.2)) | inr w ↦ w.0 ]
+
+pub same_ok : {A E : Type 0} {x y : A} → ◌≡◌ {A = Result A E} (Ok x) (Ok y) → x ≡ y
+same_ok h = cc
+
+pub same_cons : {A : Type 0} {x y : A} {xs ys : List A} → x ∷ xs ≡ y ∷ ys → (x ≡ y) × (xs ≡ ys)
+same_cons e = (cc, cc)
+
+pub both_true : (a b : Bool) → (a && b) ≡ true → (a ≡ true) × (b ≡ true)
+both_true true b e = (refl, e)
+both_true false b e = cc

@@ -1,19 +1,11 @@
 -- Places of items in a row.
 use Rattle.std.proofs.Common.{◌≡◌, refl, sym, ap, subst, ◌∙◌, ℕ, zero, suc, ◌+◌, ◌-◌, ◌<◌, ◌≤◌, Bool, true, false, cond, nat_lt, pos, List, [], ◌∷◌, ◌++◌, length, length-append, append_assoc, append-nil, arith, Option, Some, None, Bor, option_copied, get_or, drop, inl, inr}
-use Rattle.std.specs.Option.{option_map, unwrap_or}
-use Rattle.std.proofs.lemmas.Bool.Decides.{nat_tests}
-use Rattle.enc_names.specs.declared.place.Place.{Place}
-use Rattle.piece_rope.specs.Decode.{Ended as Turned, Item, One, Two, Error, Placed, places, item_code_points, code_points, Ascii, decode, run_in, in_force, mark_length}
-use Rattle.piece_rope.specs.Search.{Scalar, measure}
-use Rattle.piece_rope.specs.Outcomes.{Ended, Outcome, Sum, total_of, all_scalars, item_of}
-use Rattle.piece_rope.specs.Document.{Document, decoded}
-use Rattle.position_map.specs.Found.{IsFoundBy, IsFoundOutcome}
-use Rattle.piece_rope.specs.Made.{IsEnded, AreEnded, AreMade, ends_at}
-use Rattle.position_map.specs.Places.{place_of}
-use Rattle.position_map.specs.Placing.{bom_of, IsChained, last_to, HasItem, IsPlaced}
-use Rattle.position_map.specs.Whole.{Pieced}
+use Rattle.position_map.proofs.Words.{by_le, map_some, map_none, same_cons, IsMade, text_of, decoded_text, option_map, unwrap_or, nat_tests, Place}
+use Rattle.position_map.proofs.Words.{Turned, Item, One, Two, Error, Placed, places, item_code_points, code_points, Ascii, decode, run_in, in_force}
+use Rattle.position_map.proofs.Words.{mark_length, Scalar, measure, Ended, Outcome, Sum, total_of, all_scalars, item_of, Document, decoded, IsFoundBy}
+use Rattle.position_map.proofs.Words.{IsFoundOutcome, IsEnded, AreEnded, AreMade, ends_at, place_of, bom_of, IsChained, last_to, HasItem, IsPlaced}
+use Rattle.position_map.proofs.Words.{Pieced, by_test, same_some, none_some}
 use Rattle.position_map.proofs.Items.{IsPieced, items_of, counted, made_split, made_count, scalars-append}
-use Rattle.position_map.proofs.Cases.{by_test, same_some, none_some}
 
 no_item : Ended
 no_item = record { scalars = 0; end = pos 0; error = false; output = Ascii }
@@ -26,13 +18,6 @@ places-chained total from (e ∷ es) = (refl, places-chained total (total - e.ba
 pub chained : (d : Document) → IsChained (decoded d).bom (decoded d).items
 unfolding decode
 chained d = places-chained (length d.bytes) (mark_length d.setting d.bytes) (run_in d.indexes (in_force d.setting d.bytes) (drop (mark_length d.setting d.bytes) d.bytes))
-
-some_none : {x : ℕ} → Some x ≡ None → ⊥
-some_none h = cc
-
-map_none : (o : Option ℕ) → option_map (λ j. j + 1) o ≡ None → o ≡ None
-map_none None e = refl
-map_none (Some j) e = cc
 
 -- an item has a code point
 pub item_some : (i : Item) → 1 ≤ length (item_code_points i)
@@ -52,11 +37,8 @@ pub from_is : (from : ℕ) (us : List Placed) (p : Placed) (ws : List Placed) �
 from_is from [] p ws h = h.0
 from_is from (u ∷ us) p ws h = from_is u.to us p ws h.1
 
-place_test : (b : Bool) (n m : ℕ) (x y : Option Place) → nat_lt n m ≡ b → b ≡ false → cond (nat_lt n m) x y ≡ y
-place_test b n m x y e f = ap (λ t. cond t x y) (e ∙ f)
-
 pub not_here : (n m : ℕ) (x y : Option Place) → m ≤ n → cond (nat_lt n m) x y ≡ y
-not_here n m x y h = let t : nat_lt n m ≡ false = grind (arith, nat_tests) in ap (λ b. cond b x y) t
+not_here n m x y h = let t : nat_lt n m ≡ false = grind (arith, nat_tests) in rw t refl
 
 pub place-append : (xs ys : List Placed) (n : ℕ) → length (code_points xs) ≤ n → place_of (xs ++ ys) n ≡ place_of ys (n - length (code_points xs))
 place-append [] ys n h = ap (place_of ys) (omega arith)
@@ -64,10 +46,6 @@ place-append (p ∷ xs) ys n h =
     let l = length-append (item_code_points p.item) (code_points xs) in
     not_here n (length (item_code_points p.item)) (Some (record { from = p.from; to = p.to })) (place_of (xs ++ ys) (n - length (item_code_points p.item))) (omega (arith, l, h))
     ∙ place-append xs ys (n - length (item_code_points p.item)) (omega (arith, l, h)) ∙ ap (place_of ys) (omega (arith, l, h))
-
-map_one : (o : Option ℕ) (k : ℕ) → option_map (λ j. j + 1) o ≡ Some k → (j : ℕ) × (o ≡ Some j) × (k ≡ suc j)
-map_one None k e = cc
-map_one (Some j) k e = let h : j + 1 ≡ k = same_some e in (j, refl, omega (arith, h))
 
 has_first : (base : ℕ) (p : Placed) (ps : List Placed) (e : Ended) (es : List Ended) (n k : ℕ) → AreEnded base (p ∷ ps) (e ∷ es) → n < e.scalars → Some 0 ≡ Some k → HasItem base (p ∷ ps) (e ∷ es) n k
 has_first base p ps e es n k w h g =
@@ -81,7 +59,7 @@ has_first base p ps e es n k w h g =
       within = omega arith;
       ended = λ d. w.0;
       last = λ d from l. absurd (omega arith);
-      place = λ more. let t : nat_lt n (length (item_code_points p.item)) ≡ true = grind (arith, nat_tests, w.0.scalars) in ap (λ b. cond b (Some (record { from = p.from; to = p.to })) (place_of (ps ++ more) (n - length (item_code_points p.item)))) t;
+      place = λ more. let t : nat_lt n (length (item_code_points p.item)) ≡ true = grind (arith, nat_tests, w.0.scalars) in rw t refl;
     } in subst (HasItem base (p ∷ ps) (e ∷ es) n) zero_ here
 
 last_more : (base : ℕ) (p : Placed) (front : List Placed) (e : Ended) (es : List Ended) (j : ℕ) (d : Ended) (from : ℕ) → IsEnded base p e → length front ≡ j → ((d : Ended) (from : ℕ) → 0 < j → last_to from front ≡ ends_at base (get_or es (j - 1) d).end)
@@ -108,25 +86,34 @@ has_next base p ps e es n j w h g = record {
       ∙ ap (λ m. place_of (ps ++ more) (n - m)) (sym w.scalars) ∙ g.place more;
 }
 
+pub item-here : (e : Ended) (es : List Ended) (n : ℕ) → n < e.scalars → item_of (e ∷ es) n ≡ Some 0
+item-here e es n h = let t : nat_lt n e.scalars ≡ true = grind (arith, nat_tests) in rw t refl
+
+pub item-later : (e : Ended) (es : List Ended) (n : ℕ) → e.scalars ≤ n → item_of (e ∷ es) n ≡ option_map (λ k. k + 1) (item_of es (n - e.scalars))
+item-later e es n h = let t : nat_lt n e.scalars ≡ false = grind (arith, nat_tests) in rw t refl
+
+-- how many items are in front of it
+pub item-next : (e : Ended) (es : List Ended) (n k : ℕ) → e.scalars ≤ n → item_of (e ∷ es) n ≡ Some k → (j : ℕ) × (item_of es (n - e.scalars) ≡ Some j) × (j + 1 ≡ k)
+item-next e es n k le h = map_some (λ j. j + 1) (item_of es (n - e.scalars)) k (sym (item-later e es n le) ∙ h)
+
 pub has_item : (base : ℕ) (ps : List Placed) (es : List Ended) (n k : ℕ) → AreEnded base ps es → item_of es n ≡ Some k → HasItem base ps es n k
 has_item base [] [] n k w e = absurd (none_some e)
 has_item base [] (e ∷ es) n k w h = absurd w
 has_item base (p ∷ ps) [] n k w h = absurd w
 has_item base (p ∷ ps) (e ∷ es) n k w h =
-    by_test (nat_lt n e.scalars)
-    (λ t. has_first base p ps e es n k w (grind (arith, nat_tests)) (sym (ap (λ b. cond b (Some 0) (option_map (λ j. j + 1) (item_of es (n - e.scalars)))) t) ∙ h))
-    (λ t. let more = map_one (item_of es (n - e.scalars)) k (sym (ap (λ b. cond b (Some 0) (option_map (λ j. j + 1) (item_of es (n - e.scalars)))) t) ∙ h) in
-    subst (HasItem base (p ∷ ps) (e ∷ es) n) (sym more.2) (has_next base p ps e es n more.0 w.0 (grind (arith, nat_tests)) (has_item base ps es (n - e.scalars) more.0 w.1 more.1)))
+    by_le e.scalars n
+    (λ le. let more = item-next e es n k le h in
+    let same : suc more.0 ≡ k = omega (arith, more.2) in
+    subst (HasItem base (p ∷ ps) (e ∷ es) n) same (has_next base p ps e es n more.0 w.0 le (has_item base ps es (n - e.scalars) more.0 w.1 more.1)))
+    (λ lt. has_first base p ps e es n k w lt (sym (item-here e es n lt) ∙ h))
 
 -- no item has it
 pub lacks_item : (es : List Ended) (n : ℕ) → item_of es n ≡ None → all_scalars es ≤ n
 lacks_item [] n h = omega arith
 lacks_item (e ∷ es) n h =
-    by_test (nat_lt n e.scalars)
-    (λ t. absurd (some_none (sym (ap (λ b. cond b (Some 0) (option_map (λ j. j + 1) (item_of es (n - e.scalars)))) t) ∙ h)))
-    (λ t. let rest = map_none (item_of es (n - e.scalars)) (sym (ap (λ b. cond b (Some 0) (option_map (λ j. j + 1) (item_of es (n - e.scalars)))) t) ∙ h) in
-    let le : e.scalars ≤ n = grind (arith, nat_tests) in
-    omega (arith, lacks_item es (n - e.scalars) rest, le))
+    by_le e.scalars n
+    (λ le. omega (arith, lacks_item es (n - e.scalars) (map_none (λ j. j + 1) (item_of es (n - e.scalars)) (sym (item-later e es n le) ∙ h)), le))
+    (λ lt. absurd (none_some (sym h ∙ item-here e es n lt)))
 
 -- where the last item of a piece ends
 pub last_of : (base : ℕ) (ps : List Placed) (es : List Ended) (d : Ended) (from : ℕ) → AreEnded base ps es → 0 < length es → last_to from ps ≡ ends_at base (get_or es (length es - 1) d).end
@@ -140,19 +127,16 @@ last_of base (p ∷ q ∷ ps) (e ∷ g ∷ es) d from w l =
     let b : length (g ∷ es) - 1 ≡ length es = omega arith in
     last_of base (q ∷ ps) (g ∷ es) d p.to w.1 (omega arith) ∙ ap (λ i. ends_at base (get_or (g ∷ es) i d).end) b ∙ sym (ap (λ i. ends_at base (get_or (e ∷ g ∷ es) i d).end) a)
 
-same_tail : {a b : Outcome} {xs ys : List Outcome} → a ∷ xs ≡ b ∷ ys → (a ≡ b) × (xs ≡ ys)
-same_tail e = (cc, cc)
-
 -- the piece that has the last code point of those before
 pub prev_some : (front back f2 b2 : List Outcome) (o : Outcome) (n : ℕ) → front ++ back ≡ f2 ++ o ∷ b2 → (total_of front).scalars ≡ n → 0 < n → (total_of f2).scalars ≤ n - 1 → n - 1 < (total_of f2).scalars + o.sum.scalars
     → (mid : List Outcome) × (front ≡ f2 ++ o ∷ mid) × ((total_of mid).scalars ≡ 0)
 prev_some [] back f2 b2 o n e h z l g = absurd (omega (arith, h))
 prev_some (a ∷ as2) back [] b2 o n e h z l g =
-    let w = same_tail e in
+    let w = same_cons e in
     let same : a.sum.scalars ≡ o.sum.scalars = ap (λ (v : Outcome). v.sum.scalars) w.0 in
     (as2, ap (λ (v : Outcome). v ∷ as2) w.0, omega (arith, h, g, same))
 prev_some (a ∷ as2) back (b ∷ bs) b2 o n e h z l g =
-    let w = same_tail e in
+    let w = same_cons e in
     let same : a.sum.scalars ≡ b.sum.scalars = ap (λ (v : Outcome). v.sum.scalars) w.0 in
     let r = prev_some as2 back bs b2 o (n - a.sum.scalars) w.1 (omega (arith, h)) (omega (arith, h, l, z, same)) (omega (arith, h, l, same)) (omega (arith, h, l, g, same)) in
     (r.0, ap (λ (v : Outcome). v ∷ as2) w.0 ∙ ap (λ t. b ∷ t) r.1, r.2)
@@ -188,39 +172,61 @@ place_past (p ∷ ps) n h =
 pub item_within : (es : List Ended) (n k : ℕ) → item_of es n ≡ Some k → k < length es
 item_within [] n k h = absurd (none_some h)
 item_within (e ∷ es) n k h =
-    by_test (nat_lt n e.scalars)
-    (λ t. let z : 0 ≡ k = same_some (sym (ap (λ b. cond b (Some 0) (option_map (λ j. j + 1) (item_of es (n - e.scalars)))) t) ∙ h) in omega (arith, z))
-    (λ t. let more = map_one (item_of es (n - e.scalars)) k (sym (ap (λ b. cond b (Some 0) (option_map (λ j. j + 1) (item_of es (n - e.scalars)))) t) ∙ h) in
-    omega (arith, more.2, item_within es (n - e.scalars) more.0 more.1))
+    by_le e.scalars n
+    (λ le. let more = item-next e es n k le h in omega (arith, more.2, item_within es (n - e.scalars) more.0 more.1))
+    (λ lt. let z : 0 ≡ k = same_some (sym (item-here e es n lt) ∙ h) in omega (arith, z))
+
+-- the piece in which a code point is sought, among the pieces
+pub record IsCutAround (measured : Sum → ℕ) (d : Pieced) (n : ℕ) (s : Sum) (o : Outcome) (p : IsPlaced measured d n s o) : Type 0 where
+  pub left : List Placed
+  pub here : List Placed
+  pub rest : List Placed
+  pub split : items_of d ≡ left ++ (here ++ rest)
+  pub before : AreMade 0 left p.front
+  pub own : IsMade s.bytes here o
+  pub behind : AreMade (s.bytes + o.sum.bytes) rest p.back
+  pub count : length (code_points left) ≡ s.scalars
+  pub all : length (text_of d.doc) ≡ s.scalars + o.sum.scalars + (total_of p.back).scalars
+
+pub cut_around : (measured : Sum → ℕ) (d : Pieced) (n : ℕ) (s : Sum) (o : Outcome) (p : IsPlaced measured d n s o) → IsPieced d → IsCutAround measured d n s o p
+unfolding decoded_text
+cut_around measured d n s o p w =
+    let made : AreMade 0 (items_of d) (p.front ++ o ∷ p.back) = subst (AreMade 0 (items_of d)) p.split w.made in
+    let h = made_split p.front (o ∷ p.back) 0 (items_of d) made in
+    let base : 0 + (total_of p.front).bytes ≡ s.bytes = omega (arith, ap (λ (v : Sum). v.bytes) p.sum) in
+    let m : AreMade s.bytes h.right (o ∷ p.back) = subst (λ b. AreMade b h.right (o ∷ p.back)) base h.behind in
+    record {
+      left = h.left;
+      here = m.0;
+      rest = m.1;
+      split = h.split ∙ ap (λ t. h.left ++ t) m.2;
+      before = h.before;
+      own = m.3;
+      behind = m.4;
+      count = made_count p.front 0 h.left h.before ∙ sym (ap (λ (v : Sum). v.scalars) p.sum);
+      all = omega (arith, made_count (p.front ++ o ∷ p.back) 0 (items_of d) made, scalars-append p.front (o ∷ p.back), ap (λ (v : Sum). v.scalars) p.sum);
+    }
 
 pub place_some : (d : Pieced) (n k from to : ℕ) (s : Sum) (o : Outcome) (p : IsPlaced (measure Scalar) d n s o) → IsPieced d → item_of o.items (n - s.scalars) ≡ Some k
     → ((e : Ended) → to ≡ ends_at s.bytes (get_or o.items k e).end)
     → ((front back : List Outcome) (left ps : List Placed) (m : ℕ) → d.pieces ≡ front ++ back → s ≡ total_of front → AreMade 0 left front → (h : HasItem s.bytes ps o.items m k) → from ≡ last_to (bom_of d) (left ++ h.front))
     → Some (record { from = from; to = to }) ≡ place_of (items_of d) n
 place_some d n k from to s o p w i x y =
-    let made : AreMade 0 (items_of d) (p.front ++ o ∷ p.back) = subst (AreMade 0 (items_of d)) p.split w.made in
-    let h = made_split p.front (o ∷ p.back) 0 (items_of d) made in
-    let base : 0 + (total_of p.front).bytes ≡ s.bytes = omega (arith, ap (λ (v : Sum). v.bytes) p.sum) in
-    let m : AreMade s.bytes h.right (o ∷ p.back) = subst (λ b. AreMade b h.right (o ∷ p.back)) base h.behind in
-    let g = has_item s.bytes m.0 o.items (n - s.scalars) k m.3.items i in
-    let count : length (code_points h.left) ≡ s.scalars = made_count p.front 0 h.left h.before ∙ sym (ap (λ (v : Sum). v.scalars) p.sum) in
-    let all : (items_of d) ≡ (h.left ++ g.front) ++ g.item ∷ (g.back ++ m.1) =
-    h.split ∙ ap (λ t. h.left ++ t) (m.2 ∙ ap (λ t. t ++ m.1) g.split ∙ append_assoc g.front (g.item ∷ g.back) m.1) ∙ sym (append_assoc h.left g.front (g.item ∷ (g.back ++ m.1))) in
-    let e0 = no_item in
-    let to_is : to ≡ g.item.to = x e0 ∙ sym (g.ended e0).end in
-    let from_is2 : from ≡ g.item.from = y p.front p.pieces h.left m.0 (n - s.scalars) p.cut p.sum h.before g ∙ sym (from_is (bom_of d) (h.left ++ g.front) g.item (g.back ++ m.1) (subst (IsChained (bom_of d)) all (chained d.doc))) in
-    let le : length (code_points h.left) ≤ n = omega (arith, count, p.low) in
-    ap (λ v. Some (record { from = v; to = to })) from_is2 ∙ ap (λ v. Some (record { from = g.item.from; to = v })) to_is
-    ∙ sym (ap (λ t. place_of t n) h.split ∙ place-append h.left h.right n le ∙ ap (λ v. place_of h.right (n - v)) count ∙ ap (λ t. place_of t (n - s.scalars)) m.2 ∙ g.place m.1)
+    let c = cut_around (measure Scalar) d n s o p w in
+    let g = has_item s.bytes c.here o.items (n - s.scalars) k c.own.items i in
+    let all : items_of d ≡ (c.left ++ g.front) ++ g.item ∷ (g.back ++ c.rest) =
+    c.split ∙ ap (λ t. c.left ++ t) (ap (λ t. t ++ c.rest) g.split ∙ append_assoc g.front (g.item ∷ g.back) c.rest) ∙ sym (append_assoc c.left g.front (g.item ∷ (g.back ++ c.rest))) in
+    let to_is : to ≡ g.item.to = x no_item ∙ sym (g.ended no_item).end in
+    let from_is2 : from ≡ g.item.from = y p.front p.pieces c.left c.here (n - s.scalars) p.cut p.sum c.before g ∙ sym (from_is (bom_of d) (c.left ++ g.front) g.item (g.back ++ c.rest) (subst (IsChained (bom_of d)) all (chained d.doc))) in
+    rw (from_is2, to_is, c.split, place-append c.left (c.here ++ c.rest) n (omega (arith, c.count, p.low)), c.count) (sym (g.place c.rest))
 
 pub place_none : (d : Pieced) (n : ℕ) (s : Sum) (o : Outcome) (p : IsPlaced (measure Scalar) d n s o) → IsPieced d → item_of o.items (n - s.scalars) ≡ None → None ≡ place_of (items_of d) n
+unfolding decoded_text
 place_none d n s o p w i =
     let few = lacks_item o.items (n - s.scalars) i in
-    let made : AreMade 0 (items_of d) (p.front ++ o ∷ p.back) = subst (AreMade 0 (items_of d)) p.split w.made in
-    let count = made_count (p.front ++ o ∷ p.back) 0 (items_of d) made ∙ scalars-append p.front (o ∷ p.back) in
-    let ss = ap (λ (v : Sum). v.scalars) p.sum in
+    let c = cut_around (measure Scalar) d n s o p w in
     elim p.high [
-      | inl e ↦ let none : (total_of p.back).scalars ≡ 0 = ap (λ t. (total_of t).scalars) e in sym (place_past (items_of d) n (omega (arith, count, none, ss, few, counted o, p.low)))
+      | inl e ↦ let none : (total_of p.back).scalars ≡ 0 = ap (λ t. (total_of t).scalars) e in sym (place_past (items_of d) n (omega (arith, c.all, none, few, counted o, p.low)))
       | inr g ↦ absurd (omega (arith, g, few, counted o, p.low))
     ]
 

@@ -1,10 +1,7 @@
 -- The line end that a text begins with, by its first code points.
 use Rattle.std.proofs.Common.{◌≡◌, sym, ap, ◌∙◌, ℕ, ◌<◌, Bool, true, false, cond, ◌==◌, List, [], ◌∷◌, ◌++◌, length, length-append, arith}
-use Rattle.lane_ascii.specs.Marks.{ends_cr}
-use Rattle.piece_rope.specs.Outcomes.{begins_lf}
 use Rattle.position_map.specs.declared.ending.Ending.TheVariants.{Two, One, Open}
-use Rattle.position_map.specs.Cuts.{IsScalarCut}
-use Rattle.position_map.specs.LineEnds.{ending_of}
+use Rattle.position_map.proofs.Words.{ends_cr, begins_lf, IsScalarCut, ending_of}
 
 -- no CR stands first
 first_other : (front back : List ℕ) → length front ≡ 1 → ends_cr false front ≡ false → ending_of (front ++ back) ≡ One

@@ -1,31 +1,14 @@
 -- The errors of a document, piece by piece.
 use Rattle.std.proofs.Common.{◌≡◌, refl, sym, ap, subst, ◌∙◌, ℕ, zero, suc, ◌+◌, ◌-◌, ◌<◌, ◌≤◌, inl, inr, Bool, true, false, cond, nat_lt, nat_le, List, [], ◌∷◌, ◌++◌, length, length-append, map, append-nil, arith, Option, Some, None, Result, Ok, Err}
-use Rattle.std.specs.List.{slice_get}
-use Rattle.std.specs.Option.{option_map}
-use Rattle.std.proofs.lemmas.List.{length-map, map-append}
-use Rattle.std.proofs.lemmas.List.Sums.{count_by-le-length}
-use Rattle.std.proofs.lemmas.Option.{slice_get-map}
-use Rattle.std.proofs.lemmas.Bool.Decides.{nat_tests}
-use Rattle.enc_names.specs.declared.place.Place.{Place}
-use Rattle.piece_rope.specs.Decode.{Item, One, Two, Error, Placed, item_code_points, code_points, error_place, error_places}
-use Rattle.piece_rope.specs.Document.{Document, decoded, text_of, decoded_text, errors_of, decoded_errors}
-use Rattle.piece_rope.specs.Made.{AreEnded, IsMade, AreMade}
-use Rattle.piece_rope.specs.Outcomes.{Ended, Outcome, Sum, joined, total_of, all_scalars, is_an_error}
-use Rattle.piece_rope.specs.Search.{Scalar, measure}
 use Rattle.position_map.specs.declared.diagnostic.Diagnostic.{Diagnostic}
-use Rattle.position_map.specs.declared.fault.PosFault.{PosFault}
-use Rattle.position_map.specs.declared.fault.PosFault.TheVariants.{OutOfRange}
-use Rattle.position_map.specs.declared.position.Position.{Position}
-use Rattle.position_map.specs.declared.unit.Unit.{Unit as TextUnit}
-use Rattle.position_map.specs.Diagnostics.{ErrorAt, error_if, errors_from, all_errors, diagnostic_at, diagnostics_of, place_in}
-use Rattle.position_map.specs.ErrorScalars.{error_scalars, scalar_of}
-use Rattle.position_map.specs.Found.{errors_in_sum}
-use Rattle.position_map.specs.Places.{place_of}
-use Rattle.position_map.specs.Placing.{IsPlaced}
-use Rattle.position_map.specs.Positions.{position, position_of}
-use Rattle.position_map.specs.Whole.{Pieced}
-use Rattle.position_map.proofs.Cases.{by_le, same_some, none_some}
-use Rattle.position_map.proofs.Chains.{item_some, not_here}
+use Rattle.position_map.specs.Diagnostics.{place_in}
+use Rattle.position_map.proofs.Words.{slice_get, option_map, length-map, map-append, count_by-le-length, slice_get-map, nat_tests, Place, Item, One}
+use Rattle.position_map.proofs.Words.{Two, Error, Placed, item_code_points, code_points, error_place, error_places, Document, decoded, text_of}
+use Rattle.position_map.proofs.Words.{decoded_text, errors_of, decoded_errors, AreEnded, IsMade, AreMade, Ended, Outcome, Sum, joined, total_of}
+use Rattle.position_map.proofs.Words.{all_scalars, is_an_error, Scalar, measure, PosFault, OutOfRange, Position, TextUnit, ErrorAt, error_if}
+use Rattle.position_map.proofs.Words.{errors_from, all_errors, diagnostic_at, diagnostics_of, error_scalars, scalar_of, errors_in_sum, place_of}
+use Rattle.position_map.proofs.Words.{IsPlaced, position, position_of, Pieced, by_le, same_some, none_some, map_some, map_none, same_ok}
+use Rattle.position_map.proofs.Chains.{item_some, not_here, IsCutAround, cut_around}
 use Rattle.position_map.proofs.ErrorRuns.{below, below-append, below-yes, below-no, cond-append, error_scalars-length, get-front, get-back}
 use Rattle.position_map.proofs.Items.{IsPieced, items_of, counted, piece_count, made_split, made_count, scalars-append}
 
@@ -165,96 +148,65 @@ numbers-in_text : (d : Document) → length (map scalar_of (all_errors d)) ≤ l
 unfolding decoded_text
 numbers-in_text d = numbers-few 0 (decoded d).items
 
--- the piece in which an item is sought, among the pieces
-record IsCutAround (measured : Sum → ℕ) (d : Pieced) (n : ℕ) (s : Sum) (o : Outcome) : Type 0 where
-  base : ℕ
-  left : List Placed
-  here : List Placed
-  rest : List Placed
-  split : items_of d ≡ left ++ (here ++ rest)
-  count : length (code_points left) ≡ s.scalars
-  errors : length (numbers 0 left) ≡ s.errors
-  own : IsMade base here o
-  end : measured (joined s o.sum) ≤ n → rest ≡ []
+-- the errors round the piece in which an item is sought
+module _ (measured : Sum → ℕ) (d : Pieced) (n : ℕ) (s : Sum) (o : Outcome) (p : IsPlaced measured d n s o) (c : IsCutAround measured d n s o p) where
+  around-numbers : numbers 0 (items_of d) ≡ numbers 0 c.left ++ (error_scalars s.scalars o.items ++ numbers (s.scalars + length (code_points c.here)) c.rest)
+  around-numbers =
+      let start : 0 + length (code_points c.left) ≡ s.scalars = omega (arith, c.count) in
+      ap (numbers 0) c.split ∙ numbers-append 0 c.left (c.here ++ c.rest) ∙ ap (λ m. numbers 0 c.left ++ numbers m (c.here ++ c.rest)) start
+      ∙ ap (λ t. numbers 0 c.left ++ t) (numbers-append s.scalars c.here c.rest)
+      ∙ ap (λ t. numbers 0 c.left ++ (t ++ numbers (s.scalars + length (code_points c.here)) c.rest)) (numbers-ended s.bytes s.scalars c.here o.items c.own.items)
 
-cut-around : (measured : Sum → ℕ) (d : Pieced) (n : ℕ) (s : Sum) (o : Outcome) → (p : IsPlaced measured d n s o) → IsPieced d → IsCutAround measured d n s o
-cut-around measured d n s o p w =
-    let made : AreMade 0 (items_of d) (p.front ++ o ∷ p.back) = subst (AreMade 0 (items_of d)) p.split w.made in
-    let h = made_split p.front (o ∷ p.back) 0 (items_of d) made in
-    let m = h.behind in
-    record {
-      base = 0 + (total_of p.front).bytes;
-      left = h.left;
-      here = m.0;
-      rest = m.1;
-      split = h.split ∙ ap (λ t. h.left ++ t) m.2;
-      count = made_count p.front 0 h.left h.before ∙ sym (ap (λ (v : Sum). v.scalars) p.sum);
-      errors = made-errors p.front 0 0 h.left h.before ∙ sym (ap (λ (v : Sum). v.errors) p.sum);
-      own = m.3;
-      end = λ l. elim p.high [
-        | inl e ↦ subst (AreMade (0 + (total_of p.front).bytes + o.sum.bytes) m.1) e m.4
-        | inr g ↦ absurd (omega (arith, l, g))
-      ];
-    }
+  errors-left : length (numbers 0 c.left) ≡ s.errors
+  errors-left = made-errors p.front 0 0 c.left c.before ∙ sym (ap (λ (v : Sum). v.errors) p.sum)
 
-around-numbers : (measured : Sum → ℕ) (d : Pieced) (n : ℕ) (s : Sum) (o : Outcome) → (c : IsCutAround measured d n s o)
-    → numbers 0 (items_of d) ≡ numbers 0 c.left ++ (error_scalars s.scalars o.items ++ numbers (s.scalars + length (code_points c.here)) c.rest)
-around-numbers measured d n s o c =
-    let start : 0 + length (code_points c.left) ≡ s.scalars = omega (arith, c.count) in
-    ap (numbers 0) c.split ∙ numbers-append 0 c.left (c.here ++ c.rest) ∙ ap (λ m. numbers 0 c.left ++ numbers m (c.here ++ c.rest)) start
-    ∙ ap (λ t. numbers 0 c.left ++ t) (numbers-append s.scalars c.here c.rest)
-    ∙ ap (λ t. numbers 0 c.left ++ (t ++ numbers (s.scalars + length (code_points c.here)) c.rest)) (numbers-ended c.base s.scalars c.here o.items c.own.items)
+  none-behind : measured (joined s o.sum) ≤ n → c.rest ≡ []
+  none-behind l = elim p.high [ inl e ↦ subst (AreMade (s.bytes + o.sum.bytes) c.rest) e c.behind | inr g ↦ absurd (omega (arith, l, g)) ]
 
 get-own : (xs ys : List ℕ) (k : ℕ) → (length xs ≤ k → ys ≡ []) → slice_get (xs ++ ys) k ≡ slice_get xs k
-get-own xs ys k h = by (nat_lt k (length xs)) refl
-  where
-    by : (b : Bool) → nat_lt k (length xs) ≡ b → slice_get (xs ++ ys) k ≡ slice_get xs k
-    by true e = get-front xs ys k (grind (arith, nat_tests))
-    by false e = ap (λ t. slice_get (xs ++ t) k) (h (grind (arith, nat_tests))) ∙ ap (λ t. slice_get t k) (append-nil xs)
+get-own xs ys k h = by_le (length xs) k (λ le. rw (h le, append-nil xs) refl) (λ lt. get-front xs ys k lt)
 
 -- error `n` is found in its piece
 pub number-placed : (d : Pieced) (n : ℕ) (s : Sum) (o : Outcome) → (p : IsPlaced errors_in_sum d n s o) → IsPieced d
     → slice_get (error_scalars s.scalars o.items) (n - s.errors) ≡ slice_get (map scalar_of (all_errors d.doc)) n
 number-placed d n s o p w =
-    let c = cut-around errors_in_sum d n s o p w in
+    let c = cut_around errors_in_sum d n s o p w in
+    let errors = errors-left errors_in_sum d n s o p c in
     let here = error_scalars s.scalars o.items in
     let more = numbers (s.scalars + length (code_points c.here)) c.rest in
-    let low : length (numbers 0 c.left) ≤ n = omega (arith, c.errors, p.low) in
+    let low : length (numbers 0 c.left) ≤ n = omega (arith, errors, p.low) in
     let size : length here ≡ o.sum.errors = error_scalars-length s.scalars o.items ∙ sym o.summed.errors in
-    let none : length here ≤ n - s.errors → more ≡ [] = λ l. let past : s.errors + o.sum.errors ≤ n = omega (arith, l, size, p.low) in ap (numbers (s.scalars + length (code_points c.here))) (c.end past) in
-    sym (ap (λ ss. slice_get ss n) (around-numbers errors_in_sum d n s o c)
+    let none : length here ≤ n - s.errors → more ≡ [] = λ l. let past : s.errors + o.sum.errors ≤ n = omega (arith, l, size, p.low) in ap (numbers (s.scalars + length (code_points c.here))) (none-behind errors_in_sum d n s o p c past) in
+    sym (ap (λ ss. slice_get ss n) (around-numbers errors_in_sum d n s o p c)
     ∙ get-back (numbers 0 c.left) (here ++ more) n low
-    ∙ ap (λ m. slice_get (here ++ more) (n - m)) c.errors
+    ∙ ap (λ m. slice_get (here ++ more) (n - m)) errors
     ∙ get-own here more (n - s.errors) none)
 
 -- no more code points are in front of a piece and in it than in the text
 pub placed-room : (measured : Sum → ℕ) (d : Pieced) (n : ℕ) (s : Sum) (o : Outcome) → IsPlaced measured d n s o → IsPieced d → s.scalars + all_scalars o.items ≤ length (text_of d.doc)
-unfolding decoded_text
-placed-room measured d n s o p w =
-    let made : AreMade 0 (items_of d) (p.front ++ o ∷ p.back) = subst (AreMade 0 (items_of d)) p.split w.made in
-    omega (arith, made_count (p.front ++ o ∷ p.back) 0 (items_of d) made, scalars-append p.front (o ∷ p.back), ap (λ (v : Sum). v.scalars) p.sum, counted o)
+placed-room measured d n s o p w = omega (arith, (cut_around measured d n s o p w).all, counted o)
 
 -- the errors in front of a code point: those of the pieces in front of its piece, and some of the piece's own
 pub numbers-before : (d : Pieced) (n : ℕ) (s : Sum) (o : Outcome) → (p : IsPlaced (measure Scalar) d n s o) → IsPieced d
     → s.errors + below n (error_scalars s.scalars o.items) ≡ below n (map scalar_of (all_errors d.doc))
 numbers-before d n s o p w =
-    let c = cut-around (measure Scalar) d n s o p w in
+    let c = cut_around (measure Scalar) d n s o p w in
     let here = error_scalars s.scalars o.items in
     let behind = s.scalars + length (code_points c.here) in
     let more = numbers behind c.rest in
     let left = below-all n 0 (numbers 0 c.left) (numbers-within 0 n 0 c.left (omega arith) (omega (arith, c.count, p.low))) in
-    let size = piece_count c.base c.here o c.own in
+    let size = piece_count s.bytes c.here o c.own in
     let high = behind + length (code_points c.rest) in
     let none : below n more ≡ 0 =
-    by_le behind n (λ l. let past : s.scalars + o.sum.scalars ≤ n = omega (arith, l, size) in ap (λ ps. below n (numbers behind ps)) (c.end past))
+    by_le behind n (λ l. let past : s.scalars + o.sum.scalars ≤ n = omega (arith, l, size) in ap (λ ps. below n (numbers behind ps)) (none-behind (measure Scalar) d n s o p c past))
     (λ l. below-none n high more (numbers-within n high behind c.rest (omega (arith, l)) (omega arith))) in
     omega (
       arith,
-      ap (below n) (around-numbers (measure Scalar) d n s o c),
+      ap (below n) (around-numbers (measure Scalar) d n s o p c),
       below-append n (numbers 0 c.left) (here ++ more),
       below-append n here more,
       left,
-      c.errors,
+      errors-left (measure Scalar) d n s o p c,
       none,
     )
 
@@ -262,55 +214,41 @@ pub numbers-room : (d : Pieced) (n : ℕ) (s : Sum) (o : Outcome) → (p : IsPla
 numbers-room d n s o p w = omega (arith, numbers-before d n s o p w, count_by-le-length (λ (x : ℕ). nat_lt x n) (map scalar_of (all_errors d.doc)), numbers-in_text d.doc)
 
 -- an error's place is that of its code point
-error-here : (i : Item) (from to n k : ℕ) (ps : List Placed) (e : ErrorAt)
-    → ((j : ℕ) → slice_get (errors_from (n + length (item_code_points i)) ps) j ≡ Some e → (n + length (item_code_points i) ≤ e.scalar) × (place_of ps (e.scalar - (n + length (item_code_points i))) ≡ Some e.place))
-    → slice_get (error_if i (record { place = record { from = from; to = to }; scalar = n }) ++ errors_from (n + length (item_code_points i)) ps) k ≡ Some e
-    → (n ≤ e.scalar) × (cond (nat_lt (e.scalar - n) (length (item_code_points i))) (Some (record { from = from; to = to })) (place_of ps (e.scalar - n - length (item_code_points i))) ≡ Some e.place)
-error-here (One c) from to n k ps e more h =
-    let w = more k h in
-    let at : e.scalar - n - 1 ≡ e.scalar - (n + 1) = omega arith in
-    (omega (arith, w.0), not_here (e.scalar - n) 1 (Some (record { from = from; to = to })) (place_of ps (e.scalar - n - 1)) (omega (arith, w.0)) ∙ ap (place_of ps) at ∙ w.1)
-error-here (Two a b) from to n k ps e more h =
-    let w = more k h in
-    let at : e.scalar - n - 2 ≡ e.scalar - (n + 2) = omega arith in
-    (omega (arith, w.0), not_here (e.scalar - n) 2 (Some (record { from = from; to = to })) (place_of ps (e.scalar - n - 2)) (omega (arith, w.0)) ∙ ap (place_of ps) at ∙ w.1)
+abbrev IsPlaceOf : ErrorAt → ℕ → List Placed → Type 0
+IsPlaceOf e n ps = (n ≤ e.scalar) × (place_of ps (e.scalar - n) ≡ Some e.place)
+
+place-later : (p : Placed) (n : ℕ) (ps : List Placed) (e : ErrorAt) → IsPlaceOf e (n + length (item_code_points p.item)) ps → IsPlaceOf e n (p ∷ ps)
+place-later p n ps e w =
+    let size = length (item_code_points p.item) in
+    let at : e.scalar - n - size ≡ e.scalar - (n + size) = omega arith in
+    (omega (arith, w.0), not_here (e.scalar - n) size (Some (record { from = p.from; to = p.to })) (place_of ps (e.scalar - n - size)) (omega (arith, w.0)) ∙ ap (place_of ps) at ∙ w.1)
+
+error-here : (i : Item) (from to n k : ℕ) (ps : List Placed) (e : ErrorAt) → ((j : ℕ) → slice_get (errors_from (n + length (item_code_points i)) ps) j ≡ Some e → IsPlaceOf e (n + length (item_code_points i)) ps)
+    → slice_get (errors_from n (record { item = i; from = from; to = to } ∷ ps)) k ≡ Some e → IsPlaceOf e n (record { item = i; from = from; to = to } ∷ ps)
+error-here (One c) from to n k ps e more h = place-later (record { item = One c; from = from; to = to }) n ps e (more k h)
+error-here (Two a b) from to n k ps e more h = place-later (record { item = Two a b; from = from; to = to }) n ps e (more k h)
+error-here Error from to n (suc k) ps e more h = place-later (record { item = Error; from = from; to = to }) n ps e (more k h)
 error-here Error from to n zero ps e more h =
     let x : ErrorAt = record { place = record { from = from; to = to }; scalar = n } in
     let same : x ≡ e = same_some h in
     let number : n ≡ e.scalar = ap scalar_of same in
     let t : nat_lt (e.scalar - n) 1 ≡ true = grind (arith, nat_tests, number) in
-    (omega (arith, number), ap (λ b. cond b (Some (record { from = from; to = to })) (place_of ps (e.scalar - n - 1))) t ∙ ap (λ (y : ErrorAt). Some y.place) same)
-error-here Error from to n (suc k) ps e more h =
-    let w = more k h in
-    let at : e.scalar - n - 1 ≡ e.scalar - (n + 1) = omega arith in
-    (omega (arith, w.0), not_here (e.scalar - n) 1 (Some (record { from = from; to = to })) (place_of ps (e.scalar - n - 1)) (omega (arith, w.0)) ∙ ap (place_of ps) at ∙ w.1)
+    (omega (arith, number), rw t (ap (λ (y : ErrorAt). Some y.place) same))
 
-error-place : (n : ℕ) (ps : List Placed) (k : ℕ) (e : ErrorAt) → slice_get (errors_from n ps) k ≡ Some e → (n ≤ e.scalar) × (place_of ps (e.scalar - n) ≡ Some e.place)
+error-place : (n : ℕ) (ps : List Placed) (k : ℕ) (e : ErrorAt) → slice_get (errors_from n ps) k ≡ Some e → IsPlaceOf e n ps
 error-place n [] k e h = absurd (none_some h)
 error-place n (p ∷ ps) k e h = error-here p.item p.from p.to n k ps e (λ j x. error-place (n + length (item_code_points p.item)) ps j e x) h
-
-map-some : (o : Option ErrorAt) (s : ℕ) → Some s ≡ option_map scalar_of o → (e : ErrorAt) × (o ≡ Some e) × (e.scalar ≡ s)
-map-some None s h = absurd (none_some (sym h))
-map-some (Some e) s h = (e, refl, sym (same_some h))
-
-map-none : (o : Option ErrorAt) → None ≡ option_map scalar_of o → o ≡ None
-map-none None h = refl
-map-none (Some e) h = absurd (none_some h)
-
-abbrev position_or : Result Position PosFault → Position → Position
-position_or (Ok p) q = p
-position_or (Err fault) q = q
 
 position-alone : (text : List ℕ) (unit : TextUnit) (s : ℕ) (p : Position) → Ok p ≡ position_of text unit s → s ≤ length text → p ≡ position text unit s
 unfolding position_of
 position-alone text unit s p e h =
     let t : nat_le s (length text) ≡ true = grind (arith, nat_tests) in
-    ap (λ r. position_or r p) (e ∙ ap (λ b. cond b (Ok (position text unit s)) (Err OutOfRange)) t)
+    same_ok (e ∙ rw t refl)
 
 -- an error has a place
 pub some-place : (d : Document) (n s : ℕ) → Some s ≡ slice_get (map scalar_of (all_errors d)) n → None ≡ place_of (decoded d).items s → ⊥
 some-place d n s e none =
-    let w = map-some (slice_get (all_errors d) n) s (e ∙ slice_get-map scalar_of (all_errors d) n) in
+    let w = map_some scalar_of (slice_get (all_errors d) n) s (sym (e ∙ slice_get-map scalar_of (all_errors d) n)) in
     let here = error-place 0 (decoded d).items n w.0 w.1 in
     let number : s ≡ w.0.scalar - 0 = omega (arith, w.2) in
     none_some (none ∙ ap (place_of (decoded d).items) number ∙ here.1)
@@ -321,7 +259,7 @@ pub shown : (d : Document) (unit : TextUnit) (n s : ℕ) (x : Diagnostic) → So
 unfolding diagnostics_of
 shown d unit n s x e at start end =
     let text = text_of d in
-    let w = map-some (slice_get (all_errors d) n) s (e ∙ slice_get-map scalar_of (all_errors d) n) in
+    let w = map_some scalar_of (slice_get (all_errors d) n) s (sym (e ∙ slice_get-map scalar_of (all_errors d) n)) in
     let found = w.0 in
     let here = error-place 0 (decoded d).items n found w.1 in
     let number : s ≡ found.scalar - 0 = omega (arith, w.2) in
@@ -338,5 +276,5 @@ shown d unit n s x e at start end =
 pub not-shown : (d : Document) (unit : TextUnit) (n : ℕ) → None ≡ slice_get (map scalar_of (all_errors d)) n → None ≡ slice_get (diagnostics_of d unit) n
 unfolding diagnostics_of
 not-shown d unit n e =
-    let none = map-none (slice_get (all_errors d) n) (e ∙ slice_get-map scalar_of (all_errors d) n) in
+    let none = map_none scalar_of (slice_get (all_errors d) n) (sym (e ∙ slice_get-map scalar_of (all_errors d) n)) in
     sym (slice_get-map (diagnostic_at (text_of d) unit) (all_errors d) n ∙ ap (option_map (diagnostic_at (text_of d) unit)) none)

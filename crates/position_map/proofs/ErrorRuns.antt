@@ -1,14 +1,9 @@
 -- The code points of errors among the runs of a piece.
-use Rattle.std.proofs.Common.{◌≡◌, refl, sym, ap, ◌∙◌, ℕ, zero, suc, ◌+◌, ◌-◌, ◌<◌, ◌≤◌, ◌⊎◌, inl, inr, Bool, true, false, cond, nat_lt, min, ℤ, pos, ◌-ℤ◌, List, [], ◌∷◌, ◌++◌, length, drop, get_or, arith, Some, count_by}
-use Rattle.std.specs.List.{slice_get}
-use Rattle.std.proofs.lemmas.Bool.Decides.{nat_tests}
-use Rattle.std.proofs.lemmas.List.{at_drop_more}
-use Rattle.std.proofs.lemmas.List.Sums.{count_by-le-length, sum_by-append, sum_by-cons}
-use Rattle.lane_ascii.specs.Marks.{one_if}
-use Rattle.piece_rope.specs.Outcomes.{Ended, all_scalars, errors_in}
-use Rattle.piece_rope.specs.Runs.{ItemKind, AsciiOne, AsciiTwo, AsciiError, RomanOne, RomanTwo, RomanError, KatakanaOne, KatakanaTwo, KatakanaError, Jis0208One, Jis0208Two, Jis0208Error, Run, item_of_kind, items_of_run, items_of_runs, items_until}
-use Rattle.position_map.specs.ErrorScalars.{error_scalars}
-use Rattle.position_map.proofs.Cases.{by_test}
+use Rattle.std.proofs.Common.{subst, ◌≡◌, refl, sym, ap, ◌∙◌, ℕ, zero, suc, ◌+◌, ◌-◌, ◌<◌, ◌≤◌, ◌⊎◌, inl, inr, Bool, true, false, cond, nat_lt, min, ℤ, pos, ◌-ℤ◌, List, [], ◌∷◌, ◌++◌, length, drop, get_or, arith, Some, count_by}
+use Rattle.position_map.proofs.Words.{unary_clauses, slice_get, nat_tests, at_drop_more, count_by-le-length, sum_by-append, sum_by-cons, one_if}
+use Rattle.position_map.proofs.Words.{Ended, all_scalars, errors_in, ItemKind, AsciiOne, AsciiTwo, AsciiError, RomanOne, RomanTwo, RomanError}
+use Rattle.position_map.proofs.Words.{KatakanaOne, KatakanaTwo, KatakanaError, Jis0208One, Jis0208Two, Jis0208Error, Run, item_of_kind, items_of_run}
+use Rattle.position_map.proofs.Words.{items_of_runs, items_until, error_scalars, by_test, by_le}
 
 -- how many numbers are below one
 abbrev pub below : ℕ → List ℕ → ℕ
@@ -57,122 +52,77 @@ get-back [] ys n l = let e : n ≡ n - 0 = omega arith in ap (λ (k : ℕ). slic
 get-back (x ∷ xs) ys zero l = absurd (omega (arith, l))
 get-back (x ∷ xs) ys (suc n) l = let e : n - length xs ≡ suc n - length (x ∷ xs) = omega arith in get-back xs ys n (omega (arith, l)) ∙ ap (λ (k : ℕ). slice_get ys k) e
 
--- the items of a run are all errors, each of one code point, or none is
-abbrev AreErrors : List Ended → Type 0
-AreErrors [] = Unit {0}
-AreErrors (e ∷ es) = (e.error ≡ true) × (e.scalars ≡ 1) × AreErrors es
+-- items that are all errors, each of one code point, or of which none is
+abbrev AreAlike : Bool → List Ended → Type 0
+AreAlike b [] = Unit {0}
+AreAlike b (e ∷ es) = (e.error ≡ b) × (e.error ≡ true → e.scalars ≡ 1) × AreAlike b es
 
-abbrev AreOthers : List Ended → Type 0
-AreOthers [] = Unit {0}
-AreOthers (e ∷ es) = (e.error ≡ false) × AreOthers es
+error_one : (kind : ItemKind) (z : ℤ) → (item_of_kind kind z).error ≡ true → (item_of_kind kind z).scalars ≡ 1
+error_one AsciiError z e = refl
+error_one RomanError z e = refl
+error_one KatakanaError z e = refl
+error_one Jis0208Error z e = refl
+error_one _ z e = cc
 
-abbrev KindOfErrors : ItemKind → Type 0
-KindOfErrors kind = (z : ℤ) → ((item_of_kind kind z).error ≡ true) × ((item_of_kind kind z).scalars ≡ 1)
+alike-snoc : (b : Bool) (es : List Ended) (e : Ended) → AreAlike b es → e.error ≡ b → (e.error ≡ true → e.scalars ≡ 1) → AreAlike b (es ++ e ∷ [])
+alike-snoc b [] e h k l = (k, l, tt)
+alike-snoc b (x ∷ es) e h k l = (h.0, h.1, alike-snoc b es e h.2 k l)
 
-abbrev KindOfOthers : ItemKind → Type 0
-KindOfOthers kind = (z : ℤ) → (item_of_kind kind z).error ≡ false
+until-alike : (kind : ItemKind) (step : ℕ) (last z : ℤ) (n : ℕ) → AreAlike (item_of_kind kind z).error (items_until kind step last n)
+until-alike kind step last z zero = tt
+until-alike kind step last z (suc n) =
+    alike-snoc (item_of_kind kind z).error (items_until kind step (last -ℤ pos step) n) (item_of_kind kind last) (until-alike kind step (last -ℤ pos step) z n) refl (error_one kind last)
 
-either_kind : (kind : ItemKind) → KindOfErrors kind ⊎ KindOfOthers kind
-either_kind AsciiOne = inr (λ z. refl)
-either_kind AsciiTwo = inr (λ z. refl)
-either_kind AsciiError = inl (λ z. (refl, refl))
-either_kind RomanOne = inr (λ z. refl)
-either_kind RomanTwo = inr (λ z. refl)
-either_kind RomanError = inl (λ z. (refl, refl))
-either_kind KatakanaOne = inr (λ z. refl)
-either_kind KatakanaTwo = inr (λ z. refl)
-either_kind KatakanaError = inl (λ z. (refl, refl))
-either_kind Jis0208One = inr (λ z. refl)
-either_kind Jis0208Two = inr (λ z. refl)
-either_kind Jis0208Error = inl (λ z. (refl, refl))
-
-errors-snoc : (es : List Ended) (e : Ended) → AreErrors es → e.error ≡ true → e.scalars ≡ 1 → AreErrors (es ++ e ∷ [])
-errors-snoc [] e h k l = (k, l, tt)
-errors-snoc (x ∷ es) e h k l = (h.0, h.1, errors-snoc es e h.2 k l)
-
-others-snoc : (es : List Ended) (e : Ended) → AreOthers es → e.error ≡ false → AreOthers (es ++ e ∷ [])
-others-snoc [] e h k = (k, tt)
-others-snoc (x ∷ es) e h k = (h.0, others-snoc es e h.1 k)
-
-until-errors : (kind : ItemKind) (step : ℕ) (last : ℤ) (n : ℕ) → KindOfErrors kind → AreErrors (items_until kind step last n)
-until-errors kind step last zero h = tt
-until-errors kind step last (suc n) h =
-    let w = h last in errors-snoc (items_until kind step (last -ℤ pos step) n) (item_of_kind kind last) (until-errors kind step (last -ℤ pos step) n h) w.0 w.1
-
-until-others : (kind : ItemKind) (step : ℕ) (last : ℤ) (n : ℕ) → KindOfOthers kind → AreOthers (items_until kind step last n)
-until-others kind step last zero h = tt
-until-others kind step last (suc n) h = others-snoc (items_until kind step (last -ℤ pos step) n) (item_of_kind kind last) (until-others kind step (last -ℤ pos step) n h) (h last)
-
-either_run : (r : Run) → AreErrors (items_of_run r) ⊎ AreOthers (items_of_run r)
+either_run : (r : Run) → AreAlike true (items_of_run r) ⊎ AreAlike false (items_of_run r)
 either_run r =
-    elim (either_kind r.kind) [
-      | inl h ↦ inl (until-errors r.kind r.step r.last (suc r.more) h)
-      | inr h ↦ inr (until-others r.kind r.step r.last (suc r.more) h)
-    ]
+    let w = until-alike r.kind r.step r.last r.last (suc r.more) in
+    by_test (item_of_kind r.kind r.last).error (λ t. inl (subst (λ b. AreAlike b (items_of_run r)) t w)) (λ t. inr (subst (λ b. AreAlike b (items_of_run r)) t w))
 
 -- items that are all errors
-errors-count : (es : List Ended) → AreErrors es → errors_in es ≡ length es
-errors-count [] h = refl
-errors-count (e ∷ es) h = omega (arith, ap one_if h.0, errors-count es h.2)
+errors-count : (es : List Ended) → AreAlike true es → (errors_in es ≡ length es) × (all_scalars es ≡ length es)
+errors-count [] h = (refl, refl)
+errors-count (e ∷ es) h = let w = errors-count es h.2 in (omega (arith, ap one_if h.0, w.0), omega (arith, h.1 h.0, w.1))
 
-errors-get : (n : ℕ) (es : List Ended) (k : ℕ) → AreErrors es → k < length es → slice_get (error_scalars n es) k ≡ Some (n + k)
+errors-get : (n : ℕ) (es : List Ended) (k : ℕ) → AreAlike true es → k < length es → slice_get (error_scalars n es) k ≡ Some (n + k)
 errors-get n [] k h l = absurd (omega (arith, l))
-errors-get n (e ∷ es) zero h l =
-    let same : n ≡ n + 0 = omega arith in
-    ap (λ b. slice_get (cond b (n ∷ error_scalars (n + e.scalars) es) (error_scalars (n + e.scalars) es)) 0) h.0 ∙ ap (λ (m : ℕ). Some m) same
-errors-get n (e ∷ es) (suc k) h l =
-    let to : n + e.scalars + k ≡ n + suc k = omega (arith, h.1) in
-    ap (λ b. slice_get (cond b (n ∷ error_scalars (n + e.scalars) es) (error_scalars (n + e.scalars) es)) (suc k)) h.0
-    ∙ errors-get (n + e.scalars) es k h.2 (omega (arith, l)) ∙ ap (λ (m : ℕ). Some m) to
+errors-get n (e ∷ es) zero h l = rw h.0 (simp unary_clauses)
+errors-get n (e ∷ es) (suc k) h l = let to : n + e.scalars + k ≡ n + suc k = omega (arith, h.1 h.0) in rw h.0 (errors-get (n + e.scalars) es k h.2 (omega (arith, l)) ∙ ap (λ (m : ℕ). Some m) to)
 
 below-step : (m s : ℕ) (ss : List ℕ) (k : ℕ) → below m ss ≡ min k (m - (s + 1)) → below m (s ∷ ss) ≡ min (suc k) (m - s)
-below-step m s ss k e =
-    by_test (nat_lt s m)
-    (λ t. let h : s < m = grind (arith, nat_tests) in omega (arith, below-yes m s ss h, e, h))
-    (λ t. let h : m ≤ s = grind (arith, nat_tests) in omega (arith, below-no m s ss h, e, h))
+below-step m s ss k e = by_le m s (λ h. omega (arith, below-no m s ss h, e, h)) (λ h. omega (arith, below-yes m s ss h, e, h))
 
-errors-below : (m n : ℕ) (es : List Ended) → AreErrors es → below m (error_scalars n es) ≡ min (length es) (m - n)
+errors-below : (m n : ℕ) (es : List Ended) → AreAlike true es → below m (error_scalars n es) ≡ min (length es) (m - n)
 errors-below m n [] h = let none : below m [] ≡ 0 = refl in omega (arith, none)
 errors-below m n (e ∷ es) h =
-    let next : n + e.scalars ≡ n + 1 = omega (arith, h.1) in
-    ap (λ b. below m (cond b (n ∷ error_scalars (n + e.scalars) es) (error_scalars (n + e.scalars) es))) h.0
-    ∙ below-step m n (error_scalars (n + e.scalars) es) (length es) (errors-below m (n + e.scalars) es h.2 ∙ ap (λ v. min (length es) (m - v)) next)
+    let next : n + e.scalars ≡ n + 1 = omega (arith, h.1 h.0) in
+    rw h.0 (below-step m n (error_scalars (n + e.scalars) es) (length es) (errors-below m (n + e.scalars) es h.2 ∙ ap (λ v. min (length es) (m - v)) next))
 
 -- items of which none is one
-others-none : (n : ℕ) (es : List Ended) → AreOthers es → error_scalars n es ≡ []
+others-none : (n : ℕ) (es : List Ended) → AreAlike false es → error_scalars n es ≡ []
 others-none n [] h = refl
-others-none n (e ∷ es) h = ap (λ b. cond b (n ∷ error_scalars (n + e.scalars) es) (error_scalars (n + e.scalars) es)) h.0 ∙ others-none (n + e.scalars) es h.1
+others-none n (e ∷ es) h = rw h.0 (others-none (n + e.scalars) es h.2)
 
-others-count : (es : List Ended) → AreOthers es → errors_in es ≡ 0
-others-count [] h = refl
-others-count (e ∷ es) h = omega (arith, ap one_if h.0, others-count es h.1)
+others-count : (n : ℕ) (r : Run) → AreAlike false (items_of_run r) → errors_in (items_of_run r) ≡ 0
+others-count n r h = sym (error_scalars-length n (items_of_run r)) ∙ ap length (others-none n (items_of_run r) h)
 
 -- the errors of a run
 run-get : (n k : ℕ) (r : Run) → k < errors_in (items_of_run r) → slice_get (error_scalars n (items_of_run r)) k ≡ Some (n + k)
 run-get n k r l =
     elim (either_run r) [
-      | inl h ↦ errors-get n (items_of_run r) k h (omega (arith, l, errors-count (items_of_run r) h))
-      | inr h ↦ absurd (omega (arith, l, others-count (items_of_run r) h))
+      | inl h ↦ errors-get n (items_of_run r) k h (omega (arith, l, (errors-count (items_of_run r) h).0))
+      | inr h ↦ absurd (omega (arith, l, others-count n r h))
     ]
 
 run-below : (m n : ℕ) (r : Run) → below m (error_scalars n (items_of_run r)) ≡ min (errors_in (items_of_run r)) (m - n)
 run-below m n r =
     elim (either_run r) [
-      | inl h ↦ omega (arith, errors-below m n (items_of_run r) h, errors-count (items_of_run r) h)
-      | inr h ↦ let none : below m [] ≡ 0 = refl in omega (arith, ap (below m) (others-none n (items_of_run r) h), none, others-count (items_of_run r) h)
+      | inl h ↦ omega (arith, errors-below m n (items_of_run r) h, (errors-count (items_of_run r) h).0)
+      | inr h ↦ let none : below m [] ≡ 0 = refl in omega (arith, ap (below m) (others-none n (items_of_run r) h), none, others-count n r h)
     ]
 
 -- an error has a code point
-errors-all : (es : List Ended) → AreErrors es → all_scalars es ≡ length es
-errors-all [] h = refl
-errors-all (e ∷ es) h = omega (arith, h.1, errors-all es h.2)
-
 pub run-few : (r : Run) → errors_in (items_of_run r) ≤ all_scalars (items_of_run r)
-run-few r =
-    elim (either_run r) [
-      | inl h ↦ omega (arith, errors-count (items_of_run r) h, errors-all (items_of_run r) h)
-      | inr h ↦ omega (arith, others-count (items_of_run r) h)
-    ]
+run-few r = elim (either_run r) [ inl h ↦ omega (arith, errors-count (items_of_run r) h) | inr h ↦ omega (arith, others-count 0 r h) ]
 
 -- one more run of a walk
 all_scalars-append : (xs ys : List Ended) → all_scalars (xs ++ ys) ≡ all_scalars xs + all_scalars ys
@@ -183,43 +133,38 @@ errors_in-append : (xs ys : List Ended) → errors_in (xs ++ ys) ≡ errors_in x
 errors_in-append [] ys = omega arith
 errors_in-append (x ∷ xs) ys = omega (arith, errors_in-append xs ys)
 
-pub scalars-next : (rs : List Run) (i : ℕ) (d : Run) → i < length rs
-    → all_scalars (items_of_runs (drop i rs)) ≡ all_scalars (items_of_run (get_or rs i d)) + all_scalars (items_of_runs (drop (i + 1) rs))
-scalars-next rs i d l =
-    at_drop_more (λ (v : List Run). all_scalars (items_of_runs v)) rs i d l ∙ all_scalars-append (items_of_run (get_or rs i d)) (items_of_runs (drop (i + 1) rs))
+abbrev pub no_run : Run
+no_run = record { last = pos 0; more = 0; step = 0; kind = AsciiOne }
 
--- the error is in this run
-pub found-here : (rs : List Run) (i : ℕ) (d : Run) (n k : ℕ) → i < length rs → k < errors_in (items_of_run (get_or rs i d)) → Some (n + k) ≡ slice_get (error_scalars n (items_of_runs (drop i rs))) k
-found-here rs i d n k l h =
-    let r = get_or rs i d in
-    let here = error_scalars n (items_of_run r) in
-    sym (at_drop_more (λ (v : List Run). slice_get (error_scalars n (items_of_runs v)) k) rs i d l
-    ∙ ap (λ (ss : List ℕ). slice_get ss k) (error_scalars-append n (items_of_run r) (items_of_runs (drop (i + 1) rs)))
-    ∙ get-front here (error_scalars (n + all_scalars (items_of_run r)) (items_of_runs (drop (i + 1) rs))) k (omega (arith, error_scalars-length n (items_of_run r), h))
-    ∙ run-get n k r h)
+abbrev pub run_at : List Run → ℕ → List Ended
+run_at rs i = items_of_run (get_or rs i no_run)
 
--- or behind it
-pub found-next : (rs : List Run) (i : ℕ) (d : Run) (n k : ℕ) → i < length rs → errors_in (items_of_run (get_or rs i d)) ≤ k
-    → slice_get (error_scalars (n + all_scalars (items_of_run (get_or rs i d))) (items_of_runs (drop (i + 1) rs))) (k - errors_in (items_of_run (get_or rs i d))) ≡ slice_get (error_scalars n (items_of_runs (drop i rs))) k
-found-next rs i d n k l h =
-    let r = get_or rs i d in
-    let here = error_scalars n (items_of_run r) in
-    let rest = error_scalars (n + all_scalars (items_of_run r)) (items_of_runs (drop (i + 1) rs)) in
-    let size = error_scalars-length n (items_of_run r) in
-    sym (at_drop_more (λ (v : List Run). slice_get (error_scalars n (items_of_runs v)) k) rs i d l
-    ∙ ap (λ (ss : List ℕ). slice_get ss k) (error_scalars-append n (items_of_run r) (items_of_runs (drop (i + 1) rs)))
-    ∙ get-back here rest k (omega (arith, size, h))
-    ∙ ap (λ (m : ℕ). slice_get rest (k - m)) size)
+module _ (rs : List Run) (i : ℕ) (l : i < length rs) where
+  pub scalars-next : all_scalars (items_of_runs (drop i rs)) ≡ all_scalars (run_at rs i) + all_scalars (items_of_runs (drop (i + 1) rs))
+  scalars-next = at_drop_more (λ (v : List Run). all_scalars (items_of_runs v)) rs i no_run l ∙ all_scalars-append (run_at rs i) (items_of_runs (drop (i + 1) rs))
 
--- the errors of this run that are counted, and those behind it
-pub below-next : (rs : List Run) (i : ℕ) (d : Run) (m n : ℕ) → i < length rs
-    → below m (error_scalars n (items_of_runs (drop i rs))) ≡ min (errors_in (items_of_run (get_or rs i d))) (m - n) + below m (error_scalars (n + all_scalars (items_of_run (get_or rs i d))) (items_of_runs (drop (i + 1) rs)))
-below-next rs i d m n l =
-    let r = get_or rs i d in
-    let here = error_scalars n (items_of_run r) in
-    let rest = error_scalars (n + all_scalars (items_of_run r)) (items_of_runs (drop (i + 1) rs)) in
-    let whole = at_drop_more (λ (v : List Run). below m (error_scalars n (items_of_runs v))) rs i d l ∙ ap (below m) (error_scalars-append n (items_of_run r) (items_of_runs (drop (i + 1) rs))) ∙ below-append m here rest in
-    omega (arith, whole, run-below m n r)
+  module _ (n : ℕ) where
+    abbrev pub rest : List ℕ
+    rest = error_scalars (n + all_scalars (run_at rs i)) (items_of_runs (drop (i + 1) rs))
+
+    errors-next : error_scalars n (items_of_runs (drop i rs)) ≡ error_scalars n (run_at rs i) ++ rest
+    errors-next = at_drop_more (λ (v : List Run). error_scalars n (items_of_runs v)) rs i no_run l ∙ error_scalars-append n (run_at rs i) (items_of_runs (drop (i + 1) rs))
+
+    -- the error is in this run
+    pub found-here : (k : ℕ) → k < errors_in (run_at rs i) → Some (n + k) ≡ slice_get (error_scalars n (items_of_runs (drop i rs))) k
+    found-here k h =
+        sym (ap (λ (ss : List ℕ). slice_get ss k) errors-next ∙ get-front (error_scalars n (run_at rs i)) rest k (omega (arith, error_scalars-length n (run_at rs i), h))
+        ∙ run-get n k (get_or rs i no_run) h)
+
+    -- or behind it
+    pub found-next : (k : ℕ) → errors_in (run_at rs i) ≤ k → slice_get rest (k - errors_in (run_at rs i)) ≡ slice_get (error_scalars n (items_of_runs (drop i rs))) k
+    found-next k h =
+        let size = error_scalars-length n (run_at rs i) in
+        sym (ap (λ (ss : List ℕ). slice_get ss k) errors-next ∙ get-back (error_scalars n (run_at rs i)) rest k (omega (arith, size, h)) ∙ ap (λ (m : ℕ). slice_get rest (k - m)) size)
+
+    -- the errors of this run that are counted, and those behind it
+    pub below-next : (m : ℕ) → below m (error_scalars n (items_of_runs (drop i rs))) ≡ min (errors_in (run_at rs i)) (m - n) + below m rest
+    below-next m = omega (arith, ap (below m) errors-next, below-append m (error_scalars n (run_at rs i)) rest, run-below m n (get_or rs i no_run))
 
 -- no more errors are counted than there are code points
 runs-few : (rs : List Run) → errors_in (items_of_runs rs) ≤ all_scalars (items_of_runs rs)

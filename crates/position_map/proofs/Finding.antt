@@ -1,17 +1,11 @@
 -- The pieces of a document and its tail, as outcomes in a row.
 use Rattle.std.proofs.Common.{◌≡◌, refl, sym, ap, subst, ◌∙◌, ℕ, ◌+◌, ◌*◌, ◌<◌, ◌≤◌, List, [], ◌∷◌, ◌++◌, length, length-append, map, take-append-drop, append_assoc, append-nil, arith, Option, Some, None, Bor, option_copied}
-use Rattle.std.specs.Option.{option_to_list, option_map, IfSome}
-use Rattle.piece_rope.specs.Search.{IsFound, total}
-use Rattle.piece_rope.specs.Decode.{Placed}
-use Rattle.piece_rope.specs.Outcomes.{Outcome, Sum, total_of, no_sum, joined}
-use Rattle.piece_rope.specs.Document.{Document, decoded}
 use Rattle.piece_rope.specs.Entry.{Entry, here_of, entry_sum}
-use Rattle.position_map.specs.Found.{sum_in_outcome, IsFoundBy}
-use Rattle.piece_rope.specs.Made.{IsMade, AreMade, body_of, tail_of, count_body}
-use Rattle.piece_rope.specs.Outputs.{HasOutputs, HaveOutputs}
 use Rattle.piece_rope.specs.Chain.{bytes_of}
 use Rattle.piece_rope.specs.Sizes.{AreSized, AreCounted, shortest}
-use Rattle.position_map.specs.Whole.{AreAllPieces, AreAtLeast, AreAtMost, pieces_most}
+use Rattle.position_map.proofs.Words.{map_none, map-append, option_to_list, option_map, IfSome, IsFound, total, Placed, Outcome, Sum, total_of}
+use Rattle.position_map.proofs.Words.{no_sum, joined, Document, decoded, sum_in_outcome, IsFoundBy, IsMade, AreMade, body_of, tail_of, count_body}
+use Rattle.position_map.proofs.Words.{HasOutputs, HaveOutputs, AreAllPieces, AreAtLeast, AreAtMost, pieces_most}
 
 made-last : (os : List Outcome) (tail : Outcome) (base end : ℕ) (ps qs : List Placed) → AreMade base ps os → end ≡ base + (total_of os).bytes → IsMade end qs tail → AreMade base (ps ++ qs) (os ++ tail ∷ [])
 made-last [] tail base end ps qs m e t =
@@ -80,10 +74,6 @@ at_most-found most (x ∷ xs) o back h = at_most-found most xs o back h.1
 pub found-short : (measured : Sum → ℕ) (target : ℕ) (d : Document) (os : List Outcome) (tail : Outcome) (s : Sum) (o : Outcome) → AreAllPieces d os tail → IsFoundBy measured target os s (Some o) → o.sum.bytes ≤ 2048
 found-short measured target d os tail s o w f = at_most-found 2048 f.front o f.back (subst (AreAtMost 2048) f.split w.short)
 
-map-append : (xs ys : List Entry) → map here_of (xs ++ ys) ≡ map here_of xs ++ map here_of ys
-map-append [] ys = refl
-map-append (x ∷ xs) ys = ap (λ t. here_of x ∷ t) (map-append xs ys)
-
 map-option : (o : Option Entry) → map here_of (option_to_list o) ≡ option_to_list (option_map here_of o)
 map-option None = refl
 map-option (Some x) = refl
@@ -91,10 +81,6 @@ map-option (Some x) = refl
 total-map : (xs : List Entry) → total no_sum joined entry_sum xs ≡ total_of (map here_of xs)
 total-map [] = refl
 total-map (x ∷ xs) = ap (joined (entry_sum x)) (total-map xs)
-
-none-map : (o : Option Entry) → option_map here_of o ≡ None → o ≡ None
-none-map None e = refl
-none-map (Some x) e = cc
 
 high-map : (P : Sum → Type 0) (s : Sum) (o : Option Entry) → IfSome o (λ e. P (joined s (entry_sum e))) → IfSome (option_map here_of o) (λ x. P (joined s (sum_in_outcome x)))
 high-map P s None h = h
@@ -106,8 +92,8 @@ pub found-map : (measured : Sum → ℕ) (target : ℕ) (es : List Entry) (s : S
 found-map measured target es s x f = record {
   front = map here_of f.front;
   back = map here_of f.back;
-  split = ap (map here_of) f.split ∙ map-append f.front (option_to_list x ++ f.back) ∙ ap (λ t. map here_of f.front ++ t) (map-append (option_to_list x) f.back ∙ ap (λ t. t ++ map here_of f.back) (map-option x));
-  ends = λ e. ap (map here_of) (f.ends (none-map x e));
+  split = ap (map here_of) f.split ∙ map-append here_of f.front (option_to_list x ++ f.back) ∙ ap (λ t. map here_of f.front ++ t) (map-append here_of (option_to_list x) f.back ∙ ap (λ t. t ++ map here_of f.back) (map-option x));
+  ends = λ e. ap (map here_of) (f.ends (map_none here_of x e));
   sum = f.sum ∙ total-map f.front;
   low = f.low;
   high = high-map (λ v. target < measured v) s x f.high;

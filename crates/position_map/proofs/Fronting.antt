@@ -1,38 +1,13 @@
 -- Fronts of a document's text by units.
-use Rattle.std.proofs.Common.{◌≡◌, sym, ap, subst, ◌∙◌, ℕ, ◌+◌, ◌-◌, ◌<◌, ◌≤◌, ◌⊎◌, inl, inr, true, false, cond, nat_le, List, [], ◌++◌, length, length-append, take, append-nil, arith, Some, None, Result, Ok, Err}
-use Rattle.std.specs.Option.{option_map, ok_or}
-use Rattle.std.specs.List.{slice_get}
-use Rattle.std.proofs.lemmas.List.{take_at}
-use Rattle.std.proofs.lemmas.Option.{slice_get_past}
-use Rattle.std.proofs.lemmas.Bool.Decides.{nat_tests}
-use Rattle.piece_rope.specs.Search.{Axis, measure}
-use Rattle.piece_rope.specs.Outcomes.{Sum}
-use Rattle.position_map.specs.declared.fault.PosFault.{PosFault}
-use Rattle.position_map.specs.declared.fault.PosFault.TheVariants.{OutOfRange, SplitsCharacter}
-use Rattle.position_map.specs.declared.point.Point.{Point}
-use Rattle.position_map.specs.declared.position.Position.{Position}
-use Rattle.position_map.specs.declared.unit.Unit.{Unit as TextUnit}
-use Rattle.position_map.specs.declared.unit.Unit.TheVariants.{Utf8, Utf16, Utf32}
-use Rattle.position_map.specs.Along.{IsAlongFront}
-use Rattle.position_map.specs.Fronts.{IsTextFront, IsFrontOf}
-use Rattle.position_map.specs.Lines.{lines_of}
-use Rattle.position_map.specs.Located.{IsLocated, IsOfText, reach, axis_of, sum_in}
-use Rattle.position_map.specs.Marked.{IsLineStart, IsLineEnd}
-use Rattle.position_map.specs.Points.{IsTextEnd}
-use Rattle.position_map.specs.Positions.{along, between, offset_at, offset_of, converted}
-use Rattle.position_map.specs.Widths.{width}
+use Rattle.std.proofs.Common.{refl, ◌≡◌, sym, ap, subst, ◌∙◌, ℕ, ◌+◌, ◌-◌, ◌<◌, ◌≤◌, ◌⊎◌, inl, inr, true, false, cond, nat_le, List, [], ◌++◌, length, length-append, take, append-nil, arith, Some, None, Result, Ok, Err}
+use Rattle.position_map.proofs.Words.{option_map, ok_or, slice_get, take_at, slice_get_past, nat_tests, Axis, measure, Sum, PosFault, OutOfRange}
+use Rattle.position_map.proofs.Words.{SplitsCharacter, Point, Position, TextUnit, Utf8, Utf16, Utf32, IsAlongFront, IsTextFront, IsFrontOf, lines_of}
+use Rattle.position_map.proofs.Words.{IsLocated, IsOfText, reach, axis_of, sum_in, IsLineStart, IsLineEnd, IsTextEnd, along, between, offset_at}
+use Rattle.position_map.proofs.Words.{offset_of, converted, width}
 use Rattle.position_map.proofs.Alongs.{along-append, along_within, along_line, past_line, line_width}
-use Rattle.position_map.proofs.LineMarks.{line_is, ordered}
+use Rattle.position_map.proofs.LineMarks.{line_is, ascending, ascending-line}
 use Rattle.position_map.proofs.Pointing.{sum_width, regroup}
 use Rattle.position_map.proofs.Widths.{width-append, width-take_le, width-scalars}
-
-pub is_of_text : (u : TextUnit) (a : Axis) → a ≡ axis_of u → IsOfText a
-is_of_text u a e = subst IsOfText (sym e) (by_unit u)
-  where
-    by_unit : (u : TextUnit) → IsOfText (axis_of u)
-    by_unit Utf8 = tt
-    by_unit Utf16 = tt
-    by_unit Utf32 = tt
 
 low_of : (u : TextUnit) (n : ℕ) (s : Sum) → measure (axis_of u) s ≤ n → sum_in u s ≤ n
 low_of Utf8 n s h = h
@@ -114,21 +89,19 @@ unfolding converted
 convert_found text part from to n v w s f h ev ew =
     let t : nat_le n (width from text) ≡ true = grind (arith, nat_tests) in
     let same : v + w ≡ width to (take (s.scalars + length part) text) = omega (arith, ev, ew, front_units to text part s f.is) in
-    let found : ok_or (option_map (λ k. width to (take k text)) (along from text n)) SplitsCharacter ≡ Ok (width to (take (s.scalars + length part) text)) = ap (λ o. ok_or (option_map (λ k. width to (take k text)) o) SplitsCharacter) f.along in
-    ap (λ m. Ok m) same ∙ sym found ∙ sym (ap (λ b. cond b (ok_or (option_map (λ k. width to (take k text)) (along from text n)) SplitsCharacter) (Err OutOfRange)) t)
+    rw (t, f.along) (ap (λ m. Ok m) same)
 
 pub convert_split : (text : List ℕ) (from to : TextUnit) (n : ℕ) (e : PosFault) → along from text n ≡ None → e ≡ SplitsCharacter → n ≤ width from text → Err e ≡ converted text from to n
 unfolding converted
 convert_split text from to n e a is h =
     let t : nat_le n (width from text) ≡ true = grind (arith, nat_tests) in
-    let found : ok_or (option_map (λ k. width to (take k text)) (along from text n)) SplitsCharacter ≡ Err SplitsCharacter = ap (λ o. ok_or (option_map (λ k. width to (take k text)) o) SplitsCharacter) a in
-    ap (λ m. Err m) is ∙ sym found ∙ sym (ap (λ b. cond b (ok_or (option_map (λ k. width to (take k text)) (along from text n)) SplitsCharacter) (Err OutOfRange)) t)
+    rw (t, a, is) refl
 
 pub convert_past : (text : List ℕ) (from to : TextUnit) (n : ℕ) → width from text < n → Err OutOfRange ≡ converted text from to n
 unfolding converted
 convert_past text from to n h =
     let t : nat_le n (width from text) ≡ false = grind (arith, nat_tests) in
-    sym (ap (λ b. cond b (ok_or (option_map (λ k. width to (take k text)) (along from text n)) SplitsCharacter) (Err OutOfRange)) t)
+    rw t refl
 
 -- the offset on a line
 offset_by : (u : TextUnit) (text : List ℕ) (at : Position) (p q : Point) → IsLineStart u text at.line p → IsLineEnd u text at.line q → p.scalars ≤ q.scalars → p.units + at.character < q.units
@@ -143,7 +116,8 @@ offset_by u text at p q s e h l =
     ap (λ o. ok_or o SplitsCharacter) a ∙ ap (λ o. offset_at text u o at.character) (sym here)
 
 pub start_before_end : (u : TextUnit) (text : List ℕ) (line : ℕ) (p q : Point) → IsLineStart u text line p → IsLineEnd u text line q → p.scalars ≤ q.scalars
-start_before_end u text line p q s e = ordered text line (record { start = p.scalars; end = q.scalars }) (line_is (slice_get (lines_of text) line) p.scalars q.scalars s.is e.is)
+start_before_end u text line p q s e =
+    (ascending-line 0 0 (length text) (lines_of text) line (record { start = p.scalars; end = q.scalars }) (ascending text) (line_is (slice_get (lines_of text) line) p.scalars q.scalars s.is e.is)).1
 
 pub units_before_end : (u : TextUnit) (text : List ℕ) (line : ℕ) (p q : Point) → IsLineStart u text line p → IsLineEnd u text line q → p.units ≤ q.units
 units_before_end u text line p q s e =
@@ -173,4 +147,4 @@ offset_none u text at q h e = ap Ok e.scalars ∙ ap (λ o. offset_at text u o a
 
 -- the offset of a place along a line
 pub offset_of_place : (u : TextUnit) (line : List ℕ) (n start k count : ℕ) → count ≡ k → along u line n ≡ Some k → Ok (start + count) ≡ ok_or (option_map (λ j. start + j) (along u line n)) SplitsCharacter
-offset_of_place u line n start k count e a = ap (λ j. Ok (start + j)) e ∙ sym (ap (λ o. ok_or (option_map (λ j. start + j) o) SplitsCharacter) a)
+offset_of_place u line n start k count e a = rw (a, e) refl

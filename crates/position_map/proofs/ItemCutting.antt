@@ -1,56 +1,25 @@
 -- Cuts between code points, found by what pieces remember.
-use Rattle.std.proofs.Common.{◌≡◌, refl, sym, ap, subst, ◌∙◌, ℕ, suc, ◌+◌, ◌-◌, ◌<◌, ◌≤◌, ◌==◌, eqb, Bool, true, false, cond, nat_lt, nat_le, List, [], ◌∷◌, ◌++◌, length, length-append, drop, arith, Option, Some, None, slice_get, inl, inr, if◌then◌else◌}
-use Rattle.std.specs.Option.{option_eq, option_map}
-use Rattle.std.proofs.lemmas.Bool.Decides.{nat_tests}
+use Rattle.std.proofs.Common.{◌≡◌, refl, sym, ap, subst, ◌∙◌, ℕ, suc, ◌+◌, ◌-◌, ◌<◌, ◌≤◌, ◌==◌, eqb, Bool, true, false, cond, nat_lt, nat_le, List, [], ◌∷◌, ◌++◌, length, length-append, drop, arith, Option, Some, None, inl, inr, if◌then◌else◌}
 use Rattle.std.proofs.lemmas.List.Elements.{All-head, All-tail}
-use Rattle.piece_rope.specs.Decode.{Ended as Turned, Ascii, Placed, places, item_code_points, code_points, decode, run_in, in_force, mark_length}
-use Rattle.piece_rope.specs.Outcomes.{Ended, Outcome, Sum, total_of, item_of}
-use Rattle.piece_rope.specs.Document.{Document, decoded, text_of, decoded_text}
-use Rattle.piece_rope.specs.Made.{AreEnded, AreMade, ends_at}
-use Rattle.piece_rope.specs.Outputs.{output_at, HasOutputs, HaveOutputs}
-use Rattle.position_map.specs.declared.item_cuts.Cut.{Cut}
-use Rattle.position_map.specs.ItemCuts.{cut_behind, cut_of}
-use Rattle.piece_rope.specs.Search.{Scalar, measure}
-use Rattle.position_map.specs.Placing.{last_to, IsPlaced}
-use Rattle.position_map.specs.Plan.{item_width, cut_at, cut}
-use Rattle.position_map.specs.Whole.{Pieced}
-use Rattle.position_map.proofs.Items.{IsPieced, items_of, made_split, made_count, piece_count, scalars-append}
-use Rattle.position_map.proofs.Cases.{by_test, by_le, same_some, none_some}
+use Rattle.position_map.specs.Plan.{cut_at}
+use Rattle.position_map.proofs.Words.{slice_get, option_eq, option_map, nat_tests, Turned, Ascii, Placed, places, item_code_points, code_points}
+use Rattle.position_map.proofs.Words.{decode, run_in, in_force, mark_length, Ended, Outcome, Sum, total_of, item_of, Document, decoded, text_of}
+use Rattle.position_map.proofs.Words.{decoded_text, AreEnded, AreMade, ends_at, output_at, HasOutputs, HaveOutputs, Cut, cut_behind, cut_of, Scalar}
+use Rattle.position_map.proofs.Words.{measure, last_to, IsPlaced, item_width, cut, Pieced, by_le, by_test, same_some, none_some, map_none, map_some}
+use Rattle.position_map.proofs.Words.{none_past}
+use Rattle.position_map.proofs.Chains.{item-here, item-later, item-next, item_within, cut_around}
+use Rattle.position_map.proofs.Items.{IsPieced, piece_count}
 
 -- ---- items of a piece
 
-item-here : (e : Ended) (es : List Ended) (n : ℕ) → n < e.scalars → item_of (e ∷ es) n ≡ Some 0
-item-here e es n h = let t : nat_lt n e.scalars ≡ true = grind (arith, nat_tests) in ap (λ b. cond b (Some 0) (option_map (λ k. k + 1) (item_of es (n - e.scalars)))) t
-
-item-later : (e : Ended) (es : List Ended) (n : ℕ) → e.scalars ≤ n → item_of (e ∷ es) n ≡ option_map (λ k. k + 1) (item_of es (n - e.scalars))
-item-later e es n h = let t : nat_lt n e.scalars ≡ false = grind (arith, nat_tests) in ap (λ b. cond b (Some 0) (option_map (λ k. k + 1) (item_of es (n - e.scalars)))) t
-
-abbrev end_if : ℕ → Ended → Bool → Option Cut
-end_if base e b = if b then Some (record { at = ends_at base e.end; output = e.output }) else None
-
 cut-later : (base : ℕ) (e : Ended) (es : List Ended) (n : ℕ) → e.scalars < n → cut_behind base (e ∷ es) n ≡ cut_behind base es (n - e.scalars)
-cut-later base e es n h = let t : nat_lt e.scalars n ≡ true = grind (arith, nat_tests) in ap (λ b. cond b (cut_behind base es (n - e.scalars)) (end_if base e (e.scalars == n))) t
+cut-later base e es n h = let t : nat_lt e.scalars n ≡ true = grind (arith, nat_tests) in rw t refl
 
 cut-end : (base : ℕ) (e : Ended) (es : List Ended) (n : ℕ) → e.scalars ≡ n → cut_behind base (e ∷ es) n ≡ Some (record { at = ends_at base e.end; output = e.output })
-cut-end base e es n h =
-    let t : nat_lt e.scalars n ≡ false = grind (arith, nat_tests) in
-    let s : (e.scalars == n) ≡ true = grind (arith, nat_tests) in
-    ap (λ b. cond b (cut_behind base es (n - e.scalars)) (end_if base e (e.scalars == n))) t ∙ ap (end_if base e) s
+cut-end base e es n h = let t : nat_lt e.scalars n ≡ false = grind (arith, nat_tests) in let s : (e.scalars == n) ≡ true = grind (arith, nat_tests) in rw (t, s) refl
 
 cut-within : (base : ℕ) (e : Ended) (es : List Ended) (n : ℕ) → n < e.scalars → cut_behind base (e ∷ es) n ≡ None
-cut-within base e es n h =
-    let t : nat_lt e.scalars n ≡ false = grind (arith, nat_tests) in
-    let s : (e.scalars == n) ≡ false = grind (arith, nat_tests) in
-    ap (λ b. cond b (cut_behind base es (n - e.scalars)) (end_if base e (e.scalars == n))) t ∙ ap (end_if base e) s
-
--- how many items are in front
-map_some : (o : Option ℕ) (k : ℕ) → option_map (λ j. j + 1) o ≡ Some k → (j : ℕ) × (o ≡ Some j) × (k ≡ j + 1)
-map_some None k h = absurd (none_some h)
-map_some (Some j) k h = (j, refl, sym (same_some h))
-
-map_none : (o : Option ℕ) → option_map (λ j. j + 1) o ≡ None → o ≡ None
-map_none None h = refl
-map_none (Some j) h = absurd (none_some (sym h))
+cut-within base e es n h = let t : nat_lt e.scalars n ≡ false = grind (arith, nat_tests) in let s : (e.scalars == n) ≡ false = grind (arith, nat_tests) in rw (t, s) refl
 
 -- the last code point of those in front is in no item
 pub cut-none : (base : ℕ) (es : List Ended) (n : ℕ) → 0 < n → item_of es (n - 1) ≡ None → cut_behind base es n ≡ None
@@ -59,7 +28,7 @@ cut-none base (e ∷ es) n some h =
     by_le e.scalars (n - 1)
     (λ le.
     let less : n - 1 - e.scalars ≡ n - e.scalars - 1 = omega arith in
-    let rest : item_of es (n - e.scalars - 1) ≡ None = ap (item_of es) (sym less) ∙ map_none (item_of es (n - 1 - e.scalars)) (sym (item-later e es (n - 1) le) ∙ h) in
+    let rest : item_of es (n - e.scalars - 1) ≡ None = ap (item_of es) (sym less) ∙ map_none (λ j. j + 1) (item_of es (n - 1 - e.scalars)) (sym (item-later e es (n - 1) le) ∙ h) in
     cut-later base e es n (omega (arith, le, some)) ∙ cut-none base es (n - e.scalars) (omega (arith, le, some)) rest)
     (λ lt. absurd (none_some (sym h ∙ item-here e es (n - 1) lt)))
 
@@ -70,15 +39,15 @@ cut-inside base (e ∷ es) n k some h g =
     by_le e.scalars (n - 1)
     (λ le.
     let less : n - 1 - e.scalars ≡ n - e.scalars - 1 = omega arith in
-    let one = map_some (item_of es (n - 1 - e.scalars)) k (sym (item-later e es (n - 1) le) ∙ h) in
-    let two = map_some (item_of es (n - e.scalars)) k (sym (item-later e es n (omega (arith, le))) ∙ g) in
+    let one = item-next e es (n - 1) k le h in
+    let two = item-next e es n k (omega (arith, le)) g in
     let same : two.0 ≡ one.0 = omega (arith, one.2, two.2) in
     cut-later base e es n (omega (arith, le, some))
     ∙ cut-inside base es (n - e.scalars) one.0 (omega (arith, le, some)) (ap (item_of es) (sym less) ∙ one.1) (two.1 ∙ ap Some same))
     (λ lt.
     let first : k ≡ 0 = same_some (sym h ∙ item-here e es (n - 1) lt) in
     by_le e.scalars n
-    (λ le. let two = map_some (item_of es (n - e.scalars)) k (sym (item-later e es n le) ∙ g) in absurd (omega (arith, first, two.2)))
+    (λ le. absurd (omega (arith, first, (item-next e es n k le g).2)))
     (λ below. cut-within base e es n below))
 
 -- it is the last one of its item
@@ -89,8 +58,8 @@ cut-behind base (e ∷ es) n k x some h g at =
     by_le e.scalars (n - 1)
     (λ le.
     let less : n - 1 - e.scalars ≡ n - e.scalars - 1 = omega arith in
-    let one = map_some (item_of es (n - 1 - e.scalars)) k (sym (item-later e es (n - 1) le) ∙ h) in
-    let next : item_of es (n - e.scalars) ≡ Some one.0 → ⊥ = λ same. g (item-later e es n (omega (arith, le)) ∙ ap (option_map (λ j. j + 1)) same ∙ ap Some (sym one.2)) in
+    let one = item-next e es (n - 1) k le h in
+    let next : item_of es (n - e.scalars) ≡ Some one.0 → ⊥ = λ same. g (item-later e es n (omega (arith, le)) ∙ ap (option_map (λ j. j + 1)) same ∙ ap Some one.2) in
     let place : suc one.0 ≡ k = omega (arith, one.2) in
     let there : slice_get es one.0 ≡ Some x = ap (slice_get (e ∷ es)) place ∙ at in
     cut-later base e es n (omega (arith, le, some))
@@ -99,7 +68,7 @@ cut-behind base (e ∷ es) n k x some h g at =
     let first : k ≡ 0 = same_some (sym h ∙ item-here e es (n - 1) lt) in
     let is : e ≡ x = same_some (ap (slice_get (e ∷ es)) (sym first) ∙ at) in
     by_le e.scalars n
-    (λ le. cut-end base e es n (omega (arith, le, lt, some)) ∙ ap (λ (i : Ended). Some (record { at = ends_at base i.end; output = i.output })) is)
+    (λ le. cut-end base e es n (omega (arith, le, lt, some)) ∙ rw is refl)
     (λ below. absurd (g (item-here e es n below ∙ ap Some (sym first)))))
 
 -- what the code asks of two numbers of items
@@ -119,21 +88,9 @@ pub is_cut : (base : ℕ) (es : List Ended) (n k : ℕ) (o : Option ℕ) (b : Bo
 is_cut base es n k o b e some h next asked miss there =
     sym (cut-behind base es n k e some (sym h) (λ same. other_item o k (sym asked ∙ miss) (next ∙ same)) (sym there))
 
-has_item : (es : List Ended) (n k : ℕ) → item_of es n ≡ Some k → slice_get es k ≡ None → ⊥
-has_item [] n k h g = none_some h
-has_item (e ∷ es) n k h g =
-    by_le e.scalars n
-    (λ le.
-    let one = map_some (item_of es (n - e.scalars)) k (sym (item-later e es n le) ∙ h) in
-    let place : k ≡ suc one.0 = omega (arith, one.2) in
-    has_item es (n - e.scalars) one.0 one.1 (ap (slice_get (e ∷ es)) (sym place) ∙ g))
-    (λ lt.
-    let first : 0 ≡ k = same_some (sym (item-here e es n lt) ∙ h) in
-    none_some (sym (ap (slice_get (e ∷ es)) first ∙ g)))
-
 -- an item that has a code point is there
 pub item_there : {A : Type 0} (es : List Ended) (n k : ℕ) → Some k ≡ item_of es n → None ≡ slice_get es k → A
-item_there es n k h g = absurd (has_item es n k (sym h) (sym g))
+item_there es n k h g = absurd (omega (arith, none_past es k (sym g), item_within es n k (sym h)))
 
 -- ---- items of a document
 
@@ -141,17 +98,11 @@ cut_at-zero : (at : ℕ) (ps : List Placed) → cut_at at ps 0 ≡ Some at
 cut_at-zero at [] = refl
 cut_at-zero at (p ∷ ps) = refl
 
-abbrev rest_if : Placed → List Placed → ℕ → Bool → Option ℕ
-rest_if p ps n b = if b then cut_at p.to ps (n - item_width p.item) else None
-
-cut_at-some : (at : ℕ) (p : Placed) (ps : List Placed) (n : ℕ) → 0 < n → cut_at at (p ∷ ps) n ≡ rest_if p ps n (nat_le (item_width p.item) n)
-cut_at-some at p ps n some = let t : (n == 0) ≡ false = grind (arith, nat_tests) in ap (λ b. cond b (Some at) (rest_if p ps n (nat_le (item_width p.item) n))) t
-
 cut_at-later : (at : ℕ) (p : Placed) (ps : List Placed) (n : ℕ) → 0 < n → item_width p.item ≤ n → cut_at at (p ∷ ps) n ≡ cut_at p.to ps (n - item_width p.item)
-cut_at-later at p ps n some h = let t : nat_le (item_width p.item) n ≡ true = grind (arith, nat_tests) in cut_at-some at p ps n some ∙ ap (rest_if p ps n) t
+cut_at-later at p ps n some h = let z : (n == 0) ≡ false = grind (arith, nat_tests) in let t : nat_le (item_width p.item) n ≡ true = grind (arith, nat_tests) in rw (z, t) refl
 
 cut_at-inside : (at : ℕ) (p : Placed) (ps : List Placed) (n : ℕ) → 0 < n → n < item_width p.item → cut_at at (p ∷ ps) n ≡ None
-cut_at-inside at p ps n some h = let t : nat_le (item_width p.item) n ≡ false = grind (arith, nat_tests) in cut_at-some at p ps n some ∙ ap (rest_if p ps n) t
+cut_at-inside at p ps n some h = let z : (n == 0) ≡ false = grind (arith, nat_tests) in let t : nat_le (item_width p.item) n ≡ false = grind (arith, nat_tests) in rw (z, t) refl
 
 -- items all of whose code points are in front
 cut_at-skip : (at : ℕ) (xs ys : List Placed) (n : ℕ) → length (code_points xs) < n → cut_at at (xs ++ ys) n ≡ cut_at (last_to at xs) ys (n - length (code_points xs))
@@ -200,33 +151,23 @@ outputs_split d (x ∷ front) o back base h =
     let e : base + x.sum.bytes + (total_of front).bytes ≡ base + (x.sum.bytes + (total_of front).bytes) = omega arith in
     subst (λ b. HasOutputs d b o.items) e (outputs_split d front o back (base + x.sum.bytes) h.1)
 
-all_scalars-text : (d : Pieced) → IsPieced d → length (text_of d.doc) ≡ (total_of (d.pieces ++ d.tail ∷ [])).scalars
-unfolding decoded_text
-all_scalars-text d w = made_count (d.pieces ++ d.tail ∷ []) 0 (items_of d) w.made
-
 pub cut_found : (d : Pieced) (n m : ℕ) (s : Sum) (o : Outcome) → IsPlaced (measure Scalar) d m s o → IsPieced d → m ≡ n - 1 → 0 < n → n ≤ length (text_of d.doc) → cut_behind s.bytes o.items (n - s.scalars) ≡ cut_of d.doc n
 cut_found d n m s o p w before some within =
-    let made : AreMade 0 (items_of d) (p.front ++ o ∷ p.back) = subst (AreMade 0 (items_of d)) p.split w.made in
-    let h = made_split p.front (o ∷ p.back) 0 (items_of d) made in
+    let c = cut_around (measure Scalar) d m s o p w in
     let base : 0 + (total_of p.front).bytes ≡ s.bytes = omega (arith, ap (λ (v : Sum). v.bytes) p.sum) in
-    let m_here : AreMade s.bytes h.right (o ∷ p.back) = subst (λ b. AreMade b h.right (o ∷ p.back)) base h.behind in
     let outputs : HasOutputs d.doc s.bytes o.items = subst (λ b. HasOutputs d.doc b o.items) base (outputs_split d.doc p.front o p.back 0 (subst (HaveOutputs d.doc 0) p.split w.outputs)) in
-    let count : length (code_points h.left) ≡ s.scalars = made_count p.front 0 h.left h.before ∙ sym (ap (λ (v : Sum). v.scalars) p.sum) in
-    let here : length (code_points m_here.0) ≡ o.sum.scalars = piece_count s.bytes m_here.0 o m_here.3 in
-    let ss = ap (λ (v : Sum). v.scalars) p.sum in
-    let total = ap (λ t. (total_of t).scalars) p.split ∙ scalars-append p.front (o ∷ p.back) in
+    let here : length (code_points c.here) ≡ o.sum.scalars = piece_count s.bytes c.here o c.own in
     let enough : n ≤ s.scalars + o.sum.scalars = elim p.high [
-      | inl e ↦ let none : (total_of p.back).scalars ≡ 0 = ap (λ t. (total_of t).scalars) e in omega (arith, none, ss, total, all_scalars-text d w, within)
+      | inl e ↦ let none : (total_of p.back).scalars ≡ 0 = ap (λ t. (total_of t).scalars) e in omega (arith, none, c.all, within)
       | inr g ↦ omega (arith, g, before, some)
     ] in
     let low : s.scalars < n = omega (arith, p.low, before, some) in
-    let items : items_of d ≡ h.left ++ (m_here.0 ++ m_here.1) = h.split ∙ ap (λ t. h.left ++ t) m_here.2 in
     let bom = (decoded d.doc).bom in
     sym (
-    ap (λ t. with_output d.doc (cut_at bom t n)) items
-    ∙ ap (with_output d.doc) (cut_at-skip bom h.left (m_here.0 ++ m_here.1) n (omega (arith, count, low)))
-    ∙ ap (λ k. with_output d.doc (cut_at (last_to bom h.left) (m_here.0 ++ m_here.1) (n - k))) count
-    ∙ cut_at-here d.doc s.bytes (last_to bom h.left) m_here.0 m_here.1 o.items (n - s.scalars) m_here.3.items outputs (omega (arith, low)) (omega (arith, here, enough, low))
+    ap (λ t. with_output d.doc (cut_at bom t n)) c.split
+    ∙ ap (with_output d.doc) (cut_at-skip bom c.left (c.here ++ c.rest) n (omega (arith, c.count, low)))
+    ∙ ap (λ k. with_output d.doc (cut_at (last_to bom c.left) (c.here ++ c.rest) (n - k))) c.count
+    ∙ cut_at-here d.doc s.bytes (last_to bom c.left) c.here c.rest o.items (n - s.scalars) c.own.items outputs (omega (arith, low)) (omega (arith, here, enough, low))
     )
 
 -- ---- a cut lies within the bytes
@@ -253,22 +194,14 @@ place-fits : (d : Document) (n x : ℕ) → (decoded d).bom ≤ length d.bytes �
 unfolding decode
 place-fits d n x low = cut-fits (length d.bytes) (run_in d.indexes (in_force d.setting d.bytes) (drop (mark_length d.setting d.bytes) d.bytes)) (mark_length d.setting d.bytes) (mark_length d.setting d.bytes) n x low
 
-some-of : (d : Document) (o : Option ℕ) (c : Cut) → with_output d o ≡ Some c → (o ≡ Some c.at) × (output_at d c.at ≡ c.output)
-some-of d (Some at) c e =
-    let same : record { at = at; output = output_at d at } ≡ c = cc in
-    let there : at ≡ c.at = ap (λ (c : Cut). c.at) same in
-    (ap Some there, ap (output_at d) (sym there) ∙ ap (λ (c : Cut). c.output) same)
-some-of d None c e = absurd (none_some e)
-
 pub cut_some : (d : Document) (n : ℕ) (c : Cut) → Some c ≡ cut_of d n → (cut d n ≡ Some c.at) × (output_at d c.at ≡ c.output)
-cut_some d n c e = some-of d (cut d n) c (sym e)
-
-none-of : (d : Document) (o : Option ℕ) → with_output d o ≡ None → o ≡ None
-none-of d None e = refl
-none-of d (Some a) e = absurd (none_some (sym e))
+cut_some d n c e =
+    let w = map_some (λ at. record { at = at; output = output_at d at }) (cut d n) c (sym e) in
+    let there : w.0 ≡ c.at = ap (λ (c : Cut). c.at) w.2 in
+    (w.1 ∙ ap Some there, ap (output_at d) (sym there) ∙ ap (λ (c : Cut). c.output) w.2)
 
 pub cut_none : (d : Document) (n : ℕ) → None ≡ cut_of d n → cut d n ≡ None
-cut_none d n e = none-of d (cut d n) (sym e)
+cut_none d n e = map_none (λ at. record { at = at; output = output_at d at }) (cut d n) (sym e)
 
 pub cut_fits : (d : Document) (n : ℕ) (c : Cut) → (decoded d).bom ≤ length d.bytes → Some c ≡ cut_of d n → c.at ≤ length d.bytes
 cut_fits d n c low e = place-fits d n c.at low (cut_some d n c e).0

@@ -1,24 +1,10 @@
 -- The items of a document, piece by piece.
 use Rattle.std.proofs.Common.{◌≡◌, refl, sym, ap, subst, ◌∙◌, ℕ, ◌+◌, ◌-◌, ◌<◌, ◌≤◌, Bool, true, false, cond, nat_le, ℤ, pos, ◌+ℤ◌, List, [], ◌∷◌, ◌++◌, length, length-append, append_assoc, append-nil, arith, Option, Some, None, Ok, Err, Bor, option_copied, ◌^◌}
-use Rattle.std.specs.List.{filter}
-use Rattle.std.specs.Option.{unwrap_or, IfSome}
-use Rattle.std.proofs.lemmas.Bool.Decides.{nat_tests}
-use Rattle.std.proofs.lemmas.Int.{ints}
 use lib.Signed.{le_z}
-use Rattle.piece_rope.specs.Decode.{Placed, item_code_points, code_points}
-use Rattle.piece_rope.specs.Search.{Axis, Byte}
-use Rattle.piece_rope.specs.Outcomes.{Ended, Outcome, Sum, total_of, all_scalars, scalars_before}
-use Rattle.piece_rope.specs.Document.{decoded, text_of, decoded_text}
-use Rattle.position_map.specs.declared.fault.PosFault.TheVariants.{OutOfRange}
-use Rattle.position_map.specs.declared.point.Point.{Point}
-use Rattle.position_map.specs.declared.unit.Unit.{Unit as TextUnit}
-use Rattle.position_map.specs.Found.{IsFoundOutcome}
-use Rattle.piece_rope.specs.Made.{AreEnded, EndWithin, IsMade, AreMade, ends_at}
-use Rattle.position_map.specs.Whole.{AreAtLeast}
-use Rattle.position_map.specs.Places.{scalars_until, scalar_of_byte}
-use Rattle.position_map.specs.Points.{IsTextEnd}
-use Rattle.position_map.specs.Whole.{Pieced, AreAllPieces}
-use Rattle.position_map.proofs.Cases.{by_test}
+use Rattle.position_map.proofs.Words.{same_cons, filter, unwrap_or, IfSome, nat_tests, ints, Placed, item_code_points, code_points, Axis, Byte, Ended}
+use Rattle.position_map.proofs.Words.{Outcome, Sum, total_of, all_scalars, scalars_before, decoded, text_of, decoded_text, OutOfRange, Point}
+use Rattle.position_map.proofs.Words.{TextUnit, IsFoundOutcome, AreEnded, EndWithin, IsMade, AreMade, ends_at, AreAtLeast, scalars_until}
+use Rattle.position_map.proofs.Words.{scalar_of_byte, IsTextEnd, Pieced, AreAllPieces, by_test}
 
 abbrev pub IsPieced : Pieced → Type 0
 IsPieced d = AreAllPieces d.doc d.pieces d.tail
@@ -30,7 +16,7 @@ pub counted : (o : Outcome) → o.sum.scalars ≡ all_scalars o.items
 counted o = o.summed.scalars ∙ o.summed.counted
 
 -- items by themselves
-code_points-append : (xs ys : List Placed) → code_points (xs ++ ys) ≡ code_points xs ++ code_points ys
+pub code_points-append : (xs ys : List Placed) → code_points (xs ++ ys) ≡ code_points xs ++ code_points ys
 code_points-append [] ys = refl
 code_points-append (p ∷ xs) ys = ap (λ t. item_code_points p.item ++ t) (code_points-append xs ys) ∙ sym (append_assoc (item_code_points p.item) (code_points xs) (code_points ys))
 
@@ -53,14 +39,13 @@ within_all : (at base bytes : ℕ) (ps : List Placed) → EndWithin base bytes p
 within_all at base bytes [] w h = refl
 within_all at base bytes (p ∷ ps) w h =
     let t : nat_le p.to at ≡ true = grind (arith, nat_tests, w.0) in
-    until-cons at p ps ∙ ap (λ b. cond b (length (item_code_points p.item)) 0 + scalars_until at ps) t
-    ∙ ap (λ n. length (item_code_points p.item) + n) (within_all at base bytes ps w.2 h) ∙ sym (length-append (item_code_points p.item) (code_points ps))
+    rw (until-cons at p ps, t, within_all at base bytes ps w.2 h) (sym (length-append (item_code_points p.item) (code_points ps)))
 
 within_none : (at base bytes : ℕ) (ps : List Placed) → EndWithin base bytes ps → at + 7 < base → scalars_until at ps ≡ 0
 within_none at base bytes [] w h = refl
 within_none at base bytes (p ∷ ps) w h =
     let t : nat_le p.to at ≡ false = grind (arith, nat_tests, w.1) in
-    until-cons at p ps ∙ ap (λ b. cond b (length (item_code_points p.item)) 0 + scalars_until at ps) t ∙ ap (λ n. 0 + n) (within_none at base bytes ps w.2 h)
+    rw (until-cons at p ps, t, within_none at base bytes ps w.2 h) refl
 
 ends_before : (at base to : ℕ) (end limit : ℤ) → at < 2 ^ 64 - 1 → to ≡ ends_at base end → pos at ≡ pos base +ℤ limit → le_z end limit ≡ nat_le to at
 ends_before at base to end limit s e l =
@@ -74,10 +59,7 @@ count_is at base limit [] [] s w l = refl
 count_is at base limit [] (e ∷ es) s w l = absurd w
 count_is at base limit (p ∷ ps) [] s w l = absurd w
 count_is at base limit (p ∷ ps) (e ∷ es) s w l =
-    ap (λ b. cond b e.scalars 0 + scalars_before limit es) (ends_before at base p.to e.end limit s w.0.end l)
-    ∙ ap (λ n. cond (nat_le p.to at) n 0 + scalars_before limit es) w.0.scalars
-    ∙ ap (λ n. cond (nat_le p.to at) (length (item_code_points p.item)) 0 + n) (count_is at base limit ps es s w.1 l)
-    ∙ sym (until-cons at p ps)
+    rw (until-cons at p ps, ends_before at base p.to e.end limit s w.0.end l, w.0.scalars, count_is at base limit ps es s w.1 l) refl
 
 all_are : (base : ℕ) (ps : List Placed) (es : List Ended) → AreEnded base ps es → length (code_points ps) ≡ all_scalars es
 all_are base [] [] w = refl
@@ -142,19 +124,16 @@ pub scalars-append : (ms bs : List Outcome) → (total_of (ms ++ bs)).scalars �
 scalars-append [] bs = omega arith
 scalars-append (o ∷ ms) bs = omega (arith, scalars-append ms bs)
 
-same_tail : {a b : Outcome} {ms bs : List Outcome} → a ∷ ms ≡ b ∷ bs → (a ≡ b) × (ms ≡ bs)
-same_tail e = (cc, cc)
-
 pub next_some : (front back f2 b2 : List Outcome) (o : Outcome) (n : ℕ) → front ++ back ≡ f2 ++ o ∷ b2 → AreAtLeast 1 (front ++ back) → (total_of front).bytes ≡ n → (total_of f2).bytes ≤ n → n < (total_of f2).bytes + o.sum.bytes → back ≡ o ∷ b2
 next_some [] back [] b2 o n e p h l g = e
 next_some [] back (b ∷ bs) b2 o n e p h l g =
     let q : AreAtLeast 1 (b ∷ (bs ++ o ∷ b2)) = subst (AreAtLeast 1) e p in
     absurd (omega (arith, q.0, h, l))
 next_some (a ∷ ms) back [] b2 o n e p h l g =
-    let same : a.sum.bytes ≡ o.sum.bytes = ap (λ (v : Outcome). v.sum.bytes) (same_tail e).0 in
+    let same : a.sum.bytes ≡ o.sum.bytes = ap (λ (v : Outcome). v.sum.bytes) (same_cons e).0 in
     absurd (omega (arith, same, h, g))
 next_some (a ∷ ms) back (b ∷ bs) b2 o n e p h l g =
-    let w = same_tail e in
+    let w = same_cons e in
     let same : a.sum.bytes ≡ b.sum.bytes = ap (λ (v : Outcome). v.sum.bytes) w.0 in
     next_some ms back bs b2 o (n - a.sum.bytes) w.1 p.1 (omega (arith, h)) (omega (arith, h, l, same)) (omega (arith, h, l, g, same))
 
@@ -177,12 +156,12 @@ at_least_behind least (a ∷ ms) back h = at_least_behind least ms back h.1
 rest_none : (at base : ℕ) (d : Pieced) (front back rest : List Outcome) (o next : Outcome) (ps : List Placed) → d.pieces ≡ front ++ o ∷ back → (1 < length d.pieces → AreAtLeast 512 d.pieces)
     → back ++ d.tail ∷ [] ≡ next ∷ rest → at < base → AreMade (base + next.sum.bytes) ps rest → scalars_until at ps ≡ 0
 rest_none at base d front back [] o next ps split long e h m = ap (scalars_until at) m
-rest_none at base d front [] (r ∷ rs) o next ps split long e h m = absurd (omega (arith, ap length (same_tail e).1))
+rest_none at base d front [] (r ∷ rs) o next ps split long e h m = absurd (omega (arith, ap length (same_cons e).1))
 rest_none at base d front (b ∷ bs) (r ∷ rs) o next ps split long e h m =
     let two : 1 < length d.pieces = omega (arith, ap length split, length-append front (o ∷ b ∷ bs)) in
     let all : AreAtLeast 512 (front ++ o ∷ b ∷ bs) = subst (AreAtLeast 512) split (long two) in
     let here = at_least_behind 512 front (o ∷ b ∷ bs) all in
-    let same : b.sum.bytes ≡ next.sum.bytes = ap (λ (v : Outcome). v.sum.bytes) (same_tail e).0 in
+    let same : b.sum.bytes ≡ next.sum.bytes = ap (λ (v : Outcome). v.sum.bytes) (same_cons e).0 in
     made_none at (r ∷ rs) (base + next.sum.bytes) ps m (omega (arith, here.1.0, same, h))
 
 -- the code points of the items that end at or before a byte in a piece: those of the pieces in front, and of some items of the piece and of the next one
@@ -279,7 +258,7 @@ pub within_bytes : (d : Pieced) (at v : ℕ) → at ≤ length d.doc.bytes → v
 unfolding scalar_of_byte
 within_bytes d at v h e =
     let t : nat_le at (length d.doc.bytes) ≡ true = grind (arith, nat_tests) in
-    ap (λ n. Ok n) e ∙ ap (λ b. cond b (Ok (scalars_until at (items_of d))) (Err OutOfRange)) (sym t)
+    rw (t, e) refl
 
 pub scalar_at_end : (u : TextUnit) (d : Pieced) (at : ℕ) (s : Sum) (r : Option (Bor Outcome)) (e : Point) → IsPieced d → r ≡ None → IsFoundOutcome Byte at d.pieces s (option_copied r) → at ≤ length d.doc.bytes → IsTextEnd u (text_of d.doc) e
     → Ok e.scalars ≡ scalar_of_byte (length d.doc.bytes) (items_of d) at
@@ -294,7 +273,7 @@ pub scalar_past : (d : Pieced) (at : ℕ) → length d.doc.bytes < at → Err Ou
 unfolding scalar_of_byte
 scalar_past d at h =
     let t : nat_le at (length d.doc.bytes) ≡ false = grind (arith, nat_tests) in
-    ap (λ b. cond b (Ok (scalars_until at (items_of d))) (Err OutOfRange)) (sym t)
+    rw t refl
 
 -- what a search says where it finds a piece
 pub found_here : (axis : Axis) (target : ℕ) (os : List Outcome) (s : Sum) (r : Option (Bor Outcome)) (b : Bor Outcome) → r ≡ Some b → IsFoundOutcome axis target os s (option_copied r) → IsFoundOutcome axis target os s (Some b.now)

@@ -1,47 +1,20 @@
 -- The line that a text ends on, found from its last line end.
 use Rattle.std.proofs.Common.{◌≡◌, refl, sym, ap, subst, ◌∙◌, ℕ, ◌+◌, ◌-◌, ◌<◌, ◌≤◌, Bool, true, false, not, ◌==◌, ◌||◌, ◌&&◌, List, [], ◌∷◌, ◌++◌, length, length-append, drop, append_assoc, arith, Some, Ok}
-use Rattle.std.specs.Option.{option_map}
-use Rattle.std.specs.List.{slice_get}
-use Rattle.std.specs.Str.{chars}
-use Rattle.std.proofs.lemmas.List.{drop_at}
-use Rattle.lane_ascii.specs.Marks.{cr, lf, is_mark, one_if, marks, ends_cr}
-use Rattle.piece_rope.specs.Outcomes.{begins_lf}
-use Rattle.position_map.specs.declared.on_line.OnLine.{OnLine}
-use Rattle.position_map.specs.declared.point.Point.{Point}
-use Rattle.position_map.specs.declared.text_cut.TextCut.{TextCut}
-use Rattle.position_map.specs.declared.unit.Unit.{Unit as TextUnit}
-use Rattle.position_map.specs.Fronts.{IsCutAt, IsOnLine}
-use Rattle.position_map.specs.LineEnds.{IsLastLine}
-use Rattle.position_map.specs.Lines.{lines_of}
-use Rattle.position_map.specs.Located.{sum_in}
-use Rattle.position_map.specs.Marked.{IsLineStart, start_of}
-use Rattle.position_map.specs.Positions.{position_of}
-use Rattle.position_map.specs.Widths.{width}
+use Rattle.std.proofs.Math.Bool.{and-false}
+use Rattle.position_map.proofs.Words.{by_test, nat_tests, option_map, slice_get, chars, drop_at, cr, lf, is_mark, one_if, marks, ends_cr, begins_lf}
+use Rattle.position_map.proofs.Words.{OnLine, Point, TextCut, TextUnit, IsCutAt, IsOnLine, IsLastLine, lines_of, sum_in, IsLineStart, start_of}
+use Rattle.position_map.proofs.Words.{position_of, width}
 use Rattle.position_map.proofs.LineMarks.{marks-append, ends_cr-append, line_begins}
 use Rattle.position_map.proofs.NextLines.{marks-flag_le}
 use Rattle.position_map.proofs.OnLines.{placed_here, position_found}
 use Rattle.position_map.proofs.Pointing.{sum_width, point-from}
 use Rattle.position_map.proofs.Widths.{width-append}
 
-no_cr : (x y : Bool) → (x || (y && not false)) ≡ false → (x ≡ false) × (y ≡ false)
-no_cr true y e = cc
-no_cr false true e = cc
-no_cr false false e = (refl, refl)
-
-and_false : (b : Bool) → (b && false) ≡ false
-and_false true = refl
-and_false false = refl
-
-not_mark : (b : Bool) (k : ℕ) → one_if b + k ≡ 0 → b ≡ false
-not_mark true k e = absurd (omega (arith, e))
-not_mark false k e = refl
-
 -- a line end with which a text ends, or behind which no other follows, is whole
 apart : (line back : List ℕ) (c : ℕ) → marks false line ≡ 0 → (ends_cr (c == cr) line && begins_lf back) ≡ false → ((c == cr) && begins_lf (line ++ back)) ≡ false
 apart [] back c none h = h
 apart (x ∷ xs) back c none h =
-    let w = no_cr (x == cr) (x == lf) (not_mark (is_mark false x) (marks (x == cr) xs) none) in
-    ap (λ t. (c == cr) && t) w.1 ∙ and_false (c == cr)
+    by_test (is_mark false x) (λ t. absurd (omega (arith, none, ap one_if t))) (λ t. let y : (x == lf) ≡ false = grind (arith, nat_tests) in rw y (and-false (c == cr)))
 
 -- the start of the line that the front part of a cut ends on
 record IsNear (u : TextUnit) (text : List ℕ) (x : TextCut) (line : List ℕ) : Type 0 where

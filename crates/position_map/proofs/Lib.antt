@@ -15,6 +15,7 @@ pub mod Pointing
 pub mod Finding
 pub mod Selecting
 pub mod Widths
+pub mod Words
 pub mod ItemCutting
 pub mod Ordering
 pub mod Planning

@@ -1,15 +1,10 @@
 -- Where a piece that was found stands in the text.
 use Rattle.std.proofs.Common.{◌≡◌, refl, sym, ap, subst, ◌∙◌, ℕ, ◌+◌, ◌<◌, inl, inr, List, [], ◌∷◌, ◌++◌, append_assoc, append-nil, arith, Option, Some, None, Bor, option_copied}
-use Rattle.std.specs.List.{flat_map}
-use Rattle.std.specs.Option.{unwrap_or}
-use Rattle.piece_rope.specs.Decode.{Placed, item_code_points, code_points}
-use Rattle.piece_rope.specs.Search.{Axis, Byte, Scalar, Utf16 as by_utf16, Utf8 as by_utf8, Mark, measure}
-use Rattle.piece_rope.specs.Outcomes.{Ended, Outcome, Sum, IsSumOf, total_of, joined}
-use Rattle.piece_rope.specs.Document.{Document, decoded, text_of, decoded_text}
-use Rattle.position_map.specs.Found.{IsFoundOutcome}
-use Rattle.position_map.specs.Located.{IsLocated, IsOfText, reach}
-use Rattle.piece_rope.specs.Made.{AreMade}
-use Rattle.position_map.specs.Whole.{AreAllPieces}
+use Rattle.std.proofs.lemmas.Grind.{flat_map-append}
+use Rattle.position_map.proofs.Words.{flat_map, unwrap_or, Placed, item_code_points, code_points, Axis, Byte, Scalar, by_utf16, by_utf8}
+use Rattle.position_map.proofs.Words.{by_mark as Mark, measure, Ended, Outcome, Sum, IsSumOf, total_of, joined, Document, decoded, text_of}
+use Rattle.position_map.proofs.Words.{decoded_text, IsFoundOutcome, IsLocated, IsOfText, reach, AreMade, AreAllPieces}
+use Rattle.position_map.proofs.Items.{code_points-append}
 
 abbrev pub text_in : Outcome → List ℕ
 text_in o = o.text
@@ -26,14 +21,6 @@ items os = flat_map items_in os
 -- the numbers of two texts in a row are the join of theirs
 abbrev pub Joins : Type 0
 Joins = (a b : List ℕ) (is js : List Ended) (s t : Sum) → IsSumOf a is s → IsSumOf b js t → IsSumOf (a ++ b) (is ++ js) (joined s t)
-
-texts-append : (xs ys : List Outcome) → texts (xs ++ ys) ≡ texts xs ++ texts ys
-texts-append [] ys = refl
-texts-append (x ∷ xs) ys = ap (λ t. text_in x ++ t) (texts-append xs ys) ∙ sym (append_assoc (text_in x) (texts xs) (texts ys))
-
-code_points-append : (xs ys : List Placed) → code_points (xs ++ ys) ≡ code_points xs ++ code_points ys
-code_points-append [] ys = refl
-code_points-append (p ∷ xs) ys = ap (λ t. item_code_points p.item ++ t) (code_points-append xs ys) ∙ sym (append_assoc (item_code_points p.item) (code_points xs) (code_points ys))
 
 made-text : (os : List Outcome) (base : ℕ) (ps : List Placed) → AreMade base ps os → code_points ps ≡ texts os
 made-text [] base ps m = ap code_points m
@@ -65,7 +52,7 @@ located-piece joins axis target d os tail s o of_text w f =
       front = texts f.front;
       items = items f.front;
       back = texts (f.back ++ tail ∷ []);
-      split = whole-text d os tail w ∙ ap (λ xs. texts (xs ++ tail ∷ [])) f.split ∙ ap texts (append_assoc f.front (o ∷ f.back) (tail ∷ [])) ∙ texts-append f.front (o ∷ (f.back ++ tail ∷ []));
+      split = whole-text d os tail w ∙ ap (λ xs. texts (xs ++ tail ∷ [])) f.split ∙ ap texts (append_assoc f.front (o ∷ f.back) (tail ∷ [])) ∙ flat_map-append text_in f.front (o ∷ (f.back ++ tail ∷ []));
       sum = before;
       low = f.low;
       high = inr (measured axis (texts f.front ++ o.text) (items f.front ++ o.items) (joined s o.sum) target (joins (texts f.front) o.text (items f.front) o.items s o.sum before o.summed) f.high of_text);
@@ -79,7 +66,7 @@ located-tail joins axis target d os tail s w f =
       front = texts f.front;
       items = items f.front;
       back = [];
-      split = whole-text d os tail w ∙ ap (λ xs. texts (xs ++ tail ∷ [])) all ∙ texts-append f.front (tail ∷ []);
+      split = whole-text d os tail w ∙ ap (λ xs. texts (xs ++ tail ∷ [])) all ∙ flat_map-append text_in f.front (tail ∷ []);
       sum = subst (λ v. IsSumOf (texts f.front) (items f.front) v) (sym f.sum) (sum-total joins f.front);
       low = f.low;
       high = inl refl;

@@ -1,55 +1,26 @@
 -- The next line, found from the one before.
 use Rattle.std.proofs.Common.{◌≡◌, refl, sym, ap, subst, ◌∙◌, ℕ, ◌+◌, ◌-◌, ◌<◌, ◌≤◌, Bool, true, false, not, cond, ◌==◌, ◌||◌, ◌&&◌, List, [], ◌∷◌, ◌++◌, length, length-append, take, drop, append_assoc, arith, Option, Some, None, Result, Ok}
-use Rattle.std.specs.Option.{option_map, ok_or}
-use Rattle.std.specs.List.{slice_get}
-use Rattle.std.specs.Str.{chars}
-use Rattle.std.proofs.lemmas.List.{take_at, drop_at}
-use Rattle.std.proofs.lemmas.Bool.Decides.{nat_tests}
-use Rattle.lane_ascii.specs.Marks.{cr, lf, is_mark, one_if, marks, ends_cr}
-use Rattle.piece_rope.specs.Outcomes.{begins_lf}
-use Rattle.position_map.specs.declared.mark.LineMark.{LineMark}
 use Rattle.position_map.specs.declared.next_line.NextLine.{NextLine}
-use Rattle.position_map.specs.declared.point.Point.{Point}
-use Rattle.position_map.specs.declared.position.Position.{Position}
-use Rattle.position_map.specs.declared.fault.PosFault.{PosFault}
-use Rattle.position_map.specs.declared.fault.PosFault.TheVariants.{SplitsCharacter}
-use Rattle.position_map.specs.declared.unit.Unit.{Unit as TextUnit}
-use Rattle.position_map.specs.declared.unit.Unit.TheVariants.{Utf8}
-use Rattle.position_map.specs.Cuts.{IsScalarCut, IsRestBehind}
-use Rattle.position_map.specs.Lines.{LineSpan, lines_of}
-use Rattle.position_map.specs.Marked.{IsMark, IsMarkAt, IsMarkCut, IsLineStart, start_of, end_of}
-use Rattle.position_map.specs.NextLines.{IsNextLine, IsAhead}
-use Rattle.position_map.specs.Positions.{along, between, offset_at, offset_of}
-use Rattle.position_map.specs.Points.{IsTextEnd, IsBehind}
-use Rattle.position_map.specs.Widths.{width}
+use Rattle.position_map.proofs.Words.{by_test, map_some, option_map, ok_or, slice_get, chars, take_at, drop_at, nat_tests, cr, lf, is_mark, one_if}
+use Rattle.position_map.proofs.Words.{marks, ends_cr, begins_lf, LineMark, Point, Position, PosFault, SplitsCharacter, TextUnit, Utf8, IsScalarCut}
+use Rattle.position_map.proofs.Words.{IsRestBehind, LineSpan, lines_of, IsMark, IsMarkAt, IsMarkCut, IsLineStart, start_of, end_of, IsNextLine}
+use Rattle.position_map.proofs.Words.{IsAhead, along, between, offset_at, offset_of, IsTextEnd, IsBehind, width, same_some}
 use Rattle.position_map.proofs.Alongs.{along_none}
-use Rattle.position_map.proofs.Cases.{same_some}
-use Rattle.position_map.proofs.LineMarks.{marks-append, ends_cr-append, IsMark-end, IsMark-next, first_start, last_end, line_count, line_is}
-use Rattle.position_map.proofs.Pointing.{first_is, regroup, point-from, line_start_behind}
+use Rattle.position_map.proofs.LineMarks.{marks-append, ends_cr-append, IsMark-end, IsMark-next, first_start, last_end, line_count, line_is, behind}
+use Rattle.position_map.proofs.Pointing.{first_is, regroup, point-from, line_start_behind, cond_by, is_ending}
 use Rattle.position_map.proofs.Widths.{width-append}
-
-flag_count : (f x y : Bool) (k : ℕ) → (x ≡ true → y ≡ false) → one_if (x || (y && not f)) + k ≤ one_if (x || (y && not false)) + k
-flag_count true true y k d = omega arith
-flag_count true false true k d = omega arith
-flag_count true false false k d = omega arith
-flag_count false x y k d = omega arith
-
-not_both : (c : ℕ) → (c == 13) ≡ true → (c == 10) ≡ false
-not_both c e = let h : c ≡ 13 = grind (arith, nat_tests) in ap (λ v. v == 10) h
 
 -- a CR in front makes no more marks
 pub marks-flag_le : (f : Bool) (cs : List ℕ) → marks f cs ≤ marks false cs
-marks-flag_le f [] = omega arith
-marks-flag_le f (c ∷ cs) = flag_count f (c == cr) (c == lf) (marks (c == cr) cs) (not_both c)
-
-still_mark : (f x y : Bool) → (x || (y && not false)) ≡ true → (f && y) ≡ false → (x || (y && not f)) ≡ true
-still_mark f true y h g = refl
-still_mark true false true h g = cc
-still_mark false false true h g = refl
-still_mark f false false h g = cc
+marks-flag_le true [] = omega arith
+marks-flag_le true (c ∷ cs) =
+    by_test (is_mark true c)
+    (λ t. let m : is_mark false c ≡ true = grind (arith, nat_tests) in omega (arith, ap one_if t, ap one_if m))
+    (λ t. omega (arith, ap one_if t))
+marks-flag_le false cs = omega arith
 
 first_mark : (f : Bool) (fs : List ℕ) (c : ℕ) (more : List ℕ) → is_mark (ends_cr false fs) c ≡ true → (f && begins_lf (fs ++ c ∷ more)) ≡ false → is_mark (ends_cr f fs) c ≡ true
-first_mark f [] c more h g = still_mark f (c == cr) (c == lf) h g
+first_mark f [] c more h g = grind (arith, nat_tests)
 first_mark f (x ∷ xs) c more h g = h
 
 -- a mark in the rest of the piece
@@ -110,15 +81,11 @@ offset_near u text at x fs rs r l k e =
     let part : between text x.start.scalars end ≡ fs = ap (take (end - x.start.scalars)) behind ∙ take_at fs (rs ++ l.far) (end - x.start.scalars) skip in
     e ∙ ap (λ t. ok_or (option_map (λ k. x.start.scalars + k) (along u t at.character)) SplitsCharacter) (sym part) ∙ ap (λ o. offset_at text u o at.character) (sym here)
 
-some_line : (o : Option LineSpan) (k : ℕ) → option_map start_of o ≡ Some k → (l : LineSpan) × (o ≡ Some l) × (l.start ≡ k)
-some_line None k e = cc
-some_line (Some l) k e = (l, refl, same_some e)
-
 -- the first character of a line is at its start
 pub offset_first : (u : TextUnit) (text : List ℕ) (at : Position) (x : NextLine) → IsNextLine text at.line x → at.character ≡ 0 → Ok x.start.scalars ≡ offset_of text u at
 unfolding offset_of
 offset_first u text at x n e =
-    let w = some_line (slice_get (lines_of text) at.line) x.start.scalars n.is in
+    let w = map_some start_of (slice_get (lines_of text) at.line) x.start.scalars n.is in
     let l = w.0 in
     let none : along u (between text l.start l.end) at.character ≡ Some 0 = ap (along u (between text l.start l.end)) e ∙ along_none u (between text l.start l.end) in
     let found : offset_at text u (Some l) at.character ≡ Ok (l.start + 0) = ap (λ o. ok_or (option_map (λ k. l.start + k) o) SplitsCharacter) none in
@@ -145,52 +112,13 @@ first_ahead text n x e s r = record {
   is = ap (λ k. option_map start_of (slice_get (lines_of text) k)) e ∙ first_start text ∙ ap (λ (p : Point). Some p.scalars) (sym s);
 }
 
--- what a line end is, and what is behind it
-record IsLineEnding (g : Bool) (cs : List ℕ) (n : ℕ) : Type 0 where
-  ending : List ℕ
-  back : List ℕ
-  split : cs ≡ ending ++ back
-  len : length ending ≡ n
-  one : marks g ending ≡ 1
-  apart : (ends_cr g ending && begins_lf back) ≡ false
-
-line_ending : (g : Bool) (c : ℕ) (rest : List ℕ) (b : Bool) → is_mark g c ≡ true → ((c == cr) && begins_lf rest) ≡ b → IsLineEnding g (c ∷ rest) (1 + one_if b)
-line_ending g c rest false h e = record { ending = c ∷ []; back = rest; split = refl; len = refl; one = omega (arith, ap one_if h); apart = e }
-line_ending g c [] true h e = let w : ((c == cr) && false) ≡ false = and_false (c == cr) in cc
-  where
-    and_false : (b : Bool) → (b && false) ≡ false
-    and_false true = refl
-    and_false false = refl
-line_ending g c (d ∷ rest) true h e =
-    let c_is : c ≡ 13 = grind (arith, nat_tests) in
-    let d_is : d ≡ 10 = grind (arith, nat_tests) in
-    let no_mark : one_if (is_mark (c == cr) d) ≡ 0 = ap (λ v. one_if (is_mark (v == cr) d)) c_is ∙ ap (λ v. one_if (is_mark true v)) d_is in
-    record {
-      ending = c ∷ d ∷ [];
-      back = rest;
-      split = refl;
-      len = refl;
-      one = omega (arith, ap one_if h, no_mark);
-      apart = ap (λ v. (v == cr) && begins_lf rest) d_is;
-    }
-
-flag_at : (b : Bool) (a s : ℕ) → Some (cond b (a + 2) (a + 1)) ≡ Some s → s ≡ a + (1 + one_if b)
-flag_at true a s e = let h : a + 2 ≡ s = some_same e in omega (arith, h)
-  where
-    some_same : {x y : ℕ} → Some x ≡ Some y → x ≡ y
-    some_same h = cc
-flag_at false a s e = let h : a + 1 ≡ s = some_same e in omega (arith, h)
-  where
-    some_same : {x y : ℕ} → Some x ≡ Some y → x ≡ y
-    some_same h = cc
-
 -- the line behind a mark
 pub line_ahead : (text : List ℕ) (n : ℕ) (m : LineMark) (x : NextLine) → IsMarkAt Utf8 text n m → IsLineStart Utf8 text (n + 1) x.start → IsRestBehind (chars m.rest.now) (x.start.scalars - m.at.scalars) (chars x.rest.now)
     → IsNextLine text (n + 1) x
 line_ahead text n m x h s r =
     let b : Bool = (h.c == cr) && begins_lf (h.near ++ h.far) in
-    let at : x.start.scalars ≡ length h.front + (1 + one_if b) = flag_at b (length h.front) x.start.scalars (sym (IsMark-next text n h.front h.c (h.near ++ h.far) h.mark) ∙ s.is) in
-    let e = line_ending (ends_cr false h.front) h.c (h.near ++ h.far) b h.mark.is refl in
+    let at : x.start.scalars ≡ length h.front + (1 + one_if b) = same_some (sym s.is ∙ IsMark-next text n h.front h.c (h.near ++ h.far) h.mark) ∙ cond_by b (length h.front) in
+    let e = is_ending (ends_cr false h.front) h.c (h.near ++ h.far) b h.mark.is refl in
     let skip : x.start.scalars - m.at.scalars ≡ length e.ending = omega (arith, at, h.at, e.len) in
     let whole : text ≡ (h.front ++ e.ending) ++ e.back = h.mark.split ∙ ap (λ t. h.front ++ t) e.split ∙ sym (append_assoc h.front e.ending e.back) in
     let f = r.far h.far in
@@ -219,20 +147,10 @@ pub line_found : (text : List ℕ) (n : ℕ) (x : NextLine) (m : LineMark) → I
 line_found text n x m l h = line_is (slice_get (lines_of text) n) x.start.scalars m.at.scalars l.is (IsMark-end text n h.front h.c (h.near ++ h.far) h.mark ∙ ap Some (sym h.at))
 
 -- the last line
-record IsLast (text : List ℕ) (n s e : ℕ) : Type 0 where
-  number : n ≡ marks false text
-  is : slice_get (lines_of text) n ≡ Some (record { start = s; end = e })
-
-last_line : (text : List ℕ) (n : ℕ) (x : NextLine) (e : Point) → IsNextLine text n x → marks false text ≤ n → IsTextEnd Utf8 text e → IsLast text n x.start.scalars e.scalars
-last_line text n x e l h end =
-    let number : n ≡ marks false text = omega (arith, h, l.count, ap (marks false) l.split, marks-append false l.front (chars x.rest.now ++ l.far)) in
-    record {
-      number = number;
-      is = line_is (slice_get (lines_of text) n) x.start.scalars e.scalars l.is (ap (λ k. option_map end_of (slice_get (lines_of text) k)) number ∙ last_end text ∙ ap Some (sym end.scalars));
-    }
-
 pub last_found : (text : List ℕ) (n : ℕ) (x : NextLine) (e : Point) → IsNextLine text n x → marks false text ≤ n → IsTextEnd Utf8 text e → slice_get (lines_of text) n ≡ Some (record { start = x.start.scalars; end = e.scalars })
-last_found text n x e l h end = (last_line text n x e l h end).is
+last_found text n x e l h end =
+    let number : n ≡ marks false text = omega (arith, h, l.count, ap (marks false) l.split, marks-append false l.front (chars x.rest.now ++ l.far)) in
+    line_is (slice_get (lines_of text) n) x.start.scalars e.scalars l.is (ap (λ k. option_map end_of (slice_get (lines_of text) k)) number ∙ last_end text ∙ ap Some (sym end.scalars))
 
 pub none_ahead : (text : List ℕ) (n : ℕ) → marks false text ≤ n → length (lines_of text) ≤ n + 1
 none_ahead text n h = omega (arith, h, line_count text)
@@ -240,7 +158,8 @@ none_ahead text n h = omega (arith, h, line_count text)
 -- how far the line behind a mark starts behind the mark
 ahead_by : (u v : TextUnit) (text : List ℕ) (n : ℕ) (m : LineMark) (p : Point) (h : IsMarkAt u text n m) → IsLineStart v text (n + 1) p → p.scalars ≡ m.at.scalars + (1 + one_if ((h.c == cr) && begins_lf (h.near ++ h.far)))
 ahead_by u v text n m p h s =
-    omega (arith, h.at, flag_at ((h.c == cr) && begins_lf (h.near ++ h.far)) (length h.front) p.scalars (sym (IsMark-next text n h.front h.c (h.near ++ h.far) h.mark) ∙ s.is))
+    let at : p.scalars ≡ behind (length h.front) h.c (h.near ++ h.far) = same_some (sym s.is ∙ IsMark-next text n h.front h.c (h.near ++ h.far) h.mark) in
+    omega (arith, h.at, at, cond_by ((h.c == cr) && begins_lf (h.near ++ h.far)) (length h.front))
 
 pub ahead_room : (u v : TextUnit) (text : List ℕ) (n : ℕ) (m : LineMark) (p : Point) → IsMarkAt u text n m → IsLineStart v text (n + 1) p → m.at.scalars ≤ p.scalars
 ahead_room u v text n m p h s = omega (arith, ahead_by u v text n m p h s)

@@ -4,26 +4,17 @@ use Rattle.std.specs.Prelude.{Vec}
 use Rattle.std.specs.declared.alloc.Global.{Global}
 use Rattle.enc_names.specs.declared.encoding.Encoding.{Encoding}
 use Rattle.enc_names.specs.declared.encoding.Encoding.TheVariants.{Iso2022Jp}
-use Rattle.index_loader.specs.Files.{Files, has_files}
 use Rattle.encoders.specs.declared.fault.EncodeFault.{EncodeFault}
 use Rattle.encoders.specs.declared.fault.EncodeFault.TheVariants.{NoIndex, NoEncoder, Unencodable as unencodable, OutOfMemory as no_memory}
 use Rattle.encoders.specs.declared.mode.EncodeMode.TheVariants.{Fatal}
 use Rattle.encoders.specs.Encode.{encoded, encoded_in, bytes_only, from_fault, IsEncoded}
 use Rattle.encoders.specs.Steps.{FromFault, unencodable_from, no_memory_from, Put, Unencodable as NoBytes, escape_of, IsFrom}
-use Rattle.piece_rope.specs.Decode.{OutputState}
-use Rattle.piece_rope.specs.Document.{Document, decoded, text_of}
-use Rattle.piece_rope.specs.Outputs.{output_at}
-use Rattle.position_map.specs.declared.change_fault.ChangeFault.{ChangeFault}
 use Rattle.position_map.specs.declared.change_fault.ChangeFault.TheVariants.{OutOfRange, SplitsItem}
-use Rattle.position_map.specs.declared.fault.PosFault.{PosFault}
-use Rattle.position_map.specs.declared.fault.PosFault.TheVariants.{OutOfRange as past_the_end, SplitsCharacter as inside_a_character}
-use Rattle.position_map.specs.declared.plan.Plan.{Plan}
-use Rattle.position_map.specs.declared.position.Range.{Range}
-use Rattle.position_map.specs.declared.unit.Unit.{Unit as TextUnit}
-use Rattle.position_map.specs.declared.item_cuts.Cut.{Cut}
-use Rattle.position_map.specs.ItemCuts.{cut_of}
-use Rattle.position_map.specs.Positions.{offset_of}
-use Rattle.position_map.specs.Plan.{cut, put_in, planned, over_range, with_ends, is_behind, position_cause, replacing, between_cuts, splice_with, encoder_cause, IsPlanned, with_return, same_output, begins_with_escape}
+use Rattle.position_map.specs.Plan.{put_in}
+use Rattle.position_map.proofs.Words.{Files, has_files, OutputState, Document, decoded, text_of, output_at, ChangeFault, PosFault}
+use Rattle.position_map.proofs.Words.{OutOfRange as past_the_end, SplitsCharacter as inside_a_character, Plan, Range, TextUnit, Cut, cut_of}
+use Rattle.position_map.proofs.Words.{offset_of, cut, planned, over_range, with_ends, is_behind, position_cause, replacing, between_cuts, splice_with}
+use Rattle.position_map.proofs.Words.{encoder_cause, IsPlanned, with_return, same_output, begins_with_escape}
 use Rattle.position_map.proofs.ItemCutting.{cut_some, cut_none}
 
 -- the other encodings keep no state

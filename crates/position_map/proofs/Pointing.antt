@@ -1,27 +1,13 @@
 -- Points, marks and lines of a text.
 use Rattle.std.proofs.Common.{◌≡◌, refl, sym, ap, subst, ◌∙◌, ℕ, ◌+◌, ◌-◌, ◌<◌, ◌≤◌, ◌⊎◌, inl, inr, Bool, true, false, cond, ◌==◌, ◌&&◌, List, [], ◌∷◌, ◌++◌, length, length-append, take, drop, append_assoc, append-nil, arith, Option, Some, None}
-use Rattle.std.specs.Option.{option_map}
+use Rattle.std.proofs.Math.Bool.{and-false}
 use mir.Val.{bool_byte}
-use Rattle.std.specs.List.{slice_get}
-use Rattle.std.specs.Str.{chars}
-use Rattle.std.proofs.lemmas.List.{take_at, drop_at, drop-drop, drop_all, take_all}
-use Rattle.std.proofs.lemmas.Option.{slice_get_past, slice_get_within}
-use Rattle.std.proofs.lemmas.Bool.Decides.{nat_tests}
-use Rattle.lane_ascii.specs.Marks.{cr, lf, is_mark, one_if, marks, ends_cr}
-use Rattle.piece_rope.specs.Search.{Scalar, Mark as by_mark}
-use Rattle.piece_rope.specs.Outcomes.{Ended, Sum, IsSumOf, begins_lf}
 use Rattle.position_map.specs.declared.ending.Ending.TheVariants.{Two, One, Open}
-use Rattle.position_map.specs.declared.mark.LineMark.{LineMark}
-use Rattle.position_map.specs.declared.point.Point.{Point}
-use Rattle.position_map.specs.declared.unit.Unit.{Unit as TextUnit}
-use Rattle.position_map.specs.declared.unit.Unit.TheVariants.{Utf8, Utf16, Utf32}
-use Rattle.position_map.specs.Cuts.{IsScalarCut}
-use Rattle.position_map.specs.LineEnds.{ending_of}
-use Rattle.position_map.specs.Lines.{LineSpan, lines_of}
-use Rattle.position_map.specs.Located.{IsLocated, sum_in}
-use Rattle.position_map.specs.Marked.{IsMarkAt, IsMarkCut, IsLineStart, IsLineEnd, start_of, end_of, begins_mark}
-use Rattle.position_map.specs.Points.{IsPoint, IsTextEnd, IsBehind}
-use Rattle.position_map.specs.Widths.{width}
+use Rattle.position_map.proofs.Words.{by_test, map_some, option_map, slice_get, chars, take_at, drop_at, drop-drop, drop_all, take_all}
+use Rattle.position_map.proofs.Words.{slice_get_past, slice_get_within, nat_tests, cr, lf, is_mark, one_if, marks, ends_cr, Scalar, by_mark, Ended}
+use Rattle.position_map.proofs.Words.{Sum, IsSumOf, begins_lf, LineMark, Point, TextUnit, Utf8, Utf16, Utf32, IsScalarCut, ending_of, LineSpan}
+use Rattle.position_map.proofs.Words.{lines_of, IsLocated, sum_in, IsMarkAt, IsMarkCut, IsLineStart, IsLineEnd, start_of, end_of, begins_mark}
+use Rattle.position_map.proofs.Words.{IsPoint, IsTextEnd, IsBehind, width}
 use Rattle.position_map.proofs.LineMarks.{marks-append, ends_cr-append, IsMark-end, IsMark-next, last_end, first_start, line_count, line_is}
 use Rattle.position_map.proofs.Widths.{width-append, width-take_le, width-scalars, width-ascii}
 
@@ -93,24 +79,9 @@ no_mark_left text n s here l h =
       | inr g ↦ absurd (omega (arith, g, both, l.sum.marks, l.low, h))
     ]
 
-cond_by : (x y : Bool) (a : ℕ) → x ≡ y → cond x (a + 2) (a + 1) ≡ a + (1 + one_if y)
-cond_by true true a e = omega arith
-cond_by true false a e = cc
-cond_by false true a e = cc
-cond_by false false a e = omega arith
-
-and_false : (b : Bool) → (b && false) ≡ false
-and_false true = refl
-and_false false = refl
-
-open_cr : (b : Bool) → cond b Open One ≡ Open → b ≡ true
-open_cr true e = refl
-open_cr false e = cc
-
-not_open : (b d : Bool) → cond b (cond d Two One) One ≡ Open → ⊥
-not_open true true e = cc
-not_open true false e = cc
-not_open false d e = cc
+pub cond_by : (b : Bool) (a : ℕ) → cond b (a + 2) (a + 1) ≡ a + (1 + one_if b)
+cond_by true a = omega arith
+cond_by false a = omega arith
 
 begins-append : (xs ys : List ℕ) → (ys ≡ []) ⊎ (0 < length xs) → begins_lf (xs ++ ys) ≡ begins_lf xs
 begins-append [] ys h = elim h [ inl e ↦ ap begins_lf e | inr g ↦ absurd (omega arith) ]
@@ -129,43 +100,48 @@ line_feed text n s here front rest l k =
     elim l.high [ inl b ↦ inl b | inr g ↦ inr (omega (arith, g, at, length-append l.front here, length-append l.front front, ap length k.split, length-append front rest)) ] in
     sym (begins-append rest l.back some) ∙ ap begins_lf (sym whole)
 
-pub no_line_feed : (text : List ℕ) (n : ℕ) (s : Sum) (here : List ℕ) → IsLocated Scalar n text s here → length here < n - s.scalars → false ≡ begins_lf (drop n text)
-no_line_feed text n s here l h =
-    elim l.high [
-      | inl e ↦ let len : length text ≤ n = omega (arith, ap length l.split, length-append l.front (here ++ l.back), length-append here l.back, ap length e, l.sum.scalars, h) in ap begins_lf (sym (drop_all n text len))
-      | inr g ↦ absurd (omega (arith, g, length-append l.front here, l.sum.scalars, h))
-    ]
-
 mark_is_ascii : (f : Bool) (c : ℕ) → is_mark f c ≡ true → c < 128
 mark_is_ascii f c h = grind (arith, nat_tests)
 
 -- a line end: its code points, and what follows
-record IsEnding (u : TextUnit) (cs : List ℕ) (n : ℕ) : Type 0 where
-  ending : List ℕ
-  back : List ℕ
-  split : cs ≡ ending ++ back
-  len : length ending ≡ n
-  wide : width u ending ≡ n
+pub record IsEnding (g : Bool) (cs : List ℕ) (n : ℕ) : Type 0 where
+  pub ending : List ℕ
+  pub back : List ℕ
+  pub split : cs ≡ ending ++ back
+  pub len : length ending ≡ n
+  pub wide : (u : TextUnit) → width u ending ≡ n
+  pub one : marks g ending ≡ 1
+  pub apart : (ends_cr g ending && begins_lf back) ≡ false
 
-is_ending : (u : TextUnit) (f : Bool) (c : ℕ) (rest : List ℕ) (b : Bool) → is_mark f c ≡ true → b ≡ ((c == cr) && begins_lf rest) → IsEnding u (c ∷ rest) (1 + one_if b)
-is_ending u f c rest false h e = record { ending = c ∷ []; back = rest; split = refl; len = refl; wide = omega (arith, width-ascii u c (mark_is_ascii f c h)) }
-is_ending u f c [] true h e = let w : ((c == cr) && false) ≡ false = and_false (c == cr) in cc
-is_ending u f c (d ∷ rest) true h e =
-    let small : d < 128 = grind (arith, nat_tests) in
-    record { ending = c ∷ d ∷ []; back = rest; split = refl; len = refl; wide = omega (arith, width-ascii u c (mark_is_ascii f c h), width-ascii u d small) }
+pub is_ending : (g : Bool) (c : ℕ) (rest : List ℕ) (b : Bool) → is_mark g c ≡ true → b ≡ ((c == cr) && begins_lf rest) → IsEnding g (c ∷ rest) (1 + one_if b)
+is_ending g c rest false h e =
+    record { ending = c ∷ []; back = rest; split = refl; len = refl; wide = λ u. omega (arith, width-ascii u c (mark_is_ascii g c h)); one = omega (arith, ap one_if h); apart = sym e }
+is_ending g c [] true h e = let w = e ∙ and-false (c == cr) in cc
+is_ending g c (d ∷ rest) true h e =
+    let c_is : c ≡ 13 = grind (arith, nat_tests) in
+    let d_is : d ≡ 10 = grind (arith, nat_tests) in
+    record {
+      ending = c ∷ d ∷ [];
+      back = rest;
+      split = refl;
+      len = refl;
+      wide = λ u. omega (arith, width-ascii u c (omega arith), width-ascii u d (omega arith));
+      one = rw (h, c_is, d_is) refl;
+      apart = rw d_is refl;
+    }
 
 -- where the line behind a mark starts
 pub line_start_behind : (u : TextUnit) (text : List ℕ) (n : ℕ) (m : LineMark) (h : IsMarkAt u text n m) (b : Bool) (p : Point) → b ≡ ((h.c == cr) && begins_lf (h.near ++ h.far))
     → p.scalars ≡ m.at.scalars + (1 + one_if b) → p.units ≡ m.at.units + (1 + one_if b) → IsLineStart u text (n + 1) p
 line_start_behind u text n m h b p e x y =
-    let w = is_ending u (ends_cr false h.front) h.c (h.near ++ h.far) b h.mark.is e in
+    let w = is_ending (ends_cr false h.front) h.c (h.near ++ h.far) b h.mark.is e in
     let front : take m.at.scalars text ≡ h.front = ap (take m.at.scalars) h.mark.split ∙ take_at h.front (h.c ∷ (h.near ++ h.far)) m.at.scalars (sym h.at) in
     let wide : m.at.units ≡ width u h.front = h.point.units ∙ ap (width u) front in
     record {
       point = point-from u text (h.front ++ w.ending) w.back p (h.mark.split ∙ ap (λ t. h.front ++ t) w.split ∙ sym (append_assoc h.front w.ending w.back))
           (omega (arith, x, h.at, w.len, length-append h.front w.ending))
-          (omega (arith, y, wide, w.wide, width-append u h.front w.ending));
-      is = IsMark-next text n h.front h.c (h.near ++ h.far) h.mark ∙ ap (λ v. Some v) (cond_by ((h.c == cr) && begins_lf (h.near ++ h.far)) b (length h.front) (sym e)) ∙ ap Some (omega (arith, x, h.at));
+          (omega (arith, y, wide, w.wide u, width-append u h.front w.ending));
+      is = IsMark-next text n h.front h.c (h.near ++ h.far) h.mark ∙ rw (← e, cond_by) (ap Some (omega (arith, x, h.at)));
     }
 
 -- a point is within the text's end
@@ -174,8 +150,8 @@ point-within u text p e x y = (omega (arith, x.within, y.scalars), omega (arith,
 
 -- the LF that may follow a line end that its piece leaves open
 open_is_cr : (c : ℕ) (near : List ℕ) → ending_of (c ∷ near) ≡ Open → ((c == cr) ≡ true) × (near ≡ [])
-open_is_cr c [] e = (open_cr (c == cr) e, refl)
-open_is_cr c (d ∷ near) e = absurd (not_open (c == cr) (d == lf) e)
+open_is_cr c [] e = by_test (c == cr) (λ t. (t, refl)) (λ t. absurd (let e = rw t at e in cc))
+open_is_cr c (d ∷ near) e = by_test (c == cr) (λ t. by_test (d == lf) (λ u. let e = rw (t, u) at e in cc) (λ u. let e = rw (t, u) at e in cc)) (λ t. let e = rw t at e in cc)
 
 pub open_line_feed : (u : TextUnit) (text : List ℕ) (n : ℕ) (m : LineMark) (h : IsMarkAt u text n m) (b : Bool) → ending_of (chars m.rest.now) ≡ Open → b ≡ begins_lf (drop (m.at.scalars + 1) text)
     → b ≡ ((h.c == cr) && begins_lf (h.near ++ h.far))
@@ -184,43 +160,6 @@ open_line_feed u text n m h b o e =
     let at : drop (m.at.scalars + 1) text ≡ h.near ++ h.far =
     ap (λ k. drop (k + 1) text) h.at ∙ ap (drop (length h.front + 1)) h.mark.split ∙ drop_past h.front (h.c ∷ (h.near ++ h.far)) 1 in
     e ∙ ap begins_lf at ∙ ap (λ t. t && begins_lf (h.near ++ h.far)) (sym w.0)
-
--- a line end that its piece shows whole
-ending_two : (c : ℕ) (near far : List ℕ) → ending_of (c ∷ near) ≡ Two → true ≡ ((c == cr) && begins_lf (near ++ far))
-ending_two c [] far e = by_cr (c == cr) e
-  where
-    by_cr : (b : Bool) → cond b Open One ≡ Two → true ≡ (b && begins_lf far)
-    by_cr true e = cc
-    by_cr false e = cc
-ending_two c (d ∷ near) far e = by_both (c == cr) (d == lf) e
-  where
-    by_both : (b g : Bool) → cond b (cond g Two One) One ≡ Two → true ≡ (b && g)
-    by_both true true e = refl
-    by_both true false e = cc
-    by_both false g e = cc
-
-ending_one : (c : ℕ) (near far : List ℕ) → ending_of (c ∷ near) ≡ One → false ≡ ((c == cr) && begins_lf (near ++ far))
-ending_one c [] far e = by_cr (c == cr) e
-  where
-    by_cr : (b : Bool) → cond b Open One ≡ One → false ≡ (b && begins_lf far)
-    by_cr true e = cc
-    by_cr false e = refl
-ending_one c (d ∷ near) far e = by_both (c == cr) (d == lf) e
-  where
-    by_both : (b g : Bool) → cond b (cond g Two One) One ≡ One → false ≡ (b && g)
-    by_both true true e = cc
-    by_both true false e = refl
-    by_both false g e = refl
-
-pub whole_ending_two : (u : TextUnit) (text : List ℕ) (n : ℕ) (m : LineMark) (h : IsMarkAt u text n m) → ending_of (chars m.rest.now) ≡ Two → true ≡ ((h.c == cr) && begins_lf (h.near ++ h.far))
-whole_ending_two u text n m h e = ending_two h.c h.near h.far (sym (ap ending_of h.rest) ∙ e)
-
-pub whole_ending_one : (u : TextUnit) (text : List ℕ) (n : ℕ) (m : LineMark) (h : IsMarkAt u text n m) → ending_of (chars m.rest.now) ≡ One → false ≡ ((h.c == cr) && begins_lf (h.near ++ h.far))
-whole_ending_one u text n m h e = ending_one h.c h.near h.far (sym (ap ending_of h.rest) ∙ e)
-
--- in front of a line end there is room for it
-pub line_end_room : (u : TextUnit) (text : List ℕ) (n : ℕ) (m : LineMark) → IsMarkAt u text n m → m.at.scalars + 1 ≤ length text
-line_end_room u text n m h = omega (arith, h.at, ap length h.mark.split, length-append h.front (h.c ∷ (h.near ++ h.far)))
 
 pub bool_one : (b : Bool) → bool_byte b ≡ one_if b
 bool_one true = refl
@@ -241,9 +180,6 @@ first_line_start u text n e = record {
   point = record { within = omega arith; units = refl };
   is = ap (λ k. option_map start_of (slice_get (lines_of text) k)) e ∙ first_start text;
 }
-
-pub IsLineStart-at : (u : TextUnit) (text : List ℕ) (n k : ℕ) (p : Point) → IsLineStart u text n p → n ≡ k → IsLineStart u text k p
-IsLineStart-at u text n k p l e = subst (λ j. IsLineStart u text j p) e l
 
 -- a mark ends its line
 pub line_end_at : (u : TextUnit) (text : List ℕ) (n : ℕ) (m : LineMark) → IsMarkAt u text n m → IsLineEnd u text n m.at
@@ -267,20 +203,9 @@ last_line_end u text n p e h l =
       is = ap (λ k. option_map end_of (slice_get (lines_of text) k)) same ∙ last_end text ∙ ap Some (sym e.scalars);
     }
 
-pub line_both : (u : TextUnit) (text : List ℕ) (n : ℕ) (p q : Point) → IsLineStart u text n p → IsLineEnd u text n q → slice_get (lines_of text) n ≡ Some (record { start = p.scalars; end = q.scalars })
-line_both u text n p q s e = line_is (slice_get (lines_of text) n) p.scalars q.scalars s.is e.is
-
-some_line : (o : Option LineSpan) (k : ℕ) → option_map start_of o ≡ Some k → (l : LineSpan) × (o ≡ Some l)
-some_line None k e = cc
-some_line (Some l) k e = (l, refl)
-
 pub has_line : (u : TextUnit) (text : List ℕ) (n : ℕ) (p : Point) → IsLineStart u text n p → n < length (lines_of text)
 has_line u text n p s =
-    let w = some_line (slice_get (lines_of text) n) p.scalars s.is in
-    slice_get_within (lines_of text) n w.0 w.1
-
-pub no_line : (text : List ℕ) (n : ℕ) → length (lines_of text) ≤ n → slice_get (lines_of text) n ≡ None
-no_line text n h = slice_get_past (lines_of text) n h
+    let w = map_some start_of (slice_get (lines_of text) n) p.scalars s.is in slice_get_within (lines_of text) n w.0 w.1
 
 pub no_line_from : (text : List ℕ) (n : ℕ) → 0 < n → marks false text ≤ n - 1 → length (lines_of text) ≤ n
 no_line_from text n h l = omega (arith, line_count text)

@@ -1,23 +1,12 @@
 -- What the searches for code points and units find is a place along the text.
 use Rattle.std.proofs.Common.{◌≡◌, refl, sym, ap, subst, ◌∙◌, ℕ, ◌+◌, ◌-◌, ◌<◌, ◌≤◌, inl, inr, Bool, true, false, cond, ◌==◌, nat_lt, List, [], ◌∷◌, ◌++◌, length, take, drop, take-append-drop, arith, add-one, Option, Some, None}
-use Rattle.std.specs.Option.{option_map}
 use Rattle.std.specs.Prelude.{IsTrue, ◌↔◌}
-use Rattle.std.specs.Str.{chars, IsUtf8, IsCharBoundary}
-use Rattle.std.proofs.lemmas.Bool.Decides.{nat_tests}
-use Rattle.std.proofs.lemmas.List.{length-take-le}
-use Rattle.std.proofs.lemmas.Str.{chars-append, IsUtf8-take}
 use Rattle.lane_utf.specs.declared.select.Select.{Select}
 use Rattle.lane_utf.specs.declared.select.Select.TheVariants.{At, Inside, Past}
-use Rattle.lane_utf.specs.Selected.{selected, moved}
 use Rattle.lane_utf.specs.Widths.{utf16_width, utf8_width}
-use Rattle.position_map.specs.declared.unit.Unit.{Unit as TextUnit}
-use Rattle.position_map.specs.declared.unit.Unit.TheVariants.{Utf8, Utf16, Utf32}
-use Rattle.position_map.specs.Widths.{width}
-use Rattle.position_map.specs.Positions.{along}
-use Rattle.position_map.specs.Along.{IsAlongFront}
-use Rattle.position_map.specs.Cuts.{IsScalarCut}
+use Rattle.position_map.proofs.Words.{option_map, chars, IsUtf8, IsCharBoundary, nat_tests, length-take-le, chars-append, IsUtf8-take, selected}
+use Rattle.position_map.proofs.Words.{moved, TextUnit, Utf8, Utf16, Utf32, width, along, IsAlongFront, IsScalarCut, by_test}
 use Rattle.position_map.proofs.Alongs.{along_step, along_front, along_place}
-use Rattle.position_map.proofs.Cases.{by_test}
 use Rattle.position_map.proofs.Cutting.{IsCut, IsCut-at}
 use Rattle.position_map.proofs.Widths.{width-scalars, width-bytes}
 
@@ -38,22 +27,13 @@ moved_says c cs n Inside h s = along_step Utf16 c cs n h ∙ ap (option_map (λ 
 moved_says c cs n Past h s = omega (arith, s, h)
 
 selected_says : (cs : List ℕ) (n : ℕ) → Says cs n (selected utf16_width cs n)
-selected_says [] n =
-    by_test (n == 0)
-    (λ t. subst (Says [] n) (sym (ap (λ b. cond b (At 0) Past) t)) (0, refl, omega arith, refl))
-    (λ t. let some : 0 < n = grind (arith, nat_tests) in subst (Says [] n) (sym (ap (λ b. cond b (At 0) Past) t)) some)
+selected_says [] n = by_test (n == 0) (λ t. rw t (0, refl, omega arith, refl)) (λ t. let some : 0 < n = grind (arith, nat_tests) in rw t some)
 selected_says (c ∷ cs) n =
-    let rest = moved (utf8_width c) (selected utf16_width cs (n - utf16_width c)) in
-    let more = option_map (λ k. k + 1) (along Utf16 cs (n - utf16_width c)) in
     by_test (n == 0)
-    (λ t. subst (Says (c ∷ cs) n) (sym (ap (λ b. cond b (At 0) (cond (nat_lt n (utf16_width c)) Inside rest)) t))
-    (0, ap (λ b. cond b (Some 0) (cond (nat_lt n (utf16_width c)) None more)) t, omega arith, refl))
+    (λ t. rw t (0, rw t refl, omega arith, refl))
     (λ t. by_test (nat_lt n (utf16_width c))
-    (λ l. subst (Says (c ∷ cs) n) (sym (ap (λ b. cond b (At 0) (cond (nat_lt n (utf16_width c)) Inside rest)) t ∙ ap (λ b. cond b Inside rest) l))
-    (ap (λ b. cond b (Some 0) (cond (nat_lt n (utf16_width c)) None more)) t ∙ ap (λ b. cond b None more) l))
-    (λ l. let h : utf16_width c ≤ n = grind (arith, nat_tests) in
-    subst (Says (c ∷ cs) n) (sym (ap (λ b. cond b (At 0) (cond (nat_lt n (utf16_width c)) Inside rest)) t ∙ ap (λ b. cond b Inside rest) l))
-    (moved_says c cs n (selected utf16_width cs (n - utf16_width c)) h (selected_says cs (n - utf16_width c)))))
+    (λ l. rw (t, l) (rw (t, l) refl))
+    (λ l. let h : utf16_width c ≤ n = grind (arith, nat_tests) in rw (t, l) (moved_says c cs n (selected utf16_width cs (n - utf16_width c)) h (selected_says cs (n - utf16_width c)))))
 
 -- the bytes in front of the one that the search gives
 pub selected_cut : (text : List ℕ) (n at : ℕ) → IsUtf8 text → At at ≡ selected utf16_width (chars text) n → (k : ℕ) × (along Utf16 (chars text) n ≡ Some k) × IsCut text k at
@@ -127,10 +107,6 @@ scalars_split text front back n at c ef eb =
       count = ap length first ∙ length-take-le n (chars text) c.within;
     }
 
-not_true : (b : Bool) → IsTrue b → b ≡ false → ⊥
-not_true true h e = absurd cc
-not_true false h e = cc
-
 -- where the test says that the bytes are cut, and the text takes so many
 pub inside_by : (text : List ℕ) (n : ℕ) (b : Bool) → IsUtf8 text → (IsTrue b ↔ IsCharBoundary text n) → b ≡ false → n ≤ length text → along Utf8 (chars text) n ≡ None
-inside_by text n b u t e h = inside_bytes text n u (λ cut. not_true b (t.1 cut) e) h
+inside_by text n b u t e h = inside_bytes text n u (λ cut. let is : b ≡ true = t.1 cut in cc) h

@@ -1,8 +1,7 @@
-use Rattle.std.proofs.Common.{arith}
+use Rattle.position_map.proofs.Words.{arith, chars}
 use Rattle.position_map.proofs.Cutting.{scalar_cut, no_scalar}
 use Rattle.position_map.proofs.Selecting.{scalars_at}
 use Rattle.position_map.proofs.Widths.{width-scalars}
-use Rattle.std.specs.Str.{chars}
 use Rattle.position_map.proofs.along.along_utf32.Goals as goal
 
 pub split_at-requires : goal.split_at-requires

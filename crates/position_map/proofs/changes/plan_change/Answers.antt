@@ -1,10 +1,4 @@
-use Rattle.std.proofs.Common.{sym, subst, ap, ◌∙◌, ℕ, Result}
-use Rattle.std.specs.Str.{chars}
-use Rattle.std.proofs.lemmas.Result.{err_from_is_err_and}
-use Rattle.piece_rope.specs.Document.{text_of}
-use Rattle.position_map.specs.declared.change_fault.ChangeFault.{ChangeFault}
-use Rattle.position_map.specs.declared.plan.Plan.{Plan}
-use Rattle.position_map.specs.Plan.{IsPlanned, replacing}
+use Rattle.position_map.proofs.Words.{sym, subst, ap, ◌∙◌, ℕ, Result, chars, err_from_is_err_and, text_of, ChangeFault, Plan, IsPlanned, replacing}
 use Rattle.position_map.proofs.Ordering.{ordered, offset_within}
 use Rattle.position_map.proofs.Planning.{refused_end, whole_text, behind, start_refused, end_refused, over_ends}
 use Rattle.position_map.proofs.changes.plan_change.Goals as goal

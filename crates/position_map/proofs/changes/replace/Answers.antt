@@ -1,11 +1,6 @@
-use Rattle.std.proofs.Common.{◌≡◌, ℕ, List, Result, Ok, Err, arith, sym, ap, subst, ◌∙◌, Some, None}
-use Rattle.std.specs.Str.{chars}
-use Rattle.std.proofs.lemmas.Result.{err_from_is_err_and}
-use Rattle.piece_rope.specs.Document.{Document, decoded}
-use Rattle.position_map.specs.declared.change_fault.ChangeFault.{ChangeFault}
-use Rattle.position_map.specs.declared.plan.Plan.{Plan}
-use Rattle.position_map.specs.ItemCuts.{cut_of}
-use Rattle.position_map.specs.Plan.{put_in, splice_with, encoder_cause, IsPlanned}
+use Rattle.position_map.specs.Plan.{put_in}
+use Rattle.position_map.proofs.Words.{◌≡◌, ℕ, List, Result, Ok, Err, arith, sym, ap, subst, ◌∙◌, Some, None, chars, err_from_is_err_and, Document}
+use Rattle.position_map.proofs.Words.{decoded, ChangeFault, Plan, cut_of, splice_with, encoder_cause, IsPlanned}
 use Rattle.position_map.proofs.ItemCutting.{cut_fits}
 use Rattle.position_map.proofs.Planning.{left_none, right_none, both, refused}
 use Rattle.position_map.proofs.changes.replace.Goals as goal

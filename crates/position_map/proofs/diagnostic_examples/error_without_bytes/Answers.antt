@@ -1,9 +1,4 @@
-use Rattle.std.proofs.Common.{refl}
-use Rattle.index_loader.specs.Kinds.{slot_of}
-use Rattle.piece_rope.specs.Decode.{decode, run, turns, feed, feed_for}
-use Rattle.piece_rope.specs.Document.{decoded_text}
-use Rattle.position_map.specs.Diagnostics.{diagnostics_of, errors_before_line}
-use Rattle.position_map.specs.Lines.{lines_of}
+use Rattle.position_map.proofs.Words.{refl, slot_of, decode, run, turns, feed, feed_for, decoded_text, diagnostics_of, errors_before_line, lines_of}
 use Rattle.position_map.proofs.diagnostic_examples.error_without_bytes.Goals as goal
 
 pub returns : goal.returns

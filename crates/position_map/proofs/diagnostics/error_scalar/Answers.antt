@@ -1,5 +1,4 @@
-use Rattle.std.proofs.Common.{◌∙◌, arith}
-use Rattle.position_map.specs.Found.{errors_in_sum}
+use Rattle.position_map.proofs.Words.{◌∙◌, arith, errors_in_sum}
 use Rattle.position_map.proofs.Chains.{placed_by}
 use Rattle.position_map.proofs.ErrorPieces.{number-placed, placed-room}
 use Rattle.position_map.proofs.diagnostics.error_scalar.Goals as goal

@@ -1,5 +1,4 @@
-use Rattle.std.proofs.Common.{◌+◌, ◌∙◌, ap, arith, ℕ}
-use Rattle.piece_rope.specs.Search.{Scalar, measure}
+use Rattle.position_map.proofs.Words.{◌+◌, ◌∙◌, ap, arith, ℕ, Scalar, measure}
 use Rattle.position_map.proofs.Chains.{placed_by}
 use Rattle.position_map.proofs.ErrorPieces.{numbers-before, numbers-room, placed-room}
 use Rattle.position_map.proofs.diagnostics.errors_before.Goals as goal

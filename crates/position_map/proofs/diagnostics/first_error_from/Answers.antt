@@ -1,8 +1,4 @@
-use Rattle.std.proofs.Common.{◌≡◌, ◌≤◌, ◌∙◌, subst, length}
-use Rattle.piece_rope.specs.Document.{text_of}
-use Rattle.position_map.specs.declared.unit.Unit.TheVariants.{Utf8}
-use Rattle.position_map.specs.Diagnostics.{errors_before_line}
-use Rattle.position_map.specs.Lines.{lines_of}
+use Rattle.position_map.proofs.Words.{◌≡◌, ◌≤◌, ◌∙◌, subst, length, text_of, Utf8, errors_before_line, lines_of}
 use Rattle.position_map.proofs.ErrorLines.{before-end, before-line}
 use Rattle.position_map.proofs.diagnostics.first_error_from.Goals as goal
 

@@ -1,6 +1,4 @@
-use Rattle.std.proofs.Common.{◌≡◌, ◌∙◌, arith, subst, Some, None}
-use Rattle.std.specs.List.{slice_get}
-use Rattle.position_map.specs.Diagnostics.{diagnostics_of}
+use Rattle.position_map.proofs.Words.{◌≡◌, ◌∙◌, arith, subst, Some, None, slice_get, diagnostics_of}
 use Rattle.position_map.proofs.ErrorPieces.{not-shown, number-within, shown, some-place}
 use Rattle.position_map.proofs.diagnostics.nth_diagnostic.Goals as goal
 

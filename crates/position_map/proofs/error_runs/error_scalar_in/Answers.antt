@@ -1,38 +1,33 @@
-use Rattle.std.proofs.Common.{◌+◌, ◌-◌, ◌<◌, ◌≤◌, arith, ap, ◌∙◌, List, ℕ, pos, drop, slice_get, get_or}
-use Rattle.piece_rope.specs.Outcomes.{Ended, all_scalars, errors_in}
-use Rattle.piece_rope.specs.Runs.{AsciiOne, Run, items_of_run, items_of_runs}
-use Rattle.position_map.specs.ErrorScalars.{error_scalars}
-use Rattle.position_map.proofs.ErrorRuns.{found-here, found-next, run-few, scalars-next}
+use Rattle.position_map.proofs.Words.{◌+◌, ◌-◌, ◌<◌, ◌≤◌, arith, ap, ◌∙◌, List, ℕ, pos, drop, slice_get, get_or, Ended, all_scalars, errors_in}
+use Rattle.position_map.proofs.Words.{AsciiOne, Run, items_of_run, items_of_runs, error_scalars}
+use Rattle.position_map.proofs.ErrorRuns.{found-here, found-next, run-few, scalars-next, no_run, run_at}
 use Rattle.position_map.proofs.error_runs.error_scalar_in.Goals as goal
-
-abbrev no_run : Run
-no_run = record { last = pos 0; more = 0; step = 0; kind = AsciiOne }
 
 pub overflow_add-result : goal.overflow_add-result
 overflow_add-result c =
     let runs = c.runs-runs.result.now in
     let all = ap (λ (es : List Ended). all_scalars es) c.runs-runs.ensures in
-    omega (arith, scalars-next runs c.runs.run-index no_run c.runs-test.true, run-few (get_or runs c.runs.run-index no_run), c.errors-errors.ensures, c.if-left-errors.true, c.runs.invariant.1, all, c.requires)
+    omega (arith, scalars-next runs c.runs.run-index c.runs-test.true, run-few (get_or runs c.runs.run-index no_run), c.errors-errors.ensures, c.if-left-errors.true, c.runs.invariant.1, all, c.requires)
 
 pub returns-then-left-errors : goal.returns-then-left-errors
 returns-then-left-errors c =
     let runs = c.runs-runs.result.now in
-    let few : c.runs.left < errors_in (items_of_run (get_or runs c.runs.run-index no_run)) = omega (arith, c.if-left-errors.true, c.errors-errors.ensures) in
-    found-here runs c.runs.run-index no_run c.runs.scalars c.runs.left c.runs-test.true few ∙ c.runs.invariant.0 ∙ ap (λ (es : List Ended). slice_get (error_scalars c.args.from es) c.args.n) c.runs-runs.ensures
+    let few : c.runs.left < errors_in (run_at runs c.runs.run-index) = omega (arith, c.if-left-errors.true, c.errors-errors.ensures) in
+    found-here runs c.runs.run-index c.runs-test.true c.runs.scalars c.runs.left few ∙ c.runs.invariant.0 ∙ ap (λ (es : List Ended). slice_get (error_scalars c.args.from es) c.args.n) c.runs-runs.ensures
 
 pub overflow_add-scalars : goal.overflow_add-scalars
 overflow_add-scalars c =
     let runs = c.runs-runs.result.now in
     let all = ap (λ (es : List Ended). all_scalars es) c.runs-runs.ensures in
-    omega (arith, scalars-next runs c.runs.run-index no_run c.runs-test.true, c.scalars-scalars.ensures, c.runs.invariant.1, all, c.requires)
+    omega (arith, scalars-next runs c.runs.run-index c.runs-test.true, c.scalars-scalars.ensures, c.runs.invariant.1, all, c.requires)
 
 pub runs-preserved : goal.runs-preserved
 runs-preserved c =
     let runs = c.runs-runs.result.now in
-    let many : errors_in (items_of_run (get_or runs c.runs.run-index no_run)) ≤ c.runs.left = omega (arith, c.if-left-errors.false, c.errors-errors.ensures) in
+    let many : errors_in (run_at runs c.runs.run-index) ≤ c.runs.left = omega (arith, c.if-left-errors.false, c.errors-errors.ensures) in
     let rest = items_of_runs (drop (c.runs.run-index + 1) runs) in (
       ap (λ (n : ℕ). slice_get (error_scalars (c.runs.scalars + n) rest) (c.runs.left - c.errors-errors.result)) c.scalars-scalars.ensures
-          ∙ ap (λ (n : ℕ). slice_get (error_scalars (c.runs.scalars + all_scalars (items_of_run (get_or runs c.runs.run-index no_run))) rest) (c.runs.left - n)) c.errors-errors.ensures
-          ∙ found-next runs c.runs.run-index no_run c.runs.scalars c.runs.left c.runs-test.true many ∙ c.runs.invariant.0,
-      omega (arith, scalars-next runs c.runs.run-index no_run c.runs-test.true, c.scalars-scalars.ensures, c.runs.invariant.1),
+          ∙ ap (λ (n : ℕ). slice_get (error_scalars (c.runs.scalars + all_scalars (run_at runs c.runs.run-index)) rest) (c.runs.left - n)) c.errors-errors.ensures
+          ∙ found-next runs c.runs.run-index c.runs-test.true c.runs.scalars c.runs.left many ∙ c.runs.invariant.0,
+      omega (arith, scalars-next runs c.runs.run-index c.runs-test.true, c.scalars-scalars.ensures, c.runs.invariant.1),
     )

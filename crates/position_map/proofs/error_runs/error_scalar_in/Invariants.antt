@@ -1,7 +1,4 @@
-use Rattle.std.proofs.Common.{◌≡◌, ◌+◌, drop, slice_get}
-use Rattle.piece_rope.specs.Outcomes.{all_scalars}
-use Rattle.piece_rope.specs.Runs.{items_of_runs}
-use Rattle.position_map.specs.ErrorScalars.{error_scalars}
+use Rattle.position_map.proofs.Words.{◌≡◌, ◌+◌, drop, slice_get, all_scalars, items_of_runs, error_scalars}
 use Rattle.position_map.proofs.error_runs.error_scalar_in.Given as goal
 
 abbrev pub invariant-runs : goal.invariant-runs

@@ -1,7 +1,4 @@
-use Rattle.std.proofs.Common.{◌≡◌, ◌+◌, drop}
-use Rattle.piece_rope.specs.Outcomes.{all_scalars}
-use Rattle.piece_rope.specs.Runs.{items_of_runs}
-use Rattle.position_map.specs.ErrorScalars.{error_scalars}
+use Rattle.position_map.proofs.Words.{◌≡◌, ◌+◌, drop, all_scalars, items_of_runs, error_scalars}
 use Rattle.position_map.proofs.ErrorRuns.{below}
 use Rattle.position_map.proofs.error_runs.errors_before_in.Given as goal
 

@@ -1,5 +1,4 @@
-use Rattle.std.proofs.Common.{refl, arith, ◌∙◌}
-use Rattle.piece_rope.specs.Search.{Scalar, measure}
+use Rattle.position_map.proofs.Words.{refl, arith, ◌∙◌, Scalar, measure}
 use Rattle.position_map.proofs.Chains.{placed_by}
 use Rattle.position_map.proofs.ItemCutting.{cut_found}
 use Rattle.position_map.proofs.item_cuts.cut_before.Goals as goal

@@ -1,5 +1,4 @@
-use Rattle.std.proofs.Common.{◌≡◌, ◌≤◌, false, length, drop}
-use Rattle.lane_ascii.specs.Marks.{marks}
+use Rattle.position_map.proofs.Words.{◌≡◌, ◌≤◌, false, length, drop, marks}
 use Rattle.position_map.proofs.last_line.last_end.Given as goal
 
 abbrev pub invariant-bytes : goal.invariant-bytes

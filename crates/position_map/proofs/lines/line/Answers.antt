@@ -1,7 +1,4 @@
-use Rattle.std.proofs.Common.{◌≡◌, subst, Some}
-use Rattle.std.specs.List.{slice_get}
-use Rattle.piece_rope.specs.Document.{text_of}
-use Rattle.position_map.specs.Lines.{lines_of}
+use Rattle.position_map.proofs.Words.{◌≡◌, subst, Some, slice_get, text_of, lines_of}
 use Rattle.position_map.proofs.NextLines.{last_found, line_found}
 use Rattle.position_map.proofs.lines.line.Goals as goal
 

@@ -1,5 +1,4 @@
-use Rattle.std.proofs.Common.{refl, arith}
-use Rattle.std.specs.Str.{chars}
+use Rattle.position_map.proofs.Words.{refl, arith, chars}
 use Rattle.position_map.proofs.Pointing.{mark_found, part_fits}
 use Rattle.position_map.proofs.marks.mark_at.Goals as goal
 

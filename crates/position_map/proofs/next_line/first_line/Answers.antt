@@ -1,5 +1,4 @@
-use Rattle.std.proofs.Common.{refl, arith}
-use Rattle.std.proofs.lemmas.Str.{chars-nil}
+use Rattle.position_map.proofs.Words.{refl, arith, chars-nil}
 use Rattle.position_map.proofs.NextLines.{first_ahead}
 use Rattle.position_map.proofs.Pointing.{no_line_from}
 use Rattle.position_map.proofs.next_line.first_line.Goals as goal

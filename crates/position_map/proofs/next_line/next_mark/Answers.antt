@@ -1,5 +1,4 @@
-use Rattle.std.proofs.Common.{refl, arith}
-use Rattle.std.specs.Str.{chars}
+use Rattle.position_map.proofs.Words.{refl, arith, chars}
 use Rattle.position_map.proofs.NextLines.{mark_ahead, ahead_fits}
 use Rattle.position_map.proofs.next_line.next_mark.Goals as goal
 

@@ -1,5 +1,4 @@
-use Rattle.std.specs.Str.{chars}
-use Rattle.std.proofs.lemmas.Str.{chars-nil}
+use Rattle.position_map.proofs.Words.{chars, chars-nil}
 use Rattle.position_map.proofs.NextLines.{rest_some, rest_none}
 use Rattle.position_map.proofs.next_line.rest_behind.Goals as goal
 

@@ -1,8 +1,4 @@
-use Rattle.std.proofs.Common.{◌≡◌, ◌+◌, ◌≤◌, ◌<◌, subst, arith, Ok, Err}
-use Rattle.piece_rope.specs.Document.{text_of}
-use Rattle.position_map.specs.Positions.{converted}
-use Rattle.position_map.specs.Widths.{width}
-use Rattle.position_map.specs.declared.fault.PosFault.TheVariants.{OutOfRange}
+use Rattle.position_map.proofs.Words.{◌≡◌, ◌+◌, ◌≤◌, ◌<◌, subst, arith, Ok, Err, text_of, converted, width, OutOfRange}
 use Rattle.position_map.proofs.Fronting.{front_fits, convert_found, convert_split, convert_past}
 use Rattle.position_map.proofs.offsets.convert.Goals as goal
 

@@ -1,10 +1,8 @@
-use Rattle.std.proofs.Common.{◌≡◌, sym, ap, ◌∙◌, ℕ, List, length, Some, arith, Bor}
-use Rattle.std.specs.Str.{chars}
-use Rattle.position_map.specs.Positions.{along}
+use Rattle.position_map.proofs.Words.{◌≡◌, sym, ap, ◌∙◌, ℕ, List, length, Some, arith, Bor, chars, along}
 use Rattle.position_map.proofs.Alongs.{along_past}
 use Rattle.position_map.proofs.Fronting.{offset_of_place}
-use Rattle.position_map.proofs.offsets.offset_in.Goals as goal
 use Rattle.position_map.proofs.offsets.offset_in.Goals.{in-At, in-Past}
+use Rattle.position_map.proofs.offsets.offset_in.Goals as goal
 
 pub returns : goal.returns
 returns c =

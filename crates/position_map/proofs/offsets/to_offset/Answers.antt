@@ -1,6 +1,4 @@
-use Rattle.std.proofs.Common.{◌≡◌, subst, arith, Ok}
-use Rattle.piece_rope.specs.Document.{text_of}
-use Rattle.position_map.specs.Positions.{offset_of}
+use Rattle.position_map.proofs.Words.{◌≡◌, subst, arith, Ok, text_of, offset_of}
 use Rattle.position_map.proofs.Fronting.{offset_none}
 use Rattle.position_map.proofs.Pointing.{first_line_start, no_line_from}
 use Rattle.position_map.proofs.offsets.to_offset.Goals as goal

@@ -1,8 +1,4 @@
-use Rattle.std.proofs.Common.{◌≡◌, ◌<◌, ◌≤◌, subst, arith, length, Ok, Err}
-use Rattle.piece_rope.specs.Document.{decoded}
-use Rattle.piece_rope.specs.Search.{Byte}
-use Rattle.position_map.specs.Places.{scalar_of_byte}
-use Rattle.position_map.specs.declared.fault.PosFault.TheVariants.{OutOfRange}
+use Rattle.position_map.proofs.Words.{◌≡◌, ◌<◌, ◌≤◌, subst, arith, length, Ok, Err, decoded, Byte, scalar_of_byte, OutOfRange}
 use Rattle.position_map.proofs.Items.{within_bytes, scalar_at_end, scalar_past, found_here, small_here}
 use Rattle.position_map.proofs.places.byte_to_scalar.Goals as goal
 

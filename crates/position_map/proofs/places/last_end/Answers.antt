@@ -1,6 +1,5 @@
-use Rattle.std.proofs.Common.{arith, sym, ◌∙◌}
+use Rattle.position_map.proofs.Words.{arith, sym, ◌∙◌, bom_of}
 use Rattle.position_map.proofs.Chains.{last_found, last_not_found, no_scalars}
-use Rattle.position_map.specs.Placing.{bom_of}
 use Rattle.position_map.proofs.places.last_end.Goals as goal
 
 pub returns-then-count-eq0-clause-end : goal.returns-then-count-eq0-clause-end

@@ -1,5 +1,4 @@
-use Rattle.std.proofs.Common.{sym}
-use Rattle.piece_rope.specs.Search.{Scalar, measure}
+use Rattle.position_map.proofs.Words.{sym, Scalar, measure}
 use Rattle.position_map.proofs.Chains.{place_some, place_none, placed_by, item_within}
 use Rattle.position_map.proofs.places.place_at.Goals as goal
 

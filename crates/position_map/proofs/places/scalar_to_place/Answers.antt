@@ -1,6 +1,4 @@
-use Rattle.std.proofs.Common.{◌≡◌, subst}
-use Rattle.piece_rope.specs.Document.{decoded}
-use Rattle.position_map.specs.Places.{place_of}
+use Rattle.position_map.proofs.Words.{◌≡◌, subst, decoded, place_of}
 use Rattle.position_map.proofs.places.scalar_to_place.Goals as goal
 
 pub returns-clause-place : goal.returns-clause-place

@@ -1,5 +1,4 @@
-use Rattle.std.proofs.Common.{arith}
-use Rattle.std.proofs.lemmas.Int.{ints}
+use Rattle.position_map.proofs.Words.{arith, ints}
 use Rattle.position_map.proofs.Items.{counts_are, piece_room}
 use Rattle.position_map.proofs.places.scalars_until.Goals as goal
 

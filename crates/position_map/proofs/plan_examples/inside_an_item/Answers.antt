@@ -1,10 +1,5 @@
-use Rattle.std.proofs.Common.{refl}
-use Rattle.index_loader.specs.Kinds.{slot_of}
-use Rattle.piece_rope.specs.Decode.{decode, output_behind, run, turns, feed, feed_for}
-use Rattle.piece_rope.specs.Document.{decoded_text}
-use Rattle.position_map.specs.Lines.{lines_of}
-use Rattle.position_map.specs.Positions.{offset_of}
-use Rattle.position_map.specs.Plan.{planned, replacing}
+use Rattle.position_map.proofs.Words.{refl, slot_of, decode, output_behind, run, turns, feed, feed_for, decoded_text, lines_of, offset_of, planned}
+use Rattle.position_map.proofs.Words.{replacing}
 use Rattle.position_map.proofs.plan_examples.inside_an_item.Goals as goal
 
 pub returns : goal.returns

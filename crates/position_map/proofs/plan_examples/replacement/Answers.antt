@@ -1,17 +1,9 @@
-use Rattle.std.proofs.Common.{◌≡◌, refl, sym, ap, ◌∙◌, ℕ, zero, suc, ◌+◌, ◌⊎◌, inl, inr, false, List, [], ◌∷◌, arith, Option, Some, None, Result, Ok, Err}
-use Rattle.std.specs.Option.{option_map, ok_or}
 use Rattle.enc_names.specs.declared.encoding.Encoding.TheVariants.{Replacement}
-use Rattle.piece_rope.specs.Decode.{decode, run, turns}
-use Rattle.piece_rope.specs.Document.{Document, text_of, decoded_text}
 use Rattle.position_map.specs.declared.change_fault.ChangeFault.TheVariants.{NoEncoder}
-use Rattle.position_map.specs.declared.fault.PosFault.{PosFault}
-use Rattle.position_map.specs.declared.fault.PosFault.TheVariants.{SplitsCharacter}
-use Rattle.position_map.specs.declared.position.Range.{Range}
-use Rattle.position_map.specs.declared.unit.Unit.TheVariants.{Utf16}
-use Rattle.position_map.specs.Lines.{lines_of}
-use Rattle.position_map.specs.Plan.{is_behind, planned, replacing}
 use Rattle.position_map.specs.PlanExamples.{in_encoding}
-use Rattle.position_map.specs.Positions.{along, offset_of}
+use Rattle.position_map.proofs.Words.{◌≡◌, refl, sym, ap, ◌∙◌, ℕ, zero, suc, ◌+◌, ◌⊎◌, inl, inr, false, List, [], ◌∷◌, arith, Option, Some, None}
+use Rattle.position_map.proofs.Words.{Result, Ok, Err, option_map, ok_or, decode, run, turns, Document, text_of, decoded_text, PosFault}
+use Rattle.position_map.proofs.Words.{SplitsCharacter, Range, Utf16, lines_of, is_behind, planned, replacing, along, offset_of}
 use Rattle.position_map.proofs.Alongs.{along_step}
 use Rattle.position_map.proofs.Planning.{over_ends}
 use Rattle.position_map.proofs.plan_examples.replacement.Goals as goal

@@ -1,6 +1,4 @@
-use Rattle.std.proofs.Common.{◌∙◌, sym, ap}
-use Rattle.std.specs.Str.{chars}
-use Rattle.position_map.specs.Widths.{width}
+use Rattle.position_map.proofs.Words.{◌∙◌, sym, ap, chars, width}
 use Rattle.position_map.proofs.Widths.{width-bytes, width-scalars}
 use Rattle.position_map.proofs.point.units_in.Goals as goal
 

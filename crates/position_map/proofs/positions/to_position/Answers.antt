@@ -1,7 +1,4 @@
-use Rattle.std.proofs.Common.{◌≡◌, ◌<◌, subst, arith, length, Ok, Err}
-use Rattle.piece_rope.specs.Document.{text_of}
-use Rattle.position_map.specs.Positions.{position_of}
-use Rattle.position_map.specs.declared.fault.PosFault.TheVariants.{OutOfRange}
+use Rattle.position_map.proofs.Words.{◌≡◌, ◌<◌, subst, arith, length, Ok, Err, text_of, position_of, OutOfRange}
 use Rattle.position_map.proofs.OnLines.{position_past}
 use Rattle.position_map.proofs.positions.to_position.Goals as goal
 

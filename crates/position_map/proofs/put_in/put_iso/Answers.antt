@@ -1,9 +1,6 @@
-use Rattle.std.proofs.Common.{refl, sym, ap, subst, ◌∙◌, true, false, List, ℕ, drop, ◌++◌, append-nil, Ok, Err}
-use Rattle.std.specs.Str.{chars}
-use Rattle.std.proofs.lemmas.Result.{err_from_is_err_and}
-use Rattle.index_loader.specs.Files.{Files}
 use Rattle.encoders.specs.Steps.{encoded_iso, IsFrom}
-use Rattle.position_map.specs.Plan.{begins_with_escape}
+use Rattle.position_map.proofs.Words.{refl, sym, ap, subst, ◌∙◌, true, false, List, ℕ, drop, ◌++◌, append-nil, Ok, Err, chars, err_from_is_err_and}
+use Rattle.position_map.proofs.Words.{Files, begins_with_escape}
 use Rattle.position_map.proofs.Planning.{refused_iso, put_iso}
 use Rattle.position_map.proofs.put_in.put_iso.Goals as goal
 

@@ -1,8 +1,4 @@
-use Rattle.std.proofs.Common.{◌≡◌, subst, arith, Some}
-use Rattle.std.specs.List.{slice_get}
-use Rattle.piece_rope.specs.Document.{text_of}
-use Rattle.position_map.specs.Lines.{lines_of}
-use Rattle.position_map.specs.NextLines.{LinesFrom}
+use Rattle.position_map.proofs.Words.{◌≡◌, subst, arith, Some, slice_get, text_of, lines_of, LinesFrom}
 use Rattle.position_map.proofs.NextLines.{is_next, ahead_number, last_found, line_found, none_ahead}
 use Rattle.position_map.proofs.line_cursor.LineCursor.next.Goals as goal
 

@@ -1,6 +1,4 @@
-use Rattle.std.proofs.Common.{◌∙◌, ap, length}
-use Rattle.piece_rope.specs.Document.{text_of}
-use Rattle.position_map.specs.Whole.{Pieced}
+use Rattle.position_map.proofs.Words.{◌∙◌, ap, length, text_of, Pieced}
 use Rattle.position_map.proofs.Pointing.{end-scalars}
 use Rattle.position_map.proofs.parts.Parts.end.Goals as goal
 

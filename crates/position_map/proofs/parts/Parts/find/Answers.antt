@@ -1,7 +1,4 @@
-use Rattle.std.proofs.Common.{subst, ap, Some, None}
-use Rattle.piece_rope.specs.Search.{measure}
-use Rattle.position_map.specs.Found.{IsFoundOutcome}
-use Rattle.position_map.specs.Whole.{Pieced}
+use Rattle.position_map.proofs.Words.{subst, ap, Some, None, measure, IsFoundOutcome, Pieced}
 use Rattle.position_map.proofs.Finding.{found-some, found-none, found-short}
 use Rattle.position_map.proofs.parts.Parts.find.Goals as goal
 

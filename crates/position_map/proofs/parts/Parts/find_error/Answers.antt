@@ -1,6 +1,4 @@
-use Rattle.std.proofs.Common.{subst, ap, Some, None}
-use Rattle.position_map.specs.Found.{IsFoundBy, errors_in_sum}
-use Rattle.position_map.specs.Whole.{Pieced}
+use Rattle.position_map.proofs.Words.{subst, ap, Some, None, IsFoundBy, errors_in_sum, Pieced}
 use Rattle.position_map.proofs.Finding.{found-some, found-none}
 use Rattle.position_map.proofs.parts.Parts.find_error.Goals as goal
 

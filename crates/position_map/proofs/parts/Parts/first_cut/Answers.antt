@@ -1,7 +1,4 @@
-use Rattle.std.proofs.Common.{◌≡◌, ap, ◌∙◌, subst, Some}
-use Rattle.piece_rope.specs.Decode.{Ascii}
-use Rattle.position_map.specs.ItemCuts.{cut_of}
-use Rattle.position_map.specs.Whole.{Pieced}
+use Rattle.position_map.proofs.Words.{◌≡◌, ap, ◌∙◌, subst, Some, Ascii, cut_of, Pieced}
 use Rattle.position_map.proofs.ItemCutting.{first_is}
 use Rattle.position_map.proofs.parts.Parts.first_cut.Goals as goal
 

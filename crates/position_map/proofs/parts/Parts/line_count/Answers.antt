@@ -1,7 +1,4 @@
-use Rattle.std.proofs.Common.{◌∙◌, sym, ap, length}
-use Rattle.piece_rope.specs.Document.{text_of}
-use Rattle.position_map.specs.Lines.{lines_of}
-use Rattle.position_map.specs.Whole.{Pieced}
+use Rattle.position_map.proofs.Words.{◌∙◌, sym, ap, length, text_of, lines_of, Pieced}
 use Rattle.position_map.proofs.LineMarks.{line_count}
 use Rattle.position_map.proofs.parts.Parts.line_count.Goals as goal
 

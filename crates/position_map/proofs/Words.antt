@@ -1,0 +1,77 @@
+-- Words of texts and of pieces that many proofs here name, passed on from one place. Declares nothing.
+pub use Rattle.std.proofs.Common.{arith, sym, subst, ap, ◌∙◌, ℕ, Result, ◌≡◌, List, Ok, Err, Some, None, refl, ◌+◌, ◌≤◌, length, ◌-◌, ◌<◌, pos, drop}
+pub use Rattle.std.proofs.Common.{get_or, min, false, Bor, zero, suc, ◌⊎◌, inl, inr, [], ◌∷◌, Option, true, ◌++◌, append-nil}
+pub use Rattle.std.specs.Str.{chars, IsUtf8, IsCharBoundary}
+pub use Rattle.std.specs.Option.{option_map, unwrap_or, option_to_list, IfSome, ok_or, option_eq}
+pub use Rattle.std.specs.List.{slice_get, filter, flat_map}
+pub use Rattle.std.proofs.lemmas.Bool.Decides.{nat_tests}
+pub use Rattle.std.proofs.lemmas.List.{length-take-le, take-take, drop-take, drop_more, take_at, drop_at, length-map, map-append, at_drop_more}
+pub use Rattle.std.proofs.lemmas.List.{length-take, drop-drop, drop_all, take_all}
+pub use Rattle.std.proofs.lemmas.Option.{slice_get-map, slice_get_past, slice_get_within}
+pub use Rattle.std.proofs.lemmas.List.Sums.{count_by-le-length, sum_by-cons, sum_by-append}
+pub use Rattle.lane_ascii.specs.Marks.{is_mark, marks, ends_cr, IsNthMark, cr, lf, one_if}
+pub use Rattle.position_map.specs.declared.unit.Unit.{Unit as TextUnit}
+pub use Rattle.position_map.specs.declared.unit.Unit.TheVariants.{Utf8, Utf16, Utf32}
+pub use Rattle.position_map.specs.declared.fault.PosFault.{PosFault}
+pub use Rattle.position_map.specs.declared.fault.PosFault.TheVariants.{OutOfRange, SplitsCharacter}
+pub use Rattle.position_map.specs.declared.point.Point.{Point}
+pub use Rattle.position_map.specs.declared.position.Position.{Position}
+pub use Rattle.position_map.specs.declared.position.Range.{Range}
+pub use Rattle.position_map.specs.declared.text_cut.TextCut.{TextCut}
+pub use Rattle.position_map.specs.declared.on_line.OnLine.{OnLine}
+pub use Rattle.position_map.specs.declared.mark.LineMark.{LineMark}
+pub use Rattle.position_map.specs.Cuts.{IsScalarCut, IsRestBehind}
+pub use Rattle.position_map.specs.Fronts.{IsTextFront, IsFrontOf, IsCutAt, IsOnLine}
+pub use Rattle.position_map.specs.LineEnds.{IsLastEnd, IsLastLine, ending_of}
+pub use Rattle.position_map.specs.Lines.{LineSpan, lines_from}
+unfoldable pub use Rattle.position_map.specs.Lines.{lines_of}
+pub use Rattle.position_map.specs.Located.{IsLocated, IsOfText, reach, axis_of, sum_in}
+pub use Rattle.position_map.specs.Marked.{IsMarkCut, begins_mark, IsLineStart, start_of, IsLineEnd, IsMark, end_of, IsMarkAt}
+pub use Rattle.position_map.specs.Points.{IsTextEnd, IsBehind, IsPoint}
+pub use Rattle.position_map.specs.Positions.{along, between, line_at, position, offset_at, character_at, offset_on}
+unfoldable pub use Rattle.position_map.specs.Positions.{position_of, offset_of, converted}
+pub use Rattle.position_map.specs.Widths.{width, width_of}
+pub use Rattle.position_map.proofs.Cases.{map_some, by_test, by_le, same_some, none_some, map_none, same_cons, both_true, same_ok, none_past, ok_some}
+pub use Rattle.position_map.specs.Plan.{item_width, cut, is_behind, over_range, with_ends, position_cause, between_cuts, splice_with, encoder_cause}
+pub use Rattle.position_map.specs.Plan.{IsPlanned, with_return, same_output, begins_with_escape}
+unfoldable pub use Rattle.position_map.specs.Plan.{planned, replacing}
+unfoldable pub use Rattle.index_loader.specs.Kinds.{slot_of}
+pub use Rattle.std.proofs.lemmas.Str.{encode_ascii, chars-append, chars_past_char, IsUtf8-take, IsUtf8-drop, IsCharBoundary-before_ascii}
+pub use Rattle.std.proofs.lemmas.Str.{IsCharBoundary-after_ascii, encodes-append, encodes-chars, scalars-chars, chars-encodes, IsCharBoundary-at_seam}
+pub use Rattle.std.proofs.lemmas.Str.{length-encode, chars-nil}
+pub use Rattle.std.proofs.lemmas.Result.{err_from_is_err_and}
+pub use Rattle.std.proofs.Math.Utf8.{scalar, scalars, encodes}
+unfoldable pub use Rattle.std.proofs.Math.Utf8.{encode}
+pub use Rattle.position_map.specs.declared.plan.Plan.{Plan}
+pub use Rattle.position_map.specs.declared.change_fault.ChangeFault.{ChangeFault}
+pub use Rattle.piece_rope.specs.Runs.{ItemKind, AsciiOne, AsciiTwo, AsciiError, RomanOne, RomanTwo, RomanError, KatakanaOne, KatakanaTwo}
+pub use Rattle.piece_rope.specs.Runs.{KatakanaError, Jis0208One, Jis0208Two, Jis0208Error, Run, item_of_kind, items_of_run, items_of_runs}
+pub use Rattle.piece_rope.specs.Runs.{items_until}
+pub use Rattle.position_map.specs.ItemCuts.{cut_behind, cut_of}
+pub use Rattle.index_loader.specs.Files.{Files, has_files}
+pub use Rattle.lane_utf.specs.Selected.{scalar_place, selected, moved}
+pub use Rattle.position_map.specs.Along.{IsAlongFront}
+pub use Rattle.position_map.specs.NextLines.{IsNextLine, IsAhead, LinesFrom}
+pub use Rattle.std.proofs.lemmas.Int.{ints}
+pub use Rattle.position_map.specs.declared.item_cuts.Cut.{Cut}
+pub use native.Mathlib.Nat.{add_assoc, zero-add}
+pub use native.Mathlib.Numerals.{unary_clauses}
+pub use Rattle.enc_names.specs.declared.place.Place.{Place}
+pub use Rattle.piece_rope.specs.Decode.{Ended as Turned, Item, One, Two, Error, Placed, places, item_code_points, code_points, Ascii, run_in}
+pub use Rattle.piece_rope.specs.Decode.{in_force, mark_length, error_place, error_places, OutputState}
+unfoldable pub use Rattle.piece_rope.specs.Decode.{decode, run, turns, feed, feed_for, output_behind}
+pub use Rattle.piece_rope.specs.Document.{text_of, Document, decoded, errors_of}
+unfoldable pub use Rattle.piece_rope.specs.Document.{decoded_text, decoded_errors}
+pub use Rattle.piece_rope.specs.Made.{IsMade, IsEnded, AreEnded, AreMade, ends_at, body_of, tail_of, count_body, EndWithin}
+pub use Rattle.piece_rope.specs.Outcomes.{Ended, Outcome, Sum, total_of, all_scalars, item_of, begins_lf, joined, is_an_error, errors_in, no_sum}
+pub use Rattle.piece_rope.specs.Outcomes.{scalars_before, IsSumOf}
+pub use Rattle.piece_rope.specs.Outputs.{HasOutputs, HaveOutputs, output_at}
+pub use Rattle.piece_rope.specs.Search.{Scalar, measure, IsFound, total, Axis, Byte, Utf16 as by_utf16, Utf8 as by_utf8, Mark as by_mark}
+pub use Rattle.position_map.specs.Found.{IsFoundBy, IsFoundOutcome, errors_in_sum, sum_in_outcome}
+pub use Rattle.position_map.specs.Places.{place_of, scalars_until}
+unfoldable pub use Rattle.position_map.specs.Places.{scalar_of_byte}
+pub use Rattle.position_map.specs.Placing.{bom_of, IsChained, last_to, HasItem, IsPlaced}
+pub use Rattle.position_map.specs.Whole.{Pieced, AreAllPieces, AreAtLeast, AreAtMost, pieces_most}
+pub use Rattle.position_map.specs.ErrorScalars.{scalar_of, error_scalars}
+pub use Rattle.position_map.specs.Diagnostics.{ErrorAt, all_errors, error_if, errors_from, diagnostic_at}
+unfoldable pub use Rattle.position_map.specs.Diagnostics.{errors_before_line, diagnostics_of}
