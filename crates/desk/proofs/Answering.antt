@@ -1,22 +1,7 @@
 -- What the desk answers to a question, from what the document at the name answers.
-use Rattle.std.proofs.Common.{◌≡◌, ℕ, List, refl, sym, ap, subst}
-use Rattle.std.specs.declared.option.Option.{Option}
-use Rattle.std.specs.declared.option.Option.TheVariants.{None, Some}
-use Rattle.std.specs.declared.result.Result.{Result}
-use Rattle.std.specs.declared.result.Result.TheVariants.{Ok, Err}
-use Rattle.std.specs.FinMap.{get}
-use Rattle.std.specs.Map.{lookup}
-use Rattle.index_loader.specs.Files.{Files}
-use Rattle.desk.specs.Commands.{Ask, asked_of}
-use Rattle.desk.specs.Desk.{Office, Outcome, Answers, IsOutcome, effect, has_place, outcome}
-use Rattle.desk.specs.Documents.{Entry, Names, Gives, reply_of}
-use Rattle.desk.specs.Effects.{Effect, of_document, replied}
-use Rattle.desk.specs.OpenDocuments.{AllOpened, entry_of, names}
-use Rattle.desk.specs.declared.fault.Fault.{Fault}
-use Rattle.desk.specs.declared.fault.Fault.TheVariants.{NoDocument, OutOfMemory}
-use Rattle.desk.specs.declared.open_document.OpenDocument.{OpenDocument}
-use Rattle.desk.specs.declared.ops.Reply.{Reply}
-use Rattle.desk.specs.declared.ops.Reply.TheVariants.{Refused}
+use Rattle.desk.proofs.Prelude.{◌≡◌, ℕ, List, Some, None, Ok, Err, Option, Result, sym, refl, ap, subst, get, lookup, Files, Ask, asked_of, Office}
+use Rattle.desk.proofs.Prelude.{Outcome, Answers, IsOutcome, effect, has_place, outcome, Entry, Names, Gives, reply_of, Effect, of_document, replied}
+use Rattle.desk.proofs.Prelude.{AllOpened, entry_of, names, Fault, NoDocument, OutOfMemory, OpenDocument, Reply, Refused}
 use Rattle.desk.proofs.Names.{Entries, at_text, entry_none, entry_some, opened_found}
 
 is_outcome : (o : Outcome) (reply : Reply) (documents : Names) → o ≡ record { reply = reply; documents = documents } → IsOutcome o reply documents documents

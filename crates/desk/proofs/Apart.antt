@@ -1,19 +1,8 @@
 -- Documents are apart: what a desk answers for one depends on no other.
-use Rattle.std.proofs.Common.{◌≡◌, ◌≢◌, ℕ, Bool, true, false, List, [], ◌∷◌, ◌++◌, if◌then◌else◌, refl, sym, ap, ◌∙◌, subst}
-use Rattle.std.specs.declared.option.Option.{Option}
-use Rattle.std.specs.FinMap.{get}
-use Rattle.std.specs.Str.{bytes_eq}
-use Rattle.std.proofs.lemmas.Slice.Eq.{bytes_eq-Decides}
-use Rattle.enc_names.specs.Labels.{LabelTable}
-use Rattle.index_loader.specs.Files.{Files}
-use Rattle.desk.specs.Apart.{Exchange, Follows, NoneWanting, place_at, asks_of, replies_of, DocumentsAreApart}
-use Rattle.desk.specs.Commands.{Ask, Asked}
-use Rattle.desk.specs.Desk.{Office, effect, effect_of, has_place, Answers}
-use Rattle.desk.specs.Documents.{Entry}
-use Rattle.desk.specs.Effects.{Effect}
-use Rattle.desk.specs.declared.fault.Fault.TheVariants.{OutOfMemory}
-use Rattle.desk.specs.declared.ops.Reply.{Reply}
-use Rattle.desk.specs.declared.ops.Reply.TheVariants.{Refused}
+use Rattle.std.proofs.Common.{◌≡◌, ◌≢◌, ℕ, Bool, true, false, List, [], ◌∷◌, ◌++◌, if◌then◌else◌, refl, sym, ap, ◌∙◌, subst, Option, bytes_eq}
+use Rattle.desk.proofs.Prelude.{bytes_eq-Decides, get, LabelTable, Files, Exchange, Follows, NoneWanting, place_at, asks_of, replies_of}
+use Rattle.desk.proofs.Prelude.{DocumentsAreApart, Ask, Asked, Office, Answers, effect, has_place, effect_of, Entry, Effect, OutOfMemory, Reply}
+use Rattle.desk.proofs.Prelude.{Refused}
 use Rattle.desk.proofs.Moves.{held_after, at_name, reply_is, held_is}
 use Rattle.desk.proofs.Row.{known}
 use Rattle.desk.proofs.Rows as rows

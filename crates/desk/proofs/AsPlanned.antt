@@ -1,39 +1,13 @@
 -- What becomes of a change that is asked for when its plan was.
-use Rattle.std.proofs.Common.{◌≡◌, ◌≢◌, ℕ, ◌+◌, ◌≤◌, ◌<◌, ◌-◌, nat_le, Bool, true, false, List, length, take, drop, if◌then◌else◌, refl, sym, ap, ◌∙◌, subst, arith}
-use Rattle.std.proofs.lemmas.Bool.{leb-true}
-use Rattle.std.proofs.lemmas.List.{length-drop, length-take-le}
-use Rattle.std.specs.declared.option.Option.{Option}
-use Rattle.std.specs.declared.option.Option.TheVariants.{None, Some}
-use Rattle.std.specs.declared.result.Result.{Result}
-use Rattle.std.specs.declared.result.Result.TheVariants.{Ok, Err}
-use Rattle.std.specs.FinMap.{get}
-use Rattle.std.specs.Str.{chars}
-use Rattle.index_loader.specs.Files.{Files}
-use Rattle.piece_rope.specs.declared.fault.DocFault.{DocFault}
-use Rattle.piece_rope.specs.declared.fault.DocFault.TheVariants as cause
-use Rattle.piece_rope.specs.Document.{Document, decoded}
-use Rattle.piece_rope.specs.Edits.{first_of, is_kept, kept_fault, splice_fault, spliced, spliced_document, text_fault}
-use Rattle.position_map.specs.declared.change_fault.ChangeFault.{ChangeFault}
-use Rattle.position_map.specs.declared.plan.Plan.{Plan}
-use Rattle.position_map.specs.declared.position.Range.{Range}
-use Rattle.position_map.specs.declared.unit.Unit.{Unit as TextUnit}
-use Rattle.position_map.specs.Plan.{planned}
-use Rattle.desk.specs.Accepted.{is_accepted}
+use Rattle.std.proofs.Common.{◌≡◌, ◌≢◌, ℕ, ◌+◌, ◌<◌, Bool, true, false, List, length, take, drop, refl, sym, ap, ◌∙◌, subst, arith, Ok}
+use Rattle.desk.proofs.Prelude.{Some, None, Err, Option, Result, chars, length-drop, length-take-le, nat_tests, get, Files, Document, decoded}
+use Rattle.desk.proofs.Prelude.{first_of, is_kept, kept_fault, spliced, splice_fault, DocFault, planned, ChangeFault, Plan, Range, TextUnit}
+use Rattle.desk.proofs.Prelude.{is_accepted, unless_kept, made, made_unless, carried_out, changed, alone, change_reply, change_effect, asked_of}
+use Rattle.desk.proofs.Prelude.{ChangesText, Plans, Office, Answers, effect_of, Entry, reply_of, entry, document_of, max_number, unless, Applied}
+use Rattle.desk.proofs.Prelude.{put_applied, raised, Effect, of_document, replied, foretold, with_plan, plan_reply, ChangeCause, Fault, OutOfMemory}
+use Rattle.desk.proofs.Prelude.{NotKept, Reply, Refused, Change}
 use Rattle.desk.specs.AsPlanned.{IsMadeAsPlanned, PlansForetellChanges, RefusedPlansRefuseChanges}
-use Rattle.desk.specs.Change.{unless_kept, made, made_unless, carried_out, changed, alone, change_reply, change_effect}
-use Rattle.desk.specs.Commands.{asked_of, ChangesText, Plans}
-use Rattle.desk.specs.Desk.{Office, Answers, effect_of}
-use Rattle.desk.specs.Documents.{Entry, entry, document_of, fault_of, max_number, reply_of, unless}
-use Rattle.desk.specs.Edits.{Applied, put_applied, raised}
-use Rattle.desk.specs.Effects.{Effect, of_document, replied}
-use Rattle.desk.specs.Plan.{foretold, with_plan, plan_reply}
-use Rattle.desk.specs.declared.change_cause.ChangeCause.{ChangeCause}
-use Rattle.desk.specs.declared.fault.Fault.{Fault}
-use Rattle.desk.specs.declared.fault.Fault.TheVariants.{NotKept, OutOfMemory}
 use Rattle.desk.specs.declared.ops.plan.PlanReply.{PlanReply}
-use Rattle.desk.specs.declared.ops.Reply.{Reply}
-use Rattle.desk.specs.declared.ops.Reply.TheVariants.{Change, Refused}
-use Rattle.desk.specs.declared.ops.Reply.TheVariants as replies
 use Rattle.desk.proofs.Begins.{held_here}
 use Rattle.desk.proofs.KeptText.{now}
 use Rattle.desk.proofs.Moves.{held_after, reply_is}
@@ -47,20 +21,19 @@ record IsForetold (indexes : Files) (unit : TextUnit) (range : Option Range) (te
   faultless : kept_fault (document_of indexes h) plan.at plan.del plan.ins plan.i plan.j ≡ None
   is_told : foretold (document_of indexes h) h.revision (chars text) plan ≡ told
 
-told-unless : (fault : Option DocFault) (x told : PlanReply) → reply_of (unless fault (replies.Plan x)) ≡ replies.Plan told → (fault ≡ None) × (x ≡ told)
-told-unless None x told e = let same = e in (refl, cc)
-told-unless (Some f) x told e = cc
+told-unless : (fault : Option DocFault) (x told : PlanReply) → reply_of (unless fault (Reply.Plan x)) ≡ Reply.Plan told → (fault ≡ None) × (x ≡ told)
+told-unless fault x told e = (grind arith, grind arith)
 
 module _ (indexes : Files) (unit : TextUnit) (range : Option Range) (text : List ℕ) where
   told-by : (h : Entry) (told : PlanReply) (r : Result Plan ChangeFault) → planned (document_of indexes h) range unit (chars text) ≡ r
-      → reply_of (with_plan (document_of indexes h) h.revision (chars text) r) ≡ replies.Plan told → IsForetold indexes unit range text h told
+      → reply_of (with_plan (document_of indexes h) h.revision (chars text) r) ≡ Reply.Plan told → IsForetold indexes unit range text h told
   told-by h told (Ok plan) is e =
       let d = document_of indexes h in
       let by = told-unless (kept_fault d plan.at plan.del plan.ins plan.i plan.j) (foretold d h.revision (chars text) plan) told e in
       record { plan = plan; is_plan = is; faultless = by.0; is_told = by.1 }
   told-by h told (Err fault) is e = cc
 
-  found-by : (found : Option Entry) (told : PlanReply) → (of_document found (λ h. replied (plan_reply indexes h unit range text))).reply ≡ replies.Plan told
+  found-by : (found : Option Entry) (told : PlanReply) → (of_document found (λ h. replied (plan_reply indexes h unit range text))).reply ≡ Reply.Plan told
       → (h : Entry) × (found ≡ Some h) × IsForetold indexes unit range text h told
   found-by None told e = cc
   found-by (Some h) told e = (h, refl, told-by h told (planned (document_of indexes h) range unit (chars text)) refl e)
@@ -72,18 +45,6 @@ module _ (indexes : Files) (unit : TextUnit) (range : Option Range) (text : List
 
 -- ---- a change that is planned
 
-cut-there : (first cut : Option DocFault) → first_of first cut ≡ None → cut ≡ None
-cut-there None cut e = e
-cut-there (Some f) cut e = cc
-
-within-if : (b c : Bool) → (if b then (if c then None else Some cause.TooLarge) else Some cause.OutOfRange) ≡ None → b ≡ true
-within-if true c e = refl
-within-if false c e = cc
-
-cut-within : (bytes : List ℕ) (at del : ℕ) (ins : List ℕ) → splice_fault bytes at del ins ≡ None → at + del ≤ length bytes
-unfolding splice_fault
-cut-within bytes at del ins e = leb-true (at + del) (length bytes) (within-if (nat_le (at + del) (length bytes)) _ e)
-
 module _ (indexes : Files) (h : Entry) (text : List ℕ) (plan : Plan) where
   abbrev Doc : Document
   Doc = document_of indexes h
@@ -93,9 +54,8 @@ module _ (indexes : Files) (h : Entry) (text : List ℕ) (plan : Plan) where
 
   -- as many bytes are told as go out
   told-length : kept_fault Doc plan.at plan.del plan.ins plan.i plan.j ≡ None → length (foretold Doc h.revision text plan).old ≡ plan.del
-  told-length e =
-      let within = cut-within h.bytes plan.at plan.del plan.ins (cut-there (text_fault Doc plan.i plan.j) _ e) in
-      length-take-le plan.del (drop plan.at h.bytes) (omega (arith, within, length-drop plan.at h.bytes))
+  unfolding splice_fault
+  told-length e = length-take-le plan.del (drop plan.at h.bytes) (grind (arith, nat_tests, length-drop {A = ℕ}))
 
   -- the change is made or refused by whether its text is kept
   made-if : kept_fault Doc plan.at plan.del plan.ins plan.i plan.j ≡ None → (b : Bool) → Kept ≡ b
@@ -147,8 +107,8 @@ module _ (o p : Office) (doc : List ℕ) (unit : TextUnit) (range : Option Range
 pub plans_foretell_changes : PlansForetellChanges
 plans_foretell_changes o q p doc unit range text told reply asked lt answers ne =
     let c = asked_of doc (Plans unit range text) in
-    let same : o ≡ q = sym (kept_office o q c (replies.Plan told) asked refl) in
-    let by = found-by o.indexes unit range text (get o.documents doc) told (reply_is o q c (replies.Plan told) asked (λ e. cc)) in
+    let same : o ≡ q = sym (kept_office o q c (Reply.Plan told) asked refl) in
+    let by = found-by o.indexes unit range text (get o.documents doc) told (reply_is o q c (Reply.Plan told) asked (λ e. cc)) in
     let h = by.0 in
     let rev : told.rev ≡ h.revision = sym (ap (λ (x : PlanReply). x.rev) by.2.is_told) in
     subst (λ (x : Office). (told.kept ≡ true → IsMadeAsPlanned x doc told reply p) × (told.kept ≡ false → reply ≡ Refused NotKept)) same
@@ -158,10 +118,9 @@ plans_foretell_changes o q p doc unit range text told reply asked lt answers ne 
 
 -- ---- a plan that is refused
 
-refused-unless : (d : Document) (plan : Plan) (cut other : Option DocFault) (x : PlanReply) (fault : Fault) → reply_of (unless cut (replies.Plan x)) ≡ Refused fault
+refused-unless : (d : Document) (plan : Plan) (cut other : Option DocFault) (x : PlanReply) (fault : Fault) → reply_of (unless cut (Reply.Plan x)) ≡ Refused fault
     → alone (made_unless (first_of cut other) (made d plan)) ≡ Err fault
-refused-unless d plan None other x fault e = cc
-refused-unless d plan (Some f) other x fault e = let same : Refused (fault_of f) ≡ Refused fault = e in cc
+refused-unless d plan cut other x fault e = grind arith
 
 refused-plan : (d : Document) (rev : ℕ) (text : List ℕ) (r : Result Plan ChangeFault) (fault : Fault) → reply_of (with_plan d rev text r) ≡ Refused fault
     → alone (carried_out d text r) ≡ Err fault

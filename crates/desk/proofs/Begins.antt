@@ -1,35 +1,10 @@
 -- Where lives of a document begin and end.
-use Rattle.std.proofs.Common.{◌≡◌, ◌≢◌, ℕ, Bool, true, false, cond, List, if◌then◌else◌, refl, sym, ap, ◌∙◌}
-use Rattle.std.proofs.lemmas.Slice.Eq.{bytes_eq-Decides}
-use Rattle.std.specs.declared.option.Option.{Option}
-use Rattle.std.specs.declared.option.Option.TheVariants.{None, Some}
-use Rattle.std.specs.declared.result.Result.{Result}
-use Rattle.std.specs.declared.result.Result.TheVariants.{Ok, Err}
-use Rattle.std.specs.Option.{is_some}
+use Rattle.desk.proofs.Prelude.{◌≡◌, ℕ, Bool, true, false, cond, ◌≢◌, List, is_some, if◌then◌else◌, Some, None, Ok, Err, Option, Result, bytes_eq}
+use Rattle.desk.proofs.Prelude.{sym, refl, ap, ◌∙◌, arith, bytes_eq-Decides, nat_list_cmp_total, get, lookup_in, setting_of, Bom, Encoding, Setting}
+use Rattle.desk.proofs.Prelude.{Files, is_accepted, closed, asked_of, Asked, Opens, Closes, Office, Answers, has_place, effect_of, Entry, entry}
+use Rattle.desk.proofs.Prelude.{edit_reply, of_document, Move, put, with_bytes, base64_bytes, OpensBegin, AdoptionsBegin, ClosesEnd, admitted, opened}
+use Rattle.desk.proofs.Prelude.{Fault, OutOfMemory, NameTaken, Reply, Refused}
 use Rattle.std.specs.FinMap as finite
-use Rattle.std.specs.FinMap.{get}
-use Rattle.std.specs.Cmp.Lexicographic.{nat_list_cmp_total}
-use Rattle.std.specs.Str.{bytes_eq}
-use Rattle.enc_names.specs.declared.bom.Bom.{Bom}
-use Rattle.enc_names.specs.declared.encoding.Encoding.{Encoding}
-use Rattle.enc_names.specs.declared.setting.Setting.{Setting}
-use Rattle.enc_names.specs.Settings.{setting_of}
-use Rattle.enc_names.specs.Labels.{lookup_in}
-use Rattle.index_loader.specs.Files.{Files, has_files}
-use Rattle.piece_rope.specs.declared.fault.DocFault.{DocFault}
-use Rattle.piece_rope.specs.Edits.{open_fault}
-use Rattle.desk.specs.Accepted.{is_accepted}
-use Rattle.desk.specs.Close.{closed}
-use Rattle.desk.specs.Commands.{Asked, asked_of, Opens, Closes}
-use Rattle.desk.specs.Desk.{Office, effect_of, has_place, Answers}
-use Rattle.desk.specs.Documents.{Entry, entry, edit_reply, unless}
-use Rattle.desk.specs.Effects.{Move, put, of_document, with_bytes, base64_bytes}
-use Rattle.desk.specs.Lives.{OpensBegin, AdoptionsBegin, ClosesEnd}
-use Rattle.desk.specs.Open.{admitted, opened}
-use Rattle.desk.specs.declared.fault.Fault.{Fault}
-use Rattle.desk.specs.declared.fault.Fault.TheVariants.{OutOfMemory, NameTaken}
-use Rattle.desk.specs.declared.ops.Reply.{Reply}
-use Rattle.desk.specs.declared.ops.Reply.TheVariants.{Refused}
 use Rattle.desk.proofs.Moves.{held_after, at_name, test, reply_is, held_is}
 
 accepts : (reply : Reply) → is_accepted reply ≡ true → reply ≢ Refused OutOfMemory
@@ -49,18 +24,8 @@ accepted_here o p c reply answers e = ap is_accepted (reply_is o p c reply answe
 
 -- ---- a document that is admitted
 
-admitted-if : (b : Bool) (x : Result Entry Fault) (f : Fault) (k : Entry) → (if b then x else Err f) ≡ Ok k → x ≡ Ok k
-admitted-if true x f k e = e
-admitted-if false x f k e = cc
-
-admitted-unless : (fault : Option DocFault) (x k : Entry) → unless fault x ≡ Ok k → x ≡ k
-admitted-unless None x k e = let same = e in cc
-admitted-unless (Some f) x k e = cc
-
 admitted-ok : (indexes : Files) (place : Bool) (setting : Setting) (bytes : List ℕ) (rev : ℕ) (k : Entry) → admitted indexes place setting bytes rev ≡ Ok k → entry setting bytes rev ≡ k
-admitted-ok indexes place setting bytes rev k e =
-    admitted-unless (open_fault indexes setting.given bytes) (entry setting bytes rev) k
-    (admitted-if place _ _ k (admitted-if (has_files indexes setting.given) _ _ k e))
+admitted-ok indexes place setting bytes rev k e = grind arith
 
 -- ---- an open
 
@@ -100,8 +65,7 @@ opens_begin o p doc label text bom reply answers e =
 -- ---- an adoption
 
 free-if : (found : Option Entry) (x : Result Entry Fault) (k : Entry) → (if is_some found then Err NameTaken else x) ≡ Ok k → (found ≡ None) × (x ≡ Ok k)
-free-if None x k e = (refl, e)
-free-if (Some h) x k e = cc
+free-if found x k e = (grind arith, grind arith)
 
 pub adoptions_begin : AdoptionsBegin
 adoptions_begin o p name setting bytes rev adopts =

@@ -1,26 +1,10 @@
 -- The op `changes`: lists of changes, and its row.
-use Rattle.std.proofs.Common.{◌≡◌, ℕ, ◌+◌, List, [], ◌∷◌, refl, sym, ap, ◌∙◌}
-use Rattle.std.specs.declared.result.Result.{Result}
-use Rattle.std.specs.declared.result.Result.TheVariants.{Ok, Err}
-use Rattle.enc_names.specs.Labels.{LabelTable}
-use Rattle.index_loader.specs.Files.{Files}
-use Rattle.piece_rope.specs.declared.fault.DocFault.TheVariants as splice
-use Rattle.piece_rope.specs.Document.{Document}
-use Rattle.position_map.specs.declared.change_fault.ChangeFault.TheVariants as plan
-use Rattle.position_map.specs.declared.plan.Plan.{Plan}
-use Rattle.position_map.specs.declared.unit.Unit.{Unit as TextUnit}
-use Rattle.desk.specs.Change.{changed}
-use Rattle.desk.specs.Changes.{then_rest, changed_all, changes_reply}
-use Rattle.desk.specs.Commands.{TextChange, MakesChanges}
-use Rattle.desk.specs.Documents.{Entry, document_of}
-use Rattle.desk.specs.Edits.{Applied}
-use Rattle.desk.specs.Lives.{edited_by, with_changes}
-use Rattle.desk.specs.declared.change_cause.ChangeCause.{ChangeCause}
-use Rattle.desk.specs.declared.change_cause.ChangeCause.TheVariants as because
-use Rattle.desk.specs.declared.fault.Fault.{Fault}
+use Rattle.std.proofs.Common.{◌≡◌, ℕ, ◌+◌, List, [], ◌∷◌, refl, sym, ap, ◌∙◌, Ok, Err, Result}
+use Rattle.desk.proofs.Prelude.{LabelTable, Files, Document, DocFault, ChangeFault, Plan, TextUnit, changed, then_rest, changed_all, changes_reply}
+use Rattle.desk.proofs.Prelude.{TextChange, MakesChanges, Entry, document_of, Applied, edited_by, with_changes, ChangeCause, Fault}
 use Rattle.desk.proofs.Change.{Possible, possible-changed, leaves}
 use Rattle.desk.proofs.Edits.{keeps-edited, answered-edited, continues-edited}
-use Rattle.desk.proofs.Row.{IsRow, Decided, keeps-of_document, answered-of_document}
+use Rattle.desk.proofs.Row.{IsRow, Decided, Keeps, Answered, by-document}
 
 -- ---- memory is no cause
 
@@ -30,17 +14,9 @@ DecidedAll r = Decided (λ x. Unit {0}) r
 decided-then : (n : ℕ) (rest : Document → Result (Applied ℕ) Fault) (r : Result (Applied Plan) ChangeCause) → Possible r → ((d : Document) → DecidedAll (rest d))
     → DecidedAll (then_rest n rest r)
 decided-then n rest (Ok x) p q = q x.document
-decided-then n rest (Err (because.Plan plan.OutOfRange)) p q = tt
-decided-then n rest (Err (because.Plan plan.SplitsCharacter)) p q = tt
-decided-then n rest (Err (because.Plan plan.SplitsItem)) p q = tt
-decided-then n rest (Err (because.Plan plan.NoEncoder)) p q = tt
-decided-then n rest (Err (because.Plan (plan.Unencodable e))) p q = tt
-decided-then n rest (Err (because.Plan plan.OutOfMemory)) p q = absurd p
-decided-then n rest (Err (because.Splice splice.NoIndex)) p q = tt
-decided-then n rest (Err (because.Splice splice.OutOfRange)) p q = tt
-decided-then n rest (Err (because.Splice splice.TooLarge)) p q = tt
-decided-then n rest (Err (because.Splice splice.NotKept)) p q = tt
-decided-then n rest (Err (because.Splice splice.OutOfMemory)) p q = absurd p
+decided-then n rest (Err (ChangeCause.Plan ChangeFault.OutOfMemory)) p q = absurd p
+decided-then n rest (Err (ChangeCause.Splice DocFault.OutOfMemory)) p q = absurd p
+decided-then n rest (Err cause) p q = tt
 
 decided-all : (unit : TextUnit) (n : ℕ) (cs : List TextChange) (d : Document) → DecidedAll (changed_all unit n cs d)
 decided-all unit n [] d = tt
@@ -82,8 +58,9 @@ module _ (indexes : Files) (labels : LabelTable) (rev : ℕ) (unit : TextUnit) (
 
   pub row : IsRow indexes labels (MakesChanges rev unit cs)
   row = record {
-    keeps = λ place found. keeps-of_document found _ (λ h. keeps-edited indexes h rev changes_reply (λ x d r. refl) (changed_all unit 0 cs));
-    answered = λ place found. answered-of_document found _ (λ h.
+    keeps = λ place found. by-document Keeps found _ (λ e. refl) (λ h.
+        keeps-edited indexes h rev changes_reply (λ x d r. refl) (changed_all unit 0 cs));
+    answered = λ place found. by-document Answered found _ (λ e. cc) (λ h.
         answered-edited indexes h rev changes_reply (λ x d r. refl) (changed_all unit 0 cs) (decided-all unit 0 cs (document_of indexes h)));
     continues = λ place h. continues-edited indexes h rev changes_reply (λ x d r. refl) (changed_all unit 0 cs) (MakesChanges rev unit cs) refl refl (continues h);
     placed = λ o found. refl;

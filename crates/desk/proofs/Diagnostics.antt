@@ -1,21 +1,8 @@
 -- The row of the op `diagnostics`, and its answer.
-use Rattle.std.proofs.Common.{◌≡◌, ℕ, ◌<◌, ◌≤◌, nat_le, true, false, length, Ok, Err, refl, ◌∙◌, rules}
-use Rattle.enc_names.specs.Labels.{LabelTable}
-use Rattle.index_loader.specs.Files.{Files}
-use Rattle.piece_rope.specs.Document.{errors_of}
-use Rattle.piece_rope.specs.Edits.{errors_fault, number_fault}
-use Rattle.position_map.specs.Diagnostics.{diagnostics_of, errors_before_line}
-use Rattle.position_map.specs.declared.unit.Unit.{Unit as TextUnit}
-use Rattle.desk.specs.Commands.{ListsDiagnostics}
-use Rattle.desk.specs.Diagnostics.{diagnostics_page, diagnostics_reply, first_error}
-use Rattle.desk.specs.Documents.{document_of, unless}
-use Rattle.desk.specs.OpenDocuments.{entry_of}
-use Rattle.desk.specs.declared.fault.Fault.TheVariants.{OutOfRange}
-use Rattle.desk.specs.declared.open_document.OpenDocument.{OpenDocument}
-use Rattle.desk.specs.declared.ops.Reply.{Reply}
-use Rattle.desk.specs.declared.ops.Reply.TheVariants.{Diagnostics}
+use Rattle.desk.proofs.Prelude.{◌≡◌, ℕ, ◌<◌, ◌≤◌, length, Ok, Err, refl, ◌∙◌, arith, nat_tests, LabelTable, Files, errors_of, errors_fault}
+use Rattle.desk.proofs.Prelude.{number_fault, diagnostics_of, errors_before_line, TextUnit, ListsDiagnostics, diagnostics_page, diagnostics_reply}
+use Rattle.desk.proofs.Prelude.{first_error, document_of, unless, entry_of, OutOfRange, OpenDocument, Reply, Diagnostics}
 use Rattle.desk.specs.declared.page_start.PageStart.{PageStart}
-use Rattle.desk.specs.declared.page_start.PageStart.TheVariants.{Number, Line}
 use Rattle.desk.proofs.Errors.{caused-errors}
 use Rattle.desk.proofs.Row.{IsRow, question, IsOther, decided-unless}
 
@@ -35,21 +22,15 @@ answered : (k : OpenDocument) (start : PageStart) (max : ℕ) (unit : TextUnit)
     → diagnostics_reply k.document.indexes (entry_of k) start max unit
     ≡ unless (errors_fault k.document (first_error k.document start)) (paged k (first_error k.document start) max unit)
 unfolding diagnostics_of errors_before_line
-answered k (Number n) max unit = refl
-answered k (Line line) max unit = refl
-
-past : (total from : ℕ) (reply : Reply) → total < from → unless (number_fault total from) reply ≡ Err OutOfRange
-unfolding number_fault
-past total from reply more = let test : nat_le from total ≡ false = search (rules, more) in rw test refl
-
-within : (total from : ℕ) (reply : Reply) → from ≤ total → unless (number_fault total from) reply ≡ Ok reply
-unfolding number_fault
-within total from reply few = let test : nat_le from total ≡ true = search (rules, few) in rw test refl
+answered k (PageStart.Number n) max unit = refl
+answered k (PageStart.Line line) max unit = refl
 
 pub answered_past : (k : OpenDocument) (start : PageStart) (max : ℕ) (unit : TextUnit) → length (errors_of k.document) < first_error k.document start
     → diagnostics_reply k.document.indexes (entry_of k) start max unit ≡ Err OutOfRange
-answered_past k start max unit more = answered k start max unit ∙ past _ _ _ more
+unfolding number_fault
+answered_past k start max unit more = answered k start max unit ∙ grind (arith, nat_tests)
 
 pub answered_within : (k : OpenDocument) (start : PageStart) (max : ℕ) (unit : TextUnit) → first_error k.document start ≤ length (errors_of k.document)
     → diagnostics_reply k.document.indexes (entry_of k) start max unit ≡ Ok (paged k (first_error k.document start) max unit)
-answered_within k start max unit few = answered k start max unit ∙ within _ _ _ few
+unfolding number_fault
+answered_within k start max unit few = answered k start max unit ∙ grind (arith, nat_tests)

@@ -1,40 +1,13 @@
 -- What the edits have in common: their steps, and their rows.
-use Rattle.std.proofs.Common.{◌≡◌, ◌≢◌, ℕ, ◌+◌, ◌&&◌, ◌==◌, Bool, true, false, nat_le, nat_lt, List, length, if◌then◌else◌, String, string_bytes, refl, sym, ap, ◌∙◌, subst, arith}
-use Rattle.std.proofs.lemmas.Bool.{eqb-true}
-use Rattle.std.specs.Prelude.{IfOk, OnErr}
-use Rattle.std.specs.declared.alloc.Global.{Global}
-use Rattle.std.specs.declared.option.Option.TheVariants.{None, Some}
-use Rattle.std.specs.declared.result.Result.{Result}
-use Rattle.std.specs.declared.result.Result.TheVariants.{Ok, Err}
-use Rattle.std.specs.BTreeMap as tree
-use Rattle.std.specs.BTreeMap.{BTreeMap}
-use Rattle.std.specs.Cmp.Lexicographic.{slice_cmp}
-use Rattle.std.specs.FinMap as finite
-use Rattle.std.specs.Map.{lookup, set_value}
-use Rattle.std.specs.Ordering.{nat_cmp}
-use Rattle.std.specs.String.{string_cmp}
+use Rattle.std.proofs.Common.{◌≡◌, ◌≢◌, ℕ, ◌+◌, ◌&&◌, ◌==◌, true, false, nat_le, nat_lt, List, length, refl, sym, ap, ◌∙◌, subst, arith}
+use Rattle.desk.proofs.Prelude.{IfOk, OnErr, Some, None, Ok, Err, Result, nat_tests, lookup, set_value, Files, Document, spliced, document_limit}
+use Rattle.desk.proofs.Prelude.{splice_fault, is_accepted, reports_change, Ask, IsOutcome, outcome, Entry, reply_of, document_of, max_number, Applied}
+use Rattle.desk.proofs.Prelude.{put_applied, at_revision, edited, Makes, Effect, of_document, Puts, edited_by, is_edit, named_by, AllOpened, entry_of}
+use Rattle.desk.proofs.Prelude.{names, Fault, NoDocument, OutOfMemory, OpenDocument, Reply, Refused}
 use Rattle.std.proofs.lemmas.Map.Steps.{set_value_same}
-use Rattle.index_loader.specs.Files.{Files}
-use Rattle.piece_rope.specs.Document.{Document}
-use Rattle.piece_rope.specs.Edits.{document_limit, splice_fault, spliced}
-use Rattle.desk.specs.Accepted.{is_accepted, reports_change}
-use Rattle.desk.specs.Commands.{Ask}
-use Rattle.desk.specs.Desk.{IsOutcome, outcome}
-use Rattle.desk.specs.Documents.{Entry, document_of, max_number, reply_of}
-use Rattle.desk.specs.Edits.{Applied, at_revision, put_applied, edited, Makes}
-use Rattle.desk.specs.Effects.{Effect, Puts, of_document}
-use Rattle.desk.specs.Lives.{is_edit, named_by, edited_by}
-use Rattle.desk.specs.OpenDocuments.{AllOpened, entry_of, names}
-use Rattle.desk.specs.declared.fault.Fault.{Fault}
-use Rattle.desk.specs.declared.fault.Fault.TheVariants.{OutOfMemory, NoDocument}
-use Rattle.desk.specs.declared.open_document.OpenDocument.{OpenDocument}
-use Rattle.desk.specs.declared.ops.Reply.{Reply}
-use Rattle.desk.specs.declared.ops.Reply.TheVariants.{Refused}
-use Rattle.desk.proofs.Names.{at_text, entry_none, entry_some, names_updated, opened_found}
+use Rattle.std.specs.FinMap as finite
+use Rattle.desk.proofs.Names.{at_text, entry_none, entry_some, names_updated, opened_found, Map, Updates}
 use Rattle.desk.proofs.Row.{ContinuesBy, Keeps, Answered, Decided, Caused, caused-if, decided-if, continues-refused}
-
-abbrev Map : Type 0
-Map = BTreeMap (String Global) OpenDocument
 
 -- ---- steps
 
@@ -68,32 +41,23 @@ module _ (old new : Map) (doc : List ℕ) where
   -- an edit that made the document l of k, or was refused
   module _ (indexes : Files) (edit : Files → Entry → Effect) (k l : OpenDocument) (some : Some k ≡ lookup (at_text doc) old.entries) (all : AllOpened indexes old.entries) where
     made : (answer : Result Reply Fault) → Makes (edit indexes (entry_of k)) answer (entry_of l) → IfOk answer (λ reply. is_accepted reply ≡ true) → OnErr answer (l ≡ k)
-        → new.entries ≡ set_value (at_text doc) old.entries l → tree.UpdatesBy string_cmp (λ q. slice_cmp nat_cmp doc (string_bytes q)) old new (Some l)
-        → Here (edit indexes (entry_of k)) (reply_of answer)
+        → new.entries ≡ set_value (at_text doc) old.entries l → Updates doc old new (Some l) → Here (edit indexes (entry_of k)) (reply_of answer)
     made (Ok reply) makes is same write updates = accepted (edit indexes (entry_of k)) (entry_of l) reply is makes (names_updated doc old new l updates)
     made (Err f) makes is same write updates =
         not_made (edit indexes (entry_of k)) (entry_of l) f makes
         (ap names (write ∙ ap (set_value (at_text doc) old.entries) same ∙ set_value_same (at_text doc) old.entries k (sym some)))
 
     pub edited_here : (answer : Result Reply Fault) → Makes (edit k.document.indexes (entry_of k)) answer (entry_of l) → IfOk answer (λ reply. is_accepted reply ≡ true) → OnErr answer (l ≡ k)
-        → new.entries ≡ set_value (at_text doc) old.entries l → tree.UpdatesBy string_cmp (λ q. slice_cmp nat_cmp doc (string_bytes q)) old new (Some l)
-        → Step (edit indexes) (reply_of answer)
+        → new.entries ≡ set_value (at_text doc) old.entries l → Updates doc old new (Some l) → Step (edit indexes) (reply_of answer)
     edited_here answer makes is same write updates =
         there (edit indexes) k (reply_of answer) some
         (made answer (subst (λ i. Makes (edit i (entry_of k)) answer (entry_of l)) (opened_found indexes doc old.entries k all some).files makes) is same write updates)
 
 -- ---- an edit that is accepted
 
-if-ok : {A : Type 0} (b : Bool) (x y : Result A Fault) (k : A) → (y ≡ Ok k → ⊥) → (if b then x else y) ≡ Ok k → (b ≡ true) × (x ≡ Ok k)
-if-ok true x y k never e = (refl, e)
-if-ok false x y k never e = absurd (never e)
-
 -- it names the revision
 pub at_revision-ok : {A : Type 0} (h : Entry) (rev : ℕ) (answer : Result A Fault) (k : A) → at_revision h rev answer ≡ Ok k → (rev ≡ h.revision) × (answer ≡ Ok k)
-at_revision-ok h rev answer k e =
-    let outer = if-ok (rev == h.revision) _ _ k (λ e. cc) e in
-    let inner = if-ok (nat_lt h.revision max_number) _ _ k (λ e. cc) outer.1 in
-    (eqb-true rev h.revision outer.0, inner.1)
+at_revision-ok h rev answer k e = (grind (arith, nat_tests), grind (arith, nat_tests))
 
 -- ---- the row
 

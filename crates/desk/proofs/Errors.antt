@@ -1,11 +1,5 @@
 -- The row of the op `errors`.
-use Rattle.std.proofs.Common.{ℕ, nat_le, length, refl}
-use Rattle.enc_names.specs.Labels.{LabelTable}
-use Rattle.index_loader.specs.Files.{Files}
-use Rattle.piece_rope.specs.Document.{Document, errors_of}
-use Rattle.piece_rope.specs.Edits.{errors_fault, number_fault}
-use Rattle.desk.specs.Commands.{ListsErrors}
-use Rattle.desk.specs.Documents.{document_of}
+use Rattle.desk.proofs.Prelude.{ℕ, length, nat_le, refl, LabelTable, Files, Document, errors_of, errors_fault, number_fault, ListsErrors, document_of}
 use Rattle.desk.specs.Errors.{errors_reply}
 use Rattle.desk.proofs.Row.{IsRow, question, IsOther, Caused, caused-if, decided-unless}
 

@@ -1,30 +1,11 @@
 -- What an accepted change leaves, and an accepted list of changes.
-use Rattle.std.proofs.Common.{◌≡◌, ℕ, ◌+◌, ◌<◌, ◌==◌, nat_lt, Bool, true, false, List, [], ◌∷◌, refl, sym, ap, ◌∙◌, subst}
-use Rattle.std.proofs.lemmas.Bool.{eq-eqb, lt-ltb}
-use Rattle.std.specs.declared.option.Option.{Option}
-use Rattle.std.specs.declared.option.Option.TheVariants.{None, Some}
-use Rattle.std.specs.declared.result.Result.{Result}
-use Rattle.std.specs.declared.result.Result.TheVariants.{Ok, Err}
-use Rattle.std.specs.FinMap.{get}
-use Rattle.std.specs.Str.{chars}
-use Rattle.index_loader.specs.Files.{Files}
-use Rattle.piece_rope.specs.declared.fault.DocFault.{DocFault}
-use Rattle.piece_rope.specs.Document.{Document, document, text_of}
-use Rattle.piece_rope.specs.Edits.{first_of, is_kept, kept_fault, replaced, spliced_document}
-use Rattle.position_map.specs.declared.plan.Plan.{Plan}
-use Rattle.position_map.specs.declared.unit.Unit.{Unit as TextUnit}
-use Rattle.desk.specs.Accepted.{is_accepted}
-use Rattle.desk.specs.Commands.{asked_of, ChangesText, MakesChanges, TextChange}
-use Rattle.desk.specs.Desk.{effect_of}
-use Rattle.desk.specs.Documents.{Entry, entry, document_of, max_number}
-use Rattle.desk.specs.Edits.{Applied, at_revision, raised, put_applied, edited}
-use Rattle.desk.specs.Effects.{Effect, Move, Puts, Stays, of_document}
+use Rattle.std.proofs.Common.{◌≡◌, ℕ, ◌+◌, ◌<◌, ◌==◌, nat_lt, Bool, true, List, [], ◌∷◌, refl, sym, ap, ◌∙◌, subst, arith, Some, None, Ok, Err, chars}
+use Rattle.desk.proofs.Prelude.{Option, Result, lt-ltb, eq-eqb, get, Files, Document, text_of, document, first_of, is_kept, kept_fault}
+use Rattle.desk.proofs.Prelude.{spliced_document, replaced, DocFault, Plan, TextUnit, is_accepted, unless_kept, made, changed, alone, change_reply}
+use Rattle.desk.proofs.Prelude.{change_effect, plan_fault, then_rest, changed_all, changes_reply, changes_effect, asked_of, ChangesText, TextChange}
+use Rattle.desk.proofs.Prelude.{MakesChanges, effect_of, Entry, entry, document_of, max_number, Applied, put_applied, raised, at_revision, edited}
+use Rattle.desk.proofs.Prelude.{Effect, of_document, Move, Puts, Stays, ChangeCause, Fault, Reply}
 use Rattle.desk.specs.KeptText.{ChangesKeepText, Rewrites, RewritesAll, ListsKeepText, EachAccepted, ListsAreTheirChanges}
-use Rattle.desk.specs.Change.{unless_kept, plan_fault, made, changed, alone, change_reply, change_effect}
-use Rattle.desk.specs.Changes.{then_rest, changed_all, changes_reply, changes_effect}
-use Rattle.desk.specs.declared.change_cause.ChangeCause.{ChangeCause}
-use Rattle.desk.specs.declared.fault.Fault.{Fault}
-use Rattle.desk.specs.declared.ops.Reply.{Reply}
 use Rattle.desk.proofs.Apart.{same_bytes}
 use Rattle.desk.proofs.Begins.{held_here, accepted_here}
 use Rattle.desk.proofs.Edits.{at_revision-ok}
@@ -35,9 +16,7 @@ use Rattle.desk.proofs.Several.{idle-is}
 
 -- no fault stands, and so the text is kept
 kept-ok : (fault : Option DocFault) (b : Bool) → first_of fault (unless_kept b) ≡ None → b ≡ true
-kept-ok None true e = refl
-kept-ok None false e = cc
-kept-ok (Some f) b e = cc
+kept-ok fault b e = grind arith
 
 text-kept : (d : Document) (text : List ℕ) (plan : Plan) → plan_fault d text plan ≡ None
     → text_of (made d plan).document ≡ replaced (text_of d) plan.i plan.j text
@@ -135,13 +114,9 @@ now h answer lt =
     rw (same, below) refl
 
 -- a change that puts an entry
-record IsPut (h : Entry) (k : Entry) (r : Result (Applied Plan) ChangeCause) : Type 0 where
-  put : Applied Plan
-  is_made : r ≡ Ok put
-  left : k ≡ raised h put.document
-
-put-by : (h k : Entry) (reply : Reply) (r : Result (Applied Plan) ChangeCause) → put_applied h change_reply (alone r) ≡ record { reply = reply; move = Puts k } → IsPut h k r
-put-by h k reply (Ok x) e = let moves : Puts (raised h x.document) ≡ Puts k = ap (λ (t : Effect). t.move) e in record { put = x; is_made = refl; left = cc }
+put-by : (h k : Entry) (reply : Reply) (r : Result (Applied Plan) ChangeCause)
+    → put_applied h change_reply (alone r) ≡ record { reply = reply; move = Puts k } → (x : Applied Plan) × (r ≡ Ok x) × (k ≡ raised h x.document)
+put-by h k reply (Ok x) e = (x, refl, grind arith)
 put-by h k reply (Err cause) e = let moves : Stays ≡ Puts k = ap (λ (t : Effect). t.move) e in cc
 
 module _ (indexes : Files) (unit : TextUnit) where
@@ -178,11 +153,11 @@ module _ (indexes : Files) (unit : TextUnit) where
       let by = put-by h k e.0 _ (sym (step h lt c) ∙ e.2) in
       let g : Entry = record k { revision = h.revision } in
       let rest = all (n + 1) cs g last lt e.3 in
-      let left = leaves (Doc h) unit c.range c.text by.put by.is_made in
+      let left = leaves (Doc h) unit c.range c.text by.0 by.1 in
       let files = ap (λ (d : Document). d.indexes) left in
       let idle = ap (λ (d : Document). d.earlier) left in
-      let found : Doc g ≡ by.put.document = ap (λ (m : Entry). document_of indexes (record m { revision = h.revision })) by.left ∙ again indexes by.put.document h.revision files idle in
-      (rest.0, ap (then_rest n (changed_all unit (n + 1) cs)) by.is_made ∙ ap (changed_all unit (n + 1) cs) (sym found) ∙ rest.1)
+      let found : Doc g ≡ by.0.document = ap (λ (m : Entry). document_of indexes (record m { revision = h.revision })) by.2 ∙ again indexes by.0.document h.revision files idle in
+      (rest.0, ap (then_rest n (changed_all unit (n + 1) cs)) by.1 ∙ ap (changed_all unit (n + 1) cs) (sym found) ∙ rest.1)
 
 same_entry : (found : Option Entry) (h k : Entry) → found ≡ Some h → found ≡ Some k → h ≡ k
 same_entry found h k e f = let same : Some h ≡ Some k = sym e ∙ f in cc

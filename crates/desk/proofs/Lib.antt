@@ -20,6 +20,7 @@ mod Pages
 mod Place
 mod Plan
 mod Position
+mod Prelude
 mod Row
 mod Rows
 mod Several

@@ -1,13 +1,6 @@
 -- The row of the op `lines`, and how its pages grow.
 use Rattle.std.proofs.Common.{◌≡◌, ℕ, ◌+◌, nat_le, List, [], ◌∷◌, ◌++◌, length, take, drop, map, slice_get, Some, refl, ap, ◌∙◌}
-use Rattle.std.proofs.lemmas.List.{map-append}
-use Rattle.enc_names.specs.Labels.{LabelTable}
-use Rattle.index_loader.specs.Files.{Files}
-use Rattle.piece_rope.specs.Document.{text_of}
-use Rattle.position_map.specs.Lines.{LineSpan as Bounds, lines_of}
-use Rattle.desk.specs.Commands.{ListsLines}
-use Rattle.desk.specs.Documents.{document_of}
-use Rattle.desk.specs.Lines.{line_of, page_of, lines_reply}
+use Rattle.desk.proofs.Prelude.{map-append, LabelTable, Files, text_of, Bounds, lines_of, ListsLines, document_of, line_of, page_of, lines_reply}
 use Rattle.desk.proofs.Pages.{page_and_next}
 use Rattle.desk.proofs.Row.{IsRow, question, IsOther, decided-if}
 

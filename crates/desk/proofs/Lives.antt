@@ -1,29 +1,13 @@
 -- Lives of a document: each accepted edit once, in its order.
 use Rattle.std.proofs.Common.{◌≡◌, ◌≢◌, ℕ, ◌+◌, ◌&&◌, Bool, true, false, cond, List, [], ◌∷◌, ◌++◌, length, if◌then◌else◌, refl, sym, ap, ◌∙◌, subst, ◌⊎◌, inl, inr, arith, length-append}
-use Rattle.std.specs.declared.option.Option.TheVariants.{Some}
-use Rattle.std.specs.declared.result.Result.{Result}
-use Rattle.std.specs.declared.result.Result.TheVariants.{Ok, Err}
-use Rattle.std.specs.Option.{is_some}
+use Rattle.desk.proofs.Prelude.{is_some, Some, Ok, Err, Result, bytes_eq, nat_list_cmp_total, get, Setting, Files, is_accepted, Ask, Asked, Office}
+use Rattle.desk.proofs.Prelude.{Answers, effect, has_place, effect_of, Adopts, Entry, Move, Puts, Stays, Goes, edited_by, is_edit, Act, Commanded}
+use Rattle.desk.proofs.Prelude.{Adopted, Acts, is_close, edit_in, edits_of, ends_life, edited_by_all, NameFrom, IsLife, Lives, adopted, Fault}
+use Rattle.desk.proofs.Prelude.{OutOfMemory, NameTaken, Reply, Refused}
 use Rattle.std.specs.FinMap as finite
-use Rattle.std.specs.FinMap.{get}
-use Rattle.std.specs.Cmp.Lexicographic.{nat_list_cmp_total}
-use Rattle.std.specs.Str.{bytes_eq}
-use Rattle.enc_names.specs.declared.setting.Setting.{Setting}
-use Rattle.index_loader.specs.Files.{Files}
-use Rattle.desk.specs.Commands.{Ask, Asked}
-use Rattle.desk.specs.Desk.{Office, effect, effect_of, has_place, Answers, Adopts}
-use Rattle.desk.specs.Documents.{Entry}
-use Rattle.desk.specs.Effects.{Move, Stays, Puts, Goes}
-use Rattle.desk.specs.Accepted.{is_accepted}
-use Rattle.desk.specs.Lives.{Act, Commanded, Adopted, Acts, is_edit, is_close, edit_in, edits_of, ends_life, edited_by, edited_by_all, NameFrom, IsLife, Lives}
-use Rattle.desk.specs.Open.{adopted}
-use Rattle.desk.specs.declared.fault.Fault.{Fault}
-use Rattle.desk.specs.declared.fault.Fault.TheVariants.{OutOfMemory, NameTaken}
-use Rattle.desk.specs.declared.ops.Reply.{Reply}
-use Rattle.desk.specs.declared.ops.Reply.TheVariants.{Refused}
 use Rattle.desk.proofs.Moves.{held_after, at_name, test, reply_is, held_is}
 use Rattle.desk.proofs.Apart.{same_bytes}
-use Rattle.desk.proofs.Row.{Continues, ContinuesBy, and_no}
+use Rattle.desk.proofs.Row.{Continues, ContinuesBy}
 use Rattle.desk.proofs.Rows as rows
 
 -- ---- lives, one behind the other
@@ -75,9 +59,7 @@ module _ (d : List ℕ) (o p : Office) (h : Entry) (found : get o.documents d �
     wanting : reply ≡ Refused OutOfMemory → Goal (Edits (bytes_eq c.doc d))
     wanting e =
         let step : p.documents ≡ o.documents = rw e at answers.step in
-        let none : Edits (bytes_eq c.doc d) ≡ [] =
-        rw e (elim (is_edit c.ask) as (λ t. (if bytes_eq c.doc d && (t && false) then c.ask ∷ [] else []) ≡ [])
-        [ true ↦ rw (and_no (bytes_eq c.doc d)) refl | false ↦ rw (and_no (bytes_eq c.doc d)) refl ]) in
+        let none : Edits (bytes_eq c.doc d) ≡ [] = grind arith in
         rw none (stays (ap (λ m. get m d) step))
 
     effect_here : bytes_eq c.doc d ≡ true → effect_of o c ≡ effect o.indexes o.labels (has_place o.documents) (Some h) c.ask

@@ -1,19 +1,8 @@
 -- What an effect does to the entry at each name.
-use Rattle.std.proofs.Common.{◌≡◌, ◌≢◌, ℕ, Bool, true, false, cond, List, refl, sym, ap, ◌∙◌}
-use Rattle.std.specs.declared.option.Option.{Option}
-use Rattle.std.specs.declared.option.Option.TheVariants.{None, Some}
-use Rattle.std.specs.Cmp.Lexicographic.{slice_cmp, nat_list_cmp_total}
+use Rattle.std.proofs.Common.{◌≡◌, ◌≢◌, ℕ, Bool, true, false, cond, List, refl, sym, ap, ◌∙◌, Some, None, Option, bytes_eq, nat_cmp}
+use Rattle.desk.proofs.Prelude.{nat_list_cmp_total, slice_cmp, get, eq_by_cmp, Asked, Office, Outcome, Answers, IsOutcome, effect_of, moved}
+use Rattle.desk.proofs.Prelude.{answer_of, Entry, Names, Move, Puts, Stays, Goes, OutOfMemory, Reply, Refused}
 use Rattle.std.specs.FinMap as finite
-use Rattle.std.specs.FinMap.{get}
-use Rattle.std.specs.Ordering.{nat_cmp, eq_by_cmp}
-use Rattle.std.specs.Str.{bytes_eq}
-use Rattle.desk.specs.Commands.{Asked}
-use Rattle.desk.specs.Desk.{Office, Outcome, moved, effect_of, answer_of, IsOutcome, Answers}
-use Rattle.desk.specs.Effects.{Move, Stays, Puts, Goes}
-use Rattle.desk.specs.Documents.{Entry, Names}
-use Rattle.desk.specs.declared.fault.Fault.TheVariants.{OutOfMemory}
-use Rattle.desk.specs.declared.ops.Reply.{Reply}
-use Rattle.desk.specs.declared.ops.Reply.TheVariants.{Refused}
 use Rattle.desk.proofs.Names.{same_test}
 
 -- what is held at the name of a command

@@ -1,9 +1,5 @@
 -- The row of the op `offset`.
-use Rattle.std.proofs.Common.{ℕ, refl}
-use Rattle.enc_names.specs.Labels.{LabelTable}
-use Rattle.index_loader.specs.Files.{Files}
-use Rattle.position_map.specs.declared.unit.Unit.{Unit as TextUnit}
-use Rattle.desk.specs.Commands.{FindsOffset}
+use Rattle.desk.proofs.Prelude.{ℕ, refl, LabelTable, Files, TextUnit, FindsOffset}
 use Rattle.desk.specs.Offset.{offset_reply}
 use Rattle.desk.proofs.Row.{IsRow, question, decided-position}
 

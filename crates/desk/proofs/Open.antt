@@ -1,30 +1,10 @@
 -- The row of the op `open`, its steps, and those of an adoption.
-use Rattle.std.proofs.Common.{◌≡◌, ℕ, Bool, true, false, nat_le, List, length, refl, sym, ap, ◌∙◌, subst}
-use Rattle.std.specs.declared.option.Option.{Option}
-use Rattle.std.specs.declared.option.Option.TheVariants.{None, Some}
-use Rattle.std.specs.declared.result.Result.{Result}
-use Rattle.std.specs.declared.result.Result.TheVariants.{Ok, Err}
+use Rattle.desk.proofs.Prelude.{◌≡◌, ℕ, Bool, true, false, List, length, is_some, nat_le, Some, None, Ok, Err, Option, Result, sym, refl, ap, ◌∙◌}
+use Rattle.desk.proofs.Prelude.{subst, LabelTable, lookup_in, setting_of, Bom, Encoding, Setting, Files, has_files, document_limit, open_fault}
+use Rattle.desk.proofs.Prelude.{is_accepted, asked_of, Opens, Office, Outcome, Answers, IsOutcome, has_place, outcome, Adopts, Entry, Names}
+use Rattle.desk.proofs.Prelude.{edit_reply, put, with_bytes, base64_bytes, done, admitted, opened, Shelf, Fault, Reply, Refused}
 use Rattle.std.specs.FinMap as finite
-use Rattle.std.specs.Option.{is_some}
-use Rattle.enc_names.specs.declared.bom.Bom.{Bom}
-use Rattle.enc_names.specs.declared.encoding.Encoding.{Encoding}
-use Rattle.enc_names.specs.declared.setting.Setting.{Setting}
-use Rattle.enc_names.specs.Settings.{setting_of}
-use Rattle.enc_names.specs.Labels.{LabelTable, lookup_in}
-use Rattle.index_loader.specs.Files.{Files, has_files}
-use Rattle.piece_rope.specs.Edits.{document_limit, open_fault}
-use Rattle.desk.specs.Accepted.{is_accepted}
-use Rattle.desk.specs.Commands.{asked_of, Opens}
-use Rattle.desk.specs.Desk.{Office, Outcome, Answers, Adopts, IsOutcome, outcome, has_place}
-use Rattle.desk.specs.Documents.{Entry, Names, edit_reply}
-use Rattle.desk.specs.Shelf.{Shelf}
-use Rattle.desk.specs.Effects.{base64_bytes, with_bytes, put}
-use Rattle.desk.specs.Lives.{done}
-use Rattle.desk.specs.Open.{admitted, opened}
-use Rattle.desk.specs.declared.fault.Fault.{Fault}
-use Rattle.desk.specs.declared.ops.Reply.{Reply}
-use Rattle.desk.specs.declared.ops.Reply.TheVariants.{Refused}
-use Rattle.desk.proofs.Row.{IsRow, Keeps, Answered, ContinuesBy, Decided, IsOther, Caused, caused-if, decided-if, decided-unless, keeps-with_bytes, keeps-put, answered-with_bytes, answered-put}
+use Rattle.desk.proofs.Row.{IsRow, Keeps, Answered, ContinuesBy, Decided, IsOther, Caused, caused-if, decided-if, decided-unless, by-bytes, keeps-put, answered-put}
 
 -- an open whose bytes are read, whose name is free and whose label names an encoding
 pub opened_answers : (o : Office) (after : Shelf) (doc label text bytes lent : List ℕ) (given : Encoding) (bom : Bom) (setting : Setting) (reply : Reply)
@@ -95,8 +75,9 @@ continues-opened indexes place h label text (Some b) given bom = refl
 
 pub row : (indexes : Files) (labels : LabelTable) (label text : List ℕ) (bom : Bom) → IsRow indexes labels (Opens label text bom)
 row indexes labels label text bom = record {
-  keeps = λ place found. keeps-with_bytes (base64_bytes text) _ (λ b. keeps-opened indexes place found b (lookup_in labels label) bom);
-  answered = λ place found. answered-with_bytes (base64_bytes text) _ (λ b. answered-opened indexes place found b (lookup_in labels label) bom);
+  keeps = λ place found. by-bytes Keeps (base64_bytes text) _ (λ e. refl) (λ b. keeps-opened indexes place found b (lookup_in labels label) bom);
+  answered = λ place found. by-bytes Answered (base64_bytes text) _ (λ e. cc) (λ b.
+      answered-opened indexes place found b (lookup_in labels label) bom);
   continues = λ place h. continues-opened indexes place h label text (base64_bytes text) (lookup_in labels label) bom;
   placed = λ o found. refl;
 }

@@ -1,7 +1,7 @@
 -- How the pages of a list grow, entry by entry.
 use Rattle.std.proofs.Common.{◌≡◌, ℕ, zero, suc, ◌+◌, ◌-◌, ◌*◌, ◌≤◌, List, [], ◌∷◌, ◌++◌, length, take, drop, min, slice_get, Some, length-drop, refl, sym, ap, ◌∙◌, arith}
+use Rattle.desk.proofs.Prelude.{take_min}
 use Rattle.std.proofs.Math.Nat.{suc-mul}
-use Rattle.std.proofs.lemmas.List.{take_min}
 
 grown : {A : Type 0} (xs : List A) (k : ℕ) (x : A) → slice_get xs k ≡ Some x → take (suc k) xs ≡ take k xs ++ x ∷ []
 grown [] k x e = absurd cc

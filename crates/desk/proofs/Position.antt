@@ -1,9 +1,5 @@
 -- The row of the op `position`.
-use Rattle.std.proofs.Common.{ℕ, refl}
-use Rattle.enc_names.specs.Labels.{LabelTable}
-use Rattle.index_loader.specs.Files.{Files}
-use Rattle.position_map.specs.declared.unit.Unit.{Unit as TextUnit}
-use Rattle.desk.specs.Commands.{FindsPosition}
+use Rattle.desk.proofs.Prelude.{ℕ, refl, LabelTable, Files, TextUnit, FindsPosition}
 use Rattle.desk.specs.Position.{position_reply}
 use Rattle.desk.proofs.Row.{IsRow, question, decided-position}
 

@@ -1,26 +1,8 @@
 -- What the laws of the desk need of each row of its table, and the forms that rows have.
-use Rattle.std.proofs.Common.{◌≡◌, ◌≢◌, ℕ, ◌&&◌, Bool, true, false, List, [], ◌∷◌, if◌then◌else◌, refl, sym, ap, ◌∙◌, subst}
-use Rattle.std.specs.declared.option.Option.{Option}
-use Rattle.std.specs.declared.option.Option.TheVariants.{None, Some}
-use Rattle.std.specs.declared.result.Result.{Result}
-use Rattle.std.specs.declared.result.Result.TheVariants.{Ok, Err}
-use Rattle.enc_names.specs.Labels.{LabelTable}
-use Rattle.index_loader.specs.Files.{Files}
-use Rattle.piece_rope.specs.declared.fault.DocFault.{DocFault}
-use Rattle.piece_rope.specs.declared.fault.DocFault.TheVariants as cause
-use Rattle.position_map.specs.declared.fault.PosFault.{PosFault}
-use Rattle.position_map.specs.declared.fault.PosFault.TheVariants as position
-use Rattle.desk.specs.Apart.{place_at}
-use Rattle.desk.specs.Accepted.{is_accepted, reports_change}
-use Rattle.desk.specs.Commands.{Ask}
-use Rattle.desk.specs.Desk.{Office, effect, has_place}
-use Rattle.desk.specs.Documents.{Entry, reply_of, unless_fault, unless_position_fault}
-use Rattle.desk.specs.Effects.{Move, Stays, Puts, Goes, Effect, replied, put, of_document, with_bytes}
-use Rattle.desk.specs.Lives.{is_edit, is_close, IsLife}
-use Rattle.desk.specs.declared.fault.Fault.{Fault}
-use Rattle.desk.specs.declared.fault.Fault.TheVariants.{OutOfMemory}
-use Rattle.desk.specs.declared.ops.Reply.{Reply}
-use Rattle.desk.specs.declared.ops.Reply.TheVariants.{Refused}
+use Rattle.std.proofs.Common.{◌≡◌, ◌≢◌, ℕ, ◌&&◌, Bool, true, false, List, [], ◌∷◌, if◌then◌else◌, refl, sym, ap, ◌∙◌, subst, Some, None, Ok, Err}
+use Rattle.desk.proofs.Prelude.{Option, Result, LabelTable, Files, DocFault, PosFault, is_accepted, reports_change, place_at, Ask, Office, effect}
+use Rattle.desk.proofs.Prelude.{has_place, Entry, reply_of, unless_fault, unless_position_fault, Effect, of_document, replied, Move, put, with_bytes}
+use Rattle.desk.proofs.Prelude.{Puts, Stays, Goes, is_edit, is_close, IsLife, Fault, OutOfMemory, Reply, Refused, refused}
 
 -- what reports no change leaves the entry
 abbrev pub Keeps : Effect → Type 0
@@ -60,7 +42,7 @@ Decided P (Err fault) = Unit {0}
 
 -- of a document's faults
 abbrev pub Caused : Option DocFault → Type 0
-Caused fault = fault ≡ Some cause.OutOfMemory → ⊥
+Caused fault = fault ≡ Some DocFault.OutOfMemory → ⊥
 
 pub caused-if : (b : Bool) (x y : Option DocFault) → Caused x → Caused y → Caused (if b then x else y)
 caused-if true x y p q = p
@@ -72,11 +54,8 @@ decided-if P false x y p q = q
 
 pub decided-unless : {A : Type 0} (P : A → Type 0) (fault : Option DocFault) (answer : Result A Fault) → Caused fault → Decided P answer → Decided P (unless_fault fault answer)
 decided-unless P None answer p q = q
-decided-unless P (Some cause.NoIndex) answer p q = tt
-decided-unless P (Some cause.OutOfRange) answer p q = tt
-decided-unless P (Some cause.TooLarge) answer p q = tt
-decided-unless P (Some cause.NotKept) answer p q = tt
-decided-unless P (Some cause.OutOfMemory) answer p q = p refl
+decided-unless P (Some DocFault.OutOfMemory) answer p q = p refl
+decided-unless P (Some fault) answer p q = tt
 
 -- a reply that is not OutOfMemory
 abbrev pub IsOther : Reply → Type 0
@@ -90,26 +69,20 @@ answered-replied (Err fault) p = λ e. cc
 -- of a position's faults
 pub decided-position : {A : Type 0} (reply : A → Reply) (answer : Result A PosFault) → ((x : A) → IsOther (reply x)) → Decided IsOther (unless_position_fault reply answer)
 decided-position reply (Ok x) p = p x
-decided-position reply (Err position.OutOfRange) p = tt
-decided-position reply (Err position.SplitsCharacter) p = tt
+decided-position reply (Err PosFault.OutOfRange) p = tt
+decided-position reply (Err PosFault.SplitsCharacter) p = tt
 
 -- ---- forms of effects
 
-pub keeps-of_document : (found : Option Entry) (ask : Entry → Effect) → ((h : Entry) → Keeps (ask h)) → Keeps (of_document found ask)
-keeps-of_document None ask p = λ e. refl
-keeps-of_document (Some h) ask p = p h
+pub by-document : (P : Effect → Type 0) (found : Option Entry) (ask : Entry → Effect) → P (refused Fault.NoDocument)
+    → ((h : Entry) → P (ask h)) → P (of_document found ask)
+by-document P None ask q p = q
+by-document P (Some h) ask q p = p h
 
-pub keeps-with_bytes : (bytes : Option (List ℕ)) (ask : List ℕ → Effect) → ((b : List ℕ) → Keeps (ask b)) → Keeps (with_bytes bytes ask)
-keeps-with_bytes None ask p = λ e. refl
-keeps-with_bytes (Some b) ask p = p b
-
-pub answered-of_document : (found : Option Entry) (ask : Entry → Effect) → ((h : Entry) → Answered (ask h)) → Answered (of_document found ask)
-answered-of_document None ask p = λ e. cc
-answered-of_document (Some h) ask p = p h
-
-pub answered-with_bytes : (bytes : Option (List ℕ)) (ask : List ℕ → Effect) → ((b : List ℕ) → Answered (ask b)) → Answered (with_bytes bytes ask)
-answered-with_bytes None ask p = λ e. cc
-answered-with_bytes (Some b) ask p = p b
+pub by-bytes : (P : Effect → Type 0) (bytes : Option (List ℕ)) (ask : List ℕ → Effect) → P (refused Fault.BadBase64)
+    → ((b : List ℕ) → P (ask b)) → P (with_bytes bytes ask)
+by-bytes P None ask q p = q
+by-bytes P (Some b) ask q p = p b
 
 pub and_no : (b : Bool) → (b && false) ≡ false
 and_no true = refl
@@ -140,8 +113,9 @@ pub question : (indexes : Files) (labels : LabelTable) (ask : Ask) (answer : Ent
     → ((place : Bool) (found : Option Entry) → effect indexes labels place found ask ≡ of_document found (λ h. replied (answer h)))
     → is_edit ask ≡ false → ((h : Entry) → Decided IsOther (answer h)) → IsRow indexes labels ask
 question indexes labels ask answer is asks decided = record {
-  keeps = λ place found. subst Keeps (sym (is place found)) (keeps-of_document found (λ h. replied (answer h)) (λ h e. refl));
-  answered = λ place found. subst Answered (sym (is place found)) (answered-of_document found (λ h. replied (answer h)) (λ h. answered-replied (answer h) (decided h)));
+  keeps = λ place found. subst Keeps (sym (is place found)) (by-document Keeps found (λ h. replied (answer h)) (λ e. refl) (λ h e. refl));
+  answered = λ place found. subst Answered (sym (is place found))
+      (by-document Answered found (λ h. replied (answer h)) (λ e. cc) (λ h. answered-replied (answer h) (decided h)));
   continues = λ place h. subst (ContinuesBy indexes h ask) (sym (is place (Some h))) (continues-question indexes h ask (answer h) asks);
   placed = λ o found. is (has_place o.documents) found ∙ sym (is (known (place_at o ask)) found);
 }

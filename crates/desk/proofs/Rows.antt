@@ -1,50 +1,27 @@
 -- The rows of the desk's table, and what follows from them for each command.
-use Rattle.std.proofs.Common.{◌≡◌, false, sym, ap, ◌∙◌}
-use Rattle.std.specs.FinMap.{get}
-use Rattle.enc_names.specs.Labels.{LabelTable}
-use Rattle.index_loader.specs.Files.{Files}
-use Rattle.desk.specs.Accepted.{reports_change, OnlyChangesChange, RefusalsChangeNothing, MemoryIsNeverWanted}
-use Rattle.desk.specs.Commands.{Ask, Asked, Opens, Closes, Splices, ChangesText, MakesChanges, Plans, Reads, ReadsBytes, Encodes, ListsErrors, ListsDiagnostics, ListsLines, FindsPosition, FindsOffset, FindsPlace, Measures}
-use Rattle.desk.specs.Desk.{Office, Outcome, Answers, IsOutcome, moved, answer_of, has_place}
-use Rattle.desk.specs.Documents.{Names}
-use Rattle.desk.specs.declared.fault.Fault.TheVariants.{OutOfMemory}
-use Rattle.desk.specs.declared.ops.Reply.{Reply}
-use Rattle.desk.specs.declared.ops.Reply.TheVariants.{Refused}
+use Rattle.desk.proofs.Prelude.{◌≡◌, false, sym, ap, ◌∙◌, get, LabelTable, Files, reports_change, OnlyChangesChange, RefusalsChangeNothing}
+use Rattle.desk.proofs.Prelude.{MemoryIsNeverWanted, Ask, Asked, ChangesText, Plans, Opens, Closes, MakesChanges, ListsDiagnostics, Encodes}
+use Rattle.desk.proofs.Prelude.{ListsErrors, ListsLines, FindsOffset, FindsPlace, FindsPosition, Splices, Reads, ReadsBytes, Measures, Office}
+use Rattle.desk.proofs.Prelude.{Outcome, Answers, IsOutcome, has_place, moved, answer_of, Names, OutOfMemory, Reply, Refused}
 use Rattle.desk.proofs.Row.{IsRow}
-use Rattle.desk.proofs.Close as close
-use Rattle.desk.proofs.Diagnostics as diagnostics
-use Rattle.desk.proofs.Encode as encode
-use Rattle.desk.proofs.Errors as errors
-use Rattle.desk.proofs.Lines as lines
-use Rattle.desk.proofs.Offset as offset
-use Rattle.desk.proofs.Open as open_
-use Rattle.desk.proofs.Place as place
-use Rattle.desk.proofs.Position as position
-use Rattle.desk.proofs.Change as change
-use Rattle.desk.proofs.Changes as changes
-use Rattle.desk.proofs.Plan as plan
-use Rattle.desk.proofs.Source as source
-use Rattle.desk.proofs.Splice as splice
-use Rattle.desk.proofs.Stat as stat
-use Rattle.desk.proofs.Text as text
 
 pub row : (indexes : Files) (labels : LabelTable) (ask : Ask) → IsRow indexes labels ask
-row indexes labels (Opens label bytes bom) = open_.row indexes labels label bytes bom
-row indexes labels Closes = close.row indexes labels
-row indexes labels (Splices rev at del bytes) = splice.row indexes labels rev at del bytes
-row indexes labels (ChangesText rev unit range text) = change.row indexes labels rev unit range text
-row indexes labels (MakesChanges rev unit cs) = changes.row indexes labels rev unit cs
-row indexes labels (Plans unit range text) = plan.row indexes labels unit range text
-row indexes labels (Reads from to mode) = text.row indexes labels from to mode
-row indexes labels (ReadsBytes at len) = source.row indexes labels at len
-row indexes labels (Encodes from to label mode) = encode.row indexes labels from to label mode
-row indexes labels (ListsErrors from max) = errors.row indexes labels from max
-row indexes labels (ListsDiagnostics start max unit) = diagnostics.row indexes labels start max unit
-row indexes labels (ListsLines from max) = lines.row indexes labels from max
-row indexes labels (FindsPosition offset unit) = position.row indexes labels offset unit
-row indexes labels (FindsOffset line character unit) = offset.row indexes labels line character unit
-row indexes labels (FindsPlace unit value) = place.row indexes labels unit value
-row indexes labels Measures = stat.row indexes labels
+row indexes labels (Opens label bytes bom) = Rattle.desk.proofs.Open.row indexes labels label bytes bom
+row indexes labels Closes = Rattle.desk.proofs.Close.row indexes labels
+row indexes labels (Splices rev at del bytes) = Rattle.desk.proofs.Splice.row indexes labels rev at del bytes
+row indexes labels (ChangesText rev unit range text) = Rattle.desk.proofs.Change.row indexes labels rev unit range text
+row indexes labels (MakesChanges rev unit cs) = Rattle.desk.proofs.Changes.row indexes labels rev unit cs
+row indexes labels (Plans unit range text) = Rattle.desk.proofs.Plan.row indexes labels unit range text
+row indexes labels (Reads from to mode) = Rattle.desk.proofs.Text.row indexes labels from to mode
+row indexes labels (ReadsBytes at len) = Rattle.desk.proofs.Source.row indexes labels at len
+row indexes labels (Encodes from to label mode) = Rattle.desk.proofs.Encode.row indexes labels from to label mode
+row indexes labels (ListsErrors from max) = Rattle.desk.proofs.Errors.row indexes labels from max
+row indexes labels (ListsDiagnostics start max unit) = Rattle.desk.proofs.Diagnostics.row indexes labels start max unit
+row indexes labels (ListsLines from max) = Rattle.desk.proofs.Lines.row indexes labels from max
+row indexes labels (FindsPosition offset unit) = Rattle.desk.proofs.Position.row indexes labels offset unit
+row indexes labels (FindsOffset line character unit) = Rattle.desk.proofs.Offset.row indexes labels line character unit
+row indexes labels (FindsPlace unit value) = Rattle.desk.proofs.Place.row indexes labels unit value
+row indexes labels Measures = Rattle.desk.proofs.Stat.row indexes labels
 
 -- ---- what changes nothing
 

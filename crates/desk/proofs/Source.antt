@@ -1,9 +1,5 @@
 -- The row of the op `source`.
-use Rattle.std.proofs.Common.{ℕ, ◌+◌, nat_le, List, length, refl}
-use Rattle.enc_names.specs.Labels.{LabelTable}
-use Rattle.index_loader.specs.Files.{Files}
-use Rattle.piece_rope.specs.Edits.{source_fault}
-use Rattle.desk.specs.Commands.{ReadsBytes}
+use Rattle.desk.proofs.Prelude.{ℕ, ◌+◌, List, length, nat_le, refl, LabelTable, Files, source_fault, ReadsBytes}
 use Rattle.desk.specs.Source.{source_reply}
 use Rattle.desk.proofs.Row.{IsRow, question, IsOther, Caused, caused-if, decided-unless}
 

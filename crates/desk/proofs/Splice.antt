@@ -1,25 +1,11 @@
 -- The row of the op `splice`.
-use Rattle.std.proofs.Common.{◌≡◌, ℕ, List, refl, sym, ap, ◌∙◌, subst}
-use Rattle.std.specs.declared.option.Option.{Option}
-use Rattle.std.specs.declared.option.Option.TheVariants.{None, Some}
-use Rattle.std.specs.declared.result.Result.TheVariants.{Ok}
-use Rattle.std.specs.FinMap as finite
-use Rattle.enc_names.specs.Labels.{LabelTable}
-use Rattle.index_loader.specs.Files.{Files}
-use Rattle.piece_rope.specs.declared.fault.DocFault.{DocFault}
-use Rattle.piece_rope.specs.Document.{Document}
-use Rattle.piece_rope.specs.Edits.{splice_fault}
-use Rattle.desk.specs.Commands.{asked_of, Splices}
-use Rattle.desk.specs.Desk.{Office, Answers, IsOutcome, outcome}
-use Rattle.desk.specs.Documents.{Entry, document_of, unless}
-use Rattle.desk.specs.Shelf.{Shelf}
-use Rattle.desk.specs.Edits.{Applied}
-use Rattle.desk.specs.Effects.{base64_bytes, with_bytes, of_document}
-use Rattle.desk.specs.Lives.{edited_by, with_spliced}
+use Rattle.std.proofs.Common.{◌≡◌, ℕ, List, refl, sym, ap, ◌∙◌, subst, Some, None, Ok, Option}
+use Rattle.desk.proofs.Prelude.{LabelTable, Files, Document, splice_fault, DocFault, asked_of, Splices, Office, Answers, IsOutcome, outcome, Entry}
+use Rattle.desk.proofs.Prelude.{document_of, unless, Applied, of_document, with_bytes, base64_bytes, edited_by, with_spliced, Shelf, Reply}
 use Rattle.desk.specs.Splice.{spliced, splice_reply, splice_effect}
-use Rattle.desk.specs.declared.ops.Reply.{Reply}
+use Rattle.std.specs.FinMap as finite
 use Rattle.desk.proofs.Edits.{caused-splice, keeps-edited, answered-edited, continues-edited}
-use Rattle.desk.proofs.Row.{IsRow, ContinuesBy, decided-unless, keeps-with_bytes, keeps-of_document, answered-with_bytes, answered-of_document}
+use Rattle.desk.proofs.Row.{IsRow, ContinuesBy, decided-unless, Keeps, Answered, by-bytes, by-document}
 
 -- a splice whose bytes are read
 pub spliced_answers : (o : Office) (after : Shelf) (doc : List ℕ) (rev at del : ℕ) (text ins lent : List ℕ) (reply : Reply)
@@ -56,9 +42,9 @@ module _ (indexes : Files) (labels : LabelTable) (rev at del : ℕ) (text : List
 
   pub row : IsRow indexes labels (Splices rev at del text)
   row = record {
-    keeps = λ place found. keeps-with_bytes (base64_bytes text) _ (λ ins. keeps-of_document found _ (λ h.
+    keeps = λ place found. by-bytes Keeps (base64_bytes text) _ (λ e. refl) (λ ins. by-document Keeps found _ (λ e. refl) (λ h.
         keeps-edited indexes h rev splice_reply (λ x d r. refl) (spliced at del ins)));
-    answered = λ place found. answered-with_bytes (base64_bytes text) _ (λ ins. answered-of_document found _ (λ h.
+    answered = λ place found. by-bytes Answered (base64_bytes text) _ (λ e. cc) (λ ins. by-document Answered found _ (λ e. cc) (λ h.
         answered-edited indexes h rev splice_reply (λ x d r. refl) (spliced at del ins)
         (decided-unless (λ x. Unit {0}) (splice_fault h.bytes at del ins) _ (caused-splice h.bytes at del ins) tt)));
     continues = λ place h. continues h (base64_bytes text) refl;

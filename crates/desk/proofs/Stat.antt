@@ -1,9 +1,5 @@
 -- The row of the op `stat`.
-use Rattle.std.proofs.Common.{refl}
-use Rattle.std.specs.declared.result.Result.TheVariants.{Ok}
-use Rattle.enc_names.specs.Labels.{LabelTable}
-use Rattle.index_loader.specs.Files.{Files}
-use Rattle.desk.specs.Commands.{Measures}
+use Rattle.desk.proofs.Prelude.{Ok, refl, LabelTable, Files, Measures}
 use Rattle.desk.specs.Stat.{stat_reply}
 use Rattle.desk.proofs.Row.{IsRow, question}
 

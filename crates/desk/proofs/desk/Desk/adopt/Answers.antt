@@ -1,6 +1,4 @@
-use Rattle.std.proofs.Common.{rules, false, ◌≡◌}
-use Rattle.std.specs.FinMap.{get}
-use Rattle.std.specs.Option.{is_some}
+use Rattle.desk.proofs.Prelude.{◌≡◌, false, is_some, rules, get}
 use Rattle.desk.proofs.Open.{adopted_answers}
 use Rattle.desk.proofs.desk.Desk.adopt.Goals as goal
 

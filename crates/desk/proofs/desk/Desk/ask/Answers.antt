@@ -1,4 +1,4 @@
-use Rattle.desk.specs.Desk.{has_place}
+use Rattle.desk.proofs.Prelude.{has_place}
 use Rattle.desk.proofs.Answering.{asked_answers}
 use Rattle.desk.proofs.desk.Desk.ask.Goals as goal
 

@@ -1,7 +1,4 @@
-use Rattle.std.proofs.Common.{◌≡◌, false, rules, Some}
-use Rattle.std.specs.FinMap.{get}
-use Rattle.std.specs.Option.{is_some}
-use Rattle.enc_names.specs.Labels.{lookup_in}
+use Rattle.desk.proofs.Prelude.{◌≡◌, false, is_some, Some, rules, get, lookup_in}
 use Rattle.desk.proofs.Open.{opened_answers}
 use Rattle.desk.proofs.desk.Desk.open.Goals as goal
 

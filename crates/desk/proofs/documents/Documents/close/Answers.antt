@@ -1,4 +1,4 @@
-use Rattle.desk.proofs.Names.{opened_removed}
+use Rattle.desk.proofs.Prelude.{All-map-remove_entry, IsIdle}
 use Rattle.desk.proofs.Close.{closed_answers}
 use Rattle.desk.proofs.Edits.{nowhere}
 use Rattle.desk.proofs.documents.Documents.close.Goals as goal
@@ -8,7 +8,7 @@ returns-in_default-clause-step c = rw (← c.self.view_is)
     (nowhere c.self.inside.named c.remove.new.self c.args.name.now _ c.in_default.ensures.value c.in_default.ensures.unchanged)
 
 pub invariant_of-self-2 : goal.invariant_of-self-2
-invariant_of-self-2 c = rw c.remove.ensures.entries (opened_removed _ c.args.name.now c.self.inside.named.entries c.self.invariant)
+invariant_of-self-2 c = rw c.remove.ensures.entries (All-map-remove_entry _ (λ e. e.1) (IsIdle _) c.self.inside.named.entries c.self.invariant)
 
 pub returns-clause-step : goal.returns-clause-step
 returns-clause-step c = rw (← c.self.view_is)

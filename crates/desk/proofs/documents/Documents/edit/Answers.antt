@@ -1,7 +1,6 @@
-use Rattle.std.proofs.Common.{rules, ap, ◌∙◌}
-use Rattle.desk.specs.Edits.{edited}
+use Rattle.desk.proofs.Prelude.{ap, ◌∙◌, rules, All-values-set_value, edited, IsIdle}
 use Rattle.desk.proofs.Edits.{nowhere, edited_here}
-use Rattle.desk.proofs.Names.{opened_found, opened_set}
+use Rattle.desk.proofs.Names.{opened_found}
 use Rattle.desk.proofs.documents.Documents.edit.Goals as goal
 
 pub returns-in_default-clause-step : goal.returns-in_default-clause-step
@@ -12,7 +11,8 @@ pub invariant_of-self-2 : goal.invariant_of-self-2
 invariant_of-self-2 g c =
     let found = opened_found _ c.args.name.now c.self.inside.named.entries c.in-Some.found.now c.self.invariant c.in-Some.ensures.value in
     rw (c.get_mut.follows.holds c.edit.new.self).0
-    (opened_set _ c.args.name.now c.edit.new.self c.self.inside.named.entries c.self.invariant (record { files = c.edit.ensures.indexes ∙ found.files; idle = c.edit.ensures.idle }))
+    (All-values-set_value _ (IsIdle _) c.self.inside.named.entries c.edit.new.self c.self.invariant
+    (record { files = c.edit.ensures.indexes ∙ found.files; idle = c.edit.ensures.idle }))
 
 pub returns-clause-step : goal.returns-clause-step
 returns-clause-step g c =

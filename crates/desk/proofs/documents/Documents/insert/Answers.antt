@@ -1,14 +1,12 @@
-use Rattle.std.proofs.Common.{sym, ap, ◌∙◌, string_bytes}
-use Rattle.desk.specs.Documents.{Names}
-use Rattle.desk.specs.OpenDocuments.{IsIdle}
-use Rattle.desk.specs.Shelf.{Shelf}
-use Rattle.desk.proofs.Names.{names_updated, opened_insert}
+use Rattle.desk.proofs.Prelude.{string_bytes, string_cmp, sym, ap, ◌∙◌, All-values-insert_entry, Names, IsIdle, Shelf}
+use Rattle.desk.proofs.Names.{names_updated}
 use Rattle.desk.proofs.documents.Documents.insert.Goals as goal
 
 pub invariant_of-self-2 : goal.invariant_of-self-2
 invariant_of-self-2 c =
     let same : IsIdle c.self.inside.indexes.now c.args.opened = record { files = c.requires.files ∙ sym (ap (λ (s : Shelf). s.indexes) c.self.view_is); idle = c.requires.idle } in
-    rw c.in_ok-insert.ensures.entries (opened_insert c.self.inside.indexes.now c.args.name c.args.opened c.self.inside.named.entries c.self.invariant same)
+    rw c.in_ok-insert.ensures.entries
+    (All-values-insert_entry string_cmp c.args.name c.args.opened (IsIdle _) c.self.inside.named.entries c.self.invariant same)
 
 pub returns-clause-ok : goal.returns-clause-ok
 returns-clause-ok c =

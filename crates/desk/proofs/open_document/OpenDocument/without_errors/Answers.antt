@@ -1,5 +1,4 @@
-use Rattle.std.proofs.Common.{arith, sym}
-use Rattle.desk.specs.OpenDocuments.{entry_of}
+use Rattle.desk.proofs.Prelude.{sym, arith, entry_of}
 use Rattle.desk.proofs.Text.{ends_before, ends_past, is_malformed}
 use Rattle.desk.proofs.open_document.OpenDocument.without_errors.Goals as goal
 

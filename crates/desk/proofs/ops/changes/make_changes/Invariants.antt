@@ -1,7 +1,4 @@
-use Rattle.std.proofs.Common.{◌≡◌, drop, map}
-use Rattle.desk.specs.Changes.{changed_all}
-use Rattle.desk.specs.Commands.{change_of}
-use Rattle.desk.specs.Edits.{OnlyBytes}
+use Rattle.desk.proofs.Prelude.{◌≡◌, map, drop, changed_all, change_of, OnlyBytes}
 use Rattle.desk.proofs.ops.changes.make_changes.Given as goal
 
 -- what is left to make is the same on the document so far

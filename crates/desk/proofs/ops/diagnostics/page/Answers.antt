@@ -1,7 +1,6 @@
 use Rattle.std.proofs.Common.{◌≡◌, ◌≤◌, ◌+◌, ◌-◌, ◌*◌, List, ◌∷◌, ◌++◌, [], min, length, length-append, arith, sym, ap, ◌∙◌, subst}
-use Rattle.position_map.specs.Diagnostics.{diagnostics_of}
+use Rattle.desk.proofs.Prelude.{diagnostics_of, diagnostics_page}
 use Rattle.position_map.specs.declared.diagnostic.Diagnostic.{Diagnostic}
-use Rattle.desk.specs.Diagnostics.{diagnostics_page}
 use Rattle.desk.proofs.Pages.{page_and_next, page_of_all_left, one_more}
 use Rattle.desk.proofs.ops.diagnostics.page.Goals as goal
 

@@ -1,6 +1,4 @@
-use Rattle.std.proofs.Common.{◌≡◌, ℕ, ◌+◌, ◌*◌, ◌^◌, ◌<◌, ◌≤◌, length}
-use Rattle.position_map.specs.Whole.{pieces_most}
-use Rattle.desk.specs.Diagnostics.{diagnostics_page}
+use Rattle.desk.proofs.Prelude.{◌≡◌, ℕ, ◌+◌, ◌*◌, ◌^◌, ◌<◌, ◌≤◌, length, pieces_most, diagnostics_page}
 use Rattle.desk.proofs.ops.diagnostics.page.Given as goal
 
 abbrev pub invariant-errors : goal.invariant-errors

@@ -1,9 +1,6 @@
 use Rattle.std.proofs.Common.{◌≡◌, ◌≤◌, ◌<◌, ◌+◌, ◌-◌, ◌*◌, ◌^◌, List, ◌∷◌, ◌++◌, [], min, length, length-append, map, arith, sym, ap, ◌∙◌, Some, slice_get, subst}
-use Rattle.piece_rope.specs.Document.{text_of}
-use Rattle.position_map.specs.Lines.{lines_of}
+use Rattle.desk.proofs.Prelude.{text_of, lines_of, pieces_most, line_of, page_of}
 use Rattle.position_map.specs.NextLines.{LinesFrom}
-use Rattle.position_map.specs.Whole.{pieces_most}
-use Rattle.desk.specs.Lines.{line_of, page_of}
 use Rattle.desk.specs.declared.line.Line.{Line}
 use Rattle.desk.proofs.Lines.{page_and_line}
 use Rattle.desk.proofs.Pages.{page_of_all_left, one_more}

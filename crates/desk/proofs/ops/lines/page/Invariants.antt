@@ -1,7 +1,4 @@
-use Rattle.std.proofs.Common.{◌≡◌, ℕ, ◌+◌, ◌*◌, ◌^◌, ◌<◌, ◌≤◌, length}
-use Rattle.piece_rope.specs.Document.{text_of}
-use Rattle.position_map.specs.Whole.{pieces_most}
-use Rattle.desk.specs.Lines.{page_of}
+use Rattle.desk.proofs.Prelude.{◌≡◌, ℕ, ◌+◌, ◌*◌, ◌^◌, ◌<◌, ◌≤◌, length, text_of, pieces_most, page_of}
 use Rattle.desk.proofs.ops.lines.page.Given as goal
 
 abbrev pub invariant-lines : goal.invariant-lines

@@ -1,4 +1,4 @@
-use Rattle.piece_rope.specs.Document.{text_of}
+use Rattle.desk.proofs.Prelude.{text_of}
 use Rattle.desk.proofs.Place.{byte_within, converted_within}
 use Rattle.desk.proofs.ops.place.offset_named.Goals as goal
 

@@ -1,6 +1,4 @@
-use Rattle.std.proofs.Common.{◌≡◌, true, rules}
-use Rattle.index_loader.specs.Files.{has_files}
-use Rattle.desk.specs.OpenDocuments.{entry_of}
+use Rattle.desk.proofs.Prelude.{◌≡◌, true, rules, has_files, entry_of}
 use Rattle.desk.proofs.Encode.{encoded_range}
 use Rattle.desk.proofs.ops.encode.Encode.encoded.Goals as goal
 

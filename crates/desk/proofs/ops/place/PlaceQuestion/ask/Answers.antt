@@ -1,6 +1,4 @@
-use Rattle.piece_rope.specs.Document.{text_of}
-use Rattle.position_map.specs.declared.unit.Unit.TheVariants.{Utf8, Utf16}
-use Rattle.desk.specs.OpenDocuments.{entry_of}
+use Rattle.desk.proofs.Prelude.{text_of, Utf8, Utf16, entry_of}
 use Rattle.desk.proofs.Place.{no_fault, place_answered}
 use Rattle.desk.proofs.ops.place.PlaceQuestion.ask.Goals as goal
 

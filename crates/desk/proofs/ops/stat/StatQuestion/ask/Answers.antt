@@ -1,5 +1,4 @@
-use Rattle.std.proofs.Common.{refl}
-use Rattle.piece_rope.specs.Document.{text_of}
+use Rattle.desk.proofs.Prelude.{refl, text_of}
 use Rattle.desk.proofs.Place.{width_scalars}
 use Rattle.desk.proofs.ops.stat.StatQuestion.ask.Goals as goal
 
