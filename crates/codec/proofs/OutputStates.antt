@@ -61,16 +61,6 @@ module _ (jis0208 : ℕ → Option ℕ) where
 abbrev IsPlain : Family (Option Loaded) → Type 0
 IsPlain family = (bytes : List ℕ) → output_in family bytes ≡ Ascii
 
--- the one with escapes
-record HasEscapes (family : Family (Option Loaded)) : Type 0 where
-  jis0208 : Option Loaded
-  katakana : Option Loaded
-  is : family ≡ of.Iso2022Jp jis0208 katakana
-
-by_family : (family : Family (Option Loaded)) → HasEscapes family ⊎ IsPlain family
-by_family (of.Iso2022Jp jis0208 katakana) = inl (record { jis0208 = jis0208; katakana = katakana; is = refl })
-by_family family = inr (λ bytes. refl)
-
 prefix_output : (family : Family (Option Loaded)) (p : Prefix) → output_in family (spelt p) ≡ Ascii
 prefix_output (of.Iso2022Jp jis0208 katakana) p = prefix_out (looked_up jis0208) p
 prefix_output family p = refl
@@ -216,21 +206,18 @@ pub record IsIso (files : Files) (setting : Setting) (d : AnyDecoding) : Type 0 
   pub own : (bytes : List ℕ) → state_in files setting.given bytes ≡ in_iso_2022_jp (feed (iso_2022_jp (code_point_of jis0208)) iso_2022_jp_start bytes).state
   pub lift : IsLifted in_iso_2022_jp (iso_2022_jp (code_point_of jis0208)) (any d)
 
-iso_with : (files : Files) (setting : Setting) (d : AnyDecoding) (o p : Option Loaded) → indexes_of files setting.given ≡ of.Iso2022Jp o p
-    → option_map (under setting) (of_both (λ jis0208 katakana. by.Iso2022Jp jis0208) o p) ≡ Some d → IsIso files setting d
-iso_with files setting d (Some i) (Some j) family e =
+-- the decoder of the encoding given is that of ISO-2022-JP, or that encoding has no escapes
+iso_or_plain : (files : Files) (setting : Setting) (d : AnyDecoding) (family : Family (Option Loaded)) → indexes_of files setting.given ≡ family → option_map (under setting) (standing family).decoder ≡ Some d
+    → IsIso files setting d ⊎ IsPlain family
+iso_or_plain files setting d (of.Iso2022Jp (Some i) (Some j)) family e =
     let same : under setting (by.Iso2022Jp i) ≡ d = cc in
-    record {
+    inl (record {
       jis0208 = i;
       own = λ bytes. ap (λ (f : Family (Option Loaded)). (standing f).state bytes) family;
       lift = subst (λ (d : AnyDecoding). IsLifted in_iso_2022_jp (iso_2022_jp (code_point_of i)) (any d)) same (λ s o. refl);
-    }
-iso_with files setting d (Some i) None family e = absurd (let x : None ≡ Some d = e in cc)
-iso_with files setting d None p family e = absurd (let x : None ≡ Some d = e in cc)
-
-is_iso : (files : Files) (setting : Setting) (d : AnyDecoding) → HasEscapes (indexes_of files setting.given) → decoder_in files setting ≡ Some d → IsIso files setting d
-is_iso files setting d iso chosen =
-    iso_with files setting d iso.jis0208 iso.katakana iso.is (ap (λ (f : Family (Option Loaded)). option_map (under setting) (standing f).decoder) (sym iso.is) ∙ chosen)
+    })
+iso_or_plain files setting d (of.Iso2022Jp jis0208 katakana) family e = absurd (let x : None ≡ Some d = e in cc)
+iso_or_plain files setting d others family e = inr (λ bytes. refl)
 
 -- ---- ISO-2022-JP
 
@@ -297,9 +284,9 @@ same_or_iso : (files : Files) (setting : Setting) (d : AnyDecoding) (bytes : Lis
 same_or_iso files setting d bytes chosen =
     let same : ((n : ℕ) → out files setting (take n bytes) ≡ Ascii) → (n : ℕ) → out files setting (take n bytes) ≡ out files setting bytes =
     λ ascii n. ascii n ∙ sym (rw (take-length bytes) at (ascii (length bytes))) in
-    elim (by_family (indexes_of files setting.given)) [
+    elim (iso_or_plain files setting d (indexes_of files setting.given) refl chosen) [
       | inr plain ↦ inl (same (λ n. out-given files setting (take n bytes) (plain (take n bytes))))
-      | inl escapes ↦ elim (shape setting bytes) [ inl none ↦ inr (none, is_iso files setting d escapes chosen) | inr mark ↦ inl (same (first_marked files setting bytes mark)) ]
+      | inl iso ↦ elim (shape setting bytes) [ inl none ↦ inr (none, iso) | inr mark ↦ inl (same (first_marked files setting bytes mark)) ]
     ]
 
 pub output_at_byte : (laws : (jis0208 : Loaded) → IsoLaws jis0208) (files : Files) (setting : Setting) (d : AnyDecoding) (p : List ℕ) (b : ℕ) → decoder_in files setting ≡ Some d

@@ -71,11 +71,8 @@ module _ {S : Type 0} (table : Table S) (parts : Parts table) where
   window s front old new back put i j i_in j_in agree =
       let at = (feed table s front).state in
       let before = fed_text table s front in
-      let behind = run_text table (feed table at old).state back in
-      let new_is : run_text table s (front ++ (new ++ back)) ≡ before ++ (fed_text table at new ++ behind) =
-      run_text-parts s front new back ∙ ap (λ (x : S). before ++ (fed_text table at new ++ run_text table x back)) agree in
-      let part = replaced_part before (fed_text table at old) (fed_text table at new) behind put i j i_in j_in in
-      rw (new_is, run_text-parts s front old back) part
+      rw (run_text-parts s front new back, agree, run_text-parts s front old back)
+      (replaced_part before (fed_text table at old) (fed_text table at new) (run_text table (feed table at old).state back) put i j i_in j_in)
 
   -- Where they never agree, the window goes to the end.
   pub window_to_end : (s : S) (front old new put : List ℕ) (i j : ℕ) → let at = (feed table s front).state in

@@ -51,9 +51,6 @@ own_under c setting (by.Replacement d) = let laws = c.law_all_among-10.ensures i
 own_under c setting by.Utf16Be = utf16_be c (under setting by.Utf16Be)
 own_under c setting by.Utf16Le = utf16_le c (under setting by.Utf16Le)
 
-own : goal.After-law_all_runs → (d : AnyDecoding) → DoesAs d (standing_of d.own)
-own c d = own_under c d.setting d.own
-
 -- a turn of the look gives no item
 run-on : goal.After-law_all_runs → (d : AnyDecoding) (p : Prefix) (q : List ℕ)
     → let t = sniffing (given_start d.own) p (front q) in let left = queue_after (any d) (state.Sniffing p) q in run (any d) (state.Sniffing p) q ≡ run (any d) t.state left
@@ -65,12 +62,12 @@ run-on c d p q =
 pub returns-clause-run : goal.returns-clause-run
 returns-clause-run c d bytes =
     let bare : (q : List ℕ) → mark_of q ≡ None → run (any d) (given_start d.own) q ≡ run_behind d q (mark_of q) =
-    λ q none. (own c d).run q ∙ ap (run_behind d q) (sym none) in
+    λ q none. (own_under c d.setting d.own).run q ∙ ap (run_behind d q) (sym none) in
     begun (given_start d.own) (λ s. run (any d) s bytes) (λ prefix mark. run_behind d bytes mark) d.setting.bom (prefix_of bytes) (mark_of bytes)
     (looked (given_start d.own) (run (any d)) (λ q. run_behind d q (mark_of q)) (λ p b q. run-on c d p (b ∷ q))
     (λ p. run-on c d p [] ∙ ap (run (any d) (given_start d.own)) (append-nil (spelt p)) ∙ bare (spelt p) (spelt-looks p).1)
     (utf8 c d).run (utf16_be c d).run (utf16_le c d).run (λ q _ none. bare q none) bytes)
-    ((own c d).run bytes)
+    ((own_under c d.setting d.own).run bytes)
 
 pub returns-clause-state : goal.returns-clause-state
 returns-clause-state c d bytes =
@@ -85,5 +82,5 @@ returns-clause-state c d bytes =
     ap (λ (f : Fed AnyState). f.state) (c.law_all_runs.ensures.feed_empty d (state.Sniffing p))
     ∙ ap (λ (o : Option Prefix). stands_behind d (spelt p) o (mark_of (spelt p))) (sym (spelt-looks p).0))
     (utf8 c d).state (utf16_be c d).state (utf16_le c d).state
-    (λ q no_prefix none. (own c d).state q ∙ ap (stands_behind d q None) (sym none) ∙ ap (λ (p : Option Prefix). stands_behind d q p (mark_of q)) (sym no_prefix)) bytes)
-    ((own c d).state bytes)
+    (λ q no_prefix none. (own_under c d.setting d.own).state q ∙ ap (stands_behind d q None) (sym none) ∙ ap (λ (p : Option Prefix). stands_behind d q p (mark_of q)) (sym no_prefix)) bytes)
+    ((own_under c d.setting d.own).state bytes)
