@@ -1,5 +1,5 @@
 -- The decoder of an encoding is there exactly where the encoding can be decoded, and does what that encoding's own decoder does.
-use Rattle.std.proofs.Common.{◌≡◌, ◌∙◌, refl, sym, ap, ℕ, eqb, Bool, ◌&&◌, true, false, List, [], ◌∷◌, length, drop, Option, Some, None, is_some, IfSome, option_map, unwrap_or}
+use Rattle.std.proofs.Common.{◌≡◌, ◌∙◌, refl, sym, ap, arith, ℕ, eqb, Bool, ◌&&◌, true, false, List, [], ◌∷◌, length, drop, Option, Some, None, is_some, IfSome, option_map, unwrap_or}
 use Rattle.codec.proofs.Prelude.{list_all, starts_with, Utf8, Utf16Be, Utf16Le, Setting, Family, Loaded, Ended, by_if, places, OwnDecoder, AnyState, Sniffing, AnyDecoding, Standing, decoder_in, in_force_of, own_in, run_behind, standing, standing_of, stands_behind, under, state_in, state_behind, coding, coding_run, decode, run_in, Mark, mark_of, mark_under, in_force, mark_length, prefix_under}
 use Rattle.enc_names.specs.declared.encoding.Encoding.{Encoding}
 use Rattle.index_loader.specs.Families.{family_map, family_of, needed}
@@ -38,11 +38,6 @@ by_two over first second some no_first no_second None q = no_first (found second
 
 module _ (files : Files) where
   chosen_by : (family : Family IndexKind) → IsChosen (list_all (λ kind. is_some (pairs_of files kind)) (needed family)) (family_map (index_of files) family)
-  chosen_by of.Utf8 = (refl, (refl, refl))
-  chosen_by of.Replacement = (refl, (refl, refl))
-  chosen_by of.XUserDefined = (refl, (refl, refl))
-  chosen_by of.Utf16Be = (refl, (refl, refl))
-  chosen_by of.Utf16Le = (refl, (refl, refl))
   chosen_by (of.SingleByte kind) = by_one of.SingleByte kind (λ i. (refl, (refl, refl))) (refl, tt) (pairs_of files kind)
   chosen_by (of.Big5 kind) = by_one of.Big5 kind (λ i. (refl, (refl, refl))) (refl, tt) (pairs_of files kind)
   chosen_by (of.ShiftJis kind) = by_one of.ShiftJis kind (λ i. (refl, (refl, refl))) (refl, tt) (pairs_of files kind)
@@ -53,6 +48,7 @@ module _ (files : Files) where
       by_two of.EucJp first second (λ i j. (refl, (refl, refl))) (λ o. (refl, tt)) (λ i. (refl, tt)) (pairs_of files first) (pairs_of files second)
   chosen_by (of.Iso2022Jp first second) =
       by_two of.Iso2022Jp first second (λ i j. (refl, (refl, refl))) (λ o. (refl, tt)) (λ i. (refl, tt)) (pairs_of files first) (pairs_of files second)
+  chosen_by family = (refl, (refl, refl))
 
   own-chosen : (encoding : Encoding) → IsChosen (has_files files encoding) (indexes_of files encoding)
   unfolding has_files
@@ -73,12 +69,8 @@ pub chosen : (files : Files) (setting : Setting)
     → (is_some (decoder_in files setting) ≡ has_files files setting.given) × IfSome (decoder_in files setting) (IsUnder files setting)
 chosen files setting = chosen_under files setting (has_files files setting.given) (own_in files setting.given) (own-chosen files setting.given)
 
-none : {A : Type 0} (o : Option A) → is_some o ≡ false → None ≡ o
-none None e = refl
-none (Some a) e = absurd (cc)
-
 pub absent : (files : Files) (setting : Setting) → false ≡ has_files files setting.given → None ≡ decoder_in files setting
-absent files setting there = none (decoder_in files setting) ((chosen files setting).0 ∙ sym there)
+absent files setting there = let e : is_some (decoder_in files setting) ≡ false = (chosen files setting).0 ∙ sym there in grind arith
 
 -- ---- behind a byte order mark
 

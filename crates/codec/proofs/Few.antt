@@ -1,7 +1,7 @@
 -- How many items a decoder gives: one for each byte read, and at most seven more.
 use Rattle.std.proofs.Common.{◌≡◌, refl, ap, ℕ, zero, suc, ◌+◌, ◌*◌, ◌≤◌, List, [], ◌∷◌, length, length-append, arith, Some}
 use Rattle.codec.proofs.Prelude.{Ended, Answer, Table, Fed, turn_at, queue_after, told, fed_after, turns, run, feed_for, feed, Counts, cost, shown_at, shown_from}
-use Rattle.decoder_core.specs.declared.handler.Answer.TheVariants.{Nothing, Gives, Finished}
+use Rattle.decoder_core.specs.declared.handler.Answer.TheVariants.{Gives}
 
 module _ {S : Type 0} (table : Table S) (c : Counts table) where
   after_turn : (a : Answer) (n left room bytes : ℕ) (next : S) (f : Fed S) → left + c.bytes next + cost a ≤ room → length f.items + c.bytes f.state ≤ left + c.bytes next

@@ -1,11 +1,8 @@
 -- Decoding gives no more items than there are bytes.
-use Rattle.std.proofs.Common.{◌≡◌, refl, ap, ℕ, suc, ◌-◌, ◌≤◌, List, [], ◌∷◌, length, drop, length-drop, arith, Option}
-use Rattle.codec.proofs.Prelude.{Setting, Family, Loaded, Ended, places, lawful_alone, coding, coding_run, decode, mark_length, in_force}
+use Rattle.std.proofs.Common.{◌≡◌, refl, ap, ℕ, suc, ◌-◌, ◌≤◌, List, [], ◌∷◌, length, drop, length-drop, arith}
+use Rattle.codec.proofs.Prelude.{Setting, Ended, places, lawful_alone, coding, coding_run, decode, mark_length, in_force}
 use Rattle.index_loader.specs.Files.{Files, indexes_of}
 use Rattle.codec.proofs.Few.{few-run_from}
-
-in_family : (family : Family (Option Loaded)) (bytes : List ℕ) → length (coding_run (coding family) bytes) ≤ length bytes
-in_family family bytes = let law = lawful_alone family in few-run_from (coding family).table law.counts (coding family).start bytes law.none
 
 length-places : (total from : ℕ) (es : List Ended) → length (places total from es) ≡ length es
 length-places total from [] = refl
@@ -16,5 +13,6 @@ unfolding decode
 items_are_at_most_bytes files setting bytes =
     let behind = drop (mark_length setting bytes) bytes in
     let indexes = indexes_of files (in_force setting bytes) in
+    let law = lawful_alone indexes in
     let run = coding_run (coding indexes) behind in
-    omega (arith, length-places (length bytes) (mark_length setting bytes) run, in_family indexes behind, length-drop (mark_length setting bytes) bytes)
+    omega (arith, length-places (length bytes) (mark_length setting bytes) run, few-run_from (coding indexes).table law.counts (coding indexes).start behind law.none, length-drop (mark_length setting bytes) bytes)

@@ -1,5 +1,5 @@
 -- What a decoder does that looks for a byte order mark first.
-use Rattle.std.proofs.Common.{◌≡◌, refl, sym, subst, ◌∙◌, ℕ, false, ◌==◌, List, [], ◌∷◌, ◌++◌, Option, Some, None, option_map, inl, inr, unwrap_or}
+use Rattle.std.proofs.Common.{◌≡◌, refl, sym, ap, subst, ◌∙◌, ℕ, false, ◌==◌, List, [], ◌∷◌, ◌++◌, Option, Some, None, option_map, inl, inr, unwrap_or}
 use Rattle.std.proofs.lemmas.Bool.Decides.{eqb_tells}
 use Rattle.codec.proofs.Prelude.{Bom, Sniff, Keep, Prefix, Nothing, Ef, EfBb, Fe, Ff, AnyState, in_sniffing, in_utf8, in_utf16_be, in_utf16_le, Mark, mark_of, if_sniffed, spelt, prefix_of, sniffing}
 use Rattle.decoder_core.specs.Utf8.{utf8_start}
@@ -26,10 +26,7 @@ begun start at wanted Keep prefix mark looked own = own
 -- what looks like the beginning of a mark is none
 pub spelt-looks : (p : Prefix) → (prefix_of (spelt p) ≡ Some p) × (mark_of (spelt p) ≡ None)
 spelt-looks Nothing = (refl, refl)
-spelt-looks Ef = (refl, refl)
-spelt-looks EfBb = (refl, refl)
-spelt-looks Fe = (refl, refl)
-spelt-looks Ff = (refl, refl)
+spelt-looks p = (refl, refl)
 
 -- `at` is what is asked of a state and a queue, and stays the same over turns without an item
 module _ {A : Type 0} (start : AnyState) (at : AnyState → List ℕ → A) (wanted : List ℕ → A)
@@ -39,33 +36,31 @@ module _ {A : Type 0} (start : AnyState) (at : AnyState → List ℕ → A) (wan
     (of_utf16_be : (q : List ℕ) → at (in_utf16_be utf16_start) q ≡ wanted (0xFE ∷ 0xFF ∷ q))
     (of_utf16_le : (q : List ℕ) → at (in_utf16_le utf16_start) q ≡ wanted (0xFF ∷ 0xFE ∷ q))
     (unmarked : (q : List ℕ) → prefix_of q ≡ None → mark_of q ≡ None → at start q ≡ wanted q) where
+  -- behind a prefix that one byte more makes a longer one or a mark
+  behind : (p : Prefix) (more : ℕ) (front : List ℕ → List ℕ) → spelt p ≡ front [] → ((q : List ℕ) → at (in_sniffing p) (more ∷ q) ≡ wanted (front (more ∷ q)))
+      → ((b : ℕ) (q : List ℕ) → (b == more) ≡ false → (more == b) ≡ false → at (in_sniffing p) (b ∷ q) ≡ wanted (front (b ∷ q))) → (q : List ℕ) → at (in_sniffing p) q ≡ wanted (front q)
+  behind p more front e hit miss [] = ends p ∙ ap wanted e
+  behind p more front e hit miss (b ∷ q) = by_byte (λ (b : ℕ). at (in_sniffing p) (b ∷ q) ≡ wanted (front (b ∷ q))) more b (hit q) (miss b q)
+
   behind_ef_bb : (q : List ℕ) → at (in_sniffing EfBb) q ≡ wanted (0xEF ∷ 0xBB ∷ q)
-  behind_ef_bb [] = ends EfBb
-  behind_ef_bb (b ∷ q) =
-      by_byte (λ (b : ℕ). at (in_sniffing EfBb) (b ∷ q) ≡ wanted (0xEF ∷ 0xBB ∷ b ∷ q)) 0xBF b
-      (turns EfBb 0xBF q ∙ of_utf8 q)
-      (λ n m. (rw n at (turns EfBb b q)) ∙ unmarked (0xEF ∷ 0xBB ∷ b ∷ q) refl (rw m refl))
+  behind_ef_bb =
+      behind EfBb 0xBF (λ q. 0xEF ∷ 0xBB ∷ q) refl (λ q. turns EfBb 0xBF q ∙ of_utf8 q)
+      (λ b q n m. (rw n at (turns EfBb b q)) ∙ unmarked (0xEF ∷ 0xBB ∷ b ∷ q) refl (rw m refl))
 
   behind_ef : (q : List ℕ) → at (in_sniffing Ef) q ≡ wanted (0xEF ∷ q)
-  behind_ef [] = ends Ef
-  behind_ef (b ∷ q) =
-      by_byte (λ (b : ℕ). at (in_sniffing Ef) (b ∷ q) ≡ wanted (0xEF ∷ b ∷ q)) 0xBB b
-      (turns Ef 0xBB q ∙ behind_ef_bb q)
-      (λ n m. (rw n at (turns Ef b q)) ∙ unmarked (0xEF ∷ b ∷ q) (rw m refl) (rw m refl))
+  behind_ef =
+      behind Ef 0xBB (λ q. 0xEF ∷ q) refl (λ q. turns Ef 0xBB q ∙ behind_ef_bb q)
+      (λ b q n m. (rw n at (turns Ef b q)) ∙ unmarked (0xEF ∷ b ∷ q) (rw m refl) (rw m refl))
 
   behind_fe : (q : List ℕ) → at (in_sniffing Fe) q ≡ wanted (0xFE ∷ q)
-  behind_fe [] = ends Fe
-  behind_fe (b ∷ q) =
-      by_byte (λ (b : ℕ). at (in_sniffing Fe) (b ∷ q) ≡ wanted (0xFE ∷ b ∷ q)) 0xFF b
-      (turns Fe 0xFF q ∙ of_utf16_be q)
-      (λ n m. (rw n at (turns Fe b q)) ∙ unmarked (0xFE ∷ b ∷ q) refl (rw m refl))
+  behind_fe =
+      behind Fe 0xFF (λ q. 0xFE ∷ q) refl (λ q. turns Fe 0xFF q ∙ of_utf16_be q)
+      (λ b q n m. (rw n at (turns Fe b q)) ∙ unmarked (0xFE ∷ b ∷ q) refl (rw m refl))
 
   behind_ff : (q : List ℕ) → at (in_sniffing Ff) q ≡ wanted (0xFF ∷ q)
-  behind_ff [] = ends Ff
-  behind_ff (b ∷ q) =
-      by_byte (λ (b : ℕ). at (in_sniffing Ff) (b ∷ q) ≡ wanted (0xFF ∷ b ∷ q)) 0xFE b
-      (turns Ff 0xFE q ∙ of_utf16_le q)
-      (λ n m. (rw n at (turns Ff b q)) ∙ unmarked (0xFF ∷ b ∷ q) refl (rw m refl))
+  behind_ff =
+      behind Ff 0xFE (λ q. 0xFF ∷ q) refl (λ q. turns Ff 0xFE q ∙ of_utf16_le q)
+      (λ b q n m. (rw n at (turns Ff b q)) ∙ unmarked (0xFF ∷ b ∷ q) refl (rw m refl))
 
   pub looked : (q : List ℕ) → at (in_sniffing Nothing) q ≡ wanted q
   looked [] = ends Nothing

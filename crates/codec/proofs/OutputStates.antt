@@ -1,6 +1,6 @@
 -- The output state behind the byte that gives an item is that behind the item's end.
-use Rattle.std.proofs.Common.{◌≡◌, refl, sym, ap, subst, ◌∙◌, ℕ, zero, suc, ◌+◌, ◌-◌, ◌≤◌, eqb, Bool, true, false, List, [], ◌∷◌, ◌++◌, length, take, drop, Option, Some, None, All, ◌⊎◌, ⊎_elim, ◌<◌, inl, inr, arith, lit≤, if◌then◌else◌, option_map, unwrap_or, bytes_eq}
-use Rattle.codec.proofs.Prelude.{starts_with, Bom, Sniff, Keep, Utf8, Utf16Be, Utf16Le, Setting, Family, Loaded, code_point_of, Ended, by_test, IsLifted, lift_fed, Fed, run, feed, feed_for, Prefix, Nothing, Ef, EfBb, Fe, Ff, AnyState, in_sniffing, in_iso_2022_jp, AnyDecoding, any, output_of, standing, of_both, decoder_in, under, state_in, state_behind, looked_up, Mark, mark_of, if_sniffed, mark_under, in_force, mark_length, spelt, prefix_of, prefix_under}
+use Rattle.std.proofs.Common.{◌≡◌, refl, sym, ap, subst, ◌∙◌, ℕ, suc, ◌+◌, ◌-◌, ◌≤◌, eqb, true, List, [], ◌∷◌, ◌++◌, length, take, drop, Option, Some, None, All, ◌⊎◌, ⊎_elim, ◌<◌, inl, inr, arith, lit≤, if◌then◌else◌, option_map, unwrap_or, bytes_eq}
+use Rattle.codec.proofs.Prelude.{starts_with, Bom, Sniff, Keep, Setting, Family, Loaded, code_point_of, Ended, by_test, IsLifted, lift_fed, Fed, run, feed, feed_for, Prefix, Nothing, Ef, EfBb, Fe, Ff, AnyState, in_sniffing, in_iso_2022_jp, AnyDecoding, any, output_of, standing, decoder_in, under, state_in, state_behind, looked_up, Mark, mark_of, if_sniffed, mark_under, in_force, mark_length, spelt, prefix_of, prefix_under}
 use Rattle.std.proofs.Math.Seq.{take-nil, take-length, take-append_seam}
 use Rattle.std.proofs.lemmas.List.{take_all, take-append-drop, take-append-le, length-append}
 use Rattle.std.proofs.lemmas.Bool.{cases_lt}
@@ -25,23 +25,16 @@ module _ (jis0208 : ℕ → Option ℕ) where
   in_prefix : (p : Prefix) (n : ℕ) → iso_out (take n (spelt p)) ≡ Ascii
   unfolding feed feed_for
   in_prefix Nothing n = rw (take-nil {A = ℕ} n) refl
-  in_prefix Ef zero = refl
   in_prefix Ef (suc n) = rw (take-nil {A = ℕ} n) refl
-  in_prefix EfBb zero = refl
-  in_prefix EfBb (suc zero) = refl
   in_prefix EfBb (suc (suc n)) = rw (take-nil {A = ℕ} n) refl
-  in_prefix Fe zero = refl
   in_prefix Fe (suc n) = rw (take-nil {A = ℕ} n) refl
-  in_prefix Ff zero = refl
   in_prefix Ff (suc n) = rw (take-nil {A = ℕ} n) refl
+  in_prefix p n = refl
 
   few_held : (p : Prefix) → iso_2022_jp_bytes (feed (iso_2022_jp jis0208) iso_2022_jp_start (spelt p)).state ≤ 1
   unfolding feed feed_for
   few_held Nothing = lit≤ tt
-  few_held Ef = lit≤ tt
-  few_held EfBb = lit≤ tt
-  few_held Fe = lit≤ tt
-  few_held Ff = lit≤ tt
+  few_held p = lit≤ tt
 
   prefix_out : (p : Prefix) → iso_out (spelt p) ≡ Ascii
   prefix_out p = ap iso_out (sym (take-length (spelt p))) ∙ in_prefix p (length (spelt p))
@@ -112,8 +105,7 @@ shape setting bytes = go setting.bom refl where
 -- the first bytes of bytes without a mark have none
 never-bare : (form : Form) (rest more : List ℕ) → mark_of ((bytes_of form ++ rest) ++ more) ≡ None → ⊥
 never-bare utf8 rest more e = cc
-never-bare utf16_be rest more e = cc
-never-bare utf16_le rest more e = cc
+never-bare form rest more e = cc
 
 bare-first : (setting : Setting) (first rest : List ℕ) → mark_under setting (first ++ rest) ≡ None → Shape setting first → mark_under setting first ≡ None
 bare-first setting first rest none (inl is) = is
@@ -124,8 +116,7 @@ bare-taken setting bytes n none = bare-first setting (take n bytes) (drop n byte
 
 fits : (form : Form) (rest : List ℕ) → unwrap_or (option_map (λ (m : Mark). m.len) (mark_of (bytes_of form ++ rest))) 0 ≤ length (bytes_of form ++ rest)
 fits utf8 rest = omega arith
-fits utf16_be rest = omega arith
-fits utf16_le rest = omega arith
+fits form rest = omega arith
 
 pub mark_fits : (setting : Setting) (bytes : List ℕ) → mark_length setting bytes ≤ length bytes
 mark_fits setting bytes = elim (shape setting bytes) [ inl none ↦ rw none (omega arith) | inr mark ↦ rw (mark.is, mark.sniff) (fits mark.form mark.rest) ]
@@ -180,16 +171,10 @@ module _ (files : Files) (setting : Setting) where
   -- and so it is within a mark
   in_mark : setting.bom ≡ Sniff → (form : Form) (rest : List ℕ) (n : ℕ) → out (take n (bytes_of form ++ rest)) ≡ Ascii
   unfolding state_behind
-  in_mark sniff utf8 rest zero = rw sniff refl
-  in_mark sniff utf8 rest (suc zero) = rw sniff refl
-  in_mark sniff utf8 rest (suc (suc zero)) = rw sniff refl
   in_mark sniff utf8 rest (suc (suc (suc n))) = rw sniff refl
-  in_mark sniff utf16_be rest zero = rw sniff refl
-  in_mark sniff utf16_be rest (suc zero) = rw sniff refl
   in_mark sniff utf16_be rest (suc (suc n)) = rw sniff refl
-  in_mark sniff utf16_le rest zero = rw sniff refl
-  in_mark sniff utf16_le rest (suc zero) = rw sniff refl
   in_mark sniff utf16_le rest (suc (suc n)) = rw sniff refl
+  in_mark sniff form rest n = rw sniff refl
 
   first_marked : (bytes : List ℕ) → HasMark setting bytes → (n : ℕ) → out (take n bytes) ≡ Ascii
   first_marked bytes mark n = rw mark.is (in_mark mark.sniff mark.form mark.rest n)
