@@ -109,16 +109,10 @@ get_front [] ys i h = absurd (omega arith)
 get_front (x ∷ xs) ys zero h = refl
 get_front (x ∷ xs) ys (suc i) h = get_front xs ys i (omega arith)
 
-get_past : {T : Type 0} (xs ys : List T) (j : ℕ) → slice_get (xs ++ ys) (length xs + j) ≡ slice_get ys j
-get_past [] ys j =
-    let n : 0 + j ≡ j = omega arith in
-    ap (slice_get ys) n
-get_past (x ∷ xs) ys j =
-    let n : length (x ∷ xs) + j ≡ suc (length xs + j) = omega arith in
-    ap (slice_get (x ∷ (xs ++ ys))) n ∙ get_past xs ys j
-
 get_back : {T : Type 0} (xs ys : List T) (i j : ℕ) → length xs + j ≡ i → slice_get (xs ++ ys) i ≡ slice_get ys j
-get_back xs ys i j h = ap (slice_get (xs ++ ys)) (sym h) ∙ get_past xs ys j
+get_back [] ys i j h = let n : i ≡ j = omega arith in ap (slice_get ys) n
+get_back (x ∷ xs) ys zero j h = absurd (omega arith)
+get_back (x ∷ xs) ys (suc i) j h = get_back xs ys i j (omega arith)
 
 module _ {T : Type 0} {r a b : Row T} (t : IsTwo r a b) where
   pub got_left : (i : ℕ) → i < length a.items → slice_get r.items i ≡ slice_get a.items i

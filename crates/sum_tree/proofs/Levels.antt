@@ -31,26 +31,11 @@ pub rises_none : (h v : ℕ) → RisesBy (h - h) v v
 rises_none h v = record { exact = λ f. omega arith; most = omega arith; kept = omega arith }
 
 pub rises_on : (h k j old mid new : ℕ) → k ≤ h → k ≡ j + 1 → RisesBy (h - k) old mid → RisesBy 1 mid new → RisesBy (h - j) old new
-rises_on h k j old mid new l e v w =
-    let v_most = v.most in
-    let v_kept = v.kept in
-    let w_most = w.most in
-    let w_kept = w.kept in
-    record {
-      exact = λ f.
-          let first = v.exact (omega arith) in
-          let then = w.exact (omega arith) in
-          omega arith;
-      most = omega arith;
-      kept = omega arith;
-    }
+rises_on h k j old mid new l e v w = record {
+  exact = λ f. let first = v.exact (omega arith) in let then = w.exact (omega arith) in omega arith;
+  most = omega arith;
+  kept = omega arith;
+}
 
 pub rises_end : (h k old mid new : ℕ) → k ≡ 0 → new ≡ mid → RisesBy (h - k) old mid → RisesBy h old new
-rises_end h k old mid new e same v =
-    let most = v.most in
-    let kept = v.kept in
-    record {
-      exact = λ f. let first = v.exact (omega arith) in omega arith;
-      most = omega arith;
-      kept = omega arith;
-    }
+rises_end h k old mid new e same v = record { exact = λ f. let first = v.exact (omega arith) in omega arith; most = omega arith; kept = omega arith }

@@ -48,7 +48,7 @@ module _ {T S : Type 0} {unit : S} {op : S → S → S} (laws : MonoidLaws unit 
     front = a ++ h.front;
     back = h.back;
     split = e ∙ ap (λ l. a ++ l) h.split ∙ sym (append_assoc a h.front h.back);
-    place = let f = h.place in omega (arith, length-append a h.front);
+    place = omega (arith, length-append a h.front);
     sum = h.sum ∙ sym (past_both before a h.front m p);
   }
 
@@ -98,14 +98,11 @@ module _ {T S : Type 0} {unit : S} {op : S → S → S} (laws : MonoidLaws unit 
 
   module _ (measure : S → ℕ) (target : ℕ) where
     sought_front : (before : S) (a : List T) (m : S) (n : ℕ) → m ≡ op before (total unit op sum_of a) → n ≡ measure m → target < n → measure before ≤ target → IsTargetAmong measure target unit op sum_of before a
-    sought_front before a m n p q h low =
-        let e = ap measure p in
-        record { low = low; high = omega arith }
+    sought_front before a m n p q h low = let e = ap measure p in record { low = low; high = omega arith }
 
     sought_back : (before : S) (r a b : List T) (m : S) (n : ℕ) → r ≡ a ++ b → m ≡ op before (total unit op sum_of a) → n ≡ measure m → n ≤ target → IsTargetAmong measure target unit op sum_of before r → IsTargetAmong measure target unit op sum_of m b
     sought_back before r a b m n e p q h sought =
         let f = ap measure (ap (λ l. op before (total unit op sum_of l)) e ∙ past_both before a b m p) in
-        let high = sought.high in
         record { low = omega arith; high = omega arith }
 
     module _ {fits : S → Type 0} where
@@ -135,7 +132,7 @@ module _ {T S : Type 0} {unit : S} {op : S → S → S} (laws : MonoidLaws unit 
         back = w.back ++ v.back;
         split = v.split ∙ ap (λ l. v.front ++ (l ++ v.back)) w.split ∙ ap (λ l. v.front ++ l) (append_assoc w.front (zs ++ w.back) v.back)
             ∙ ap (λ l. v.front ++ (w.front ++ l)) (append_assoc zs w.back v.back) ∙ sym (append_assoc v.front w.front (zs ++ (w.back ++ v.back)));
-        place = let p = v.place in let q = w.place in omega (arith, length-append v.front w.front);
+        place = omega (arith, length-append v.front w.front);
         sum = w.sum ∙ sym (past_both before v.front w.front s v.sum);
         fit = w.fit;
         sought = w.sought;
@@ -164,7 +161,6 @@ module _ {T S : Type 0} {unit : S} {op : S → S → S} (laws : MonoidLaws unit 
       pub element_at : (before s : S) (xs ys : List T) (k : ℕ) (x : T) → IsWayTo fits measure target unit op sum_of before xs k s ys → ys ≡ x ∷ [] → IsElement measure target unit op sum_of before xs k s x
       element_at before s xs ys k x w e =
           let f = ap (λ l. measure (op s (total unit op sum_of l))) e ∙ ap (λ t. measure (op s t)) (laws.right_unit (sum_of x)) in
-          let high = w.sought.high in
           record {
             front = w.front;
             back = w.back;
@@ -177,4 +173,4 @@ module _ {T S : Type 0} {unit : S} {op : S → S → S} (laws : MonoidLaws unit 
 
       -- elements on the way are elements of the list
       pub way_room : (before s : S) (xs ys : List T) (k : ℕ) → IsWayTo fits measure target unit op sum_of before xs k s ys → k ≤ length xs
-      way_room before s xs ys k w = let p = w.place in let n = ap length w.split in omega (arith, length-append w.front (ys ++ w.back))
+      way_room before s xs ys k w = let n = ap length w.split in omega (arith, length-append w.front (ys ++ w.back))

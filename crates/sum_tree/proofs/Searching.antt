@@ -43,26 +43,22 @@ module _ {T S : Type 0} {unit : S} {op : S → S → S} (laws : MonoidLaws unit 
     behind_found xs k s None h below =
         let rest = h.found.ends refl in
         let whole = ap length (h.found.split ∙ ap (λ b. h.found.front ++ b) rest ∙ append-nil h.found.front) in
-        let place = h.place in
         absurd (omega arith)
     behind_found xs k s (Some e) h below =
         let f = h.found.front in
         let cut = h.found.split ∙ sym (append_assoc f (e ∷ []) h.found.back) in
-        let place = h.place in
         let n : length (f ++ e ∷ []) ≡ k + 1 = omega (arith, length-append f (e ∷ [])) in
         let taken = ap (take (k + 1)) cut ∙ take_at (f ++ e ∷ []) h.found.back (k + 1) n in
         let sum = total-append laws sum_of f (e ∷ []) ∙ ap (op (total unit op sum_of f)) (laws.right_unit (sum_of e)) ∙ ap (λ t. op t (sum_of e)) (sym h.found.sum) in
         let same = ap measure (ap (total unit op sum_of) taken ∙ sum) in
-        let high = h.found.high in
         omega arith
 
     pub first_above : ((a b : S) → measure a ≤ measure (op a b)) → (xs : List T) (k : ℕ) (s : S) (x : Option T) → IsSearched measure target unit op sum_of xs k s x → IsFirstAbove measure target unit op sum_of xs k s
     first_above monotone xs k s x h =
         let f = h.found.front in
-        let place = h.place in
         let split = h.found.split in
         let rest = option_to_list x ++ h.found.back in
-        let front : take k xs ≡ f = ap (take k) split ∙ take_at f rest k (sym place) in
+        let front : take k xs ≡ f = ap (take k) split ∙ take_at f rest k (sym h.place) in
         record {
           within = let n = ap length split in omega (arith, length-append f rest);
           sum = h.found.sum ∙ ap (total unit op sum_of) (sym front);
@@ -70,7 +66,6 @@ module _ {T S : Type 0} {unit : S} {op : S → S → S} (laws : MonoidLaws unit 
               let shorter = ap (λ l. measure (total unit op sum_of l)) (ap (take (j + 1)) split ∙ take-append-le (j + 1) f rest (omega arith)) in
               let more = longer monotone f (j + 1) in
               let sum = ap measure h.found.sum in
-              let low = h.found.low in
               omega arith;
           behind = behind_found xs k s x h;
         }

@@ -1,5 +1,5 @@
 -- Sums of lists that are joined and cut.
-use Rattle.std.proofs.Common.{◌≡◌, List, [], ◌∷◌, ◌++◌, length, ap, sym, ◌∙◌, subst, refl, arith, length-append, append-nil}
+use Rattle.std.proofs.Common.{◌≡◌, ◌<◌, ◌^◌, List, [], ◌∷◌, ◌++◌, length, ap, sym, ◌∙◌, subst, refl, arith, length-append, append-nil}
 use Rattle.sum_tree.specs.Sums.{MonoidLaws, total, AllRunsFit, IsSummable}
 
 -- the sum of two lists is the join of their sums
@@ -35,6 +35,10 @@ module _ {T S : Type 0} {fits : S → Type 0} {unit : S} {op : S → S → S} (l
   -- what fits as one list fits as an equal one
   pub summable_as : (xs ys : List T) → xs ≡ ys → IsSummable fits unit op sum_of xs → IsSummable fits unit op sum_of ys
   summable_as xs ys e h = subst (IsSummable fits unit op sum_of) e h
+
+  -- and it can be summed where its runs fit
+  pub summable_runs : (xs ys : List T) → xs ≡ ys → AllRunsFit fits unit op sum_of xs → length xs < 2 ^ 64 → IsSummable fits unit op sum_of ys
+  summable_runs xs ys e runs short = summable_as xs ys e (record { fit = whole_fits fits unit op sum_of xs runs; short = short })
 
   -- all runs of a list fit where the whole list does
   pub runs_fit : ((a b : S) → fits (op a b) → fits a) → ((a b : S) → fits (op a b) → fits b) → (xs : List T) → fits (total unit op sum_of xs) → AllRunsFit fits unit op sum_of xs

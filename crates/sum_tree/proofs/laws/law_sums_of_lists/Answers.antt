@@ -13,14 +13,10 @@ returns-clause-whole g c = whole_fits g.S.Summary.fits g.S.Summary.empty g.S.Sum
 
 pub returns-clause-front : goal.returns-clause-front
 returns-clause-front g c = λ xs ys h.
-    let laws = g.met.S.Summary.laws in
-    let sum_of = g.T.Summed.sum_of in
-    let left = g.met.S.Summary.fits_left in
-    runs_fit laws sum_of left g.met.S.Summary.fits_right xs (front_fits laws sum_of left xs ys (whole_fits g.S.Summary.fits g.S.Summary.empty g.S.Summary.op sum_of (xs ++ ys) h))
+    runs_fit g.met.S.Summary.laws g.T.Summed.sum_of g.met.S.Summary.fits_left g.met.S.Summary.fits_right xs
+    (front_fits g.met.S.Summary.laws g.T.Summed.sum_of g.met.S.Summary.fits_left xs ys (whole_fits g.S.Summary.fits g.S.Summary.empty g.S.Summary.op g.T.Summed.sum_of (xs ++ ys) h))
 
 pub returns-clause-back : goal.returns-clause-back
 returns-clause-back g c = λ xs ys h.
-    let laws = g.met.S.Summary.laws in
-    let sum_of = g.T.Summed.sum_of in
-    let right = g.met.S.Summary.fits_right in
-    runs_fit laws sum_of g.met.S.Summary.fits_left right ys (back_fits laws sum_of right xs ys (whole_fits g.S.Summary.fits g.S.Summary.empty g.S.Summary.op sum_of (xs ++ ys) h))
+    runs_fit g.met.S.Summary.laws g.T.Summed.sum_of g.met.S.Summary.fits_left g.met.S.Summary.fits_right ys
+    (back_fits g.met.S.Summary.laws g.T.Summed.sum_of g.met.S.Summary.fits_right xs ys (whole_fits g.S.Summary.fits g.S.Summary.empty g.S.Summary.op g.T.Summed.sum_of (xs ++ ys) h))

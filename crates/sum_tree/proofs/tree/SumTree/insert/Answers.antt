@@ -2,7 +2,7 @@ use Rattle.std.proofs.lemmas.Grind.{common_steps}
 use Rattle.std.proofs.Common.{length, sym, ap, ◌∙◌, arith, insert}
 use Rattle.std.proofs.lemmas.List.Edits.{length-insert}
 use Rattle.sum_tree.specs.Listed.{items_in}
-use Rattle.sum_tree.proofs.Totals.{summable_as, whole_fits}
+use Rattle.sum_tree.proofs.Totals.{summable_runs}
 use Rattle.sum_tree.proofs.tree.SumTree.insert.Goals as goal
 
 pub inserted-root-requires-clause-summable : goal.inserted-root-requires-clause-summable
@@ -12,12 +12,8 @@ inserted-root-requires-clause-summable g c =
     let count = ap length seen in
     let spare = ap (λ r. r.spare) c.self.view_is in
     let more = length-insert items c.args.i c.args.item c.requires.place in
-    summable_as g.met.S.Summary.laws g.T.Summed.sum_of (insert items c.args.i c.args.item) _
-    (ap (λ l. insert l c.args.i c.args.item) (sym seen ∙ ap items_in (sym c.take.ensures.value)))
-    (record {
-      fit = whole_fits g.S.Summary.fits g.S.Summary.empty g.S.Summary.op g.T.Summed.sum_of (insert items c.args.i c.args.item) c.requires.fit;
-      short = omega arith;
-    })
+    summable_runs g.met.S.Summary.laws g.T.Summed.sum_of (insert items c.args.i c.args.item) _
+    (ap (λ l. insert l c.args.i c.args.item) (sym seen ∙ ap items_in (sym c.take.ensures.value))) c.requires.fit (omega arith)
 
 pub inserted-root-requires-clause-sound : goal.inserted-root-requires-clause-sound
 inserted-root-requires-clause-sound g c = grind (arith, common_steps)

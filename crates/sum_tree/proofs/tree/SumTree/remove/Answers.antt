@@ -2,7 +2,7 @@ use Rattle.std.proofs.lemmas.Grind.{common_steps}
 use Rattle.std.proofs.Common.{length, sym, ap, ◌∙◌, arith, remove}
 use Rattle.std.proofs.lemmas.List.Edits.{length-remove}
 use Rattle.sum_tree.specs.Listed.{items_in, nodes_in}
-use Rattle.sum_tree.proofs.Totals.{summable_as, whole_fits}
+use Rattle.sum_tree.proofs.Totals.{summable_runs}
 use Rattle.sum_tree.proofs.tree.SumTree.remove.Goals as goal
 
 pub removed-item-requires-clause-summable : goal.removed-item-requires-clause-summable
@@ -12,12 +12,8 @@ removed-item-requires-clause-summable g c =
     let count = ap length seen in
     let held = c.self.invariant.summable.short in
     let edited = length-remove items c.args.i c.requires.place in
-    summable_as g.met.S.Summary.laws g.T.Summed.sum_of (remove items c.args.i) _
-    (ap (λ l. remove l c.args.i) (sym seen ∙ ap items_in (sym c.take.ensures.value)))
-    (record {
-      fit = whole_fits g.S.Summary.fits g.S.Summary.empty g.S.Summary.op g.T.Summed.sum_of (remove items c.args.i) c.requires.fit;
-      short = omega arith;
-    })
+    summable_runs g.met.S.Summary.laws g.T.Summed.sum_of (remove items c.args.i) _
+    (ap (λ l. remove l c.args.i) (sym seen ∙ ap items_in (sym c.take.ensures.value))) c.requires.fit (omega arith)
 
 pub removed-item-requires-clause-place : goal.removed-item-requires-clause-place
 removed-item-requires-clause-place g c = grind (arith, common_steps)
@@ -43,10 +39,7 @@ invariant_of-self g c =
     let nodes = ap nodes_in c.take.ensures.value in
     record {
       sound = c.removed-item.ensures.sound;
-      summable = summable_as g.met.S.Summary.laws g.T.Summed.sum_of (remove items c.args.i) _ left (record {
-        fit = whole_fits g.S.Summary.fits g.S.Summary.empty g.S.Summary.op g.T.Summed.sum_of (remove items c.args.i) c.requires.fit;
-        short = omega arith;
-      });
+      summable = summable_runs g.met.S.Summary.laws g.T.Summed.sum_of (remove items c.args.i) _ left c.requires.fit (omega arith);
       room = omega arith;
       space = omega arith;
     }

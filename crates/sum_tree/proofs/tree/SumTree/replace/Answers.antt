@@ -1,8 +1,7 @@
 use Rattle.std.proofs.lemmas.Grind.{common_steps}
-use Rattle.std.proofs.Common.{length, sym, ap, ◌∙◌, arith}
-use Rattle.std.proofs.Common.{slice_set, length-set}
+use Rattle.std.proofs.Common.{length, sym, ap, ◌∙◌, arith, slice_set, length-set}
 use Rattle.sum_tree.specs.Listed.{items_in}
-use Rattle.sum_tree.proofs.Totals.{summable_as, whole_fits}
+use Rattle.sum_tree.proofs.Totals.{summable_runs}
 use Rattle.sum_tree.proofs.tree.SumTree.replace.Goals as goal
 
 pub replaced-old-requires-clause-summable : goal.replaced-old-requires-clause-summable
@@ -12,12 +11,8 @@ replaced-old-requires-clause-summable g c =
     let count = ap length seen in
     let held = c.self.invariant.summable.short in
     let edited = length-set items c.args.i c.args.item in
-    summable_as g.met.S.Summary.laws g.T.Summed.sum_of (slice_set items c.args.i c.args.item) _
-    (ap (λ l. slice_set l c.args.i c.args.item) (sym seen ∙ ap items_in (sym c.take.ensures.value)))
-    (record {
-      fit = whole_fits g.S.Summary.fits g.S.Summary.empty g.S.Summary.op g.T.Summed.sum_of (slice_set items c.args.i c.args.item) c.requires.fit;
-      short = omega arith;
-    })
+    summable_runs g.met.S.Summary.laws g.T.Summed.sum_of (slice_set items c.args.i c.args.item) _
+    (ap (λ l. slice_set l c.args.i c.args.item) (sym seen ∙ ap items_in (sym c.take.ensures.value))) c.requires.fit (omega arith)
 
 pub replaced-old-requires-clause-place : goal.replaced-old-requires-clause-place
 replaced-old-requires-clause-place g c = grind (arith, common_steps)
