@@ -1,10 +1,10 @@
-use Rattle.std.proofs.Common.{refl, ◌≡◌, drop, bytes_eq}
+use Rattle.std.proofs.Common.{refl, ◌≡◌, drop}
 use Rattle.std.specs.Char.{is_ascii_whitespace}
 use Rattle.std.specs.List.{prefix_len}
 use Rattle.std.proofs.lemmas.Bool.Decides.{same_from_decides}
 use Rattle.std.proofs.lemmas.Slice.Eq.{bytes_eq-Decides}
 use Rattle.std.proofs.lemmas.Str.Ascii.{trim_ascii_is}
-use Rattle.enc_names.specs.Labels.{stripped, folded}
+use Rattle.enc_names.specs.Labels.{stripped}
 use Rattle.enc_names.proofs.labels.is_label.Goals as goal
 
 pub returns : goal.returns
@@ -12,7 +12,4 @@ returns c =
     let text = c.args.text.now in
     let trimmed : c.trim_ascii.result.now ≡ stripped text =
     trim_ascii_is text c.trim_ascii.result.now (drop (prefix_len is_ascii_whitespace text) text) refl c.trim_ascii.ensures.value in
-    rw (← trimmed) (
-    same_from_decides c.eq_ignore_ascii_case.result (bytes_eq (folded c.trim_ascii.result.now) (folded c.args.label.now))
-    c.eq_ignore_ascii_case.ensures.test
-    (bytes_eq-Decides (folded c.trim_ascii.result.now) (folded c.args.label.now)))
+    rw (← trimmed) (same_from_decides _ _ c.eq_ignore_ascii_case.ensures.test (bytes_eq-Decides _ _))

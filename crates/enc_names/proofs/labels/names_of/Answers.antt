@@ -4,5 +4,4 @@ use Rattle.enc_names.proofs.Tables.{table_of-append, labels_of-take_more}
 use Rattle.enc_names.proofs.labels.names_of.Goals as goal
 
 pub loop-encoding-preserved : goal.loop-encoding-preserved
-loop-encoding-preserved c =
-    grind (arith, common_steps, table_of-append, labels_of-take_more)
+loop-encoding-preserved c = grind (arith, common_steps, table_of-append, labels_of-take_more)
