@@ -1,10 +1,8 @@
 -- Look-ups in pairs that stand in the order of their code points.
 use Rattle.std.proofs.Common.{◌≡◌, ℕ, ◌-◌, ◌≤◌, ◌<◌, ◌==◌, true, false, length, get_or, filter, nat_le, ltb, leb, Some, None, refl, subst, ◌≢◌, arith, ⊎_elim}
 use Rattle.std.proofs.lemmas.Bool.{cases_lt, ltb-true, ltb-false, eqb-true, eq-eqb, le-leb, leb-true}
-use Rattle.std.specs.List.Sorted.{IsNonDecreasingBy, IsPartitionPoint}
+use Rattle.index_loader.proofs.Prelude.{IsNonDecreasingBy, IsPartitionPoint, Pairs, least, greatest, pointers_with, row_code_point}
 use Rattle.index_loader.proofs.Members.{Has, all-has, key-none, key-some, last-up_to, of-least, has-contains, has-get_or, place-has, has-filter, from-filter, has-map, from-map, least-is, greatest-is}
-use Rattle.index_loader.specs.Pairs.{Pairs, least, greatest, pointers_with}
-use Rattle.index_loader.specs.Ranges.{row_code_point}
 use Rattle.index_loader.specs.Rank.{rank_of, IsLastUpTo, IsOrdered}
 
 -- a pointer of a code point, by its pair

@@ -6,9 +6,7 @@ use Rattle.std.proofs.lemmas.List.Sorted.{All-permutation, IsPermutation-append_
 use Rattle.index_loader.proofs.ByCodePointLemmas.{has-pointer, pair-of_pointer}
 use Rattle.index_loader.proofs.Members.{Has, all-from, all-has, key-none, key-some, of-greatest, within-permutation, has-filter, from-filter, least-is, greatest-is, least-same, within-filter}
 use Rattle.index_loader.specs.FirstPointers.{AreFirst, IsPut, IsTaken, first_in, greatest_of, pairs_held, pairs_in_cells, pairs_left, pointer_in}
-use Rattle.index_loader.specs.Pairs.{Pairs, greater, greatest, least, pointers_with}
-use Rattle.index_loader.specs.Ranges.{row_code_point}
-use Rattle.index_loader.specs.Rows.{IsRising}
+use Rattle.index_loader.proofs.Prelude.{Pairs, greater, greatest, least, pointers_with, row_code_point, IsRising}
 
 from-append : {X : Type 0} (xs ys : List X) (x : X) → Has x (xs ++ ys) → Has x xs ⊎ Has x ys
 from-append [] ys x h = inr h

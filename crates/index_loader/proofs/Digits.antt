@@ -4,9 +4,7 @@ use Rattle.std.proofs.lemmas.Bool.{cases_lt, lt-ltb}
 use Rattle.std.proofs.lemmas.Int.Digits.{digits_value_more}
 use Rattle.std.proofs.lemmas.List.Folds.{list_all_more}
 use Rattle.std.proofs.lemmas.List.FromFn.{get_or-map-range_with_len}
-use Rattle.std.specs.Char.{digit_value, is_digit}
-use Rattle.std.specs.List.{list_all, range_with_len}
-use Rattle.std.specs.Str.Parse.{digits_value}
+use Rattle.index_loader.proofs.Prelude.{digit_value, is_digit, list_all, range_with_len, digits_value}
 
 -- one more digit behind a number that was capped
 capped-digit : (n base digit limit : ℕ) → 1 ≤ base → min (min (min n limit * base) limit + digit) limit ≡ min (n * base + digit) limit

@@ -1,12 +1,7 @@
 -- The lines of a file of exceptions in the form that most have.
 use Rattle.std.proofs.Common.{◌≡◌, ℕ, ◌==◌, Bool, true, false, List, ◌∷◌, length, Option, Some, None, Ok, if◌then◌else◌, option_and_then, IfSome, arith, refl, sym}
 use Rattle.std.proofs.lemmas.Option.{option_and_then_some}
-use Rattle.std.specs.Char.{is_digit}
-use Rattle.std.specs.List.{list_all}
-use Rattle.index_loader.specs.Exceptions.{as_pair, bytes_behind, bytes_in, exception_in}
-use Rattle.index_loader.specs.Lines.{fields_of, number_in}
-use Rattle.index_loader.specs.Plain.{IsNumberFirst}
-use Rattle.index_loader.specs.Scalars.{as_scalar}
+use Rattle.index_loader.proofs.Prelude.{is_digit, list_all, as_pair, bytes_behind, bytes_in, exception_in, fields_of, number_in, IsNumberFirst, as_scalar}
 use Rattle.index_loader.proofs.PlainLemmas.{code_point-plain, digits-of, digits-other, fields-alone, stripped-same}
 
 -- a text of two bytes is digits alone

@@ -4,23 +4,13 @@ use Rattle.std.proofs.lemmas.Bool.{cases_eq, cases_lt, ne_eqb, lt-ltb, le-ltb, f
 use Rattle.std.proofs.lemmas.Bool.Decides.{nat_tests}
 use Rattle.std.proofs.lemmas.List.{drop_more, drop_all}
 use Rattle.std.proofs.lemmas.List.Elements.{All-nil}
-use Rattle.std.specs.Char.{IsScalar}
-use Rattle.std.specs.List.{starts_with}
+use Rattle.index_loader.proofs.Prelude.{IsScalar, starts_with, BadRanges, DuplicatePointer, IndexKind, IsReading, has_needed_rows, if_complete, is_out_of_memory, pairs_from, pairs_with, with_line, Loaded, is_ranges, lines_of, allows, code_point_in, fields_of, is_skipped, number_in, pair_behind, pair_in, pair_with, refusal_of, stripped, FaultIs, Pairs, code_point_at, inserted, IsRising, as_scalar}
 use Rattle.std.specs.Str.Lines.{strip_carriage_return}
 use Rattle.index_loader.proofs.NumberedLemmas.{stays}
 use Rattle.index_loader.proofs.Members.{Has, all-from, all-has, contains-has, has-contains, has-get_or}
 use Rattle.index_loader.specs.declared.fault.IndexCause.{IndexCause}
-use Rattle.index_loader.specs.declared.fault.IndexCause.TheVariants.{BadRanges, DuplicatePointer}
 use Rattle.index_loader.specs.declared.fault.IndexFault.{IndexFault}
-use Rattle.index_loader.specs.declared.kind.IndexKind.{IndexKind}
-use Rattle.index_loader.specs.File.{IsReading, has_needed_rows, if_complete, is_out_of_memory, pairs_from, pairs_with, with_line}
-use Rattle.index_loader.specs.Index.{Loaded, is_ranges}
 use Rattle.index_loader.specs.FileLaws.{AreParsed, IsEntry, IsFaulty, IsFirstFault, reading_at}
-use Rattle.index_loader.specs.Lines.{lines_of, allows, code_point_in, fields_of, is_skipped, number_in, pair_behind, pair_in, pair_with, refusal_of, stripped}
-use Rattle.index_loader.specs.Numbered.{FaultIs}
-use Rattle.index_loader.specs.Pairs.{Pairs, code_point_at, inserted}
-use Rattle.index_loader.specs.Rows.{IsRising}
-use Rattle.index_loader.specs.Scalars.{as_scalar}
 
 -- the code point of a pointer comes from a pair
 pair-of_pointer : (pairs : Pairs) (pointer : ℕ) → is_some (code_point_at pairs pointer) ≡ true → (pair : ℕ × ℕ) × Has pair pairs × (pair.0 ≡ pointer)

@@ -3,14 +3,15 @@ pub mod CellLemmas
 pub mod Digits
 pub mod ExceptionLemmas
 pub mod Exclusion
-pub mod FormLemmas
 pub mod FileLawLemmas
+pub mod FormLemmas
 pub mod IndexLemmas
 pub mod LineLemmas
 pub mod Members
 pub mod NumberedLemmas
 pub mod Places
 pub mod PlainLemmas
+pub mod Prelude
 pub mod RowLemmas
 pub mod SlotLemmas
 pub mod Split

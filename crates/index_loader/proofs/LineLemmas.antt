@@ -2,13 +2,7 @@
 use Rattle.std.proofs.Common.{◌≡◌, ℕ, ◌<◌, ◌&&◌, not, true, false, List, [], length, get_or, set, Option, Some, None, is_some, Ok, Err, refl, ap, ◌∙◌, arith}
 use Rattle.std.proofs.lemmas.Bool.Decides.{nat_tests}
 use Rattle.index_loader.proofs.Places.{code_point-in_table, inserted-in_table}
-use Rattle.index_loader.specs.declared.fault.IndexCause.TheVariants.{BadRanges, DuplicatePointer}
-use Rattle.index_loader.specs.declared.kind.IndexKind.{IndexKind}
-use Rattle.index_loader.specs.File.{has_needed_rows, if_complete, pairs_beside, pairs_from, pairs_parsed}
-use Rattle.index_loader.specs.Lines.{allows, lines_of}
-use Rattle.index_loader.specs.Index.{is_ranges}
-use Rattle.index_loader.specs.Pairs.{Pairs}
-use Rattle.index_loader.specs.Table.{pairs_in, table_len}
+use Rattle.index_loader.proofs.Prelude.{BadRanges, DuplicatePointer, IndexKind, has_needed_rows, if_complete, pairs_beside, pairs_from, pairs_parsed, allows, lines_of, is_ranges, Pairs, pairs_in, table_len}
 
 -- a pair whose pointer stands above
 pub pair-duplicate : (number : ℕ) (places : List (Option ℕ)) (pair : ℕ × ℕ) → is_some (get_or places pair.0 None) ≡ true → pairs_beside number (pairs_in places) pair ≡ Err (record { line = number; cause = DuplicatePointer })

@@ -1,8 +1,6 @@
 -- Lines that are read one after another.
 use Rattle.std.proofs.Common.{◌≡◌, ℕ, ◌+◌, ◌==◌, Bool, true, false, Bor, List, [], ◌∷◌, Option, Some, option_copied, Result, Ok, Err, refl, ap, ◌∙◌}
-use Rattle.std.specs.List.{slice_split}
-use Rattle.index_loader.specs.Numbered.{FaultIs, read_from}
-use Rattle.index_loader.specs.Split.{parts_behind}
+use Rattle.index_loader.proofs.Prelude.{slice_split, FaultIs, read_from, parts_behind}
 
 -- a fault stays
 pub stays : {A F : Type 0} (reading : ℕ → A → List ℕ → Result A F) (fault : F) (number : ℕ) (lines : List (List ℕ)) → read_from reading (Err fault) number lines ≡ Err fault

@@ -7,14 +7,7 @@ use Rattle.std.proofs.lemmas.List.Elements.{All-cons, All-from_get_or}
 use Rattle.std.proofs.lemmas.List.Folds.{list_all_at}
 use Rattle.std.proofs.lemmas.List.Splits.{slice_split_at, slice_split_none}
 use Rattle.std.proofs.lemmas.List.Sorted.{All-permutation, IsPermutation-reverse}
-use Rattle.std.specs.Char.{digit_value, is_digit}
-use Rattle.std.specs.List.{list_all, onto_first}
-use Rattle.std.specs.Str.Parse.{digits_value}
-use Rattle.index_loader.specs.declared.kind.IndexKind.{IndexKind}
-use Rattle.index_loader.specs.Lines.{behind_spaces, code_point_in, fields_of, number_in, pair_in, pair_with, stripped}
-use Rattle.index_loader.specs.Plain.{IsNumberFirst}
-use Rattle.index_loader.specs.Scalars.{as_scalar}
-use Rattle.index_loader.specs.Split.{parts_behind}
+use Rattle.index_loader.proofs.Prelude.{digit_value, is_digit, list_all, onto_first, digits_value, IndexKind, behind_spaces, code_point_in, fields_of, number_in, pair_in, pair_with, stripped, IsNumberFirst, as_scalar, parts_behind}
 
 -- bytes that are none of these
 abbrev AreOther : ℕ → List ℕ → Type 0

@@ -1,12 +1,7 @@
 -- Look-ups in rows that stand in the order of their pointers.
 use Rattle.std.proofs.Common.{◌≡◌, ℕ, zero, suc, ◌+◌, ◌-◌, ◌≤◌, ◌<◌, true, false, [], ◌∷◌, length, get_or, leb, Option, Some, None, refl, sym, arith, inl, inr, eq-eqb, ne_eqb, leb-false, SomeIff, option_and_then}
-use Rattle.std.specs.Char.{IsScalar}
-use Rattle.std.specs.List.Sorted.{IsNonDecreasingBy, IsPartitionPoint}
+use Rattle.index_loader.proofs.Prelude.{IsScalar, IsNonDecreasingBy, IsPartitionPoint, Pairs, code_point_at, code_point_in_row, row_pointer, as_scalar, IsRising, IsLastRowUpTo}
 use Rattle.index_loader.proofs.Members.{Has, all-has, key-none, key-some, last-up_to, has-contains}
-use Rattle.index_loader.specs.Pairs.{Pairs, code_point_at}
-use Rattle.index_loader.specs.Ranges.{code_point_in_row, row_pointer}
-use Rattle.index_loader.specs.Scalars.{as_scalar}
-use Rattle.index_loader.specs.Rows.{IsRising, IsLastRowUpTo}
 
 -- the pointers don't fall
 pub rising-pointers : (rows : Pairs) → IsRising rows → IsNonDecreasingBy (λ (row : ℕ × ℕ). row.0) rows

@@ -4,12 +4,8 @@ use Rattle.std.proofs.Math.ListN.{get_or-map}
 use Rattle.std.proofs.lemmas.List.Quantifiers.{position-Some}
 use denote.Enum.Bare.{same_true}
 use Rattle.enc_names.specs.contracts.encoding.Encoding.{the_type}
-use Rattle.index_loader.specs.declared.kind.IndexKind.{IndexKind}
-use Rattle.index_loader.specs.declared.kind.IndexKind.TheVariants.{SingleByte, Jis0208, Jis0212, Big5, EucKr, Gb18030, Gb18030Ranges, Katakana}
-use Rattle.index_loader.specs.Exceptions.{ExceptionTable}
+use Rattle.index_loader.proofs.Prelude.{IndexKind, SingleByte, Jis0208, Jis0212, Big5, EucKr, Gb18030, Gb18030Ranges, Katakana, ExceptionTable, Loaded, home_of, kinds, same_kind, slot_of}
 use Rattle.index_loader.specs.Files.{index_of}
-use Rattle.index_loader.specs.Index.{Loaded}
-use Rattle.index_loader.specs.Kinds.{home_of, kinds, same_kind, slot_of}
 use Rattle.index_loader.specs.Slots.{AreInTheirSlots, kind_at, pairs_kept}
 
 one_kind : (a b : IndexKind) → same_kind a b ≡ true → a ≡ b

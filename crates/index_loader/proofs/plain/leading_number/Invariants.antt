@@ -1,7 +1,5 @@
 use Rattle.std.proofs.Common.{◌≡◌, ◌-◌, ◌≤◌, length, take, true}
-use Rattle.std.specs.Char.{is_digit}
-use Rattle.std.specs.List.{list_all}
-use Rattle.std.specs.Str.Parse.{digits_value}
+use Rattle.index_loader.proofs.Prelude.{is_digit, list_all, digits_value}
 use Rattle.index_loader.proofs.plain.leading_number.Given as goal
 
 abbrev pub invariant-loop-at : goal.invariant-loop-at

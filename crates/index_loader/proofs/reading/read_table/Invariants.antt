@@ -1,9 +1,5 @@
 use Rattle.std.proofs.Common.{◌≡◌, ◌+◌, ◌≤◌, [], length, option_copied, Ok}
-use Rattle.std.specs.Option.{option_map_or}
-use Rattle.index_loader.specs.File.{pairs_from}
-use Rattle.index_loader.specs.Lines.{lines_of}
-use Rattle.index_loader.specs.Split.{parts_behind}
-use Rattle.index_loader.specs.Table.{pairs_in, table_len}
+use Rattle.index_loader.proofs.Prelude.{option_map_or, pairs_from, lines_of, parts_behind, pairs_in, table_len}
 use Rattle.index_loader.proofs.reading.read_table.Given as goal
 
 abbrev pub invariant-loop-rest : goal.invariant-loop-rest

@@ -1,7 +1,5 @@
 use Rattle.std.proofs.Common.{◌≡◌, ◌+◌, ◌≤◌, length, option_copied, Ok}
-use Rattle.std.specs.Option.{option_map_or}
-use Rattle.index_loader.specs.Exceptions.{exceptions_from, exceptions_parsed}
-use Rattle.index_loader.specs.Split.{parts_behind}
+use Rattle.index_loader.proofs.Prelude.{option_map_or, exceptions_from, exceptions_parsed, parts_behind}
 use Rattle.index_loader.proofs.exceptions.Exceptions.parse.Given as goal
 
 abbrev pub invariant-loop-rest : goal.invariant-loop-rest
