@@ -17,7 +17,7 @@ use Rattle.iso2022jp.specs.declared.output.OutputState.TheVariants.{Ascii, Roman
 use Rattle.iso2022jp.specs.declared.state.DecoderState.{DecoderState}
 use Rattle.iso2022jp.specs.declared.state.DecoderState.TheVariants.{Ready, Trail, EscapeStart, Escape}
 use Rattle.iso2022jp.specs.Iso2022Jp.{Iso2022Jp, iso_2022_jp, iso_2022_jp_start, returning, switched, unflagged, ready_byte, escaped, escape_to, state_byte, is_pair_byte}
-use Rattle.iso2022jp.specs.Iso2022JpLaws.{iso_2022_jp_holding, iso_2022_jp_bytes}
+use Rattle.iso2022jp.specs.Iso2022JpLaws.{state_bytes, iso_2022_jp_holding, iso_2022_jp_bytes}
 
 -- how many bytes of an escape have been read
 abbrev pub begun : DecoderState → ℕ
@@ -82,28 +82,18 @@ snoc (b ∷ p) = elim (snoc p) [
   | inr (front, last, e) ↦ inr (b ∷ front, last, ap (λ (q : List ℕ). b ∷ q) e)
 ]
 
-over : (a : Answer) → (a ≡ Finished) ⊎ (a ≢ Finished)
-over Nothing = inr (λ e. cc)
-over (Gives i) = inr (λ e. cc)
-over Finished = inl refl
+-- outside the second state of an escape no byte before the last was read of one
+by_state : (state : DecoderState) → ((begun state ≤ 1) × (state_bytes state ≤ 1)) ⊎ ((lead : ℕ) × (state ≡ Escape lead))
+by_state (Ready output) = inl (lit≤ tt, lit≤ tt)
+by_state (Trail lead) = inl (lit≤ tt, lit≤ tt)
+by_state EscapeStart = inl (lit≤ tt, lit≤ tt)
+by_state (Escape lead) = inr (lead, refl)
 
-begun_few : (s : Iso2022Jp) (state : DecoderState) → s.state ≡ state → begun s.state ≤ iso_2022_jp_bytes s
-begun_few s (Ready output) e = rw e (lit≤ tt)
-begun_few s (Trail lead) e = rw e (lit≤ tt)
-begun_few s EscapeStart e = rw e (lit≤ tt)
-begun_few s (Escape lead) e = rw e (lit≤ tt)
-
-by_held : (s : Iso2022Jp) (state : DecoderState) → s.state ≡ state → (back : ℕ) → back + 1 ≤ iso_2022_jp_bytes s → (back ≡ 0) ⊎ ((back ≡ 1) × (begun s.state ≡ 2))
-by_held s (Ready output) e back fit = absurd (let f : back + 1 ≤ 0 = rw e at fit in omega arith)
-by_held s (Trail lead) e back fit = inl (let f : back + 1 ≤ 1 = rw e at fit in omega arith)
-by_held s EscapeStart e back fit = inl (let f : back + 1 ≤ 1 = rw e at fit in omega arith)
-by_held s (Escape lead) e back fit = let f : back + 1 ≤ 2 = rw e at fit in elim (few back (omega arith)) [ inl none ↦ inl none | inr one ↦ inr (one, rw e refl) ]
-
-by_state : (s : Iso2022Jp) (state : DecoderState) → s.state ≡ state → (begun s.state ≤ 1) ⊎ ((lead : ℕ) × (s.state ≡ Escape lead))
-by_state s (Ready output) e = inl (rw e (lit≤ tt))
-by_state s (Trail lead) e = inl (rw e (lit≤ tt))
-by_state s EscapeStart e = inl (rw e (lit≤ tt))
-by_state s (Escape lead) e = inr (lead, e)
+by_held : (state : DecoderState) (back : ℕ) → back + 1 ≤ state_bytes state → (back ≡ 0) ⊎ ((back ≡ 1) × (begun state ≡ 2))
+by_held state back fit = elim (by_state state) [
+  | inl held ↦ inl (omega (arith, held))
+  | inr (lead, e) ↦ let f : back + 1 ≤ 2 = rw e at fit in elim (few back (omega arith)) [ inl none ↦ inl none | inr one ↦ inr (one, rw e refl) ]
+]
 
 -- the laws of one table's runs, turn by turn
 pub record TurnByTurn (table : Table Iso2022Jp) : Type 0 where
@@ -126,10 +116,8 @@ module _ (jis0208 : ℕ → Option ℕ) (laws : TurnByTurn (iso_2022_jp jis0208)
       let k = turn_keeps jis0208 s s.state b (length q) refl (omega arith) in
       let size = length-append t.back q in
       let fall = falls.falls s (b ∷ q) k.3 in
-      subst (Steady s.output) (sym (laws.feed_turn s b q))
-      (steady-after t.answer (length (t.back ++ q)) t.state s.output (feed (iso_2022_jp jis0208) t.state (t.back ++ q)) k.3 (omega arith)
-      (subst (λ (o : OutputState). Steady o (feed (iso_2022_jp jis0208) t.state (t.back ++ q))) k.0
-      (steady-within n t.state (t.back ++ q) (omega arith) (omega arith))))
+      let rest = steady-within n t.state (t.back ++ q) (omega arith) (omega arith) in
+      rw (laws.feed_turn s b q) (steady-after t.answer (length (t.back ++ q)) t.state s.output _ k.3 (omega arith) (rw k.0 at rest))
 
   steady : (s : Iso2022Jp) (q : List ℕ) → begun s.state + length q ≤ 2 → Steady s.output (feed (iso_2022_jp jis0208) s q)
   steady s q = steady-within (suc (8 * length q + falls.held s)) s q (omega arith)
@@ -157,9 +145,9 @@ module _ (jis0208 : ℕ → Option ℕ) (laws : TurnByTurn (iso_2022_jp jis0208)
       )
 
   pub step : (s : Iso2022Jp) (b : ℕ) → Step s (feed (iso_2022_jp jis0208) s (b ∷ []))
-  step s b = elim (by_state s s.state refl) [
-    | inl few ↦
-        let h = steady s (b ∷ []) (omega arith) in
+  step s b = elim (by_state s.state) [
+    | inl held ↦
+        let h = steady s (b ∷ []) (omega (arith, held)) in
         let f = feed (iso_2022_jp jis0208) s (b ∷ []) in
         (λ k d lt. ends-few s f.state.output _ h.0 (h.1 k d lt), λ _. h.0)
     | inr (lead, e) ↦
@@ -176,16 +164,14 @@ module _ (jis0208 : ℕ → Option ℕ) (laws : TurnByTurn (iso_2022_jp jis0208)
 
   two_before : (front : List ℕ) (last b : ℕ) → begun (at (front ++ last ∷ [])).state ≡ 2 → (at (take (length front) ((front ++ last ∷ []) ++ b ∷ []))).output ≡ (at (front ++ last ∷ [])).output
   two_before front last b e =
-      ap (λ (q : List ℕ). (at (take (length front) q)).output) (append_assoc front (last ∷ []) (b ∷ []))
-      ∙ ap (λ (q : List ℕ). (at q).output) (take-append_seam front (last ∷ b ∷ []))
-      ∙ sym (ap (λ (s : Iso2022Jp). s.output) (at-byte front last) ∙ (step (at front) last).1 (rw (← at-byte front last) e))
+      rw (append_assoc front (last ∷ []) (b ∷ []), take-append_seam front (last ∷ b ∷ []))
+      (sym (ap (λ (s : Iso2022Jp). s.output) (at-byte front last) ∙ (step (at front) last).1 (rw (← at-byte front last) e)))
 
   before : (p : List ℕ) (b n : ℕ) → n ≡ length p + 1 - 2 → begun (at p).state ≡ 2 → (at (take n (p ++ b ∷ []))).output ≡ (at p).output
   before p b n size e = elim (snoc p) [
     | inl none ↦
-        let nil : begun (at []).state ≡ 2 = subst (λ (q : List ℕ). begun (at q).state ≡ 2) none e in
         let zero : begun (at []).state ≡ 0 = ap (λ (f : Fed Iso2022Jp). begun f.state.state) (laws.feed_empty iso_2022_jp_start) in
-        absurd (omega arith)
+        absurd (omega (arith, zero, ap (λ (q : List ℕ). begun (at q).state) none))
     | inr (front, last, is) ↦
         let whole : length p ≡ length front + 1 = ap length is ∙ length-append front (last ∷ []) in
         let n_is : n ≡ length front = omega arith in
@@ -202,45 +188,43 @@ module _ (jis0208 : ℕ → Option ℕ) (laws : TurnByTurn (iso_2022_jp jis0208)
       → (at (take (length p + 1 - back) (p ++ b ∷ []))).output ≡ (at (p ++ b ∷ [])).output
   at_end p b back (inl none) =
       let whole : length p + 1 - back ≡ length (p ++ b ∷ []) = omega (arith, length-append p (b ∷ [])) in
-      ap (λ (n : ℕ). (at (take n (p ++ b ∷ []))).output) whole ∙ ap (λ (q : List ℕ). (at q).output) (take-length (p ++ b ∷ []))
+      rw (whole, take-length (p ++ b ∷ [])) refl
   at_end p b back (inr (same, inl one)) =
       let front : length p + 1 - back ≡ length p = omega arith in
-      ap (λ (n : ℕ). (at (take n (p ++ b ∷ []))).output) front ∙ ap (λ (q : List ℕ). (at q).output) (take-append_seam p (b ∷ [])) ∙ sym same
+      rw (front, take-append_seam p (b ∷ [])) (sym same)
   at_end p b back (inr (same, inr (two, e))) = before p b (length p + 1 - back) (omega arith) e ∙ sym same
 
   pub output_at_byte : (p : List ℕ) (b : ℕ) → All (λ (e : Ended). (at (take (length p + 1 - e.back) (p ++ b ∷ []))).output ≡ (at (p ++ b ∷ [])).output) (feed (iso_2022_jp jis0208) (at p) (b ∷ [])).items
   output_at_byte p b k d lt = at_end p b _ (rw (at-byte p b) ((step (at p) b).0 k d lt))
 
   -- a turn that gives an item leaves fewer bytes than were there or held
-  backs-after : (a : Answer) (left there : ℕ) (es : List Ended) → a ≢ Finished → left + cost a ≤ there → All (λ (e : Ended). e.back + 1 ≤ there) es → All (λ (e : Ended). e.back + 1 ≤ there) (told a left es)
-  backs-after Nothing left there es goes fit h = h
-  backs-after (Gives i) left there es goes fit h = All-cons (λ (e : Ended). e.back + 1 ≤ there) (record { item = i; back = left }) es fit h
-  backs-after Finished left there es goes fit h = absurd (goes refl)
+  abbrev Leave : ℕ → List Ended → Type 0
+  Leave there es = All (λ (e : Ended). e.back + 1 ≤ there) es
 
-  backs-end : (a : Answer) (left there : ℕ) (es : List Ended) → a ≡ Finished → All (λ (e : Ended). e.back + 1 ≤ there) (told a left es)
-  backs-end a left there es e = rw e (All-nil (λ (e : Ended). e.back + 1 ≤ there))
+  backs-told : (a : Answer) (left there : ℕ) (es : List Ended) → left + cost a ≤ there → (a ≢ Finished → Leave there es)
+      → Leave there (told a left es)
+  backs-told Nothing left there es fit more = more (λ n. cc)
+  backs-told (Gives i) left there es fit more = All-cons (λ (e : Ended). e.back + 1 ≤ there) (record { item = i; back = left }) es fit
+      (more (λ n. cc))
+  backs-told Finished left there es fit more = All-nil (λ (e : Ended). e.back + 1 ≤ there)
 
-  backs-within : (n there : ℕ) (s : Iso2022Jp) (q : List ℕ) → 8 * length q + falls.held s < n → length q + iso_2022_jp_bytes s ≤ there → All (λ (e : Ended). e.back + 1 ≤ there) (run (iso_2022_jp jis0208) s q)
+  backs-within : (n there : ℕ) (s : Iso2022Jp) (q : List ℕ) → 8 * length q + falls.held s < n → length q + iso_2022_jp_bytes s ≤ there
+      → Leave there (run (iso_2022_jp jis0208) s q)
   backs-within zero there s q less fit = absurd (omega arith)
   backs-within (suc n) there s q less fit =
       let t = turn_at (iso_2022_jp jis0208) s q in
       let left = queue_after (iso_2022_jp jis0208) s q in
       let counts = counts_at (iso_2022_jp jis0208) (iso_2022_jp_holding jis0208) s q in
-      subst (λ (es : List Ended). All (λ (e : Ended). e.back + 1 ≤ there) es) (sym (laws.turn s q))
-      (elim (over t.answer) [
-        | inl done ↦ backs-end t.answer (length left) there _ done
-        | inr goes ↦
-            let fall = falls.falls s q goes in
-            backs-after t.answer (length left) there _ goes (omega arith) (backs-within n there t.state left (omega arith) (omega arith))
-      ])
+      rw (laws.turn s q) (backs-told t.answer (length left) there _ (omega arith)
+      (λ goes. let fall = falls.falls s q goes in backs-within n there t.state left (omega arith) (omega arith)))
 
   -- behind the end
   at_last : (p : List ℕ) (back : ℕ) → back + 1 ≤ iso_2022_jp_bytes (at p) → (at (take (length p - back) p)).output ≡ (at p).output
   at_last p back fit =
-      elim (by_held (at p) (at p).state refl back fit) [
+      elim (by_held (at p).state back fit) [
         | inl none ↦
             let whole : length p - back ≡ length p = omega arith in
-            ap (λ (n : ℕ). (at (take n p)).output) whole ∙ ap (λ (q : List ℕ). (at q).output) (take-length p)
+            rw (whole, take-length p) refl
         | inr (one, inside) ↦ inside_escape p (length p - back) (omega arith) inside
       ]
 
@@ -249,6 +233,7 @@ module _ (jis0208 : ℕ → Option ℕ) (laws : TurnByTurn (iso_2022_jp jis0208)
 
   -- the output state stays but behind two bytes of an escape
   pub output_stays : (p : List ℕ) (b : ℕ) → iso_2022_jp_bytes (at p) ≤ 1 → (at (p ++ b ∷ [])).output ≡ (at p).output
-  output_stays p b fit =
-      ap (λ (s : Iso2022Jp). s.output) (at-byte p b)
-      ∙ (steady (at p) (b ∷ []) (let few = begun_few (at p) (at p).state refl in omega arith)).0
+  output_stays p b fit = elim (by_state (at p).state) [
+    | inl held ↦ ap (λ (s : Iso2022Jp). s.output) (at-byte p b) ∙ (steady (at p) (b ∷ []) (omega (arith, held))).0
+    | inr (lead, e) ↦ absurd (omega (arith, ap state_bytes e))
+  ]
