@@ -1,6 +1,5 @@
 -- Flags of elements and the masks that have them as bits.
-use Rattle.std.proofs.Common.{◌≡◌, ℕ, zero, suc, ◌+◌, ◌*◌, ◌-◌, ◌/◌, ◌%◌, ◌^◌, ◌<◌, ◌≤◌, Bool, true, false, cond, List, [], ◌∷◌, ◌++◌, length, take, drop, Some, refl, sym, ap, ◌∙◌, arith, take-add, take-take, take_all, drop-drop, take-append-drop, length-drop, length-take, get_or-drop, get_or-take, pow_pos}
-use Rattle.std.specs.Prelude.{slice_get}
+use Rattle.std.proofs.Common.{◌≡◌, ℕ, zero, suc, ◌+◌, ◌*◌, ◌-◌, ◌/◌, ◌%◌, ◌^◌, ◌<◌, ◌≤◌, Bool, true, false, cond, List, [], ◌∷◌, ◌++◌, length, take, drop, Some, refl, sym, ap, ◌∙◌, arith, take-add, take-take, take_all, drop-drop, take-append-drop, length-drop, length-take, get_or-drop, get_or-take, pow_pos, slice_get, pow-suc}
 use Rattle.std.specs.Int.RustNames.{count_ones}
 use Rattle.std.proofs.lemmas.Simd.{ones-mask_l_cons}
 use Rattle.std.proofs.lemmas.Bool.{cases_Bool}
@@ -9,16 +8,12 @@ use Rattle.std.proofs.lemmas.Option.{slice_get-get_or, get_or_from_slice_get}
 use Rattle.lane_ascii.specs.Flags.{flags_set, IsNthFlag, IsSought}
 use Rattle.lane_ascii.specs.declared.bits.Sought.{Sought}
 use lib.Lanes.{mask_l}
-use Rattle.std.proofs.Math.Nat.{pow-suc}
 use Rattle.std.proofs.lemmas.Nat.{shr_high, mod_low}
-
-one_lt : (b : Bool) → cond b 1 0 < 2
-one_lt b = grind (arith, cases_Bool b)
 
 low-lt : (k : ℕ) (fs : List Bool) → mask_l (take k fs) < 2 ^ k
 low-lt zero fs = omega arith
 low-lt (suc k) [] = pow_pos (suc k)
-low-lt (suc k) (f ∷ fs) = omega (arith, one_lt f, low-lt k fs, pow-suc 2 k)
+low-lt (suc k) (f ∷ fs) = grind (arith, cases_Bool f, low-lt k fs, pow-suc 2 k)
 
 mask-split : (k : ℕ) (fs : List Bool) → mask_l fs ≡ mask_l (drop k fs) * 2 ^ k + mask_l (take k fs)
 mask-split zero fs = omega arith
@@ -47,7 +42,7 @@ set-append (f ∷ fs) gs = omega (arith, set-append fs gs)
 
 pub set-le : (fs : List Bool) → flags_set fs ≤ length fs
 set-le [] = omega arith
-set-le (f ∷ fs) = omega (arith, one_lt f, set-le fs)
+set-le (f ∷ fs) = grind (arith, cases_Bool f, set-le fs)
 
 -- the flags of a block, counted on
 pub set-more : (fs : List Bool) (at n : ℕ) → flags_set (take (at + n) fs) ≡ flags_set (take at fs) + flags_set (take n (drop at fs))

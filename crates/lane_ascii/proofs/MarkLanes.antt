@@ -1,6 +1,5 @@
 -- Line marks, as flags and lane by lane.
-use Rattle.std.proofs.Common.{◌≡◌, ℕ, zero, suc, ◌+◌, ◌-◌, ◌%◌, ◌^◌, ◌<◌, ◌≤◌, eqb, Bool, not, cond, ◌&&◌, ◌||◌, ◌==◌, List, [], ◌∷◌, length, take, drop, get_or, map, replicate, bit_and, bit_or, Some, refl, sym, ap, ap₂, ◌∙◌, arith, ◌++◌}
-use Rattle.std.specs.Prelude.{slice_get}
+use Rattle.std.proofs.Common.{◌≡◌, ℕ, zero, suc, ◌+◌, ◌-◌, ◌%◌, ◌^◌, ◌<◌, ◌≤◌, eqb, Bool, not, cond, ◌&&◌, ◌||◌, ◌==◌, List, [], ◌∷◌, length, take, drop, get_or, map, replicate, bit_and, bit_or, Some, refl, sym, ap, ap₂, ◌∙◌, arith, ◌++◌, slice_get}
 use Rattle.std.proofs.lemmas.Bool.{cases_Bool}
 use Rattle.std.proofs.lemmas.List.{take_more}
 use Rattle.std.proofs.lemmas.Simd.{zip2_splat, length-chunk, mask_l-mod, length-zip2}
@@ -91,11 +90,13 @@ ends-append : (f : Bool) (xs ys : List ℕ) → ends_cr f (xs ++ ys) ≡ ends_cr
 ends-append f [] ys = refl
 ends-append f (x ∷ xs) ys = ends-append (x == cr) xs ys
 
-pub marks-more : (f : Bool) (bs : List ℕ) (at : ℕ) → at < length bs → marks f (take (at + 1) bs) ≡ marks f (take at bs) + one_if (is_mark (ends_cr f (take at bs)) (get_or bs at 0))
-marks-more f bs at h = omega (arith, ap (marks f) (take_more bs at 0 h), marks-append f (take at bs) (get_or bs at 0 ∷ []))
-
-pub ends-more : (f : Bool) (bs : List ℕ) (at : ℕ) → at < length bs → ends_cr f (take (at + 1) bs) ≡ (get_or bs at 0 == cr)
-ends-more f bs at h = ap (ends_cr f) (take_more bs at 0 h) ∙ ends-append f (take at bs) (get_or bs at 0 ∷ [])
+pub past_more : (f : Bool) (bs : List ℕ) (at : ℕ) {behind : Bool} → behind ≡ ends_cr f (take at bs) → at < length bs
+    → (marks f (take (at + 1) bs) ≡ marks f (take at bs) + one_if (is_mark behind (get_or bs at 0))) ×
+    ((get_or bs at 0 == cr) ≡ ends_cr f (take (at + 1) bs))
+past_more f bs at e h =
+    let front = take_more bs at 0 h in
+    let last = get_or bs at 0 ∷ [] in
+    rw (e, front, marks-append f (take at bs) last, ends-append f (take at bs) last) (omega arith, refl)
 
 pub marks-le : (f : Bool) (bs : List ℕ) → marks f bs ≤ length bs
 marks-le f bs = omega (arith, marks-flags f bs, set-le (mark_flags f bs), length-flags f bs)
