@@ -1,8 +1,7 @@
 -- The bytes in front of a text that the encoder puts as they are in its state ASCII.
-use Rattle.std.proofs.Common.{◌≡◌, ℕ, ◌<◌, true, List, All, Option, get_or, take, length, ◌≤◌, rules, subst, sym}
+use Rattle.std.proofs.Common.{◌≡◌, ℕ, ◌<◌, true, List, All, Option, get_or, take, length, ◌≤◌, rules, subst, sym, get_or-take}
 use Rattle.std.proofs.lemmas.Bool.Decides.{nat_tests}
 use Rattle.std.proofs.lemmas.List.Folds.{length-prefix_len}
-use Rattle.std.proofs.lemmas.List.{get_or-take}
 use Rattle.std.proofs.lemmas.List.Sums.{prefix_len_passes, prefix_len-le-length}
 use Rattle.lane_ascii.specs.Runs.{is_plain, plain_len}
 use Rattle.iso2022jp.specs.declared.output.OutputState.TheVariants.{Ascii}

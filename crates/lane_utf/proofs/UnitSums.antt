@@ -1,5 +1,5 @@
 -- Sums of widths.
-use Rattle.std.proofs.Common.{◌≡◌, refl, sym, ap, ◌∙◌, ℕ, suc, ◌+◌, ◌-◌, ◌*◌, ◌/◌, ◌%◌, ◌≤◌, Bool, true, false, List, [], ◌∷◌, ◌++◌, length, take, drop, arith, length-append, None, Fits, w16, get_or, ◌<◌, Ok, Err}
+use Rattle.std.proofs.Common.{◌≡◌, refl, sym, ap, ◌∙◌, ℕ, suc, ◌+◌, ◌-◌, ◌*◌, ◌/◌, ◌%◌, ◌≤◌, Bool, true, false, List, [], ◌∷◌, ◌++◌, length, take, drop, arith, length-append, None, Fits, w16, get_or, ◌<◌, Ok, Err, mul-suc, mul-le-mul_left}
 use Rattle.std.proofs.lemmas.Bool.Decides.{nat_tests}
 use Rattle.lane_utf.specs.Widths.{total_width, utf8_width}
 use Rattle.lane_utf.specs.Weights.{unit_weight}
@@ -12,7 +12,6 @@ use Rattle.lane_utf.specs.Conversions.{utf8_answer}
 use Rattle.lane_utf.specs.declared.faults.ToUtf8Fault.TheVariants.{NeedsRoom as needs_room}
 use Rattle.lane_utf.specs.Utf16.{is_lead, is_trail, code_points, pair_code_point, first_lone, utf16_form, utf16_forms}
 use Rattle.lane_utf.proofs.Putting.{form_low}
-use Rattle.std.proofs.Math.Nat.{mul-suc, mul-le-mul_left}
 use Rattle.lane_utf.proofs.Fronts.{single_front, pair_front, single_trails, pair_trails, lead_bounds, trail_bounds}
 
 pub total-append : (width : ℕ → ℕ) (xs ys : List ℕ) → total_width width (xs ++ ys) ≡ total_width width xs + total_width width ys

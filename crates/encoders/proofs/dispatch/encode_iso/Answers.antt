@@ -1,5 +1,4 @@
-use Rattle.std.proofs.Common.{Bool, true, ap}
-use Rattle.std.specs.Str.{chars}
+use Rattle.std.proofs.Common.{Bool, true, ap, chars}
 use Rattle.iso2022jp.specs.declared.output.OutputState.TheVariants.{Ascii}
 use Rattle.encoders.specs.Encode.{bytes_only}
 use Rattle.encoders.specs.Steps.{encoded_iso}

@@ -1,5 +1,4 @@
-use Rattle.std.proofs.Common.{◌≡◌, ◌∙◌, Bool, true, false, not, refl, subst, sym, take, drop}
-use Rattle.std.proofs.lemmas.Bool.{eqb-true}
+use Rattle.std.proofs.Common.{◌≡◌, ◌∙◌, Bool, true, false, not, refl, subst, sym, take, drop, eqb-true}
 use Rattle.lane_utf.specs.Scan.{Matched}
 use Rattle.lane_utf.proofs.UnitMasks.{matched_at, unpaired}
 use Rattle.lane_utf.proofs.surrogates.is_matched.Goals as goal

@@ -1,5 +1,4 @@
-use Rattle.std.proofs.Common.{◌∙◌, ap, length, arith, ◌≡◌}
-use Rattle.std.specs.Str.{chars}
+use Rattle.std.proofs.Common.{◌∙◌, ap, length, arith, ◌≡◌, chars}
 use Rattle.lane_utf.specs.Utf16.{utf16_forms}
 use Rattle.lane_utf.specs.Widths.{utf16_width, total_width}
 use Rattle.lane_utf.proofs.Decoding.{forms-width}

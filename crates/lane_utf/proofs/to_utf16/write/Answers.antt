@@ -1,8 +1,7 @@
-use Rattle.std.proofs.Common.{◌+◌, ◌≤◌, ◌∙◌, ap, subst, length, drop, take, ◌++◌, arith, drop-drop, length-drop}
+use Rattle.std.proofs.Common.{◌+◌, ◌≤◌, ◌∙◌, ap, subst, length, drop, take, ◌++◌, arith, drop-drop, length-drop, chars, IsUtf8}
 use Rattle.std.proofs.lemmas.List.{drop_all}
 use Rattle.std.proofs.lemmas.Simd.{length-chunk}
 use Rattle.std.proofs.lemmas.Str.{chars-nil}
-use Rattle.std.specs.Str.{chars, IsUtf8}
 use Rattle.lane_utf.specs.Utf16.{utf16_form, utf16_forms}
 use Rattle.lane_utf.proofs.Decoding.{ascii-text, ascii-forms, form-width}
 use Rattle.lane_utf.proofs.Putting.{writing_room, writing_goes_on, writing_done}

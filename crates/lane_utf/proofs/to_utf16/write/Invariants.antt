@@ -1,5 +1,4 @@
-use Rattle.std.proofs.Common.{length, ◌-◌, ◌≤◌, drop}
-use Rattle.std.specs.Str.{chars, IsUtf8}
+use Rattle.std.proofs.Common.{length, ◌-◌, ◌≤◌, drop, chars, IsUtf8}
 use Rattle.lane_utf.specs.Utf16.{utf16_forms}
 use Rattle.lane_utf.specs.Writing.{IsWriting}
 use Rattle.lane_utf.proofs.to_utf16.write.Given as goal

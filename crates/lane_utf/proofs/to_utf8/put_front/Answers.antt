@@ -1,5 +1,4 @@
-use Rattle.std.proofs.Common.{ap}
-use Rattle.std.specs.Str.{encode_utf8_all}
+use Rattle.std.proofs.Common.{ap, encode_utf8_all}
 use Rattle.lane_utf.proofs.Progress.{scalar_room, scalar_up_to}
 use Rattle.lane_utf.proofs.to_utf8.put_front.Goals as goal
 
