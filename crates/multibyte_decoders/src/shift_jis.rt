@@ -16,6 +16,9 @@ use index_loader::{FormedIndex, Utf8Form};
 /// index.
 pub type ShiftJisDecoder<'i> = PairDecoder<'i, ShiftJisRules>;
 
+/// The first pointer of private use.
+const PRIVATE_USE: u32 = 8836;
+
 /// What Shift_JIS says of its single bytes and pairs.
 pub enum ShiftJisRules {}
 
@@ -70,7 +73,11 @@ fn known_pointer(lead: u8, trail: u8) -> Option<u32>
 {
     let row = u32::from(SHIFT_JIS_ROWS[usize::from(lead)]);
     let pointer = row + u32::from(SHIFT_JIS_COLUMNS[usize::from(trail)]);
-    if pointer < 8836 { Some(pointer) } else { None }
+    if pointer < PRIVATE_USE {
+        Some(pointer)
+    } else {
+        None
+    }
 }
 
 /// Whether the byte is the lead of a pair.
