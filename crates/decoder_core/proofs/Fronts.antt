@@ -1,5 +1,5 @@
 -- Runs of characters of a byte or two: each is one item more, and leaves the state as it is.
-use Rattle.std.proofs.Common.{◌≡◌, ℕ, ◌+◌, ◌*◌, ◌<◌, ◌≤◌, List, [], ◌∷◌, ◌++◌, Option, Some, None, IfSome, length, take, drop, get_or, ℤ, pos, ◌+ℤ◌, ◌-ℤ◌, refl, sym, ap, subst, ◌∙◌, arith, append-nil, lit≤, Bool, true, false, nat_lt}
+use Rattle.std.proofs.Common.{◌≡◌, ℕ, ◌+◌, ◌*◌, ◌<◌, ◌≤◌, List, [], ◌∷◌, ◌++◌, Option, Some, None, IfSome, length, take, drop, get_or, ℤ, pos, ◌+ℤ◌, refl, sym, ap, subst, ◌∙◌, arith, append-nil, lit≤, Bool, true, false, nat_lt}
 use Rattle.std.proofs.Math.Seq.{take-add}
 use Rattle.std.specs.Char.{len_utf8, IsScalar, encode_utf8}
 use Rattle.std.specs.Simd.Lanes.{put_chunk}
@@ -22,7 +22,7 @@ use Rattle.decoder_core.specs.Queue.{Table, Falls, Fed, feed}
 use Rattle.decoder_core.specs.Shown.{Shown, shown_from}
 use Rattle.decoder_core.proofs.Running.{feed-nil, feed-append}
 use Rattle.decoder_core.proofs.Showing.{shown-append}
-use Rattle.decoder_core.proofs.Turning.{held-shown, given-shown, held-state, given-state}
+use Rattle.decoder_core.proofs.Turning.{given, held, at-front}
 
 -- ---- one code point more
 
@@ -90,21 +90,8 @@ module _ {S : Type 0} (table : Table S) (f : Falls table) (s : S) where
   byte-front : (stride : Stride) (bytes : List ℕ) (at b c : ℕ) → TakesByte table s b c → at < length bytes → b ≡ get_or bytes at 0 → 1 ≡ width_of stride c
       → IsFront table s stride bytes at c 1
   byte-front stride bytes at b c turn within b_is wide =
-      let front : take 1 (drop at bytes) ≡ b ∷ [] = take-one bytes at within ∙ ap (λ (x : ℕ). x ∷ []) (sym b_is) in
-      record {
-        within = omega (arith, within);
-        some = omega arith;
-        wide = wide;
-        stays =
-            ap (λ (xs : List ℕ). (feed table s xs).state) front
-            ∙ given-state table f s s b c [] turn
-            ∙ ap (λ (x : Fed S). x.state) (feed-nil table f s);
-        items = λ read.
-            let end : pos (read + 1) -ℤ pos 0 ≡ pos (read + 1) = omega (arith, ints) in
-            ap (λ (xs : List ℕ). shown_from table read s xs) front
-            ∙ given-shown table f s s b c read [] turn
-            ∙ ap (λ (z : ℤ). record { item = One c; end = z; after = s } ∷ []) end;
-      }
+      at-front table f s stride bytes (b ∷ []) at c (take-one bytes at within ∙ ap (λ (x : ℕ). x ∷ []) (sym b_is)) (given table f s s b c turn)
+      (omega (arith, within)) (omega arith) wide
 
   -- an ASCII byte, between pairs and between bytes
   ascii-pair : (bytes : List ℕ) (at c : ℕ) → TakesByte table s c c → at < length bytes → c ≡ get_or bytes at 0 → c < 0x80 → IsFront table s Pairs bytes at c 1
@@ -134,24 +121,9 @@ module _ {S : Type 0} (table : Table S) (f : Falls table) (s : S) where
   pair-front bytes at c takes within high =
       let b = get_or bytes at 0 in
       let t = get_or bytes (at + 1) 0 in
-      let held = (table s (Some b)).state in
-      let front : take 2 (drop at bytes) ≡ b ∷ t ∷ [] = take-two bytes at within in
-      record {
-        within = omega (arith, within);
-        some = omega arith;
-        wide = rw (le-ltb c 0x80 high) refl;
-        stays =
-            ap (λ (xs : List ℕ). (feed table s xs).state) front
-            ∙ held-state table f s held b (t ∷ []) takes.0
-            ∙ given-state table f held s t c [] takes.1
-            ∙ ap (λ (x : Fed S). x.state) (feed-nil table f s);
-        items = λ read.
-            let end : pos (read + 1 + 1) -ℤ pos 0 ≡ pos (read + 2) = omega (arith, ints) in
-            ap (λ (xs : List ℕ). shown_from table read s xs) front
-            ∙ held-shown table f s held b read (t ∷ []) takes.0
-            ∙ given-shown table f held s t c (read + 1) [] takes.1
-            ∙ ap (λ (z : ℤ). record { item = One c; end = z; after = s } ∷ []) end;
-      }
+      let next = (table s (Some b)).state in
+      at-front table f s Pairs bytes (b ∷ t ∷ []) at c (take-two bytes at within)
+      (held table f s next s b c (t ∷ []) takes.0 (given table f next s t c takes.1)) (omega (arith, within)) (omega arith) (rw (le-ltb c 0x80 high) refl)
 
   -- one item more
   front-more : (stride : Stride) (bytes block new : List ℕ) (at written c width end : ℕ)

@@ -34,6 +34,15 @@ order-by false a b e = inr (ltb-false a b e)
 pub order : (a b : ℕ) → (a < b) ⊎ (b ≤ a)
 order a b = order-by (nat_lt a b) a b refl
 
+-- the two ranges of scalar values
+pub narrow : (c : ℕ) → (c < 55296) ⊎ ((57344 ≤ c) × (c < 1114112)) → (c < 55296) ⊎ (57344 ≤ c)
+narrow c (inl l) = inl l
+narrow c (inr l) = inr l.0
+
+pub most : (c : ℕ) → (c < 55296) ⊎ ((57344 ≤ c) × (c < 1114112)) → c < 1114112
+most c (inl l) = Prim.omega (arith, l)
+most c (inr l) = l.1
+
 pair-few : (k : Bool) (c : ℕ) → nat_lt c 0x80 ≡ k → width_of Pairs c ≤ 2 * len_utf8 c
 pair-few true c e =
     let some = len_utf8_bounds c in

@@ -1,24 +1,19 @@
 -- A decoder to which, in one of its states, each byte of a class is its own code point takes runs of them in bulk.
-use Rattle.std.proofs.Common.{◌≡◌, ℕ, zero, suc, ◌+◌, ◌<◌, ◌≤◌, Bool, true, false, List, [], ◌∷◌, cond, nat_lt, length, take, ℤ, pos, ◌+ℤ◌, ◌-ℤ◌, refl, sym, ap, ◌∙◌, subst, arith, lit≤, not, ◌&&◌, ◌||◌, ◌==◌}
+use Rattle.std.proofs.Common.{◌≡◌, ℕ, zero, suc, ◌+◌, ◌<◌, ◌≤◌, Bool, true, false, List, [], ◌∷◌, cond, nat_lt, length, take, pos, refl, sym, ap, ◌∙◌, subst, arith, lit≤, not, ◌||◌, ◌==◌}
 use Rattle.std.specs.Str.{chars, IsAscii, IsUtf8}
-use Rattle.std.specs.Char.{len_utf8}
-use Rattle.std.proofs.lemmas.Bool.{ltb-true, eqb-false}
-use Rattle.std.proofs.lemmas.Int.{ints}
+use Rattle.std.proofs.lemmas.Bool.{ltb-true, eqb-false, and_parts}
 use Rattle.std.proofs.lemmas.List.{length-take}
 use Rattle.std.proofs.lemmas.List.Sums.{prefix_len-le-length}
 use Rattle.std.proofs.lemmas.Str.{chars-IsAscii, IsUtf8-from_ascii, len_utf8_ascii}
 use Rattle.std.proofs.lemmas.Str.Ascii.{IsAscii-nil, IsAscii-cons}
-use Rattle.decoder_core.specs.declared.item.Item.TheVariants.{One}
 use Rattle.decoder_core.specs.declared.bulk.Bulk.{Bulk}
 use Rattle.decoder_core.specs.declared.bulk.Stride.TheVariants.{Utf8}
 use Rattle.decoder_core.specs.declared.ascii_runs.AsciiRuns.{AsciiRuns}
 use Rattle.decoder_core.specs.declared.ascii_runs.AsciiRuns.TheVariants.{None, All, WithoutEscapes}
-use Rattle.decoder_core.specs.Queue.{Table, Falls, Fed, feed}
-use Rattle.decoder_core.specs.Shown.{Shown, shown_from}
+use Rattle.decoder_core.specs.Queue.{Table, Falls}
 use Rattle.decoder_core.specs.Bulk.{IsBulk, plain_from, run_width}
 use Rattle.decoder_core.specs.AsciiRuns.{IsOf, is_of, run_len, TakesAscii, IsRunBulk}
-use Rattle.decoder_core.proofs.Running.{feed-nil}
-use Rattle.decoder_core.proofs.Turning.{given-shown, given-state}
+use Rattle.decoder_core.proofs.Turning.{given, ArePassed, passed-shown, passed-stays}
 
 passes : (c : Bool) (n m : ℕ) → suc n ≤ cond c (1 + m) 0 → (c ≡ true) × (n ≤ m)
 passes true n m h = (refl, omega arith)
@@ -56,10 +51,6 @@ run-front runs n k front bytes is run =
 
 -- ---- the bytes of a class
 
-both : (x y : Bool) → (x && y) ≡ true → (x ≡ true) × (y ≡ true)
-both true y e = (refl, e)
-both false y e = absurd Prim.cc
-
 neither : (x y z : Bool) → not (x || y || z) ≡ true → (x ≡ false) × (y ≡ false) × (z ≡ false)
 neither false false false e = (refl, refl, refl)
 neither false false true e = absurd Prim.cc
@@ -70,7 +61,7 @@ pub of-class : (runs : AsciiRuns) (b : ℕ) → is_of runs b ≡ true → IsOf r
 of-class None b e = absurd Prim.cc
 of-class All b e = ltb-true b 0x80 e
 of-class WithoutEscapes b e =
-    let two = both (nat_lt b 0x80) _ e in
+    let two = and_parts (nat_lt b 0x80) _ e in
     let three = neither (b == 0x0E) (b == 0x0F) (b == 0x1B) two.1 in
     (ltb-true b 0x80 two.0, eqb-false b 0x0E three.0, eqb-false b 0x0F three.1, eqb-false b 0x1B three.2)
 
@@ -98,25 +89,12 @@ run-bytes runs (suc n) (b ∷ xs) h =
     omega (arith, one, rest)
 
 module _ {S : Type 0} (table : Table S) (f : Falls table) (idle : S) (runs : AsciiRuns) (takes : TakesAscii table idle runs) where
-  run-stays : (n : ℕ) (xs : List ℕ) → n ≤ run_len runs xs → (feed table idle (take n xs)).state ≡ idle
-  run-stays zero xs h = ap (λ (x : Fed S). x.state) (feed-nil table f idle)
-  run-stays (suc n) [] h = absurd (omega arith)
-  run-stays (suc n) (b ∷ xs) h =
+  run-passed : (n : ℕ) (xs : List ℕ) → n ≤ run_len runs xs → ArePassed table f idle Utf8 (take n xs) (take n xs)
+  run-passed zero xs h = refl
+  run-passed (suc n) [] h = absurd (omega arith)
+  run-passed (suc n) (b ∷ xs) h =
       let p = run-first runs n b xs h in
-      given-state table f idle idle b b (take n xs) (takes b (of-class runs b p.0)) ∙ run-stays n xs p.1
-
-  run-shown : (n read : ℕ) (xs : List ℕ) → n ≤ run_len runs xs → shown_from table read idle (take n xs) ≡ plain_from Utf8 (pos read) idle (take n xs)
-  run-shown zero read xs h = refl
-  run-shown (suc n) read [] h = absurd (omega arith)
-  run-shown (suc n) read (b ∷ xs) h =
-      let p = run-first runs n b xs h in
-      let width = len_utf8_ascii b (first-ascii runs b p.0) in
-      let end : pos (read + 1) -ℤ pos 0 ≡ pos read +ℤ pos (len_utf8 b) = rw width (omega (arith, ints)) in
-      let next : pos (read + 1) ≡ pos read +ℤ pos (len_utf8 b) = rw width (omega (arith, ints)) in
-      given-shown table f idle idle b b read (take n xs) (takes b (of-class runs b p.0))
-      ∙ ap (λ (shown : List (Shown S)). record { item = One b; end = pos (read + 1) -ℤ pos 0; after = idle } ∷ shown) (run-shown n (read + 1) xs p.1)
-      ∙ ap (λ (z : ℤ). record { item = One b; end = z; after = idle } ∷ plain_from Utf8 (pos (read + 1)) idle (take n xs)) end
-      ∙ ap (λ (z : ℤ). record { item = One b; end = pos read +ℤ pos (len_utf8 b); after = idle } ∷ plain_from Utf8 z idle (take n xs)) next
+      (b ∷ [], take n xs, refl, given table f idle idle b b (takes b (of-class runs b p.0)), sym (len_utf8_ascii b (first-ascii runs b p.0)), run-passed n xs p.1)
 
   pub run_is_bulk : (bytes : List ℕ) (bulk : Bulk) (block : List ℕ) → IsRunBulk runs bytes bulk block → IsBulk table idle bytes bulk block
   run_is_bulk bytes bulk block a =
@@ -129,13 +107,13 @@ module _ {S : Type 0} (table : Table S) (f : Falls table) (idle : S) (runs : Asc
         within = omega (arith, a.run, longest);
         room = subst (λ (n : ℕ). n ≤ 1024) (sym a.as_taken) a.room;
         text = subst (λ (xs : List ℕ). IsUtf8 xs) (sym text) (IsUtf8-from_ascii q ascii);
-        stays = run-stays bulk.taken bytes a.run;
+        stays = passed-stays table f idle Utf8 q q (run-passed bulk.taken bytes a.run);
         whole =
             ap (λ (xs : List ℕ). run_width bulk.stride xs) spelt
             ∙ ap (λ (s : _). run_width s q) a.stride
             ∙ run-bytes runs bulk.taken bytes a.run;
         items = λ read.
-            run-shown bulk.taken read bytes a.run
+            passed-shown table f idle Utf8 q q (run-passed bulk.taken bytes a.run) read
             ∙ ap (λ (s : _). plain_from s (pos read) idle q) (sym a.stride)
             ∙ ap (λ (xs : List ℕ). plain_from bulk.stride (pos read) idle xs) (sym spelt);
       }

@@ -1,11 +1,15 @@
--- One turn in front of a queue: one that holds its byte, and one that gives a code point.
-use Rattle.std.proofs.Common.{◌≡◌, ℕ, ◌+◌, List, [], ◌∷◌, ◌++◌, Some, length, pos, ◌-ℤ◌, ap, ◌∙◌}
+-- Turns in front of a queue: those that hold their bytes, and one that gives a code point; and runs of code points without gaps.
+use Rattle.std.proofs.Common.{◌≡◌, ℕ, suc, ◌+◌, ◌<◌, ◌≤◌, List, [], ◌∷◌, ◌++◌, Some, length, take, drop, pos, ℤ, ◌+ℤ◌, ◌-ℤ◌, sym, ap, ◌∙◌, arith, append-nil}
+use Rattle.std.proofs.lemmas.Int.{ints}
 use Rattle.decoder_core.specs.declared.item.Ended.{Ended}
 use Rattle.decoder_core.specs.declared.item.Item.TheVariants.{One}
 use Rattle.decoder_core.specs.declared.handler.Answer.TheVariants.{Gives}
+use Rattle.decoder_core.specs.declared.bulk.Stride.{Stride}
+use Rattle.decoder_core.specs.Bulk.{plain_from, width_of}
+use Rattle.decoder_core.specs.Fronts.{IsFront}
 use Rattle.decoder_core.specs.Queue.{Turn, Table, Falls, Fed, feed, fed_after}
 use Rattle.decoder_core.specs.Forms.{gives, holds}
-use Rattle.decoder_core.specs.Shown.{shown_at, shown_from}
+use Rattle.decoder_core.specs.Shown.{Shown, shown_at, shown_from}
 use Rattle.decoder_core.proofs.Running.{feed-nil, feed-turn, feed-append}
 
 module _ {S : Type 0} (table : Table S) (f : Falls table) where
@@ -15,27 +19,75 @@ module _ {S : Type 0} (table : Table S) (f : Falls table) where
       ∙ ap (λ (t : Turn S). fed_after t.answer (length (t.back ++ [])) t.state (feed table t.state (t.back ++ []))) turn
       ∙ feed-nil table f next
 
-  pub held-shown : (s next : S) (b read : ℕ) (q : List ℕ) → table s (Some b) ≡ holds next → shown_from table read s (b ∷ q) ≡ shown_from table (read + 1) next q
-  held-shown s next b read q turn =
-      ap (λ (x : Fed S). shown_at (read + 1) x.state x.items ++ shown_from table (read + 1) x.state q) (held-fed s next b turn)
-
   given-fed : (s next : S) (b c : ℕ) → table s (Some b) ≡ gives next (One c) [] → feed table s (b ∷ []) ≡ record { state = next; items = record { item = One c; back = 0 } ∷ [] }
   given-fed s next b c turn =
       feed-turn table f s b []
       ∙ ap (λ (t : Turn S). fed_after t.answer (length (t.back ++ [])) t.state (feed table t.state (t.back ++ []))) turn
       ∙ ap (λ (x : Fed S). fed_after (Gives (One c)) 0 next x) (feed-nil table f next)
 
-  pub given-shown : (s next : S) (b c read : ℕ) (q : List ℕ) → table s (Some b) ≡ gives next (One c) []
-      → shown_from table read s (b ∷ q) ≡ record { item = One c; end = pos (read + 1) -ℤ pos 0; after = next } ∷ shown_from table (read + 1) next q
-  given-shown s next b c read q turn =
-      ap (λ (x : Fed S). shown_at (read + 1) x.state x.items ++ shown_from table (read + 1) x.state q) (given-fed s next b c turn)
-
   step-state : (s next : S) (b : ℕ) (items : List Ended) (q : List ℕ) → feed table s (b ∷ []) ≡ record { state = next; items = items }
       → (feed table s (b ∷ q)).state ≡ (feed table next q).state
   step-state s next b items q fed = ap (λ (x : Fed S). x.state) (feed-append table f s (b ∷ []) q) ∙ ap (λ (x : Fed S). (feed table x.state q).state) fed
 
-  pub held-state : (s next : S) (b : ℕ) (q : List ℕ) → table s (Some b) ≡ holds next → (feed table s (b ∷ q)).state ≡ (feed table next q).state
-  held-state s next b q turn = step-state s next b [] q (held-fed s next b turn)
+  -- what some bytes do that are one code point, whatever is behind them
+  pub record Passes (s next : S) (bytes : List ℕ) (c : ℕ) : Type 0 where
+    pub shown : (read : ℕ) (q : List ℕ)
+        → shown_from table read s (bytes ++ q)
+        ≡ record { item = One c; end = pos (read + length bytes); after = next } ∷ shown_from table (read + length bytes) next q
+    pub state : (q : List ℕ) → (feed table s (bytes ++ q)).state ≡ (feed table next q).state
 
-  pub given-state : (s next : S) (b c : ℕ) (q : List ℕ) → table s (Some b) ≡ gives next (One c) [] → (feed table s (b ∷ q)).state ≡ (feed table next q).state
-  given-state s next b c q turn = step-state s next b _ q (given-fed s next b c turn)
+  pub given : (s next : S) (b c : ℕ) → table s (Some b) ≡ gives next (One c) [] → Passes s next (b ∷ []) c
+  given s next b c turn =
+      let fed = given-fed s next b c turn in
+      record {
+        shown = λ read q.
+            let end : pos (read + 1) -ℤ pos 0 ≡ pos (read + 1) = omega (arith, ints) in
+            ap (λ (x : Fed S). shown_at (read + 1) x.state x.items ++ shown_from table (read + 1) x.state q) fed
+            ∙ ap (λ (z : ℤ). record { item = One c; end = z; after = next } ∷ shown_from table (read + 1) next q) end;
+        state = λ q. step-state s next b _ q fed;
+      }
+
+  pub held : (s next last : S) (b c : ℕ) (bytes : List ℕ) → table s (Some b) ≡ holds next → Passes next last bytes c → Passes s last (b ∷ bytes) c
+  held s next last b c bytes turn others =
+      let fed = held-fed s next b turn in
+      record {
+        shown = λ read q.
+            let far : read + 1 + length bytes ≡ read + suc (length bytes) = omega arith in
+            ap (λ (x : Fed S). shown_at (read + 1) x.state x.items ++ shown_from table (read + 1) x.state (bytes ++ q)) fed
+            ∙ others.shown (read + 1) q
+            ∙ ap (λ (n : ℕ). record { item = One c; end = pos n; after = last } ∷ shown_from table n last q) far;
+        state = λ q. step-state s next b [] (bytes ++ q) fed ∙ others.state q;
+      }
+
+  module _ (s : S) (stride : Stride) where
+    -- they are the one item at a place
+    pub at-front : (bytes here : List ℕ) (at c : ℕ) → take (length here) (drop at bytes) ≡ here → Passes s s here c → at + length here ≤ length bytes
+        → 0 < length here → length here ≡ width_of stride c → IsFront table s stride bytes at c (length here)
+    at-front bytes here at c front passes within some wide =
+        let whole = front ∙ sym (append-nil here) in
+        record {
+          within = within;
+          some = some;
+          wide = wide;
+          stays = ap (λ (xs : List ℕ). (feed table s xs).state) whole ∙ passes.state [] ∙ ap (λ (x : Fed S). x.state) (feed-nil table f s);
+          items = λ read. ap (λ (xs : List ℕ). shown_from table read s xs) whole ∙ passes.shown read [];
+        }
+
+    -- code points one behind the other, each of which leads back to the state
+    abbrev pub ArePassed : List ℕ → List ℕ → Type 0
+    ArePassed [] bytes = bytes ≡ []
+    ArePassed (c ∷ cs) bytes =
+        (here : List ℕ) × (others : List ℕ) × (bytes ≡ here ++ others) × Passes s s here c × (length here ≡ width_of stride c) × ArePassed cs others
+
+    pub passed-shown : (cs bytes : List ℕ) → ArePassed cs bytes → (read : ℕ) → shown_from table read s bytes ≡ plain_from stride (pos read) s cs
+    passed-shown [] bytes none read = ap (λ (xs : List ℕ). shown_from table read s xs) none
+    passed-shown (c ∷ cs) bytes p read =
+        let end : pos (read + length p.0) ≡ pos read +ℤ pos (width_of stride c) = omega (arith, ints, p.4) in
+        ap (λ (xs : List ℕ). shown_from table read s xs) p.2
+        ∙ p.3.shown read p.1
+        ∙ ap (λ (xs : List (Shown S)). record { item = One c; end = pos (read + length p.0); after = s } ∷ xs) (passed-shown cs p.1 p.5 (read + length p.0))
+        ∙ ap (λ (z : ℤ). record { item = One c; end = z; after = s } ∷ plain_from stride z s cs) end
+
+    pub passed-stays : (cs bytes : List ℕ) → ArePassed cs bytes → (feed table s bytes).state ≡ s
+    passed-stays [] bytes none = ap (λ (xs : List ℕ). (feed table s xs).state) none ∙ ap (λ (x : Fed S). x.state) (feed-nil table f s)
+    passed-stays (c ∷ cs) bytes p = ap (λ (xs : List ℕ). (feed table s xs).state) p.2 ∙ p.3.state p.1 ∙ passed-stays cs p.1 p.5

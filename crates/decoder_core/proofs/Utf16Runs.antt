@@ -1,7 +1,6 @@
 -- Runs of UTF-16 without lone surrogates: each code point is an item, and leaves nothing pending.
-use Rattle.std.proofs.Common.{◌≡◌, ℕ, zero, suc, ◌+◌, ◌-◌, ◌*◌, ◌/◌, ◌%◌, ◌<◌, ◌≤◌, Bool, true, false, List, [], ◌∷◌, ◌++◌, ◌&&◌, Some, None, Ok, Err, Result, Option, if◌then◌else◌, nat_le, take, drop, get_or, set, subst, append_assoc, append-nil, length, ℤ, pos, ◌+ℤ◌, ◌-ℤ◌, refl, sym, ap, ◌∙◌, arith, ◌⊎◌, inl, inr}
-use Rattle.std.proofs.lemmas.Bool.{le-leb, lt-leb, lt-ltb, le-ltb, leb-true}
-use Rattle.std.proofs.lemmas.Int.{ints}
+use Rattle.std.proofs.Common.{◌≡◌, ℕ, zero, suc, ◌+◌, ◌-◌, ◌*◌, ◌/◌, ◌%◌, ◌<◌, ◌≤◌, Bool, true, false, List, [], ◌∷◌, ◌++◌, Some, None, Ok, Err, Result, Option, if◌then◌else◌, nat_le, take, drop, get_or, set, subst, append_assoc, append-nil, length, pos, refl, sym, ap, ◌∙◌, arith, ◌⊎◌, inl, inr}
+use Rattle.std.proofs.lemmas.Bool.{le-leb, lt-leb, lt-ltb, le-ltb, leb-true, and_parts}
 use Rattle.std.proofs.Math.Utf8.{scalar, scalars, scalar_cases}
 use Rattle.std.specs.Str.{chars, encode_utf8_all, IsUtf8}
 use Rattle.std.proofs.lemmas.List.{length-take-le, take-take, drop_more, drop_all, take_more_set}
@@ -20,26 +19,16 @@ use Rattle.decoder_core.specs.declared.utf16.ByteOrder.TheVariants.{BigEndian, L
 use Rattle.decoder_core.specs.Bulk.{IsBulk, plain_from, run_width, width_of}
 use Rattle.decoder_core.specs.Forms.{gives, holds}
 use Rattle.decoder_core.specs.Holding.{falls_of}
-use Rattle.decoder_core.specs.Queue.{Falls, Fed, feed}
-use Rattle.decoder_core.specs.Shown.{Shown, shown_from}
-use Rattle.decoder_core.specs.Utf16.{Utf16, utf16, utf16_start, utf16_single, utf16_second, unit_of, units_of, pair_code_point}
+use Rattle.decoder_core.specs.Queue.{Falls}
+use Rattle.decoder_core.specs.Utf16.{utf16, utf16_start, utf16_single, utf16_second, unit_of, units_of, pair_code_point}
 use Rattle.decoder_core.specs.Utf16Laws.{utf16_holding}
-use Rattle.decoder_core.proofs.Running.{feed-nil}
-use Rattle.decoder_core.proofs.ItemWidths.{utf8-width, order as compare}
-use Rattle.decoder_core.proofs.Turning.{held-shown, given-shown, held-state, given-state}
+use Rattle.decoder_core.proofs.ItemWidths.{utf8-width, order as compare, narrow, most}
+use Rattle.decoder_core.proofs.Turning.{Passes, given, held, ArePassed, passed-shown, passed-stays}
 
 abbrev falls : (order : ByteOrder) → Falls (utf16 order)
 falls order = falls_of _ (utf16_holding order)
 
 -- ---- single units and pairs
-
-narrow : (c : ℕ) → (c < 55296) ⊎ ((57344 ≤ c) × (c < 1114112)) → (c < 55296) ⊎ (57344 ≤ c)
-narrow c (inl l) = inl l
-narrow c (inr l) = inr l.0
-
-most : (c : ℕ) → (c < 55296) ⊎ ((57344 ≤ c) × (c < 1114112)) → c < 1114112
-most c (inl l) = omega (arith, l)
-most c (inr l) = l.1
 
 single-turn : (c : ℕ) → (c < 55296) ⊎ (57344 ≤ c) → utf16_single c ≡ gives utf16_start (One c) []
 single-turn c (inl l) = rw (lt-leb 0xD800 c l, lt-leb 0xDC00 c (omega (arith, l))) refl
@@ -75,43 +64,20 @@ module _ (order : ByteOrder) where
       ∙ trail-turn (lead_of c) (trail_of c) (a ∷ b ∷ []) (omega arith) (omega arith)
       ∙ ap (λ (n : ℕ). gives utf16_start (One n) []) same
 
-  unit-shown : (a b c read : ℕ) (q : List ℕ) → unit_of order a b ≡ c → (c < 55296) ⊎ (57344 ≤ c)
-      → shown_from (utf16 order) read utf16_start (a ∷ b ∷ q)
-      ≡ record { item = One c; end = pos (read + 2); after = utf16_start } ∷ shown_from (utf16 order) (read + 2) utf16_start q
-  unit-shown a b c read q unit range =
-      let two : read + 1 + 1 ≡ read + 2 = omega arith in
-      let end : pos (read + 1 + 1) -ℤ pos 0 ≡ pos (read + 2) = omega (arith, ints) in
-      held-shown (utf16 order) (falls order) utf16_start _ a read (b ∷ q) refl
-      ∙ given-shown (utf16 order) (falls order) _ utf16_start b c (read + 1) q (one-turn a b c unit range)
-      ∙ ap (λ (z : ℤ). record { item = One c; end = z; after = utf16_start } ∷ shown_from (utf16 order) (read + 1 + 1) utf16_start q) end
-      ∙ ap (λ (n : ℕ). record { item = One c; end = pos (read + 2); after = utf16_start } ∷ shown_from (utf16 order) n utf16_start q) two
+  abbrev Passed : List ℕ → ℕ → Type 0
+  Passed bytes c = Passes (utf16 order) (falls order) utf16_start utf16_start bytes c
 
-  pair-shown : (a b d e c read : ℕ) (q : List ℕ) → unit_of order a b ≡ lead_of c → unit_of order d e ≡ trail_of c → 65536 ≤ c → c < 1114112
-      → shown_from (utf16 order) read utf16_start (a ∷ b ∷ d ∷ e ∷ q)
-      ≡ record { item = One c; end = pos (read + 4); after = utf16_start } ∷ shown_from (utf16 order) (read + 4) utf16_start q
-  pair-shown a b d e c read q lead trail low high =
-      let four : read + 1 + 1 + 1 + 1 ≡ read + 4 = omega arith in
-      let end : pos (read + 1 + 1 + 1 + 1) -ℤ pos 0 ≡ pos (read + 4) = omega (arith, ints) in
-      held-shown (utf16 order) (falls order) utf16_start _ a read (b ∷ d ∷ e ∷ q) refl
-      ∙ held-shown (utf16 order) (falls order) _ _ b (read + 1) (d ∷ e ∷ q) (first-turn a b c lead low high)
-      ∙ held-shown (utf16 order) (falls order) _ _ d (read + 1 + 1) (e ∷ q) refl
-      ∙ given-shown (utf16 order) (falls order) _ utf16_start e c (read + 1 + 1 + 1) q (second-turn d e c trail low high)
-      ∙ ap (λ (z : ℤ). record { item = One c; end = z; after = utf16_start } ∷ shown_from (utf16 order) (read + 1 + 1 + 1 + 1) utf16_start q) end
-      ∙ ap (λ (n : ℕ). record { item = One c; end = pos (read + 4); after = utf16_start } ∷ shown_from (utf16 order) n utf16_start q) four
+  unit : (a b c : ℕ) → unit_of order a b ≡ c → (c < 55296) ⊎ (57344 ≤ c) → Passed (a ∷ b ∷ []) c
+  unit a b c is range =
+      held (utf16 order) (falls order) utf16_start _ utf16_start a c (b ∷ []) refl
+      (given (utf16 order) (falls order) _ utf16_start b c (one-turn a b c is range))
 
-  unit-state : (a b c : ℕ) (q : List ℕ) → unit_of order a b ≡ c → (c < 55296) ⊎ (57344 ≤ c)
-      → (feed (utf16 order) utf16_start (a ∷ b ∷ q)).state ≡ (feed (utf16 order) utf16_start q).state
-  unit-state a b c q unit range =
-      held-state (utf16 order) (falls order) utf16_start _ a (b ∷ q) refl
-      ∙ given-state (utf16 order) (falls order) _ utf16_start b c q (one-turn a b c unit range)
-
-  pair-state : (a b d e c : ℕ) (q : List ℕ) → unit_of order a b ≡ lead_of c → unit_of order d e ≡ trail_of c → 65536 ≤ c → c < 1114112
-      → (feed (utf16 order) utf16_start (a ∷ b ∷ d ∷ e ∷ q)).state ≡ (feed (utf16 order) utf16_start q).state
-  pair-state a b d e c q lead trail low high =
-      held-state (utf16 order) (falls order) utf16_start _ a (b ∷ d ∷ e ∷ q) refl
-      ∙ held-state (utf16 order) (falls order) _ _ b (d ∷ e ∷ q) (first-turn a b c lead low high)
-      ∙ held-state (utf16 order) (falls order) _ _ d (e ∷ q) refl
-      ∙ given-state (utf16 order) (falls order) _ utf16_start e c q (second-turn d e c trail low high)
+  pair : (a b d e c : ℕ) → unit_of order a b ≡ lead_of c → unit_of order d e ≡ trail_of c → 65536 ≤ c → c < 1114112 → Passed (a ∷ b ∷ d ∷ e ∷ []) c
+  pair a b d e c lead trail low high =
+      held (utf16 order) (falls order) utf16_start _ utf16_start a c (b ∷ d ∷ e ∷ []) refl
+      (held (utf16 order) (falls order) _ _ utf16_start b c (d ∷ e ∷ []) (first-turn a b c lead low high)
+      (held (utf16 order) (falls order) _ _ utf16_start d c (e ∷ []) refl
+      (given (utf16 order) (falls order) _ utf16_start e c (second-turn d e c trail low high))))
 
   -- ---- the bytes of some units
 
@@ -139,60 +105,30 @@ module _ (order : ByteOrder) where
   width-two : (c : ℕ) → 65536 ≤ c → width_of by_utf16 c ≡ 4
   width-two c high = rw (le-ltb c 65536 high) refl
 
-  both : (x y : Bool) → (x && y) ≡ true → (x ≡ true) × (y ≡ true)
-  both true y e = (refl, e)
-  both false y e = absurd Prim.cc
-
   -- ---- runs
 
-  utf16-shown : (cs bytes : List ℕ) → scalars cs ≡ true → length bytes ≡ 2 * length (units_of order bytes) → units_of order bytes ≡ utf16_forms cs → (read : ℕ)
-      → shown_from (utf16 order) read utf16_start bytes ≡ plain_from by_utf16 (pos read) utf16_start cs
-  utf16-shown [] [] are even is read = refl
-  utf16-shown [] (a ∷ []) are even is read = absurd (omega (arith, even))
-  utf16-shown [] (a ∷ b ∷ q) are even is read = absurd (omega (arith, ap (λ (xs : List ℕ). length xs) is))
-  utf16-shown (c ∷ cs) bytes are even is read =
-      let two = both (scalar c) (scalars cs) are in
+  utf16-passed : (cs bytes : List ℕ) → scalars cs ≡ true → length bytes ≡ 2 * length (units_of order bytes) → units_of order bytes ≡ utf16_forms cs
+      → ArePassed (utf16 order) (falls order) utf16_start by_utf16 cs bytes
+  utf16-passed [] [] are even is = refl
+  utf16-passed [] (a ∷ []) are even is = absurd (omega (arith, even))
+  utf16-passed [] (a ∷ b ∷ q) are even is = absurd (omega (arith, ap (λ (xs : List ℕ). length xs) is))
+  utf16-passed (c ∷ cs) bytes are even is =
+      let two = and_parts (scalar c) (scalars cs) are in
       let range = scalar_cases c two.0 in
       elim (compare c 65536) [
         | inl low ↦
             let p = cut bytes c (utf16_forms cs) even (is ∙ form-one c cs low) in
-            let width = width-one c low in
-            let end : pos (read + 2) ≡ pos read +ℤ pos (width_of by_utf16 c) = rw width (omega (arith, ints)) in
-            ap (λ (xs : List ℕ). shown_from (utf16 order) read utf16_start xs) p.3
-            ∙ unit-shown p.0 p.1 c read p.2 p.4 (narrow c range)
-            ∙ ap (λ (xs : List (Shown Utf16)). record { item = One c; end = pos (read + 2); after = utf16_start } ∷ xs) (utf16-shown cs p.2 two.1 p.6 p.5 (read + 2))
-            ∙ ap (λ (z : ℤ). record { item = One c; end = z; after = utf16_start } ∷ plain_from by_utf16 z utf16_start cs) end
+            (p.0 ∷ p.1 ∷ [], p.2, p.3, unit p.0 p.1 c p.4 (narrow c range), sym (width-one c low), utf16-passed cs p.2 two.1 p.6 p.5)
         | inr high ↦
             let p = cut bytes (lead_of c) (trail_of c ∷ utf16_forms cs) even (is ∙ form-two c cs high) in
-            let s = cut p.2 (trail_of c) (utf16_forms cs) p.6 p.5 in
-            let width = width-two c high in
-            let end : pos (read + 4) ≡ pos read +ℤ pos (width_of by_utf16 c) = rw width (omega (arith, ints)) in
-            ap (λ (xs : List ℕ). shown_from (utf16 order) read utf16_start xs) (p.3 ∙ ap (λ (xs : List ℕ). p.0 ∷ p.1 ∷ xs) s.3)
-            ∙ pair-shown p.0 p.1 s.0 s.1 c read s.2 p.4 s.4 high (most c range)
-            ∙ ap (λ (xs : List (Shown Utf16)). record { item = One c; end = pos (read + 4); after = utf16_start } ∷ xs) (utf16-shown cs s.2 two.1 s.6 s.5 (read + 4))
-            ∙ ap (λ (z : ℤ). record { item = One c; end = z; after = utf16_start } ∷ plain_from by_utf16 z utf16_start cs) end
-      ]
-
-  utf16-stays : (cs bytes : List ℕ) → scalars cs ≡ true → length bytes ≡ 2 * length (units_of order bytes) → units_of order bytes ≡ utf16_forms cs
-      → (feed (utf16 order) utf16_start bytes).state ≡ utf16_start
-  utf16-stays [] [] are even is = ap (λ (x : Fed Utf16). x.state) (feed-nil (utf16 order) (falls order) utf16_start)
-  utf16-stays [] (a ∷ []) are even is = absurd (omega (arith, even))
-  utf16-stays [] (a ∷ b ∷ q) are even is = absurd (omega (arith, ap (λ (xs : List ℕ). length xs) is))
-  utf16-stays (c ∷ cs) bytes are even is =
-      let two = both (scalar c) (scalars cs) are in
-      let range = scalar_cases c two.0 in
-      elim (compare c 65536) [
-        | inl low ↦
-            let p = cut bytes c (utf16_forms cs) even (is ∙ form-one c cs low) in
-            ap (λ (xs : List ℕ). (feed (utf16 order) utf16_start xs).state) p.3
-            ∙ unit-state p.0 p.1 c p.2 p.4 (narrow c range)
-            ∙ utf16-stays cs p.2 two.1 p.6 p.5
-        | inr high ↦
-            let p = cut bytes (lead_of c) (trail_of c ∷ utf16_forms cs) even (is ∙ form-two c cs high) in
-            let s = cut p.2 (trail_of c) (utf16_forms cs) p.6 p.5 in
-            ap (λ (xs : List ℕ). (feed (utf16 order) utf16_start xs).state) (p.3 ∙ ap (λ (xs : List ℕ). p.0 ∷ p.1 ∷ xs) s.3)
-            ∙ pair-state p.0 p.1 s.0 s.1 c s.2 p.4 s.4 high (most c range)
-            ∙ utf16-stays cs s.2 two.1 s.6 s.5
+            let s = cut p.2 (trail_of c) (utf16_forms cs) p.6 p.5 in (
+              p.0 ∷ p.1 ∷ s.0 ∷ s.1 ∷ [],
+              s.2,
+              p.3 ∙ ap (λ (xs : List ℕ). p.0 ∷ p.1 ∷ xs) s.3,
+              pair p.0 p.1 s.0 s.1 c p.4 s.4 high (most c range),
+              sym (width-two c high),
+              utf16-passed cs s.2 two.1 s.6 s.5,
+            )
       ]
 
   utf16-bytes : (cs : List ℕ) → run_width by_utf16 cs ≡ 2 * length (utf16_forms cs)
@@ -307,14 +243,14 @@ module _ (order : ByteOrder) where
         within = within;
         room = omega (arith, p.0, p.1, large);
         text = subst (λ (xs : List ℕ). IsUtf8 xs) (sym text) (cs, (are, refl));
-        stays = utf16-stays cs front are even is;
+        stays = passed-stays (utf16 order) (falls order) utf16_start by_utf16 cs front (utf16-passed cs front are even is);
         whole =
             ap (λ (xs : List ℕ). run_width by_utf16 xs) spelt
             ∙ utf16-bytes cs
             ∙ ap (λ (xs : List ℕ). 2 * length xs) (sym is)
             ∙ ap (λ (k : ℕ). 2 * k) (units-length n bytes within);
         items = λ read.
-            utf16-shown cs front are even is read
+            passed-shown (utf16 order) (falls order) utf16_start by_utf16 cs front (utf16-passed cs front are even is) read
             ∙ ap (λ (xs : List ℕ). plain_from by_utf16 (pos read) utf16_start xs) (sym spelt);
       }
 

@@ -1,4 +1,4 @@
-use Rattle.std.proofs.Common.{◌≡◌, ◌++◌, suc, List, length, Some, sym, ap, ◌∙◌, arith, length-append}
+use Rattle.std.proofs.Common.{◌≡◌, ◌++◌, suc, List, length, sym, ap, ◌∙◌, arith, length-append}
 use Rattle.decoder_core.specs.declared.item.Ended.{Ended}
 use Rattle.decoder_core.specs.Queue.{Fed, feed}
 use Rattle.decoder_core.specs.Counts.{cost}
