@@ -6,6 +6,7 @@ use Rattle.std.specs.Simd.Lanes.{put_chunk}
 use Rattle.std.specs.Str.{chars, IsUtf8}
 use Rattle.std.proofs.lemmas.Bool.{lt-ltb, le-ltb, ltb-true, leb-true}
 use Rattle.std.proofs.Math.Utf8.{low_scalar}
+use Rattle.std.proofs.lemmas.Bool.Decides.{nat_tests}
 use Rattle.index_loader.specs.Form.{IsFormPut, is_wide}
 use Rattle.std.proofs.lemmas.Int.{ints}
 use Rattle.std.proofs.lemmas.List.{length-take-le, drop_more}
@@ -56,19 +57,12 @@ take-two bytes at within =
     ∙ ap (λ (xs : List ℕ). get_or bytes at 0 ∷ take 1 xs) (drop_more bytes (at + 1) 0 within)
 
 -- a code point is at most twice as long in UTF-8 as its item, or four times where the item is a byte
-wide-by : (k : Bool) (c : ℕ) → nat_lt c 0x80 ≡ k → len_utf8 c ≤ 2 * width_of Pairs c
-wide-by true c e =
-    let one : width_of Pairs c ≡ 1 = rw e refl in
-    let low = len_utf8_ascii c (ltb-true c 0x80 e) in
-    omega (arith, one, low)
-wide-by false c e =
-    let few = len_utf8_bounds c in
-    let two : width_of Pairs c ≡ 2 = rw e refl in
-    omega (arith, few, two)
+wide-by : (c : ℕ) → len_utf8 c ≤ 2 * width_of Pairs c
+wide-by c = grind (arith, nat_tests)
 
 few-pairs : (written at c got width end : ℕ) → got ≡ c → written ≤ 2 * at → width ≡ width_of Pairs c → end ≡ written + len_utf8 got → end ≤ 2 * (at + width)
 few-pairs written at c got width end same few wide end_is =
-    let one = wide-by (nat_lt c 0x80) c refl in
+    let one = wide-by c in
     let length_is : len_utf8 got ≡ len_utf8 c = ap len_utf8 same in
     omega (arith, few, wide, end_is, one, length_is)
 
@@ -92,28 +86,6 @@ module _ {S : Type 0} (table : Table S) (f : Falls table) (s : S) where
   byte-front stride bytes at b c turn within b_is wide =
       at-front table f s stride bytes (b ∷ []) at c (take-one bytes at within ∙ ap (λ (x : ℕ). x ∷ []) (sym b_is)) (given table f s s b c turn)
       (omega (arith, within)) (omega arith) wide
-
-  -- an ASCII byte, between pairs and between bytes
-  ascii-pair : (bytes : List ℕ) (at c : ℕ) → TakesByte table s c c → at < length bytes → c ≡ get_or bytes at 0 → c < 0x80 → IsFront table s Pairs bytes at c 1
-  ascii-pair bytes at c turn within c_is low = byte-front Pairs bytes at c c turn within c_is (rw (lt-ltb c 0x80 low) refl)
-
-  ascii-byte : (bytes : List ℕ) (at c : ℕ) → TakesAscii table s All → at < length bytes → c ≡ get_or bytes at 0 → c < 0x80 → IsFront table s Bytes bytes at c 1
-  ascii-byte bytes at c takes within c_is low = byte-front Bytes bytes at c c (takes c low) within c_is refl
-
-  -- another byte
-  known-byte : (bytes : List ℕ) (at c : ℕ) → TakesByte table s (get_or bytes at 0) c → at < length bytes → IsFront table s Bytes bytes at c 1
-  known-byte bytes at c turn within = byte-front Bytes bytes at (get_or bytes at 0) c turn within refl refl
-
-  -- no item yet
-  pub none-more : (stride : Stride) (bytes block : List ℕ) → IsBulk table s bytes (record { taken = 0; written = 0; stride = stride }) block
-  none-more stride bytes block = record {
-    within = omega arith;
-    room = lit≤ tt;
-    text = IsUtf8-nil;
-    stays = ap (λ (x : Fed S). x.state) (feed-nil table f s);
-    whole = rw chars-nil refl;
-    items = λ read. rw chars-nil refl;
-  }
 
   -- a pair
   pair-front : (bytes : List ℕ) (at c : ℕ) → TakesPair table s (get_or bytes at 0) (get_or bytes (at + 1) 0) c → at + 1 < length bytes → 0x80 ≤ c
@@ -181,57 +153,40 @@ module _ {S : Type 0} (table : Table S) (f : Falls table) (s : S) where
   put-few-bytes bytes block new at written end put few = few-bytes written at put.code_point end few put.ends
 
   -- an ASCII byte is put as its code point
-  ascii-put : (stride : Stride) (bytes before after : List ℕ) (at written b end : ℕ) → IsFront table s stride bytes at b 1 → b < 0x80
-      → written + 4 ≤ 1024 → length before ≡ 1024 → end ≡ written + len_utf8 b → after ≡ put_chunk written before (encode_utf8 b)
+  pub ascii-put : (stride : Stride) (bytes before after : List ℕ) (at written b end : ℕ) → 1 ≡ width_of stride b → TakesByte table s b b → at < length bytes
+      → b ≡ get_or bytes at 0 → b < 0x80 → written + 4 ≤ 1024 → length before ≡ 1024 → end ≡ written + len_utf8 b → after ≡ put_chunk written before (encode_utf8 b)
       → IsFrontPut table s stride 1 bytes at before after written end
-  ascii-put stride bytes before after at written b end front low room large end_is after_is =
+  ascii-put stride bytes before after at written b end wide turn within b_is low room large end_is after_is =
       let few = len_utf8_bounds b in
       let length_is : end ≡ written + length (encode_utf8 b) = end_is ∙ ap (λ (n : ℕ). written + n) (sym (length-encode b)) in
       record {
         code_point = b;
-        front = front;
+        front = byte-front stride bytes at b b turn within b_is wide;
         scalar = low_scalar b (omega (arith, low));
         ends = end_is;
         text = ap (λ (xs : List ℕ). take end xs) after_is
             ∙ take_more_put_chunk written before (encode_utf8 b) end length_is (omega (arith, end_is, few, room, large));
       }
 
-  pub ascii-pair-put : (bytes before after : List ℕ) (at written b end : ℕ) → TakesByte table s b b → at < length bytes → b ≡ get_or bytes at 0 → b < 0x80
-      → written + 4 ≤ 1024 → length before ≡ 1024 → end ≡ written + len_utf8 b → after ≡ put_chunk written before (encode_utf8 b)
-      → IsFrontPut table s Pairs 1 bytes at before after written end
-  ascii-pair-put bytes before after at written b end turn within b_is low =
-      ascii-put Pairs bytes before after at written b end (ascii-pair bytes at b turn within b_is low) low
-
-  pub ascii-byte-put : (bytes before after : List ℕ) (at written b end : ℕ) → TakesAscii table s All → at < length bytes → b ≡ get_or bytes at 0 → b < 0x80
-      → written + 4 ≤ 1024 → length before ≡ 1024 → end ≡ written + len_utf8 b → after ≡ put_chunk written before (encode_utf8 b)
-      → IsFrontPut table s Bytes 1 bytes at before after written end
-  ascii-byte-put bytes before after at written b end takes within b_is low =
-      ascii-put Bytes bytes before after at written b end (ascii-byte bytes at b takes within b_is low) low
-
   -- the form of another byte, and of a pair
+  form-put : (stride : Stride) (width : ℕ) (bytes before after : List ℕ) (at written : ℕ) (form : Option ℕ)
+      → ((c : ℕ) → form ≡ Some c → IsFront table s stride bytes at c width) → (r : Option ℕ)
+      → IfSome r (λ (end : ℕ). IsFormPut form before after written end)
+      → IfSome r (λ (end : ℕ). IsFrontPut table s stride width bytes at before after written end)
+  form-put stride width bytes before after at written form front None put = put
+  form-put stride width bytes before after at written form front (Some end) put =
+      record { code_point = put.code_point; front = front put.code_point put.is; scalar = put.scalar; ends = put.ends; text = put.front }
+
   pub byte-put : (bytes before after : List ℕ) (at written : ℕ) (form : Option ℕ) → at < length bytes
       → IfSome form (λ (c : ℕ). TakesByte table s (get_or bytes at 0) c) → (r : Option ℕ) → IfSome r (λ (end : ℕ). IsFormPut form before after written end)
       → IfSome r (λ (end : ℕ). IsFrontPut table s Bytes 1 bytes at before after written end)
-  byte-put bytes before after at written form within known (Some end) put =
-      record {
-        code_point = put.code_point;
-        front = known-byte bytes at put.code_point (of-some (λ (c : ℕ). TakesByte table s (get_or bytes at 0) c) form put.code_point known put.is) within;
-        scalar = put.scalar;
-        ends = put.ends;
-        text = put.front;
-      }
-  byte-put bytes before after at written form within known None put = put
+  byte-put bytes before after at written form within known =
+      let b = get_or bytes at 0 in
+      form-put Bytes 1 bytes before after at written form (λ c is. byte-front Bytes bytes at b c (of-some (TakesByte table s b) form c known is) within refl refl)
 
   pub pair-put : (bytes before after : List ℕ) (at written : ℕ) (form : Option ℕ) → at + 1 < length bytes
       → IfSome form (λ (c : ℕ). TakesPair table s (get_or bytes at 0) (get_or bytes (at + 1) 0) c) → is_wide form ≡ true → (r : Option ℕ)
       → IfSome r (λ (end : ℕ). IsFormPut form before after written end) → IfSome r (λ (end : ℕ). IsFrontPut table s Pairs 2 bytes at before after written end)
-  pair-put bytes before after at written form within known wide (Some end) put =
-      let takes = of-some (λ (c : ℕ). TakesPair table s (get_or bytes at 0) (get_or bytes (at + 1) 0) c) form put.code_point known put.is in
-      record {
-        code_point = put.code_point;
-        front = pair-front bytes at put.code_point takes within (wide-above form put.code_point wide put.is);
-        scalar = put.scalar;
-        ends = put.ends;
-        text = put.front;
-      }
-  pair-put bytes before after at written form within known wide None put = put
+  pair-put bytes before after at written form within known wide =
+      let takes = TakesPair table s (get_or bytes at 0) (get_or bytes (at + 1) 0) in
+      form-put Pairs 2 bytes before after at written form (λ c is. pair-front bytes at c (of-some takes form c known is) within (wide-above form c wide is))

@@ -1,6 +1,6 @@
 -- How long items are that are taken in bulk.
 use Rattle.std.proofs.Common.{◌≡◌, ℕ, ◌+◌, ◌*◌, ◌<◌, ◌≤◌, Bool, true, false, List, [], ◌∷◌, ◌++◌, length, length-append, nat_lt, ℤ, pos, ◌+ℤ◌, ◌-ℤ◌, refl, sym, ap, ◌∙◌, append_assoc, fold, arith, lit≤, ◌⊎◌, inl, inr}
-use Rattle.std.proofs.lemmas.Bool.{lt-ltb, le-ltb, ltb-true, ltb-false}
+use Rattle.std.proofs.lemmas.Bool.Decides.{nat_tests}
 use Rattle.std.proofs.lemmas.Int.{ints}
 use Rattle.std.proofs.Math.Utf8.{encode}
 use Rattle.std.specs.Char.{len_utf8}
@@ -19,21 +19,6 @@ utf8-width [] = refl
 utf8-width (c ∷ cs) =
     ap (λ (n : ℕ). len_utf8 c + n) (utf8-width cs) ∙ sym (length-append (encode c) (encode_utf8_all cs) ∙ ap (λ (n : ℕ). n + length (encode_utf8_all cs)) (length-encode c))
 
-width-few-by : (c : ℕ) → (c < 0x10000) ⊎ (0x10000 ≤ c) → width_of Utf16 c ≤ 2 * len_utf8 c
-width-few-by c (inl low) =
-    let some = len_utf8_bounds c in
-    let two : width_of Utf16 c ≡ 2 = rw (lt-ltb c 0x10000 low) refl in
-    Prim.omega (arith, some.0, two)
-width-few-by c (inr high) =
-    rw (le-ltb c 0x80 (Prim.omega (arith, high)), le-ltb c 0x800 (Prim.omega (arith, high)), le-ltb c 0x10000 high) (lit≤ tt)
-
-order-by : (k : Bool) (a b : ℕ) → nat_lt a b ≡ k → (a < b) ⊎ (b ≤ a)
-order-by true a b e = inl (ltb-true a b e)
-order-by false a b e = inr (ltb-false a b e)
-
-pub order : (a b : ℕ) → (a < b) ⊎ (b ≤ a)
-order a b = order-by (nat_lt a b) a b refl
-
 -- the two ranges of scalar values
 pub narrow : (c : ℕ) → (c < 55296) ⊎ ((57344 ≤ c) × (c < 1114112)) → (c < 55296) ⊎ (57344 ≤ c)
 narrow c (inl l) = inl l
@@ -43,20 +28,10 @@ pub most : (c : ℕ) → (c < 55296) ⊎ ((57344 ≤ c) × (c < 1114112)) → c 
 most c (inl l) = Prim.omega (arith, l)
 most c (inr l) = l.1
 
-pair-few : (k : Bool) (c : ℕ) → nat_lt c 0x80 ≡ k → width_of Pairs c ≤ 2 * len_utf8 c
-pair-few true c e =
-    let some = len_utf8_bounds c in
-    let one : width_of Pairs c ≡ 1 = rw e refl in
-    Prim.omega (arith, some.0, one)
-pair-few false c e =
-    let some = len_utf8_bounds c in
-    let two : width_of Pairs c ≡ 2 = rw e refl in
-    Prim.omega (arith, some.0, two)
-
 width-few : (stride : Stride) (c : ℕ) → width_of stride c ≤ 2 * len_utf8 c
 width-few Utf8 c = Prim.omega arith
-width-few Utf16 c = width-few-by c (order c 0x10000)
-width-few Pairs c = pair-few (nat_lt c 0x80) c refl
+width-few Utf16 c = grind (arith, nat_tests)
+width-few Pairs c = grind (arith, nat_tests)
 width-few Bytes c = let some = len_utf8_bounds c in Prim.omega (arith, some.0)
 
 width-small : (stride : Stride) (cs : List ℕ) → run_width stride cs ≤ 2 * length (encode_utf8_all cs)

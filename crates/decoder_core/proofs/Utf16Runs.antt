@@ -1,6 +1,6 @@
 -- Runs of UTF-16 without lone surrogates: each code point is an item, and leaves nothing pending.
 use Rattle.std.proofs.Common.{◌≡◌, ℕ, zero, suc, ◌+◌, ◌-◌, ◌*◌, ◌/◌, ◌%◌, ◌<◌, ◌≤◌, Bool, true, false, List, [], ◌∷◌, ◌++◌, Some, None, Ok, Err, Result, Option, if◌then◌else◌, nat_le, take, drop, get_or, set, subst, append_assoc, append-nil, length, pos, refl, sym, ap, ◌∙◌, arith, ◌⊎◌, inl, inr}
-use Rattle.std.proofs.lemmas.Bool.{le-leb, lt-leb, lt-ltb, le-ltb, leb-true, and_parts}
+use Rattle.std.proofs.lemmas.Bool.{le-leb, lt-leb, lt-ltb, le-ltb, leb-true, and_parts, cases_lt}
 use Rattle.std.proofs.Math.Utf8.{scalar, scalars, scalar_cases}
 use Rattle.std.specs.Str.{chars, encode_utf8_all, IsUtf8}
 use Rattle.std.proofs.lemmas.List.{length-take-le, take-take, drop_more, drop_all, take_more_set}
@@ -22,7 +22,7 @@ use Rattle.decoder_core.specs.Holding.{falls_of}
 use Rattle.decoder_core.specs.Queue.{Falls}
 use Rattle.decoder_core.specs.Utf16.{utf16, utf16_start, utf16_single, utf16_second, unit_of, units_of, pair_code_point}
 use Rattle.decoder_core.specs.Utf16Laws.{utf16_holding}
-use Rattle.decoder_core.proofs.ItemWidths.{utf8-width, order as compare, narrow, most}
+use Rattle.decoder_core.proofs.ItemWidths.{utf8-width, narrow, most}
 use Rattle.decoder_core.proofs.Turning.{Passes, given, held, ArePassed, passed-shown, passed-stays}
 
 abbrev falls : (order : ByteOrder) → Falls (utf16 order)
@@ -115,7 +115,7 @@ module _ (order : ByteOrder) where
   utf16-passed (c ∷ cs) bytes are even is =
       let two = and_parts (scalar c) (scalars cs) are in
       let range = scalar_cases c two.0 in
-      elim (compare c 65536) [
+      elim (cases_lt c 65536) [
         | inl low ↦
             let p = cut bytes c (utf16_forms cs) even (is ∙ form-one c cs low) in
             (p.0 ∷ p.1 ∷ [], p.2, p.3, unit p.0 p.1 c p.4 (narrow c range), sym (width-one c low), utf16-passed cs p.2 two.1 p.6 p.5)
@@ -135,7 +135,7 @@ module _ (order : ByteOrder) where
   utf16-bytes [] = refl
   utf16-bytes (c ∷ cs) =
       let rest = utf16-bytes cs in
-      elim (compare c 65536) [
+      elim (cases_lt c 65536) [
         | inl low ↦
             let width = width-one c low in
             let units = ap (λ (xs : List ℕ). length xs) (form-one c cs low) in

@@ -1,6 +1,6 @@
 -- Runs of UTF-8: each code point is an item, and leaves nothing pending.
 use Rattle.std.proofs.Common.{◌≡◌, ℕ, ◌+◌, ◌-◌, ◌*◌, ◌/◌, ◌%◌, ◌<◌, ◌≤◌, Bool, true, false, List, [], ◌∷◌, ◌++◌, Some, if◌then◌else◌, ◌==◌, take, drop, subst, length, pos, refl, sym, ap, ◌∙◌, arith, ◌⊎◌, inl, inr}
-use Rattle.std.proofs.lemmas.Bool.{le-leb, lt-leb, eqb-true, lt-ltb, le-ltb, and_parts}
+use Rattle.std.proofs.lemmas.Bool.{le-leb, lt-leb, eqb-true, lt-ltb, le-ltb, and_parts, cases_lt}
 use Rattle.std.proofs.Math.Utf8.{encode, scalar, scalars, scalar_cases}
 use Rattle.std.specs.Str.{chars, encode_utf8_all, IsUtf8}
 use Rattle.std.proofs.lemmas.List.{length-take, length-take-le, take-append-drop, take-append-le}
@@ -14,7 +14,7 @@ use Rattle.decoder_core.specs.Forms.{gives, holds}
 use Rattle.decoder_core.specs.Shown.{shown_from}
 use Rattle.decoder_core.specs.Utf8.{utf8, utf8_start, utf8_begins}
 use Rattle.decoder_core.specs.Utf8Laws.{utf8_falls}
-use Rattle.decoder_core.proofs.ItemWidths.{utf8-width, order, narrow, most}
+use Rattle.decoder_core.proofs.ItemWidths.{utf8-width, narrow, most}
 use Rattle.decoder_core.proofs.Turning.{Passes, given, held, ArePassed, passed-shown, passed-stays}
 
 -- a lead byte of two
@@ -94,13 +94,13 @@ passed : (c : ℕ) → scalar c ≡ true → Passed (encode c) c
 unfolding encode
 passed c is =
     let range = scalar_cases c is in
-    elim (order c 128) [
+    elim (cases_lt c 128) [
       | inl a ↦ rw (lt-ltb c 128 a) (given utf8 utf8_falls utf8_start utf8_start c c (one_ascii c a))
       | inr a ↦
-          elim (order c 2048) [
+          elim (cases_lt c 2048) [
             | inl b ↦ rw (le-ltb c 128 a, lt-ltb c 2048 b) (two c a b)
             | inr b ↦
-                elim (order c 65536) [
+                elim (cases_lt c 65536) [
                   | inl d ↦ rw (le-ltb c 128 a, le-ltb c 2048 b, lt-ltb c 65536 d) (three c b d (narrow c range))
                   | inr d ↦ rw (le-ltb c 128 a, le-ltb c 2048 b, le-ltb c 65536 d) (four c d (most c range))
                 ]

@@ -1,12 +1,14 @@
-use Rattle.std.proofs.Common.{rules, arith, ◌≡◌, length}
-use Rattle.decoder_core.proofs.Fronts.{ascii-byte-put, byte-put}
+use Rattle.std.proofs.Common.{rules, arith, refl, ◌≡◌, ◌<◌, length}
+use Rattle.decoder_core.proofs.Fronts.{ascii-put, byte-put}
+use Rattle.decoder_core.specs.declared.bulk.Stride.TheVariants.{Bytes}
 use Rattle.decoder_core.proofs.byte_bulk.put_byte.Goals as goal
 
 pub returns-then-byte-lt128-clause-some : goal.returns-then-byte-lt128-clause-some
 returns-then-byte-lt128-clause-some g c =
     let large : length c.args.text.now ≡ 1024 = search rules in
-    ascii-byte-put (g.H.Handler.table c.args.handler.now) (g.met.H.Handler.ends c.args.handler.now) c.args.state c.args.bytes.now c.args.text.now _ c.args.at
-    c.args.written _ _ c.requires.ascii c.requires.within c.from.ensures (omega (arith, c.from.ensures, c.if-byte-lt128.true)) c.requires.room large
+    let low : c.from.result < 0x80 = omega (arith, c.from.ensures, c.if-byte-lt128.true) in
+    ascii-put (g.H.Handler.table c.args.handler.now) (g.met.H.Handler.ends c.args.handler.now) c.args.state Bytes c.args.bytes.now c.args.text.now _ c.args.at
+    c.args.written _ _ refl (c.requires.ascii _ low) c.requires.within c.from.ensures low c.requires.room large
     c.put_scalar.ensures.end c.put_scalar.ensures.bytes
 
 pub returns-clause-some : goal.returns-clause-some

@@ -1,11 +1,12 @@
 use Rattle.std.proofs.Common.{arith, ◌+◌, ◌≤◌}
 use Rattle.decoder_core.specs.declared.bulk.Stride.TheVariants.{Bytes}
-use Rattle.decoder_core.proofs.Fronts.{none-more, put-more, put-few-bytes}
+use Rattle.decoder_core.proofs.Fronts.{put-more, put-few-bytes}
+use Rattle.decoder_core.proofs.Moving.{nothing_is_bulk}
 use Rattle.decoder_core.proofs.byte_bulk.take_bytes.Goals as goal
 
 pub bytes-init : goal.bytes-init
 bytes-init g c = record {
-  bulk = none-more (g.H.Handler.table c.args.handler.now) (g.met.H.Handler.ends c.args.handler.now) c.args.state Bytes c.args.bytes.now c.args.text.now;
+  bulk = nothing_is_bulk (g.H.Handler.table c.args.handler.now) (g.met.H.Handler.ends c.args.handler.now) c.args.state Bytes c.args.bytes.now c.args.text.now;
   few = omega arith;
 }
 

@@ -1,12 +1,14 @@
 use Rattle.std.proofs.Common.{rules, refl, arith, ◌≡◌, ◌+◌, ◌≤◌, ◌<◌, length}
 use Rattle.decoder_core.specs.declared.bulk.Stride.TheVariants.{Pairs}
 use Rattle.decoder_core.specs.Fronts.{TakesByte}
-use Rattle.decoder_core.proofs.Fronts.{none-more, ascii-pair-put, put-more, put-few}
+use Rattle.decoder_core.proofs.Fronts.{ascii-put, put-more, put-few}
+use Rattle.decoder_core.proofs.Moving.{nothing_is_bulk}
+use Rattle.std.proofs.lemmas.Bool.{lt-ltb}
 use Rattle.decoder_core.proofs.pair_bulk.take_with.Goals as goal
 
 pub pairs-init : goal.pairs-init
 pairs-init g c = record {
-  bulk = none-more (g.H.Handler.table c.args.handler.now) (g.met.H.Handler.ends c.args.handler.now) c.args.state Pairs c.args.bytes.now c.args.text.now;
+  bulk = nothing_is_bulk (g.H.Handler.table c.args.handler.now) (g.met.H.Handler.ends c.args.handler.now) c.args.state Pairs c.args.bytes.now c.args.text.now;
   few = omega arith;
 }
 
@@ -37,8 +39,8 @@ pairs-preserved-then-is_own g c =
     let turn : TakesByte table c.args.state c.from.result c.from.result = rw c.from.ensures (c.requires _ (c.if-is_own.ensures.of refl)) in
     let low : c.from.result < 0x80 = rw c.from.ensures (c.if-is_own.ensures.low refl) in
     let put =
-    ascii-pair-put table ends c.args.state c.args.bytes.now c.pairs.text c.put_scalar-written.new.bytes c.pairs.taken c.pairs.written c.from.result
-    c.put_scalar-written.result turn inside c.from.ensures low room large c.put_scalar-written.ensures.end c.put_scalar-written.ensures.bytes in
+    ascii-put table ends c.args.state Pairs c.args.bytes.now c.pairs.text c.put_scalar-written.new.bytes c.pairs.taken c.pairs.written c.from.result
+    c.put_scalar-written.result (rw (lt-ltb c.from.result 0x80 low) refl) turn inside c.from.ensures low room large c.put_scalar-written.ensures.end c.put_scalar-written.ensures.bytes in
     record {
       bulk = put-more table ends c.args.state Pairs 1 c.args.bytes.now c.pairs.text c.put_scalar-written.new.bytes c.pairs.taken c.pairs.written
           c.put_scalar-written.result c.pairs.invariant.bulk put room;

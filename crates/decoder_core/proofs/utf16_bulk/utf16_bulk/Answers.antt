@@ -35,7 +35,7 @@ returns-in-Ok-utf16_to_utf8 c =
     some room read answer.ensures.answer answer.ensures.scalars answer.ensures.form answer.ensures.written)
 
 pub returns-in-Err : goal.returns-in-Err
-returns-in-Err c = let order = c.args.order in nothing_is_bulk (utf16 order) (falls_of _ (utf16_holding order)) _ c.args.bytes.now _
+returns-in-Err c = let order = c.args.order in nothing_is_bulk (utf16 order) (falls_of _ (utf16_holding order)) _ _ c.args.bytes.now _
 
 pub returns-in-Err-NeedsRoom : goal.returns-in-Err-NeedsRoom
-returns-in-Err-NeedsRoom c = let order = c.args.order in nothing_is_bulk (utf16 order) (falls_of _ (utf16_holding order)) _ c.args.bytes.now _
+returns-in-Err-NeedsRoom c = let order = c.args.order in nothing_is_bulk (utf16 order) (falls_of _ (utf16_holding order)) _ _ c.args.bytes.now _

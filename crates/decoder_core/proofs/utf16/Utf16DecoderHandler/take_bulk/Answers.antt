@@ -6,4 +6,4 @@ use Rattle.decoder_core.proofs.utf16.Utf16DecoderHandler.take_bulk.Goals as goal
 
 pub returns-else-eq : goal.returns-else-eq
 returns-else-eq c =
-    let order = c.args.self.now.order in nothing_is_bulk (utf16 order) (falls_of _ (utf16_holding order)) c.args.state c.args.bytes.now c.args.text.now
+    let order = c.args.self.now.order in nothing_is_bulk (utf16 order) (falls_of _ (utf16_holding order)) c.args.state _ c.args.bytes.now c.args.text.now
