@@ -81,6 +81,14 @@ module _ {S : Type 0} (table : Table S) (f : Falls table) where
       ∙ ap (λ (n : ℕ). collect n c (further (length q) first.items ++ (feed table first.state q).items)) more
       ∙ ap (λ (x : Fed S). collect (c.base + read + suc (length q)) c x.items) (sym (feed-append table f s (b ∷ []) q))
 
+  -- the same from the first byte on, and where the collector then begins
+  pub collect-part : (s : S) (q : List ℕ) (c new : Collected) → c.base + length q < 2 ^ 64 → new ≡ fold collect_one c (shown_from table 0 s q)
+      → (new ≡ collect (c.base + length q) c (feed table s q).items) × (new.base ≡ c.base)
+  collect-part s q c new bound new_is =
+      let plain : c.base + 0 + length q ≡ c.base + length q = omega arith in
+      let all = new_is ∙ collect-from 0 s q c (omega arith) ∙ ap (λ (n : ℕ). collect n c (feed table s q).items) plain in
+      (all, ap (λ (x : Collected). x.base) all)
+
   -- one part of the bytes: what is collected, and what is to come, are together as before
   pub part-done : (total : ℕ) (s after : S) (rest part later : List ℕ) (old new : Collected)
       → rest ≡ part ++ later → old.base + length part + length later ≡ total → after ≡ (feed table s part).state

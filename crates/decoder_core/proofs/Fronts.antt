@@ -1,27 +1,26 @@
 -- Runs of characters of a byte or two: each is one item more, and leaves the state as it is.
-use Rattle.std.proofs.Common.{◌≡◌, ℕ, ◌+◌, ◌*◌, ◌<◌, ◌≤◌, List, [], ◌∷◌, ◌++◌, Option, Some, None, IfSome, length, take, drop, get_or, ℤ, pos, ◌+ℤ◌, refl, sym, ap, subst, ◌∙◌, arith, append-nil, lit≤, Bool, true, false, nat_lt}
+use Rattle.std.proofs.Common.{◌≡◌, ℕ, ◌+◌, ◌*◌, ◌<◌, ◌≤◌, List, [], ◌∷◌, ◌++◌, Option, Some, None, IfSome, length, take, drop, get_or, ℤ, pos, ◌+ℤ◌, refl, sym, ap, subst, ◌∙◌, arith, append-nil, true}
 use Rattle.std.proofs.Math.Seq.{take-add}
 use Rattle.std.specs.Char.{len_utf8, IsScalar, encode_utf8}
 use Rattle.std.specs.Simd.Lanes.{put_chunk}
 use Rattle.std.specs.Str.{chars, IsUtf8}
-use Rattle.std.proofs.lemmas.Bool.{lt-ltb, le-ltb, ltb-true, leb-true}
+use Rattle.std.proofs.lemmas.Bool.{le-ltb, leb-true}
 use Rattle.std.proofs.Math.Utf8.{low_scalar}
 use Rattle.std.proofs.lemmas.Bool.Decides.{nat_tests}
 use Rattle.index_loader.specs.Form.{IsFormPut, is_wide}
 use Rattle.std.proofs.lemmas.Int.{ints}
 use Rattle.std.proofs.lemmas.List.{length-take-le, drop_more}
 use Rattle.std.proofs.lemmas.Simd.{take_more_put_chunk}
-use Rattle.std.proofs.lemmas.Str.{chars-append, chars_past_char, chars-nil, IsUtf8-append, IsUtf8-encode, IsUtf8-nil, length-encode, len_utf8_bounds, len_utf8_ascii}
-use Rattle.decoder_core.specs.declared.ascii_runs.AsciiRuns.TheVariants.{All}
+use Rattle.std.proofs.lemmas.Str.{chars-append, chars_past_char, chars-nil, IsUtf8-append, IsUtf8-encode, length-encode, len_utf8_bounds}
 use Rattle.decoder_core.specs.declared.bulk.Stride.{Stride}
 use Rattle.decoder_core.specs.declared.bulk.Stride.TheVariants.{Pairs, Bytes}
 use Rattle.decoder_core.specs.declared.item.Item.TheVariants.{One}
-use Rattle.decoder_core.specs.AsciiRuns.{TakesAscii}
 use Rattle.decoder_core.specs.Bulk.{IsBulk, width_of, run_width, plain_from}
 use Rattle.decoder_core.specs.Fronts.{TakesByte, TakesPair, IsFront, IsFrontPut}
 use Rattle.decoder_core.specs.Queue.{Table, Falls, Fed, feed}
 use Rattle.decoder_core.specs.Shown.{Shown, shown_from}
-use Rattle.decoder_core.proofs.Running.{feed-nil, feed-append}
+use Rattle.decoder_core.proofs.Moving.{take-one}
+use Rattle.decoder_core.proofs.Running.{feed-append}
 use Rattle.decoder_core.proofs.Showing.{shown-append}
 use Rattle.decoder_core.proofs.Turning.{given, held, at-front}
 
@@ -47,10 +46,7 @@ chars-more text c spelt scalar =
     chars_past_char (encode_utf8 c) [] c (IsUtf8-encode c scalar) (sym (append-nil (encode_utf8 c))) ∙ ap (λ (t : List ℕ). c ∷ t) chars-nil in
     chars-append text (encode_utf8 c) spelt ∙ ap (λ (t : List ℕ). chars text ++ t) one
 
--- the next bytes of a list
-take-one : (bytes : List ℕ) (at : ℕ) → at < length bytes → take 1 (drop at bytes) ≡ get_or bytes at 0 ∷ []
-take-one bytes at within = ap (λ (xs : List ℕ). take 1 xs) (drop_more bytes at 0 within)
-
+-- the next two bytes of a list
 take-two : (bytes : List ℕ) (at : ℕ) → at + 1 < length bytes → take 2 (drop at bytes) ≡ get_or bytes at 0 ∷ get_or bytes (at + 1) 0 ∷ []
 take-two bytes at within =
     ap (λ (xs : List ℕ). take 2 xs) (drop_more bytes at 0 (omega (arith, within)))

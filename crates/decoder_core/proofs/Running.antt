@@ -59,6 +59,12 @@ module _ {S : Type 0} (table : Table S) (f : Falls table) where
       let there = f.small (turn_at table s q).state in
       turns-enough (8 * length q + 31) (8 * length (queue_after table s q) + 32) (turn_at table s q).state (queue_after table s q) (omega arith) (omega arith))
 
+  -- a run whose first turn has this answer
+  run-as : (s : S) (q : List ℕ) (a : Answer) → (turn_at table s q).answer ≡ a
+      → run table s q ≡ told a (length (queue_after table s q)) (run table (turn_at table s q).state (queue_after table s q))
+  run-as s q a is =
+      run-turn s q ∙ ap (λ (a : Answer). told a (length (queue_after table s q)) (run table (turn_at table s q).state (queue_after table s q))) is
+
   -- ---- the function and the relation
 
   runs-on : (s : S) (q : List ℕ) (out : List Ended) (a : Answer) → (turn_at table s q).answer ≡ a
@@ -81,14 +87,10 @@ module _ {S : Type 0} (table : Table S) (f : Falls table) where
   run_is s q = run_is-within (suc (8 * length q + f.held s)) s q (omega arith)
 
   pub run_only : {s : S} {q : List ℕ} {out : List Ended} → Runs table s q out → out ≡ run table s q
-  run_only {s = s} {q = q} (finished is) =
-      sym (run-turn s q ∙ ap (λ (a : Answer). told a (length (queue_after table s q)) (run table (turn_at table s q).state (queue_after table s q))) is)
-  run_only {s = s} {q = q} (nothing is later) =
-      run_only later
-      ∙ sym (run-turn s q ∙ ap (λ (a : Answer). told a (length (queue_after table s q)) (run table (turn_at table s q).state (queue_after table s q))) is)
+  run_only {s = s} {q = q} (finished is) = sym (run-as s q Finished is)
+  run_only {s = s} {q = q} (nothing is later) = run_only later ∙ sym (run-as s q Nothing is)
   run_only {s = s} {q = q} (gives {i = i} is later) =
-      ap (λ (out : List Ended). record { item = i; back = length (queue_after table s q) } ∷ out) (run_only later)
-      ∙ sym (run-turn s q ∙ ap (λ (a : Answer). told a (length (queue_after table s q)) (run table (turn_at table s q).state (queue_after table s q))) is)
+      ap (λ (out : List Ended). record { item = i; back = length (queue_after table s q) } ∷ out) (run_only later) ∙ sym (run-as s q (Gives i) is)
 
   -- ---- feeding
 
@@ -126,27 +128,22 @@ module _ {S : Type 0} (table : Table S) (f : Falls table) where
   -- ---- a decoder that is finished before the end
 
   pub done-run : (s : S) (b : ℕ) → (table s (Some b)).answer ≡ Finished → (q : List ℕ) → run table (table s (Some b)).state q ≡ []
-  done-run s b is q =
-      run-turn (table s (Some b)).state q
-      ∙ ap (λ (a : Answer). told a (length (queue_after table (table s (Some b)).state q)) (run table (turn_at table (table s (Some b)).state q).state (queue_after table (table s (Some b)).state q))) (f.stays s b is (front q)).0
-
-  pub done-feed : (s : S) (b : ℕ) → (table s (Some b)).answer ≡ Finished → (q : List ℕ) → feed table (table s (Some b)).state q ≡ record { state = (table s (Some b)).state; items = [] }
-  done-feed s b is [] = feed-nil (table s (Some b)).state
-  done-feed s b is (c ∷ q) =
-      feed-turn (table s (Some b)).state c q
-      ∙ ap (λ (a : Answer). fed_after a (length (queue_after table (table s (Some b)).state (c ∷ q))) (table (table s (Some b)).state (Some c)).state (feed table (table (table s (Some b)).state (Some c)).state (queue_after table (table s (Some b)).state (c ∷ q)))) (f.stays s b is (Some c)).0
-      ∙ ap (λ (t : S). record { state = t; items = [] }) (f.stays s b is (Some c)).1
-
-  -- ---- two queues in a row
+  done-run s b is q = run-as (table s (Some b)).state q Finished (f.stays s b is (front q)).0
 
   feed-over : (s : S) (b : ℕ) (q : List ℕ) → (table s (Some b)).answer ≡ Finished → feed table s (b ∷ q) ≡ record { state = (table s (Some b)).state; items = [] }
   feed-over s b q over =
       feed-turn s b q
       ∙ ap (λ (a : Answer). fed_after a (length (queue_after table s (b ∷ q))) (table s (Some b)).state (feed table (table s (Some b)).state (queue_after table s (b ∷ q)))) over
 
+  pub done-feed : (s : S) (b : ℕ) → (table s (Some b)).answer ≡ Finished → (q : List ℕ) → feed table (table s (Some b)).state q ≡ record { state = (table s (Some b)).state; items = [] }
+  done-feed s b is [] = feed-nil (table s (Some b)).state
+  done-feed s b is (c ∷ q) =
+      feed-over (table s (Some b)).state c q (f.stays s b is (Some c)).0 ∙ ap (λ (t : S). record { state = t; items = [] }) (f.stays s b is (Some c)).1
+
+  -- ---- two queues in a row
+
   run-over : (s : S) (b : ℕ) (q : List ℕ) → (table s (Some b)).answer ≡ Finished → run table s (b ∷ q) ≡ []
-  run-over s b q over =
-      run-turn s (b ∷ q) ∙ ap (λ (a : Answer). told a (length (queue_after table s (b ∷ q))) (run table (table s (Some b)).state (queue_after table s (b ∷ q)))) over
+  run-over s b q over = run-as s (b ∷ q) Finished over
 
   pub fed_items-told : (a : Answer) (left : ℕ) (next : S) (x : Fed S) → (fed_after a left next x).items ≡ told a left x.items
   fed_items-told Nothing left next x = refl
