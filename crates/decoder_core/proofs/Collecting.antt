@@ -1,14 +1,9 @@
 -- What a collector holds once it was given the items of a run.
 use Rattle.std.proofs.Common.{◌≡◌, ℕ, suc, ◌+◌, ◌-◌, ◌^◌, ◌<◌, List, [], ◌∷◌, ◌++◌, length, fold, pos, ◌+ℤ◌, ◌-ℤ◌, refl, sym, ap, ◌∙◌, arith, append_assoc, append-nil}
-use Rattle.std.proofs.lemmas.Grind.{fold-append}
-use Rattle.std.proofs.lemmas.Int.{ints}
+use Rattle.decoder_core.proofs.Prelude.{fold-append, ints, Ended, Placed, Falls, Fed, feed, run, further, places, shown_at, shown_from, Collected}
+use Rattle.decoder_core.proofs.Prelude.{collect_one, last_end, collect, further_on}
 use Rattle.std.specs.Int.{saturate_unsigned, w64}
-use Rattle.decoder_core.specs.declared.item.Ended.{Ended}
-use Rattle.decoder_core.specs.declared.placed.Placed.{Placed}
-use Rattle.decoder_core.specs.Queue.{Table, Falls, Fed, feed, run, further}
-use Rattle.decoder_core.specs.Placed.{places}
-use Rattle.decoder_core.specs.Shown.{shown_at, shown_from}
-use Rattle.decoder_core.specs.Collected.{Collected, collect_one, last_end, collect, further_on}
+use Rattle.decoder_core.specs.Queue.{Table}
 use Rattle.decoder_core.proofs.Running.{feed-nil, feed-append, run_feed}
 
 placed-at : (base read back : ℕ) → base + read < 2 ^ 64 → saturate_unsigned w64 (pos base +ℤ (pos read -ℤ pos back)) ≡ base + read - back

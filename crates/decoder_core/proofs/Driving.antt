@@ -1,11 +1,8 @@
 -- One turn of a decoder that is made of its handler.
 use Rattle.std.proofs.Common.{◌≡◌, ◌≢◌, ℕ, ◌+◌, ◌*◌, ◌<◌, ◌≤◌, List, [], ◌∷◌, ◌++◌, length, Option, Some, None, refl, sym, ap, ◌∙◌, append_assoc, append-nil}
-use Rattle.decoder_core.specs.declared.item.Item.{Item}
-use Rattle.decoder_core.specs.declared.item.Ended.{Ended}
-use Rattle.decoder_core.specs.declared.handler.Answer.{Answer}
-use Rattle.decoder_core.specs.declared.handler.Answer.TheVariants.{Gives, Finished}
-use Rattle.decoder_core.specs.Queue.{Table, Fed, Falls, front, behind, turn_at, queue_after, told, run, fed_after, feed}
-use Rattle.decoder_core.specs.Counts.{Counts, cost}
+use Rattle.decoder_core.proofs.Prelude.{Item, Ended, Answer, Gives, Finished, Fed, Falls, front, turn_at, queue_after, told, run, fed_after, feed}
+use Rattle.decoder_core.proofs.Prelude.{Counts, cost}
+use Rattle.decoder_core.specs.Queue.{Table, behind}
 use Rattle.decoder_core.proofs.Running.{run-turn, feed-nil, feed-turn, fed_items-told, fed_state-on}
 
 -- an item that is put behind the others

@@ -1,15 +1,14 @@
 -- Code points one after another.
 use Rattle.std.proofs.Common.{◌≡◌, ℕ, ◌+◌, ◌-◌, ◌≤◌, Bool, List, [], ◌∷◌, ◌++◌, All, Result, Ok, Err, length, take, drop, refl, sym, ap, ◌∙◌, subst, arith, append_assoc, length-append}
-use Rattle.std.specs.Str.{chars, IsUtf8, IsCharBoundary}
-use Rattle.std.specs.Char.{encode_utf8, len_utf8}
-use Rattle.std.proofs.lemmas.List.{nil_from_length, take-append-drop}
+use Rattle.decoder_core.proofs.Prelude.{chars, IsUtf8, IsCharBoundary, encode_utf8, len_utf8, nil_from_length, take-append-drop}
+use Rattle.decoder_core.proofs.Prelude.{IsCharBoundary-from_drop, IsCharBoundary-past_char, IsUtf8-past_char, chars-nil, chars_past_char}
+use Rattle.decoder_core.proofs.Prelude.{encode_ascii, len_utf8_bounds, length-encode, PutOne, PutAll, fault_at, Put, PutsItself, onward, taken}
+use Rattle.decoder_core.proofs.Prelude.{encoded_from}
 use Rattle.std.proofs.lemmas.List.Elements.{All-head, All-tail}
-use Rattle.std.proofs.lemmas.Str.{IsCharBoundary-from_drop, IsCharBoundary-past_char, IsUtf8-past_char, chars-nil, chars_past_char, encode_ascii, len_utf8_bounds, length-encode}
 use Rattle.decoder_core.specs.declared.fault.PutFault.{PutFault}
 use Rattle.decoder_core.specs.declared.fault.PutFault.TheVariants.{Unencodable as unencodable_here, OutOfMemory}
 use Rattle.decoder_core.specs.declared.fault.Unencodable.{Unencodable}
-use Rattle.decoder_core.specs.EncoderOutput.{PutOne, PutAll, fault_at}
-use Rattle.decoder_core.specs.EncoderSteps.{Table, Put, PutsItself, behind, onward, taken, encoded_from}
+use Rattle.decoder_core.specs.EncoderSteps.{Table, behind}
 use Rattle.decoder_core.specs.EncoderRuns.{IsRun}
 
 abbrev got : {S E : Type 0} → Put S → Result (Put S) E → Put S

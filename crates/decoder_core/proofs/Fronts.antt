@@ -1,24 +1,14 @@
 -- Runs of characters of a byte or two: each is one item more, and leaves the state as it is.
 use Rattle.std.proofs.Common.{◌≡◌, ℕ, ◌+◌, ◌*◌, ◌<◌, ◌≤◌, List, [], ◌∷◌, ◌++◌, Option, Some, None, IfSome, length, take, drop, get_or, ℤ, pos, ◌+ℤ◌, refl, sym, ap, subst, ◌∙◌, arith, append-nil, true}
-use Rattle.std.proofs.Math.Seq.{take-add}
-use Rattle.std.specs.Char.{len_utf8, IsScalar, encode_utf8}
+use Rattle.decoder_core.proofs.Prelude.{take-add, len_utf8, IsScalar, encode_utf8, chars, IsUtf8, le-ltb, leb-true, low_scalar, nat_tests, ints}
+use Rattle.decoder_core.proofs.Prelude.{length-take-le, drop_more, chars-append, chars_past_char, chars-nil, IsUtf8-append, IsUtf8-encode}
+use Rattle.decoder_core.proofs.Prelude.{length-encode, len_utf8_bounds, Stride, One, IsBulk, width_of, run_width, plain_from, TakesByte, TakesPair}
+use Rattle.decoder_core.proofs.Prelude.{IsFront, IsFrontPut, Falls, Fed, feed, Shown, shown_from}
 use Rattle.std.specs.Simd.Lanes.{put_chunk}
-use Rattle.std.specs.Str.{chars, IsUtf8}
-use Rattle.std.proofs.lemmas.Bool.{le-ltb, leb-true}
-use Rattle.std.proofs.Math.Utf8.{low_scalar}
-use Rattle.std.proofs.lemmas.Bool.Decides.{nat_tests}
 use Rattle.index_loader.specs.Form.{IsFormPut, is_wide}
-use Rattle.std.proofs.lemmas.Int.{ints}
-use Rattle.std.proofs.lemmas.List.{length-take-le, drop_more}
 use Rattle.std.proofs.lemmas.Simd.{take_more_put_chunk}
-use Rattle.std.proofs.lemmas.Str.{chars-append, chars_past_char, chars-nil, IsUtf8-append, IsUtf8-encode, length-encode, len_utf8_bounds}
-use Rattle.decoder_core.specs.declared.bulk.Stride.{Stride}
 use Rattle.decoder_core.specs.declared.bulk.Stride.TheVariants.{Pairs, Bytes}
-use Rattle.decoder_core.specs.declared.item.Item.TheVariants.{One}
-use Rattle.decoder_core.specs.Bulk.{IsBulk, width_of, run_width, plain_from}
-use Rattle.decoder_core.specs.Fronts.{TakesByte, TakesPair, IsFront, IsFrontPut}
-use Rattle.decoder_core.specs.Queue.{Table, Falls, Fed, feed}
-use Rattle.decoder_core.specs.Shown.{Shown, shown_from}
+use Rattle.decoder_core.specs.Queue.{Table}
 use Rattle.decoder_core.proofs.Moving.{take-one}
 use Rattle.decoder_core.proofs.Running.{feed-append}
 use Rattle.decoder_core.proofs.Showing.{shown-append}

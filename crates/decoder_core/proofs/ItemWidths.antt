@@ -1,18 +1,9 @@
 -- How long items are that are taken in bulk.
 use Rattle.std.proofs.Common.{◌≡◌, ℕ, ◌+◌, ◌*◌, ◌<◌, ◌≤◌, List, [], ◌∷◌, ◌++◌, length, length-append, ℤ, pos, ◌+ℤ◌, ◌-ℤ◌, refl, sym, ap, ◌∙◌, append_assoc, fold, arith, ◌⊎◌, inl, inr}
-use Rattle.std.proofs.lemmas.Bool.Decides.{nat_tests}
-use Rattle.std.proofs.lemmas.Int.{ints}
-use Rattle.std.proofs.Math.Utf8.{encode}
-use Rattle.std.specs.Char.{len_utf8}
-use Rattle.std.specs.Str.{chars, encode_utf8_all, IsUtf8}
-use Rattle.std.proofs.lemmas.Str.{encodes-chars, length-encode, chars_past_char, len_utf8_bounds}
-use Rattle.decoder_core.specs.declared.bulk.Stride.{Stride}
+use Rattle.decoder_core.proofs.Prelude.{nat_tests, ints, encode, len_utf8, chars, encode_utf8_all, IsUtf8, encodes-chars, length-encode}
+use Rattle.decoder_core.proofs.Prelude.{chars_past_char, len_utf8_bounds, Stride, One, width_of, run_width, plain_from, plain_to, fold-append}
+use Rattle.decoder_core.proofs.Prelude.{Collected, collect_item, collect_one, Shown}
 use Rattle.decoder_core.specs.declared.bulk.Stride.TheVariants.{Utf8, Utf16, Pairs, Bytes}
-use Rattle.decoder_core.specs.declared.item.Item.TheVariants.{One}
-use Rattle.decoder_core.specs.Bulk.{width_of, run_width, plain_from, plain_to}
-use Rattle.std.proofs.lemmas.Grind.{fold-append}
-use Rattle.decoder_core.specs.Collected.{Collected, collect_item, collect_one}
-use Rattle.decoder_core.specs.Shown.{Shown}
 
 pub utf8-width : (cs : List ℕ) → run_width Utf8 cs ≡ length (encode_utf8_all cs)
 utf8-width [] = refl

@@ -1,3 +1,4 @@
+mod Prelude
 pub mod Running
 pub mod Driving
 pub mod Showing

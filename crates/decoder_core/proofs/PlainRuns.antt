@@ -1,17 +1,13 @@
 -- A decoder to which, in one of its states, each byte of a class is its own code point takes runs of them in bulk.
 use Rattle.std.proofs.Common.{◌≡◌, ℕ, zero, suc, ◌+◌, ◌<◌, ◌≤◌, Bool, true, false, List, [], ◌∷◌, cond, nat_lt, length, take, pos, refl, sym, ap, ◌∙◌, subst, arith, lit≤, not, ◌||◌, ◌==◌}
-use Rattle.std.specs.Str.{chars, IsAscii, IsUtf8}
-use Rattle.std.proofs.lemmas.Bool.{ltb-true, eqb-false, and_parts}
-use Rattle.std.proofs.lemmas.List.{length-take}
+use Rattle.decoder_core.proofs.Prelude.{chars, IsAscii, IsUtf8, ltb-true, eqb-false, and_parts, length-take, chars-IsAscii, IsUtf8-from_ascii}
+use Rattle.decoder_core.proofs.Prelude.{len_utf8_ascii, Bulk, Falls, IsBulk, plain_from, run_width}
 use Rattle.std.proofs.lemmas.List.Sums.{prefix_len-le-length}
-use Rattle.std.proofs.lemmas.Str.{chars-IsAscii, IsUtf8-from_ascii, len_utf8_ascii}
 use Rattle.std.proofs.lemmas.Str.Ascii.{IsAscii-nil, IsAscii-cons}
-use Rattle.decoder_core.specs.declared.bulk.Bulk.{Bulk}
 use Rattle.decoder_core.specs.declared.bulk.Stride.TheVariants.{Utf8}
 use Rattle.decoder_core.specs.declared.ascii_runs.AsciiRuns.{AsciiRuns}
 use Rattle.decoder_core.specs.declared.ascii_runs.AsciiRuns.TheVariants.{None, All, WithoutEscapes}
-use Rattle.decoder_core.specs.Queue.{Table, Falls}
-use Rattle.decoder_core.specs.Bulk.{IsBulk, plain_from, run_width}
+use Rattle.decoder_core.specs.Queue.{Table}
 use Rattle.decoder_core.specs.AsciiRuns.{IsOf, is_of, run_len, TakesAscii, IsRunBulk}
 use Rattle.decoder_core.proofs.Turning.{given, ArePassed, passed-shown, passed-stays}
 

@@ -1,9 +1,8 @@
 -- The laws of runs, for every table with falling weight.
 use Rattle.std.proofs.Common.{◌≡◌, ◌≢◌, ℕ, zero, suc, ◌+◌, ◌*◌, ◌<◌, List, [], ◌∷◌, ◌++◌, length, Some, refl, sym, ap, ◌∙◌, subst, arith, append_assoc, length-append, ◌⊎◌, inl, inr}
-use Rattle.decoder_core.specs.declared.item.Ended.{Ended}
-use Rattle.decoder_core.specs.declared.handler.Answer.{Answer}
-use Rattle.decoder_core.specs.declared.handler.Answer.TheVariants.{Nothing, Gives, Finished}
-use Rattle.decoder_core.specs.Queue.{Table, Runs, Fed, Falls, front, turn_at, queue_after, told, turns, run, fed_after, feed_for, feed, further, finished, nothing, gives}
+use Rattle.decoder_core.proofs.Prelude.{Ended, Answer, Nothing, Gives, Finished, Runs, Fed, Falls, front, turn_at, queue_after, told, turns, run}
+use Rattle.decoder_core.proofs.Prelude.{fed_after, feed_for, feed, further, finished, nothing}
+use Rattle.decoder_core.specs.Queue.{Table, gives}
 
 -- ---- one answer
 

@@ -1,15 +1,9 @@
 -- Turns in front of a queue: those that hold their bytes, and one that gives a code point; and runs of code points without gaps.
 use Rattle.std.proofs.Common.{◌≡◌, ℕ, suc, ◌+◌, ◌<◌, ◌≤◌, List, [], ◌∷◌, ◌++◌, Some, length, take, drop, pos, ℤ, ◌+ℤ◌, ◌-ℤ◌, sym, ap, ◌∙◌, arith, append-nil}
-use Rattle.std.proofs.lemmas.Int.{ints}
-use Rattle.decoder_core.specs.declared.item.Ended.{Ended}
-use Rattle.decoder_core.specs.declared.item.Item.TheVariants.{One}
-use Rattle.decoder_core.specs.declared.handler.Answer.TheVariants.{Gives}
-use Rattle.decoder_core.specs.declared.bulk.Stride.{Stride}
-use Rattle.decoder_core.specs.Bulk.{plain_from, width_of}
-use Rattle.decoder_core.specs.Fronts.{IsFront}
-use Rattle.decoder_core.specs.Queue.{Turn, Table, Falls, Fed, feed, fed_after}
-use Rattle.decoder_core.specs.Forms.{gives, holds}
-use Rattle.decoder_core.specs.Shown.{Shown, shown_at, shown_from}
+use Rattle.decoder_core.proofs.Prelude.{ints, Ended, One, Gives, Stride, plain_from, width_of, IsFront, Turn, Falls, Fed, feed, fed_after, holds}
+use Rattle.decoder_core.proofs.Prelude.{Shown, shown_at, shown_from}
+use Rattle.decoder_core.specs.Queue.{Table}
+use Rattle.decoder_core.specs.Forms.{gives}
 use Rattle.decoder_core.proofs.Running.{feed-nil, feed-turn, feed-append}
 
 module _ {S : Type 0} (table : Table S) (f : Falls table) where

@@ -1,19 +1,12 @@
 -- Runs of UTF-8: each code point is an item, and leaves nothing pending.
 use Rattle.std.proofs.Common.{◌≡◌, ℕ, ◌+◌, ◌-◌, ◌*◌, ◌/◌, ◌%◌, ◌<◌, ◌≤◌, Bool, true, false, List, [], ◌∷◌, ◌++◌, Some, if◌then◌else◌, ◌==◌, take, drop, subst, length, pos, refl, sym, ap, ◌∙◌, arith, ◌⊎◌, inl, inr}
-use Rattle.std.proofs.lemmas.Bool.{le-leb, lt-leb, eqb-true, lt-ltb, le-ltb, and_parts, cases_lt}
-use Rattle.std.proofs.Math.Utf8.{encode, scalar, scalars, scalar_cases}
-use Rattle.std.specs.Str.{chars, encode_utf8_all, IsUtf8}
-use Rattle.std.proofs.lemmas.List.{length-take, length-take-le, take-append-drop, take-append-le}
+use Rattle.decoder_core.proofs.Prelude.{le-leb, lt-leb, eqb-true, lt-ltb, le-ltb, and_parts, cases_lt, encode, scalar, scalars, scalar_cases, chars}
+use Rattle.decoder_core.proofs.Prelude.{encode_utf8_all, IsUtf8, length-take, length-take-le, take-append-drop, take-append-le, encodes-chars}
+use Rattle.decoder_core.proofs.Prelude.{scalars-chars, length-encode, utf8_valid_len_le, IsBulk, plain_from, run_width, One, feed, holds, shown_from}
+use Rattle.decoder_core.proofs.Prelude.{utf8, utf8_start, utf8_begins, utf8_falls}
 use Rattle.std.specs.Str.Lossy.{utf8_valid_len}
-use Rattle.std.proofs.lemmas.Str.{encodes-chars, scalars-chars, length-encode, utf8_valid_len_le}
 use Rattle.decoder_core.specs.declared.bulk.Stride.TheVariants.{Utf8 as by_utf8}
-use Rattle.decoder_core.specs.Bulk.{IsBulk, plain_from, run_width}
-use Rattle.decoder_core.specs.declared.item.Item.TheVariants.{One}
-use Rattle.decoder_core.specs.Queue.{feed}
-use Rattle.decoder_core.specs.Forms.{gives, holds}
-use Rattle.decoder_core.specs.Shown.{shown_from}
-use Rattle.decoder_core.specs.Utf8.{utf8, utf8_start, utf8_begins}
-use Rattle.decoder_core.specs.Utf8Laws.{utf8_falls}
+use Rattle.decoder_core.specs.Forms.{gives}
 use Rattle.decoder_core.proofs.ItemWidths.{utf8-width, narrow, most}
 use Rattle.decoder_core.proofs.Turning.{Passes, given, held, ArePassed, passed-shown, passed-stays}
 

@@ -1,9 +1,8 @@
 use Rattle.std.proofs.Common.{rules, refl, arith, ◌≡◌, ◌+◌, ◌≤◌, ◌<◌, length}
 use Rattle.decoder_core.specs.declared.bulk.Stride.TheVariants.{Pairs}
-use Rattle.decoder_core.specs.Fronts.{TakesByte}
+use Rattle.decoder_core.proofs.Prelude.{TakesByte, lt-ltb}
 use Rattle.decoder_core.proofs.Fronts.{ascii-put, put-more, put-few}
 use Rattle.decoder_core.proofs.Moving.{nothing_is_bulk}
-use Rattle.std.proofs.lemmas.Bool.{lt-ltb}
 use Rattle.decoder_core.proofs.pair_bulk.take_with.Goals as goal
 
 pub pairs-init : goal.pairs-init

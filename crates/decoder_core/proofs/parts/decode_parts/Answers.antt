@@ -1,10 +1,5 @@
 use Rattle.std.proofs.Common.{◌≡◌, ℕ, ◌+◌, ◌<◌, ◌^◌, List, [], ◌++◌, length, sym, ap, ◌∙◌, arith, append-nil, length-append}
-use Rattle.decoder_core.specs.declared.item.Ended.{Ended}
-use Rattle.decoder_core.specs.declared.placed.Placed.{Placed}
-use Rattle.decoder_core.specs.Queue.{run}
-use Rattle.decoder_core.specs.Placed.{places}
-use Rattle.decoder_core.specs.Collected.{Collected}
-use Rattle.decoder_core.specs.Seen.{seen_of}
+use Rattle.decoder_core.proofs.Prelude.{Ended, Placed, run, places, Collected, seen_of}
 use Rattle.decoder_core.proofs.Collecting.{collect-shown, part-done}
 use Rattle.decoder_core.proofs.parts.decode_parts.Goals as goal
 

@@ -1,6 +1,5 @@
 use Rattle.std.proofs.Common.{◌≡◌, ◌+◌, ◌-◌, ◌^◌, ◌≤◌, ◌++◌, min, length}
-use Rattle.decoder_core.specs.Queue.{run}
-use Rattle.decoder_core.specs.Placed.{places}
+use Rattle.decoder_core.proofs.Prelude.{run, places}
 use Rattle.decoder_core.proofs.parts.decode_parts.Given as goal
 
 abbrev pub invariant-parts : goal.invariant-parts

@@ -1,9 +1,5 @@
 use Rattle.std.proofs.Common.{◌≡◌, ◌++◌, suc, List, length, sym, ap, ◌∙◌, arith, length-append, append-nil}
-use Rattle.decoder_core.specs.declared.item.Ended.{Ended}
-use Rattle.decoder_core.specs.Queue.{run}
-use Rattle.decoder_core.specs.Counts.{cost}
-use Rattle.decoder_core.specs.Steps.{bytes_of}
-use Rattle.decoder_core.specs.declared.handler.Answer.{Answer}
+use Rattle.decoder_core.proofs.Prelude.{Ended, run, cost, bytes_of, Answer}
 use Rattle.decoder_core.proofs.Driving.{turned, run_finished, pushed}
 use Rattle.decoder_core.proofs.turns.finish_by.Goals as goal
 

@@ -1,6 +1,5 @@
 use Rattle.std.proofs.Common.{◌≡◌, [], ◌++◌, ◌+◌, ◌*◌, ◌<◌, ◌≤◌, length}
-use Rattle.decoder_core.specs.Queue.{run}
-use Rattle.decoder_core.specs.Steps.{bytes_of}
+use Rattle.decoder_core.proofs.Prelude.{run, bytes_of}
 use Rattle.decoder_core.proofs.turns.finish_by.Given as goal
 
 abbrev pub invariant-turns : goal.invariant-turns

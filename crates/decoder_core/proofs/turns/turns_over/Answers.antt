@@ -1,9 +1,5 @@
 use Rattle.std.proofs.Common.{◌≡◌, ◌++◌, suc, List, length, sym, ap, ◌∙◌, arith, length-append}
-use Rattle.decoder_core.specs.declared.item.Ended.{Ended}
-use Rattle.decoder_core.specs.Queue.{Fed, feed}
-use Rattle.decoder_core.specs.Counts.{cost}
-use Rattle.decoder_core.specs.Steps.{bytes_of}
-use Rattle.decoder_core.specs.declared.handler.Answer.{Answer}
+use Rattle.decoder_core.proofs.Prelude.{Ended, Fed, feed, cost, bytes_of, Answer}
 use Rattle.decoder_core.proofs.Driving.{fed_on, fed_finished, fed_empty, pushed, nothing_more}
 use Rattle.decoder_core.proofs.turns.turns_over.Goals as goal
 

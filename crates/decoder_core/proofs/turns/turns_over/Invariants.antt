@@ -1,6 +1,5 @@
 use Rattle.std.proofs.Common.{◌≡◌, [], ◌∷◌, ◌++◌, ◌+◌, ◌*◌, ◌<◌, ◌≤◌, length}
-use Rattle.decoder_core.specs.Queue.{feed}
-use Rattle.decoder_core.specs.Steps.{bytes_of}
+use Rattle.decoder_core.proofs.Prelude.{feed, bytes_of}
 use Rattle.decoder_core.proofs.turns.turns_over.Given as goal
 
 abbrev pub invariant-turns : goal.invariant-turns

@@ -1,6 +1,5 @@
 use Rattle.std.proofs.Common.{◌∙◌, ap, sym, ℕ, List, take}
-use Rattle.decoder_core.specs.Utf16.{units_of}
-use Rattle.decoder_core.specs.declared.utf16.ByteOrder.TheVariants.{LittleEndian}
+use Rattle.decoder_core.proofs.Prelude.{units_of, LittleEndian}
 use Rattle.decoder_core.proofs.Utf16Runs.{swapped-units}
 use Rattle.decoder_core.proofs.utf16_bulk.read_units.Goals as goal
 

@@ -1,9 +1,5 @@
 use Rattle.std.proofs.Common.{rules, arith, ◌≡◌, ◌*◌, ◌≤◌, sym, subst, length}
-use Rattle.decoder_core.specs.declared.bulk.Bulk.{Bulk}
-use Rattle.decoder_core.specs.Bulk.{IsBulk}
-use Rattle.decoder_core.specs.Holding.{falls_of}
-use Rattle.decoder_core.specs.Utf16.{utf16, utf16_start}
-use Rattle.decoder_core.specs.Utf16Laws.{utf16_holding}
+use Rattle.decoder_core.proofs.Prelude.{Bulk, IsBulk, falls_of, utf16, utf16_start, utf16_holding}
 use Rattle.decoder_core.proofs.Moving.{nothing_is_bulk}
 use Rattle.decoder_core.proofs.Utf16Runs.{utf16_is_bulk, units-front}
 use Rattle.decoder_core.proofs.utf16_bulk.utf16_bulk.Goals as goal

@@ -1,7 +1,5 @@
 use Rattle.std.proofs.Common.{arith, ap, ℕ, List}
-use Rattle.std.proofs.lemmas.Str.{IsUtf8-past_char}
-use Rattle.std.proofs.StrCases.{chars_of_empty}
-use Rattle.decoder_core.specs.Bulk.{run_width}
+use Rattle.decoder_core.proofs.Prelude.{IsUtf8-past_char, chars_of_empty, run_width}
 use Rattle.decoder_core.proofs.ItemWidths.{text-small, width-first}
 use Rattle.decoder_core.proofs.widths.text_width.Goals as goal
 

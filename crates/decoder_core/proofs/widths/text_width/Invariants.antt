@@ -1,7 +1,5 @@
 use Rattle.std.proofs.Common.{◌≡◌, ◌+◌}
-use Rattle.std.specs.Str.{chars, IsUtf8}
-use Rattle.std.specs.Str.Iter.{chars_rest}
-use Rattle.decoder_core.specs.Bulk.{run_width}
+use Rattle.decoder_core.proofs.Prelude.{chars, IsUtf8, chars_rest, run_width}
 use Rattle.decoder_core.proofs.widths.text_width.Given as goal
 
 abbrev pub invariant-rest : goal.invariant-rest

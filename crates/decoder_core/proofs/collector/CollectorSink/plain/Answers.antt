@@ -1,14 +1,7 @@
 use Rattle.std.proofs.Common.{arith, ◌≡◌, ◌++◌, ◌∙◌, ap, sym, refl, ℕ, List, [], ◌∷◌, append-nil, ◌-◌, fold, w64}
-use Rattle.std.specs.Str.{chars}
-use Rattle.std.specs.Str.Iter.{chars_rest}
+use Rattle.decoder_core.proofs.Prelude.{chars, chars_rest, err_from_is_err_and, IsUtf8-past_char, chars_of_empty, run_width, plain_to, collect_one}
+use Rattle.decoder_core.proofs.Prelude.{seen_of, Shown}
 use Rattle.std.proofs.Math.Facts.{to_z-of_z}
-use Rattle.std.proofs.lemmas.Result.{err_from_is_err_and}
-use Rattle.std.proofs.lemmas.Str.{IsUtf8-past_char}
-use Rattle.std.proofs.StrCases.{chars_of_empty}
-use Rattle.decoder_core.specs.Bulk.{run_width, plain_to}
-use Rattle.decoder_core.specs.Collected.{collect_one}
-use Rattle.decoder_core.specs.Seen.{seen_of}
-use Rattle.decoder_core.specs.Shown.{Shown}
 use Rattle.decoder_core.proofs.ItemWidths.{width-first, next-item, next-whole, next-seen}
 use Rattle.decoder_core.proofs.collector.CollectorSink.plain.Goals as goal
 

@@ -1,10 +1,5 @@
 use Rattle.std.proofs.Common.{◌≡◌, ◌++◌, List, fold}
-use Rattle.std.specs.Str.{chars, IsUtf8}
-use Rattle.std.specs.Str.Iter.{chars_rest}
-use Rattle.decoder_core.specs.Bulk.{run_width, plain_to}
-use Rattle.decoder_core.specs.Collected.{collect_one}
-use Rattle.decoder_core.specs.Seen.{seen_of}
-use Rattle.decoder_core.specs.Shown.{Shown}
+use Rattle.decoder_core.proofs.Prelude.{chars, IsUtf8, chars_rest, run_width, plain_to, collect_one, seen_of, Shown}
 use Rattle.decoder_core.proofs.collector.CollectorSink.plain.Given as goal
 
 abbrev pub invariant-rest : goal.invariant-rest

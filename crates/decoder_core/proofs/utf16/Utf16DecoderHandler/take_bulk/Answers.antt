@@ -1,6 +1,4 @@
-use Rattle.decoder_core.specs.Holding.{falls_of}
-use Rattle.decoder_core.specs.Utf16.{utf16}
-use Rattle.decoder_core.specs.Utf16Laws.{utf16_holding}
+use Rattle.decoder_core.proofs.Prelude.{falls_of, utf16, utf16_holding}
 use Rattle.decoder_core.proofs.Moving.{nothing_is_bulk}
 use Rattle.decoder_core.proofs.utf16.Utf16DecoderHandler.take_bulk.Goals as goal
 
