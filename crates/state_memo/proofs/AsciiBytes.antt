@@ -2,14 +2,9 @@
 use Rattle.std.proofs.Common.{◌≡◌, refl, sym, ap, ◌∙◌, ℕ, ◌+◌, ◌*◌, ◌/◌, ◌<◌, ◌≤◌, Bool, true, false, List, [], ◌∷◌, ◌++◌, length, take, drop, get_or, arith, nat_lt, cond, add-one}
 use Rattle.std.proofs.Math.Seq.{drop-cons}
 use Rattle.std.proofs.Math.Utf8.{next, encode}
-use Rattle.std.proofs.lemmas.Bool.{le-ltb}
+use Rattle.std.proofs.lemmas.Bool.{cond_both, le-ltb}
 use Rattle.std.proofs.lemmas.List.{length-drop, take-append-drop}
-use Rattle.std.proofs.lemmas.Str.{encodes-chars}
-use Rattle.std.specs.Str.{chars, encode_utf8_all, IsUtf8}
-use Rattle.decoder_core.specs.declared.bulk.Stride.TheVariants.{Pairs}
-use Rattle.decoder_core.specs.Bulk.{width_of, run_width}
-use Rattle.lane_utf.specs.Widths.{total_width}
-use Rattle.state_memo.proofs.Leads.{by_cond}
+use Rattle.state_memo.proofs.Prelude.{encodes-chars, chars, encode_utf8_all, IsUtf8, Pairs, width_of, run_width, total_width}
 
 abbrev pub one_ascii : ℕ → ℕ
 one_ascii b = cond (nat_lt b 0x80) 1 0
@@ -57,10 +52,10 @@ none b bs high = rw (le-ltb b 0x80 high) (zero_more (ascii_in bs))
 ascii-one : (c : ℕ) → ascii_in (encode c) + width_of Pairs c ≡ 2
 unfolding encode ascii_in
 ascii-one c =
-    by_cond (λ (bs : List ℕ). ascii_in bs + width_of Pairs c ≡ 2) (nat_lt c 128) _ _ (λ h. rw h refl)
+    cond_both (nat_lt c 128) _ _ (λ (bs : List ℕ). ascii_in bs + width_of Pairs c ≡ 2) (λ h. rw h refl)
     (λ h. let two : width_of Pairs c ≡ 2 = rw h refl in
-    by_cond (λ (bs : List ℕ). ascii_in bs + width_of Pairs c ≡ 2) (nat_lt c 2048) _ _ (λ _. omega (arith, two, none (192 + c / 64) (next c ∷ []) (omega arith), none (next c) [] (omega arith)))
-    (λ _. by_cond (λ (bs : List ℕ). ascii_in bs + width_of Pairs c ≡ 2) (nat_lt c 65536) _ _
+    cond_both (nat_lt c 2048) _ _ (λ (bs : List ℕ). ascii_in bs + width_of Pairs c ≡ 2) (λ _. omega (arith, two, none (192 + c / 64) (next c ∷ []) (omega arith), none (next c) [] (omega arith)))
+    (λ _. cond_both (nat_lt c 65536) _ _ (λ (bs : List ℕ). ascii_in bs + width_of Pairs c ≡ 2)
     (λ _. omega (arith, two, none (224 + c / 4096) (next (c / 64) ∷ next c ∷ []) (omega arith), none (next (c / 64)) (next c ∷ []) (omega arith), none (next c) [] (omega arith)))
     (λ _. omega (arith, two, none (240 + c / 262144) (next (c / 4096) ∷ next (c / 64) ∷ next c ∷ []) (omega arith), none (next (c / 4096)) (next (c / 64) ∷ next c ∷ []) (omega arith), none (next (c / 64)) (next c ∷ []) (omega arith), none (next c) [] (omega arith)))))
 

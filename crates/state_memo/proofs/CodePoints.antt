@@ -1,19 +1,10 @@
 -- Texts whose code points are items without gaps.
 use Rattle.std.proofs.Common.{◌≡◌, refl, sym, ap, subst, ◌∙◌, ℕ, suc, ◌+◌, ◌*◌, ◌≤◌, List, [], ◌∷◌, ◌++◌, append_assoc, length, fold, arith, ℤ, pos, ◌+ℤ◌, ◌-ℤ◌, Bool, true, false, cond, nat_lt}
-use Rattle.std.proofs.lemmas.Int.{ints}
-use Rattle.std.proofs.lemmas.Str.{len_utf8_bounds}
-use Rattle.std.specs.Char.{len_utf8}
-use Rattle.lane_utf.specs.Widths.{utf8_width, utf16_width, total_width}
-use Rattle.decoder_core.specs.declared.bulk.Stride.{Stride}
 use Rattle.decoder_core.specs.declared.bulk.Stride.TheVariants.{Utf8, Utf16, Pairs, Bytes}
-use Rattle.decoder_core.specs.declared.item.Item.TheVariants.{One}
 use Rattle.decoder_core.specs.Bulk.{width_of, run_width, plain_from}
-use Rattle.iso2022jp.specs.declared.output.OutputState.{OutputState}
-use Rattle.state_memo.specs.declared.ended.Ended.{Ended}
-use Rattle.state_memo.specs.declared.kind.ItemKind.{ItemKind}
 use Rattle.state_memo.specs.Gathering.{Gathered, with_item, with_shown, with_more, plain_items_from, plain_items, IsEven}
-use Rattle.state_memo.specs.Items.{errors_in, kept_item}
-use Rattle.state_memo.specs.Runs.{item_of_kind, items_until}
+use Rattle.state_memo.proofs.Prelude.{ints, len_utf8_bounds, len_utf8, utf8_width, utf16_width, total_width, Stride, One, OutputState, Ended}
+use Rattle.state_memo.proofs.Prelude.{ItemKind, errors_in, kept_item, item_of_kind, items_until}
 use Rattle.state_memo.proofs.Gathered.{more-nil}
 use Rattle.state_memo.proofs.Splitting.{first-until}
 

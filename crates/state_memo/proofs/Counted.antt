@@ -1,16 +1,10 @@
 -- What items come to.
 use Rattle.std.proofs.Common.{◌≡◌, refl, ℕ, ℤ, ◌+◌, ◌*◌, ◌≤◌, Bool, true, false, List, [], ◌∷◌, ◌++◌, length, length-append, map, flat_map, arith}
-use Rattle.std.proofs.lemmas.Bool.Decides.{nat_tests}
-use Rattle.lane_ascii.specs.Marks.{one_if}
-use Rattle.lane_utf.specs.Widths.{utf8_width, total_width}
 use Rattle.decoder_core.specs.declared.item.Item.{Item}
 use Rattle.decoder_core.specs.declared.item.Item.TheVariants.{One, Two, Error}
-use Rattle.decoder_core.specs.Text.{item_code_points}
-use Rattle.iso2022jp.specs.declared.output.OutputState.{OutputState}
-use Rattle.state_memo.specs.declared.ended.Ended.{Ended}
-use Rattle.state_memo.specs.Facts.{IsBounded}
 use Rattle.state_memo.specs.Items.{scalar_count, is_an_error, kept_item, errors_in, all_scalars}
 use Rattle.state_memo.specs.Sums.{sum_of}
+use Rattle.state_memo.proofs.Prelude.{nat_tests, one_if, utf8_width, total_width, item_code_points, OutputState, Ended, IsBounded}
 
 utf8_width-le : (c : ℕ) → utf8_width c ≤ 4
 utf8_width-le c = grind (arith, nat_tests)

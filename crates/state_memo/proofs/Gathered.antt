@@ -2,19 +2,11 @@
 use Rattle.std.proofs.Common.{◌≡◌, refl, sym, ap, subst, ◌∙◌, ℕ, ◌+◌, ◌≤◌, List, [], ◌∷◌, ◌++◌, append_assoc, append-nil, fold, length}
 use Rattle.std.specs.Prelude.{pos, ◌-ℤ◌}
 use Rattle.decoder_core.specs.declared.item.Ended.{Ended as EndedItem}
-use Rattle.decoder_core.specs.Shown.{Shown, shown_from}
 use Rattle.decoder_core.specs.Queue.{run, feed}
-use Rattle.decoder_core.specs.Text.{item_code_points}
-use Rattle.iso2022jp.specs.declared.output.OutputState.{OutputState}
-use Rattle.codec.specs.declared.state.AnyState.{AnyState}
-use Rattle.codec.specs.Any.{AnyDecoding, any, output_of}
-use Rattle.state_memo.specs.declared.ended.Ended.{Ended}
-use Rattle.state_memo.specs.declared.sum.Sum.{Sum}
-use Rattle.state_memo.specs.Facts.{IsSumOf, IsBounded, IsDone}
-use Rattle.state_memo.specs.Gathering.{Gathered, no_item, with_shown, with_ended, with_more}
-use Rattle.state_memo.specs.Items.{kept_item, all_scalars}
 use Rattle.state_memo.specs.Outcome.{Contents, outcome_of, ending_of, text_of_shown, items_of_shown, text_of_ended, items_of_ended}
 use Rattle.state_memo.specs.Sums.{sum_of}
+use Rattle.state_memo.proofs.Prelude.{Shown, shown_from, item_code_points, OutputState, AnyState, AnyDecoding, any, output_of, Ended, Sum, IsSumOf}
+use Rattle.state_memo.proofs.Prelude.{IsBounded, IsDone, Gathered, no_item, with_shown, with_ended, with_more, kept_item, all_scalars}
 use Rattle.state_memo.proofs.Counted.{counted-items, bounded-items}
 
 pub more-nil : (g : Gathered) → g ≡ with_more g [] []

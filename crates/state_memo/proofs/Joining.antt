@@ -1,13 +1,6 @@
 -- The numbers of texts in a row.
 use Rattle.std.proofs.Common.{◌≡◌, refl, sym, ap, ◌∙◌, ℕ, ◌+◌, Bool, true, false, not, cond, ◌==◌, ◌||◌, ◌&&◌, List, [], ◌∷◌, ◌++◌, length, length-append, arith}
-use Rattle.std.proofs.lemmas.Bool.Decides.{nat_tests}
-use Rattle.state_memo.specs.declared.sum.Sum.{Sum}
-use Rattle.lane_ascii.specs.Marks.{cr, lf, one_if, marks, ends_cr}
-use Rattle.lane_utf.specs.Widths.{utf8_width, utf16_width}
-use Rattle.state_memo.specs.declared.ended.Ended.{Ended}
-use Rattle.state_memo.specs.Facts.{IsSumOf}
-use Rattle.state_memo.specs.Lines.{begins_lf}
-use Rattle.state_memo.specs.Sums.{joined}
+use Rattle.state_memo.proofs.Prelude.{nat_tests, Sum, cr, lf, one_if, marks, ends_cr, utf8_width, utf16_width, Ended, IsSumOf, begins_lf, joined}
 use Rattle.state_memo.proofs.Counted.{width-append}
 use Rattle.state_memo.proofs.Marks.{marks-append, ends_cr-append}
 use Rattle.state_memo.proofs.Walks.{errors-append, scalars-append}

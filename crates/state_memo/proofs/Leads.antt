@@ -1,14 +1,8 @@
 -- What a code point's first byte tells of it.
 use Rattle.std.proofs.Common.{◌≡◌, refl, sym, ap, ◌∙◌, ℕ, ◌+◌, ◌/◌, ◌<◌, Bool, true, false, List, [], ◌∷◌, ◌++◌, length, get_or, arith, nat_lt, cond}
 use Rattle.std.proofs.Math.Utf8.{next, encode, encodes}
-use Rattle.std.proofs.lemmas.Bool.Decides.{nat_tests}
-use Rattle.std.proofs.lemmas.Str.{length-encode}
-use Rattle.std.specs.Char.{len_utf8}
-use Rattle.std.specs.Str.{IsUtf8, continuation_len}
-
-pub by_cond : {A : Type 0} (P : A → Type 0) (b : Bool) (x y : A) → (b ≡ true → P x) → (b ≡ false → P y) → P (cond b x y)
-by_cond P true x y p q = p refl
-by_cond P false x y p q = q refl
+use Rattle.std.proofs.lemmas.Bool.{cond_both}
+use Rattle.state_memo.proofs.Prelude.{nat_tests, length-encode, len_utf8, IsUtf8, continuation_len}
 
 -- the number of bytes is that which the first one promises
 abbrev Led : List ℕ → List ℕ → Type 0
@@ -29,9 +23,9 @@ four n = grind (arith, nat_tests)
 lead-encode : (c : ℕ) (rest : List ℕ) → Led rest (encode c)
 unfolding encode
 lead-encode c rest =
-    by_cond (Led rest) (nat_lt c 128) _ _ (λ h. let n : c < 128 = grind (arith, nat_tests) in led rest c [] (grind (arith, nat_tests)))
-    (λ h0. by_cond (Led rest) (nat_lt c 2048) _ _ (λ h. let n : c < 2048 = grind (arith, nat_tests) in led rest (192 + c / 64) (next c ∷ []) (two (c / 64) (omega arith)))
-    (λ h1. by_cond (Led rest) (nat_lt c 65536) _ _ (λ h. let n : c < 65536 = grind (arith, nat_tests) in led rest (224 + c / 4096) (next (c / 64) ∷ next c ∷ []) (three (c / 4096) (omega arith)))
+    cond_both (nat_lt c 128) _ _ (Led rest) (λ h. let n : c < 128 = grind (arith, nat_tests) in led rest c [] (grind (arith, nat_tests)))
+    (λ h0. cond_both (nat_lt c 2048) _ _ (Led rest) (λ h. let n : c < 2048 = grind (arith, nat_tests) in led rest (192 + c / 64) (next c ∷ []) (two (c / 64) (omega arith)))
+    (λ h1. cond_both (nat_lt c 65536) _ _ (Led rest) (λ h. let n : c < 65536 = grind (arith, nat_tests) in led rest (224 + c / 4096) (next (c / 64) ∷ next c ∷ []) (three (c / 4096) (omega arith)))
     (λ h2. led rest (240 + c / 262144) (next (c / 4096) ∷ next (c / 64) ∷ next c ∷ []) (four (c / 262144)))))
 
 -- a text that begins with this byte begins with a code point of so many bytes

@@ -9,6 +9,7 @@ pub mod Lifted
 pub mod Marks
 pub mod Numbers
 pub mod Places
+pub mod Prelude
 pub mod Splitting
 pub mod Walking
 pub mod Walks

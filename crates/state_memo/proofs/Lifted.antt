@@ -6,13 +6,9 @@ use Rattle.decoder_core.specs.declared.item.Ended.{Ended as EndedItem}
 use Rattle.decoder_core.specs.Lift.{IsLifted, lift_fed}
 use Rattle.decoder_core.specs.Queue.{Table, Fed, feed}
 use Rattle.decoder_core.specs.Shown.{Shown, shown_at, shown_from}
-use Rattle.iso2022jp.specs.declared.output.OutputState.{OutputState}
-use Rattle.codec.specs.declared.state.AnyState.{AnyState}
-use Rattle.codec.specs.Any.{AnyDecoding, any, output_of}
 use Rattle.state_memo.specs.Among.{IsAmong}
-use Rattle.state_memo.specs.Facts.{IsDone}
-use Rattle.state_memo.specs.Gathering.{Gathered, no_item, with_shown}
 use Rattle.state_memo.specs.Outcome.{Contents, outcome_of}
+use Rattle.state_memo.proofs.Prelude.{OutputState, AnyState, AnyDecoding, any, output_of, IsDone, Gathered, no_item, with_shown}
 use Rattle.state_memo.proofs.Gathered.{shown_all, contents_by, gathered-is, done, computed}
 
 abbrev lifted_shown : {S T : Type 0} → (S → T) → Shown S → Shown T

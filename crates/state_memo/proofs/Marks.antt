@@ -1,12 +1,9 @@
 -- Marks of a text's bytes are those of its code points.
 use Rattle.std.proofs.Common.{◌≡◌, refl, sym, ap, ◌∙◌, ℕ, suc, ◌+◌, ◌<◌, ◌≤◌, inl, inr, Bool, false, ◌==◌, List, [], ◌∷◌, ◌++◌, length, get_or, append-nil, arith, ◌-◌, Some, None, slice_get}
-use Rattle.std.specs.Str.{chars, IsUtf8}
 use Rattle.std.proofs.Math.Utf8.{encode, encodes}
-use Rattle.std.proofs.lemmas.Bool.{cases_lt}
-use Rattle.std.proofs.lemmas.Bool.Decides.{nat_tests}
 use Rattle.std.proofs.lemmas.Str.{chars-nil, encode_ascii, inside_one, encodes-chars, length-encode, len_utf8_bounds}
 use Rattle.lane_ascii.specs.Marks.{cr, lf, is_mark, one_if, marks, ends_cr}
-use Rattle.state_memo.specs.Lines.{begins_lf}
+use Rattle.state_memo.proofs.Prelude.{chars, IsUtf8, cases_lt, nat_tests, begins_lf}
 
 pub marks-append : (f : Bool) (a b : List ℕ) → marks f (a ++ b) ≡ marks f a + marks (ends_cr f a) b
 marks-append f [] b = omega arith

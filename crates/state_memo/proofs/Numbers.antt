@@ -1,17 +1,10 @@
 -- Numbers of a text as they are counted.
 use Rattle.std.proofs.Common.{◌≡◌, refl, sym, ap, ◌∙◌, ℕ, ◌≤◌, Bool, true, false, List, [], ◌∷◌, length, length-append, arith}
-use Rattle.std.specs.Str.{chars, IsUtf8, encode_utf8_all}
-use Rattle.std.specs.Char.{encode_utf8}
-use Rattle.std.proofs.lemmas.Str.{encodes-chars, length-encode}
-use Rattle.state_memo.specs.declared.sum.Sum.{Sum}
-use Rattle.lane_ascii.specs.Marks.{marks, ends_cr}
-use Rattle.lane_utf.specs.Widths.{utf8_width, utf16_width, total_width}
-use Rattle.state_memo.specs.declared.ended.Ended.{Ended}
-use Rattle.state_memo.specs.Items.{errors_in}
-use Rattle.state_memo.specs.Lines.{begins_lf}
 use Rattle.state_memo.specs.TextFacts.{marks-few, scalars-few, utf16-few, lf-counts, cr-counts}
 use Rattle.state_memo.specs.Sums.{sum_of}
 use Rattle.state_memo.specs.SumLaws.{same_by}
+use Rattle.state_memo.proofs.Prelude.{chars, IsUtf8, encode_utf8_all, encode_utf8, encodes-chars, length-encode, Sum, marks, ends_cr, utf8_width}
+use Rattle.state_memo.proofs.Prelude.{utf16_width, total_width, Ended, errors_in, begins_lf}
 
 width-encodes : (cs : List ℕ) → length (encode_utf8_all cs) ≡ total_width utf8_width cs
 width-encodes [] = refl

@@ -1,21 +1,9 @@
 -- Where a state's outcome is remembered.
 use Rattle.std.proofs.Common.{◌≡◌, refl, sym, ap, ◌∙◌, ℕ, zero, suc, ◌≤◌, Bool, true, false, List, [], ◌∷◌, length, take, Option, Some, None, get_or, slice_get, option_map, is_some, arith, cond}
-use Rattle.std.specs.List.{remove}
-use Rattle.std.proofs.lemmas.List.{take_all}
+use Rattle.std.proofs.lemmas.Bool.{cond-false, cond-true}
 use Rattle.std.proofs.lemmas.List.Edits.{length-remove}
-use Rattle.std.proofs.lemmas.Option.{slice_get_read}
-use Rattle.codec.specs.declared.state.AnyState.{AnyState}
-use Rattle.state_memo.specs.declared.outcome.Outcome.{Outcome}
-use Rattle.state_memo.specs.declared.known.Known.{Known}
 use Rattle.state_memo.specs.Memo.{same_state, recalled, without, put_first, entered, IsSlot}
-
-pub pick-then : {A : Type 0} (b : Bool) (x y : A) → b ≡ true → cond b x y ≡ x
-pick-then true x y e = refl
-pick-then false x y e = absurd cc
-
-pub pick-else : {A : Type 0} (b : Bool) (x y : A) → b ≡ false → cond b x y ≡ y
-pick-else true x y e = absurd cc
-pick-else false x y e = refl
+use Rattle.state_memo.proofs.Prelude.{remove, take_all, slice_get_read, AnyState, Outcome, Known}
 
 by-none : (b : Bool) (o : Outcome) (r : Option Outcome) → cond b (Some o) r ≡ None → (b ≡ false) × (r ≡ None)
 by-none true o r e = absurd cc
@@ -28,15 +16,15 @@ place-at (x ∷ ks) s zero k at none same =
     let e : x ≡ k = cc in
     let t : same_state x.entry s ≡ true = ap (λ (y : Known). same_state y.entry s) e ∙ same in record {
       within = omega arith;
-      found = pick-then _ _ _ t;
-      others = pick-then _ _ _ t;
+      found = cond-true _ _ _ t;
+      others = cond-true _ _ _ t;
     }
 place-at (x ∷ ks) s (suc i) k at none same =
     let f = by-none (same_state x.entry s) x.outcome (recalled (take i ks) s) none in
     let p = place-at ks s i k at f.1 same in record {
       within = omega (arith, p.within);
-      found = pick-else _ _ _ f.0 ∙ p.found;
-      others = pick-else _ _ _ f.0 ∙ ap (λ (rest : List Known). x ∷ rest) p.others;
+      found = cond-false _ _ _ f.0 ∙ p.found;
+      others = cond-false _ _ _ f.0 ∙ ap (λ (rest : List Known). x ∷ rest) p.others;
     }
 
 pub absent-more : (ks : List Known) (s : AnyState) (i : ℕ) (k : Known) → slice_get ks i ≡ Some k → recalled (take i ks) s ≡ None → same_state k.entry s ≡ false → recalled (take (suc i) ks) s ≡ None
@@ -44,16 +32,16 @@ absent-more [] s zero k at none same = refl
 absent-more [] s (suc i) k at none same = refl
 absent-more (x ∷ ks) s zero k at none same =
     let e : x ≡ k = cc in
-    pick-else _ _ _ (ap (λ (y : Known). same_state y.entry s) e ∙ same)
+    cond-false _ _ _ (ap (λ (y : Known). same_state y.entry s) e ∙ same)
 absent-more (x ∷ ks) s (suc i) k at none same =
     let f = by-none (same_state x.entry s) x.outcome (recalled (take i ks) s) none in
-    pick-else _ _ _ f.0 ∙ absent-more ks s i k at f.1 same
+    cond-false _ _ _ f.0 ∙ absent-more ks s i k at f.1 same
 
 without-absent : (ks : List Known) (s : AnyState) → recalled ks s ≡ None → without ks s ≡ ks
 without-absent [] s none = refl
 without-absent (x ∷ ks) s none =
     let f = by-none (same_state x.entry s) x.outcome (recalled ks s) none in
-    pick-else _ _ _ f.0 ∙ ap (λ (rest : List Known). x ∷ rest) (without-absent ks s f.1)
+    cond-false _ _ _ f.0 ∙ ap (λ (rest : List Known). x ∷ rest) (without-absent ks s f.1)
 
 pub room-absent : (ks : List Known) (s : AnyState) → recalled ks s ≡ None → take 3 ks ≡ take 3 (without ks s)
 room-absent ks s none = ap (λ (rest : List Known). take 3 rest) (sym (without-absent ks s none))

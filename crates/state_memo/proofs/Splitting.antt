@@ -1,10 +1,7 @@
 -- Runs that are one.
 use Rattle.std.proofs.Common.{◌≡◌, refl, sym, ap, ◌∙◌, ℕ, zero, suc, ◌+◌, ◌*◌, ◌<◌, List, [], ◌∷◌, ◌++◌, append_assoc, append-nil, arith, length, length-append, ◌≤◌, ◌-◌, Some, None, slice_get, ℤ, pos, ◌+ℤ◌, ◌-ℤ◌}
-use Rattle.std.proofs.lemmas.Int.{ints}
-use Rattle.state_memo.specs.declared.ended.Ended.{Ended}
-use Rattle.state_memo.specs.declared.kind.ItemKind.{ItemKind}
-use Rattle.state_memo.specs.declared.run.Run.{Run}
-use Rattle.state_memo.specs.Runs.{item_of_kind, items_until, items_of_run}
+use Rattle.std.proofs.lemmas.Option.{slice_get_past}
+use Rattle.state_memo.proofs.Prelude.{ints, Ended, ItemKind, Run, item_of_kind, items_until, items_of_run}
 
 -- where one item stands, the step between items doesn't count
 pub until-step : (kind : ItemKind) (last : ℤ) (n s t : ℕ) → (0 < n → s ≡ t) → items_until kind s last (suc n) ≡ items_until kind t last (suc n)
@@ -99,10 +96,5 @@ item-at r k behind within behind_is =
     all : (more k behind : ℕ) → k ≤ more → behind ≡ more - k → suc more ≡ suc behind + k
     all more k behind h e = omega (arith, h, e)
 
-none-at : {A : Type 0} (xs : List A) (k : ℕ) → length xs ≤ k → slice_get xs k ≡ None
-none-at [] k h = refl
-none-at (x ∷ xs) zero h = absurd (omega (arith, h))
-none-at (x ∷ xs) (suc k) h = none-at xs k (omega (arith, h))
-
 pub no-item : (r : Run) (k : ℕ) → r.more < k → slice_get (items_of_run r) k ≡ None
-no-item r k h = none-at (items_of_run r) k (omega (arith, h, length-until r.kind r.step r.last (suc r.more)))
+no-item r k h = slice_get_past (items_of_run r) k (omega (arith, h, length-until r.kind r.step r.last (suc r.more)))

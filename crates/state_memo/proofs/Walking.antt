@@ -1,31 +1,17 @@
 -- A text's items, taken in one walk over its code points.
 use Rattle.std.proofs.Common.{◌≡◌, refl, sym, ap, subst, ◌∙◌, ℕ, zero, suc, ◌+◌, ◌-◌, ◌*◌, ◌<◌, ◌≤◌, List, [], ◌∷◌, ◌++◌, append_assoc, append-nil, length, length-append, min, take, drop, get_or, arith, ℤ, pos, ◌+ℤ◌, ◌-ℤ◌, ◌<ℤ◌, false, leb, map, nat_lt, not}
-use Rattle.std.proofs.lemmas.Bool.Decides.{nat_tests}
 use Rattle.std.proofs.lemmas.Grind.{flat_map-append}
-use Rattle.std.proofs.lemmas.Int.{ints}
 use Rattle.std.proofs.lemmas.List.{get_or-drop, length-drop, take_all}
 use Rattle.std.proofs.lemmas.List.Sums.{prefix_len-le-length, prefix_len_passes}
 use Rattle.std.proofs.lemmas.Simd.{length-chunk, run_in_chunk_fails, run_in_chunk_le, trailing_mask_l}
 use Rattle.std.proofs.lemmas.Str.{chars_past_char, drop_past_char, length-encode, len_utf8_bounds, IsUtf8-past_char}
 use Rattle.std.proofs.Math.Utf8.{encode}
-use Rattle.std.proofs.StrCases.{chars_of_empty}
-use Rattle.std.specs.Char.{len_utf8}
 use Rattle.std.specs.List.{prefix_len}
-use Rattle.std.specs.Str.{chars, continuation_len, IsUtf8}
 use lib.Count.{count_trailing_zeros}
-use lib.Lanes.{mask_l}
 use Rattle.lane_ascii.specs.Runs.{ascii_len}
-use Rattle.decoder_core.specs.declared.bulk.Stride.{Stride}
-use Rattle.decoder_core.specs.declared.item.Item.TheVariants.{One}
-use Rattle.decoder_core.specs.Bulk.{width_of, run_width}
-use Rattle.iso2022jp.specs.declared.output.OutputState.{OutputState}
-use Rattle.state_memo.specs.declared.ended.Ended.{Ended}
-use Rattle.state_memo.specs.declared.kind.ItemKind.{ItemKind}
-use Rattle.state_memo.specs.declared.run.Run.{Run}
-use Rattle.state_memo.specs.Alike.{AreAlike}
-use Rattle.state_memo.specs.Gathering.{plain_items_from}
-use Rattle.state_memo.specs.Items.{kept_item}
-use Rattle.state_memo.specs.Runs.{item_of_kind, items_until, items_of_run, items_of_runs}
+use Rattle.state_memo.proofs.Prelude.{nat_tests, ints, chars_of_empty, len_utf8, chars, continuation_len, IsUtf8, mask_l, Stride, One, width_of}
+use Rattle.state_memo.proofs.Prelude.{run_width, OutputState, Ended, ItemKind, Run, AreAlike, plain_items_from, kept_item, item_of_kind, items_until}
+use Rattle.state_memo.proofs.Prelude.{items_of_run, items_of_runs}
 use Rattle.state_memo.proofs.Leads.{IsNext, next-is}
 use Rattle.state_memo.proofs.Splitting.{until-step}
 

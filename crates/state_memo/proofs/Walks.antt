@@ -1,20 +1,18 @@
 -- Walks over runs.
 use Rattle.std.proofs.Common.{◌≡◌, refl, sym, ap, subst, ◌∙◌, ℕ, zero, suc, ◌+◌, ◌-◌, ◌*◌, ◌/◌, ◌<◌, ◌≤◌, List, [], ◌∷◌, ◌++◌, length, length-append, arith, ℤ, pos, ◌+ℤ◌, ◌-ℤ◌, Bool, true, false, cond, Option, Some, None, nat_lt, drop, inl, inr, get_or, slice_get, append-nil}
-use Rattle.std.proofs.lemmas.Bool.{cases_lt}
+use Rattle.std.proofs.lemmas.Bool.{cond-false, cond-true}
 use Rattle.std.proofs.lemmas.List.{at_drop_more}
+use Rattle.std.proofs.lemmas.Nat.{mul-le}
 use Rattle.std.proofs.Math.Nat.{div-mul-le_self, mod-add-div', mod-lt}
 use Rattle.std.specs.Option.{option_map}
-use Rattle.std.proofs.lemmas.Int.{ints}
-use Rattle.std.proofs.lemmas.Bool.Decides.{nat_tests}
-use lib.Signed.{le_z}
-use Rattle.lane_ascii.specs.Marks.{one_if}
-use Rattle.state_memo.specs.declared.ended.Ended.{Ended}
-use Rattle.state_memo.specs.declared.kind.ItemKind.{ItemKind}
 use Rattle.state_memo.specs.declared.kind.ItemKind.TheVariants.{AsciiOne, AsciiTwo, AsciiError, RomanOne, RomanTwo, RomanError, KatakanaOne, KatakanaTwo, KatakanaError, Jis0208One, Jis0208Two, Jis0208Error}
-use Rattle.state_memo.specs.declared.run.Run.{Run}
-use Rattle.state_memo.specs.Items.{errors_in, all_scalars, scalars_before, item_of}
+use Rattle.state_memo.proofs.Prelude.{cases_lt, ints, nat_tests, le_z, one_if, Ended, ItemKind, Run, errors_in, all_scalars, scalars_before, item_of}
+use Rattle.state_memo.proofs.Prelude.{scalars_of, error_of, item_of_kind, items_until, items_of_run, items_of_runs}
 use Rattle.state_memo.proofs.Splitting.{length-until}
-use Rattle.state_memo.specs.Runs.{scalars_of, error_of, item_of_kind, items_until, items_of_run, items_of_runs}
+
+-- what a run is read as where there is none
+abbrev pub no_run : Run
+no_run = record { last = pos 0; more = 0; step = 0; kind = AsciiOne }
 
 pub scalars-append : (a b : List Ended) → all_scalars (a ++ b) ≡ all_scalars a + all_scalars b
 scalars-append [] b = omega arith
@@ -45,20 +43,12 @@ errors-until kind step last zero = omega arith
 errors-until kind step last (suc n) =
     omega (arith, errors-append (items_until kind step (last -ℤ pos step) n) (item_of_kind kind last ∷ []), errors-until kind step (last -ℤ pos step) n, more n (one_if (error_of kind)))
 
-within : (t : Bool) (s : ℕ) → t ≡ true → cond t s 0 ≡ s
-within true s e = refl
-within false s e = absurd cc
-
-beyond : (t : Bool) (s : ℕ) → t ≡ false → cond t s 0 ≡ 0
-beyond true s e = absurd cc
-beyond false s e = refl
-
 -- all end at or before the limit
 pub before-all : (kind : ItemKind) (step : ℕ) (limit last : ℤ) (n : ℕ) → le_z last limit ≡ true → scalars_before limit (items_until kind step last n) ≡ n * (scalars_of kind)
 before-all kind step limit last zero e = omega arith
 before-all kind step limit last (suc n) e =
     let next : le_z (last -ℤ pos step) limit ≡ true = grind (arith, ints) in
-    omega (arith, before-append limit (items_until kind step (last -ℤ pos step) n) (item_of_kind kind last ∷ []), before-all kind step limit (last -ℤ pos step) n next, within (le_z last limit) (scalars_of kind) e, more n (scalars_of kind))
+    omega (arith, before-append limit (items_until kind step (last -ℤ pos step) n) (item_of_kind kind last ∷ []), before-all kind step limit (last -ℤ pos step) n next, cond-true (le_z last limit) (scalars_of kind) 0 e, more n (scalars_of kind))
 
 -- the last p of them end behind the limit
 pub record IsPast (last limit : ℤ) (step p : ℕ) : Type 0 where
@@ -67,30 +57,19 @@ pub record IsPast (last limit : ℤ) (step p : ℕ) : Type 0 where
 
 pub before-past : (kind : ItemKind) (step : ℕ) (limit last : ℤ) (n p : ℕ) → IsPast last limit step p → scalars_before limit (items_until kind step last n) ≡ (n - p) * (scalars_of kind)
 before-past kind step limit last n zero h =
-    let e : le_z last limit ≡ true = ap (λ (l : ℤ). le_z last l) (zero_more limit step) ∙ h.near in
+    let e : le_z last limit ≡ true = ap (λ (l : ℤ). le_z last l) (omega (arith, ints)) ∙ h.near in
     before-all kind step limit last n e ∙ ap (λ (k : ℕ). k * (scalars_of kind)) (omega arith)
-  where
-    zero_more : (l : ℤ) (s : ℕ) → l ≡ l +ℤ pos (0 * s)
-    zero_more l s = omega (arith, ints)
-before-past kind step limit last zero (suc p) h = sym (ap (λ (k : ℕ). k * (scalars_of kind)) (none p) ∙ no_times (scalars_of kind))
-  where
-    none : (p : ℕ) → 0 - suc p ≡ 0
-    none p = omega arith
-
-    no_times : (s : ℕ) → 0 * s ≡ 0
-    no_times s = omega arith
+before-past kind step limit last zero (suc p) h = let none : 0 - suc p ≡ 0 = omega arith in rw none (omega arith)
 before-past kind step limit last (suc n) (suc p) h =
     let last_far : le_z last limit ≡ false = not_yet last limit (p * step) (h.far p refl) in
     let m : suc p * step ≡ p * step + step = more p step in
+    let rest : suc n - suc p ≡ n - p = omega arith in
     let next : IsPast (last -ℤ pos step) limit step p = record {
       near = nearer last limit step (suc p * step) (p * step) m h.near;
       far = λ q e. farther last limit step (p * step) (q * step) (ap (λ (k : ℕ). k * step) e ∙ more q step) (h.far p refl);
     } in
-    omega (arith, before-append limit (items_until kind step (last -ℤ pos step) n) (item_of_kind kind last ∷ []), before-past kind step limit (last -ℤ pos step) n p next, beyond (le_z last limit) (scalars_of kind) last_far, ap (λ (k : ℕ). k * (scalars_of kind)) (same_rest n p))
+    omega (arith, before-append limit (items_until kind step (last -ℤ pos step) n) (item_of_kind kind last ∷ []), before-past kind step limit (last -ℤ pos step) n p next, cond-false (le_z last limit) (scalars_of kind) 0 last_far, ap (λ (k : ℕ). k * (scalars_of kind)) rest)
   where
-    same_rest : (n p : ℕ) → suc n - suc p ≡ n - p
-    same_rest n p = omega arith
-
     not_yet : (last limit : ℤ) (k : ℕ) → le_z last (limit +ℤ pos k) ≡ false → le_z last limit ≡ false
     not_yet last limit k e = grind (arith, ints)
 
@@ -107,7 +86,7 @@ far_step last step e = omega (arith, ints, e)
 pub before-none : (kind : ItemKind) (step : ℕ) (limit last : ℤ) (n : ℕ) → step ≡ 0 → le_z last limit ≡ false → scalars_before limit (items_until kind step last n) ≡ 0
 before-none kind step limit last zero z e = refl
 before-none kind step limit last (suc n) z e =
-    omega (arith, before-append limit (items_until kind step (last -ℤ pos step) n) (item_of_kind kind last ∷ []), ap (λ (l : ℤ). scalars_before limit (items_until kind step l n)) (far_step last step z) ∙ before-none kind step limit last n z e, beyond (le_z last limit) (scalars_of kind) e)
+    omega (arith, before-append limit (items_until kind step (last -ℤ pos step) n) (item_of_kind kind last ∷ []), ap (λ (l : ℤ). scalars_before limit (items_until kind step l n)) (far_step last step z) ∙ before-none kind step limit last n z e, cond-false (le_z last limit) (scalars_of kind) 0 e)
 
 pub before-gap : (kind : ItemKind) (step : ℕ) (limit last : ℤ) (n gap p : ℕ) → last ≡ limit +ℤ pos gap → gap ≤ p * step → ((q : ℕ) → p ≡ suc q → q * step < gap) → scalars_before limit (items_until kind step last n) ≡ (n - p) * (scalars_of kind)
 before-gap kind step limit last n gap p e near far =
@@ -140,23 +119,9 @@ pub back-item : (a b : List Ended) (n : ℕ) → all_scalars a ≤ n → item_of
 back-item [] b n h = ap (λ m. item_of b m) (omega arith) ∙ plus-none (item_of b (n - 0))
 back-item (e ∷ a) b n h =
     let t : nat_lt n e.scalars ≡ false = grind (arith, nat_tests, h) in
-    not_here (nat_lt n e.scalars) t
+    cond-false (nat_lt n e.scalars) (Some 0) _ t
     ∙ ap (λ o. option_map (λ k. k + 1) o) (back-item a b (n - e.scalars) (omega (arith, h)) ∙ ap (λ m. option_map (λ k. k + length a) (item_of b m)) (omega (arith, h)))
     ∙ plus-one (item_of b (n - (e.scalars + all_scalars a))) (length a)
-  where
-    not_here : {x : Option ℕ} (t : Bool) → t ≡ false → cond t (Some 0) x ≡ x
-    not_here true e = absurd cc
-    not_here false e = refl
-
-times : (k count s : ℕ) → k ≤ count → k * s ≤ count * s
-times k zero s h = by_zero k s (omega (arith, h))
-  where
-    by_zero : (k s : ℕ) → k ≡ 0 → k * s ≤ 0 * s
-    by_zero k s e = rw e (omega arith)
-times k (suc count) s h = elim (cases_lt count k) [ inl l ↦ by_same k (suc count) s (omega (arith, h, l)) | inr g ↦ omega (arith, times k count s g, more count s) ]
-  where
-    by_same : (k n s : ℕ) → k ≡ n → k * s ≤ n * s
-    by_same k n s e = rw e (omega arith)
 
 -- which item of a run has code point n
 pub run-item : (kind : ItemKind) (step : ℕ) (last : ℤ) (count n k : ℕ) → k < count → k * (scalars_of kind) ≤ n → n < k * (scalars_of kind) + (scalars_of kind) → item_of (items_until kind step last count) n ≡ Some k
@@ -169,38 +134,19 @@ run-item kind step last (suc count) n k h low high =
           let same : k ≡ count = omega (arith, h, g) in
           let all : all_scalars front ≡ k * (scalars_of kind) = scalars-until kind step (last -ℤ pos step) count ∙ ap (λ (x : ℕ). x * (scalars_of kind)) (sym same) in
           back-item front (item_of_kind kind last ∷ []) n (omega (arith, all, low))
-          ∙ ap (λ o. option_map (λ j. j + length front) o) (here (nat_lt (n - all_scalars front) (scalars_of kind)) (grind (arith, nat_tests, all, low, high)))
+          ∙ ap (λ o. option_map (λ j. j + length front) o) (cond-true (nat_lt (n - all_scalars front) (scalars_of kind)) (Some 0) None (grind (arith, nat_tests, all, low, high)))
           ∙ ap Some (omega (arith, length-until kind step (last -ℤ pos step) count, same))
     ]
   where
-    here : (t : Bool) → t ≡ true → cond {A = Option ℕ} t (Some 0) None ≡ Some 0
-    here true e = refl
-    here false e = absurd cc
-
     before_it : (k count s : ℕ) → k < count → k * s + s ≤ count * s
     before_it k zero s h = absurd (omega (arith, h))
-    before_it k (suc count) s h = grind (arith, more count s, times k count s (omega (arith, h)))
+    before_it k (suc count) s h = grind (arith, more count s, mul-le k s count s (omega (arith, h)) (omega arith))
 
 abbrev pub IsQuotient : ℕ → ℕ → ℕ → Type 0
 IsQuotient n m q = (q * m ≤ n) × (n < q * m + m)
 
 pub quotient : (n m : ℕ) → 0 < m → IsQuotient n m (n / m)
 quotient n m h = (div-mul-le_self n m, omega (arith, mod-add-div' n m, mod-lt n h))
-
-some_width : (n count s : ℕ) → n < count * s → 0 < s
-some_width n count zero h = absurd (omega (arith, h, no_times count))
-  where
-    no_times : (c : ℕ) → c * 0 ≡ 0
-    no_times c = omega arith
-some_width n count (suc s) h = omega arith
-
-pub item-in : (r : Run) (n : ℕ) → n < suc r.more * scalars_of r.kind → item_of (items_of_run r) n ≡ Some (n / scalars_of r.kind)
-item-in r n h =
-    let q = quotient n (scalars_of r.kind) (some_width n (suc r.more) (scalars_of r.kind) h) in
-    run-item r.kind r.step r.last (suc r.more) n (n / scalars_of r.kind) (fewer n (n / scalars_of r.kind) (suc r.more) (scalars_of r.kind) q.0 h) q.0 q.1
-  where
-    fewer : (n k count s : ℕ) → k * s ≤ n → n < count * s → k < count
-    fewer n k count s a b = elim (cases_lt k count) [ inl l ↦ l | inr g ↦ absurd (omega (arith, a, b, times count k s g)) ]
 
 -- how many of them end behind the limit, by a division
 pub before-div : (r : Run) (limit : ℤ) (gap step : ℕ) → step ≡ r.step → 0 < step → 0 < gap → r.last ≡ limit +ℤ pos gap → scalars_before limit (items_of_run r) ≡ (suc r.more - ((gap - 1) / step + 1)) * scalars_of r.kind
@@ -221,13 +167,7 @@ before-div r limit gap step same some gap_some e =
     far p k step s gap e g is h = rw (is, sym e) (omega (arith, g, h))
 
 pub rest-none : (count c s : ℕ) → c ≡ count → 0 ≡ (count - c) * s
-rest-none count c s e = rw e (sym (ap (λ (k : ℕ). k * s) (nothing count) ∙ no_times s))
-  where
-    nothing : (n : ℕ) → n - n ≡ 0
-    nothing n = omega arith
-
-    no_times : (s : ℕ) → 0 * s ≡ 0
-    no_times s = omega arith
+rest-none count c s e = let none : count - count ≡ 0 = omega arith in rw (e, none) (omega arith)
 
 pub before-next : (limit : ℤ) (rs : List Run) (i : ℕ) (d : Run) → i < length rs
     → scalars_before limit (items_of_runs (drop i rs)) ≡ scalars_before limit (items_of_run (get_or rs i d)) + scalars_before limit (items_of_runs (drop (i + 1) rs))
@@ -252,18 +192,10 @@ run-scalars r n s e f =
     ∙ sym (scalars-until r.kind r.step r.last (suc r.more))
 
 pub run-errors : (r : Run) (n : ℕ) → error_of r.kind ≡ true → n ≡ r.more → n + 1 ≡ errors_in (items_of_run r)
-run-errors r n e n_is = omega (arith, n_is, each (error_of r.kind) (suc r.more) e, errors-until r.kind r.step r.last (suc r.more))
-  where
-    each : (b : Bool) (n : ℕ) → b ≡ true → n * one_if b ≡ n
-    each true n e = omega arith
-    each false n e = absurd cc
+run-errors r n e n_is = let all : suc r.more * one_if (error_of r.kind) ≡ suc r.more = rw e (omega arith) in omega (arith, n_is, all, errors-until r.kind r.step r.last (suc r.more))
 
 pub run-no-errors : (r : Run) → error_of r.kind ≡ false → 0 ≡ errors_in (items_of_run r)
-run-no-errors r e = omega (arith, none (error_of r.kind) (suc r.more) e, errors-until r.kind r.step r.last (suc r.more))
-  where
-    none : (b : Bool) (n : ℕ) → b ≡ false → n * one_if b ≡ 0
-    none true n e = absurd cc
-    none false n e = omega arith
+run-no-errors r e = let none : suc r.more * one_if (error_of r.kind) ≡ 0 = rw e (omega arith) in omega (arith, none, errors-until r.kind r.step r.last (suc r.more))
 
 some-scalars : (kind : ItemKind) → 0 < scalars_of kind
 some-scalars AsciiOne = omega arith
@@ -289,7 +221,7 @@ pub not-in : (r : Run) (n s : ℕ) → s ≡ scalars_of r.kind → r.more < n / 
 not-in r n s e h =
     let q = quotient n (scalars_of r.kind) (some-scalars r.kind) in
     let h2 : r.more < n / scalars_of r.kind = subst (λ (k : ℕ). r.more < n / k) e h in
-    omega (arith, scalars-until r.kind r.step r.last (suc r.more), times (suc r.more) (n / scalars_of r.kind) (scalars_of r.kind) (omega (arith, h2)), q.0)
+    omega (arith, scalars-until r.kind r.step r.last (suc r.more), mul-le (suc r.more) (scalars_of r.kind) (n / scalars_of r.kind) (scalars_of r.kind) (omega (arith, h2)) (omega arith), q.0)
 
 -- ---- over all runs
 
@@ -324,15 +256,9 @@ front-at (x ∷ a) b zero h = refl
 front-at (x ∷ a) b (suc n) h = front-at a b n (omega (arith, h))
 
 back-at : (a b : List Ended) (n : ℕ) → length a ≤ n → slice_get (a ++ b) n ≡ slice_get b (n - length a)
-back-at [] b n h = ap (slice_get b) (none n)
-  where
-    none : (n : ℕ) → n ≡ n - 0
-    none n = omega arith
+back-at [] b n h = ap (slice_get b) (omega arith)
 back-at (x ∷ a) b zero h = absurd (omega (arith, h))
-back-at (x ∷ a) b (suc n) h = back-at a b n (omega (arith, h)) ∙ ap (slice_get b) (less n (length a))
-  where
-    less : (n k : ℕ) → n - k ≡ suc n - suc k
-    less n k = omega arith
+back-at (x ∷ a) b (suc n) h = back-at a b n (omega (arith, h)) ∙ ap (slice_get b) (omega arith)
 
 count-is : (r : Run) → length (items_of_run r) ≡ r.more + 1
 count-is r = omega (arith, length-until r.kind r.step r.last (suc r.more))
@@ -357,15 +283,9 @@ get-next rs i d left h many =
 last-behind : (a b : List Ended) (x : Ended) → slice_get b (length b - 1) ≡ Some x → slice_get (a ++ b) (length (a ++ b) - 1) ≡ Some x
 last-behind a [] x h = absurd cc
 last-behind a (y ∷ b) x h =
-    ap (slice_get (a ++ y ∷ b)) (place (length (a ++ y ∷ b)) (length a) (length b) (length-append a (y ∷ b)))
+    ap (slice_get (a ++ y ∷ b)) (omega (arith, length-append a (y ∷ b)))
     ∙ back-at a (y ∷ b) (length a + length b) (omega arith)
-    ∙ ap (slice_get (y ∷ b)) (same (length a) (length b)) ∙ h
-  where
-    place : (all n m : ℕ) → all ≡ n + suc m → all - 1 ≡ n + m
-    place all n m e = omega (arith, e)
-
-    same : (n m : ℕ) → (n + m) - n ≡ suc m - 1
-    same n m = omega arith
+    ∙ ap (slice_get (y ∷ b)) (omega arith) ∙ h
 
 pub last-item : (rs : List Run) (r : Run) → slice_get rs (length rs - 1) ≡ Some r → slice_get (items_of_runs rs) (length (items_of_runs rs) - 1) ≡ Some (item_of_kind r.kind r.last)
 last-item [] r h = absurd cc

@@ -1,9 +1,5 @@
 use Rattle.std.proofs.Common.{refl, length}
-use Rattle.std.proofs.lemmas.Result.{IfOk-weaker}
-use Rattle.decoder_core.specs.Shown.{shown_from}
-use Rattle.codec.specs.Any.{any}
-use Rattle.state_memo.specs.Gathering.{no_item}
-use Rattle.state_memo.specs.Outcome.{contents_of}
+use Rattle.state_memo.proofs.Prelude.{IfOk-weaker, shown_from, any, no_item, contents_of}
 use Rattle.state_memo.proofs.Gathered.{computed, done, gathered-is}
 use Rattle.state_memo.proofs.compute.compute_any.Goals as goal
 

@@ -1,9 +1,6 @@
 use Rattle.std.proofs.Common.{◌∙◌, ap, []}
-use Rattle.std.proofs.lemmas.Result.{IfOk-weaker}
 use Rattle.decoder_core.specs.Queue.{run}
-use Rattle.iso2022jp.specs.declared.output.OutputState.{OutputState}
-use Rattle.codec.specs.Any.{any, output_of}
-use Rattle.state_memo.specs.Outcome.{contents_of}
+use Rattle.state_memo.proofs.Prelude.{IfOk-weaker, OutputState, any, output_of, contents_of}
 use Rattle.state_memo.proofs.Gathered.{ended, done-ending, ended-is, ended_all}
 use Rattle.state_memo.proofs.compute.finish_of.Goals as goal
 

@@ -1,6 +1,4 @@
-use Rattle.std.proofs.lemmas.Str.{len_utf8_bounds}
-use Rattle.std.specs.Char.{len_utf8}
-use Rattle.decoder_core.specs.Bulk.{width_of}
+use Rattle.state_memo.proofs.Prelude.{len_utf8_bounds, len_utf8, width_of}
 use Rattle.state_memo.proofs.Walking.{one-of-four}
 use Rattle.state_memo.proofs.plain.widths_of.Goals as goal
 

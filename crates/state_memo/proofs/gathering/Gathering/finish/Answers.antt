@@ -1,7 +1,6 @@
 use Rattle.std.proofs.Common.{ap, ◌∙◌, List, ℕ}
-use Rattle.std.specs.Str.{chars}
-use Rattle.state_memo.specs.Gathering.{Gathered}
 use Rattle.state_memo.specs.Sums.{sum_of}
+use Rattle.state_memo.proofs.Prelude.{chars, Gathered}
 use Rattle.state_memo.proofs.Gathered.{finished}
 use Rattle.state_memo.proofs.gathering.Gathering.finish.Goals as goal
 

@@ -1,8 +1,5 @@
 use Rattle.std.proofs.Common.{ap, ◌∙◌, ℕ, List, []}
-use Rattle.std.specs.Str.{chars}
-use Rattle.std.proofs.lemmas.Str.{chars-nil}
-use Rattle.state_memo.specs.declared.ended.Ended.{Ended}
-use Rattle.state_memo.specs.Runs.{items_under_way}
+use Rattle.state_memo.proofs.Prelude.{chars, chars-nil, Ended, items_under_way}
 use Rattle.state_memo.proofs.gathering.Gathering.new.Goals as goal
 
 pub returns : goal.returns

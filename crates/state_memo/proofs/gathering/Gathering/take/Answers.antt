@@ -1,9 +1,5 @@
 use Rattle.std.proofs.Common.{◌≡◌, ap, sym, ◌∙◌, ℕ, ℤ, List, [], ◌∷◌, ◌++◌, rules, to_z, of_z, w32}
-use Rattle.std.specs.Str.{chars}
-use Rattle.decoder_core.specs.Text.{item_code_points}
-use Rattle.state_memo.specs.declared.ended.Ended.{Ended}
-use Rattle.state_memo.specs.Items.{errors_in, kept_item}
-use Rattle.state_memo.specs.Runs.{error_of, items_of_run, items_under_way}
+use Rattle.state_memo.proofs.Prelude.{chars, item_code_points, Ended, errors_in, kept_item, error_of, items_of_run, items_under_way}
 use Rattle.state_memo.proofs.Gathered.{taken-is}
 use Rattle.state_memo.proofs.Walks.{no-errors-more, run-no-errors}
 use Rattle.state_memo.proofs.gathering.Gathering.take.Goals as goal

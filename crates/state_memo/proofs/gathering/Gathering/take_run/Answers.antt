@@ -1,9 +1,5 @@
 use Rattle.std.proofs.Common.{ap, sym, ◌∙◌, List, ◌++◌}
-use Rattle.std.specs.Str.{chars}
-use Rattle.std.proofs.lemmas.Str.{chars-append}
-use Rattle.state_memo.specs.declared.ended.Ended.{Ended}
-use Rattle.state_memo.specs.Items.{errors_in}
-use Rattle.state_memo.specs.Runs.{items_of_run, items_under_way}
+use Rattle.state_memo.proofs.Prelude.{chars, chars-append, Ended, errors_in, items_of_run, items_under_way}
 use Rattle.state_memo.proofs.Gathered.{taken-is}
 use Rattle.state_memo.proofs.Walks.{no-errors-more, run-no-errors}
 use Rattle.state_memo.proofs.gathering.Gathering.take_run.Goals as goal

@@ -1,11 +1,5 @@
 use Rattle.std.proofs.Common.{◌≡◌, ap, ◌∙◌, ℤ, List, ◌++◌, to_z, of_z, w32}
-use Rattle.std.specs.Str.{chars}
-use Rattle.std.proofs.Math.Facts.{to_z-of_z}
-use Rattle.std.proofs.lemmas.Str.{chars-append}
-use Rattle.state_memo.specs.declared.ended.Ended.{Ended}
-use Rattle.state_memo.specs.Gathering.{plain_items_from}
-use Rattle.state_memo.specs.Items.{errors_in}
-use Rattle.state_memo.specs.Runs.{items_under_way}
+use Rattle.state_memo.proofs.Prelude.{chars, to_z-of_z, chars-append, Ended, plain_items_from, errors_in, items_under_way}
 use Rattle.state_memo.proofs.CodePoints.{plain-no-errors}
 use Rattle.state_memo.proofs.Gathered.{taken-is}
 use Rattle.state_memo.proofs.Walks.{no-errors-more}

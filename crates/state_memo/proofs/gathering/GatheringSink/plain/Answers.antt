@@ -1,10 +1,5 @@
 use Rattle.std.proofs.Common.{◌≡◌, ◌∙◌, ap, sym, ℤ, List, pos, ◌-ℤ◌, rules, to_z, of_z, w32, w64}
-use Rattle.std.specs.Str.{chars}
-use Rattle.std.proofs.Math.Facts.{to_z-of_z}
-use Rattle.decoder_core.specs.Bulk.{run_width}
-use Rattle.iso2022jp.specs.declared.output.OutputState.{OutputState}
-use Rattle.state_memo.specs.declared.ended.Ended.{Ended}
-use Rattle.state_memo.specs.Gathering.{with_more, plain_items, plain_items_from}
+use Rattle.state_memo.proofs.Prelude.{chars, to_z-of_z, run_width, OutputState, Ended, with_more, plain_items, plain_items_from}
 use Rattle.state_memo.proofs.CodePoints.{fold-plain}
 use Rattle.state_memo.proofs.gathering.GatheringSink.plain.Goals as goal
 

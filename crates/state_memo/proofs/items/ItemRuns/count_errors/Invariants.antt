@@ -1,6 +1,5 @@
 use Rattle.std.proofs.Common.{◌≡◌, ◌+◌, drop}
-use Rattle.state_memo.specs.Items.{errors_in}
-use Rattle.state_memo.specs.Runs.{items_of_runs}
+use Rattle.state_memo.proofs.Prelude.{errors_in, items_of_runs}
 use Rattle.state_memo.proofs.items.ItemRuns.count_errors.Given as goal
 
 abbrev pub invariant-runs : goal.invariant-runs

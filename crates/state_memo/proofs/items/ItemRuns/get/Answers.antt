@@ -1,13 +1,7 @@
 use Rattle.std.proofs.Common.{◌+◌, ◌-◌, ◌<◌, ◌≤◌, arith, ap, ◌∙◌, List, ℕ, pos, drop, slice_get, get_or}
-use Rattle.state_memo.specs.declared.ended.Ended.{Ended}
-use Rattle.state_memo.specs.declared.kind.ItemKind.TheVariants.{AsciiOne}
-use Rattle.state_memo.specs.declared.run.Run.{Run}
-use Rattle.state_memo.specs.Runs.{items_of_runs}
-use Rattle.state_memo.proofs.Walks.{get-here, get-next}
+use Rattle.state_memo.proofs.Prelude.{Ended, items_of_runs}
+use Rattle.state_memo.proofs.Walks.{no_run, get-here, get-next}
 use Rattle.state_memo.proofs.items.ItemRuns.get.Goals as goal
-
-abbrev no_run : Run
-no_run = record { last = pos 0; more = 0; step = 0; kind = AsciiOne }
 
 pub returns-then-left-count : goal.returns-then-left-count
 returns-then-left-count c =

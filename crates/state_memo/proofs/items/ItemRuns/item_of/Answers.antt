@@ -1,15 +1,8 @@
 use Rattle.std.proofs.Common.{◌+◌, ◌-◌, arith, ap, sym, ◌∙◌, List, ℕ, pos, drop, get_or}
 use Rattle.std.specs.Prelude.{option_map}
-use Rattle.state_memo.specs.declared.ended.Ended.{Ended}
-use Rattle.state_memo.specs.declared.kind.ItemKind.TheVariants.{AsciiOne}
-use Rattle.state_memo.specs.declared.run.Run.{Run}
-use Rattle.state_memo.specs.Items.{all_scalars, item_of}
-use Rattle.state_memo.specs.Runs.{items_of_runs}
-use Rattle.state_memo.proofs.Walks.{length-few, length-next, run-within, found-here, found-next}
+use Rattle.state_memo.proofs.Prelude.{Ended, all_scalars, item_of, items_of_runs}
+use Rattle.state_memo.proofs.Walks.{no_run, length-few, length-next, run-within, found-here, found-next}
 use Rattle.state_memo.proofs.items.ItemRuns.item_of.Goals as goal
-
-abbrev no_run : Run
-no_run = record { last = pos 0; more = 0; step = 0; kind = AsciiOne }
 
 pub overflow_add-result : goal.overflow_add-result
 overflow_add-result c =

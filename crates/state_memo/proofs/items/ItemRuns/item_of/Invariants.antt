@@ -1,7 +1,6 @@
 use Rattle.std.proofs.Common.{◌≡◌, ◌+◌, drop, length}
 use Rattle.std.specs.Prelude.{option_map}
-use Rattle.state_memo.specs.Items.{item_of}
-use Rattle.state_memo.specs.Runs.{items_of_runs}
+use Rattle.state_memo.proofs.Prelude.{item_of, items_of_runs}
 use Rattle.state_memo.proofs.items.ItemRuns.item_of.Given as goal
 
 abbrev pub invariant-runs : goal.invariant-runs

@@ -1,6 +1,5 @@
 use Rattle.std.proofs.Common.{◌≡◌, ◌-◌, ap, sym, ◌∙◌, List, Some, length, slice_get, rules, to_z, of_z, w64}
-use Rattle.state_memo.specs.declared.ended.Ended.{Ended}
-use Rattle.state_memo.specs.Runs.{item_of_kind}
+use Rattle.state_memo.proofs.Prelude.{Ended, item_of_kind}
 use Rattle.state_memo.proofs.Walks.{last-item}
 use Rattle.state_memo.proofs.items.ItemRuns.last.Goals as goal
 

@@ -1,14 +1,7 @@
 use Rattle.std.proofs.Common.{arith, ap, List, pos, to_z, of_z, w64}
-use Rattle.state_memo.specs.declared.kind.ItemKind.TheVariants.{AsciiOne}
-use Rattle.state_memo.specs.declared.run.Run.{Run}
-use Rattle.state_memo.specs.declared.ended.Ended.{Ended}
-use Rattle.state_memo.specs.Items.{all_scalars}
-use Rattle.state_memo.specs.Runs.{items_of_runs}
-use Rattle.state_memo.proofs.Walks.{before-next, before-few}
+use Rattle.state_memo.proofs.Prelude.{Ended, all_scalars, items_of_runs}
+use Rattle.state_memo.proofs.Walks.{no_run, before-next, before-few}
 use Rattle.state_memo.proofs.items.ItemRuns.scalars_before.Goals as goal
-
-abbrev no_run : Run
-no_run = record { last = pos 0; more = 0; step = 0; kind = AsciiOne }
 
 pub overflow_add-count : goal.overflow_add-count
 overflow_add-count c =

@@ -1,6 +1,5 @@
 use Rattle.std.proofs.Common.{◌≡◌, ◌+◌, drop}
-use Rattle.state_memo.specs.Items.{scalars_before}
-use Rattle.state_memo.specs.Runs.{items_of_runs}
+use Rattle.state_memo.proofs.Prelude.{scalars_before, items_of_runs}
 use Rattle.state_memo.proofs.items.ItemRuns.scalars_before.Given as goal
 
 abbrev pub invariant-runs : goal.invariant-runs

@@ -1,11 +1,5 @@
 use Rattle.std.proofs.Common.{ℕ, ◌≡◌, ◌≤◌, ◌<◌, ◌∙◌, ◌++◌, ap, sym, refl, rules, to_z, of_z, w32, arith, ℤ, List, [], length, append-nil}
-use Rattle.std.specs.Prelude.{vec_len, vec_capacity}
-use Rattle.std.specs.Str.{chars}
-use Rattle.std.proofs.Math.Facts.{to_z-of_z}
-use Rattle.std.proofs.StrCases.{chars_of_empty}
-use Rattle.state_memo.specs.declared.ended.Ended.{Ended}
-use Rattle.state_memo.specs.Gathering.{plain_items_from}
-use Rattle.state_memo.specs.Runs.{items_under_way}
+use Rattle.state_memo.proofs.Prelude.{vec_len, vec_capacity, chars, to_z-of_z, chars_of_empty, Ended, plain_items_from, items_under_way}
 use Rattle.state_memo.proofs.Walking.{alike-part, few-bytes, item-at, next-len, at-start, next-within, next-fits, walked-fits, walked-first, walked-new, walked-run, run-fits, walked-some, walked-whole}
 use Rattle.state_memo.proofs.items.OpenRuns.put_plain.Goals as goal
 

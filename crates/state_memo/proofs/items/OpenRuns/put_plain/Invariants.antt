@@ -1,6 +1,5 @@
 use Rattle.std.proofs.Common.{◌-◌, length}
-use Rattle.std.specs.Prelude.{vec_len, vec_capacity}
-use Rattle.state_memo.specs.Runs.{items_under_way}
+use Rattle.state_memo.proofs.Prelude.{vec_len, vec_capacity, items_under_way}
 use Rattle.state_memo.proofs.Walking.{IsWalked}
 use Rattle.state_memo.proofs.items.OpenRuns.put_plain.Given as goal
 

@@ -1,8 +1,5 @@
 use Rattle.std.proofs.Common.{◌≡◌, refl, ℕ, List, [], arith}
-use Rattle.state_memo.specs.declared.sum.Sum.{Sum}
-use Rattle.state_memo.specs.declared.ended.Ended.{Ended}
-use Rattle.state_memo.specs.Facts.{IsSumOf, IsBounded}
-use Rattle.state_memo.specs.Sums.{no_sum}
+use Rattle.state_memo.proofs.Prelude.{Sum, Ended, IsSumOf, IsBounded, no_sum}
 use Rattle.state_memo.proofs.known.KnownMadeWithGlobal.made_with.Goals as goal
 
 nothing_summed : (cs : List ℕ) (items : List Ended) (s : Sum) → cs ≡ [] → items ≡ [] → s ≡ no_sum → IsSumOf cs items s

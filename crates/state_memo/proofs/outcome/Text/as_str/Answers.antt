@@ -1,8 +1,7 @@
 use Rattle.std.proofs.Common.{sym, ap, ◌∙◌}
 use Rattle.std.specs.Prelude.{[], string_bytes}
 use Rattle.std.specs.Option.{option_map_or}
-use Rattle.std.specs.Str.{chars}
-use Rattle.std.proofs.lemmas.Str.{chars-nil}
+use Rattle.state_memo.proofs.Prelude.{chars, chars-nil}
 use Rattle.state_memo.proofs.outcome.Text.as_str.Goals as goal
 
 pub returns-in-None : goal.returns-in-None

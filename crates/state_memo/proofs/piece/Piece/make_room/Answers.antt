@@ -1,6 +1,5 @@
 use Rattle.std.proofs.Common.{◌≡◌, sym, ap, ◌∙◌, subst, take, List, ℕ}
-use Rattle.state_memo.specs.declared.known.Known.{Known}
-use Rattle.state_memo.specs.Memo.{Memo, IsSlot, without}
+use Rattle.state_memo.proofs.Prelude.{Known, Memo, IsSlot, without}
 use Rattle.state_memo.proofs.Places.{room-found, room-absent}
 use Rattle.state_memo.proofs.piece.Piece.make_room.Goals as goal
 

@@ -1,7 +1,5 @@
 use Rattle.std.proofs.Common.{◌≡◌, ap, ◌∙◌, subst, get_or, List, ◌∷◌, ℕ}
-use Rattle.std.specs.List.{remove}
-use Rattle.state_memo.specs.declared.known.Known.{Known}
-use Rattle.state_memo.specs.Memo.{Memo}
+use Rattle.state_memo.proofs.Prelude.{remove, Known, Memo}
 use Rattle.state_memo.proofs.Places.{some-at, entered-at, entered-absent}
 use Rattle.state_memo.proofs.piece.Piece.move_first.Goals as goal
 

@@ -1,6 +1,5 @@
 use Rattle.std.proofs.Common.{◌≡◌, ◌<◌, sym, ap, ◌∙◌, subst, length, get_or, List}
-use Rattle.state_memo.specs.declared.known.Known.{Known}
-use Rattle.state_memo.specs.Memo.{Memo}
+use Rattle.state_memo.proofs.Prelude.{Known, Memo}
 use Rattle.state_memo.proofs.Places.{outcome-at}
 use Rattle.state_memo.proofs.piece.Piece.peek.Goals as goal
 

@@ -1,7 +1,5 @@
 use Rattle.std.proofs.Common.{◌≡◌, true, false, rules, ap, ◌∙◌, subst, add-one, Some, slice_get, List}
-use Rattle.std.proofs.lemmas.Option.{slice_get_read}
-use Rattle.state_memo.specs.declared.known.Known.{Known}
-use Rattle.state_memo.specs.Memo.{Memo, IsSlot, same_state}
+use Rattle.state_memo.proofs.Prelude.{slice_get_read, Known, Memo, IsSlot, same_state}
 use Rattle.state_memo.proofs.Places.{place-at, absent-more}
 use Rattle.state_memo.proofs.piece.Piece.place_of.Goals as goal
 

@@ -1,6 +1,5 @@
 use Rattle.std.proofs.Common.{rules, ◌≡◌, ap, ◌∙◌, arith, ◌<◌, ◌+◌, ◌*◌, ◌-◌, ◌/◌, true, false, ℕ, suc, pos, ◌+ℤ◌}
-use lib.Signed.{le_z}
-use Rattle.state_memo.specs.Runs.{scalars_of}
+use Rattle.state_memo.proofs.Prelude.{le_z, scalars_of}
 use Rattle.state_memo.proofs.Walks.{before-all, before-none, before-div, rest-none}
 use Rattle.state_memo.proofs.run.Run.past.Goals as goal
 
