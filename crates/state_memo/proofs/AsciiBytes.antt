@@ -1,5 +1,5 @@
 -- How many code points are ASCII: as many as bytes.
-use Rattle.std.proofs.Common.{◌≡◌, refl, sym, ap, ◌∙◌, ℕ, ◌+◌, ◌*◌, ◌/◌, ◌<◌, ◌≤◌, Bool, true, false, List, [], ◌∷◌, ◌++◌, length, take, drop, get_or, arith, nat_lt, cond, add-one}
+use Rattle.std.proofs.Common.{◌≡◌, refl, sym, ap, ◌∙◌, ℕ, ◌+◌, ◌*◌, ◌/◌, ◌<◌, ◌≤◌, List, [], ◌∷◌, ◌++◌, length, take, drop, get_or, arith, nat_lt, cond, add-one}
 use Rattle.std.proofs.Math.Seq.{drop-cons}
 use Rattle.std.proofs.Math.Utf8.{next, encode}
 use Rattle.std.proofs.lemmas.Bool.{cond_both, le-ltb}
@@ -16,11 +16,7 @@ ascii_in (b ∷ bs) = one_ascii b + ascii_in bs
 pub few : (bs : List ℕ) → ascii_in bs ≤ length bs
 unfolding ascii_in
 few [] = omega arith
-few (b ∷ bs) = omega (arith, few bs, one (nat_lt b 0x80))
-  where
-    one : (k : Bool) → cond k 1 0 ≤ 1
-    one true = omega arith
-    one false = omega arith
+few (b ∷ bs) = omega (arith, few bs, cond_both (nat_lt b 0x80) 1 0 (λ n. n ≤ 1) (λ _. omega arith) (λ _. omega arith))
 
 -- as a sum of their weights
 pub ascii-total : (bs : List ℕ) → total_width one_ascii bs ≡ ascii_in bs
@@ -43,10 +39,7 @@ ascii-append (b ∷ bs) ds = omega (arith, ascii-append bs ds)
 
 none : (b : ℕ) (bs : List ℕ) → 0x80 ≤ b → ascii_in (b ∷ bs) ≡ ascii_in bs
 unfolding ascii_in
-none b bs high = rw (le-ltb b 0x80 high) (zero_more (ascii_in bs))
-  where
-    zero_more : (n : ℕ) → 0 + n ≡ n
-    zero_more n = omega arith
+none b bs high = rw (le-ltb b 0x80 high) (omega arith)
 
 -- a code point's bytes have one where it is ASCII, and else none
 ascii-one : (c : ℕ) → ascii_in (encode c) + width_of Pairs c ≡ 2

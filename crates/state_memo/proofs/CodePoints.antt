@@ -1,9 +1,10 @@
 -- Texts whose code points are items without gaps.
-use Rattle.std.proofs.Common.{◌≡◌, refl, sym, ap, subst, ◌∙◌, ℕ, suc, ◌+◌, ◌*◌, ◌≤◌, List, [], ◌∷◌, ◌++◌, append_assoc, length, fold, arith, ℤ, pos, ◌+ℤ◌, ◌-ℤ◌, Bool, true, false, cond, nat_lt}
+use Rattle.std.proofs.Common.{◌≡◌, refl, sym, ap, subst, ◌∙◌, ℕ, suc, ◌+◌, ◌*◌, ◌≤◌, List, [], ◌∷◌, ◌++◌, append_assoc, length, fold, arith, ℤ, pos, ◌+ℤ◌, ◌-ℤ◌, false, nat_lt}
+use Rattle.std.proofs.lemmas.Bool.{cond_both}
 use Rattle.decoder_core.specs.declared.bulk.Stride.TheVariants.{Utf8, Utf16, Pairs, Bytes}
 use Rattle.decoder_core.specs.Bulk.{width_of, run_width, plain_from}
 use Rattle.state_memo.specs.Gathering.{Gathered, with_item, with_shown, with_more, plain_items_from, plain_items, IsEven}
-use Rattle.state_memo.proofs.Prelude.{ints, len_utf8_bounds, len_utf8, utf8_width, utf16_width, total_width, Stride, One, OutputState, Ended}
+use Rattle.state_memo.proofs.Prelude.{nat_tests, ints, len_utf8_bounds, len_utf8, utf8_width, utf16_width, total_width, Stride, One, OutputState, Ended}
 use Rattle.state_memo.proofs.Prelude.{ItemKind, errors_in, kept_item, item_of_kind, items_until}
 use Rattle.state_memo.proofs.Gathered.{more-nil}
 use Rattle.state_memo.proofs.Splitting.{first-until}
@@ -43,15 +44,28 @@ plain-no-errors stride from output (c ∷ cs) = omega (arith, plain-no-errors st
 
 -- ---- each as long as the others
 
-pub record AllWide (stride : Stride) (width : ℕ) (c : ℕ) (cs : List ℕ) : Type 0 where
-  pub first : width_of stride c ≡ width
-  pub rest : run_width stride cs ≡ width * length cs
+module _ (stride : Stride) (width : ℕ) where
+  -- none is shorter than that, and so are they together
+  at-least : ((c : ℕ) → width ≤ width_of stride c) → (cs : List ℕ) → width * length cs ≤ run_width stride cs
+  at-least least [] = omega arith
+  at-least least (c ∷ cs) = let more : width * suc (length cs) ≡ width + width * length cs = omega arith in omega (arith, more, at-least least cs, least c)
 
--- items that are as long as they can be, or as short
-even-of : (stride : Stride) (width : ℕ) → ((c : ℕ) (cs : List ℕ) → run_width stride (c ∷ cs) ≡ width * length (c ∷ cs) → AllWide stride width c cs)
-    → (cs : List ℕ) → run_width stride cs ≡ width * length cs → IsEven stride width cs
-even-of stride width wide [] e = tt
-even-of stride width wide (c ∷ cs) e = let w = wide c cs e in (w.first, even-of stride width wide cs w.rest)
+  even-least : ((c : ℕ) → width ≤ width_of stride c) → (cs : List ℕ) → run_width stride cs ≡ width * length cs → IsEven stride width cs
+  even-least least [] e = tt
+  even-least least (c ∷ cs) e =
+      let more : width * suc (length cs) ≡ width + width * length cs = omega arith in
+      (omega (arith, e, more, least c, at-least least cs), even-least least cs (omega (arith, e, more, least c, at-least least cs)))
+
+  -- the same where none is longer
+  at-most : ((c : ℕ) → width_of stride c ≤ width) → (cs : List ℕ) → run_width stride cs ≤ width * length cs
+  at-most most [] = omega arith
+  at-most most (c ∷ cs) = let more : width * suc (length cs) ≡ width + width * length cs = omega arith in omega (arith, more, at-most most cs, most c)
+
+  even-most : ((c : ℕ) → width_of stride c ≤ width) → (cs : List ℕ) → run_width stride cs ≡ width * length cs → IsEven stride width cs
+  even-most most [] e = tt
+  even-most most (c ∷ cs) e =
+      let more : width * suc (length cs) ≡ width + width * length cs = omega arith in
+      (omega (arith, e, more, most c, at-most most cs), even-most most cs (omega (arith, e, more, most c, at-most most cs)))
 
 pub even-run : (stride : Stride) (width : ℕ) (cs : List ℕ) → IsEven stride width cs → run_width stride cs ≡ length cs * width
 even-run stride width [] e = omega arith
@@ -66,80 +80,32 @@ module _ (stride : Stride) (width : ℕ) (kind : ItemKind) (output : OutputState
   even-from from [] e = refl
   even-from from (c ∷ cs) e =
       let end = from +ℤ pos (width_of stride c) in
+      let times : suc (length cs) * width ≡ width + length cs * width = omega arith in
       ap (λ (i : Ended). i ∷ plain_items_from stride end output cs) (sym (one c end))
       ∙ ap (λ (is : List Ended). item_of_kind kind end ∷ is) (even-from end cs e.1)
-      ∙ ap (λ (l : ℤ). item_of_kind kind end ∷ items_until kind width l (length cs)) (last_is from (width_of stride c) width (length cs * width) (suc (length cs) * width) e.0 (times (length cs) width))
-      ∙ ap (λ (l : ℤ). item_of_kind kind l ∷ items_until kind width (from +ℤ pos (suc (length cs) * width)) (length cs)) (first_is from (width_of stride c) width (length cs * width) (suc (length cs) * width) e.0 (times (length cs) width))
+      ∙ ap (λ (l : ℤ). item_of_kind kind end ∷ items_until kind width l (length cs)) (omega (arith, ints, e.0, times))
+      ∙ ap (λ (l : ℤ). item_of_kind kind l ∷ items_until kind width (from +ℤ pos (suc (length cs) * width)) (length cs)) (omega (arith, ints, e.0, times))
       ∙ sym (first-until kind width (from +ℤ pos (suc (length cs) * width)) (length cs))
-    where
-      times : (n s : ℕ) → suc n * s ≡ s + n * s
-      times n s = omega arith
-
-      last_is : (from : ℤ) (w width k m : ℕ) → w ≡ width → m ≡ width + k → (from +ℤ pos w) +ℤ pos k ≡ from +ℤ pos m
-      last_is from w width k m e f = omega (arith, ints, e, f)
-
-      first_is : (from : ℤ) (w width k m : ℕ) → w ≡ width → m ≡ width + k → from +ℤ pos w ≡ (from +ℤ pos m) -ℤ pos k
-      first_is from w width k m e f = omega (arith, ints, e, f)
 
   pub even : (end : ℤ) (cs : List ℕ) → IsEven stride width cs → items_until kind width end (length cs) ≡ plain_items stride end output cs
   even end cs e =
-      ap (λ (l : ℤ). items_until kind width l (length cs)) (whole end (run_width stride cs) (length cs * width) (even-run stride width cs e))
+      ap (λ (l : ℤ). items_until kind width l (length cs)) (omega (arith, ints, even-run stride width cs e))
       ∙ sym (even-from (end -ℤ pos (run_width stride cs)) cs e)
-    where
-      whole : (end : ℤ) (w k : ℕ) → w ≡ k → end ≡ (end -ℤ pos w) +ℤ pos k
-      whole end w k e = omega (arith, ints, e)
-
-at-least : (cs : List ℕ) → length cs ≤ run_width Utf8 cs
-at-least [] = omega arith
-at-least (c ∷ cs) = omega (arith, at-least cs, (len_utf8_bounds c).0)
 
 -- as many bytes of UTF-8 as code points
-pub ascii-wide : (c : ℕ) (cs : List ℕ) → run_width Utf8 (c ∷ cs) ≡ 1 * length (c ∷ cs) → AllWide Utf8 1 c cs
-ascii-wide c cs e =
-    let some = (len_utf8_bounds c).0 in
-    let rest = at-least cs in
-    record { first = omega (arith, e, some, rest); rest = omega (arith, e, some, rest) }
-
-unit-some : (c : ℕ) → 2 ≤ width_of Utf16 c
-unit-some c = at_least_two (nat_lt c 0x10000)
-  where
-    at_least_two : (t : Bool) → 2 ≤ 2 * cond t 1 2
-    at_least_two true = omega arith
-    at_least_two false = omega arith
-
-at-least-two : (cs : List ℕ) → 2 * length cs ≤ run_width Utf16 cs
-at-least-two [] = omega arith
-at-least-two (c ∷ cs) = omega (arith, at-least-two cs, unit-some c)
-
--- as many units of UTF-16 as code points
-pub units-wide : (c : ℕ) (cs : List ℕ) → run_width Utf16 (c ∷ cs) ≡ 2 * length (c ∷ cs) → AllWide Utf16 2 c cs
-units-wide c cs e =
-    let some = unit-some c in
-    let rest = at-least-two cs in
-    record { first = omega (arith, e, some, rest); rest = omega (arith, e, some, rest) }
+ascii-bytes : (cs : List ℕ) → run_width Utf8 cs ≡ 1 * length cs → IsEven Utf8 1 cs
+ascii-bytes cs e = even-least Utf8 1 (λ c. (len_utf8_bounds c).0) cs e
 
 pub utf8-even : (stride : Stride) (text cs : List ℕ) (n : ℕ) → stride ≡ Utf8 → length text ≡ total_width utf8_width cs → length text ≡ n → n ≡ length cs → IsEven stride 1 cs
 utf8-even stride text cs n e width same count =
-    subst (λ (t : Stride). IsEven t 1 cs) (sym e) (even-of Utf8 1 ascii-wide cs (omega (arith, utf8-run cs, width, same, count)))
+    subst (λ (t : Stride). IsEven t 1 cs) (sym e) (ascii-bytes cs (omega (arith, utf8-run cs, width, same, count)))
 
 pub utf16-even : (stride : Stride) (cs : List ℕ) (n units : ℕ) → stride ≡ Utf16 → units ≡ total_width utf16_width cs → units ≡ n → n ≡ length cs → IsEven stride 2 cs
 utf16-even stride cs n units e units_is same count =
-    subst (λ (t : Stride). IsEven t 2 cs) (sym e) (even-of Utf16 2 units-wide cs (omega (arith, utf16-run cs, units_is, same, count)))
+    subst (λ (t : Stride). IsEven t 2 cs) (sym e) (even-least Utf16 2 (λ c. cond_both (nat_lt c 0x10000) 1 2 (λ n. 2 ≤ 2 * n) (λ _. omega arith) (λ _. omega arith)) cs (omega (arith, utf16-run cs, units_is, same, count)))
 
 one-pair : (c : ℕ) → width_of Utf8 c ≡ 1 → width_of Pairs c ≡ 1
-one-pair c e = by_first (nat_lt c 0x80) _ (two_more (nat_lt c 0x800) (nat_lt c 0x10000)) e
-  where
-    two_more : (a b : Bool) → 2 ≤ cond a 2 (cond b 3 4)
-    two_more true b = omega arith
-    two_more false true = omega arith
-    two_more false false = omega arith
-
-    first : Bool → ℕ → ℕ
-    first ascii more = cond ascii 1 more
-
-    by_first : (ascii : Bool) (more : ℕ) → 2 ≤ more → first ascii more ≡ 1 → first ascii 2 ≡ 1
-    by_first true more h e = refl
-    by_first false more h e = absurd (omega (arith, h, e))
+one-pair c e = grind (arith, nat_tests, e)
 
 ascii-pairs : (cs : List ℕ) → IsEven Utf8 1 cs → IsEven Pairs 1 cs
 ascii-pairs [] e = tt
@@ -147,28 +113,10 @@ ascii-pairs (c ∷ cs) e = (one-pair c e.0, ascii-pairs cs e.1)
 
 pub ascii-even : (stride : Stride) (text cs : List ℕ) (n : ℕ) → stride ≡ Pairs → length text ≡ total_width utf8_width cs → length text ≡ n → n ≡ length cs → IsEven stride 1 cs
 ascii-even stride text cs n e width same count =
-    subst (λ (t : Stride). IsEven t 1 cs) (sym e) (ascii-pairs cs (even-of Utf8 1 ascii-wide cs (omega (arith, utf8-run cs, width, same, count))))
-
-pair-few : (c : ℕ) → width_of Pairs c ≤ 2
-pair-few c = at_most_two (nat_lt c 0x80)
-  where
-    at_most_two : (t : Bool) → cond t 1 2 ≤ 2
-    at_most_two true = omega arith
-    at_most_two false = omega arith
-
-pairs-few : (cs : List ℕ) → run_width Pairs cs ≤ 2 * length cs
-pairs-few [] = omega arith
-pairs-few (c ∷ cs) = omega (arith, pairs-few cs, pair-few c)
-
--- no ASCII: as many pairs as code points
-pairs-wide : (c : ℕ) (cs : List ℕ) → run_width Pairs (c ∷ cs) ≡ 2 * length (c ∷ cs) → AllWide Pairs 2 c cs
-pairs-wide c cs e =
-    let few = pair-few c in
-    let rest = pairs-few cs in
-    record { first = omega (arith, e, few, rest); rest = omega (arith, e, few, rest) }
+    subst (λ (t : Stride). IsEven t 1 cs) (sym e) (ascii-pairs cs (ascii-bytes cs (omega (arith, utf8-run cs, width, same, count))))
 
 pub pairs-even : (stride : Stride) (cs : List ℕ) (n : ℕ) → stride ≡ Pairs → run_width Pairs cs + n ≡ 2 * length cs → n ≡ 0 → IsEven stride 2 cs
-pairs-even stride cs n e all none = subst (λ (t : Stride). IsEven t 2 cs) (sym e) (even-of Pairs 2 pairs-wide cs (omega (arith, all, none)))
+pairs-even stride cs n e all none = subst (λ (t : Stride). IsEven t 2 cs) (sym e) (even-most Pairs 2 (λ c. cond_both (nat_lt c 0x80) 1 2 (λ n. n ≤ 2) (λ _. omega arith) (λ _. omega arith)) cs (omega (arith, all, none)))
 
 bytes-by : (cs : List ℕ) → IsEven Bytes 1 cs
 bytes-by [] = tt

@@ -1,10 +1,11 @@
 -- What items come to.
-use Rattle.std.proofs.Common.{◌≡◌, refl, ℕ, ℤ, ◌+◌, ◌*◌, ◌≤◌, Bool, true, false, List, [], ◌∷◌, ◌++◌, length, length-append, map, flat_map, arith}
+use Rattle.std.proofs.Common.{◌≡◌, refl, ℕ, ℤ, ◌+◌, ◌*◌, ◌≤◌, List, [], ◌∷◌, ◌++◌, length, length-append, map, flat_map, arith}
+use Rattle.std.proofs.lemmas.Bool.{cond_both}
 use Rattle.decoder_core.specs.declared.item.Item.{Item}
 use Rattle.decoder_core.specs.declared.item.Item.TheVariants.{One, Two, Error}
 use Rattle.state_memo.specs.Items.{scalar_count, is_an_error, kept_item, errors_in, all_scalars}
 use Rattle.state_memo.specs.Sums.{sum_of}
-use Rattle.state_memo.proofs.Prelude.{nat_tests, one_if, utf8_width, total_width, item_code_points, OutputState, Ended, IsBounded}
+use Rattle.state_memo.proofs.Prelude.{nat_tests, utf8_width, total_width, item_code_points, OutputState, Ended, IsBounded}
 
 utf8_width-le : (c : ℕ) → utf8_width c ≤ 4
 utf8_width-le c = grind (arith, nat_tests)
@@ -23,10 +24,6 @@ item-width (One c) = omega (arith, utf8_width-le c)
 item-width (Two a b) = omega (arith, utf8_width-le a, utf8_width-le b)
 item-width Error = omega arith
 
-one_if-le : (b : Bool) → one_if b ≤ 1
-one_if-le true = omega arith
-one_if-le false = omega arith
-
 module _ {X : Type 0} (item : X → Item) (end : X → ℤ) (output : X → OutputState) where
   abbrev pub text_by : List X → List ℕ
   text_by xs = flat_map (λ (x : X). item_code_points (item x)) xs
@@ -44,7 +41,7 @@ module _ {X : Type 0} (item : X → Item) (end : X → ℤ) (output : X → Outp
 
   errors-items : (xs : List X) → errors_in (items_by xs) ≤ length xs
   errors-items [] = omega arith
-  errors-items (x ∷ xs) = omega (arith, one_if-le (is_an_error (item x)), errors-items xs)
+  errors-items (x ∷ xs) = omega (arith, cond_both (is_an_error (item x)) 1 0 (λ n. n ≤ 1) (λ _. omega arith) (λ _. omega arith), errors-items xs)
 
   pub bounded-items : (bytes : ℕ) (xs : List X) → length xs ≤ bytes + 7 → IsBounded (sum_of bytes (text_by xs) (items_by xs))
   unfolding sum_of

@@ -1,34 +1,26 @@
 -- What is gathered over a piece is its outcome.
-use Rattle.std.proofs.Common.{◌≡◌, refl, sym, ap, subst, ◌∙◌, ℕ, ◌+◌, ◌≤◌, List, [], ◌∷◌, ◌++◌, append_assoc, append-nil, fold, length}
-use Rattle.std.specs.Prelude.{pos, ◌-ℤ◌}
+use Rattle.std.proofs.Common.{◌≡◌, refl, sym, ap, subst, ◌∙◌, ℕ, ℤ, ◌+◌, ◌≤◌, List, [], ◌∷◌, ◌++◌, append_assoc, append-nil, fold, length, pos, ◌-ℤ◌}
 use Rattle.decoder_core.specs.declared.item.Ended.{Ended as EndedItem}
+use Rattle.decoder_core.specs.declared.item.Item.{Item}
 use Rattle.decoder_core.specs.Queue.{run, feed}
 use Rattle.state_memo.specs.Outcome.{Contents, outcome_of, ending_of, text_of_shown, items_of_shown, text_of_ended, items_of_ended}
 use Rattle.state_memo.specs.Sums.{sum_of}
 use Rattle.state_memo.proofs.Prelude.{Shown, shown_from, item_code_points, OutputState, AnyState, AnyDecoding, any, output_of, Ended, Sum, IsSumOf}
-use Rattle.state_memo.proofs.Prelude.{IsBounded, IsDone, Gathered, no_item, with_shown, with_ended, with_more, kept_item, all_scalars}
-use Rattle.state_memo.proofs.Counted.{counted-items, bounded-items}
+use Rattle.state_memo.proofs.Prelude.{IsBounded, IsDone, Gathered, no_item, with_item, with_shown, with_ended, with_more, kept_item, all_scalars}
+use Rattle.state_memo.proofs.Counted.{bounded-items, counted-items, items_by, text_by}
 
 pub more-nil : (g : Gathered) → g ≡ with_more g [] []
 more-nil g = sym (ap (λ (t : List ℕ). record { text = t; items = g.items ++ [] }) (append-nil g.text) ∙ ap (λ (t : List Ended). record { text = g.text; items = t }) (append-nil g.items))
 
-fold-shown : (xs : List (Shown AnyState)) (g : Gathered) → fold (with_shown output_of) g xs ≡ with_more g (text_of_shown xs) (items_of_shown xs)
-fold-shown [] g = more-nil g
-fold-shown (x ∷ xs) g =
-    let first = item_code_points x.item in
-    let items = kept_item x.item x.end (output_of x.after) ∷ [] in
-    fold-shown xs (with_shown output_of g x)
-    ∙ ap (λ (t : List ℕ). record { text = t; items = (g.items ++ items) ++ items_of_shown xs }) (append_assoc g.text first (text_of_shown xs))
-    ∙ ap (λ (t : List Ended). record { text = g.text ++ text_of_shown (x ∷ xs); items = t }) (append_assoc g.items items (items_of_shown xs))
-
-fold-ended : (output : OutputState) (es : List EndedItem) (g : Gathered) → fold (with_ended output) g es ≡ with_more g (text_of_ended es) (items_of_ended output es)
-fold-ended output [] g = more-nil g
-fold-ended output (e ∷ es) g =
-    let first = item_code_points e.item in
-    let items = kept_item e.item (pos 0 -ℤ pos e.back) output ∷ [] in
-    fold-ended output es (with_ended output g e)
-    ∙ ap (λ (t : List ℕ). record { text = t; items = (g.items ++ items) ++ items_of_ended output es }) (append_assoc g.text first (text_of_ended es))
-    ∙ ap (λ (t : List Ended). record { text = g.text ++ text_of_ended (e ∷ es); items = t }) (append_assoc g.items items (items_of_ended output es))
+fold-by : {X : Type 0} (item : X → Item) (end : X → ℤ) (output : X → OutputState) (xs : List X) (g : Gathered)
+    → fold (λ (h : Gathered) (x : X). with_item h (item x) (end x) (output x)) g xs ≡ with_more g (text_by item end output xs) (items_by item end output xs)
+fold-by item end output [] g = more-nil g
+fold-by item end output (x ∷ xs) g =
+    let first = item_code_points (item x) in
+    let items = kept_item (item x) (end x) (output x) ∷ [] in
+    fold-by item end output xs (with_item g (item x) (end x) (output x))
+    ∙ ap (λ (t : List ℕ). record { text = t; items = (g.items ++ items) ++ items_by item end output xs }) (append_assoc g.text first (text_by item end output xs))
+    ∙ ap (λ (t : List Ended). record { text = g.text ++ text_by item end output (x ∷ xs); items = t }) (append_assoc g.items items (items_by item end output xs))
 
 -- text and items that are put behind those there are
 pub taken-is : (g : Gathered) (text new add : List ℕ) (items more run : List Ended) → record { text = text; items = items } ≡ g → new ≡ text ++ add → more ≡ items ++ run → record { text = new; items = more } ≡ with_more g add run
@@ -48,10 +40,10 @@ abbrev pub ended_all : OutputState → List EndedItem → Gathered
 ended_all output es = record { text = text_of_ended es; items = items_of_ended output es }
 
 pub gathered-is : (xs : List (Shown AnyState)) (start after : Gathered) → start ≡ no_item → after ≡ fold (with_shown output_of) start xs → after ≡ shown_all xs
-gathered-is xs start after s a = a ∙ ap (λ (g : Gathered). fold (with_shown output_of) g xs) s ∙ fold-shown xs no_item
+gathered-is xs start after s a = a ∙ ap (λ (g : Gathered). fold (with_shown output_of) g xs) s ∙ fold-by (λ (x : Shown AnyState). x.item) (λ x. x.end) (λ x. output_of x.after) xs no_item
 
 pub ended-is : (output : OutputState) (es : List EndedItem) (start after : Gathered) → start ≡ no_item → after ≡ fold (with_ended output) start es → after ≡ ended_all output es
-ended-is output es start after s a = a ∙ ap (λ (g : Gathered). fold (with_ended output) g es) s ∙ fold-ended output es no_item
+ended-is output es start after s a = a ∙ ap (λ (g : Gathered). fold (with_ended output) g es) s ∙ fold-by (λ (x : EndedItem). x.item) (λ x. pos 0 -ℤ pos x.back) (λ _. output) es no_item
 
 pub done : (bytes : ℕ) (xs : List (Shown AnyState)) (after : Gathered) → length xs ≤ bytes + 7 → after ≡ shown_all xs → IsDone bytes after
 done bytes xs after few e = subst (IsDone bytes) (sym e) (record {

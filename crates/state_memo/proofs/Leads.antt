@@ -1,5 +1,5 @@
 -- What a code point's first byte tells of it.
-use Rattle.std.proofs.Common.{◌≡◌, refl, sym, ap, ◌∙◌, ℕ, ◌+◌, ◌/◌, ◌<◌, Bool, true, false, List, [], ◌∷◌, ◌++◌, length, get_or, arith, nat_lt, cond}
+use Rattle.std.proofs.Common.{◌≡◌, sym, ap, ◌∙◌, ℕ, ◌+◌, ◌/◌, ◌<◌, List, [], ◌∷◌, ◌++◌, length, get_or, arith, nat_lt}
 use Rattle.std.proofs.Math.Utf8.{next, encode, encodes}
 use Rattle.std.proofs.lemmas.Bool.{cond_both}
 use Rattle.state_memo.proofs.Prelude.{nat_tests, length-encode, len_utf8, IsUtf8, continuation_len}

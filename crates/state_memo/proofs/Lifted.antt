@@ -1,6 +1,5 @@
 -- What a decoder gives among all decoders.
-use Rattle.std.proofs.Common.{◌≡◌, refl, sym, ap, ◌∙◌, ℕ, ◌+◌, ◌≤◌, List, [], ◌∷◌, ◌++◌, map, fold, length}
-use Rattle.std.specs.Prelude.{pos, ◌-ℤ◌}
+use Rattle.std.proofs.Common.{◌≡◌, refl, sym, ap, ◌∙◌, ℕ, ◌+◌, ◌≤◌, List, [], ◌∷◌, ◌++◌, map, fold, length, pos, ◌-ℤ◌}
 use Rattle.std.proofs.lemmas.List.{map-append}
 use Rattle.decoder_core.specs.declared.item.Ended.{Ended as EndedItem}
 use Rattle.decoder_core.specs.Lift.{IsLifted, lift_fed}

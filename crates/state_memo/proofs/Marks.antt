@@ -1,7 +1,8 @@
 -- Marks of a text's bytes are those of its code points.
 use Rattle.std.proofs.Common.{◌≡◌, refl, sym, ap, ◌∙◌, ℕ, suc, ◌+◌, ◌<◌, ◌≤◌, inl, inr, Bool, false, ◌==◌, List, [], ◌∷◌, ◌++◌, length, get_or, append-nil, arith, ◌-◌, Some, None, slice_get}
+use Rattle.std.proofs.lemmas.Option.{slice_get-get_or}
 use Rattle.std.proofs.Math.Utf8.{encode, encodes}
-use Rattle.std.proofs.lemmas.Str.{chars-nil, encode_ascii, inside_one, encodes-chars, length-encode, len_utf8_bounds}
+use Rattle.std.proofs.lemmas.Str.{encode_ascii, inside_one, encodes-chars, length-encode, len_utf8_bounds}
 use Rattle.lane_ascii.specs.Marks.{cr, lf, is_mark, one_if, marks, ends_cr}
 use Rattle.state_memo.proofs.Prelude.{chars, IsUtf8, cases_lt, nat_tests, begins_lf}
 
@@ -16,8 +17,8 @@ ends_cr-append f (c ∷ a) b = ends_cr-append (c == cr) a b
 high_mark : (f : Bool) (x : ℕ) → 128 ≤ x → is_mark f x ≡ false
 high_mark f x h = grind (arith, nat_tests)
 
-high_cr : (x : ℕ) → 128 ≤ x → (x == 13) ≡ false
-high_cr x h = grind (arith, nat_tests)
+high_other : (v x : ℕ) → v < 128 → 128 ≤ x → (x == v) ≡ false
+high_other v x few h = grind (arith, nat_tests)
 
 high_marks : (f : Bool) (bs : List ℕ) → ((k : ℕ) → k < length bs → 128 ≤ get_or bs k 0) → marks f bs ≡ 0
 high_marks f [] h = refl
@@ -27,7 +28,7 @@ high_marks f (x ∷ xs) h =
 
 high_ends : (f : Bool) (bs : List ℕ) → ((k : ℕ) → k < length bs → 128 ≤ get_or bs k 0) → 0 < length bs → ends_cr f bs ≡ false
 high_ends f [] h l = absurd (omega arith)
-high_ends f (x ∷ []) h l = let zero_ : 0 < length (x ∷ []) = omega arith in high_cr x (h 0 zero_)
+high_ends f (x ∷ []) h l = let zero_ : 0 < length (x ∷ []) = omega arith in high_other cr x (omega arith) (h 0 zero_)
 high_ends f (x ∷ y ∷ ys) h l = high_ends (x == cr) (y ∷ ys) (λ k g. h (suc k) (omega arith)) (omega arith)
 
 high_bytes : (c : ℕ) → 128 ≤ c → (k : ℕ) → k < length (encode c) → 128 ≤ get_or (encode c) k 0
@@ -48,7 +49,7 @@ ends-encode : (f : Bool) (c : ℕ) → ends_cr f (encode c) ≡ (c == cr)
 ends-encode f c =
     elim (cases_lt c 128) [
       | inl h ↦ ap (ends_cr f) (encode_ascii c h)
-      | inr h ↦ high_ends f (encode c) (high_bytes c h) (omega (arith, length-encode c, (len_utf8_bounds c).0)) ∙ sym (high_cr c h)
+      | inr h ↦ high_ends f (encode c) (high_bytes c h) (omega (arith, length-encode c, (len_utf8_bounds c).0)) ∙ sym (high_other cr c (omega arith) h)
     ]
 
 marks-encodes : (f : Bool) (cs : List ℕ) → marks f (encodes cs) ≡ marks f cs
@@ -67,18 +68,15 @@ marks-bytes f bs u = ap (marks f) (sym (encodes-chars bs u)) ∙ marks-encodes f
 pub ends-bytes : (f : Bool) (bs : List ℕ) → IsUtf8 bs → ends_cr f bs ≡ ends_cr f (chars bs)
 ends-bytes f bs u = ap (ends_cr f) (sym (encodes-chars bs u)) ∙ ends-encodes f (chars bs)
 
-high_lf : (x : ℕ) → 128 ≤ x → (x == 10) ≡ false
-high_lf x h = grind (arith, nat_tests)
-
 high_first : (bs rest : List ℕ) → ((k : ℕ) → k < length bs → 128 ≤ get_or bs k 0) → 0 < length bs → begins_lf (bs ++ rest) ≡ false
 high_first [] rest h l = absurd (omega arith)
-high_first (x ∷ xs) rest h l = let zero_ : 0 < length (x ∷ xs) = omega arith in high_lf x (h 0 zero_)
+high_first (x ∷ xs) rest h l = let zero_ : 0 < length (x ∷ xs) = omega arith in high_other lf x (omega arith) (h 0 zero_)
 
 encode_first : (c : ℕ) (rest : List ℕ) → begins_lf (encode c ++ rest) ≡ (c == 10)
 encode_first c rest =
     elim (cases_lt c 128) [
       | inl h ↦ ap (λ t. begins_lf (t ++ rest)) (encode_ascii c h)
-      | inr h ↦ high_first (encode c) rest (high_bytes c h) (omega (arith, length-encode c, (len_utf8_bounds c).0)) ∙ sym (high_lf c h)
+      | inr h ↦ high_first (encode c) rest (high_bytes c h) (omega (arith, length-encode c, (len_utf8_bounds c).0)) ∙ sym (high_other lf c (omega arith) h)
     ]
 
 first-lf_of : (bs cs : List ℕ) → encodes cs ≡ bs → begins_lf bs ≡ begins_lf cs
@@ -87,8 +85,7 @@ first-lf_of bs (c ∷ cs) e = ap begins_lf (sym e) ∙ encode_first c (encodes c
 
 -- an LF stands first among the bytes exactly where it does among the code points
 pub first-lf : (bs : List ℕ) → IsUtf8 bs → begins_lf bs ≡ begins_lf (chars bs)
-first-lf [] u = ap begins_lf (sym chars-nil)
-first-lf (b ∷ rest) u = first-lf_of (b ∷ rest) (chars (b ∷ rest)) (encodes-chars (b ∷ rest) u)
+first-lf bs u = first-lf_of bs (chars bs) (encodes-chars bs u)
 
 pub first-is : (bs : List ℕ) (b : ℕ) → slice_get bs 0 ≡ Some b → (b == 10) ≡ begins_lf bs
 first-is [] b h = absurd cc
@@ -102,22 +99,13 @@ first-none (x ∷ xs) h = absurd cc
 pub ends-last : (f : Bool) (bs : List ℕ) (b : ℕ) → slice_get bs (length bs - 1) ≡ Some b → ends_cr f bs ≡ (b == cr)
 ends-last f [] b h = absurd cc
 ends-last f (x ∷ []) b h = let e : x ≡ b = cc in ap (λ (v : ℕ). v == cr) e
-ends-last f (x ∷ y ∷ ys) b h = ends-last (x == cr) (y ∷ ys) b (ap (slice_get (x ∷ y ∷ ys)) (sym (one_less (length ys))) ∙ h)
-  where
-    one_less : (n : ℕ) → suc (suc n) - 1 ≡ suc (suc n - 1)
-    one_less n = omega arith
+ends-last f (x ∷ y ∷ ys) b h =
+    let one_less : suc (suc (length ys) - 1) ≡ suc (suc (length ys)) - 1 = omega arith in
+    ends-last (x == cr) (y ∷ ys) b (ap (slice_get (x ∷ y ∷ ys)) one_less ∙ h)
 
 pub ends-none : (f : Bool) (bs : List ℕ) → slice_get bs (length bs - 1) ≡ None → ends_cr f bs ≡ f
 ends-none f [] h = refl
-ends-none f (x ∷ []) h = absurd cc
-ends-none f (x ∷ y ∷ ys) h = absurd (some (y ∷ ys) x h)
-  where
-    some : (zs : List ℕ) (x : ℕ) → slice_get (x ∷ zs) (length (x ∷ zs) - 1) ≡ None → ⊥
-    some [] x h = cc
-    some (z ∷ zs) x h = some zs z (ap (slice_get (x ∷ z ∷ zs)) (sym (one_less (length zs))) ∙ h)
-      where
-        one_less : (n : ℕ) → suc (suc n) - 1 ≡ suc (suc n - 1)
-        one_less n = omega arith
+ends-none f (x ∷ xs) h = let some = slice_get-get_or (x ∷ xs) (length (x ∷ xs) - 1) 0 (omega arith) in absurd cc
 
 -- ---- a text's bytes as they are read
 

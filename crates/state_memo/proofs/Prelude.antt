@@ -12,7 +12,7 @@ pub use Rattle.lane_ascii.specs.Marks.{cr, ends_cr, lf, marks, one_if}
 pub use Rattle.lane_utf.specs.Widths.{total_width, utf16_width, utf8_width}
 pub use Rattle.state_memo.specs.Alike.{AreAlike}
 pub use Rattle.state_memo.specs.Facts.{IsBounded, IsDone, IsSumOf}
-pub use Rattle.state_memo.specs.Gathering.{Gathered, no_item, plain_items, plain_items_from, with_ended, with_more, with_shown}
+pub use Rattle.state_memo.specs.Gathering.{Gathered, no_item, plain_items, plain_items_from, with_ended, with_item, with_more, with_shown}
 pub use Rattle.state_memo.specs.Items.{all_scalars, errors_in, item_of, kept_item, scalars_before}
 pub use Rattle.state_memo.specs.Lines.{begins_lf}
 pub use Rattle.state_memo.specs.Memo.{IsSlot, Memo, same_state, without}

@@ -8,23 +8,18 @@ pub until-step : (kind : ItemKind) (last : ℤ) (n s t : ℕ) → (0 < n → s �
 until-step kind last zero s t e = refl
 until-step kind last (suc n) s t e = ap (λ (k : ℕ). items_until kind k last (suc (suc n))) (e (omega arith))
 
-none-back : (last : ℤ) (s : ℕ) → last -ℤ pos (0 * s) ≡ last
-none-back last s = omega (arith, ints)
-
 times : (n s : ℕ) → suc n * s ≡ s + n * s
 times n s = omega arith
 
 back-back : (last : ℤ) (s k m : ℕ) → m ≡ s + k → (last -ℤ pos s) -ℤ pos k ≡ last -ℤ pos m
 back-back last s k m e = omega (arith, ints, e)
 
-zero_more : (m : ℕ) → 0 + m ≡ m
-zero_more m = omega arith
-
 -- the last n of them, and those before
 pub until-split : (kind : ItemKind) (s : ℕ) (last : ℤ) (m n : ℕ) → items_until kind s last (n + m) ≡ items_until kind s (last -ℤ pos (n * s)) m ++ items_until kind s last n
 until-split kind s last m zero =
-    ap (λ (k : ℕ). items_until kind s last k) (zero_more m)
-    ∙ sym (append-nil (items_until kind s (last -ℤ pos (0 * s)) m) ∙ ap (λ (l : ℤ). items_until kind s l m) (none-back last s))
+    let zero_more : 0 + m ≡ m = omega arith in
+    ap (λ (k : ℕ). items_until kind s last k) zero_more
+    ∙ sym (append-nil (items_until kind s (last -ℤ pos (0 * s)) m) ∙ ap (λ (l : ℤ). items_until kind s l m) (omega (arith, ints)))
 until-split kind s last m (suc n) =
     ap (λ (k : ℕ). items_until kind s last k) (one_more n m)
     ∙ ap (λ (xs : List Ended). xs ++ item_of_kind kind last ∷ [])
@@ -46,17 +41,12 @@ meets a b n s t same e = let more = times n s in omega (arith, ints, same, e, mo
 pub runs-meet : (kind : ItemKind) (a b : ℤ) (m n s t u more : ℕ) → (0 < m → u ≡ s) → (0 < n → u ≡ t) → b -ℤ pos (n * t) ≡ a +ℤ pos u → more ≡ m + n + 1
     → items_until kind u b (suc more) ≡ items_until kind s a (suc m) ++ items_until kind t b (suc n)
 runs-meet kind a b m n s t u more first second gap all =
-    ap (λ (k : ℕ). items_until kind u b k) (count m n more all)
+    let count : suc more ≡ suc n + suc m = omega (arith, all) in
+    ap (λ (k : ℕ). items_until kind u b k) count
     ∙ until-split kind u b (suc m) (suc n)
     ∙ ap (λ (l : ℤ). items_until kind u l (suc m) ++ items_until kind u b (suc n)) (meets a b n u t (all-steps n u t second) gap)
     ∙ ap (λ (xs : List Ended). xs ++ items_until kind u b (suc n)) (until-step kind a m u s first)
     ∙ ap (λ (xs : List Ended). items_until kind s a (suc m) ++ xs) (until-step kind b n u t second)
-  where
-    count : (m n more : ℕ) → more ≡ m + n + 1 → suc more ≡ suc n + suc m
-    count m n more e = omega (arith, e)
-
-run : ℤ → ℕ → ℕ → ItemKind → Run
-run last more step kind = record { last = last; more = more; step = step; kind = kind }
 
 -- the same of runs as the program has them
 pub longer-is : (r next : Run) (last : ℤ) (more step : ℕ) → last ≡ next.last → next.kind ≡ r.kind → more ≡ r.more + next.more + 1 → next.last -ℤ pos (next.more * next.step) ≡ r.last +ℤ pos step
@@ -71,10 +61,7 @@ longer-is r next last more step last_is kind more_is gap front back =
 
 -- the first of them
 pub first-until : (kind : ItemKind) (s : ℕ) (last : ℤ) (n : ℕ) → items_until kind s last (suc n) ≡ item_of_kind kind (last -ℤ pos (n * s)) ∷ items_until kind s last n
-first-until kind s last n = ap (λ (k : ℕ). items_until kind s last k) (add_one n) ∙ until-split kind s last 1 n
-  where
-    add_one : (n : ℕ) → suc n ≡ n + 1
-    add_one n = omega arith
+first-until kind s last n = let add_one : suc n ≡ n + 1 = omega arith in ap (λ (k : ℕ). items_until kind s last k) add_one ∙ until-split kind s last 1 n
 
 behind-front : {A : Type 0} (a b : List A) (n : ℕ) → length a ≡ n → slice_get (a ++ b) n ≡ slice_get b 0
 behind-front [] b n e = ap (slice_get b) (sym e)
@@ -88,13 +75,11 @@ length-until kind s last (suc n) = omega (arith, length-append (items_until kind
 pub item-at : (r : Run) (k behind : ℕ) → k ≤ r.more → behind ≡ r.more - k → slice_get (items_of_run r) k ≡ Some (item_of_kind r.kind (r.last -ℤ pos (behind * r.step)))
 item-at r k behind within behind_is =
     let front = items_until r.kind r.step (r.last -ℤ pos (suc behind * r.step)) k in
-    ap (λ (n : ℕ). slice_get (items_until r.kind r.step r.last n) k) (all r.more k behind within behind_is)
+    let all : suc r.more ≡ suc behind + k = omega (arith, within, behind_is) in
+    ap (λ (n : ℕ). slice_get (items_until r.kind r.step r.last n) k) all
     ∙ ap (λ (xs : List Ended). slice_get xs k) (until-split r.kind r.step r.last k (suc behind))
     ∙ behind-front front (items_until r.kind r.step r.last (suc behind)) k (length-until r.kind r.step (r.last -ℤ pos (suc behind * r.step)) k)
     ∙ ap (λ (xs : List Ended). slice_get xs 0) (first-until r.kind r.step r.last behind)
-  where
-    all : (more k behind : ℕ) → k ≤ more → behind ≡ more - k → suc more ≡ suc behind + k
-    all more k behind h e = omega (arith, h, e)
 
 pub no-item : (r : Run) (k : ℕ) → r.more < k → slice_get (items_of_run r) k ≡ None
 no-item r k h = slice_get_past (items_of_run r) k (omega (arith, h, length-until r.kind r.step r.last (suc r.more)))

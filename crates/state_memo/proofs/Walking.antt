@@ -1,8 +1,9 @@
 -- A text's items, taken in one walk over its code points.
-use Rattle.std.proofs.Common.{◌≡◌, refl, sym, ap, subst, ◌∙◌, ℕ, zero, suc, ◌+◌, ◌-◌, ◌*◌, ◌<◌, ◌≤◌, List, [], ◌∷◌, ◌++◌, append_assoc, append-nil, length, length-append, min, take, drop, get_or, arith, ℤ, pos, ◌+ℤ◌, ◌-ℤ◌, ◌<ℤ◌, false, leb, map, nat_lt, not}
+use Rattle.std.proofs.Common.{◌≡◌, Bool, refl, sym, ap, subst, ◌∙◌, ℕ, zero, suc, ◌+◌, ◌-◌, ◌*◌, ◌<◌, ◌≤◌, List, [], ◌∷◌, ◌++◌, append_assoc, append-nil, length, length-append, min, take, drop, get_or, arith, ℤ, pos, ◌+ℤ◌, ◌<ℤ◌, false, leb, map, nat_lt, not}
 use Rattle.std.proofs.lemmas.Grind.{flat_map-append}
 use Rattle.std.proofs.lemmas.List.{get_or-drop, length-drop, take_all}
 use Rattle.std.proofs.lemmas.List.Sums.{prefix_len-le-length, prefix_len_passes}
+use Rattle.std.proofs.lemmas.Nat.{mul-le}
 use Rattle.std.proofs.lemmas.Simd.{length-chunk, run_in_chunk_fails, run_in_chunk_le, trailing_mask_l}
 use Rattle.std.proofs.lemmas.Str.{chars_past_char, drop_past_char, length-encode, len_utf8_bounds, IsUtf8-past_char}
 use Rattle.std.proofs.Math.Utf8.{encode}
@@ -34,28 +35,19 @@ run-append stride (c ∷ cs) ds = omega (arith, run-append stride cs ds)
 -- one item more
 items-more : (stride : Stride) (from : ℤ) (output : OutputState) (cs : List ℕ) (c : ℕ)
     → plain_items_from stride from output (cs ++ c ∷ []) ≡ plain_items_from stride from output cs ++ kept_item (One c) (from +ℤ pos (run_width stride cs + width_of stride c)) output ∷ []
-items-more stride from output [] c = ap (λ (n : ℕ). kept_item (One c) (from +ℤ pos n) output ∷ []) (none (width_of stride c))
-  where
-    none : (n : ℕ) → n ≡ 0 + n
-    none n = omega arith
+items-more stride from output [] c = ap (λ (n : ℕ). kept_item (One c) (from +ℤ pos n) output ∷ []) (omega arith)
 items-more stride from output (d ∷ cs) c =
     let end = from +ℤ pos (width_of stride d) in
     ap (λ (is : List Ended). kept_item (One d) end output ∷ is)
     (items-more stride end output cs c
-    ∙ ap (λ (z : ℤ). plain_items_from stride end output cs ++ kept_item (One c) z output ∷ []) (far from (width_of stride d) (run_width stride cs) (width_of stride c)))
-  where
-    far : (from : ℤ) (a b c : ℕ) → (from +ℤ pos a) +ℤ pos (b + c) ≡ from +ℤ pos ((a + b) + c)
-    far from a b c = omega (arith, ints)
+    ∙ ap (λ (z : ℤ). plain_items_from stride end output cs ++ kept_item (One c) z output ∷ []) (omega (arith, ints)))
 
 -- an item that goes on with a run
 until-more : (kind : ItemKind) (step width more : ℕ) (last : ℤ) → (0 < more → step ≡ width)
     → items_until kind width (last +ℤ pos width) (suc (suc more)) ≡ items_until kind step last (suc more) ++ item_of_kind kind (last +ℤ pos width) ∷ []
 until-more kind step width more last same =
-    ap (λ (l : ℤ). items_until kind width l (suc more) ++ item_of_kind kind (last +ℤ pos width) ∷ []) (back last width)
+    ap (λ (l : ℤ). items_until kind width l (suc more) ++ item_of_kind kind (last +ℤ pos width) ∷ []) (omega (arith, ints))
     ∙ ap (λ (is : List Ended). is ++ item_of_kind kind (last +ℤ pos width) ∷ []) (sym (until-step kind last more step width same))
-  where
-    back : (last : ℤ) (n : ℕ) → (last +ℤ pos n) -ℤ pos n ≡ last
-    back last n = omega (arith, ints)
 
 -- ---- the walk
 
@@ -104,13 +96,7 @@ item-at {at = at} widths widths_are same some spelt len_is = record {
 
 module _ {stride : Stride} {text : List ℕ} {at len width : ℕ} (here : IsItemAt stride text at len width) where
   next : IsNext (drop at text) (get_or text at 0)
-  next = next-is (drop at text) (get_or text at 0) here.spelt (omega (arith, length-drop at text, here.some)) (ap (get_or_zero text) (none at) ∙ sym (get_or-drop at text 0 0))
-    where
-      get_or_zero : List ℕ → ℕ → ℕ
-      get_or_zero text n = get_or text n 0
-
-      none : (n : ℕ) → n ≡ n + 0
-      none n = omega arith
+  next = next-is (drop at text) (get_or text at 0) here.spelt (omega (arith, length-drop at text, here.some)) (ap (λ (n : ℕ). get_or text n 0) (omega arith) ∙ sym (get_or-drop at text 0 0))
 
   long : len ≡ len_utf8 next.code_point
   long = here.len_is ∙ next.len
@@ -148,19 +134,13 @@ module _ {stride : Stride} {text : List ℕ} {at len width : ℕ} (here : IsItem
         ∙ ap (λ (n : ℕ). run_width stride front + (n + run_width stride (chars (drop (at + len) text)))) (sym width-is)
 
     pub next-fits : (limit start : ℤ) → from ≡ start → (start +ℤ pos (run_width stride (chars text))) <ℤ limit → (last +ℤ pos width) <ℤ limit
-    next-fits limit start = by from last limit start (run_width stride (chars text)) (run_width stride front) width (run_width stride (chars (drop (at + len) text))) whole place
-      where
-        by : (from last limit start : ℤ) (all front width rest : ℕ) → all ≡ front + (width + rest) → last ≡ from +ℤ pos front → from ≡ start → (start +ℤ pos all) <ℤ limit → (last +ℤ pos width) <ℤ limit
-        by from last limit start all front width rest e f g h = omega (arith, ints, e, f, g, h)
+    next-fits limit start from_is fits = omega (arith, ints, whole, place, from_is, fits)
 
     next-front : chars text ≡ (front ++ next.code_point ∷ []) ++ chars (drop (at + len) text)
     next-front = parts ∙ ap (λ (cs : List ℕ). front ++ cs) next-parts ∙ sym (append_assoc front (next.code_point ∷ []) (chars (drop (at + len) text)))
 
     next-place : last +ℤ pos width ≡ from +ℤ pos (run_width stride (front ++ next.code_point ∷ []))
-    next-place = by from last (run_width stride front) width (width_of stride next.code_point) (run_width stride (front ++ next.code_point ∷ [])) place width-is (run-append stride front (next.code_point ∷ []))
-      where
-        by : (from last : ℤ) (front width wide all : ℕ) → last ≡ from +ℤ pos front → width ≡ wide → all ≡ front + (wide + 0) → last +ℤ pos width ≡ from +ℤ pos all
-        by from last front width wide all e f g = omega (arith, ints, e, f, g)
+    next-place = omega (arith, ints, place, width-is, run-append stride front (next.code_point ∷ []))
 
     module _ (kind : ItemKind) (output : OutputState) (one : (end : ℤ) → item_of_kind kind end ≡ record { scalars = 1; end = end; error = false; output = output }) where
       -- the items in front of it, and it
@@ -170,11 +150,8 @@ module _ {stride : Stride} {text : List ℕ} {at len width : ℕ} (here : IsItem
           ap (λ (is : List Ended). is ++ item_of_kind kind (last +ℤ pos width) ∷ []) taken_is
           ∙ append_assoc before (plain_items_from stride from output front) (item_of_kind kind (last +ℤ pos width) ∷ [])
           ∙ ap (λ (i : Ended). before ++ (plain_items_from stride from output front ++ i ∷ [])) (one (last +ℤ pos width))
-          ∙ ap (λ (z : ℤ). before ++ (plain_items_from stride from output front ++ kept_item (One next.code_point) z output ∷ [])) (by from last (run_width stride front) width (width_of stride next.code_point) place width-is)
+          ∙ ap (λ (z : ℤ). before ++ (plain_items_from stride from output front ++ kept_item (One next.code_point) z output ∷ [])) (omega (arith, ints, place, width-is))
           ∙ ap (λ (is : List Ended). before ++ is) (sym (items-more stride from output front next.code_point))
-        where
-          by : (from last : ℤ) (front width wide : ℕ) → last ≡ from +ℤ pos front → width ≡ wide → last +ℤ pos width ≡ from +ℤ pos (front + wide)
-          by from last front width wide e f = omega (arith, ints, e, f)
 
       -- the items are taken as far as it goes, whatever runs they are in
       pub next-walked : (before taken : List Ended) (capacity count room : ℕ) (closed : List Run) (end : ℤ) (more step : ℕ) → end ≡ last +ℤ pos width → taken ≡ before ++ plain_items_from stride from output front
@@ -197,15 +174,12 @@ pub walked-first : {stride : Stride} {text : List ℕ} {len width : ℕ} → IsI
     → items_of_runs closed ++ items_of_run first ≡ before ++ item_of_kind kind end ∷ [] → room + length (chars text) ≤ capacity → count ≤ room + 1
     → IsWalked stride kind output text from before capacity len closed count end first.more first.step
 walked-first {stride} {text} {len} here {kind} {output} one from before capacity count room closed first end end_is kind_is last_is items_are some few =
-    walked-at stride kind output text from before capacity (0 + len) len closed count end end first.more first.step refl (none len)
+    walked-at stride kind output text from before capacity (0 + len) len closed count end end first.more first.step refl (omega arith)
     (next-walked here from from [] refl (at-start from) kind output one before before capacity count room closed end first.more first.step end_is (sym (append-nil before))
     (ap (λ (k : ItemKind). items_of_runs closed ++ items_until k first.step end (suc first.more)) (sym kind_is)
     ∙ ap (λ (l : ℤ). items_of_runs closed ++ items_until first.kind first.step l (suc first.more)) (sym last_is)
     ∙ items_are)
     some few)
-  where
-    none : (n : ℕ) → n ≡ 0 + n
-    none n = omega arith
 
 module _ {stride : Stride} {text : List ℕ} {at len width : ℕ} (here : IsItemAt stride text at len width)
     {kind : ItemKind} {output : OutputState} {from last : ℤ} {before : List Ended} {capacity count more step : ℕ} {closed : List Run} (held : IsWalked stride kind output text from before capacity at closed count last more step) where
@@ -216,17 +190,15 @@ module _ {stride : Stride} {text : List ℕ} {at len width : ℕ} (here : IsItem
     -- an item that goes on with the open run
     pub walked-on : (then_more then_step : ℕ) → then_more ≡ more + 1 → then_step ≡ width → (0 < more → step ≡ width) → IsWalked stride kind output text from before capacity (at + len) closed count end then_more then_step
     walked-on then_more then_step more_is step_is same =
+        let is_more : then_more ≡ suc more = omega (arith, more_is) in
         next-walked here from last held.front held.parts held.place kind output one before (items_of_runs closed ++ items_until kind step last (suc more)) capacity count count closed end then_more then_step end_is held.items
-        (ap (λ (n : ℕ). items_of_runs closed ++ items_until kind then_step end (suc n)) (more_is ∙ one_more more)
+        (ap (λ (n : ℕ). items_of_runs closed ++ items_until kind then_step end (suc n)) is_more
         ∙ ap (λ (n : ℕ). items_of_runs closed ++ items_until kind n end (suc (suc more))) step_is
         ∙ ap (λ (z : ℤ). items_of_runs closed ++ items_until kind width z (suc (suc more))) end_is
         ∙ ap (λ (is : List Ended). items_of_runs closed ++ is) (until-more kind step width more last same)
         ∙ sym (append_assoc (items_of_runs closed) (items_until kind step last (suc more)) (item_of_kind kind (last +ℤ pos width) ∷ []))
         ∙ ap (λ (z : ℤ). (items_of_runs closed ++ items_until kind step last (suc more)) ++ item_of_kind kind z ∷ []) (sym end_is))
         held.room (omega arith)
-      where
-        one_more : (n : ℕ) → n + 1 ≡ suc n
-        one_more n = omega arith
 
     -- an item that begins a run
     pub walked-new : (run : Run) (then : List Run) (then_count then_capacity : ℕ) → run ≡ record { last = last; more = more; step = step; kind = kind } → then ≡ closed ++ run ∷ [] → then_count ≡ count + 1 → then_capacity ≡ capacity
@@ -241,23 +213,22 @@ module _ {stride : Stride} {text : List ℕ} {at len width : ℕ} (here : IsItem
 alike-behind : (text : List ℕ) (at len n : ℕ) → AreAlike text at len (suc n) → AreAlike text (at + len) len n
 alike-behind text at len n alike k lt =
     let next = alike (suc k) (omega (arith, lt)) in
-    (subst (λ (m : ℕ). m < length text) (far at k len) next.0, subst (λ (m : ℕ). len ≡ continuation_len (get_or text m 0) + 1) (far at k len) next.1)
-  where
-    far : (at k len : ℕ) → at + suc k * len ≡ at + len + k * len
-    far at k len = let more : suc k * len ≡ len + k * len = grind arith in omega (arith, more)
+    let far : at + suc k * len ≡ at + len + k * len = omega arith in
+    (subst (λ (m : ℕ). m < length text) far next.0, subst (λ (m : ℕ). len ≡ continuation_len (get_or text m 0) + 1) far next.1)
 
 -- ASCII
-pub ascii-alike : (bytes : List ℕ) (n : ℕ) → n ≡ ascii_len bytes → AreAlike bytes 0 1 n
-ascii-alike bytes n is k lt =
-    let few : k < ascii_len bytes = omega (arith, lt, is) in
-    let low : get_or bytes k 0 < 128 = grind (arith, nat_tests, prefix_len_passes (λ b. nat_lt b 128) bytes k 0 few) in
-    (omega (arith, few, prefix_len-le-length (λ b. nat_lt b 128) bytes), subst (λ (m : ℕ). 1 ≡ continuation_len (get_or bytes m 0) + 1) (far k) (lead (get_or bytes k 0) low))
+low-alike : (bytes : List ℕ) (n : ℕ) → n ≤ length bytes → ((k : ℕ) → k < n → get_or bytes k 0 < 128) → AreAlike bytes 0 1 n
+low-alike bytes n few low k lt =
+    let lead : 1 ≡ continuation_len (get_or bytes k 0) + 1 = by (get_or bytes k 0) (low k lt) in
+    (omega (arith, few, lt), subst (λ (m : ℕ). 1 ≡ continuation_len (get_or bytes m 0) + 1) (omega arith) lead)
   where
-    far : (k : ℕ) → k ≡ 0 + k * 1
-    far k = omega arith
+    by : (b : ℕ) → b < 128 → 1 ≡ continuation_len b + 1
+    by b h = grind (arith, nat_tests)
 
-    lead : (b : ℕ) → b < 128 → 1 ≡ continuation_len b + 1
-    lead b h = grind (arith, nat_tests)
+pub ascii-alike : (bytes : List ℕ) (n : ℕ) → n ≡ ascii_len bytes → AreAlike bytes 0 1 n
+ascii-alike bytes n is =
+    let low : ℕ → Bool = λ b. nat_lt b 128 in
+    low-alike bytes n (omega (arith, is, prefix_len-le-length low bytes)) (λ k lt. grind (arith, nat_tests, prefix_len_passes low bytes k 0 (omega (arith, lt, is))))
 
 -- sixteen bytes: as many as are in front of the first that isn't ASCII
 pub front-alike : (bytes : List ℕ) (others : ℕ) → 16 ≤ length bytes → others ≡ mask_l (map (leb 128) (take 16 bytes)) → 0 < others → AreAlike bytes 0 1 (count_trailing_zeros 64 others)
@@ -265,23 +236,14 @@ front-alike bytes others room is some =
     let run = count_trailing_zeros 64 others in
     let counted : run ≡ prefix_len (λ x. not (leb 128 x)) (take 16 bytes) =
     ap (count_trailing_zeros 64) is ∙ trailing_mask_l (leb 128) 64 (take 16 bytes) (omega (arith, length-chunk 0 16 bytes room)) (omega (arith, is, some)) in
-    let few : run ≤ 16 = run_in_chunk_le (leb 128) bytes 0 16 run 0 room counted in
-    λ k lt. (omega (arith, room, few, lt), subst (λ (m : ℕ). 1 ≡ continuation_len (get_or bytes m 0) + 1) (far k) (lead (get_or bytes k 0) (run_in_chunk_fails (leb 128) bytes 0 16 run 0 room counted k (omega arith) (omega (arith, lt)))))
-  where
-    far : (k : ℕ) → k ≡ 0 + k * 1
-    far k = omega arith
-
-    lead : (b : ℕ) → leb 128 b ≡ false → 1 ≡ continuation_len b + 1
-    lead b h = grind (arith, nat_tests)
+    low-alike bytes run (omega (arith, room, run_in_chunk_le (leb 128) bytes 0 16 run 0 room counted))
+    (λ k lt. grind (arith, nat_tests, run_in_chunk_fails (leb 128) bytes 0 16 run 0 room counted k (omega arith) (omega (arith, lt))))
 
 -- the same of a part that goes to the end, and fewer
 pub alike-part : (bytes text : List ℕ) (at len n most m : ℕ) → bytes ≡ text → AreAlike (take (length bytes - at) (drop at bytes)) 0 len n → m ≡ min n most → AreAlike text at len m
 alike-part bytes text at len n most m same alike is k lt =
     let next = subst (λ (bs : List ℕ). AreAlike bs 0 len n) (take_all (length bytes - at) (drop at bytes) (omega (arith, length-drop at bytes)) ∙ ap (drop at) same) alike k (omega (arith, lt, is)) in
-    (omega (arith, next.0, length-drop at text), next.1 ∙ ap (λ (b : ℕ). continuation_len b + 1) (get_or-drop at text (0 + k * len) 0 ∙ ap (λ (i : ℕ). get_or text i 0) (far at (k * len))))
-  where
-    far : (at n : ℕ) → at + (0 + n) ≡ at + n
-    far at n = omega arith
+    (omega (arith, next.0, length-drop at text), next.1 ∙ ap (λ (b : ℕ). continuation_len b + 1) (get_or-drop at text (0 + k * len) 0 ∙ ap (λ (i : ℕ). get_or text i 0) (omega arith)))
 
 module _ (stride : Stride) (kind : ItemKind) (output : OutputState) (text : List ℕ) (from : ℤ) (before : List Ended) (capacity : ℕ) (closed : List Run) (count width len : ℕ)
     (one : (end : ℤ) → item_of_kind kind end ≡ record { scalars = 1; end = end; error = false; output = output }) (wide : (c : ℕ) → len ≡ len_utf8 c → width ≡ width_of stride c) where
@@ -290,41 +252,21 @@ module _ (stride : Stride) (kind : ItemKind) (output : OutputState) (text : List
       → IsWalked stride kind output text from before capacity at closed count last more width
       → IsWalked stride kind output text from before capacity (at + n * len) closed count (last +ℤ pos (n * width)) (more + n) width
   walked-alike zero at more last alike held =
-      subst (λ (m : ℕ). IsWalked stride kind output text from before capacity (at + 0 * len) closed count (last +ℤ pos (0 * width)) m width) (none more)
-      (walked-at stride kind output text from before capacity at (at + 0 * len) closed count last (last +ℤ pos (0 * width)) more width (here last) (there at) held)
-    where
-      none : (k : ℕ) → k ≡ k + 0
-      none k = omega arith
-
-      there : (k : ℕ) → k + 0 * len ≡ k
-      there k = let nothing : 0 * len ≡ 0 = omega arith in omega (arith, nothing)
-
-      here : (last : ℤ) → last +ℤ pos (0 * width) ≡ last
-      here last = let nothing : 0 * width ≡ 0 = omega arith in omega (arith, ints, nothing)
+      subst (λ (m : ℕ). IsWalked stride kind output text from before capacity (at + 0 * len) closed count (last +ℤ pos (0 * width)) m width) (omega arith)
+      (walked-at stride kind output text from before capacity at (at + 0 * len) closed count last (last +ℤ pos (0 * width)) more width (omega (arith, ints)) (omega arith) held)
   walked-alike (suc n) at more last alike held =
       let first = alike 0 (omega arith) in
       let item : IsItemAt stride text at len width = record {
         spelt = held.spelt;
-        some = subst (λ (m : ℕ). m < length text) (here at) first.0;
-        len_is = subst (λ (m : ℕ). len ≡ continuation_len (get_or text m 0) + 1) (here at) first.1;
+        some = subst (λ (m : ℕ). m < length text) (omega arith) first.0;
+        len_is = subst (λ (m : ℕ). len ≡ continuation_len (get_or text m 0) + 1) (omega arith) first.1;
         wide = wide;
       } in
       let next = walked-on item held one (last +ℤ pos width) refl (more + 1) width refl refl (λ _. refl) in
-      subst (λ (m : ℕ). IsWalked stride kind output text from before capacity (at + suc n * len) closed count (last +ℤ pos (suc n * width)) m width) (past more n)
-      (walked-at stride kind output text from before capacity (at + len + n * len) (at + suc n * len) closed count ((last +ℤ pos width) +ℤ pos (n * width)) (last +ℤ pos (suc n * width)) (more + 1 + n) width (far last width n) (gone at n)
+      let all : suc n * width ≡ width + n * width = omega arith in
+      subst (λ (m : ℕ). IsWalked stride kind output text from before capacity (at + suc n * len) closed count (last +ℤ pos (suc n * width)) m width) (omega arith)
+      (walked-at stride kind output text from before capacity (at + len + n * len) (at + suc n * len) closed count ((last +ℤ pos width) +ℤ pos (n * width)) (last +ℤ pos (suc n * width)) (more + 1 + n) width (omega (arith, ints, all)) (omega arith)
       (walked-alike n (at + len) (more + 1) (last +ℤ pos width) (alike-behind text at len n alike) next))
-    where
-      here : (k : ℕ) → k + 0 * len ≡ k
-      here k = let nothing : 0 * len ≡ 0 = omega arith in omega (arith, nothing)
-
-      past : (k n : ℕ) → k + 1 + n ≡ k + suc n
-      past k n = omega arith
-
-      gone : (k n : ℕ) → k + suc n * len ≡ k + len + n * len
-      gone k n = let all : suc n * len ≡ len + n * len = grind arith in omega (arith, all)
-
-      far : (last : ℤ) (w n : ℕ) → last +ℤ pos (suc n * w) ≡ (last +ℤ pos w) +ℤ pos (n * w)
-      far last w n = let all : suc n * w ≡ w + n * w = grind arith in omega (arith, ints, all)
 
 -- a code point that goes on with the open run, and so many behind it that are alike
 pub walked-run : {stride : Stride} {text : List ℕ} {at len width : ℕ} → IsItemAt stride text at len width
@@ -339,12 +281,7 @@ walked-run {stride} {text} {at} {len} {width} here {kind} {output} {from} {last}
 
 -- how many bytes those of a run can have
 pub few-bytes : (n len : ℕ) → n ≤ 65535 → len ≤ 4 → n * len ≤ 262140
-few-bytes n zero few short = omega (arith, few)
-few-bytes n (suc zero) few short = omega (arith, few)
-few-bytes n (suc (suc zero)) few short = omega (arith, few)
-few-bytes n (suc (suc (suc zero))) few short = omega (arith, few)
-few-bytes n (suc (suc (suc (suc zero)))) few short = omega (arith, few)
-few-bytes n (suc (suc (suc (suc (suc len))))) few short = absurd (omega (arith, short))
+few-bytes n len few short = omega (arith, mul-le n len 65535 4 few short)
 
 -- its items end before a limit that the last one ends before
 pub run-fits : {stride : Stride} {text : List ℕ} {at len width : ℕ} → IsItemAt stride text at len width
@@ -353,11 +290,8 @@ pub run-fits : {stride : Stride} {text : List ℕ} {at len width : ℕ} → IsIt
     → (n : ℕ) (mid limit start : ℤ) → mid ≡ last +ℤ pos width → (0 < more → step ≡ width) → AreAlike text (at + len) len n → from ≡ start → (start +ℤ pos (run_width stride (chars text))) <ℤ limit → (mid +ℤ pos (n * width)) <ℤ limit
 run-fits {stride} {text} {at} {len} {width} here {from = from} held one n mid limit start mid_is same alike from_is fits =
     let walked = walked-run here held one n mid (mid +ℤ pos (n * width)) mid_is same alike refl in
-    by from (mid +ℤ pos (n * width)) limit start (run_width stride (chars text)) (run_width stride walked.front) (run_width stride (chars (drop (at + len + n * len) text)))
-    (ap (run_width stride) walked.parts ∙ run-append stride walked.front (chars (drop (at + len + n * len) text))) walked.place from_is fits
-  where
-    by : (from last limit start : ℤ) (all front rest : ℕ) → all ≡ front + rest → last ≡ from +ℤ pos front → from ≡ start → (start +ℤ pos all) <ℤ limit → last <ℤ limit
-    by from last limit start all front rest e f g h = omega (arith, ints, e, f, g, h)
+    let whole = ap (run_width stride) walked.parts ∙ run-append stride walked.front (chars (drop (at + len + n * len) text)) in
+    omega (arith, ints, whole, walked.place, from_is, fits)
 
 -- all of the text
 pub walked-whole : (stride : Stride) (kind : ItemKind) (output : OutputState) (text : List ℕ) (from : ℤ) (before : List Ended) (capacity at : ℕ) (closed : List Run) (count : ℕ) (last : ℤ) (more step : ℕ)

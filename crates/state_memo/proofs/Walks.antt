@@ -1,11 +1,10 @@
 -- Walks over runs.
-use Rattle.std.proofs.Common.{◌≡◌, refl, sym, ap, subst, ◌∙◌, ℕ, zero, suc, ◌+◌, ◌-◌, ◌*◌, ◌/◌, ◌<◌, ◌≤◌, List, [], ◌∷◌, ◌++◌, length, length-append, arith, ℤ, pos, ◌+ℤ◌, ◌-ℤ◌, Bool, true, false, cond, Option, Some, None, nat_lt, drop, inl, inr, get_or, slice_get, append-nil}
-use Rattle.std.proofs.lemmas.Bool.{cond-false, cond-true}
+use Rattle.std.proofs.Common.{◌≡◌, refl, sym, ap, subst, ◌∙◌, ℕ, zero, suc, ◌+◌, ◌-◌, ◌*◌, ◌/◌, ◌<◌, ◌≤◌, List, [], ◌∷◌, ◌++◌, length, length-append, arith, ℤ, pos, ◌+ℤ◌, ◌-ℤ◌, Bool, true, false, cond, Option, Some, None, nat_lt, drop, inl, inr, get_or, slice_get, append-nil, option_map}
+use Rattle.std.proofs.lemmas.Bool.{cond-false, cond-true, cond_both}
 use Rattle.std.proofs.lemmas.List.{at_drop_more}
 use Rattle.std.proofs.lemmas.Nat.{mul-le}
 use Rattle.std.proofs.Math.Nat.{div-mul-le_self, mod-add-div', mod-lt}
-use Rattle.std.specs.Option.{option_map}
-use Rattle.state_memo.specs.declared.kind.ItemKind.TheVariants.{AsciiOne, AsciiTwo, AsciiError, RomanOne, RomanTwo, RomanError, KatakanaOne, KatakanaTwo, KatakanaError, Jis0208One, Jis0208Two, Jis0208Error}
+use Rattle.state_memo.specs.declared.kind.ItemKind.TheVariants.{AsciiOne}
 use Rattle.state_memo.proofs.Prelude.{cases_lt, ints, nat_tests, le_z, one_if, Ended, ItemKind, Run, errors_in, all_scalars, scalars_before, item_of}
 use Rattle.state_memo.proofs.Prelude.{scalars_of, error_of, item_of_kind, items_until, items_of_run, items_of_runs}
 use Rattle.state_memo.proofs.Splitting.{length-until}
@@ -61,23 +60,14 @@ before-past kind step limit last n zero h =
     before-all kind step limit last n e ∙ ap (λ (k : ℕ). k * (scalars_of kind)) (omega arith)
 before-past kind step limit last zero (suc p) h = let none : 0 - suc p ≡ 0 = omega arith in rw none (omega arith)
 before-past kind step limit last (suc n) (suc p) h =
-    let last_far : le_z last limit ≡ false = not_yet last limit (p * step) (h.far p refl) in
+    let last_far : le_z last limit ≡ false = grind (arith, ints, h.far p refl) in
     let m : suc p * step ≡ p * step + step = more p step in
     let rest : suc n - suc p ≡ n - p = omega arith in
     let next : IsPast (last -ℤ pos step) limit step p = record {
-      near = nearer last limit step (suc p * step) (p * step) m h.near;
-      far = λ q e. farther last limit step (p * step) (q * step) (ap (λ (k : ℕ). k * step) e ∙ more q step) (h.far p refl);
+      near = grind (arith, ints, m, h.near);
+      far = λ q e. grind (arith, ints, ap (λ (k : ℕ). k * step) e ∙ more q step, h.far p refl);
     } in
     omega (arith, before-append limit (items_until kind step (last -ℤ pos step) n) (item_of_kind kind last ∷ []), before-past kind step limit (last -ℤ pos step) n p next, cond-false (le_z last limit) (scalars_of kind) 0 last_far, ap (λ (k : ℕ). k * (scalars_of kind)) rest)
-  where
-    not_yet : (last limit : ℤ) (k : ℕ) → le_z last (limit +ℤ pos k) ≡ false → le_z last limit ≡ false
-    not_yet last limit k e = grind (arith, ints)
-
-    nearer : (last limit : ℤ) (s a b : ℕ) → a ≡ b + s → le_z last (limit +ℤ pos a) ≡ true → le_z (last -ℤ pos s) (limit +ℤ pos b) ≡ true
-    nearer last limit s a b e h = grind (arith, ints)
-
-    farther : (last limit : ℤ) (s a b : ℕ) → a ≡ b + s → le_z last (limit +ℤ pos a) ≡ false → le_z (last -ℤ pos s) (limit +ℤ pos b) ≡ false
-    farther last limit s a b e h = grind (arith, ints)
 
 far_step : (last : ℤ) (step : ℕ) → step ≡ 0 → last -ℤ pos step ≡ last
 far_step last step e = omega (arith, ints, e)
@@ -90,13 +80,7 @@ before-none kind step limit last (suc n) z e =
 
 pub before-gap : (kind : ItemKind) (step : ℕ) (limit last : ℤ) (n gap p : ℕ) → last ≡ limit +ℤ pos gap → gap ≤ p * step → ((q : ℕ) → p ≡ suc q → q * step < gap) → scalars_before limit (items_until kind step last n) ≡ (n - p) * (scalars_of kind)
 before-gap kind step limit last n gap p e near far =
-    before-past kind step limit last n p (record { near = at_most last limit gap (p * step) e near; far = λ q is. above last limit gap (q * step) e (far q is) })
-  where
-    at_most : (last limit : ℤ) (gap k : ℕ) → last ≡ limit +ℤ pos gap → gap ≤ k → le_z last (limit +ℤ pos k) ≡ true
-    at_most last limit gap k e h = grind (arith, ints)
-
-    above : (last limit : ℤ) (gap k : ℕ) → last ≡ limit +ℤ pos gap → k < gap → le_z last (limit +ℤ pos k) ≡ false
-    above last limit gap k e h = grind (arith, ints)
+    before-past kind step limit last n p (record { near = grind (arith, ints, e, near); far = λ q is. grind (arith, ints, e, far q is) })
 
 -- the number of an item in a run: from the front, all of one width
 front-item : (a b : List Ended) (n : ℕ) → n < all_scalars a → item_of (a ++ b) n ≡ item_of a n
@@ -129,7 +113,7 @@ run-item kind step last zero n k h low high = absurd (omega (arith, h))
 run-item kind step last (suc count) n k h low high =
     let front = items_until kind step (last -ℤ pos step) count in
     elim (cases_lt k count) [
-      | inl l ↦ front-item front (item_of_kind kind last ∷ []) n (omega (arith, scalars-until kind step (last -ℤ pos step) count, before_it k count (scalars_of kind) l, high)) ∙ run-item kind step (last -ℤ pos step) count n k l low high
+      | inl l ↦ front-item front (item_of_kind kind last ∷ []) n (omega (arith, scalars-until kind step (last -ℤ pos step) count, mul-le (suc k) (scalars_of kind) count (scalars_of kind) (omega (arith, l)) (omega arith), more k (scalars_of kind), high)) ∙ run-item kind step (last -ℤ pos step) count n k l low high
       | inr g ↦
           let same : k ≡ count = omega (arith, h, g) in
           let all : all_scalars front ≡ k * (scalars_of kind) = scalars-until kind step (last -ℤ pos step) count ∙ ap (λ (x : ℕ). x * (scalars_of kind)) (sym same) in
@@ -137,10 +121,6 @@ run-item kind step last (suc count) n k h low high =
           ∙ ap (λ o. option_map (λ j. j + length front) o) (cond-true (nat_lt (n - all_scalars front) (scalars_of kind)) (Some 0) None (grind (arith, nat_tests, all, low, high)))
           ∙ ap Some (omega (arith, length-until kind step (last -ℤ pos step) count, same))
     ]
-  where
-    before_it : (k count s : ℕ) → k < count → k * s + s ≤ count * s
-    before_it k zero s h = absurd (omega (arith, h))
-    before_it k (suc count) s h = grind (arith, more count s, mul-le k s count s (omega (arith, h)) (omega arith))
 
 abbrev pub IsQuotient : ℕ → ℕ → ℕ → Type 0
 IsQuotient n m q = (q * m ≤ n) × (n < q * m + m)
@@ -175,20 +155,13 @@ before-next limit rs i d h = at_drop_more (λ (xs : List Run). scalars_before li
 
 pub before-few : (limit : ℤ) (es : List Ended) → scalars_before limit es ≤ all_scalars es
 before-few limit [] = omega arith
-before-few limit (e ∷ es) = omega (arith, at_most (le_z e.end limit) e.scalars, before-few limit es)
-  where
-    at_most : (t : Bool) (s : ℕ) → cond t s 0 ≤ s
-    at_most true s = omega arith
-    at_most false s = omega arith
+before-few limit (e ∷ es) = omega (arith, cond_both (le_z e.end limit) e.scalars 0 (λ n. n ≤ e.scalars) (λ _. omega arith) (λ _. omega arith), before-few limit es)
 
 -- ---- as the program counts them
 
-one_more : (n : ℕ) → n + 1 ≡ suc n
-one_more n = omega arith
-
 pub run-scalars : (r : Run) (n s : ℕ) → n ≡ r.more → s ≡ scalars_of r.kind → (n + 1) * s ≡ all_scalars (items_of_run r)
 run-scalars r n s e f =
-    ap (λ (k : ℕ). (k + 1) * s) e ∙ ap (λ (k : ℕ). (r.more + 1) * k) f ∙ ap (λ (k : ℕ). k * scalars_of r.kind) (one_more r.more)
+    ap (λ (k : ℕ). (k + 1) * s) e ∙ ap (λ (k : ℕ). (r.more + 1) * k) f ∙ ap (λ (k : ℕ). k * scalars_of r.kind) (omega arith)
     ∙ sym (scalars-until r.kind r.step r.last (suc r.more))
 
 pub run-errors : (r : Run) (n : ℕ) → error_of r.kind ≡ true → n ≡ r.more → n + 1 ≡ errors_in (items_of_run r)
@@ -198,18 +171,7 @@ pub run-no-errors : (r : Run) → error_of r.kind ≡ false → 0 ≡ errors_in 
 run-no-errors r e = let none : suc r.more * one_if (error_of r.kind) ≡ 0 = rw e (omega arith) in omega (arith, none, errors-until r.kind r.step r.last (suc r.more))
 
 some-scalars : (kind : ItemKind) → 0 < scalars_of kind
-some-scalars AsciiOne = omega arith
-some-scalars AsciiTwo = omega arith
-some-scalars AsciiError = omega arith
-some-scalars RomanOne = omega arith
-some-scalars RomanTwo = omega arith
-some-scalars RomanError = omega arith
-some-scalars KatakanaOne = omega arith
-some-scalars KatakanaTwo = omega arith
-some-scalars KatakanaError = omega arith
-some-scalars Jis0208One = omega arith
-some-scalars Jis0208Two = omega arith
-some-scalars Jis0208Error = omega arith
+some-scalars kind = grind arith
 
 pub found-in : (r : Run) (n s : ℕ) → s ≡ scalars_of r.kind → n / s ≤ r.more → item_of (items_of_run r) n ≡ Some (n / s)
 found-in r n s e h =
@@ -226,17 +188,10 @@ not-in r n s e h =
 -- ---- over all runs
 
 one-error : (kind : ItemKind) → one_if (error_of kind) ≤ scalars_of kind
-one-error kind = by_some (error_of kind) (scalars_of kind) (some-scalars kind)
-  where
-    by_some : (b : Bool) (s : ℕ) → 0 < s → one_if b ≤ s
-    by_some true s h = omega (arith, h)
-    by_some false s h = omega arith
+one-error kind = cond_both (error_of kind) 1 0 (λ n. n ≤ scalars_of kind) (λ _. some-scalars kind) (λ _. omega arith)
 
 errors-few-until : (kind : ItemKind) (step : ℕ) (last : ℤ) (n : ℕ) → errors_in (items_until kind step last n) ≤ all_scalars (items_until kind step last n)
-errors-few-until kind step last zero = omega arith
-errors-few-until kind step last (suc n) =
-    let front = items_until kind step (last -ℤ pos step) n in
-    omega (arith, errors-append front (item_of_kind kind last ∷ []), scalars-append front (item_of_kind kind last ∷ []), errors-few-until kind step (last -ℤ pos step) n, one-error kind)
+errors-few-until kind step last n = omega (arith, errors-until kind step last n, scalars-until kind step last n, mul-le n (one_if (error_of kind)) n (scalars_of kind) (omega arith) (one-error kind))
 
 pub errors-few : (rs : List Run) → errors_in (items_of_runs rs) ≤ all_scalars (items_of_runs rs)
 errors-few [] = omega arith
@@ -295,10 +250,8 @@ last-item (x ∷ []) r h =
     ∙ last-behind (items_until x.kind x.step (x.last -ℤ pos x.step) x.more) (item_of_kind x.kind x.last ∷ []) (item_of_kind x.kind x.last) refl
     ∙ ap (λ (y : Run). Some (item_of_kind y.kind y.last)) e
 last-item (x ∷ y ∷ rs) r h =
-    last-behind (items_of_run x) (items_of_runs (y ∷ rs)) (item_of_kind r.kind r.last) (last-item (y ∷ rs) r (ap (slice_get (x ∷ y ∷ rs)) (sym (one_less (length rs))) ∙ h))
-  where
-    one_less : (n : ℕ) → suc (suc n) - 1 ≡ suc (suc n - 1)
-    one_less n = omega arith
+    let one_less : suc (suc (length rs) - 1) ≡ suc (suc (length rs)) - 1 = omega arith in
+    last-behind (items_of_run x) (items_of_runs (y ∷ rs)) (item_of_kind r.kind r.last) (last-item (y ∷ rs) r (ap (slice_get (x ∷ y ∷ rs)) one_less ∙ h))
 
 -- ---- the item of a code point
 
@@ -321,10 +274,7 @@ found-front (e ∷ a) b n k h = by_test (nat_lt n e.scalars) (item_of a (n - e.s
     by_test false (Some j) p e f = ap (option_map (λ i. i + 1)) (f j refl) ∙ e
 
 length-few-until : (kind : ItemKind) (step : ℕ) (last : ℤ) (n : ℕ) → length (items_until kind step last n) ≤ all_scalars (items_until kind step last n)
-length-few-until kind step last zero = omega arith
-length-few-until kind step last (suc n) =
-    let front = items_until kind step (last -ℤ pos step) n in
-    omega (arith, length-append front (item_of_kind kind last ∷ []), scalars-append front (item_of_kind kind last ∷ []), length-few-until kind step (last -ℤ pos step) n, some-scalars kind)
+length-few-until kind step last n = omega (arith, length-until kind step last n, scalars-until kind step last n, mul-le n 1 n (scalars_of kind) (omega arith) (some-scalars kind))
 
 pub length-few : (rs : List Run) → length (items_of_runs rs) ≤ all_scalars (items_of_runs rs)
 length-few [] = omega arith

@@ -1,5 +1,4 @@
-use Rattle.std.proofs.Common.{◌≡◌, take}
-use Rattle.std.specs.Prelude.{fold}
+use Rattle.std.proofs.Common.{◌≡◌, take, fold}
 use Rattle.state_memo.specs.Gathering.{with_ended}
 use Rattle.state_memo.proofs.gathering.Gathering.take_last.Given as goal
 

@@ -1,4 +1,4 @@
-use Rattle.std.proofs.Common.{arith, ap, List, pos}
+use Rattle.std.proofs.Common.{arith, ap, List}
 use Rattle.state_memo.proofs.Prelude.{Ended, all_scalars}
 use Rattle.state_memo.proofs.Walks.{no_run, errors-next, errors-few}
 use Rattle.state_memo.proofs.items.ItemRuns.count_errors.Goals as goal

@@ -1,4 +1,4 @@
-use Rattle.std.proofs.Common.{◌+◌, ◌-◌, ◌<◌, ◌≤◌, arith, ap, ◌∙◌, List, ℕ, pos, drop, slice_get, get_or}
+use Rattle.std.proofs.Common.{◌+◌, ◌-◌, ◌<◌, ◌≤◌, arith, ap, ◌∙◌, List, ℕ, drop, slice_get, get_or}
 use Rattle.state_memo.proofs.Prelude.{Ended, items_of_runs}
 use Rattle.state_memo.proofs.Walks.{no_run, get-here, get-next}
 use Rattle.state_memo.proofs.items.ItemRuns.get.Goals as goal

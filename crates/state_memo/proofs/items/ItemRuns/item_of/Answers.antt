@@ -1,5 +1,4 @@
-use Rattle.std.proofs.Common.{◌+◌, ◌-◌, arith, ap, sym, ◌∙◌, List, ℕ, pos, drop, get_or}
-use Rattle.std.specs.Prelude.{option_map}
+use Rattle.std.proofs.Common.{◌+◌, ◌-◌, arith, ap, sym, ◌∙◌, List, ℕ, drop, get_or, option_map}
 use Rattle.state_memo.proofs.Prelude.{Ended, all_scalars, item_of, items_of_runs}
 use Rattle.state_memo.proofs.Walks.{no_run, length-few, length-next, run-within, found-here, found-next}
 use Rattle.state_memo.proofs.items.ItemRuns.item_of.Goals as goal

@@ -1,5 +1,4 @@
-use Rattle.std.proofs.Common.{◌≡◌, ◌+◌, drop, length}
-use Rattle.std.specs.Prelude.{option_map}
+use Rattle.std.proofs.Common.{◌≡◌, ◌+◌, drop, length, option_map}
 use Rattle.state_memo.proofs.Prelude.{item_of, items_of_runs}
 use Rattle.state_memo.proofs.items.ItemRuns.item_of.Given as goal
 

@@ -1,4 +1,4 @@
-use Rattle.std.proofs.Common.{arith, ap, List, pos, to_z, of_z, w64}
+use Rattle.std.proofs.Common.{arith, ap, List, to_z, of_z, w64}
 use Rattle.state_memo.proofs.Prelude.{Ended, all_scalars, items_of_runs}
 use Rattle.state_memo.proofs.Walks.{no_run, before-next, before-few}
 use Rattle.state_memo.proofs.items.ItemRuns.scalars_before.Goals as goal

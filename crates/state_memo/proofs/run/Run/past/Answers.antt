@@ -3,9 +3,6 @@ use Rattle.state_memo.proofs.Prelude.{le_z, scalars_of}
 use Rattle.state_memo.proofs.Walks.{before-all, before-none, before-div, rest-none}
 use Rattle.state_memo.proofs.run.Run.past.Goals as goal
 
-one_more : (n : ℕ) → suc n ≡ n + 1
-one_more n = omega arith
-
 pub returns-then-last-limit : goal.returns-then-last-limit
 returns-then-last-limit c =
     let e : le_z c.args.self.last c.args.limit ≡ true = search rules in
@@ -24,4 +21,4 @@ returns c =
     let gap : 0 < c.abs_diff.result = search rules in
     let e : c.args.self.last ≡ c.args.limit +ℤ pos c.abs_diff.result = search rules in
     before-div c.args.self c.args.limit c.abs_diff.result c.from-2.result c.from-2.ensures some gap e
-    ∙ ap (λ (n : ℕ). (n - ((c.abs_diff.result - 1) / c.from-2.result + 1)) * scalars_of c.args.self.kind) (one_more c.args.self.more)
+    ∙ ap (λ (n : ℕ). (n - ((c.abs_diff.result - 1) / c.from-2.result + 1)) * scalars_of c.args.self.kind) (omega arith)
