@@ -35,7 +35,7 @@ text-seen files setting ps tail earlier self view_is kept = ap text_of (sym view
 pub error_places-append : (xs ys : List Placed) → error_places (xs ++ ys) ≡ error_places xs ++ error_places ys
 error_places-append xs ys = flat_map-append (λ (p : Placed). error_place p.item (record { from = p.from; to = p.to })) xs ys
 
-error-counted : (i : Item) (place : Place) → length (error_place i place) ≡ one_if (is_an_error i)
+pub error-counted : (i : Item) (place : Place) → length (error_place i place) ≡ one_if (is_an_error i)
 error-counted (One c) place = refl
 error-counted i place = refl
 

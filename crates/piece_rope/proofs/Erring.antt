@@ -83,15 +83,14 @@ errors-seen files setting ps tail earlier self view_is kept bom bom_is =
 
 -- ---- reading them
 
-pub errors_at-append : (base from : ℕ) (xs ys : List Ended) → errors_at base from (xs ++ ys) ≡ errors_at base from xs ++ errors_at base (last_at base from xs) ys
-errors_at-append base from [] ys = refl
+-- items in a row: their errors, and where the last of them ends
+pub errors_at-append : (base from : ℕ) (xs ys : List Ended)
+    → (errors_at base from (xs ++ ys) ≡ errors_at base from xs ++ errors_at base (last_at base from xs) ys) × (last_at base from (xs ++ ys) ≡ last_at base (last_at base from xs) ys)
+errors_at-append base from [] ys = (refl, refl)
 errors_at-append base from (x ∷ xs) ys =
     let to = ends_at base x.end in
-    cc (errors_at-append base to xs ys, append_assoc (place_if x.error from to) (errors_at base to xs) (errors_at base (last_at base to xs) ys))
-
-last_at-append : (base from : ℕ) (xs ys : List Ended) → last_at base from (xs ++ ys) ≡ last_at base (last_at base from xs) ys
-last_at-append base from [] ys = refl
-last_at-append base from (x ∷ xs) ys = last_at-append base (ends_at base x.end) xs ys
+    let rest = errors_at-append base to xs ys in
+    (cc (rest.0, append_assoc (place_if x.error from to) (errors_at base to xs) (errors_at base (last_at base to xs) ys)), rest.1)
 
 place-counted : (b : Bool) (from to : ℕ) → length (place_if b from to) ≡ one_if b
 place-counted true from to = refl
@@ -109,7 +108,7 @@ kind-end k z = (refl, refl)
 
 pub run-last : (base from : ℕ) (r : Run) → last_at base from (items_of_run r) ≡ ends_at base r.last
 run-last base from r =
-    cc (last_at-append base from (items_until r.kind r.step (r.last -ℤ pos r.step) r.more) (item_of_kind r.kind r.last ∷ []), (kind-end r.kind r.last).0)
+    cc ((errors_at-append base from (items_until r.kind r.step (r.last -ℤ pos r.step) r.more) (item_of_kind r.kind r.last ∷ [])).1, (kind-end r.kind r.last).0)
 
 -- every item is an error
 abbrev AreErrors : List Ended → Type 0
@@ -156,30 +155,25 @@ run-passed base from left r rs l =
     let here = items_of_run r in
     let size = errors_at-length base from here in
     let back = get-back (errors_at base from here) (errors_at base (last_at base from here) (items_of_runs rs)) left (omega (arith, size, l)) in
-    cc (errors_at-append base from here (items_of_runs rs), back, size, run-last base from r)
+    cc ((errors_at-append base from here (items_of_runs rs)).0, back, size, run-last base from r)
 
 pub run-holds : (base from left : ℕ) (r : Run) (rs : List Run) → left < errors_in (items_of_run r)
     → slice_get (errors_at base from (items_of_run r)) left ≡ slice_get (errors_at base from (items_of_runs (r ∷ rs))) left
 run-holds base from left r rs l =
     let here = items_of_run r in
     let later = errors_at base (last_at base from here) (items_of_runs rs) in
-    cc (errors_at-append base from here (items_of_runs rs), get-front (errors_at base from here) later left (omega (arith, errors_at-length base from here, l)))
+    cc ((errors_at-append base from here (items_of_runs rs)).0, get-front (errors_at base from here) later left (omega (arith, errors_at-length base from here, l)))
 
 -- ---- over pieces
 
-pub errors_from-append : (base from : ℕ) (xs ys : List Entry) → errors_from base from (xs ++ ys) ≡ errors_from base from xs ++ errors_from (base + (sums_of xs).bytes) (last_from base from xs) ys
-errors_from-append base from [] ys = let e : base + 0 ≡ base = omega arith in ap (λ (n : ℕ). errors_from n from ys) (sym e)
+pub errors_from-append : (base from : ℕ) (xs ys : List Entry) → let behind = base + (sums_of xs).bytes in let last = last_from base from xs in
+    (errors_from base from (xs ++ ys) ≡ errors_from base from xs ++ errors_from behind last ys) × (last_from base from (xs ++ ys) ≡ last_from behind last ys)
+errors_from-append base from [] ys = let e : base + 0 ≡ base = omega arith in (cc, cc)
 errors_from-append base from (x ∷ xs) ys =
     let o = here_of x in
     let e : base + o.sum.bytes + (sums_of xs).bytes ≡ base + (o.sum.bytes + (sums_of xs).bytes) = omega arith in
-    cc (e, errors_from-append (base + o.sum.bytes) (last_at base from o.items) xs ys, append_assoc (errors_at base from o.items) _ _)
-
-pub last_from-append : (base from : ℕ) (xs ys : List Entry) → last_from base from (xs ++ ys) ≡ last_from (base + (sums_of xs).bytes) (last_from base from xs) ys
-last_from-append base from [] ys = let e : base + 0 ≡ base = omega arith in ap (λ (n : ℕ). last_from n from ys) (sym e)
-last_from-append base from (x ∷ xs) ys =
-    let o = here_of x in
-    let e : base + o.sum.bytes + (sums_of xs).bytes ≡ base + (o.sum.bytes + (sums_of xs).bytes) = omega arith in
-    cc (e, last_from-append (base + o.sum.bytes) (last_at base from o.items) xs ys)
+    let rest = errors_from-append (base + o.sum.bytes) (last_at base from o.items) xs ys in
+    (cc (e, rest.0, append_assoc (errors_at base from o.items) _ _), cc (e, rest.1))
 
 pub errors_from-length : (base from : ℕ) (ps : List Entry) → length (errors_from base from ps) ≡ (sums_of ps).errors
 errors_from-length base from [] = refl
@@ -207,7 +201,7 @@ piece-cut bom k ps p tail at =
     let end = errors_at (sums_of ps).bytes (last_from 0 bom ps) tail.items in
     let zero-b : 0 + b ≡ b = omega arith in
     let cut : errors_from 0 bom ps ≡ front ++ (errors_at b last o.items ++ later) =
-    cc (zero-b, take-append-drop k ps, drop-next ps k p at, errors_from-append 0 bom (take k ps) (p ∷ drop (suc k) ps)) in
+    cc (zero-b, take-append-drop k ps, drop-next ps k p at, (errors_from-append 0 bom (take k ps) (p ∷ drop (suc k) ps)).0) in
     (later ++ end, cc (cut, append_assoc front (errors_at b last o.items ++ later) end, append_assoc (errors_at b last o.items) later end))
 
 -- the sum of one piece more, by a number that adds up
@@ -251,7 +245,7 @@ module _ (count : ErrorCount) (bom n k : ℕ) (ps : List Entry) (s : Sum) (found
 pub last-back : (bom k : ℕ) (ps : List Entry) (p : Entry) → slice_get ps k ≡ Some p → last_from 0 bom (take (suc k) ps) ≡ last_at (sums_of (take k ps)).bytes (last_from 0 bom (take k ps)) (here_of p).items
 last-back bom k ps p at =
     let e : 0 + (sums_of (take k ps)).bytes ≡ (sums_of (take k ps)).bytes = omega arith in
-    cc (e, take-next ps k p at, last_from-append 0 bom (take k ps) (p ∷ []))
+    cc (e, take-next ps k p at, (errors_from-append 0 bom (take k ps) (p ∷ [])).1)
 
 pub runs-last : (base from : ℕ) (rs : List Run) (r : Run) → slice_get rs (length rs - 1) ≡ Some r → last_at base from (items_of_runs rs) ≡ ends_at base r.last
 runs-last base from [] r at = absurd cc
@@ -259,7 +253,7 @@ runs-last base from (x ∷ []) r at = cc (append-nil (items_of_run x), run-last 
 runs-last base from (x ∷ y ∷ rs) r at =
     let k : suc (length (y ∷ rs) - 1) ≡ length (x ∷ y ∷ rs) - 1 = omega arith in
     let later = runs-last base (last_at base from (items_of_run x)) (y ∷ rs) r (ap (λ (n : ℕ). slice_get (x ∷ y ∷ rs) n) k ∙ at) in
-    last_at-append base from (items_of_run x) (items_of_runs (y ∷ rs)) ∙ later
+    (errors_at-append base from (items_of_run x) (items_of_runs (y ∷ rs))).1 ∙ later
 
 module _ (base from left k : ℕ) (rs : List Run) (d : Run) (l : k < length rs) where
   abbrev r : Run

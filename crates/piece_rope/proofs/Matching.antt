@@ -1,5 +1,5 @@
 -- Bytes found in a text that lies in pieces.
-use Rattle.std.proofs.Common.{◌≡◌, ◌==◌, true, false, Option, Some, None, ◌-◌, ℕ, ◌≤◌, ◌<◌, min, List, [], ◌++◌, length, take, drop, sym, ap, ◌∙◌, subst, arith, append_assoc, append-nil, length-append}
+use Rattle.std.proofs.Common.{◌≡◌, ◌==◌, true, false, Option, Some, None, ◌-◌, ℕ, ◌≤◌, ◌<◌, min, List, [], ◌++◌, length, take, drop, sym, ap, ◌∙◌, arith, append_assoc, append-nil, length-append}
 use Rattle.piece_rope.proofs.Prelude.{nat_tests, Decides-eqb, append_cancel_left, length-drop, take-append-drop, take-append-le, take_rest}
 use Rattle.piece_rope.proofs.Prelude.{nil_from_length, IfNone, IsMatch}
 
@@ -44,7 +44,7 @@ pub more-sliced : (part left text head behind : List ℕ) (n : ℕ) → Found pa
 more-sliced part left text head behind n f m = rw (take_rest left n, take_rest head n) (found-more part left text head behind n f m)
 
 -- the head is used up where some of the part is left
-pub head-gone : (head left : List ℕ) (n : ℕ) → IsMatch head left n → 0 < length (take (length left - n) (drop n left)) → take (length head - n) (drop n head) ≡ []
+head-gone : (head left : List ℕ) (n : ℕ) → IsMatch head left n → 0 < length (take (length left - n) (drop n left)) → take (length head - n) (drop n head) ≡ []
 head-gone head left n m some =
     let l : 0 < length left - n = rw (take_rest left n, length-drop n left) at some in
     let c = m.count in
@@ -55,12 +55,14 @@ pub if_none : {A : Type 0} (P : Type 0) (r : Option A) → P → IfNone r P
 if_none P None p = p
 if_none P (Some x) p = tt
 
-pub positive : (n : ℕ) → (n == 0) ≡ false → 0 < n
+positive : (n : ℕ) → (n == 0) ≡ false → 0 < n
 positive n e = grind (arith, nat_tests)
 
 pub none-left : (xs : List ℕ) → (length xs == 0) ≡ true → xs ≡ []
 none-left xs e = nil_from_length xs ((Decides-eqb (length xs) 0).0 e)
 
-pub next-found : (part left text head behind more : List ℕ) → Found part left text (head ++ behind) → head ≡ [] → behind ≡ more → Found part left text more
-next-found part left text head behind more f gone same =
-    subst (λ (x : List ℕ). Found part left text x) (ap (λ (h : List ℕ). h ++ behind) gone ∙ same) f
+pub past-head : (part left text head behind : List ℕ) (n : ℕ) → Found part left text (head ++ behind) → IsMatch head left n → (length (take (length left - n) (drop n left)) == 0) ≡ false
+    → Found part (take (length left - n) (drop n left)) text behind × (0 < length (take (length left - n) (drop n left)))
+past-head part left text head behind n f m more =
+    let some = positive (length (take (length left - n) (drop n left))) more in
+    (rw (head-gone head left n m some) at (more-sliced part left text head behind n f m), some)

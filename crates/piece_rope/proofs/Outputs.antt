@@ -1,54 +1,48 @@
 -- What items remember of the output state is the decoder's behind their ends, taken literally.
 use Rattle.std.proofs.Common.{◌≡◌, refl, sym, ap, ◌∙◌, subst, ℕ, ◌+◌, ◌-◌, ◌^◌, ◌<◌, true, List, [], ◌∷◌, ◌++◌, take, length, map, Option, Some, None, All, arith, append_assoc, length-append}
 use Rattle.std.proofs.lemmas.List.Elements.{All-map, All-append, All-nil}
-use Rattle.piece_rope.proofs.Prelude.{is_some, pos, ◌-ℤ◌, take-append-le, Setting, Files, has_files, EndedItem, AnyDecoding, AnyState, any, any_start}
-use Rattle.piece_rope.proofs.Prelude.{feed, run, decoder_in, output_of, output_behind, state_behind, Shown, shown_from, Ended, Outcome, kept_item}
-use Rattle.piece_rope.proofs.Prelude.{Contents, contents_of, outcome_of, ending_of, items_of_shown, sum_of, Chain, bytes_of, Document, IsRope, Entry}
-use Rattle.piece_rope.proofs.Prelude.{here, here_of, ends_at, output_at, HasOutputs, HaveOutputs}
+use Rattle.piece_rope.proofs.Prelude.{is_some, pos, ◌-ℤ◌, take-append-le, Setting, Files, EndedItem, AnyDecoding, AnyState, any, any_start, feed, run}
+use Rattle.piece_rope.proofs.Prelude.{decoder_in, output_of, output_behind, state_behind, Shown, shown_from, Ended, Outcome, kept_item, Contents}
+use Rattle.piece_rope.proofs.Prelude.{contents_of, outcome_of, ending_of, items_of_shown, sum_of, Chain, bytes_of, Document, IsRope, Entry, here}
+use Rattle.piece_rope.proofs.Prelude.{here_of, ends_at, output_at, HasOutputs, HaveOutputs, IsKept, document}
 use Rattle.piece_rope.proofs.Counting.{here-contents}
 use Rattle.piece_rope.proofs.Making.{end_of}
 
--- what is said of one decoder's states
-pub record StateLaws (files : Files) (setting : Setting) (d : AnyDecoding) : Type 0 where
-  pub start : any_start d ≡ state_behind files setting []
-  pub behind : (bytes : List ℕ) → (feed (any d) (any_start d) bytes).state ≡ state_behind files setting bytes
-  pub output : (bytes : List ℕ) → output_of (state_behind files setting bytes) ≡ output_behind files setting bytes
-  pub parts : (s : AnyState) (p q : List ℕ) → (feed (any d) s (p ++ q)).state ≡ (feed (any d) (feed (any d) s p).state q).state
-  pub byte : (p : List ℕ) (b : ℕ) → All (λ (e : EndedItem). output_of (state_behind files setting (take (length p + 1 - e.back) (p ++ b ∷ []))) ≡ output_of (state_behind files setting (p ++ b ∷ []))) (feed (any d) (state_behind files setting p) (b ∷ [])).items
-  pub end : (p : List ℕ) → All (λ (e : EndedItem). output_of (state_behind files setting (take (length p - e.back) p)) ≡ output_of (state_behind files setting p)) (run (any d) (state_behind files setting p) [])
+-- what is said of decoders' states
+pub record StateLaws : Type 0 where
+  pub start : (files : Files) (setting : Setting) (d : AnyDecoding) → decoder_in files setting ≡ Some d → any_start d ≡ state_behind files setting []
+  pub behind : (files : Files) (setting : Setting) (d : AnyDecoding) (bytes : List ℕ) → decoder_in files setting ≡ Some d
+      → (feed (any d) (any_start d) bytes).state ≡ state_behind files setting bytes
+  pub state : (files : Files) (setting : Setting) (bytes : List ℕ) → output_of (state_behind files setting bytes) ≡ output_behind files setting bytes
+  pub parts : (d : AnyDecoding) (s : AnyState) (p q : List ℕ) → (feed (any d) s (p ++ q)).state ≡ (feed (any d) (feed (any d) s p).state q).state
+  pub byte : (files : Files) (setting : Setting) (d : AnyDecoding) (p : List ℕ) (b : ℕ) → decoder_in files setting ≡ Some d
+      → All (λ (e : EndedItem). output_of (state_behind files setting (take (length p + 1 - e.back) (p ++ b ∷ []))) ≡ output_of (state_behind files setting (p ++ b ∷ []))) (feed (any d) (state_behind files setting p) (b ∷ [])).items
+  pub end : (files : Files) (setting : Setting) (d : AnyDecoding) (p : List ℕ) → decoder_in files setting ≡ Some d
+      → All (λ (e : EndedItem). output_of (state_behind files setting (take (length p - e.back) p)) ≡ output_of (state_behind files setting p)) (run (any d) (state_behind files setting p) [])
 
--- a decoder that is there
-pub record IsThere (files : Files) (setting : Setting) : Type 0 where
-  pub decoder : AnyDecoding
-  pub chosen : decoder_in files setting ≡ Some decoder
-
-there-by : (files : Files) (setting : Setting) (o : Option AnyDecoding) → decoder_in files setting ≡ o → is_some o ≡ true → IsThere files setting
-there-by files setting (Some d) is some = record { decoder = d; chosen = is }
-there-by files setting None is some = absurd cc
-
-pub is_there : (files : Files) (setting : Setting) → is_some (decoder_in files setting) ≡ has_files files setting.given → has_files files setting.given ≡ true → IsThere files setting
-is_there files setting same can = there-by files setting (decoder_in files setting) refl (same ∙ can)
-
-module _ (doc : Document) (d : AnyDecoding) (laws : StateLaws doc.indexes doc.setting d) (bound : length doc.bytes < 2 ^ 64) where
+module _ (doc : Document) (d : AnyDecoding) (chosen : decoder_in doc.indexes doc.setting ≡ Some d) (laws : StateLaws) (bound : length doc.bytes < 2 ^ 64) where
   abbrev state : List ℕ → AnyState
   state p = state_behind doc.indexes doc.setting p
 
+  behind : (bytes : List ℕ) → (feed (any d) (any_start d) bytes).state ≡ state bytes
+  behind bytes = laws.behind doc.indexes doc.setting d bytes chosen
+
   next : (p q : List ℕ) → (feed (any d) (state p) q).state ≡ state (p ++ q)
-  next p q = cc (laws.behind p, laws.parts (any_start d) p q, laws.behind (p ++ q))
+  next p q = cc (behind p, laws.parts d (any_start d) p q, behind (p ++ q))
 
   -- the items of one byte
   byte-outputs : (base read : ℕ) (p : List ℕ) (b : ℕ) (rest : List ℕ) → length p + 1 ≡ base + read → doc.bytes ≡ (p ++ b ∷ []) ++ rest → base + read < 2 ^ 64 → (after : AnyState) → after ≡ state (p ++ b ∷ [])
       → HasOutputs doc base (map (λ (e : EndedItem). kept_item e.item (pos read -ℤ pos e.back) (output_of after)) (feed (any d) (state p) (b ∷ [])).items)
   byte-outputs base read p b rest size whole fits after is =
       All-map (λ (e : Ended). e.output ≡ output_at doc (ends_at base e.end)) (λ (e : EndedItem). kept_item e.item (pos read -ℤ pos e.back) (output_of after)) (feed (any d) (state p) (b ∷ [])).items
-      (λ k c lt. at_item _ (laws.byte p b k c lt))
+      (λ k c lt. at_item _ (laws.byte doc.indexes doc.setting d p b chosen k c lt))
     where
       at_item : (back : ℕ) → output_of (state (take (length p + 1 - back) (p ++ b ∷ []))) ≡ output_of (state (p ++ b ∷ [])) → output_of after ≡ output_at doc (ends_at base (pos read -ℤ pos back))
       at_item back same =
           let place : ends_at base (pos read -ℤ pos back) ≡ length p + 1 - back = end_of base read back fits ∙ omega (arith, size) in
           let front : take (length p + 1 - back) doc.bytes ≡ take (length p + 1 - back) (p ++ b ∷ []) =
           ap (take (length p + 1 - back)) whole ∙ take-append-le (length p + 1 - back) (p ++ b ∷ []) rest (omega (arith, length-append p (b ∷ []))) in
-          ap output_of is ∙ sym same ∙ ap (λ (q : List ℕ). output_of (state q)) (sym front) ∙ laws.output (take (length p + 1 - back) doc.bytes) ∙ ap (output_at doc) (sym place)
+          ap output_of is ∙ sym same ∙ ap (λ (q : List ℕ). output_of (state q)) (sym front) ∙ laws.state doc.indexes doc.setting (take (length p + 1 - back) doc.bytes) ∙ ap (output_at doc) (sym place)
 
   -- of more bytes
   items-append : (xs ys : List (Shown AnyState)) → items_of_shown (xs ++ ys) ≡ items_of_shown xs ++ items_of_shown ys
@@ -91,24 +85,34 @@ module _ (doc : Document) (d : AnyDecoding) (laws : StateLaws doc.indexes doc.se
         chain-outputs (base + (here_of x).sum.bytes) (p ++ q) (feed (any d) s q).state ps after chain.2 size_here (whole ∙ sym (append_assoc p q (bytes_of ps))),
       )
 
-  pub body-outputs : (ps : List Entry) (end : AnyState) → IsRope d ps end → doc.bytes ≡ bytes_of ps → HaveOutputs doc 0 (map here_of ps)
-  body-outputs ps end rope whole = chain-outputs 0 [] (any_start d) ps laws.start rope.chain refl whole
+  body-outputs : (ps : List Entry) (end : AnyState) → IsRope d ps end → doc.bytes ≡ bytes_of ps → HaveOutputs doc 0 (map here_of ps)
+  body-outputs ps end rope whole = chain-outputs 0 [] (any_start d) ps (laws.start doc.indexes doc.setting d chosen) rope.chain refl whole
 
   -- of the end
-  pub end-outputs : (ps : List Entry) (tail : Outcome) → IsRope d ps tail.exit → doc.bytes ≡ bytes_of ps → contents_of tail ≡ ending_of d tail.exit → HasOutputs doc (length doc.bytes) tail.items
+  end-outputs : (ps : List Entry) (tail : Outcome) → IsRope d ps tail.exit → doc.bytes ≡ bytes_of ps → contents_of tail ≡ ending_of d tail.exit → HasOutputs doc (length doc.bytes) tail.items
   unfolding ending_of
   end-outputs ps tail rope whole own =
       let s = tail.exit in
       let size = length doc.bytes in
-      let exit : s ≡ state doc.bytes = rope.end_is ∙ laws.behind (bytes_of ps) ∙ ap state (sym whole) in
+      let exit : s ≡ state doc.bytes = rope.end_is ∙ behind (bytes_of ps) ∙ ap state (sym whole) in
       let given : All (λ (e : EndedItem). output_of (state (take (size - e.back) doc.bytes)) ≡ output_of (state doc.bytes)) (run (any d) s []) =
-      subst (λ (t : AnyState). All (λ (e : EndedItem). output_of (state (take (size - e.back) doc.bytes)) ≡ output_of (state doc.bytes)) (run (any d) t [])) (sym exit) (laws.end doc.bytes) in
+      subst (λ (t : AnyState). All (λ (e : EndedItem). output_of (state (take (size - e.back) doc.bytes)) ≡ output_of (state doc.bytes)) (run (any d) t [])) (sym exit) (laws.end doc.indexes doc.setting d doc.bytes chosen) in
       subst (HasOutputs doc size) (sym (ap (λ (c : Contents). c.items) own))
       (All-map (λ (e : Ended). e.output ≡ output_at doc (ends_at size e.end)) (λ (e : EndedItem). kept_item e.item (pos 0 -ℤ pos e.back) (output_of s)) (run (any d) s [])
       (λ k c lt. at_item _ (given k c lt)))
     where
       at_item : (back : ℕ) → output_of (state (take (length doc.bytes - back) doc.bytes)) ≡ output_of (state doc.bytes) → output_of tail.exit ≡ output_at doc (ends_at (length doc.bytes) (pos 0 -ℤ pos back))
       at_item back same =
-          let exit : tail.exit ≡ state doc.bytes = rope.end_is ∙ laws.behind (bytes_of ps) ∙ ap state (sym whole) in
+          let exit : tail.exit ≡ state doc.bytes = rope.end_is ∙ behind (bytes_of ps) ∙ ap state (sym whole) in
           let place : ends_at (length doc.bytes) (pos 0 -ℤ pos back) ≡ length doc.bytes - back = end_of (length doc.bytes) 0 back (omega (arith, bound)) ∙ omega arith in
-          ap output_of exit ∙ sym same ∙ laws.output (take (length doc.bytes - back) doc.bytes) ∙ ap (output_at doc) (sym place)
+          ap output_of exit ∙ sym same ∙ laws.state doc.indexes doc.setting (take (length doc.bytes - back) doc.bytes) ∙ ap (output_at doc) (sym place)
+
+-- of what a document keeps, where there is a decoder
+pub held-outputs : (files : Files) (setting : Setting) (ps : List Entry) (tail : Outcome) → StateLaws → IsKept files setting ps tail → (o : Option AnyDecoding) → decoder_in files setting ≡ o → is_some o ≡ true
+    → let doc = document files setting (bytes_of ps) in HaveOutputs doc 0 (map here_of ps) × HasOutputs doc (length doc.bytes) tail.items
+held-outputs files setting ps tail laws kept (Some d) chosen some =
+    let doc : Document = document files setting (bytes_of ps) in
+    let bound : length doc.bytes < 2 ^ 64 = omega (arith, kept.within) in
+    let rope = kept.rope d chosen in
+    (body-outputs doc d chosen laws bound ps tail.exit rope refl, end-outputs doc d chosen laws bound ps tail rope refl (kept.tail_is d chosen))
+held-outputs files setting ps tail laws kept None chosen some = absurd cc

@@ -1,4 +1,7 @@
 -- Words of std, of the crates below and of specs/, which many proofs here name.
+pub use Rattle.std.proofs.Common.{Bool, List, None, Option, Some, Vec, [], add-one, ap, arith, drop, false, if◌then◌else◌, length, length-append, map}
+pub use Rattle.std.proofs.Common.{min, refl, rules, slice_get, string_bytes, subst, suc, sym, take, true, ℕ, ◌*◌, ◌++◌, ◌+◌, ◌-◌, ◌<◌, ◌^◌, ◌∙◌, ◌∷◌}
+pub use Rattle.std.proofs.Common.{◌≡◌, ◌≤◌}
 pub use Rattle.std.proofs.Math.Seq.{drop-append-add, drop-append_seam, drop-cons, take-add, take-append-add, take-append_seam, take-suc}
 pub use Rattle.std.proofs.lemmas.Bool.{cases_lt, le-leb, leb-true, lt-leb}
 pub use Rattle.std.proofs.lemmas.Bool.Decides.{Decides-eqb, nat_tests}
@@ -17,12 +20,11 @@ pub use Rattle.enc_names.specs.declared.place.Place.{Place}
 pub use Rattle.enc_names.specs.declared.setting.Setting.{Setting}
 pub use Rattle.index_loader.specs.Files.{Files}
 unfoldable pub use Rattle.index_loader.specs.Files.{has_files}
-unfoldable pub use Rattle.index_loader.specs.Kinds.{slot_of}
-pub use Rattle.state_memo.specs.Decoding.{AnyDecoding, AnyState, Ended as EndedItem, Item, One, Placed, Shown, any, any_start, code_points, decoder_in}
-pub use Rattle.state_memo.specs.Decoding.{ended_at, error_place, error_places, further, item_code_points, mark_length, mark_of, marks, one_if}
-pub use Rattle.state_memo.specs.Decoding.{output_behind, output_of, places, shown_from, shown_items, state_behind, total_width, utf16_width, utf8_width}
-unfoldable pub use Rattle.state_memo.specs.Decoding.{decode, feed, run, turns}
-unfoldable pub use Rattle.state_memo.specs.Feeding.{feed_for}
+pub use Rattle.state_memo.specs.Decoding.{AnyDecoding, AnyState, Ended as EndedItem, Item, One, Placed, Shown, any, any_start, code_points}
+pub use Rattle.state_memo.specs.Decoding.{decoder_in, ended_at, error_place, error_places, further, item_code_points, mark_length, mark_of, marks}
+pub use Rattle.state_memo.specs.Decoding.{one_if, output_behind, output_of, places, shown_from, shown_items, state_behind, total_width, utf16_width}
+pub use Rattle.state_memo.specs.Decoding.{utf8_width}
+unfoldable pub use Rattle.state_memo.specs.Decoding.{decode, feed, run}
 pub use Rattle.state_memo.specs.Items.{errors_in, is_an_error, kept_item, scalar_count}
 pub use Rattle.state_memo.specs.Memo.{Memo, entered, installed, recalled, same_state, without}
 pub use Rattle.state_memo.specs.Outcome.{Contents, contents_of, items_of_ended, items_of_shown, text_of_ended, text_of_shown}
@@ -39,8 +41,8 @@ pub use Rattle.piece_rope.specs.Compare.{IsMatch, IsSpan, rest_of, wanted}
 pub use Rattle.piece_rope.specs.Document.{Document, decoded, document, errors_of, text_of}
 unfoldable pub use Rattle.piece_rope.specs.Document.{decoded_errors, decoded_text}
 pub use Rattle.piece_rope.specs.Edit.{IsRope, Metered, edited, exchanged}
-pub use Rattle.piece_rope.specs.Edits.{KeptAnswers, document_limit, first_of, is_kept, kept_fault, named, replaced, settled, spliced, spliced_document}
-pub use Rattle.piece_rope.specs.Edits.{text_fault}
+pub use Rattle.piece_rope.specs.Edits.{KeptAnswers, document_limit, first_of, is_kept, kept_fault, named, replaced, settled, spliced}
+pub use Rattle.piece_rope.specs.Edits.{spliced_document, text_fault}
 unfoldable pub use Rattle.piece_rope.specs.Edits.{range_fault, splice_fault}
 pub use Rattle.piece_rope.specs.Entry.{Entry, entry_sum, here, here_of, items_of, outcome_or, sums_of, texts_of}
 pub use Rattle.piece_rope.specs.Errors.{all_errors, errors_at, errors_from, last_at, last_from, place_if}

@@ -1,5 +1,4 @@
-use Rattle.std.proofs.Common.{◌≡◌, rules, ap, ◌∙◌, ℕ, ◌+◌, ◌-◌, List, ◌++◌, take, drop, min, length, arith}
-use Rattle.piece_rope.proofs.Prelude.{slice_get_within, bytes_of}
+use Rattle.piece_rope.proofs.Prelude.{◌≡◌, rules, ap, ◌∙◌, ℕ, ◌+◌, ◌-◌, List, ◌++◌, take, drop, min, length, arith, slice_get_within, bytes_of}
 use Rattle.piece_rope.proofs.Reading.{bytes-behind, bytes-from, bytes-enough, bytes-within, read-step, read-enough}
 use Rattle.piece_rope.proofs.bytes.push_bytes.Goals as goal
 

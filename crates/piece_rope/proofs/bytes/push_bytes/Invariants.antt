@@ -1,5 +1,4 @@
-use Rattle.std.proofs.Common.{◌≡◌, ◌-◌, ◌≤◌, ◌++◌, ◌+◌, length, take, drop, slice_get, Some}
-use Rattle.piece_rope.proofs.Prelude.{Entry, bytes_of}
+use Rattle.piece_rope.proofs.Prelude.{◌≡◌, ◌-◌, ◌≤◌, ◌++◌, ◌+◌, length, take, drop, slice_get, Some, Entry, bytes_of}
 use Rattle.piece_rope.proofs.bytes.push_bytes.Given as goal
 
 abbrev pub invariant-pieces : goal.invariant-pieces

@@ -1,5 +1,4 @@
-use Rattle.std.proofs.Common.{rules, ◌≡◌, ◌<◌, length, arith, suc, refl, Bool, true, false, not}
-use Rattle.piece_rope.proofs.Prelude.{same_state}
+use Rattle.piece_rope.proofs.Prelude.{rules, ◌≡◌, ◌<◌, length, arith, suc, refl, Bool, true, false, not, same_state}
 use Rattle.piece_rope.proofs.Parting.{whole-scalars}
 use Rattle.piece_rope.proofs.Spanning.{span-agreed, span-to-end, texts-grow}
 use Rattle.piece_rope.proofs.Texts.{text-place}

@@ -1,5 +1,4 @@
-use Rattle.std.proofs.Common.{◌≡◌, ◌+◌, ◌-◌, length, ap, arith}
-use Rattle.piece_rope.proofs.Prelude.{chars, Sum, rest_of, parts_of, edited_parts, text_in}
+use Rattle.piece_rope.proofs.Prelude.{◌≡◌, ◌+◌, ◌-◌, length, ap, arith, chars, Sum, rest_of, parts_of, edited_parts, text_in}
 use Rattle.piece_rope.proofs.Comparing.{decided, numbers-differ, span-found, span-not-found}
 use Rattle.piece_rope.proofs.Joining.{whole-few}
 use Rattle.piece_rope.proofs.Parting.{whole-scalars}

@@ -1,5 +1,4 @@
-use Rattle.std.proofs.Common.{rules, ◌≡◌, ◌+◌, length, slice_get, Some, None, ◌∙◌, arith}
-use Rattle.piece_rope.proofs.Prelude.{Entry, here_of, edited_parts, made_pieces}
+use Rattle.piece_rope.proofs.Prelude.{rules, ◌≡◌, ◌+◌, length, slice_get, Some, None, ◌∙◌, arith, Entry, here_of, edited_parts, made_pieces}
 use Rattle.piece_rope.proofs.Lists.{element}
 use Rattle.piece_rope.proofs.Matching.{if_none}
 use Rattle.piece_rope.proofs.Parting.{made-at, made-length, scalars-next, texts-all, counted-off}

@@ -1,5 +1,4 @@
-use Rattle.std.proofs.Common.{◌-◌, ◌+◌, ◌≡◌, length, take}
-use Rattle.piece_rope.proofs.Prelude.{texts_of, made_pieces}
+use Rattle.piece_rope.proofs.Prelude.{◌-◌, ◌+◌, ◌≡◌, length, take, texts_of, made_pieces}
 use Rattle.piece_rope.proofs.compare.made_counted.Given as goal
 
 abbrev pub invariant-pieces : goal.invariant-pieces

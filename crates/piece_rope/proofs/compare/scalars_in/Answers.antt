@@ -1,5 +1,4 @@
-use Rattle.std.proofs.Common.{ap, ◌∙◌, take}
-use Rattle.piece_rope.proofs.Prelude.{Sum}
+use Rattle.piece_rope.proofs.Prelude.{ap, ◌∙◌, take, Sum}
 use Rattle.piece_rope.proofs.Texts.{sums-scalars}
 use Rattle.piece_rope.proofs.compare.scalars_in.Goals as goal
 

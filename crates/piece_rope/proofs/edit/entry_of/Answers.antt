@@ -1,5 +1,4 @@
-use Rattle.std.proofs.Common.{◌∙◌}
-use Rattle.piece_rope.proofs.Prelude.{any_start}
+use Rattle.piece_rope.proofs.Prelude.{◌∙◌, any_start}
 use Rattle.piece_rope.proofs.Chaining.{laws_from, entry-at}
 use Rattle.piece_rope.proofs.edit.entry_of.Goals as goal
 

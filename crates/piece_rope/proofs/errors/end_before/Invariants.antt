@@ -1,5 +1,4 @@
-use Rattle.std.proofs.Common.{◌≡◌, ◌≤◌, length, take}
-use Rattle.piece_rope.proofs.Prelude.{sums_of, last_from}
+use Rattle.piece_rope.proofs.Prelude.{◌≡◌, ◌≤◌, length, take, sums_of, last_from}
 use Rattle.piece_rope.proofs.errors.end_before.Given as goal
 
 abbrev pub invariant-pieces : goal.invariant-pieces

@@ -1,5 +1,4 @@
-use Rattle.std.proofs.Common.{◌≡◌, drop, slice_get}
-use Rattle.piece_rope.proofs.Prelude.{items_of_runs, errors_at}
+use Rattle.piece_rope.proofs.Prelude.{◌≡◌, drop, slice_get, items_of_runs, errors_at}
 use Rattle.piece_rope.proofs.errors.error_in.Given as goal
 
 abbrev pub invariant-runs : goal.invariant-runs

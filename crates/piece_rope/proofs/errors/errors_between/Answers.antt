@@ -1,5 +1,4 @@
-use Rattle.std.proofs.Common.{◌≡◌, sym, ap, ◌∙◌, List, [], ◌∷◌, ◌++◌, arith, rules, None, Some, slice_get}
-use Rattle.piece_rope.proofs.Prelude.{Place, all_errors}
+use Rattle.piece_rope.proofs.Prelude.{◌≡◌, sym, ap, ◌∙◌, List, [], ◌∷◌, ◌++◌, arith, rules, None, Some, slice_get, Place, all_errors}
 use Rattle.piece_rope.proofs.Lists.{element, taken-more}
 use Rattle.piece_rope.proofs.errors.errors_between.Goals as goal
 

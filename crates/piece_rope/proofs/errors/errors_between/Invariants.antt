@@ -1,5 +1,4 @@
-use Rattle.std.proofs.Common.{◌≡◌, ◌≤◌, ◌-◌, take, drop}
-use Rattle.piece_rope.proofs.Prelude.{all_errors}
+use Rattle.piece_rope.proofs.Prelude.{◌≡◌, ◌≤◌, ◌-◌, take, drop, all_errors}
 use Rattle.piece_rope.proofs.errors.errors_between.Given as goal
 
 abbrev pub invariant-errors : goal.invariant-errors

@@ -1,5 +1,4 @@
-use Rattle.std.proofs.Common.{◌≡◌, ◌+◌, ◌≤◌, ◌<◌, ◌++◌, ◌^◌, ◌-◌, min, length}
-use Rattle.piece_rope.proofs.Prelude.{Chain, state_after, bytes_of, AreSized, longest, shortest}
+use Rattle.piece_rope.proofs.Prelude.{◌≡◌, ◌+◌, ◌≤◌, ◌<◌, ◌++◌, ◌^◌, ◌-◌, min, length, Chain, state_after, bytes_of, AreSized, longest, shortest}
 use Rattle.piece_rope.proofs.fresh.fresh_pieces.Given as goal
 
 abbrev pub invariant-rest : goal.invariant-rest

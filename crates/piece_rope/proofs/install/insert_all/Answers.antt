@@ -1,5 +1,4 @@
-use Rattle.std.proofs.Common.{◌≡◌, rules, subst, take, drop, List, [], ◌∷◌, ◌++◌}
-use Rattle.piece_rope.proofs.Prelude.{Entry, CanJoin}
+use Rattle.piece_rope.proofs.Prelude.{◌≡◌, rules, subst, take, drop, List, [], ◌∷◌, ◌++◌, Entry, CanJoin}
 use Rattle.piece_rope.proofs.Joining.{join-inserted}
 use Rattle.piece_rope.proofs.install.insert_all.Goals as goal
 

@@ -1,4 +1,4 @@
-use Rattle.std.proofs.Common.{◌≡◌, rules, sym, ap, ◌∙◌, subst, ℕ, ◌+◌, ◌≤◌, List, ◌++◌, length, take, drop, arith}
+use Rattle.std.proofs.Common.{◌≡◌, rules, sym, ◌∙◌, subst, ℕ, ◌+◌, ◌≤◌, List, ◌++◌, length, take, drop, arith}
 use Rattle.piece_rope.proofs.Prelude.{Entry, AreRenewed, renewed, CanJoin}
 use Rattle.piece_rope.proofs.Editing.{put-in, renewed-in}
 use Rattle.piece_rope.proofs.Joining.{join-without}
@@ -9,8 +9,8 @@ installed : (ps fresh rs now : List Entry) (first last count : ℕ) → first �
     → now ≡ take first ps ++ drop (last + count) ps → (more : List Entry) → more ≡ take first now ++ (rs ++ drop first now)
     → take first more ++ (fresh ++ drop first more) ≡ take first ps ++ (fresh ++ renewed (drop last ps) rs)
 installed ps fresh rs now first last count order within count_is renewed_are now_is more more_is =
-    ap (λ (xs : List Entry). take first xs ++ (fresh ++ drop first xs)) (more_is ∙ renewed-in ps rs now first last count order within count_is renewed_are now_is)
-    ∙ put-in ps fresh (renewed (drop last ps) rs) first (omega (arith, order, within))
+    let behind = renewed-in ps rs now first last count order within count_is renewed_are now_is in
+    cc (behind, put-in ps fresh (renewed (drop last ps) rs) first (omega (arith, order, within)))
 
 pub insert_all-requires-clause-join : goal.insert_all-requires-clause-join
 insert_all-requires-clause-join c =

@@ -1,5 +1,4 @@
-use Rattle.std.proofs.Common.{subst, List}
-use Rattle.piece_rope.proofs.Prelude.{Entry, Logs}
+use Rattle.piece_rope.proofs.Prelude.{subst, List, Entry, Logs}
 use Rattle.piece_rope.proofs.install.install_edit.Goals as goal
 
 pub returns-clause-log : goal.returns-clause-log

@@ -1,5 +1,4 @@
-use Rattle.std.proofs.Common.{◌≡◌, ◌+◌, ◌-◌, ◌≤◌, ◌++◌, length, take, drop}
-use Rattle.piece_rope.proofs.Prelude.{CanJoin}
+use Rattle.piece_rope.proofs.Prelude.{◌≡◌, ◌+◌, ◌-◌, ◌≤◌, ◌++◌, length, take, drop, CanJoin}
 use Rattle.piece_rope.proofs.install.remove_range.Given as goal
 
 abbrev pub invariant-range : goal.invariant-range

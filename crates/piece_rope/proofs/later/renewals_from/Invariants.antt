@@ -1,5 +1,4 @@
-use Rattle.std.proofs.Common.{◌≡◌, ◌+◌, ◌-◌, ◌≤◌, length, take, drop}
-use Rattle.piece_rope.proofs.Prelude.{Chain, AreRenewed, renewed, state_after, bytes_of, LastDiffers}
+use Rattle.piece_rope.proofs.Prelude.{◌≡◌, ◌+◌, ◌-◌, ◌≤◌, length, take, drop, Chain, AreRenewed, renewed, state_after, bytes_of, LastDiffers}
 use Rattle.piece_rope.proofs.later.renewals_from.Given as goal
 
 abbrev pub invariant-pieces : goal.invariant-pieces

@@ -1,5 +1,4 @@
-use Rattle.std.proofs.Common.{sym, subst}
-use Rattle.piece_rope.proofs.Prelude.{Sum, Fits, joined}
+use Rattle.piece_rope.proofs.Prelude.{sym, subst, Sum, Fits, joined}
 use Rattle.piece_rope.proofs.Joining.{whole-fits}
 use Rattle.piece_rope.proofs.lengths.whole_sum.Goals as goal
 

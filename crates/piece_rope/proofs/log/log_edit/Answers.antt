@@ -1,6 +1,5 @@
-use Rattle.std.proofs.Common.{◌≡◌, rules, sym, subst, [], ◌∷◌, ◌++◌, Option, Some, Vec}
+use Rattle.piece_rope.proofs.Prelude.{◌≡◌, rules, sym, subst, [], ◌∷◌, ◌++◌, Option, Some, Vec, Logs, LoggedEdit}
 use Rattle.std.specs.declared.alloc.Global.{Global}
-use Rattle.piece_rope.proofs.Prelude.{Logs, LoggedEdit}
 use Rattle.piece_rope.proofs.log.log_edit.Goals as goal
 
 pub returns-in_ok-map_err-clause-ok : goal.returns-in_ok-map_err-clause-ok

@@ -1,5 +1,4 @@
-use Rattle.std.proofs.Common.{◌≡◌, rules, ap, ◌∙◌, sym, List, [], ◌∷◌, ◌++◌, slice_get, Some, arith}
-use Rattle.piece_rope.proofs.Prelude.{Entry}
+use Rattle.piece_rope.proofs.Prelude.{◌≡◌, rules, ap, ◌∙◌, sym, List, [], ◌∷◌, ◌++◌, slice_get, Some, arith, Entry}
 use Rattle.piece_rope.proofs.Lists.{taken-more}
 use Rattle.piece_rope.proofs.log.shared.Goals as goal
 

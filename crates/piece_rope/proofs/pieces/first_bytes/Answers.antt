@@ -1,5 +1,4 @@
-use Rattle.std.proofs.Common.{ap, ◌∙◌}
-use Rattle.piece_rope.proofs.Prelude.{mark_of}
+use Rattle.piece_rope.proofs.Prelude.{ap, ◌∙◌, mark_of}
 use Rattle.piece_rope.proofs.Kept.{mark-first}
 use Rattle.piece_rope.proofs.pieces.first_bytes.Goals as goal
 

@@ -1,6 +1,6 @@
-use Rattle.std.proofs.Common.{◌≡◌, ◌+◌, ◌-◌, ◌++◌, ℕ, List, [], length, take, drop, slice_get, None, ap, sym, ◌∙◌, arith}
+use Rattle.std.proofs.Common.{◌≡◌, ◌+◌, ◌-◌, ◌++◌, ℕ, List, length, take, drop, ap, sym, ◌∙◌, arith}
 use Rattle.piece_rope.proofs.Prelude.{encode_utf8_all, slice_get_within, edited_parts, text_in}
-use Rattle.piece_rope.proofs.Matching.{unmatched, more-sliced, found-all, found-short, head-gone, if_none, none-left, positive, next-found}
+use Rattle.piece_rope.proofs.Matching.{unmatched, more-sliced, found-all, found-short, if_none, none-left, past-head}
 use Rattle.piece_rope.proofs.Parting.{bytes-next-part, bytes-past, few-parts}
 use Rattle.piece_rope.proofs.rest.behind.Goals as goal
 
@@ -18,12 +18,10 @@ returns-then-is_empty-clause-some c =
 pub returns-in_err-part-clause-none : goal.returns-in_err-part-clause-none
 returns-in_err-part-clause-none c =
     let parts = edited_parts c.args.edited.pieces.now.items c.args.edited.edit.now in
-    let some = positive (length (take (length c.parts.left.now - c.in_ok-here.here) (drop c.in_ok-here.here c.parts.left.now))) (sym c.is_empty.ensures ∙ c.if-is_empty.false) in
-    let gone = head-gone c.parts.head.now c.parts.left.now c.in_ok-here.here c.in_ok-here.ensures.some some in
-    let none : slice_get parts c.parts.next ≡ None = sym c.in_err-part.ensures in
-    if_none _ c.from_residual-in_err-part.result
-    (found-short c.args.part.now _ _ (next-found c.args.part.now _ _ _ (encode_utf8_all (text_in (drop c.parts.next parts))) []
-    (more-sliced c.args.part.now c.parts.left.now _ c.parts.head.now (encode_utf8_all (text_in (drop c.parts.next parts))) c.in_ok-here.here c.parts.invariant c.in_ok-here.ensures.some) gone (bytes-past parts c.parts.next none)) some)
+    let behind = encode_utf8_all (text_in (drop c.parts.next parts)) in
+    let more = sym c.is_empty.ensures ∙ c.if-is_empty.false in
+    let on = past-head c.args.part.now c.parts.left.now _ c.parts.head.now behind c.in_ok-here.here c.parts.invariant c.in_ok-here.ensures.some more in
+    if_none _ c.from_residual-in_err-part.result (found-short c.args.part.now _ _ (rw (bytes-past parts c.parts.next (sym c.in_err-part.ensures)) at on.0) on.1)
 
 pub overflow_add-next : goal.overflow_add-next
 overflow_add-next c =
@@ -37,10 +35,9 @@ pub parts-preserved : goal.parts-preserved
 parts-preserved c =
     let parts = edited_parts c.args.edited.pieces.now.items c.args.edited.edit.now in
     let behind = encode_utf8_all (text_in (drop c.parts.next parts)) in
-    let some = positive (length (take (length c.parts.left.now - c.in_ok-here.here) (drop c.in_ok-here.here c.parts.left.now))) (sym c.is_empty.ensures ∙ c.if-is_empty.false) in
-    let gone = head-gone c.parts.head.now c.parts.left.now c.in_ok-here.here c.in_ok-here.ensures.some some in
+    let more = sym c.is_empty.ensures ∙ c.if-is_empty.false in
+    let on = past-head c.args.part.now c.parts.left.now _ c.parts.head.now behind c.in_ok-here.here c.parts.invariant c.in_ok-here.ensures.some more in
     let next : behind ≡ c.as_bytes-head.result.now ++ encode_utf8_all (text_in (drop (c.parts.next + 1) parts)) =
     bytes-next-part parts c.parts.next c.in_ok-part.field-0.now c.as_str.result.now (sym c.in_ok-part.ensures) c.as_str.utf8 c.as_str.ensures
     ∙ ap (λ (bs : List ℕ). bs ++ encode_utf8_all (text_in (drop (c.parts.next + 1) parts))) (sym c.as_bytes-head.ensures.value) in
-    next-found c.args.part.now _ _ _ behind _
-    (more-sliced c.args.part.now c.parts.left.now _ c.parts.head.now behind c.in_ok-here.here c.parts.invariant c.in_ok-here.ensures.some) gone next
+    rw next at on.0

@@ -1,5 +1,4 @@
-use Rattle.std.proofs.Common.{◌-◌, length}
-use Rattle.piece_rope.proofs.Prelude.{rest_of, edited_parts}
+use Rattle.piece_rope.proofs.Prelude.{◌-◌, length, rest_of, edited_parts}
 use Rattle.piece_rope.proofs.Matching.{Found}
 use Rattle.piece_rope.proofs.rest.behind.Given as goal
 

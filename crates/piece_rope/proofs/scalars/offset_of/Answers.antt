@@ -1,5 +1,4 @@
-use Rattle.std.proofs.Common.{ap, arith, rules, ◌+◌, length, ◌∙◌}
-use Rattle.piece_rope.proofs.Prelude.{chars, nat_tests}
+use Rattle.piece_rope.proofs.Prelude.{ap, arith, rules, ◌+◌, length, ◌∙◌, chars, nat_tests}
 use Rattle.piece_rope.proofs.Offsets.{IsOffset, IsOffset-within, IsOffset-step, IsOffset-end}
 use Rattle.piece_rope.proofs.scalars.offset_of.Goals as goal
 

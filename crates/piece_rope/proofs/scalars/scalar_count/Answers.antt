@@ -1,5 +1,4 @@
-use Rattle.std.proofs.Common.{rules, arith}
-use Rattle.piece_rope.proofs.Prelude.{chars_from_encodes}
+use Rattle.piece_rope.proofs.Prelude.{rules, arith, chars_from_encodes}
 use Rattle.piece_rope.proofs.scalars.scalar_count.Goals as goal
 
 pub returns-clause-count : goal.returns-clause-count

@@ -1,5 +1,4 @@
-use Rattle.std.proofs.Common.{◌≡◌, ◌∙◌, ap, ℕ, Bool, true, false, Some, None, if◌then◌else◌}
-use Rattle.piece_rope.proofs.Prelude.{chars}
+use Rattle.piece_rope.proofs.Prelude.{◌≡◌, ◌∙◌, ap, ℕ, Bool, true, false, Some, None, if◌then◌else◌, chars}
 use Rattle.piece_rope.proofs.Offsets.{IsCut-at}
 use Rattle.piece_rope.proofs.scalars.split_at_scalar.Goals as goal
 

@@ -1,22 +1,22 @@
-use Rattle.std.proofs.Common.{ap, sym, ◌∙◌, ◌≤◌, length, arith}
-use Rattle.piece_rope.proofs.Prelude.{bytes_of, Document, document, edited, document_limit}
+use Rattle.piece_rope.proofs.Prelude.{ap, sym, ◌∙◌, ◌≤◌, ℕ, ◌+◌, ◌*◌, length, arith, bytes_of, document, edited, document_limit, Resyncs, longest}
 use Rattle.piece_rope.proofs.Chaining.{laws_from}
 use Rattle.piece_rope.proofs.Making.{item_laws}
 use Rattle.piece_rope.proofs.Keeping.{join-rope, kept-rope, exchanged-bytes}
 use Rattle.piece_rope.proofs.Metering.{metered-cut}
+use Rattle.piece_rope.proofs.splice.prepare_splice.Goals.{After-prepare}
 use Rattle.piece_rope.proofs.splice.prepare_splice.Goals as goal
 
+metered : (c : After-prepare) (m : ℕ) → Resyncs (document c.args.indexes.now c.args.setting (bytes_of c.args.pieces.now.items)) c.args.at c.args.del c.args.ins.now m
+    → c.prepare.new.meter ≤ c.args.meter.now + (length c.args.ins.now + m + 4 * longest)
+metered c =
+    metered-cut (document c.args.indexes.now c.args.setting (bytes_of c.args.pieces.now.items)) c.in_ok-decoder.decoder c.args.at c.args.del c.in_ok-at.at c.in_ok-at.to c.args.meter.now
+    c.prepare.new.meter c.args.ins.now c.under.result c.in_ok-decoder.ensures.ok_part c.under.ensures.behind c.in_ok-at.ensures.within c.in_ok-at.ensures.ok.0 c.in_ok-at.ensures.ok.1 c.prepare.ensures.meter
+
 pub returns-in_err-edit-clause-meter_most : goal.returns-in_err-edit-clause-meter_most
-returns-in_err-edit-clause-meter_most c =
-    let doc : Document = document c.args.indexes.now c.args.setting (bytes_of c.args.pieces.now.items) in
-    metered-cut doc c.in_ok-decoder.decoder c.args.at c.args.del c.in_ok-at.at c.in_ok-at.to c.args.meter.now c.prepare.new.meter c.args.ins.now c.under.result
-    c.in_ok-decoder.ensures.ok_part c.under.ensures.behind c.in_ok-at.ensures.within c.in_ok-at.ensures.ok.0 c.in_ok-at.ensures.ok.1 c.prepare.ensures.meter
+returns-in_err-edit-clause-meter_most c = metered (goal.at.returns-in_err-edit-clause-meter_most c).After-prepare
 
 pub returns-clause-meter_most : goal.returns-clause-meter_most
-returns-clause-meter_most c =
-    let doc : Document = document c.args.indexes.now c.args.setting (bytes_of c.args.pieces.now.items) in
-    metered-cut doc c.in_ok-decoder.decoder c.args.at c.args.del c.in_ok-at.at c.in_ok-at.to c.args.meter.now c.prepare.new.meter c.args.ins.now c.under.result
-    c.in_ok-decoder.ensures.ok_part c.under.ensures.behind c.in_ok-at.ensures.within c.in_ok-at.ensures.ok.0 c.in_ok-at.ensures.ok.1 c.prepare.ensures.meter
+returns-clause-meter_most c = metered (goal.at.returns-clause-meter_most c).After-prepare
 
 pub returns-clause-ready : goal.returns-clause-ready
 returns-clause-ready c =

@@ -1,5 +1,4 @@
-use Rattle.std.proofs.Common.{◌≡◌, rules, ap, ◌∙◌, ℕ, List, ◌++◌, take, drop, arith, string_bytes}
-use Rattle.piece_rope.proofs.Prelude.{chars, chars-append, IsUtf8-string_bytes}
+use Rattle.piece_rope.proofs.Prelude.{◌≡◌, rules, ap, ◌∙◌, ℕ, List, ◌++◌, take, drop, arith, string_bytes, chars, chars-append, IsUtf8-string_bytes}
 use Rattle.piece_rope.proofs.text.push_part.Goals as goal
 
 pub returns-clause-part : goal.returns-clause-part

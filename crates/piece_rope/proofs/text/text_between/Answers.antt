@@ -1,5 +1,5 @@
 use Rattle.std.proofs.Common.{◌≡◌, refl, [], ap, ◌∙◌, ℕ, ◌+◌, ◌-◌, List, ◌++◌, take, drop, min, length, arith, string_bytes}
-use Rattle.piece_rope.proofs.Prelude.{chars, chars-nil, Outcome, here_of, texts_of}
+use Rattle.piece_rope.proofs.Prelude.{chars, chars-nil, here_of, texts_of}
 use Rattle.piece_rope.proofs.Reading.{read-step, read-enough}
 use Rattle.piece_rope.proofs.Texts.{text-place, text-from, text-enough, text-within, texts-behind}
 use Rattle.piece_rope.proofs.text.text_between.Goals as goal
@@ -26,12 +26,10 @@ pieces-preserved c =
     let k = c.pieces.place in
     let p = c.get.result.now in
     let here = (here_of p).text in
-    let own : c.here.result.now ≡ here_of p = c.here.ensures in
     let rest = drop c.pieces.skip here in
     let count = c.in_ok-taken.taken in
-    let count_is : count ≡ min c.pieces.left (length rest) = c.in_ok-taken.ensures.count ∙ ap (λ (o : Outcome). min c.pieces.left (length (drop c.pieces.skip o.text))) own in
-    let added : chars (string_bytes c.push_part.new.text) ≡ chars (string_bytes c.pieces.text) ++ take count rest =
-    c.in_ok-taken.ensures.part ∙ ap (λ (o : Outcome). chars (string_bytes c.pieces.text) ++ take count (drop c.pieces.skip o.text)) own in
+    let count_is : count ≡ min c.pieces.left (length rest) = cc (c.in_ok-taken.ensures.count, c.here.ensures) in
+    let added : chars (string_bytes c.push_part.new.text) ≡ chars (string_bytes c.pieces.text) ++ take count rest = cc (c.in_ok-taken.ensures.part, c.here.ensures) in
     let more = texts_of (drop (k + 1) ps) ++ end in
     let behind = texts-behind ps end k p c.get.ensures in
     record {

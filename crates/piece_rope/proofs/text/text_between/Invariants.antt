@@ -1,5 +1,4 @@
-use Rattle.std.proofs.Common.{◌≡◌, ◌-◌, ◌≤◌, ◌++◌, ◌+◌, length, take, drop, slice_get, Some, string_bytes}
-use Rattle.piece_rope.proofs.Prelude.{chars, Entry, here_of, texts_of}
+use Rattle.piece_rope.proofs.Prelude.{◌≡◌, ◌-◌, ◌≤◌, ◌++◌, ◌+◌, length, take, drop, slice_get, Some, string_bytes, chars, Entry, here_of, texts_of}
 use Rattle.piece_rope.proofs.text.text_between.Given as goal
 
 abbrev pub invariant-pieces : goal.invariant-pieces

@@ -1,5 +1,4 @@
-use Rattle.std.proofs.Common.{◌≡◌, length}
-use Rattle.piece_rope.proofs.Prelude.{GoBack, before_all, room_of, tail_before, CanJoin}
+use Rattle.piece_rope.proofs.Prelude.{◌≡◌, length, GoBack, before_all, room_of, tail_before, CanJoin}
 use Rattle.piece_rope.proofs.undo.take_back.Given as goal
 
 -- what is left to take back leads to the same pieces

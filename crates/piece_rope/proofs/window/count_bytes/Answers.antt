@@ -1,5 +1,4 @@
-use Rattle.std.proofs.Common.{◌∙◌, ap}
-use Rattle.piece_rope.proofs.Prelude.{Sum}
+use Rattle.piece_rope.proofs.Prelude.{◌∙◌, ap, Sum}
 use Rattle.piece_rope.proofs.Counting.{sums-bytes}
 use Rattle.piece_rope.proofs.window.count_bytes.Goals as goal
 

@@ -1,5 +1,4 @@
-use Rattle.std.proofs.Common.{◌≡◌, ap, ◌+◌, suc, ℕ, length, arith, add-one}
-use Rattle.piece_rope.proofs.Prelude.{slice_get_within, bytes_before}
+use Rattle.piece_rope.proofs.Prelude.{◌≡◌, ap, ◌+◌, suc, ℕ, length, arith, add-one, slice_get_within, bytes_before}
 use Rattle.piece_rope.proofs.Chaining.{bytes-next}
 use Rattle.piece_rope.proofs.Measuring.{before-le, sized-at}
 use Rattle.piece_rope.proofs.window.seek_end.Goals as goal

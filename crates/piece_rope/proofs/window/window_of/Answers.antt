@@ -1,5 +1,4 @@
-use Rattle.std.proofs.Common.{◌≡◌, ◌≤◌, ap, ◌-◌, ◌+◌, suc, ℕ, length, arith, add-one}
-use Rattle.piece_rope.proofs.Prelude.{slice_get_within, shortest, bytes_before}
+use Rattle.piece_rope.proofs.Prelude.{◌≡◌, ◌≤◌, ap, ◌-◌, ◌+◌, suc, ℕ, length, arith, add-one, slice_get_within, shortest, bytes_before}
 use Rattle.piece_rope.proofs.Chaining.{bytes-next}
 use Rattle.piece_rope.proofs.Measuring.{before-le, before-all, before-step, sized-at}
 use Rattle.piece_rope.proofs.window.window_of.Goals as goal
@@ -9,13 +8,8 @@ before : (c : goal.After-bytes) → c.touched-touched.result.start ≡ bytes_bef
 before c =
     let first = c.touched-touched.result.first in
     let back : suc (first - 1) ≡ first = omega (arith, c.if-first-gt0.true) in
-    omega (
-      arith,
-      bytes-next c.args.pieces.now.items (first - 1) c.get.result.now c.get.ensures,
-      ap (λ (k : ℕ). bytes_before c.args.pieces.now.items k) back,
-      ap length c.bytes.ensures,
-      c.touched-touched.ensures.start,
-    )
+    let next = bytes-next c.args.pieces.now.items (first - 1) c.get.result.now c.get.ensures in
+    omega (arith, next, ap (λ (k : ℕ). bytes_before c.args.pieces.now.items k) back, ap length c.bytes.ensures, c.touched-touched.ensures.start)
 
 -- and one more behind them
 behind : (c : goal.After-bytes-then-last-count) → c.touched-touched.result.end + length c.bytes-then-last-count.result.now ≡ bytes_before c.args.pieces.now.items (suc c.touched-touched.result.last)

@@ -1,5 +1,4 @@
-use Rattle.std.proofs.Common.{ap, ◌∙◌}
-use Rattle.piece_rope.proofs.Prelude.{decode, mark_length, bytes_of, Document}
+use Rattle.piece_rope.proofs.Prelude.{ap, ◌∙◌, decode, mark_length, bytes_of, Document}
 use Rattle.piece_rope.proofs.Kept.{mark-length-by}
 use Rattle.piece_rope.proofs.doc.Doc.bom_len.Goals as goal
 

@@ -1,5 +1,4 @@
-use Rattle.std.proofs.Common.{ap}
-use Rattle.piece_rope.proofs.Prelude.{Document, settled}
+use Rattle.piece_rope.proofs.Prelude.{ap, Document, settled}
 use Rattle.piece_rope.proofs.doc.Doc.copy.Goals as goal
 
 pub invariant_of-result : goal.invariant_of-result

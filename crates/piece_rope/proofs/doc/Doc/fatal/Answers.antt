@@ -1,5 +1,4 @@
-use Rattle.std.proofs.Common.{ap, ◌∙◌, List, slice_get}
-use Rattle.piece_rope.proofs.Prelude.{Place, decoded_errors, earlier_of}
+use Rattle.piece_rope.proofs.Prelude.{ap, ◌∙◌, List, slice_get, Place, decoded_errors, earlier_of}
 use Rattle.piece_rope.proofs.Erring.{errors-seen}
 use Rattle.piece_rope.proofs.doc.Doc.fatal.Goals as goal
 

@@ -1,5 +1,4 @@
-use Rattle.std.proofs.Common.{◌≤◌, length, subst}
-use Rattle.piece_rope.proofs.Prelude.{Document, document_limit}
+use Rattle.piece_rope.proofs.Prelude.{◌≤◌, length, subst, Document, document_limit}
 use Rattle.piece_rope.proofs.Bounding.{has_few}
 use Rattle.piece_rope.proofs.doc.Doc.law_bounds.Goals as goal
 

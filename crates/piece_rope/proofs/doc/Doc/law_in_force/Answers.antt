@@ -1,5 +1,4 @@
-use Rattle.std.proofs.Common.{◌≡◌, ◌∙◌, subst, sym, take, true}
-use Rattle.piece_rope.proofs.Prelude.{has_files, decode, mark_length, bytes_of, Document, decoded}
+use Rattle.piece_rope.proofs.Prelude.{◌≡◌, ◌∙◌, subst, sym, take, true, has_files, decode, mark_length, bytes_of, Document, decoded}
 use Rattle.piece_rope.proofs.doc.Doc.law_in_force.Goals as goal
 
 pub returns-clause-files : goal.returns-clause-files

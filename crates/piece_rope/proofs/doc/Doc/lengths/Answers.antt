@@ -1,5 +1,4 @@
-use Rattle.std.proofs.Common.{ap, sym, subst, ◌+◌, ℕ, arith, ◌≡◌}
-use Rattle.piece_rope.proofs.Prelude.{Sum, bytes_of, Document, document, earlier_of, joined, sums_of}
+use Rattle.piece_rope.proofs.Prelude.{ap, sym, subst, ◌+◌, ℕ, arith, ◌≡◌, Sum, bytes_of, Document, document, earlier_of, joined, sums_of}
 use Rattle.piece_rope.proofs.Kept.{HasLengths, join-kept, kept-lengths}
 use Rattle.piece_rope.proofs.doc.Doc.lengths.Goals.{After-self}
 use Rattle.piece_rope.proofs.doc.Doc.lengths.Goals as goal

@@ -1,36 +1,41 @@
-use Rattle.std.proofs.Common.{ap, sym, ◌∙◌, subst, List, length, arith}
-use Rattle.piece_rope.proofs.Prelude.{is_some, AnyState, Entry, IsRope, IsKept}
-use Rattle.piece_rope.proofs.Chaining.{laws_from}
+use Rattle.piece_rope.proofs.Prelude.{ap, sym, ◌∙◌, ◌≤◌, length, arith, is_some, bytes_of, document_limit, IsRope}
+use Rattle.piece_rope.proofs.Chaining.{Laws, laws_from}
 use Rattle.piece_rope.proofs.Making.{item_laws}
 use Rattle.piece_rope.proofs.Keeping.{join-rope, kept-rope, new-rope}
 use Rattle.piece_rope.proofs.Remembering.{ending-exit, ending-own}
+use Rattle.piece_rope.proofs.doc.Doc.open.Goals.{In_ok-fresh}
 use Rattle.piece_rope.proofs.doc.Doc.open.Goals as goal
+
+laws : (c : In_ok-fresh) → Laws c.in_ok-decoder.decoder
+laws c = let e = c.law_pieces.ensures in laws_from c.in_ok-decoder.decoder e.none e.parts e.exact e.same e.exit e.bytes
+
+-- the pieces that were made
+rope : (c : In_ok-fresh) → IsRope c.in_ok-decoder.decoder c.in_ok-fresh.fresh.pieces.items c.in_ok-fresh.fresh.exit
+rope c =
+    let f = c.in_ok-fresh.ensures in
+    new-rope c.in_ok-decoder.decoder c.start_of.result c.in_ok-fresh.fresh.exit c.args.bytes.now c.in_ok-fresh.fresh.pieces.items c.start_of.ensures f.bytes f.chain f.exit f.small f.wide f.few
+
+within : (c : In_ok-fresh) → length (bytes_of c.in_ok-fresh.fresh.pieces.items) ≤ document_limit
+within c = omega (arith, ap length c.in_ok-fresh.ensures.bytes, c.if-bytes-gt-DOCUMENT_LIMIT.false)
 
 pub built-requires : goal.built-requires
 built-requires c =
-    let d = c.in_ok-decoder.decoder in
-    let e = c.law_pieces.ensures in
-    let laws = laws_from d e.none e.parts e.exact e.same e.exit e.bytes in
-    let f = c.in_ok-fresh.ensures in
-    let ps = c.in_ok-fresh.fresh.pieces.items in
-    let rope = new-rope d c.start_of.result c.in_ok-fresh.fresh.exit c.args.bytes.now ps c.start_of.ensures f.bytes f.chain f.exit f.small f.wide f.few in
-    join-rope d laws ps c.in_ok-fresh.fresh.exit rope (omega (arith, ap length f.bytes, c.if-bytes-gt-DOCUMENT_LIMIT.false))
+    let x = (goal.at.built-requires c).In_ok-fresh in
+    join-rope c.in_ok-decoder.decoder (laws x) c.in_ok-fresh.fresh.pieces.items c.in_ok-fresh.fresh.exit (rope x) (within x)
 
 pub invariant_of-result : goal.invariant_of-result
 invariant_of-result c =
+    let x = (goal.at.invariant_of-result c).In_ok-fresh in
     let d = c.in_ok-decoder.decoder in
     let e = c.law_pieces.ensures in
-    let laws = laws_from d e.none e.parts e.exact e.same e.exit e.bytes in
-    let f = c.in_ok-fresh.ensures in
-    let ps = c.in_ok-fresh.fresh.pieces.items in
-    let exit = c.in_ok-fresh.fresh.exit in
     let tail = c.in_ok-tail.tail in
-    let rope = new-rope d c.start_of.result exit c.args.bytes.now ps c.start_of.ensures f.bytes f.chain f.exit f.small f.wide f.few in
     let scratch = rw c.in_ok-decoder.ensures.ok_part at c.under.ensures.decode in
-    let own = subst (λ (s : AnyState). IsRope d ps s) (sym (ending-exit d exit tail c.in_ok-tail.ensures)) rope in
+    let chosen = sym c.under.ensures.value ∙ c.in_ok-decoder.ensures.ok_part in
+    let can = sym c.under.ensures.variant ∙ ap is_some c.in_ok-decoder.ensures.ok_part in
+    let own : IsRope d c.in_ok-fresh.fresh.pieces.items tail.exit = rw (ending-exit d c.in_ok-fresh.fresh.exit tail c.in_ok-tail.ensures) (rope x) in
     record {
-      kept = subst (λ (xs : List Entry). IsKept c.args.indexes.now c.new-setting.result xs tail) (sym c.in_ok-pieces.ensures)
-          (kept-rope c.args.indexes.now c.new-setting.result d ps tail laws (item_laws d e.runs e.shown e.near) (sym c.under.ensures.value ∙ c.in_ok-decoder.ensures.ok_part) (sym c.under.ensures.variant ∙ ap is_some c.in_ok-decoder.ensures.ok_part)
-          (omega (arith, ap length f.bytes, c.if-bytes-gt-DOCUMENT_LIMIT.false)) own (ending-own d exit tail c.in_ok-tail.ensures) scratch e.joined);
+      kept = rw c.in_ok-pieces.ensures
+          (kept-rope c.args.indexes.now c.new-setting.result d c.in_ok-fresh.fresh.pieces.items tail (laws x) (item_laws d e.runs e.shown e.near) chosen can (within x) own
+          (ending-own d c.in_ok-fresh.fresh.exit tail c.in_ok-tail.ensures) scratch e.joined);
       back = tt;
     }

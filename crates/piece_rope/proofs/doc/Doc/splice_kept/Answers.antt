@@ -1,7 +1,6 @@
-use Rattle.std.proofs.Common.{ap, sym, ◌∙◌}
+use Rattle.piece_rope.proofs.Prelude.{ap, sym, ◌∙◌, chars, Document, is_kept, kept_fault}
 use Rattle.std.specs.Bool.{⊤}
 use Rattle.std.proofs.lemmas.Result.{err_from_is_err_and}
-use Rattle.piece_rope.proofs.Prelude.{chars, Document, is_kept, kept_fault}
 use Rattle.piece_rope.proofs.KeptAnswering.{kept-causes, kept-fails}
 use Rattle.piece_rope.proofs.Logging.{held-edited, held-still, seen-edited}
 use Rattle.piece_rope.proofs.Metering.{metered-as}

@@ -1,6 +1,5 @@
-use Rattle.std.proofs.Common.{◌≡◌, ◌∙◌, arith}
+use Rattle.piece_rope.proofs.Prelude.{◌≡◌, ◌∙◌, arith, chars, bytes_of, Document, document, kept_fault, splice_fault}
 use Rattle.std.proofs.lemmas.Result.{err_from_is_err_and}
-use Rattle.piece_rope.proofs.Prelude.{chars, bytes_of, Document, document, kept_fault, splice_fault}
 use Rattle.piece_rope.proofs.Kept.{join-kept}
 use Rattle.piece_rope.proofs.Parting.{whole-scalars}
 use Rattle.piece_rope.proofs.KeptAnswering.{kept-answer, kept-cut, range-absent, same-ends, scalars-kept}

@@ -1,5 +1,4 @@
-use Rattle.std.proofs.Common.{◌≡◌, ap, sym, ◌∙◌, ◌-◌, Some, length, arith, rules}
-use Rattle.piece_rope.proofs.Prelude.{slice_get_read, Outcome}
+use Rattle.piece_rope.proofs.Prelude.{◌≡◌, ap, sym, ◌∙◌, ◌-◌, Some, length, arith, rules, slice_get_read, Outcome}
 use Rattle.piece_rope.proofs.Parting.{made-part, part-later}
 use Rattle.piece_rope.proofs.edited.Edited.part.Goals as goal
 

@@ -1,5 +1,4 @@
-use Rattle.std.proofs.Common.{◌≡◌, ap, sym, ◌∙◌, Some, drop, length, arith, length-drop, rules}
-use Rattle.piece_rope.proofs.Prelude.{slice_get_read, Outcome}
+use Rattle.piece_rope.proofs.Prelude.{◌≡◌, ap, sym, ◌∙◌, Some, drop, length, arith, length-drop, rules, slice_get_read, Outcome}
 use Rattle.piece_rope.proofs.Parting.{none-later, renewed-part, same-part}
 use Rattle.piece_rope.proofs.Lists.{element}
 use Rattle.piece_rope.proofs.edited.Edited.part_behind.Goals as goal

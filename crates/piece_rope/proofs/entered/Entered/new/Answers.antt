@@ -1,5 +1,4 @@
-use Rattle.std.proofs.Common.{ap, ◌∙◌}
-use Rattle.piece_rope.proofs.Prelude.{any, feed, Contents, Memo}
+use Rattle.piece_rope.proofs.Prelude.{ap, ◌∙◌, any, feed, Contents, Memo}
 use Rattle.piece_rope.proofs.entered.Entered.new.Goals as goal
 
 pub returns-clause-exit : goal.returns-clause-exit

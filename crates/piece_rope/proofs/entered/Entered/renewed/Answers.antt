@@ -1,5 +1,4 @@
-use Rattle.std.proofs.Common.{◌≡◌, ap, ◌∙◌, rules, Some}
-use Rattle.piece_rope.proofs.Prelude.{Memo, recalled, entered, installed, outcome_of, Entry}
+use Rattle.piece_rope.proofs.Prelude.{◌≡◌, ap, ◌∙◌, rules, Some, Memo, recalled, entered, installed, outcome_of, Entry}
 use Rattle.piece_rope.proofs.Chaining.{Laws, laws_from}
 use Rattle.piece_rope.proofs.Remembering.{own-renewed, own-computed, exit-recalled, renewed-computed}
 use Rattle.piece_rope.proofs.entered.Entered.renewed.Goals.{After-law_pieces, In_ok-piece, In_ok-piece-3}
