@@ -1,7 +1,7 @@
 -- Places along a text by units.
-use Rattle.std.proofs.Common.{◌≡◌, refl, sym, ap, ◌∙◌, ℕ, zero, suc, ◌+◌, ◌-◌, ◌<◌, ◌≤◌, ◌⊎◌, inl, inr, true, false, cond, ◌==◌, nat_lt, List, [], ◌∷◌, ◌++◌, length, length-drop, take, drop, take-append-drop, append_assoc, arith, add-one, Option, Some, None}
+use Rattle.std.proofs.Common.{ℕ, ◌≡◌, refl, sym, ap, ◌∙◌, zero, suc, ◌+◌, ◌-◌, ◌<◌, ◌≤◌, ◌⊎◌, inl, inr, true, false, ◌==◌, nat_lt, List, [], ◌∷◌, ◌++◌, length, length-drop, take, drop, take-append-drop, append_assoc, arith, add-one, Option, Some, None}
 use Rattle.position_map.proofs.Words.{map_some, option_map, nat_tests, length-take-le, take-take, drop-take, TextUnit, width, width_of, along}
-use Rattle.position_map.proofs.Words.{between, by_test, by_le, same_some, none_some}
+use Rattle.position_map.proofs.Words.{between, by_le, same_some, none_some}
 use Rattle.position_map.proofs.Widths.{width-some, width-append}
 
 -- behind a whole code point
@@ -95,7 +95,8 @@ pub record IsPlaceAlong (u : TextUnit) (cs : List ℕ) (n k : ℕ) : Type 0 wher
   pub exact : (n ≡ width u (take k cs)) ⊎ (width u cs < n)
 
 pub along_place : (u : TextUnit) (cs : List ℕ) (n k : ℕ) → along u cs n ≡ Some k → IsPlaceAlong u cs n k
-along_place u cs zero k e = let z : 0 ≡ k = same_some (sym (along_none u cs) ∙ e) in record { within = omega (arith, z); exact = inl (ap (λ j. width u (take j cs)) z) }
+along_place u cs zero k e =
+    let z : 0 ≡ k = same_some (sym (along_none u cs) ∙ e) in record { within = omega (arith, z); exact = inl (ap (λ j. width u (take j cs)) z) }
 along_place u [] (suc n) k e = let z : 0 ≡ k = same_some e in record { within = omega (arith, z); exact = inr (omega arith) }
 along_place u (c ∷ cs) (suc n) k e =
     by_le (width_of u c) (suc n)

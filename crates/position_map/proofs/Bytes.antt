@@ -1,5 +1,5 @@
 -- A text cut in front of a mark of its bytes, or behind its last line end.
-use Rattle.std.proofs.Common.{◌≡◌, sym, ap, subst, ◌∙◌, ℕ, ◌+◌, ◌<◌, ◌≤◌, Bool, true, false, List, ◌∷◌, ◌++◌, take, drop, get_or, take-append-drop, arith}
+use Rattle.std.proofs.Common.{ℕ, ◌≡◌, sym, ap, subst, ◌∙◌, ◌+◌, ◌<◌, ◌≤◌, Bool, true, false, List, ◌∷◌, ◌++◌, take, drop, get_or, take-append-drop, arith}
 use Rattle.position_map.proofs.Words.{chars, IsUtf8, IsCharBoundary, nat_tests, drop_more, encode_ascii, chars-append, chars_past_char, IsUtf8-take}
 use Rattle.position_map.proofs.Words.{IsUtf8-drop, IsCharBoundary-before_ascii, IsCharBoundary-after_ascii, is_mark, marks, ends_cr, IsNthMark}
 use Rattle.position_map.proofs.Words.{IsLastEnd, IsLastLine, IsMarkCut, begins_mark}

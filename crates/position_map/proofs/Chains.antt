@@ -1,10 +1,10 @@
 -- Places of items in a row.
-use Rattle.std.proofs.Common.{◌≡◌, refl, sym, ap, subst, ◌∙◌, ℕ, zero, suc, ◌+◌, ◌-◌, ◌<◌, ◌≤◌, Bool, true, false, cond, nat_lt, pos, List, [], ◌∷◌, ◌++◌, length, length-append, append_assoc, append-nil, arith, Option, Some, None, Bor, option_copied, get_or, drop, inl, inr}
+use Rattle.std.proofs.Common.{ℕ, ◌≡◌, refl, sym, ap, subst, ◌∙◌, zero, suc, ◌+◌, ◌-◌, ◌<◌, ◌≤◌, true, false, cond, nat_lt, pos, List, [], ◌∷◌, ◌++◌, length, length-append, append_assoc, append-nil, arith, Option, Some, None, Bor, option_copied, get_or, drop, inl, inr}
 use Rattle.position_map.proofs.Words.{by_le, map_some, map_none, same_cons, IsMade, text_of, decoded_text, option_map, unwrap_or, nat_tests, Place}
 use Rattle.position_map.proofs.Words.{Turned, Item, One, Two, Error, Placed, places, item_code_points, code_points, Ascii, decode, run_in, in_force}
 use Rattle.position_map.proofs.Words.{mark_length, Scalar, measure, Ended, Outcome, Sum, total_of, all_scalars, item_of, Document, decoded, IsFoundBy}
 use Rattle.position_map.proofs.Words.{IsFoundOutcome, IsEnded, AreEnded, AreMade, ends_at, place_of, bom_of, IsChained, last_to, HasItem, IsPlaced}
-use Rattle.position_map.proofs.Words.{Pieced, by_test, same_some, none_some}
+use Rattle.position_map.proofs.Words.{Pieced, same_some, none_some}
 use Rattle.position_map.proofs.Items.{IsPieced, items_of, counted, made_split, made_count, scalars-append}
 
 no_item : Ended
@@ -93,7 +93,8 @@ pub item-later : (e : Ended) (es : List Ended) (n : ℕ) → e.scalars ≤ n →
 item-later e es n h = let t : nat_lt n e.scalars ≡ false = grind (arith, nat_tests) in rw t refl
 
 -- how many items are in front of it
-pub item-next : (e : Ended) (es : List Ended) (n k : ℕ) → e.scalars ≤ n → item_of (e ∷ es) n ≡ Some k → (j : ℕ) × (item_of es (n - e.scalars) ≡ Some j) × (j + 1 ≡ k)
+pub item-next : (e : Ended) (es : List Ended) (n k : ℕ) → e.scalars ≤ n → item_of (e ∷ es) n ≡ Some k
+    → (j : ℕ) × (item_of es (n - e.scalars) ≡ Some j) × (j + 1 ≡ k)
 item-next e es n k le h = map_some (λ j. j + 1) (item_of es (n - e.scalars)) k (sym (item-later e es n le) ∙ h)
 
 pub has_item : (base : ℕ) (ps : List Placed) (es : List Ended) (n k : ℕ) → AreEnded base ps es → item_of es n ≡ Some k → HasItem base ps es n k
@@ -188,7 +189,8 @@ pub record IsCutAround (measured : Sum → ℕ) (d : Pieced) (n : ℕ) (s : Sum)
   pub count : length (code_points left) ≡ s.scalars
   pub all : length (text_of d.doc) ≡ s.scalars + o.sum.scalars + (total_of p.back).scalars
 
-pub cut_around : (measured : Sum → ℕ) (d : Pieced) (n : ℕ) (s : Sum) (o : Outcome) (p : IsPlaced measured d n s o) → IsPieced d → IsCutAround measured d n s o p
+pub cut_around : (measured : Sum → ℕ) (d : Pieced) (n : ℕ) (s : Sum) (o : Outcome) (p : IsPlaced measured d n s o) → IsPieced d
+    → IsCutAround measured d n s o p
 unfolding decoded_text
 cut_around measured d n s o p w =
     let made : AreMade 0 (items_of d) (p.front ++ o ∷ p.back) = subst (AreMade 0 (items_of d)) p.split w.made in
@@ -215,9 +217,11 @@ place_some d n k from to s o p w i x y =
     let c = cut_around (measure Scalar) d n s o p w in
     let g = has_item s.bytes c.here o.items (n - s.scalars) k c.own.items i in
     let all : items_of d ≡ (c.left ++ g.front) ++ g.item ∷ (g.back ++ c.rest) =
-    c.split ∙ ap (λ t. c.left ++ t) (ap (λ t. t ++ c.rest) g.split ∙ append_assoc g.front (g.item ∷ g.back) c.rest) ∙ sym (append_assoc c.left g.front (g.item ∷ (g.back ++ c.rest))) in
+    c.split ∙ ap (λ t. c.left ++ t) (ap (λ t. t ++ c.rest) g.split ∙ append_assoc g.front (g.item ∷ g.back) c.rest)
+    ∙ sym (append_assoc c.left g.front (g.item ∷ (g.back ++ c.rest))) in
     let to_is : to ≡ g.item.to = x no_item ∙ sym (g.ended no_item).end in
-    let from_is2 : from ≡ g.item.from = y p.front p.pieces c.left c.here (n - s.scalars) p.cut p.sum c.before g ∙ sym (from_is (bom_of d) (c.left ++ g.front) g.item (g.back ++ c.rest) (subst (IsChained (bom_of d)) all (chained d.doc))) in
+    let from_is2 : from ≡ g.item.from = y p.front p.pieces c.left c.here (n - s.scalars) p.cut p.sum c.before g
+    ∙ sym (from_is (bom_of d) (c.left ++ g.front) g.item (g.back ++ c.rest) (subst (IsChained (bom_of d)) all (chained d.doc))) in
     rw (from_is2, to_is, c.split, place-append c.left (c.here ++ c.rest) n (omega (arith, c.count, p.low)), c.count) (sym (g.place c.rest))
 
 pub place_none : (d : Pieced) (n : ℕ) (s : Sum) (o : Outcome) (p : IsPlaced (measure Scalar) d n s o) → IsPieced d → item_of o.items (n - s.scalars) ≡ None → None ≡ place_of (items_of d) n

@@ -1,5 +1,5 @@
 -- The line end that a text begins with, by its first code points.
-use Rattle.std.proofs.Common.{◌≡◌, sym, ap, ◌∙◌, ℕ, ◌<◌, Bool, true, false, cond, ◌==◌, List, [], ◌∷◌, ◌++◌, length, length-append, arith}
+use Rattle.std.proofs.Common.{ℕ, ◌≡◌, sym, ap, ◌∙◌, ◌<◌, Bool, true, false, cond, ◌==◌, List, [], ◌∷◌, ◌++◌, length, length-append, arith}
 use Rattle.position_map.specs.declared.ending.Ending.TheVariants.{Two, One, Open}
 use Rattle.position_map.proofs.Words.{ends_cr, begins_lf, IsScalarCut, ending_of}
 

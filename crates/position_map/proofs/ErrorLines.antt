@@ -1,21 +1,24 @@
 -- The errors on lines before a line.
-use Rattle.std.proofs.Common.{◌≡◌, refl, sym, ap, subst, ◌∙◌, ℕ, zero, suc, ◌+◌, ◌<◌, ◌≤◌, Bool, true, false, cond, ◌==◌, nat_lt, nat_le, List, [], ◌∷◌, length, map, arith, Option, Some, None, count_by}
-use Rattle.position_map.proofs.Words.{slice_get, option_map, nat_tests, count_by-le-length, sum_by-cons, cr, lf, is_mark, Document, text_of}
-use Rattle.position_map.proofs.Words.{errors_of, Point, TextUnit, Utf8, ErrorAt, all_errors, errors_before_line, scalar_of, LineSpan, lines_of}
-use Rattle.position_map.proofs.Words.{IsLineStart, start_of, line_at, by_le, same_some, none_some, map_some}
+use Rattle.std.proofs.Common.{ℕ, ◌≡◌, refl, sym, ap, ◌∙◌, zero, suc, ◌+◌, ◌<◌, ◌≤◌, Bool, true, cond, nat_lt, nat_le, List, [], ◌∷◌, length, map, arith, Some, count_by}
+use Rattle.position_map.proofs.Words.{slice_get, option_map, nat_tests, count_by-le-length, sum_by-cons, Document, text_of, errors_of, Point}
+use Rattle.position_map.proofs.Words.{TextUnit, Utf8, ErrorAt, all_errors, errors_before_line, scalar_of, LineSpan, lines_of, IsLineStart, start_of}
+use Rattle.position_map.proofs.Words.{line_at, by_le, same_some, none_some, map_some}
 use Rattle.position_map.proofs.ErrorPieces.{errors-count}
 use Rattle.position_map.proofs.ErrorRuns.{below}
 use Rattle.position_map.proofs.LineMarks.{Ascending, ascending, ascending-line, first_start, begun, begun_not, begun_one, none_begun}
 
 -- line `k` is among the lines that have begun where it starts at or before the offset
-begun-past : (o from at to k : ℕ) (ls : List LineSpan) (l : LineSpan) → Ascending from at to ls → slice_get ls k ≡ Some l → l.start ≤ o → k < begun o ls
+begun-past : (o from at to k : ℕ) (ls : List LineSpan) (l : LineSpan) → Ascending from at to ls → slice_get ls k ≡ Some l → l.start ≤ o
+    → k < begun o ls
 begun-past o from at to k [] l a e h = absurd (none_some e)
-begun-past o from at to zero (x ∷ xs) l a e h = let same : x.start ≡ l.start = ap start_of (same_some e) in omega (arith, begun_one o x xs (omega arith))
+begun-past o from at to zero (x ∷ xs) l a e h =
+    let same : x.start ≡ l.start = ap start_of (same_some e) in omega (arith, begun_one o x xs (omega arith))
 begun-past o from at to (suc k) (x ∷ xs) l a e h =
     let w = ascending-line (x.end + 1) (x.end + 1) to xs k l a.4 e in
     omega (arith, begun_one o x xs (omega (arith, w.0, a.1, h)), begun-past o (x.end + 1) (x.end + 1) to k xs l a.4 e h)
 
-begun-before : (o from at to k : ℕ) (ls : List LineSpan) (l : LineSpan) → Ascending from at to ls → slice_get ls k ≡ Some l → o < l.start → begun o ls ≤ k
+begun-before : (o from at to k : ℕ) (ls : List LineSpan) (l : LineSpan) → Ascending from at to ls → slice_get ls k ≡ Some l → o < l.start
+    → begun o ls ≤ k
 begun-before o from at to k [] l a e h = absurd (none_some e)
 begun-before o from at to zero (x ∷ xs) l a e h =
     let same : x.start ≡ l.start = ap start_of (same_some e) in
@@ -47,11 +50,13 @@ before-none text n o h =
 -- counts by numbers
 count-map : (p : ℕ → Bool) (es : List ErrorAt) → count_by (λ (e : ErrorAt). p e.scalar) es ≡ count_by p (map scalar_of es)
 count-map p [] = refl
-count-map p (e ∷ es) = sum_by-cons (λ (x : ErrorAt). cond (p x.scalar) 1 0) e es ∙ ap (λ m. cond (p e.scalar) 1 0 + m) (count-map p es) ∙ sym (sum_by-cons (λ (s : ℕ). cond (p s) 1 0) e.scalar (map scalar_of es))
+count-map p (e ∷ es) =
+    rw (sum_by-cons (λ (x : ErrorAt). cond (p x.scalar) 1 0) e es, count-map p es) (sym (sum_by-cons (λ (s : ℕ). cond (p s) 1 0) e.scalar (map scalar_of es)))
 
 count-same : (p q : ℕ → Bool) (ss : List ℕ) → ((s : ℕ) → p s ≡ q s) → count_by p ss ≡ count_by q ss
 count-same p q [] h = refl
-count-same p q (s ∷ ss) h = rw (sum_by-cons (λ (x : ℕ). cond (p x) 1 0) s ss, h s, count-same p q ss h) (sym (sum_by-cons (λ (x : ℕ). cond (q x) 1 0) s ss))
+count-same p q (s ∷ ss) h =
+    rw (sum_by-cons (λ (x : ℕ). cond (p x) 1 0) s ss, h s, count-same p q ss h) (sym (sum_by-cons (λ (x : ℕ). cond (q x) 1 0) s ss))
 
 count-all : (p : ℕ → Bool) (ss : List ℕ) → ((s : ℕ) → p s ≡ true) → count_by p ss ≡ length ss
 count-all p [] h = refl

@@ -1,16 +1,16 @@
 -- The errors of a document, piece by piece.
-use Rattle.std.proofs.Common.{◌≡◌, refl, sym, ap, subst, ◌∙◌, ℕ, zero, suc, ◌+◌, ◌-◌, ◌<◌, ◌≤◌, inl, inr, Bool, true, false, cond, nat_lt, nat_le, List, [], ◌∷◌, ◌++◌, length, length-append, map, append-nil, arith, Option, Some, None, Result, Ok, Err}
+use Rattle.std.proofs.Common.{ℕ, ◌≡◌, refl, sym, ap, subst, ◌∙◌, zero, suc, ◌+◌, ◌-◌, ◌<◌, ◌≤◌, inl, inr, Bool, true, false, cond, nat_lt, nat_le, List, [], ◌∷◌, ◌++◌, length, length-append, map, append-nil, arith, Some, None, Ok}
 use Rattle.position_map.specs.declared.diagnostic.Diagnostic.{Diagnostic}
 use Rattle.position_map.specs.Diagnostics.{place_in}
 use Rattle.position_map.proofs.Words.{slice_get, option_map, length-map, map-append, count_by-le-length, slice_get-map, nat_tests, Place, Item, One}
 use Rattle.position_map.proofs.Words.{Two, Error, Placed, item_code_points, code_points, error_place, error_places, Document, decoded, text_of}
 use Rattle.position_map.proofs.Words.{decoded_text, errors_of, decoded_errors, AreEnded, IsMade, AreMade, Ended, Outcome, Sum, joined, total_of}
-use Rattle.position_map.proofs.Words.{all_scalars, is_an_error, Scalar, measure, PosFault, OutOfRange, Position, TextUnit, ErrorAt, error_if}
-use Rattle.position_map.proofs.Words.{errors_from, all_errors, diagnostic_at, diagnostics_of, error_scalars, scalar_of, errors_in_sum, place_of}
-use Rattle.position_map.proofs.Words.{IsPlaced, position, position_of, Pieced, by_le, same_some, none_some, map_some, map_none, same_ok}
+use Rattle.position_map.proofs.Words.{all_scalars, is_an_error, Scalar, measure, Position, TextUnit, ErrorAt, error_if, errors_from, all_errors}
+use Rattle.position_map.proofs.Words.{diagnostic_at, diagnostics_of, error_scalars, scalar_of, errors_in_sum, place_of, IsPlaced, position}
+use Rattle.position_map.proofs.Words.{position_of, Pieced, by_le, same_some, none_some, map_some, map_none, same_ok}
 use Rattle.position_map.proofs.Chains.{item_some, not_here, IsCutAround, cut_around}
 use Rattle.position_map.proofs.ErrorRuns.{below, below-append, below-yes, below-no, cond-append, error_scalars-length, get-front, get-back}
-use Rattle.position_map.proofs.Items.{IsPieced, items_of, counted, piece_count, made_split, made_count, scalars-append}
+use Rattle.position_map.proofs.Items.{IsPieced, items_of, counted, piece_count}
 
 -- the errors of items are those of the document
 place-alone : (text : List ℕ) (unit : TextUnit) (i : Item) (x : ErrorAt) → map place_in (map (diagnostic_at text unit) (error_if i x)) ≡ error_place i x.place
@@ -176,7 +176,8 @@ number-placed d n s o p w =
     let more = numbers (s.scalars + length (code_points c.here)) c.rest in
     let low : length (numbers 0 c.left) ≤ n = omega (arith, errors, p.low) in
     let size : length here ≡ o.sum.errors = error_scalars-length s.scalars o.items ∙ sym o.summed.errors in
-    let none : length here ≤ n - s.errors → more ≡ [] = λ l. let past : s.errors + o.sum.errors ≤ n = omega (arith, l, size, p.low) in ap (numbers (s.scalars + length (code_points c.here))) (none-behind errors_in_sum d n s o p c past) in
+    let none : length here ≤ n - s.errors → more ≡ [] = λ l. let past : s.errors + o.sum.errors ≤ n = omega (arith, l, size, p.low) in
+    ap (numbers (s.scalars + length (code_points c.here))) (none-behind errors_in_sum d n s o p c past) in
     sym (ap (λ ss. slice_get ss n) (around-numbers errors_in_sum d n s o p c)
     ∙ get-back (numbers 0 c.left) (here ++ more) n low
     ∙ ap (λ m. slice_get (here ++ more) (n - m)) errors
@@ -198,7 +199,8 @@ numbers-before d n s o p w =
     let size = piece_count s.bytes c.here o c.own in
     let high = behind + length (code_points c.rest) in
     let none : below n more ≡ 0 =
-    by_le behind n (λ l. let past : s.scalars + o.sum.scalars ≤ n = omega (arith, l, size) in ap (λ ps. below n (numbers behind ps)) (none-behind (measure Scalar) d n s o p c past))
+    by_le behind n (λ l. let past : s.scalars + o.sum.scalars ≤ n =
+    omega (arith, l, size) in ap (λ ps. below n (numbers behind ps)) (none-behind (measure Scalar) d n s o p c past))
     (λ l. below-none n high more (numbers-within n high behind c.rest (omega (arith, l)) (omega arith))) in
     omega (
       arith,
@@ -223,7 +225,8 @@ place-later p n ps e w =
     let at : e.scalar - n - size ≡ e.scalar - (n + size) = omega arith in
     (omega (arith, w.0), not_here (e.scalar - n) size (Some (record { from = p.from; to = p.to })) (place_of ps (e.scalar - n - size)) (omega (arith, w.0)) ∙ ap (place_of ps) at ∙ w.1)
 
-error-here : (i : Item) (from to n k : ℕ) (ps : List Placed) (e : ErrorAt) → ((j : ℕ) → slice_get (errors_from (n + length (item_code_points i)) ps) j ≡ Some e → IsPlaceOf e (n + length (item_code_points i)) ps)
+error-here : (i : Item) (from to n k : ℕ) (ps : List Placed) (e : ErrorAt)
+    → ((j : ℕ) → slice_get (errors_from (n + length (item_code_points i)) ps) j ≡ Some e → IsPlaceOf e (n + length (item_code_points i)) ps)
     → slice_get (errors_from n (record { item = i; from = from; to = to } ∷ ps)) k ≡ Some e → IsPlaceOf e n (record { item = i; from = from; to = to } ∷ ps)
 error-here (One c) from to n k ps e more h = place-later (record { item = One c; from = from; to = to }) n ps e (more k h)
 error-here (Two a b) from to n k ps e more h = place-later (record { item = Two a b; from = from; to = to }) n ps e (more k h)

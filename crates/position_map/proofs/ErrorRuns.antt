@@ -1,9 +1,8 @@
 -- The code points of errors among the runs of a piece.
-use Rattle.std.proofs.Common.{subst, ◌≡◌, refl, sym, ap, ◌∙◌, ℕ, zero, suc, ◌+◌, ◌-◌, ◌<◌, ◌≤◌, ◌⊎◌, inl, inr, Bool, true, false, cond, nat_lt, min, ℤ, pos, ◌-ℤ◌, List, [], ◌∷◌, ◌++◌, length, drop, get_or, arith, Some, count_by}
+use Rattle.std.proofs.Common.{ℕ, ℤ, subst, ◌≡◌, refl, sym, ap, ◌∙◌, zero, suc, ◌+◌, ◌-◌, ◌<◌, ◌≤◌, ◌⊎◌, inl, inr, Bool, true, false, cond, nat_lt, min, pos, ◌-ℤ◌, List, [], ◌∷◌, ◌++◌, length, drop, get_or, arith, Some, count_by}
 use Rattle.position_map.proofs.Words.{unary_clauses, slice_get, nat_tests, at_drop_more, count_by-le-length, sum_by-append, sum_by-cons, one_if}
-use Rattle.position_map.proofs.Words.{Ended, all_scalars, errors_in, ItemKind, AsciiOne, AsciiTwo, AsciiError, RomanOne, RomanTwo, RomanError}
-use Rattle.position_map.proofs.Words.{KatakanaOne, KatakanaTwo, KatakanaError, Jis0208One, Jis0208Two, Jis0208Error, Run, item_of_kind, items_of_run}
-use Rattle.position_map.proofs.Words.{items_of_runs, items_until, error_scalars, by_test, by_le}
+use Rattle.position_map.proofs.Words.{Ended, all_scalars, errors_in, ItemKind, AsciiOne, AsciiError, RomanError, KatakanaError, Jis0208Error, Run}
+use Rattle.position_map.proofs.Words.{item_of_kind, items_of_run, items_of_runs, items_until, error_scalars, by_test, by_le}
 
 -- how many numbers are below one
 abbrev pub below : ℕ → List ℕ → ℕ
@@ -71,7 +70,8 @@ alike-snoc b (x ∷ es) e h k l = (h.0, h.1, alike-snoc b es e h.2 k l)
 until-alike : (kind : ItemKind) (step : ℕ) (last z : ℤ) (n : ℕ) → AreAlike (item_of_kind kind z).error (items_until kind step last n)
 until-alike kind step last z zero = tt
 until-alike kind step last z (suc n) =
-    alike-snoc (item_of_kind kind z).error (items_until kind step (last -ℤ pos step) n) (item_of_kind kind last) (until-alike kind step (last -ℤ pos step) z n) refl (error_one kind last)
+    alike-snoc (item_of_kind kind z).error (items_until kind step (last -ℤ pos step) n) (item_of_kind kind last)
+    (until-alike kind step (last -ℤ pos step) z n) refl (error_one kind last)
 
 either_run : (r : Run) → AreAlike true (items_of_run r) ⊎ AreAlike false (items_of_run r)
 either_run r =
@@ -141,14 +141,18 @@ run_at rs i = items_of_run (get_or rs i no_run)
 
 module _ (rs : List Run) (i : ℕ) (l : i < length rs) where
   pub scalars-next : all_scalars (items_of_runs (drop i rs)) ≡ all_scalars (run_at rs i) + all_scalars (items_of_runs (drop (i + 1) rs))
-  scalars-next = at_drop_more (λ (v : List Run). all_scalars (items_of_runs v)) rs i no_run l ∙ all_scalars-append (run_at rs i) (items_of_runs (drop (i + 1) rs))
+  scalars-next =
+      at_drop_more (λ (v : List Run). all_scalars (items_of_runs v)) rs i no_run l
+      ∙ all_scalars-append (run_at rs i) (items_of_runs (drop (i + 1) rs))
 
   module _ (n : ℕ) where
     abbrev pub rest : List ℕ
     rest = error_scalars (n + all_scalars (run_at rs i)) (items_of_runs (drop (i + 1) rs))
 
     errors-next : error_scalars n (items_of_runs (drop i rs)) ≡ error_scalars n (run_at rs i) ++ rest
-    errors-next = at_drop_more (λ (v : List Run). error_scalars n (items_of_runs v)) rs i no_run l ∙ error_scalars-append n (run_at rs i) (items_of_runs (drop (i + 1) rs))
+    errors-next =
+        at_drop_more (λ (v : List Run). error_scalars n (items_of_runs v)) rs i no_run l
+        ∙ error_scalars-append n (run_at rs i) (items_of_runs (drop (i + 1) rs))
 
     -- the error is in this run
     pub found-here : (k : ℕ) → k < errors_in (run_at rs i) → Some (n + k) ≡ slice_get (error_scalars n (items_of_runs (drop i rs))) k
@@ -157,7 +161,8 @@ module _ (rs : List Run) (i : ℕ) (l : i < length rs) where
         ∙ run-get n k (get_or rs i no_run) h)
 
     -- or behind it
-    pub found-next : (k : ℕ) → errors_in (run_at rs i) ≤ k → slice_get rest (k - errors_in (run_at rs i)) ≡ slice_get (error_scalars n (items_of_runs (drop i rs))) k
+    pub found-next : (k : ℕ) → errors_in (run_at rs i) ≤ k
+        → slice_get rest (k - errors_in (run_at rs i)) ≡ slice_get (error_scalars n (items_of_runs (drop i rs))) k
     found-next k h =
         let size = error_scalars-length n (run_at rs i) in
         sym (ap (λ (ss : List ℕ). slice_get ss k) errors-next ∙ get-back (error_scalars n (run_at rs i)) rest k (omega (arith, size, h)) ∙ ap (λ (m : ℕ). slice_get rest (k - m)) size)

@@ -1,5 +1,5 @@
 -- Whether bytes begin with an escape is told by their first three.
-use Rattle.std.proofs.Common.{◌≡◌, refl, ap, ◌∙◌, ℕ, ◌-◌, List, [], ◌∷◌, length, length-drop, take, drop, min, arith}
+use Rattle.std.proofs.Common.{ℕ, ◌≡◌, refl, ap, ◌∙◌, ◌-◌, List, [], ◌∷◌, length, length-drop, take, drop, min, arith}
 use Rattle.position_map.specs.Plan.{begins_with_escape}
 
 begins-take : (xs : List ℕ) (n : ℕ) → n ≡ min (length xs) 3 → begins_with_escape (take n xs) ≡ begins_with_escape xs

@@ -1,5 +1,5 @@
 -- The pieces of a document and its tail, as outcomes in a row.
-use Rattle.std.proofs.Common.{◌≡◌, refl, sym, ap, subst, ◌∙◌, ℕ, ◌+◌, ◌*◌, ◌<◌, ◌≤◌, List, [], ◌∷◌, ◌++◌, length, length-append, map, take-append-drop, append_assoc, append-nil, arith, Option, Some, None, Bor, option_copied}
+use Rattle.std.proofs.Common.{ℕ, ◌≡◌, refl, sym, ap, subst, ◌∙◌, ◌+◌, ◌*◌, ◌<◌, ◌≤◌, List, [], ◌∷◌, ◌++◌, length, length-append, map, take-append-drop, append_assoc, append-nil, arith, Option, Some, None, Bor, option_copied}
 use Rattle.piece_rope.specs.Entry.{Entry, here_of, entry_sum}
 use Rattle.piece_rope.specs.Chain.{bytes_of}
 use Rattle.piece_rope.specs.Sizes.{AreSized, AreCounted, shortest}
@@ -92,7 +92,8 @@ pub found-map : (measured : Sum → ℕ) (target : ℕ) (es : List Entry) (s : S
 found-map measured target es s x f = record {
   front = map here_of f.front;
   back = map here_of f.back;
-  split = ap (map here_of) f.split ∙ map-append here_of f.front (option_to_list x ++ f.back) ∙ ap (λ t. map here_of f.front ++ t) (map-append here_of (option_to_list x) f.back ∙ ap (λ t. t ++ map here_of f.back) (map-option x));
+  split = ap (map here_of) f.split ∙ map-append here_of f.front (option_to_list x ++ f.back)
+      ∙ ap (λ t. map here_of f.front ++ t) (map-append here_of (option_to_list x) f.back ∙ ap (λ t. t ++ map here_of f.back) (map-option x));
   ends = λ e. ap (map here_of) (f.ends (map_none here_of x e));
   sum = f.sum ∙ total-map f.front;
   low = f.low;

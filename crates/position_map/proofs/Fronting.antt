@@ -1,9 +1,9 @@
 -- Fronts of a document's text by units.
-use Rattle.std.proofs.Common.{refl, ◌≡◌, sym, ap, subst, ◌∙◌, ℕ, ◌+◌, ◌-◌, ◌<◌, ◌≤◌, ◌⊎◌, inl, inr, true, false, cond, nat_le, List, [], ◌++◌, length, length-append, take, append-nil, arith, Some, None, Result, Ok, Err}
+use Rattle.std.proofs.Common.{ℕ, refl, ◌≡◌, sym, ap, subst, ◌∙◌, ◌+◌, ◌-◌, ◌<◌, ◌≤◌, ◌⊎◌, inl, inr, true, false, nat_le, List, [], ◌++◌, length, length-append, take, append-nil, arith, Some, None, Result, Ok, Err}
 use Rattle.position_map.proofs.Words.{option_map, ok_or, slice_get, take_at, slice_get_past, nat_tests, Axis, measure, Sum, PosFault, OutOfRange}
 use Rattle.position_map.proofs.Words.{SplitsCharacter, Point, Position, TextUnit, Utf8, Utf16, Utf32, IsAlongFront, IsTextFront, IsFrontOf, lines_of}
-use Rattle.position_map.proofs.Words.{IsLocated, IsOfText, reach, axis_of, sum_in, IsLineStart, IsLineEnd, IsTextEnd, along, between, offset_at}
-use Rattle.position_map.proofs.Words.{offset_of, converted, width}
+use Rattle.position_map.proofs.Words.{IsLocated, reach, axis_of, sum_in, IsLineStart, IsLineEnd, IsTextEnd, along, between, offset_at, offset_of}
+use Rattle.position_map.proofs.Words.{converted, width}
 use Rattle.position_map.proofs.Alongs.{along-append, along_within, along_line, past_line, line_width}
 use Rattle.position_map.proofs.LineMarks.{line_is, ascending, ascending-line}
 use Rattle.position_map.proofs.Pointing.{sum_width, regroup}

@@ -1,12 +1,11 @@
 -- Cuts between code points, found by what pieces remember.
-use Rattle.std.proofs.Common.{◌≡◌, refl, sym, ap, subst, ◌∙◌, ℕ, suc, ◌+◌, ◌-◌, ◌<◌, ◌≤◌, ◌==◌, eqb, Bool, true, false, cond, nat_lt, nat_le, List, [], ◌∷◌, ◌++◌, length, length-append, drop, arith, Option, Some, None, inl, inr, if◌then◌else◌}
+use Rattle.std.proofs.Common.{ℕ, ◌≡◌, refl, sym, ap, subst, ◌∙◌, suc, ◌+◌, ◌-◌, ◌<◌, ◌≤◌, ◌==◌, eqb, Bool, true, false, cond, nat_lt, nat_le, List, [], ◌∷◌, ◌++◌, length, length-append, drop, arith, Option, Some, None, inl, inr}
 use Rattle.std.proofs.lemmas.List.Elements.{All-head, All-tail}
 use Rattle.position_map.specs.Plan.{cut_at}
 use Rattle.position_map.proofs.Words.{slice_get, option_eq, option_map, nat_tests, Turned, Ascii, Placed, places, item_code_points, code_points}
 use Rattle.position_map.proofs.Words.{decode, run_in, in_force, mark_length, Ended, Outcome, Sum, total_of, item_of, Document, decoded, text_of}
-use Rattle.position_map.proofs.Words.{decoded_text, AreEnded, AreMade, ends_at, output_at, HasOutputs, HaveOutputs, Cut, cut_behind, cut_of, Scalar}
-use Rattle.position_map.proofs.Words.{measure, last_to, IsPlaced, item_width, cut, Pieced, by_le, by_test, same_some, none_some, map_none, map_some}
-use Rattle.position_map.proofs.Words.{none_past}
+use Rattle.position_map.proofs.Words.{AreEnded, ends_at, output_at, HasOutputs, HaveOutputs, Cut, cut_behind, cut_of, Scalar, measure, last_to}
+use Rattle.position_map.proofs.Words.{IsPlaced, item_width, cut, Pieced, by_le, by_test, same_some, none_some, map_none, map_some, none_past}
 use Rattle.position_map.proofs.Chains.{item-here, item-later, item-next, item_within, cut_around}
 use Rattle.position_map.proofs.Items.{IsPieced, piece_count}
 
@@ -16,10 +15,12 @@ cut-later : (base : ℕ) (e : Ended) (es : List Ended) (n : ℕ) → e.scalars <
 cut-later base e es n h = let t : nat_lt e.scalars n ≡ true = grind (arith, nat_tests) in rw t refl
 
 cut-end : (base : ℕ) (e : Ended) (es : List Ended) (n : ℕ) → e.scalars ≡ n → cut_behind base (e ∷ es) n ≡ Some (record { at = ends_at base e.end; output = e.output })
-cut-end base e es n h = let t : nat_lt e.scalars n ≡ false = grind (arith, nat_tests) in let s : (e.scalars == n) ≡ true = grind (arith, nat_tests) in rw (t, s) refl
+cut-end base e es n h =
+    let t : nat_lt e.scalars n ≡ false = grind (arith, nat_tests) in let s : (e.scalars == n) ≡ true = grind (arith, nat_tests) in rw (t, s) refl
 
 cut-within : (base : ℕ) (e : Ended) (es : List Ended) (n : ℕ) → n < e.scalars → cut_behind base (e ∷ es) n ≡ None
-cut-within base e es n h = let t : nat_lt e.scalars n ≡ false = grind (arith, nat_tests) in let s : (e.scalars == n) ≡ false = grind (arith, nat_tests) in rw (t, s) refl
+cut-within base e es n h =
+    let t : nat_lt e.scalars n ≡ false = grind (arith, nat_tests) in let s : (e.scalars == n) ≡ false = grind (arith, nat_tests) in rw (t, s) refl
 
 -- the last code point of those in front is in no item
 pub cut-none : (base : ℕ) (es : List Ended) (n : ℕ) → 0 < n → item_of es (n - 1) ≡ None → cut_behind base es n ≡ None
@@ -28,7 +29,8 @@ cut-none base (e ∷ es) n some h =
     by_le e.scalars (n - 1)
     (λ le.
     let less : n - 1 - e.scalars ≡ n - e.scalars - 1 = omega arith in
-    let rest : item_of es (n - e.scalars - 1) ≡ None = ap (item_of es) (sym less) ∙ map_none (λ j. j + 1) (item_of es (n - 1 - e.scalars)) (sym (item-later e es (n - 1) le) ∙ h) in
+    let rest : item_of es (n - e.scalars - 1) ≡ None = ap (item_of es) (sym less)
+    ∙ map_none (λ j. j + 1) (item_of es (n - 1 - e.scalars)) (sym (item-later e es (n - 1) le) ∙ h) in
     cut-later base e es n (omega (arith, le, some)) ∙ cut-none base es (n - e.scalars) (omega (arith, le, some)) rest)
     (λ lt. absurd (none_some (sym h ∙ item-here e es (n - 1) lt)))
 
@@ -99,10 +101,12 @@ cut_at-zero at [] = refl
 cut_at-zero at (p ∷ ps) = refl
 
 cut_at-later : (at : ℕ) (p : Placed) (ps : List Placed) (n : ℕ) → 0 < n → item_width p.item ≤ n → cut_at at (p ∷ ps) n ≡ cut_at p.to ps (n - item_width p.item)
-cut_at-later at p ps n some h = let z : (n == 0) ≡ false = grind (arith, nat_tests) in let t : nat_le (item_width p.item) n ≡ true = grind (arith, nat_tests) in rw (z, t) refl
+cut_at-later at p ps n some h =
+    let z : (n == 0) ≡ false = grind (arith, nat_tests) in let t : nat_le (item_width p.item) n ≡ true = grind (arith, nat_tests) in rw (z, t) refl
 
 cut_at-inside : (at : ℕ) (p : Placed) (ps : List Placed) (n : ℕ) → 0 < n → n < item_width p.item → cut_at at (p ∷ ps) n ≡ None
-cut_at-inside at p ps n some h = let z : (n == 0) ≡ false = grind (arith, nat_tests) in let t : nat_le (item_width p.item) n ≡ false = grind (arith, nat_tests) in rw (z, t) refl
+cut_at-inside at p ps n some h =
+    let z : (n == 0) ≡ false = grind (arith, nat_tests) in let t : nat_le (item_width p.item) n ≡ false = grind (arith, nat_tests) in rw (z, t) refl
 
 -- items all of whose code points are in front
 cut_at-skip : (at : ℕ) (xs ys : List Placed) (n : ℕ) → length (code_points xs) < n → cut_at at (xs ++ ys) n ≡ cut_at (last_to at xs) ys (n - length (code_points xs))
@@ -203,8 +207,8 @@ cut_some d n c e =
 pub cut_none : (d : Document) (n : ℕ) → None ≡ cut_of d n → cut d n ≡ None
 cut_none d n e = map_none (λ at. record { at = at; output = output_at d at }) (cut d n) (sym e)
 
-pub cut_fits : (d : Document) (n : ℕ) (c : Cut) → (decoded d).bom ≤ length d.bytes → Some c ≡ cut_of d n → c.at ≤ length d.bytes
-cut_fits d n c low e = place-fits d n c.at low (cut_some d n c e).0
+pub cut_fits : (p d : Document) (same : p ≡ d) (n : ℕ) (c : Cut) → (decoded d).bom ≤ length d.bytes → Some c ≡ cut_of p n → c.at ≤ length d.bytes
+cut_fits p d same n c low e = place-fits d n c.at low (cut_some d n c (rw same at e)).0
 
 -- before the first code point
 pub first_is : (d : Document) → output_at d (decoded d).bom ≡ Ascii → Some (record { at = (decoded d).bom; output = Ascii }) ≡ cut_of d 0

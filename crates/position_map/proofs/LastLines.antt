@@ -1,5 +1,5 @@
 -- The line that a text ends on, found from its last line end.
-use Rattle.std.proofs.Common.{◌≡◌, refl, sym, ap, subst, ◌∙◌, ℕ, ◌+◌, ◌-◌, ◌<◌, ◌≤◌, Bool, true, false, not, ◌==◌, ◌||◌, ◌&&◌, List, [], ◌∷◌, ◌++◌, length, length-append, drop, append_assoc, arith, Some, Ok}
+use Rattle.std.proofs.Common.{ℕ, ◌≡◌, refl, sym, ap, subst, ◌∙◌, ◌+◌, ◌-◌, ◌<◌, ◌≤◌, Bool, false, ◌==◌, ◌&&◌, List, [], ◌∷◌, ◌++◌, length, length-append, drop, append_assoc, arith, Some, Ok}
 use Rattle.std.proofs.Math.Bool.{and-false}
 use Rattle.position_map.proofs.Words.{by_test, nat_tests, option_map, slice_get, chars, drop_at, cr, lf, is_mark, one_if, marks, ends_cr, begins_lf}
 use Rattle.position_map.proofs.Words.{OnLine, Point, TextCut, TextUnit, IsCutAt, IsOnLine, IsLastLine, lines_of, sum_in, IsLineStart, start_of}

@@ -1,5 +1,5 @@
 -- Lines by marks.
-use Rattle.std.proofs.Common.{◌≡◌, refl, sym, ap, ◌∙◌, ℕ, zero, suc, ◌+◌, ◌<◌, ◌≤◌, Bool, true, false, not, cond, ◌==◌, ◌||◌, ◌&&◌, List, [], ◌∷◌, ◌++◌, length, append-nil, append_assoc, arith, Option, Some, None, nat_le, count_by}
+use Rattle.std.proofs.Common.{ℕ, ◌≡◌, refl, sym, ap, ◌∙◌, zero, suc, ◌+◌, ◌<◌, ◌≤◌, Bool, true, false, not, cond, ◌==◌, ◌||◌, ◌&&◌, List, [], ◌∷◌, ◌++◌, length, append-nil, append_assoc, arith, Option, Some, None, nat_le, count_by}
 use Rattle.position_map.proofs.Words.{slice_get, option_map, add_assoc, zero-add, unary_clauses, nat_tests, sum_by-cons, LineSpan, lines_from}
 use Rattle.position_map.proofs.Words.{lines_of, cr, lf, is_mark, one_if, marks, ends_cr, begins_lf, IsMark, start_of, end_of, by_test, same_some}
 use Rattle.position_map.proofs.Words.{none_some}
@@ -20,7 +20,9 @@ lines_after f s n [] = line s n ∷ []
 lines_after f s n (c ∷ cs) = more_if (is_mark f c) (line s n) (lines_after (c == cr) (start_past s n c) (n + 1) cs)
 
 -- x: CR, y: LF, z: LF next
-one_end : (x y : Bool) (s n : ℕ) → cond (x || y) (line s n ∷ line (n + 1) (n + 1) ∷ []) (line s (n + 1) ∷ []) ≡ more_if (x || (y && not false)) (line s n) (line (cond (x || (y && not false)) (n + 1) s) (n + 1) ∷ [])
+one_end : (x y : Bool) (s n : ℕ)
+    → cond (x || y) (line s n ∷ line (n + 1) (n + 1) ∷ []) (line s (n + 1) ∷ [])
+    ≡ more_if (x || (y && not false)) (line s n) (line (cond (x || (y && not false)) (n + 1) s) (n + 1) ∷ [])
 one_end true y s n = refl
 one_end false true s n = refl
 one_end false false s n = refl
@@ -38,9 +40,11 @@ lines_same s n [] = refl
 lines_same s n (c ∷ []) = one_end (c == cr) (c == lf) s n
 lines_same s n (c ∷ d ∷ rest) =
     let one = lines_same (n + 1) (n + 1) (d ∷ rest) in
-    pick (c == cr) (c == lf) (d == lf) (line s n) (lines_from (n + 2) (n + 2) rest) (lines_from (n + 1) (n + 1) (d ∷ rest)) (lines_from s (n + 1) (d ∷ rest)) (λ x m. lines_after x (cond m (n + 1) s) (n + 1) (d ∷ rest))
+    pick (c == cr) (c == lf) (d == lf) (line s n) (lines_from (n + 2) (n + 2) rest) (lines_from (n + 1) (n + 1) (d ∷ rest))
+    (lines_from s (n + 1) (d ∷ rest)) (λ x m. lines_after x (cond m (n + 1) s) (n + 1) (d ∷ rest))
     (λ e. let h : d ≡ 10 = grind (arith, nat_tests) in
-    lines_same (n + 2) (n + 2) rest ∙ ap (λ m. lines_after false m m rest) (omega arith) ∙ ap (λ v. lines_after true (n + 1) (n + 1) (v ∷ rest)) (sym h))
+    lines_same (n + 2) (n + 2) rest ∙ ap (λ m. lines_after false m m rest) (omega arith)
+    ∙ ap (λ v. lines_after true (n + 1) (n + 1) (v ∷ rest)) (sym h))
     (λ e. one ∙ rw e refl) one (lines_same s (n + 1) (d ∷ rest))
 
 -- where the line starts on which a text ends
@@ -53,7 +57,9 @@ get_more true l ls k = let e : 1 + k ≡ suc k = omega arith in ap (slice_get (l
 get_more false l ls k = simp zero-add
 
 -- the lines behind those that end in front
-lines_behind : (f : Bool) (s n : ℕ) (front back : List ℕ) (k : ℕ) → slice_get (lines_after f s n (front ++ back)) (marks f front + k) ≡ slice_get (lines_after (ends_cr f front) (start_in s n front) (n + length front) back) k
+lines_behind : (f : Bool) (s n : ℕ) (front back : List ℕ) (k : ℕ)
+    → slice_get (lines_after f s n (front ++ back)) (marks f front + k)
+    ≡ slice_get (lines_after (ends_cr f front) (start_in s n front) (n + length front) back) k
 lines_behind f s n [] back k = simp (zero-add, unary_clauses)
 lines_behind f s n (c ∷ cs) back k =
     let here = get_more (is_mark f c) (line s n) (lines_after (c == cr) (start_past s n c) (n + 1) (cs ++ back)) (marks (c == cr) cs + k) in
@@ -65,9 +71,11 @@ lines_behind f s n (c ∷ cs) back k =
 by_mark : (f : Bool) (s n c : ℕ) (cs : List ℕ) → is_mark f c ≡ true → lines_after f s n (c ∷ cs) ≡ line s n ∷ lines_after (c == cr) (n + 1) (n + 1) cs
 by_mark f s n c cs h = let m : is_mark false c ≡ true = grind (arith, nat_tests) in rw (h, m) refl
 
-by_none : (f : Bool) (s n c : ℕ) (cs : List ℕ) → is_mark f c ≡ false → lines_after f s n (c ∷ cs) ≡ lines_after false (cond (f && (c == lf)) (n + 1) s) (n + 1) cs
+by_none : (f : Bool) (s n c : ℕ) (cs : List ℕ) → is_mark f c ≡ false
+    → lines_after f s n (c ∷ cs) ≡ lines_after false (cond (f && (c == lf)) (n + 1) s) (n + 1) cs
 by_none true s n c cs h = let x : (c == cr) ≡ false = grind (arith, nat_tests) in by_test (c == lf) (λ y. rw (x, y) refl) (λ y. rw (x, y) refl)
-by_none false s n c cs h = let x : (c == cr) ≡ false = grind (arith, nat_tests) in let y : (c == lf) ≡ false = grind (arith, nat_tests) in rw (x, y) refl
+by_none false s n c cs h =
+    let x : (c == cr) ≡ false = grind (arith, nat_tests) in let y : (c == lf) ≡ false = grind (arith, nat_tests) in rw (x, y) refl
 
 -- the line begins at its start, or behind the LF of a CR LF
 first_start_after : (f : Bool) (s n : ℕ) (text : List ℕ) → option_map start_of (slice_get (lines_after f s n text) 0) ≡ Some (cond (f && begins_lf text) (n + 1) s)
@@ -79,7 +87,8 @@ first_start_after f s n (c ∷ cs) =
     (λ h. rw (by_none f s n c cs h) (first_start_after false (cond (f && (c == lf)) (n + 1) s) (n + 1) cs))
 
 -- a line ends at its mark, and the next one begins behind its line end
-line_at_mark : (f : Bool) (s n : ℕ) (front : List ℕ) (c : ℕ) (back : List ℕ) → is_mark (ends_cr f front) c ≡ true → slice_get (lines_after f s n (front ++ c ∷ back)) (marks f front) ≡ Some (line (start_in s n front) (n + length front))
+line_at_mark : (f : Bool) (s n : ℕ) (front : List ℕ) (c : ℕ) (back : List ℕ) → is_mark (ends_cr f front) c ≡ true
+    → slice_get (lines_after f s n (front ++ c ∷ back)) (marks f front) ≡ Some (line (start_in s n front) (n + length front))
 line_at_mark f s n front c back h =
     ap (slice_get (lines_after f s n (front ++ c ∷ back))) (omega arith) ∙ lines_behind f s n front (c ∷ back) 0
     ∙ ap (λ ls. slice_get ls 0) (by_mark (ends_cr f front) (start_in s n front) (n + length front) c back h)
@@ -94,7 +103,8 @@ length_after f s n [] = refl
 length_after f s n (c ∷ cs) =
     omega (arith, length_more (is_mark f c) (line s n) (lines_after (c == cr) (start_past s n c) (n + 1) cs), length_after (c == cr) (start_past s n c) (n + 1) cs)
 
--- lines in their order up to `to`: the first one starts at `from` or behind, and ends at `at` or behind, and each starts behind the end of the one before
+-- lines in their order up to `to`: the first one starts at `from` or behind and ends at `at` or behind, each one starts behind the end of the one
+-- before
 abbrev pub Ascending : ℕ → ℕ → ℕ → List LineSpan → Type 0
 Ascending from at to [] = Unit {0}
 Ascending from at to (l ∷ ls) = (from ≤ l.start) × (l.start ≤ l.end) × (at ≤ l.end) × (l.end ≤ to) × Ascending (l.end + 1) (l.end + 1) to ls
@@ -111,7 +121,8 @@ ascend f s n to (c ∷ cs) h g =
     (λ m. let low : s ≤ cond (f && (c == lf)) (n + 1) s = grind (arith, nat_tests) in let high : cond (f && (c == lf)) (n + 1) s ≤ n + 1 = grind (arith, nat_tests) in
     rw (by_none f s n c cs m) (weaker _ (n + 1) s n to _ low (omega arith) (ascend false (cond (f && (c == lf)) (n + 1) s) (n + 1) to cs high (omega (arith, g)))))
 
-pub ascending-line : (from at to : ℕ) (ls : List LineSpan) (k : ℕ) (l : LineSpan) → Ascending from at to ls → slice_get ls k ≡ Some l → (from ≤ l.start) × (l.start ≤ l.end) × (at ≤ l.end) × (l.end ≤ to)
+pub ascending-line : (from at to : ℕ) (ls : List LineSpan) (k : ℕ) (l : LineSpan) → Ascending from at to ls → slice_get ls k ≡ Some l
+    → (from ≤ l.start) × (l.start ≤ l.end) × (at ≤ l.end) × (l.end ≤ to)
 ascending-line from at to [] k l w h = absurd (none_some h)
 ascending-line from at to (x ∷ ls) zero l w h = let e : x ≡ l = same_some h in rw (← e) (w.0, w.1, w.2, w.3)
 ascending-line from at to (x ∷ ls) (suc k) l w h =
@@ -122,15 +133,18 @@ abbrev pub begun : ℕ → List LineSpan → ℕ
 begun offset ls = count_by (λ (l : LineSpan). nat_le l.start offset) ls
 
 pub begun_not : (o : ℕ) (l : LineSpan) (ls : List LineSpan) → o < l.start → begun o (l ∷ ls) ≡ begun o ls
-begun_not o l ls h = let t : nat_le l.start o ≡ false = grind (arith, nat_tests) in sum_by-cons (λ (l : LineSpan). cond (nat_le l.start o) 1 0) l ls ∙ rw t (simp zero-add)
+begun_not o l ls h =
+    let t : nat_le l.start o ≡ false = grind (arith, nat_tests) in sum_by-cons (λ (l : LineSpan). cond (nat_le l.start o) 1 0) l ls ∙ rw t (simp zero-add)
 
 pub begun_one : (o : ℕ) (l : LineSpan) (ls : List LineSpan) → l.start ≤ o → begun o (l ∷ ls) ≡ 1 + begun o ls
-begun_one o l ls h = let t : nat_le l.start o ≡ true = grind (arith, nat_tests) in sum_by-cons (λ (l : LineSpan). cond (nat_le l.start o) 1 0) l ls ∙ rw t refl
+begun_one o l ls h =
+    let t : nat_le l.start o ≡ true = grind (arith, nat_tests) in sum_by-cons (λ (l : LineSpan). cond (nat_le l.start o) 1 0) l ls ∙ rw t refl
 
 -- no line that begins later has begun
 pub none_begun : (o from at to : ℕ) (ls : List LineSpan) → Ascending from at to ls → o < from → begun o ls ≡ 0
 none_begun o from at to [] w h = refl
-none_begun o from at to (l ∷ ls) w h = begun_not o l ls (omega (arith, w.0)) ∙ none_begun o (l.end + 1) (l.end + 1) to ls w.4 (omega (arith, w.0, w.1))
+none_begun o from at to (l ∷ ls) w h =
+    begun_not o l ls (omega (arith, w.0)) ∙ none_begun o (l.end + 1) (l.end + 1) to ls w.4 (omega (arith, w.0, w.1))
 
 begun_more : (o : ℕ) (b : Bool) (l : LineSpan) (ls : List LineSpan) → l.start ≤ o → begun o (more_if b l ls) ≡ one_if b + begun o ls
 begun_more o true l ls h = begun_one o l ls h
@@ -140,7 +154,8 @@ begun_more o false l ls h = simp zero-add
 one_begun : (f : Bool) (s n : ℕ) (text : List ℕ) → s ≤ n → begun n (lines_after f s n text) + one_if (f && begins_lf text) ≡ 1
 one_begun f s n text h = of_lines (lines_after f s n text) (first_start_after f s n text) (ascend f s n (n + length text) text h (omega arith))
   where
-    of_lines : (ls : List LineSpan) → option_map start_of (slice_get ls 0) ≡ Some (cond (f && begins_lf text) (n + 1) s) → Ascending s n (n + length text) ls → begun n ls + one_if (f && begins_lf text) ≡ 1
+    of_lines : (ls : List LineSpan) → option_map start_of (slice_get ls 0) ≡ Some (cond (f && begins_lf text) (n + 1) s)
+        → Ascending s n (n + length text) ls → begun n ls + one_if (f && begins_lf text) ≡ 1
     of_lines [] e w = absurd (none_some e)
     of_lines (l ∷ ls) e w =
         let none = none_begun n (l.end + 1) (l.end + 1) (n + length text) ls w.4 (omega (arith, w.2)) in
@@ -151,7 +166,8 @@ one_begun f s n text h = of_lines (lines_after f s n text) (first_start_after f 
 
 start_in_le : (s n : ℕ) (cs : List ℕ) → s ≤ n → start_in s n cs ≤ n + length cs
 start_in_le s n [] h = omega (arith, h)
-start_in_le s n (c ∷ cs) h = let le : start_past s n c ≤ n + 1 = grind (arith, nat_tests) in omega (arith, start_in_le (start_past s n c) (n + 1) cs le)
+start_in_le s n (c ∷ cs) h =
+    let le : start_past s n c ≤ n + 1 = grind (arith, nat_tests) in omega (arith, start_in_le (start_past s n c) (n + 1) cs le)
 
 -- the lines that have begun at an offset: as many as there are marks before it, and one, less one between CR and LF
 begun_after : (f : Bool) (s n : ℕ) (front back : List ℕ) → s ≤ n
@@ -161,7 +177,8 @@ begun_after f s n (c ∷ cs) back h =
     let le : start_past s n c ≤ n + 1 = grind (arith, nat_tests) in
     let e : n + length (c ∷ cs) ≡ n + 1 + length cs = omega arith in
     let rest = begun_after (c == cr) (start_past s n c) (n + 1) cs back le in
-    omega (arith, ap (λ o. begun o (lines_after f s n (c ∷ (cs ++ back)))) e, rest, begun_more (n + 1 + length cs) (is_mark f c) (line s n) (lines_after (c == cr) (start_past s n c) (n + 1) (cs ++ back)) (omega (arith, h)))
+    let behind = lines_after (c == cr) (start_past s n c) (n + 1) (cs ++ back) in
+    omega (arith, ap (λ o. begun o (lines_after f s n (c ∷ (cs ++ back)))) e, rest, begun_more (n + 1 + length cs) (is_mark f c) (line s n) behind (omega (arith, h)))
 
 -- joined texts
 pub marks-append : (f : Bool) (xs ys : List ℕ) → marks f (xs ++ ys) ≡ marks f xs + marks (ends_cr f xs) ys
@@ -176,20 +193,23 @@ lines_are : (text : List ℕ) → lines_of text ≡ lines_after false 0 0 text
 unfolding lines_of
 lines_are text = lines_same 0 0 text
 
-pub IsMark-end : (text : List ℕ) (n : ℕ) (front : List ℕ) (c : ℕ) (back : List ℕ) → IsMark text n front c back → option_map end_of (slice_get (lines_of text) n) ≡ Some (length front)
+pub IsMark-end : (text : List ℕ) (n : ℕ) (front : List ℕ) (c : ℕ) (back : List ℕ) → IsMark text n front c back
+    → option_map end_of (slice_get (lines_of text) n) ≡ Some (length front)
 IsMark-end text n front c back m = rw (m.split, lines_are, ← m.count, line_at_mark false 0 0 front c back m.is) (simp zero-add)
 
 -- where the line behind the mark begins
 abbrev pub behind : ℕ → ℕ → List ℕ → ℕ
 behind at c back = cond ((c == cr) && begins_lf back) (at + 2) (at + 1)
 
-pub IsMark-next : (text : List ℕ) (n : ℕ) (front : List ℕ) (c : ℕ) (back : List ℕ) → IsMark text n front c back → option_map start_of (slice_get (lines_of text) (n + 1)) ≡ Some (behind (length front) c back)
+pub IsMark-next : (text : List ℕ) (n : ℕ) (front : List ℕ) (c : ℕ) (back : List ℕ) → IsMark text n front c back
+    → option_map start_of (slice_get (lines_of text) (n + 1)) ≡ Some (behind (length front) c back)
 IsMark-next text n front c back m =
     rw (m.split, lines_are, ← m.count, lines_behind false 0 0 front (c ∷ back) 1, by_mark (ends_cr false front) (start_in 0 0 front) (0 + length front) c back m.is)
     (first_start_after (c == cr) (0 + length front + 1) (0 + length front + 1) back ∙ simp (zero-add, add_assoc))
 
 pub last_end : (text : List ℕ) → option_map end_of (slice_get (lines_of text) (marks false text)) ≡ Some (length text)
-last_end text = let last = lines_behind false 0 0 text [] 0 in rw lines_are (ap (option_map end_of) (simp (append-nil, zero-add, unary_clauses) at last))
+last_end text =
+    let last = lines_behind false 0 0 text [] 0 in rw lines_are (ap (option_map end_of) (simp (append-nil, zero-add, unary_clauses) at last))
 
 pub first_start : (text : List ℕ) → option_map start_of (slice_get (lines_of text) 0) ≡ Some 0
 first_start text = rw lines_are (first_start_after false 0 0 text)
@@ -221,7 +241,8 @@ line_is (Some l) s e h g = let a : l.start ≡ s = same_some h in let b : l.end 
 pub ascending : (text : List ℕ) → Ascending 0 0 (length text) (lines_of text)
 ascending text = rw lines_are (ascend false 0 0 (length text) text (omega arith) (omega arith))
 
-pub line_here : (front back : List ℕ) → (ends_cr false front && begins_lf back) ≡ false → (l : LineSpan) → slice_get (lines_of (front ++ back)) (marks false front) ≡ Some l → (l.start ≤ length front) × (length front ≤ l.end)
+pub line_here : (front back : List ℕ) → (ends_cr false front && begins_lf back) ≡ false → (l : LineSpan)
+    → slice_get (lines_of (front ++ back)) (marks false front) ≡ Some l → (l.start ≤ length front) × (length front ≤ l.end)
 line_here front back b l e =
     let here = lines_behind false 0 0 front back 0 in
     let f = ends_cr false front in

@@ -1,9 +1,9 @@
 -- Where a piece that was found stands in the text.
-use Rattle.std.proofs.Common.{◌≡◌, refl, sym, ap, subst, ◌∙◌, ℕ, ◌+◌, ◌<◌, inl, inr, List, [], ◌∷◌, ◌++◌, append_assoc, append-nil, arith, Option, Some, None, Bor, option_copied}
+use Rattle.std.proofs.Common.{ℕ, ◌≡◌, refl, sym, ap, subst, ◌∙◌, ◌+◌, ◌<◌, inl, inr, List, [], ◌∷◌, ◌++◌, append_assoc, append-nil, arith, Option, Some, None, Bor, option_copied}
 use Rattle.std.proofs.lemmas.Grind.{flat_map-append}
-use Rattle.position_map.proofs.Words.{flat_map, unwrap_or, Placed, item_code_points, code_points, Axis, Byte, Scalar, by_utf16, by_utf8}
-use Rattle.position_map.proofs.Words.{by_mark as Mark, measure, Ended, Outcome, Sum, IsSumOf, total_of, joined, Document, decoded, text_of}
-use Rattle.position_map.proofs.Words.{decoded_text, IsFoundOutcome, IsLocated, IsOfText, reach, AreMade, AreAllPieces}
+use Rattle.position_map.proofs.Words.{flat_map, unwrap_or, Placed, code_points, Axis, Byte, Scalar, by_utf16, by_utf8, by_mark as Mark, measure}
+use Rattle.position_map.proofs.Words.{Ended, Outcome, Sum, IsSumOf, total_of, joined, Document, decoded, text_of, decoded_text, IsFoundOutcome}
+use Rattle.position_map.proofs.Words.{IsLocated, IsOfText, reach, AreMade, AreAllPieces}
 use Rattle.position_map.proofs.Items.{code_points-append}
 
 abbrev pub text_in : Outcome → List ℕ
@@ -52,7 +52,8 @@ located-piece joins axis target d os tail s o of_text w f =
       front = texts f.front;
       items = items f.front;
       back = texts (f.back ++ tail ∷ []);
-      split = whole-text d os tail w ∙ ap (λ xs. texts (xs ++ tail ∷ [])) f.split ∙ ap texts (append_assoc f.front (o ∷ f.back) (tail ∷ [])) ∙ flat_map-append text_in f.front (o ∷ (f.back ++ tail ∷ []));
+      split = whole-text d os tail w ∙ ap (λ xs. texts (xs ++ tail ∷ [])) f.split ∙ ap texts (append_assoc f.front (o ∷ f.back) (tail ∷ []))
+          ∙ flat_map-append text_in f.front (o ∷ (f.back ++ tail ∷ []));
       sum = before;
       low = f.low;
       high = inr (measured axis (texts f.front ++ o.text) (items f.front ++ o.items) (joined s o.sum) target (joins (texts f.front) o.text (items f.front) o.items s o.sum before o.summed) f.high of_text);

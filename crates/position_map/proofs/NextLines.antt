@@ -1,10 +1,10 @@
 -- The next line, found from the one before.
-use Rattle.std.proofs.Common.{◌≡◌, refl, sym, ap, subst, ◌∙◌, ℕ, ◌+◌, ◌-◌, ◌<◌, ◌≤◌, Bool, true, false, not, cond, ◌==◌, ◌||◌, ◌&&◌, List, [], ◌∷◌, ◌++◌, length, length-append, take, drop, append_assoc, arith, Option, Some, None, Result, Ok}
+use Rattle.std.proofs.Common.{ℕ, ◌≡◌, refl, sym, ap, subst, ◌∙◌, ◌+◌, ◌-◌, ◌<◌, ◌≤◌, Bool, true, false, ◌==◌, ◌&&◌, List, [], ◌∷◌, ◌++◌, length, length-append, take, drop, append_assoc, arith, Option, Some, Result, Ok}
 use Rattle.position_map.specs.declared.next_line.NextLine.{NextLine}
-use Rattle.position_map.proofs.Words.{by_test, map_some, option_map, ok_or, slice_get, chars, take_at, drop_at, nat_tests, cr, lf, is_mark, one_if}
-use Rattle.position_map.proofs.Words.{marks, ends_cr, begins_lf, LineMark, Point, Position, PosFault, SplitsCharacter, TextUnit, Utf8, IsScalarCut}
-use Rattle.position_map.proofs.Words.{IsRestBehind, LineSpan, lines_of, IsMark, IsMarkAt, IsMarkCut, IsLineStart, start_of, end_of, IsNextLine}
-use Rattle.position_map.proofs.Words.{IsAhead, along, between, offset_at, offset_of, IsTextEnd, IsBehind, width, same_some}
+use Rattle.position_map.proofs.Words.{by_test, map_some, option_map, ok_or, slice_get, chars, take_at, drop_at, nat_tests, cr, is_mark, one_if, marks}
+use Rattle.position_map.proofs.Words.{ends_cr, begins_lf, LineMark, Point, Position, PosFault, SplitsCharacter, TextUnit, Utf8, IsScalarCut}
+use Rattle.position_map.proofs.Words.{IsRestBehind, lines_of, IsMark, IsMarkAt, IsMarkCut, IsLineStart, start_of, end_of, IsNextLine, IsAhead, along}
+use Rattle.position_map.proofs.Words.{between, offset_at, offset_of, IsTextEnd, IsBehind, width, same_some}
 use Rattle.position_map.proofs.Alongs.{along_none}
 use Rattle.position_map.proofs.LineMarks.{marks-append, ends_cr-append, IsMark-end, IsMark-next, first_start, last_end, line_count, line_is, behind}
 use Rattle.position_map.proofs.Pointing.{first_is, regroup, point-from, line_start_behind, cond_by, is_ending}
@@ -117,7 +117,8 @@ pub line_ahead : (text : List ℕ) (n : ℕ) (m : LineMark) (x : NextLine) → I
     → IsNextLine text (n + 1) x
 line_ahead text n m x h s r =
     let b : Bool = (h.c == cr) && begins_lf (h.near ++ h.far) in
-    let at : x.start.scalars ≡ length h.front + (1 + one_if b) = same_some (sym s.is ∙ IsMark-next text n h.front h.c (h.near ++ h.far) h.mark) ∙ cond_by b (length h.front) in
+    let at : x.start.scalars ≡ length h.front + (1 + one_if b) = same_some (sym s.is ∙ IsMark-next text n h.front h.c (h.near ++ h.far) h.mark)
+    ∙ cond_by b (length h.front) in
     let e = is_ending (ends_cr false h.front) h.c (h.near ++ h.far) b h.mark.is refl in
     let skip : x.start.scalars - m.at.scalars ≡ length e.ending = omega (arith, at, h.at, e.len) in
     let whole : text ≡ (h.front ++ e.ending) ++ e.back = h.mark.split ∙ ap (λ t. h.front ++ t) e.split ∙ sym (append_assoc h.front e.ending e.back) in
@@ -150,7 +151,8 @@ line_found text n x m l h = line_is (slice_get (lines_of text) n) x.start.scalar
 pub last_found : (text : List ℕ) (n : ℕ) (x : NextLine) (e : Point) → IsNextLine text n x → marks false text ≤ n → IsTextEnd Utf8 text e → slice_get (lines_of text) n ≡ Some (record { start = x.start.scalars; end = e.scalars })
 last_found text n x e l h end =
     let number : n ≡ marks false text = omega (arith, h, l.count, ap (marks false) l.split, marks-append false l.front (chars x.rest.now ++ l.far)) in
-    line_is (slice_get (lines_of text) n) x.start.scalars e.scalars l.is (ap (λ k. option_map end_of (slice_get (lines_of text) k)) number ∙ last_end text ∙ ap Some (sym end.scalars))
+    line_is (slice_get (lines_of text) n) x.start.scalars e.scalars l.is
+    (ap (λ k. option_map end_of (slice_get (lines_of text) k)) number ∙ last_end text ∙ ap Some (sym end.scalars))
 
 pub none_ahead : (text : List ℕ) (n : ℕ) → marks false text ≤ n → length (lines_of text) ≤ n + 1
 none_ahead text n h = omega (arith, h, line_count text)

@@ -1,9 +1,9 @@
 -- The line of an offset.
-use Rattle.std.proofs.Common.{◌≡◌, refl, sym, ap, subst, ◌∙◌, ℕ, ◌+◌, ◌-◌, ◌<◌, ◌≤◌, inl, inr, min, Bool, true, false, cond, ◌==◌, ◌&&◌, nat_le, List, [], ◌∷◌, ◌++◌, length, length-append, take, drop, append_assoc, arith, Option, Some, None, Ok, Err}
+use Rattle.std.proofs.Common.{ℕ, ◌≡◌, refl, sym, ap, ◌∙◌, ◌+◌, ◌-◌, ◌<◌, ◌≤◌, inl, inr, min, Bool, true, false, ◌==◌, ◌&&◌, nat_le, List, [], ◌∷◌, ◌++◌, length, length-append, take, drop, append_assoc, arith, Some, Ok, Err}
 use Rattle.position_map.proofs.Words.{same_some, map_some, both_true, option_map, slice_get, chars, take_at, drop_at, nat_tests, cr, is_mark, one_if}
 use Rattle.position_map.proofs.Words.{marks, ends_cr, Scalar, Sum, begins_lf, OutOfRange, OnLine, Point, TextCut, TextUnit, Utf8, IsScalarCut}
 use Rattle.position_map.proofs.Words.{IsCutAt, IsOnLine, LineSpan, lines_of, IsLocated, sum_in, IsMark, IsLineStart, start_of, end_of, between}
-use Rattle.position_map.proofs.Words.{line_at, character_at, position_of, width}
+use Rattle.position_map.proofs.Words.{character_at, position_of, width}
 use Rattle.position_map.proofs.Alongs.{line_width}
 use Rattle.position_map.proofs.LineMarks.{marks-append, ends_cr-append, IsMark-end, line_count, lines_begun, begun, line_here, last_cr, ascending, ascending-line}
 use Rattle.position_map.proofs.Pointing.{sum_width, regroup, line_feed}
@@ -54,7 +54,8 @@ on_split u text a b offset split at flag =
       record {
         line = omega (arith, count);
         has = omega (arith, line_count text, ap (marks false) split, marks-append false a b, marks_are);
-        within = λ l e. omega (arith, ends l e, (ascending-line 0 0 (length text) (lines_of text) (marks false a - 1) l (ascending text) e).1, at, len);
+        within =
+            λ l e. omega (arith, ends l e, (ascending-line 0 0 (length text) (lines_of text) (marks false a - 1) l (ascending text) e).1, at, len);
         units = λ l e.
             let first : min offset l.end ≡ length start = omega (arith, ends l e, at, len) in
             let cut : take (min offset l.end) text ≡ start = ap (λ k. take k text) first ∙ ap (take (length start)) whole ∙ take_at start (cr ∷ b) (length start) refl in

@@ -1,17 +1,19 @@
 -- A position that isn't behind another has no greater offset.
-use Rattle.std.proofs.Common.{◌≡◌, refl, sym, ap, subst, ◌∙◌, ℕ, zero, suc, ◌+◌, ◌-◌, ◌<◌, ◌≤◌, ◌⊎◌, inl, inr, false, List, [], ◌∷◌, length, drop, arith, Option, Some, None, Ok, Err, Result}
-use Rattle.position_map.proofs.Words.{slice_get, option_map, ok_or, nat_tests, length-take, Position, TextUnit, PosFault, SplitsCharacter, LineSpan}
-use Rattle.position_map.proofs.Words.{lines_of, is_behind, along, between, offset_on, offset_at, offset_of, width_of, by_le, same_some, none_some}
-use Rattle.position_map.proofs.Words.{map_some, ok_some, same_ok, none_past, slice_get_within, end_of}
+use Rattle.std.proofs.Common.{ℕ, ◌≡◌, refl, sym, ap, ◌∙◌, zero, suc, ◌+◌, ◌-◌, ◌<◌, ◌≤◌, ◌⊎◌, inl, inr, false, List, [], ◌∷◌, length, drop, arith, Option, Some, None, Ok}
+use Rattle.position_map.proofs.Words.{slice_get, option_map, nat_tests, length-take, Position, TextUnit, SplitsCharacter, LineSpan, lines_of}
+use Rattle.position_map.proofs.Words.{is_behind, along, between, offset_on, offset_at, offset_of, width_of, by_le, same_some, none_some, map_some}
+use Rattle.position_map.proofs.Words.{ok_some, same_ok, none_past, slice_get_within, end_of}
 use Rattle.position_map.proofs.Alongs.{along_place, along_step, along_inside}
 use Rattle.position_map.proofs.LineMarks.{Ascending, ascending, ascending-line}
 
 -- ---- lines
 
-ascending-lines : (from at to : ℕ) (ls : List LineSpan) (k m : ℕ) (a b : LineSpan) → Ascending from at to ls → k < m → slice_get ls k ≡ Some a → slice_get ls m ≡ Some b → a.end ≤ b.start
+ascending-lines : (from at to : ℕ) (ls : List LineSpan) (k m : ℕ) (a b : LineSpan) → Ascending from at to ls → k < m → slice_get ls k ≡ Some a
+    → slice_get ls m ≡ Some b → a.end ≤ b.start
 ascending-lines from at to [] k m a b w lt h g = absurd (none_some h)
 ascending-lines from at to (x ∷ ls) k zero a b w lt h g = absurd (omega (arith, lt))
-ascending-lines from at to (x ∷ ls) zero (suc m) a b w lt h g = let e : x.end ≡ a.end = ap end_of (same_some h) in omega (arith, ascending-line (x.end + 1) (x.end + 1) to ls m b w.4 g)
+ascending-lines from at to (x ∷ ls) zero (suc m) a b w lt h g =
+    let e : x.end ≡ a.end = ap end_of (same_some h) in omega (arith, ascending-line (x.end + 1) (x.end + 1) to ls m b w.4 g)
 ascending-lines from at to (x ∷ ls) (suc k) (suc m) a b w lt h g = ascending-lines (x.end + 1) (x.end + 1) to ls k m a b w.4 (omega (arith, lt)) h g
 
 -- ---- characters on a line
@@ -21,7 +23,8 @@ along-zero u [] k h = sym (same_some h)
 along-zero u (c ∷ cs) k h = sym (same_some h)
 
 -- behind a code point that is passed
-along-past : (u : TextUnit) (c : ℕ) (cs : List ℕ) (n k : ℕ) → 0 < n → along u (c ∷ cs) n ≡ Some k → (width_of u c ≤ n) × (j : ℕ) × (along u cs (n - width_of u c) ≡ Some j) × (j + 1 ≡ k)
+along-past : (u : TextUnit) (c : ℕ) (cs : List ℕ) (n k : ℕ) → 0 < n → along u (c ∷ cs) n ≡ Some k
+    → (width_of u c ≤ n) × (j : ℕ) × (along u cs (n - width_of u c) ≡ Some j) × (j + 1 ≡ k)
 along-past u c cs n k some h =
     by_le (width_of u c) n
     (λ le. let w = map_some (λ j. j + 1) (along u cs (n - width_of u c)) k (sym (along_step u c cs n le) ∙ h) in (le, w.0, w.1, w.2))
@@ -40,9 +43,11 @@ along-ascends u (c ∷ cs) m n j k le h g =
 
 -- ---- offsets
 
-on_line : (text : List ℕ) (u : TextUnit) (l : LineSpan) (n i : ℕ) → offset_on text u l n ≡ Ok i → (k : ℕ) × (along u (between text l.start l.end) n ≡ Some k) × (l.start + k ≡ i)
+on_line : (text : List ℕ) (u : TextUnit) (l : LineSpan) (n i : ℕ) → offset_on text u l n ≡ Ok i
+    → (k : ℕ) × (along u (between text l.start l.end) n ≡ Some k) × (l.start + k ≡ i)
 on_line text u l n i h =
-    let line = along u (between text l.start l.end) n in map_some (λ k. l.start + k) line i (ok_some (option_map (λ k. l.start + k) line) SplitsCharacter i h)
+    let line = along u (between text l.start l.end) n in
+    map_some (λ k. l.start + k) line i (ok_some (option_map (λ k. l.start + k) line) SplitsCharacter i h)
 
 line-room : (text : List ℕ) (u : TextUnit) (l : LineSpan) (n i : ℕ) → l.start ≤ l.end → offset_on text u l n ≡ Ok i → (l.start ≤ i) × (i ≤ l.end)
 line-room text u l n i order h =
@@ -66,7 +71,8 @@ abbrev InOrder : Position → Position → Type 0
 InOrder p q = (p.line < q.line) ⊎ ((p.line ≡ q.line) × (p.character ≤ q.character))
 
 in_order : (p q : Position) → is_behind p q ≡ false → InOrder p q
-in_order p q h = by_le (p.line + 1) q.line (λ lt. inl (omega (arith, lt))) (λ le. inr (grind (arith, nat_tests, h, le), grind (arith, nat_tests, h, le)))
+in_order p q h =
+    by_le (p.line + 1) q.line (λ lt. inl (omega (arith, lt))) (λ le. inr (grind (arith, nat_tests, h, le), grind (arith, nat_tests, h, le)))
 
 ordered-offsets : (text : List ℕ) (u : TextUnit) (p q : Position) (i j : ℕ) (a b : Option LineSpan) → slice_get (lines_of text) p.line ≡ a → slice_get (lines_of text) q.line ≡ b → InOrder p q
     → offset_at text u a p.character ≡ Ok i → offset_at text u b q.character ≡ Ok j → i ≤ j

@@ -1,5 +1,5 @@
 -- Plans by their parts.
-use Rattle.std.proofs.Common.{◌≡◌, ◌≢◌, refl, sym, ap, subst, ◌∙◌, ℕ, Bool, true, false, List, [], ◌++◌, length, ◌||◌, Option, Some, None, Result, Ok, Err, if◌then◌else◌}
+use Rattle.std.proofs.Common.{drop, ℕ, ◌≡◌, ◌≢◌, refl, sym, ap, subst, ◌∙◌, Bool, true, false, List, [], ◌++◌, length, ◌||◌, Option, Some, None, Result, Ok, Err, if◌then◌else◌}
 use Rattle.std.specs.Prelude.{Vec}
 use Rattle.std.specs.declared.alloc.Global.{Global}
 use Rattle.enc_names.specs.declared.encoding.Encoding.{Encoding}
@@ -8,13 +8,13 @@ use Rattle.encoders.specs.declared.fault.EncodeFault.{EncodeFault}
 use Rattle.encoders.specs.declared.fault.EncodeFault.TheVariants.{NoIndex, NoEncoder, Unencodable as unencodable, OutOfMemory as no_memory}
 use Rattle.encoders.specs.declared.mode.EncodeMode.TheVariants.{Fatal}
 use Rattle.encoders.specs.Encode.{encoded, encoded_in, bytes_only, from_fault, IsEncoded}
-use Rattle.encoders.specs.Steps.{FromFault, unencodable_from, no_memory_from, Put, Unencodable as NoBytes, escape_of, IsFrom}
+use Rattle.encoders.specs.Steps.{encoded_iso, FromFault, unencodable_from, no_memory_from, escape_of, IsFrom}
 use Rattle.position_map.specs.declared.change_fault.ChangeFault.TheVariants.{OutOfRange, SplitsItem}
 use Rattle.position_map.specs.Plan.{put_in}
-use Rattle.position_map.proofs.Words.{Files, has_files, OutputState, Document, decoded, text_of, output_at, ChangeFault, PosFault}
-use Rattle.position_map.proofs.Words.{OutOfRange as past_the_end, SplitsCharacter as inside_a_character, Plan, Range, TextUnit, Cut, cut_of}
-use Rattle.position_map.proofs.Words.{offset_of, cut, planned, over_range, with_ends, is_behind, position_cause, replacing, between_cuts, splice_with}
-use Rattle.position_map.proofs.Words.{encoder_cause, IsPlanned, with_return, same_output, begins_with_escape}
+use Rattle.position_map.proofs.Words.{Files, has_files, OutputState, Document, decoded, text_of, ChangeFault, PosFault, OutOfRange as past_the_end}
+use Rattle.position_map.proofs.Words.{SplitsCharacter as inside_a_character, Plan, Range, TextUnit, Cut, cut_of, offset_of, planned, over_range}
+use Rattle.position_map.proofs.Words.{with_ends, is_behind, position_cause, replacing, splice_with, encoder_cause, IsPlanned, with_return}
+use Rattle.position_map.proofs.Words.{same_output, begins_with_escape}
 use Rattle.position_map.proofs.ItemCutting.{cut_some, cut_none}
 
 -- the other encodings keep no state
@@ -22,48 +22,48 @@ in_other : (d : Document) (encoding : Encoding) (s r : OutputState) (right : ℕ
 in_other d Iso2022Jp s r right text other = absurd (other refl)
 in_other d encoding s r right text other = refl
 
-module _ (d : Document) (i j : ℕ) (text : List ℕ) where
-  pub left_none : None ≡ cut_of d i → replacing d text i j ≡ Err SplitsItem
+-- by what is found in a document's parts
+module _ (p d : Document) (same : p ≡ d) (i j : ℕ) (text : List ℕ) where
+  pub left_none : None ≡ cut_of p i → replacing d text i j ≡ Err SplitsItem
   unfolding replacing
-  left_none e = ap (λ (o : Option ℕ). between_cuts d text i j o (cut d j)) (cut_none d i e)
+  left_none e = rw (cut_none d i (rw same at e)) refl
 
-  pub right_none : (l : Cut) → Some l ≡ cut_of d i → None ≡ cut_of d j → replacing d text i j ≡ Err SplitsItem
+  pub right_none : (l : Cut) → Some l ≡ cut_of p i → None ≡ cut_of p j → replacing d text i j ≡ Err SplitsItem
   unfolding replacing
-  right_none l e f =
-      ap (λ (o : Option ℕ). between_cuts d text i j o (cut d j)) (cut_some d i l e).0
-      ∙ ap (λ (o : Option ℕ). between_cuts d text i j (Some l.at) o) (cut_none d j f)
+  right_none l e f = rw ((cut_some d i l (rw same at e)).0, cut_none d j (rw same at f)) refl
 
-  pub both : (l r : Cut) → Some l ≡ cut_of d i → Some r ≡ cut_of d j
+  pub both : (l r : Cut) → Some l ≡ cut_of p i → Some r ≡ cut_of p j
       → replacing d text i j ≡ splice_with l.at r.at i j (put_in d (decoded d).encoding l.output r.output r.at text)
   unfolding replacing
   both l r e f =
-      let left = cut_some d i l e in
-      let right = cut_some d j r f in
-      ap (λ (o : Option ℕ). between_cuts d text i j o (cut d j)) left.0
-      ∙ ap (λ (o : Option ℕ). between_cuts d text i j (Some l.at) o) right.0
-      ∙ ap (λ (s : OutputState). splice_with l.at r.at i j (put_in d (decoded d).encoding s (output_at d r.at) r.at text)) left.1
-      ∙ ap (λ (s : OutputState). splice_with l.at r.at i j (put_in d (decoded d).encoding l.output s r.at text)) right.1
+      let left = cut_some d i l (rw same at e) in
+      let right = cut_some d j r (rw same at f) in
+      rw (left.0, right.0, left.1, right.1) refl
 
 -- the encoder's cause is the plan's
-pub refused : (l r i j : ℕ) (wanted : Result (List ℕ) EncodeFault) (fault : EncodeFault) → IsEncoded wanted (Err fault) → IsPlanned (splice_with l r i j wanted) (Err (encoder_cause fault))
-refused l r i j wanted NoIndex h = ap (splice_with l r i j) h
-refused l r i j wanted NoEncoder h = ap (splice_with l r i j) h
-refused l r i j wanted (unencodable e) h = ap (splice_with l r i j) h
-refused l r i j wanted no_memory h = tt
+pub refused : (l r i j : ℕ) (wanted : Result (List ℕ) EncodeFault) (fault : EncodeFault) (plan : Result Plan ChangeFault) → plan ≡ splice_with l r i j wanted
+    → IsEncoded wanted (Err fault) → IsPlanned plan (Err (encoder_cause fault))
+refused l r i j wanted NoIndex plan e h = e ∙ ap (splice_with l r i j) h
+refused l r i j wanted NoEncoder plan e h = e ∙ ap (splice_with l r i j) h
+refused l r i j wanted (unencodable n) plan e h = e ∙ ap (splice_with l r i j) h
+refused l r i j wanted no_memory plan e h = tt
 
--- with the escape behind the text
-pub refused_iso : (r : OutputState) (rest : List ℕ) (wanted : Result (Put OutputState) NoBytes) (fault : FromFault) → IsFrom wanted (Err fault)
-    → IsEncoded (bytes_only (with_return r rest wanted)) (Err (from_fault fault))
-refused_iso r rest wanted (unencodable_from e) h = ap (λ (w : Result (Put OutputState) NoBytes). bytes_only (with_return r rest w)) h
-refused_iso r rest wanted no_memory_from h = tt
+-- with the escape behind the text, from files that are those of the document
+module _ (d : Document) (files : Files) (same : files ≡ d.indexes) (s r : OutputState) (at : ℕ) (text : List ℕ) where
+  pub refused_iso : (fault : FromFault) → IsFrom (encoded_iso files s text false false) (Err fault)
+      → IsEncoded (bytes_only (with_return r (drop at d.bytes) (encoded_iso d.indexes s text false false))) (Err (from_fault fault))
+  refused_iso (unencodable_from e) h = rw (← same, h) refl
+  refused_iso no_memory_from h = tt
 
-pub put_iso : (s r : OutputState) (bytes rest : List ℕ) (wanted : Result (Put OutputState) NoBytes) (same escape : Bool)
-    → wanted ≡ Ok (record { bytes = bytes; state = s }) → same ≡ same_output s r → escape ≡ begins_with_escape rest
-    → bytes_only (with_return r rest wanted) ≡ Ok (bytes ++ (if same || escape then [] else escape_of r))
-put_iso s r bytes rest wanted same escape h e f =
-    ap (λ (w : Result (Put OutputState) NoBytes). bytes_only (with_return r rest w)) h
-    ∙ ap (λ (t : Bool). Ok (bytes ++ (if t || begins_with_escape rest then [] else escape_of r))) (sym e)
-    ∙ ap (λ (t : Bool). Ok (bytes ++ (if same || t then [] else escape_of r))) (sym f)
+  pub put_iso : (t : OutputState) (bytes : List ℕ) (equal escape : Bool) → encoded_iso files s text false false ≡ Ok (record {
+    bytes =
+        bytes;
+    state = t;
+  }) → equal ≡ same_output t r
+      → (equal ≡ false → escape ≡ begins_with_escape (drop at d.bytes))
+      → bytes_only (with_return r (drop at d.bytes) (encoded_iso d.indexes s text false false)) ≡ Ok (bytes ++ (if equal || escape then [] else escape_of r))
+  put_iso t bytes true escape h e f = rw (← same, h, ← e) refl
+  put_iso t bytes false escape h e f = rw (← same, h, ← e, f refl) refl
 
 -- where the files are there
 as_encoded : (files : Files) (encoding : Encoding) (cs : List ℕ) → has_files files encoding ≡ true → encoded files encoding Fatal cs ≡ encoded_in files encoding false cs

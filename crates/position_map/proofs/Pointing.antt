@@ -1,14 +1,13 @@
 -- Points, marks and lines of a text.
-use Rattle.std.proofs.Common.{◌≡◌, refl, sym, ap, subst, ◌∙◌, ℕ, ◌+◌, ◌-◌, ◌<◌, ◌≤◌, ◌⊎◌, inl, inr, Bool, true, false, cond, ◌==◌, ◌&&◌, List, [], ◌∷◌, ◌++◌, length, length-append, take, drop, append_assoc, append-nil, arith, Option, Some, None}
+use Rattle.std.proofs.Common.{ℕ, ◌≡◌, refl, sym, ap, subst, ◌∙◌, ◌+◌, ◌-◌, ◌<◌, ◌≤◌, ◌⊎◌, inl, inr, Bool, true, false, cond, ◌==◌, ◌&&◌, List, [], ◌∷◌, ◌++◌, length, length-append, take, drop, append_assoc, append-nil, arith, Some}
 use Rattle.std.proofs.Math.Bool.{and-false}
 use mir.Val.{bool_byte}
-use Rattle.position_map.specs.declared.ending.Ending.TheVariants.{Two, One, Open}
-use Rattle.position_map.proofs.Words.{by_test, map_some, option_map, slice_get, chars, take_at, drop_at, drop-drop, drop_all, take_all}
-use Rattle.position_map.proofs.Words.{slice_get_past, slice_get_within, nat_tests, cr, lf, is_mark, one_if, marks, ends_cr, Scalar, by_mark, Ended}
-use Rattle.position_map.proofs.Words.{Sum, IsSumOf, begins_lf, LineMark, Point, TextUnit, Utf8, Utf16, Utf32, IsScalarCut, ending_of, LineSpan}
-use Rattle.position_map.proofs.Words.{lines_of, IsLocated, sum_in, IsMarkAt, IsMarkCut, IsLineStart, IsLineEnd, start_of, end_of, begins_mark}
-use Rattle.position_map.proofs.Words.{IsPoint, IsTextEnd, IsBehind, width}
-use Rattle.position_map.proofs.LineMarks.{marks-append, ends_cr-append, IsMark-end, IsMark-next, last_end, first_start, line_count, line_is}
+use Rattle.position_map.specs.declared.ending.Ending.TheVariants.{Open}
+use Rattle.position_map.proofs.Words.{Axis, by_test, map_some, option_map, slice_get, chars, take_at, drop_at, drop-drop, take_all, slice_get_within}
+use Rattle.position_map.proofs.Words.{nat_tests, cr, lf, is_mark, one_if, marks, ends_cr, Scalar, by_mark, Ended, Sum, IsSumOf, begins_lf, LineMark}
+use Rattle.position_map.proofs.Words.{Point, TextUnit, Utf8, Utf16, Utf32, IsScalarCut, ending_of, lines_of, IsLocated, sum_in, IsMarkAt, IsMarkCut}
+use Rattle.position_map.proofs.Words.{IsLineStart, IsLineEnd, start_of, end_of, begins_mark, IsPoint, IsTextEnd, IsBehind, width}
+use Rattle.position_map.proofs.LineMarks.{marks-append, ends_cr-append, IsMark-end, IsMark-next, last_end, first_start, line_count}
 use Rattle.position_map.proofs.Widths.{width-append, width-take_le, width-scalars, width-ascii}
 
 pub end-scalars : (u : TextUnit) (text : List ℕ) (n : ℕ) → u ≡ Utf32 → n ≡ length text → IsTextEnd u text (record { scalars = n; units = n })
@@ -36,11 +35,12 @@ pub regroup : (text a b c d : List ℕ) → text ≡ a ++ ((b ++ c) ++ d) → te
 regroup text a b c d e = e ∙ ap (λ t. a ++ t) (append_assoc b c d) ∙ sym (append_assoc a b (c ++ d))
 
 -- a front of a part of the text fits where the text does
-pub part_fits : (u : TextUnit) (text a here back front rest : List ℕ) (is : List Ended) (s : Sum) (e : Point) → text ≡ a ++ (here ++ back) → here ≡ front ++ rest → IsSumOf a is s → IsTextEnd u text e
+pub part_fits : (u : TextUnit) (axis : Axis) (target : ℕ) (text here front rest : List ℕ) (s : Sum) (e : Point) → IsLocated axis target text s here
+    → here ≡ front ++ rest → IsTextEnd u text e
     → (s.scalars + length front ≤ e.scalars) × (sum_in u s + width u front ≤ e.units)
-part_fits u text a here back front rest is s e split cut x end = (
-  omega (arith, ap length split, length-append a (here ++ back), length-append here back, ap length cut, length-append front rest, x.scalars, end.scalars),
-  omega (arith, ap (width u) split, width-append u a (here ++ back), width-append u here back, ap (width u) cut, width-append u front rest, sum_width u a is s x, end.units),
+part_fits u axis target text here front rest s e l cut end = (
+  omega (arith, ap length l.split, length-append l.front (here ++ l.back), length-append here l.back, ap length cut, length-append front rest, l.sum.scalars, end.scalars),
+  omega (arith, ap (width u) l.split, width-append u l.front (here ++ l.back), width-append u here l.back, ap (width u) cut, width-append u front rest, sum_width u l.front l.items s l.sum, end.units),
 )
 
 pub first_is : (f : Bool) (back : List ℕ) → begins_mark f back ≡ true → (c : ℕ) × (near : List ℕ) × (back ≡ c ∷ near) × (is_mark f c ≡ true)
@@ -113,7 +113,8 @@ pub record IsEnding (g : Bool) (cs : List ℕ) (n : ℕ) : Type 0 where
   pub one : marks g ending ≡ 1
   pub apart : (ends_cr g ending && begins_lf back) ≡ false
 
-pub is_ending : (g : Bool) (c : ℕ) (rest : List ℕ) (b : Bool) → is_mark g c ≡ true → b ≡ ((c == cr) && begins_lf rest) → IsEnding g (c ∷ rest) (1 + one_if b)
+pub is_ending : (g : Bool) (c : ℕ) (rest : List ℕ) (b : Bool) → is_mark g c ≡ true → b ≡ ((c == cr) && begins_lf rest)
+    → IsEnding g (c ∷ rest) (1 + one_if b)
 is_ending g c rest false h e =
     record { ending = c ∷ []; back = rest; split = refl; len = refl; wide = λ u. omega (arith, width-ascii u c (mark_is_ascii g c h)); one = omega (arith, ap one_if h); apart = sym e }
 is_ending g c [] true h e = let w = e ∙ and-false (c == cr) in cc
@@ -151,7 +152,8 @@ point-within u text p e x y = (omega (arith, x.within, y.scalars), omega (arith,
 -- the LF that may follow a line end that its piece leaves open
 open_is_cr : (c : ℕ) (near : List ℕ) → ending_of (c ∷ near) ≡ Open → ((c == cr) ≡ true) × (near ≡ [])
 open_is_cr c [] e = by_test (c == cr) (λ t. (t, refl)) (λ t. absurd (let e = rw t at e in cc))
-open_is_cr c (d ∷ near) e = by_test (c == cr) (λ t. by_test (d == lf) (λ u. let e = rw (t, u) at e in cc) (λ u. let e = rw (t, u) at e in cc)) (λ t. let e = rw t at e in cc)
+open_is_cr c (d ∷ near) e =
+    by_test (c == cr) (λ t. by_test (d == lf) (λ u. let e = rw (t, u) at e in cc) (λ u. let e = rw (t, u) at e in cc)) (λ t. let e = rw t at e in cc)
 
 pub open_line_feed : (u : TextUnit) (text : List ℕ) (n : ℕ) (m : LineMark) (h : IsMarkAt u text n m) (b : Bool) → ending_of (chars m.rest.now) ≡ Open → b ≡ begins_lf (drop (m.at.scalars + 1) text)
     → b ≡ ((h.c == cr) && begins_lf (h.near ++ h.far))

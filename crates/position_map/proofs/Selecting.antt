@@ -1,5 +1,5 @@
 -- What the searches for code points and units find is a place along the text.
-use Rattle.std.proofs.Common.{◌≡◌, refl, sym, ap, subst, ◌∙◌, ℕ, ◌+◌, ◌-◌, ◌<◌, ◌≤◌, inl, inr, Bool, true, false, cond, ◌==◌, nat_lt, List, [], ◌∷◌, ◌++◌, length, take, drop, take-append-drop, arith, add-one, Option, Some, None}
+use Rattle.std.proofs.Common.{ℕ, ◌≡◌, refl, sym, ap, subst, ◌∙◌, ◌+◌, ◌-◌, ◌<◌, ◌≤◌, inl, inr, Bool, true, false, ◌==◌, nat_lt, List, [], ◌∷◌, ◌++◌, length, take, drop, take-append-drop, arith, add-one, Option, Some, None}
 use Rattle.std.specs.Prelude.{IsTrue, ◌↔◌}
 use Rattle.lane_utf.specs.declared.select.Select.{Select}
 use Rattle.lane_utf.specs.declared.select.Select.TheVariants.{At, Inside, Past}

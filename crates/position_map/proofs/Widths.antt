@@ -1,5 +1,5 @@
 -- Widths of texts.
-use Rattle.std.proofs.Common.{◌≡◌, refl, sym, ap, ◌∙◌, ℕ, zero, suc, ◌+◌, ◌<◌, ◌≤◌, List, [], ◌∷◌, ◌++◌, length, length-append, take, arith}
+use Rattle.std.proofs.Common.{ℕ, ◌≡◌, refl, sym, ap, ◌∙◌, zero, suc, ◌+◌, ◌<◌, ◌≤◌, List, [], ◌∷◌, ◌++◌, length, length-append, take, arith}
 use Rattle.position_map.proofs.Words.{chars, IsUtf8, encode, encodes, nat_tests, encodes-chars, length-encode, TextUnit, Utf8, Utf16, Utf32, width}
 use Rattle.position_map.proofs.Words.{width_of}
 

@@ -1,15 +1,15 @@
 -- Words of texts and of pieces that many proofs here name, passed on from one place. Declares nothing.
-pub use Rattle.std.proofs.Common.{arith, sym, subst, ap, ◌∙◌, ℕ, Result, ◌≡◌, List, Ok, Err, Some, None, refl, ◌+◌, ◌≤◌, length, ◌-◌, ◌<◌, pos, drop}
-pub use Rattle.std.proofs.Common.{get_or, min, false, Bor, zero, suc, ◌⊎◌, inl, inr, [], ◌∷◌, Option, true, ◌++◌, append-nil}
+pub use Rattle.std.proofs.Common.{arith, ℕ, sym, subst, ap, ◌∙◌, Result, refl, ◌+◌, ◌≡◌, ◌≤◌, length, Some, None, ◌-◌, ◌<◌, List, drop, get_or, min}
+pub use Rattle.std.proofs.Common.{false, Ok, Err, Bor, zero, suc, ◌⊎◌, inl, inr, [], ◌∷◌, Option, true, ◌++◌, append-nil}
 pub use Rattle.std.specs.Str.{chars, IsUtf8, IsCharBoundary}
 pub use Rattle.std.specs.Option.{option_map, unwrap_or, option_to_list, IfSome, ok_or, option_eq}
 pub use Rattle.std.specs.List.{slice_get, filter, flat_map}
 pub use Rattle.std.proofs.lemmas.Bool.Decides.{nat_tests}
 pub use Rattle.std.proofs.lemmas.List.{length-take-le, take-take, drop-take, drop_more, take_at, drop_at, length-map, map-append, at_drop_more}
-pub use Rattle.std.proofs.lemmas.List.{length-take, drop-drop, drop_all, take_all}
+pub use Rattle.std.proofs.lemmas.List.{length-take, drop-drop, take_all}
 pub use Rattle.std.proofs.lemmas.Option.{slice_get-map, slice_get_past, slice_get_within}
 pub use Rattle.std.proofs.lemmas.List.Sums.{count_by-le-length, sum_by-cons, sum_by-append}
-pub use Rattle.lane_ascii.specs.Marks.{is_mark, marks, ends_cr, IsNthMark, cr, lf, one_if}
+pub use Rattle.lane_ascii.specs.Marks.{is_mark, marks, ends_cr, IsNthMark, one_if, cr, lf}
 pub use Rattle.position_map.specs.declared.unit.Unit.{Unit as TextUnit}
 pub use Rattle.position_map.specs.declared.unit.Unit.TheVariants.{Utf8, Utf16, Utf32}
 pub use Rattle.position_map.specs.declared.fault.PosFault.{PosFault}
@@ -25,15 +25,15 @@ pub use Rattle.position_map.specs.Fronts.{IsTextFront, IsFrontOf, IsCutAt, IsOnL
 pub use Rattle.position_map.specs.LineEnds.{IsLastEnd, IsLastLine, ending_of}
 pub use Rattle.position_map.specs.Lines.{LineSpan, lines_from}
 unfoldable pub use Rattle.position_map.specs.Lines.{lines_of}
-pub use Rattle.position_map.specs.Located.{IsLocated, IsOfText, reach, axis_of, sum_in}
+pub use Rattle.position_map.specs.Located.{IsLocated, reach, axis_of, sum_in, IsOfText}
 pub use Rattle.position_map.specs.Marked.{IsMarkCut, begins_mark, IsLineStart, start_of, IsLineEnd, IsMark, end_of, IsMarkAt}
 pub use Rattle.position_map.specs.Points.{IsTextEnd, IsBehind, IsPoint}
 pub use Rattle.position_map.specs.Positions.{along, between, line_at, position, offset_at, character_at, offset_on}
 unfoldable pub use Rattle.position_map.specs.Positions.{position_of, offset_of, converted}
 pub use Rattle.position_map.specs.Widths.{width, width_of}
-pub use Rattle.position_map.proofs.Cases.{map_some, by_test, by_le, same_some, none_some, map_none, same_cons, both_true, same_ok, none_past, ok_some}
-pub use Rattle.position_map.specs.Plan.{item_width, cut, is_behind, over_range, with_ends, position_cause, between_cuts, splice_with, encoder_cause}
-pub use Rattle.position_map.specs.Plan.{IsPlanned, with_return, same_output, begins_with_escape}
+pub use Rattle.position_map.proofs.Cases.{map_some, by_le, same_some, none_some, map_none, same_cons, by_test, both_true, same_ok, none_past, ok_some}
+pub use Rattle.position_map.specs.Plan.{item_width, cut, is_behind, over_range, with_ends, position_cause, splice_with, encoder_cause, IsPlanned}
+pub use Rattle.position_map.specs.Plan.{with_return, same_output, begins_with_escape}
 unfoldable pub use Rattle.position_map.specs.Plan.{planned, replacing}
 unfoldable pub use Rattle.index_loader.specs.Kinds.{slot_of}
 pub use Rattle.std.proofs.lemmas.Str.{encode_ascii, chars-append, chars_past_char, IsUtf8-take, IsUtf8-drop, IsCharBoundary-before_ascii}
@@ -44,9 +44,8 @@ pub use Rattle.std.proofs.Math.Utf8.{scalar, scalars, encodes}
 unfoldable pub use Rattle.std.proofs.Math.Utf8.{encode}
 pub use Rattle.position_map.specs.declared.plan.Plan.{Plan}
 pub use Rattle.position_map.specs.declared.change_fault.ChangeFault.{ChangeFault}
-pub use Rattle.piece_rope.specs.Runs.{ItemKind, AsciiOne, AsciiTwo, AsciiError, RomanOne, RomanTwo, RomanError, KatakanaOne, KatakanaTwo}
-pub use Rattle.piece_rope.specs.Runs.{KatakanaError, Jis0208One, Jis0208Two, Jis0208Error, Run, item_of_kind, items_of_run, items_of_runs}
-pub use Rattle.piece_rope.specs.Runs.{items_until}
+pub use Rattle.piece_rope.specs.Runs.{ItemKind, AsciiOne, AsciiError, RomanError, KatakanaError, Jis0208Error, Run, item_of_kind, items_of_run}
+pub use Rattle.piece_rope.specs.Runs.{items_of_runs, items_until}
 pub use Rattle.position_map.specs.ItemCuts.{cut_behind, cut_of}
 pub use Rattle.index_loader.specs.Files.{Files, has_files}
 pub use Rattle.lane_utf.specs.Selected.{scalar_place, selected, moved}

@@ -1,4 +1,4 @@
-use Rattle.position_map.proofs.Words.{sym, subst, ap, ◌∙◌, ℕ, Result, chars, err_from_is_err_and, text_of, ChangeFault, Plan, IsPlanned, replacing}
+use Rattle.position_map.proofs.Words.{ℕ, sym, subst, ap, ◌∙◌, Result, chars, err_from_is_err_and, text_of, ChangeFault, Plan, IsPlanned, replacing}
 use Rattle.position_map.proofs.Ordering.{ordered, offset_within}
 use Rattle.position_map.proofs.Planning.{refused_end, whole_text, behind, start_refused, end_refused, over_ends}
 use Rattle.position_map.proofs.changes.plan_change.Goals as goal

@@ -1,4 +1,4 @@
-use Rattle.position_map.proofs.Words.{◌+◌, ◌∙◌, ap, arith, ℕ, Scalar, measure}
+use Rattle.position_map.proofs.Words.{ℕ, ◌+◌, ◌∙◌, ap, arith, Scalar, measure}
 use Rattle.position_map.proofs.Chains.{placed_by}
 use Rattle.position_map.proofs.ErrorPieces.{numbers-before, numbers-room, placed-room}
 use Rattle.position_map.proofs.diagnostics.errors_before.Goals as goal

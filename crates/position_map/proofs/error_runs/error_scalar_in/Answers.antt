@@ -1,5 +1,5 @@
-use Rattle.position_map.proofs.Words.{◌+◌, ◌-◌, ◌<◌, ◌≤◌, arith, ap, ◌∙◌, List, ℕ, pos, drop, slice_get, get_or, Ended, all_scalars, errors_in}
-use Rattle.position_map.proofs.Words.{AsciiOne, Run, items_of_run, items_of_runs, error_scalars}
+use Rattle.position_map.proofs.Words.{ℕ, ◌+◌, ◌-◌, ◌<◌, ◌≤◌, arith, ap, ◌∙◌, List, drop, slice_get, get_or, Ended, all_scalars, errors_in}
+use Rattle.position_map.proofs.Words.{items_of_runs, error_scalars}
 use Rattle.position_map.proofs.ErrorRuns.{found-here, found-next, run-few, scalars-next, no_run, run_at}
 use Rattle.position_map.proofs.error_runs.error_scalar_in.Goals as goal
 
@@ -13,7 +13,8 @@ pub returns-then-left-errors : goal.returns-then-left-errors
 returns-then-left-errors c =
     let runs = c.runs-runs.result.now in
     let few : c.runs.left < errors_in (run_at runs c.runs.run-index) = omega (arith, c.if-left-errors.true, c.errors-errors.ensures) in
-    found-here runs c.runs.run-index c.runs-test.true c.runs.scalars c.runs.left few ∙ c.runs.invariant.0 ∙ ap (λ (es : List Ended). slice_get (error_scalars c.args.from es) c.args.n) c.runs-runs.ensures
+    found-here runs c.runs.run-index c.runs-test.true c.runs.scalars c.runs.left few ∙ c.runs.invariant.0
+    ∙ ap (λ (es : List Ended). slice_get (error_scalars c.args.from es) c.args.n) c.runs-runs.ensures
 
 pub overflow_add-scalars : goal.overflow_add-scalars
 overflow_add-scalars c =

@@ -1,4 +1,4 @@
-use Rattle.position_map.proofs.Words.{◌+◌, arith, ap, List, ℕ, pos, drop, Ended, all_scalars, AsciiOne, Run, items_of_runs, error_scalars}
+use Rattle.position_map.proofs.Words.{ℕ, ◌+◌, arith, ap, List, drop, Ended, all_scalars, items_of_runs, error_scalars}
 use Rattle.position_map.proofs.ErrorRuns.{below, below-few, below-next, scalars-next}
 use Rattle.position_map.proofs.error_runs.errors_before_in.Goals as goal
 

@@ -1,4 +1,4 @@
-use Rattle.position_map.proofs.Words.{ap, ◌∙◌, ℕ, ◌-◌, min, begins_with_escape}
+use Rattle.position_map.proofs.Words.{ℕ, ap, ◌∙◌, ◌-◌, min, begins_with_escape}
 use Rattle.position_map.proofs.Escaping.{begins_at}
 use Rattle.position_map.proofs.escapes.escape_begins.Goals as goal
 

@@ -1,4 +1,4 @@
-use Rattle.position_map.proofs.Words.{◌≡◌, sym, ap, ◌∙◌, ℕ, List, length, Some, arith, Bor, chars, along}
+use Rattle.position_map.proofs.Words.{ℕ, ◌≡◌, sym, ap, ◌∙◌, List, length, Some, arith, Bor, chars, along}
 use Rattle.position_map.proofs.Alongs.{along_past}
 use Rattle.position_map.proofs.Fronting.{offset_of_place}
 use Rattle.position_map.proofs.offsets.offset_in.Goals.{in-At, in-Past}
