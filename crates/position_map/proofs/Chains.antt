@@ -1,10 +1,10 @@
 -- Places of items in a row.
 use Rattle.std.proofs.Common.{ℕ, ◌≡◌, refl, sym, ap, subst, ◌∙◌, zero, suc, ◌+◌, ◌-◌, ◌<◌, ◌≤◌, true, false, cond, nat_lt, pos, List, [], ◌∷◌, ◌++◌, length, length-append, append_assoc, append-nil, arith, Option, Some, None, Bor, option_copied, get_or, drop, inl, inr}
-use Rattle.position_map.proofs.Words.{by_le, map_some, map_none, same_cons, IsMade, text_of, decoded_text, option_map, unwrap_or, nat_tests, Place}
-use Rattle.position_map.proofs.Words.{Turned, Item, One, Two, Error, Placed, places, item_code_points, code_points, Ascii, decode, run_in, in_force}
-use Rattle.position_map.proofs.Words.{mark_length, Scalar, measure, Ended, Outcome, Sum, total_of, all_scalars, item_of, Document, decoded, IsFoundBy}
-use Rattle.position_map.proofs.Words.{IsFoundOutcome, IsEnded, AreEnded, AreMade, ends_at, place_of, bom_of, IsChained, last_to, HasItem, IsPlaced}
-use Rattle.position_map.proofs.Words.{Pieced, same_some, none_some}
+use Rattle.position_map.proofs.Words.{unary_clauses, by_le, map_some, map_none, same_cons, IsMade, text_of, decoded_text, option_map, unwrap_or}
+use Rattle.position_map.proofs.Words.{nat_tests, Place, Turned, Item, One, Two, Error, Placed, places, item_code_points, code_points, Ascii, decode}
+use Rattle.position_map.proofs.Words.{run_in, in_force, mark_length, Scalar, measure, Ended, Outcome, Sum, total_of, all_scalars, item_of, Document}
+use Rattle.position_map.proofs.Words.{decoded, IsFoundBy, IsFoundOutcome, IsEnded, AreEnded, AreMade, ends_at, place_of, bom_of, IsChained, last_to}
+use Rattle.position_map.proofs.Words.{HasItem, IsPlaced, Pieced, same_some, none_some}
 use Rattle.position_map.proofs.Items.{IsPieced, items_of, counted, made_split, made_count, scalars-append}
 
 no_item : Ended
@@ -66,10 +66,7 @@ last_more : (base : ℕ) (p : Placed) (front : List Placed) (e : Ended) (es : Li
     → last_to from (p ∷ front) ≡ ends_at base (get_or (e ∷ es) (suc j - 1) d).end
 last_more base p [] e es zero d from w l h = w.end
 last_more base p (q ∷ front) e es zero d from w l h = absurd (omega (arith, l))
-last_more base p front e es (suc j) d from w l h =
-    let a : suc (suc j) - 1 ≡ suc j = omega arith in
-    let b : suc j - 1 ≡ j = omega arith in
-    h d p.to (omega arith) ∙ ap (λ i. ends_at base (get_or es i d).end) b ∙ sym (ap (λ i. ends_at base (get_or (e ∷ es) i d).end) a)
+last_more base p front e es (suc j) d from w l h = let r = h d p.to (omega arith) in simp unary_clauses (simp unary_clauses at r)
 
 has_next : (base : ℕ) (p : Placed) (ps : List Placed) (e : Ended) (es : List Ended) (n j : ℕ) → IsEnded base p e → e.scalars ≤ n → HasItem base ps es (n - e.scalars) j → HasItem base (p ∷ ps) (e ∷ es) n (suc j)
 has_next base p ps e es n j w h g = record {
@@ -124,9 +121,7 @@ last_of base (p ∷ []) (e ∷ []) d from w l = w.0.end
 last_of base (p ∷ q ∷ ps) (e ∷ []) d from w l = absurd w.1
 last_of base (p ∷ []) (e ∷ g ∷ es) d from w l = absurd w.1
 last_of base (p ∷ q ∷ ps) (e ∷ g ∷ es) d from w l =
-    let a : length (e ∷ g ∷ es) - 1 ≡ suc (length es) = omega arith in
-    let b : length (g ∷ es) - 1 ≡ length es = omega arith in
-    last_of base (q ∷ ps) (g ∷ es) d p.to w.1 (omega arith) ∙ ap (λ i. ends_at base (get_or (g ∷ es) i d).end) b ∙ sym (ap (λ i. ends_at base (get_or (e ∷ g ∷ es) i d).end) a)
+    let r = last_of base (q ∷ ps) (g ∷ es) d p.to w.1 (omega arith) in simp unary_clauses (simp unary_clauses at r)
 
 -- the piece that has the last code point of those before
 pub prev_some : (front back f2 b2 : List Outcome) (o : Outcome) (n : ℕ) → front ++ back ≡ f2 ++ o ∷ b2 → (total_of front).scalars ≡ n → 0 < n → (total_of f2).scalars ≤ n - 1 → n - 1 < (total_of f2).scalars + o.sum.scalars
@@ -238,7 +233,7 @@ place_none d n s o p w i =
 pub placed_by : (measured : Sum → ℕ) (d : Pieced) (n : ℕ) (s : Sum) (r : Option (Bor Outcome)) (b h : Bor Outcome) → IsFoundBy measured n d.pieces s (option_copied r) → b.now ≡ d.tail → h ≡ unwrap_or r b → IsPlaced measured d n s h.now
 placed_by measured d n s None b h g tail same =
     let all : d.pieces ≡ g.front = g.split ∙ ap (λ t. g.front ++ t) (g.ends refl) ∙ append-nil g.front in
-    let p : IsPlaced measured d n s d.tail = record {
+    rw (same, tail) (record {
       front = g.front;
       pieces = [];
       back = [];
@@ -247,10 +242,9 @@ placed_by measured d n s None b h g tail same =
       sum = g.sum;
       low = g.low;
       high = inl refl;
-    } in
-    subst (IsPlaced measured d n s) (sym (ap (λ (v : Bor Outcome). v.now) same ∙ tail)) p
+    })
 placed_by measured d n s (Some o) b h g tail same =
-    let p : IsPlaced measured d n s o.now = record {
+    rw same (record {
       front = g.front;
       pieces = o.now ∷ g.back;
       back = g.back ++ d.tail ∷ [];
@@ -259,8 +253,7 @@ placed_by measured d n s (Some o) b h g tail same =
       sum = g.sum;
       low = g.low;
       high = inr g.high;
-    } in
-    subst (λ (v : Bor Outcome). IsPlaced measured d n s v.now) (sym same) p
+    })
 
 -- where the items before a piece end, as a search finds it
 pub last_found : (d : Pieced) (count : ℕ) (s : Sum) (r : Option (Bor Outcome)) (b : Bor Outcome) (v : ℕ) → r ≡ Some b → 0 < count → IsFoundOutcome Scalar (count - 1) d.pieces s (option_copied r)

@@ -3,9 +3,9 @@ use Rattle.std.proofs.Common.{ℕ, ◌≡◌, refl, sym, ap, subst, ◌∙◌, �
 use Rattle.piece_rope.specs.Entry.{Entry, here_of, entry_sum}
 use Rattle.piece_rope.specs.Chain.{bytes_of}
 use Rattle.piece_rope.specs.Sizes.{AreSized, AreCounted, shortest}
-use Rattle.position_map.proofs.Words.{map_none, map-append, option_to_list, option_map, IfSome, IsFound, total, Placed, Outcome, Sum, total_of}
-use Rattle.position_map.proofs.Words.{no_sum, joined, Document, decoded, sum_in_outcome, IsFoundBy, IsMade, AreMade, body_of, tail_of, count_body}
-use Rattle.position_map.proofs.Words.{HasOutputs, HaveOutputs, AreAllPieces, AreAtLeast, AreAtMost, pieces_most}
+use Rattle.position_map.proofs.Words.{length-map, map_none, map-append, option_to_list, option_map, IfSome, IsFound, total, Placed, Outcome, Sum}
+use Rattle.position_map.proofs.Words.{total_of, no_sum, joined, Document, decoded, sum_in_outcome, IsFoundBy, IsMade, AreMade, body_of, tail_of}
+use Rattle.position_map.proofs.Words.{count_body, HasOutputs, HaveOutputs, AreAllPieces, AreAtLeast, AreAtMost, pieces_most}
 
 made-last : (os : List Outcome) (tail : Outcome) (base end : ℕ) (ps qs : List Placed) → AreMade base ps os → end ≡ base + (total_of os).bytes → IsMade end qs tail → AreMade base (ps ++ qs) (os ++ tail ∷ [])
 made-last [] tail base end ps qs m e t =
@@ -23,21 +23,13 @@ outputs-last : (d : Document) (os : List Outcome) (tail : Outcome) (base end : �
 outputs-last d [] tail base end h e t = let at : end ≡ base = e ∙ omega arith in (subst (λ b. HasOutputs d b tail.items) at t, tt)
 outputs-last d (o ∷ os) tail base end h e t = (h.0, outputs-last d os tail (base + o.sum.bytes) end h.1 (e ∙ omega arith) t)
 
-pub length-heres : (es : List Entry) → length (map here_of es) ≡ length es
-length-heres [] = refl
-length-heres (x ∷ xs) = omega (arith, length-heres xs)
-
 total-heres : (es : List Entry) → AreCounted es → (total_of (map here_of es)).bytes ≡ length (bytes_of es)
 total-heres [] c = refl
 total-heres (x ∷ xs) c = omega (arith, c.0, total-heres xs c.1, length-append x.piece.bytes (bytes_of xs))
 
-sized-least : (least : ℕ) (es : List Entry) → AreSized least es → AreCounted es → AreAtLeast least (map here_of es)
-sized-least least [] s c = tt
-sized-least least (x ∷ xs) s c = (omega (arith, s.0, c.0), sized-least least xs s.2 c.1)
-
-sized-most : (least : ℕ) (es : List Entry) → AreSized least es → AreCounted es → AreAtMost 2048 (map here_of es)
-sized-most least [] s c = tt
-sized-most least (x ∷ xs) s c = (omega (arith, s.1, c.0), sized-most least xs s.2 c.1)
+sized : (least : ℕ) (es : List Entry) → AreSized least es → AreCounted es → AreAtLeast least (map here_of es) × AreAtMost 2048 (map here_of es)
+sized least [] s c = (tt, tt)
+sized least (x ∷ xs) s c = let w = sized least xs s.2 c.1 in ((omega (arith, s.0, c.0), w.0), (omega (arith, s.1, c.0), w.1))
 
 sized-count : (es : List Entry) → AreSized shortest es → 512 * length es ≤ length (bytes_of es)
 sized-count [] s = omega arith
@@ -48,7 +40,7 @@ few-pieces d [] b w = omega arith
 few-pieces d (x ∷ []) b w = omega arith
 few-pieces d (x ∷ y ∷ es) b w =
     let two : 2 ≤ length (x ∷ y ∷ es) = omega arith in
-    omega (arith, length-heres (x ∷ y ∷ es), sized-count (x ∷ y ∷ es) (w two), ap length b)
+    omega (arith, length-map (x ∷ y ∷ es) here_of, sized-count (x ∷ y ∷ es) (w two), ap length b)
 
 pub whole-of : (d : Document) (es : List Entry) (tail : Outcome) → AreMade 0 (body_of d) (map here_of es) → bytes_of es ≡ d.bytes → AreSized 1 es → (2 ≤ length es → AreSized shortest es) → AreCounted es
     → IsMade (length d.bytes) (tail_of d) tail → tail.sum.bytes ≡ 0 → HaveOutputs d 0 (map here_of es) → HasOutputs d (length d.bytes) tail.items → AreAllPieces d (map here_of es) tail
@@ -59,9 +51,9 @@ whole-of d es tail made b small wide counted ended none outputs last =
       made = subst (λ ps. AreMade 0 ps (map here_of es ++ tail ∷ [])) items (made-last (map here_of es) tail 0 (length d.bytes) (body_of d) (tail_of d) made (sym all ∙ omega arith) ended);
       bytes = all;
       no_bytes = none;
-      some = sized-least 1 es small counted;
-      long = λ h. sized-least 512 es (wide (omega (arith, h, length-heres es))) counted;
-      short = sized-most 1 es small counted;
+      some = (sized 1 es small counted).0;
+      long = λ h. (sized 512 es (wide (omega (arith, h, length-map es here_of))) counted).0;
+      short = (sized 1 es small counted).1;
       few = few-pieces d es b wide;
       outputs = outputs-last d (map here_of es) tail 0 (length d.bytes) outputs (sym all ∙ omega arith) last;
     }
@@ -103,12 +95,8 @@ found-map measured target es s x f = record {
 -- what a search gives, by the piece's outcome
 pub found-some : (measured : Sum → ℕ) (target : ℕ) (es : List Entry) (s : Sum) (r : Option (Bor Entry)) (b : Bor Entry) (o : Bor Outcome) → r ≡ Some b → o.now ≡ here_of b.now
     → IsFound measured target no_sum joined entry_sum es s (option_copied r) → IsFoundBy measured target (map here_of es) s (Some o.now)
-found-some measured target es s r b o is here f =
-    let g : IsFound measured target no_sum joined entry_sum es s (Some b.now) = subst (λ (v : Option (Bor Entry)). IsFound measured target no_sum joined entry_sum es s (option_copied v)) is f in
-    subst (λ v. IsFoundBy measured target (map here_of es) s (Some v)) (sym here) (found-map measured target es s (Some b.now) g)
+found-some measured target es s r b o is here f = rw here (found-map measured target es s (Some b.now) (rw is at f))
 
 pub found-none : (measured : Sum → ℕ) (target : ℕ) (es : List Entry) (s : Sum) (r : Option (Bor Entry)) → r ≡ None
     → IsFound measured target no_sum joined entry_sum es s (option_copied r) → IsFoundBy measured target (map here_of es) s None
-found-none measured target es s r is f =
-    let g : IsFound measured target no_sum joined entry_sum es s None = subst (λ (v : Option (Bor Entry)). IsFound measured target no_sum joined entry_sum es s (option_copied v)) is f in
-    found-map measured target es s None g
+found-none measured target es s r is f = found-map measured target es s None (rw is at f)

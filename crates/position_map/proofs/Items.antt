@@ -1,7 +1,7 @@
 -- The items of a document, piece by piece.
-use Rattle.std.proofs.Common.{ℕ, ℤ, ◌≡◌, refl, sym, ap, subst, ◌∙◌, ◌+◌, ◌-◌, ◌<◌, ◌≤◌, Bool, true, false, cond, nat_le, pos, ◌+ℤ◌, List, [], ◌∷◌, ◌++◌, length, length-append, append_assoc, append-nil, arith, Option, Some, None, Ok, Err, Bor, option_copied, ◌^◌}
+use Rattle.std.proofs.Common.{ℕ, ℤ, ◌≡◌, refl, sym, ap, subst, ◌∙◌, ◌+◌, ◌-◌, ◌<◌, ◌≤◌, true, false, cond, nat_le, pos, ◌+ℤ◌, List, [], ◌∷◌, ◌++◌, length, length-append, append_assoc, append-nil, arith, Option, Some, None, Ok, Err, Bor, option_copied, ◌^◌}
 use lib.Signed.{le_z}
-use Rattle.position_map.proofs.Words.{same_cons, filter, unwrap_or, IfSome, nat_tests, ints, Placed, item_code_points, code_points, Axis, Byte, Ended}
+use Rattle.position_map.proofs.Words.{zero-add, same_cons, filter, unwrap_or, nat_tests, ints, Placed, item_code_points, code_points, Byte, Ended}
 use Rattle.position_map.proofs.Words.{Outcome, Sum, total_of, all_scalars, scalars_before, decoded, text_of, decoded_text, OutOfRange, Point}
 use Rattle.position_map.proofs.Words.{TextUnit, IsFoundOutcome, AreEnded, EndWithin, IsMade, AreMade, ends_at, AreAtLeast, scalars_until}
 use Rattle.position_map.proofs.Words.{scalar_of_byte, IsTextEnd, Pieced, AreAllPieces, by_test}
@@ -23,12 +23,9 @@ code_points-append (p ∷ xs) ys = ap (λ t. item_code_points p.item ++ t) (code
 pub count-append : (xs ys : List Placed) → length (code_points (xs ++ ys)) ≡ length (code_points xs) + length (code_points ys)
 count-append xs ys = ap length (code_points-append xs ys) ∙ length-append (code_points xs) (code_points ys)
 
-kept_or_not : (at : ℕ) (b : Bool) (p : Placed) (ps : List Placed) → length (code_points (cond b (p ∷ ps) ps)) ≡ cond b (length (item_code_points p.item)) 0 + length (code_points ps)
-kept_or_not at true p ps = length-append (item_code_points p.item) (code_points ps)
-kept_or_not at false p ps = omega arith
-
 until-cons : (at : ℕ) (p : Placed) (ps : List Placed) → scalars_until at (p ∷ ps) ≡ cond (nat_le p.to at) (length (item_code_points p.item)) 0 + scalars_until at ps
-until-cons at p ps = kept_or_not at (nat_le p.to at) p (filter (λ (q : Placed). nat_le q.to at) ps)
+until-cons at p ps =
+    by_test (nat_le p.to at) (λ t. rw t (length-append (item_code_points p.item) (code_points (filter (λ (q : Placed). nat_le q.to at) ps)))) (λ t. rw t (simp zero-add))
 
 until-append : (at : ℕ) (xs ys : List Placed) → scalars_until at (xs ++ ys) ≡ scalars_until at xs + scalars_until at ys
 until-append at [] ys = omega arith
@@ -137,20 +134,15 @@ next_some (a ∷ ms) back (b ∷ bs) b2 o n e p h l g =
     let same : a.sum.bytes ≡ b.sum.bytes = ap (λ (v : Outcome). v.sum.bytes) w.0 in
     next_some ms back bs b2 o (n - a.sum.bytes) w.1 p.1 (omega (arith, h)) (omega (arith, h, l, same)) (omega (arith, h, l, g, same))
 
-at_least_drop : (front : List Outcome) (back : List Outcome) → AreAtLeast 1 (front ++ back) → 0 < length back → 1 ≤ (total_of back).bytes
-at_least_drop front [] p h = absurd (omega arith)
-at_least_drop [] (b ∷ bs) p h = omega (arith, p.0)
-at_least_drop (a ∷ ms) (b ∷ bs) p h = at_least_drop ms (b ∷ bs) p.1 h
+at_least_behind : (least : ℕ) (front back : List Outcome) → AreAtLeast least (front ++ back) → AreAtLeast least back
+at_least_behind least [] back h = h
+at_least_behind least (a ∷ ms) back h = at_least_behind least ms back h.1
 
 pub next_none : (front back : List Outcome) (xs : List Outcome) (n : ℕ) → xs ≡ front ++ back → AreAtLeast 1 xs → (total_of front).bytes ≡ n → (total_of xs).bytes ≤ n → back ≡ []
 next_none front [] xs n e p h l = refl
 next_none front (b ∷ bs) xs n e p h l =
     let q : AreAtLeast 1 (front ++ b ∷ bs) = subst (AreAtLeast 1) e p in
-    absurd (omega (arith, at_least_drop front (b ∷ bs) q (omega arith), h, l, ap (λ os. (total_of os).bytes) e, bytes-append front (b ∷ bs)))
-
-at_least_behind : (least : ℕ) (front back : List Outcome) → AreAtLeast least (front ++ back) → AreAtLeast least back
-at_least_behind least [] back h = h
-at_least_behind least (a ∷ ms) back h = at_least_behind least ms back h.1
+    absurd (omega (arith, (at_least_behind 1 front (b ∷ bs) q).0, h, l, ap (λ os. (total_of os).bytes) e, bytes-append front (b ∷ bs)))
 
 -- what comes behind the next piece ends behind the byte
 rest_none : (at base : ℕ) (d : Pieced) (front back rest : List Outcome) (o next : Outcome) (ps : List Placed) → d.pieces ≡ front ++ o ∷ back → (1 < length d.pieces → AreAtLeast 512 d.pieces)
@@ -203,13 +195,11 @@ all_until : (d : Pieced) (at : ℕ) → IsPieced d → at ≡ length d.doc.bytes
 unfolding decoded_text
 all_until d at w e = made_all at (d.pieces ++ d.tail ∷ []) 0 (items_of d) w.made (omega (arith, bytes-append d.pieces (d.tail ∷ []), w.bytes, w.no_bytes, e))
 
-pick_le : (b : Bool) (n : ℕ) → cond b n 0 ≤ n
-pick_le true n = omega arith
-pick_le false n = omega arith
-
 until_le : (at : ℕ) (ps : List Placed) → scalars_until at ps ≤ length (code_points ps)
 until_le at [] = omega arith
-until_le at (p ∷ ps) = omega (arith, until-cons at p ps, until_le at ps, length-append (item_code_points p.item) (code_points ps), pick_le (nat_le p.to at) (length (item_code_points p.item)))
+until_le at (p ∷ ps) =
+    let le : cond (nat_le p.to at) (length (item_code_points p.item)) 0 ≤ length (item_code_points p.item) = grind (arith, nat_tests) in
+    omega (arith, until-cons at p ps, until_le at ps, length-append (item_code_points p.item) (code_points ps), le)
 
 -- no more code points end before a byte than there are
 until_text : (d : Pieced) (at : ℕ) → scalars_until at (items_of d) ≤ length (text_of d.doc)
@@ -274,10 +264,3 @@ unfolding scalar_of_byte
 scalar_past d at h =
     let t : nat_le at (length d.doc.bytes) ≡ false = grind (arith, nat_tests) in
     rw t refl
-
--- what a search says where it finds a piece
-pub found_here : (axis : Axis) (target : ℕ) (os : List Outcome) (s : Sum) (r : Option (Bor Outcome)) (b : Bor Outcome) → r ≡ Some b → IsFoundOutcome axis target os s (option_copied r) → IsFoundOutcome axis target os s (Some b.now)
-found_here axis target os s r b is f = subst (λ (v : Option (Bor Outcome)). IsFoundOutcome axis target os s (option_copied v)) is f
-
-pub small_here : (r : Option (Bor Outcome)) (b : Bor Outcome) → r ≡ Some b → IfSome r (λ o. o.now.sum.bytes ≤ 2048) → b.now.sum.bytes ≤ 2048
-small_here r b is h = subst (λ (v : Option (Bor Outcome)). IfSome v (λ o. o.now.sum.bytes ≤ 2048)) is h

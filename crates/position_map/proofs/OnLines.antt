@@ -9,13 +9,9 @@ use Rattle.position_map.proofs.LineMarks.{marks-append, ends_cr-append, IsMark-e
 use Rattle.position_map.proofs.Pointing.{sum_width, regroup, line_feed}
 use Rattle.position_map.proofs.Widths.{width-append, width-ascii}
 
-one_if-le : (b : Bool) → one_if b ≤ 1
-one_if-le true = omega arith
-one_if-le false = omega arith
-
 pub marks-few : (f : Bool) (cs : List ℕ) → marks f cs ≤ length cs
 marks-few f [] = omega arith
-marks-few f (c ∷ cs) = omega (arith, one_if-le (is_mark f c), marks-few (c == cr) cs)
+marks-few f (c ∷ cs) = let le : one_if (is_mark f c) ≤ 1 = grind (arith, nat_tests) in omega (arith, le, marks-few (c == cr) cs)
 
 on_here : (u : TextUnit) (text a b : List ℕ) (offset : ℕ) → text ≡ a ++ b → offset ≡ length a → (ends_cr false a && begins_lf b) ≡ false
     → IsOnLine u text offset (record { line = marks false a; units = width u a })

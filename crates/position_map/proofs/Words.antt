@@ -35,7 +35,6 @@ pub use Rattle.position_map.proofs.Cases.{map_some, by_le, same_some, none_some,
 pub use Rattle.position_map.specs.Plan.{item_width, cut, is_behind, over_range, with_ends, position_cause, splice_with, encoder_cause, IsPlanned}
 pub use Rattle.position_map.specs.Plan.{with_return, same_output, begins_with_escape}
 unfoldable pub use Rattle.position_map.specs.Plan.{planned, replacing}
-unfoldable pub use Rattle.index_loader.specs.Kinds.{slot_of}
 pub use Rattle.std.proofs.lemmas.Str.{encode_ascii, chars-append, chars_past_char, IsUtf8-take, IsUtf8-drop, IsCharBoundary-before_ascii}
 pub use Rattle.std.proofs.lemmas.Str.{IsCharBoundary-after_ascii, encodes-append, encodes-chars, scalars-chars, chars-encodes, IsCharBoundary-at_seam}
 pub use Rattle.std.proofs.lemmas.Str.{length-encode, chars-nil}
@@ -53,12 +52,12 @@ pub use Rattle.position_map.specs.Along.{IsAlongFront}
 pub use Rattle.position_map.specs.NextLines.{IsNextLine, IsAhead, LinesFrom}
 pub use Rattle.std.proofs.lemmas.Int.{ints}
 pub use Rattle.position_map.specs.declared.item_cuts.Cut.{Cut}
-pub use native.Mathlib.Nat.{add_assoc, zero-add}
+pub use native.Mathlib.Nat.{zero-add, add_assoc}
 pub use native.Mathlib.Numerals.{unary_clauses}
 pub use Rattle.enc_names.specs.declared.place.Place.{Place}
 pub use Rattle.piece_rope.specs.Decode.{Ended as Turned, Item, One, Two, Error, Placed, places, item_code_points, code_points, Ascii, run_in}
 pub use Rattle.piece_rope.specs.Decode.{in_force, mark_length, error_place, error_places, OutputState}
-unfoldable pub use Rattle.piece_rope.specs.Decode.{decode, run, turns, feed, feed_for, output_behind}
+unfoldable pub use Rattle.piece_rope.specs.Decode.{decode, run, turns, output_behind, feed, feed_for}
 pub use Rattle.piece_rope.specs.Document.{text_of, Document, decoded, errors_of}
 unfoldable pub use Rattle.piece_rope.specs.Document.{decoded_text, decoded_errors}
 pub use Rattle.piece_rope.specs.Made.{IsMade, IsEnded, AreEnded, AreMade, ends_at, body_of, tail_of, count_body, EndWithin}

@@ -1,5 +1,5 @@
 //! Diagnostics, computed at worked examples.
-#![tactic(auto, unfolding(crate::specs::Diagnostics::diagnostics_of, crate::specs::Diagnostics::errors_before_line, crate::specs::Lines::lines_of, piece_rope::specs::Document::decoded_text, piece_rope::specs::Decode::decode, piece_rope::specs::Decode::run, piece_rope::specs::Decode::turns, piece_rope::specs::Decode::feed, piece_rope::specs::Decode::feed_for))]
+#![tactic(auto, unfolding(index_loader::specs::Kinds::slot_of, crate::specs::Diagnostics::diagnostics_of, crate::specs::Diagnostics::errors_before_line, crate::specs::Lines::lines_of, piece_rope::specs::Document::decoded_text, piece_rope::specs::Decode::decode, piece_rope::specs::Decode::run, piece_rope::specs::Decode::turns, piece_rope::specs::Decode::feed, piece_rope::specs::Decode::feed_for))]
 
 ghost use Rattle.std.specs.Prelude.{◌≡◌, [], ◌∷◌};
 ghost use Rattle.enc_names.specs.declared.encoding.Encoding.TheVariants.{Iso2022Jp, Utf8};

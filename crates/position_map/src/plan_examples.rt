@@ -1,5 +1,5 @@
 //! Planned changes, computed at worked examples.
-#![tactic(auto, unfolding(crate::specs::Plan::planned, crate::specs::Plan::replacing, crate::specs::Lines::lines_of, crate::specs::Positions::offset_of, piece_rope::specs::Document::decoded_text, piece_rope::specs::Decode::decode, piece_rope::specs::Decode::output_behind, piece_rope::specs::Decode::run, piece_rope::specs::Decode::turns, piece_rope::specs::Decode::feed, piece_rope::specs::Decode::feed_for))]
+#![tactic(auto, unfolding(index_loader::specs::Kinds::slot_of, crate::specs::Plan::planned, crate::specs::Plan::replacing, crate::specs::Lines::lines_of, crate::specs::Positions::offset_of, piece_rope::specs::Document::decoded_text, piece_rope::specs::Decode::decode, piece_rope::specs::Decode::output_behind, piece_rope::specs::Decode::run, piece_rope::specs::Decode::turns, piece_rope::specs::Decode::feed, piece_rope::specs::Decode::feed_for))]
 
 ghost use Rattle.std.specs.Prelude.{◌≡◌, ℕ, List, [], ◌∷◌, Some, None, Ok, Err, false};
 ghost use Rattle.enc_names.specs.declared.encoding.Encoding.TheVariants.{Big5, ShiftJis, Iso2022Jp, Utf8, Replacement, Windows1252};

@@ -1,5 +1,5 @@
-use Rattle.position_map.proofs.Words.{◌≡◌, ◌<◌, ◌≤◌, subst, arith, length, Ok, Err, decoded, Byte, scalar_of_byte, OutOfRange}
-use Rattle.position_map.proofs.Items.{within_bytes, scalar_at_end, scalar_past, found_here, small_here}
+use Rattle.position_map.proofs.Words.{◌≡◌, ◌<◌, ◌≤◌, subst, arith, length, Ok, Err, decoded, scalar_of_byte, OutOfRange}
+use Rattle.position_map.proofs.Items.{within_bytes, scalar_at_end, scalar_past}
 use Rattle.position_map.proofs.places.byte_to_scalar.Goals as goal
 
 pub returns-then-at-length-clause-scalar : goal.returns-then-at-length-clause-scalar
@@ -14,7 +14,7 @@ returns-in-None-clause-scalar c =
     (scalar_at_end _ c.of-parts.result _ _ _ _ c.bytes-length.ensures.whole c.in-None.is c.find.ensures.place within c.end-end.ensures)
 
 pub scalars_until-requires : goal.scalars_until-requires
-scalars_until-requires c = record { found = found_here Byte _ _ _ _ c.in-Some.here c.in-Some.is c.find.ensures.place; small = small_here _ c.in-Some.here c.in-Some.is c.find.ensures.small }
+scalars_until-requires c = record { found = rw c.in-Some.is at c.find.ensures.place; small = rw c.in-Some.is at c.find.ensures.small }
 
 pub returns-in-Some-clause-scalar : goal.returns-in-Some-clause-scalar
 returns-in-Some-clause-scalar c =

@@ -20,21 +20,12 @@ end_at zero (suc n) =
     inr (ap (λ (o : Option ℕ). ok_or (option_map (λ k. 0 + k) o) SplitsCharacter) past)
 end_at (suc k) n = inr refl
 
-from_start : (text : List ℕ) → replacing letter text 0 0 ≡ Err NoEncoder
-unfolding replacing decode run turns
-from_start text = refl
+abbrev NoBytesAt : List ℕ → ℕ → ℕ → Type 0
+NoBytesAt text i j = replacing letter text i j ≡ Err NoEncoder
 
-over_all : (text : List ℕ) → replacing letter text 0 1 ≡ Err NoEncoder
+by_numbers : (text : List ℕ) → NoBytesAt text 0 0 × NoBytesAt text 0 1 × NoBytesAt text 1 0 × NoBytesAt text 1 1
 unfolding replacing decode run turns
-over_all text = refl
-
-behind_all : (text : List ℕ) → replacing letter text 1 1 ≡ Err NoEncoder
-unfolding replacing decode run turns
-behind_all text = refl
-
-backwards : (text : List ℕ) → replacing letter text 1 0 ≡ Err NoEncoder
-unfolding replacing decode run turns
-backwards text = refl
+by_numbers text = (refl, refl, refl, refl)
 
 -- whatever its ends, no bytes are put in
 module _ (range : Range) (text : List ℕ) (order : is_behind range.start range.end ≡ false) where
@@ -45,10 +36,10 @@ module _ (range : Range) (text : List ℕ) (order : is_behind range.start range.
   end = offset_of (text_of letter) Utf16 range.end
 
   by_ends : (start ≡ Ok 0) ⊎ (start ≡ Ok 1) → (end ≡ Ok 0) ⊎ (end ≡ Ok 1) → planned letter (Some range) Utf16 text ≡ Err NoEncoder
-  by_ends (inl e) (inl f) = over_ends letter (Some range) Utf16 text range refl 0 0 order (sym e) (sym f) ∙ from_start text
-  by_ends (inl e) (inr f) = over_ends letter (Some range) Utf16 text range refl 0 1 order (sym e) (sym f) ∙ over_all text
-  by_ends (inr e) (inl f) = over_ends letter (Some range) Utf16 text range refl 1 0 order (sym e) (sym f) ∙ backwards text
-  by_ends (inr e) (inr f) = over_ends letter (Some range) Utf16 text range refl 1 1 order (sym e) (sym f) ∙ behind_all text
+  by_ends (inl e) (inl f) = over_ends letter (Some range) Utf16 text range refl 0 0 order (sym e) (sym f) ∙ (by_numbers text).0
+  by_ends (inl e) (inr f) = over_ends letter (Some range) Utf16 text range refl 0 1 order (sym e) (sym f) ∙ (by_numbers text).1
+  by_ends (inr e) (inl f) = over_ends letter (Some range) Utf16 text range refl 1 0 order (sym e) (sym f) ∙ (by_numbers text).2
+  by_ends (inr e) (inr f) = over_ends letter (Some range) Utf16 text range refl 1 1 order (sym e) (sym f) ∙ (by_numbers text).3
 
 over_range : (range : Range) (text : List ℕ) → is_behind range.start range.end ≡ false → planned letter (Some range) Utf16 text ≡ Err NoEncoder
 over_range range text order =
