@@ -2,9 +2,8 @@
 use Rattle.std.proofs.Common.{◌≡◌, refl, sym, ap, ◌∙◌, ℕ, ◌+◌, ◌*◌, ◌/◌, ◌<◌, ◌≤◌, List, [], ◌∷◌, ◌++◌, length, take, drop, get_or, arith, nat_lt, cond, add-one}
 use Rattle.std.proofs.Math.Seq.{drop-cons}
 use Rattle.std.proofs.Math.Utf8.{next, encode}
-use Rattle.std.proofs.lemmas.Bool.{cond_both, le-ltb}
 use Rattle.std.proofs.lemmas.List.{length-drop, take-append-drop}
-use Rattle.state_memo.proofs.Prelude.{encodes-chars, chars, encode_utf8_all, IsUtf8, Pairs, width_of, run_width, total_width}
+use Rattle.state_memo.proofs.Prelude.{encodes-chars, chars, encode_utf8_all, IsUtf8, Pairs, width_of, run_width, total_width, cond_both, le-ltb}
 
 abbrev pub one_ascii : ℕ → ℕ
 one_ascii b = cond (nat_lt b 0x80) 1 0

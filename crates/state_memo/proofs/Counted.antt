@@ -1,11 +1,9 @@
 -- What items come to.
 use Rattle.std.proofs.Common.{◌≡◌, refl, ℕ, ℤ, ◌+◌, ◌*◌, ◌≤◌, List, [], ◌∷◌, ◌++◌, length, length-append, map, flat_map, arith}
-use Rattle.std.proofs.lemmas.Bool.{cond_both}
 use Rattle.decoder_core.specs.declared.item.Item.{Item}
-use Rattle.decoder_core.specs.declared.item.Item.TheVariants.{One, Two, Error}
 use Rattle.state_memo.specs.Items.{scalar_count, is_an_error, kept_item, errors_in, all_scalars}
 use Rattle.state_memo.specs.Sums.{sum_of}
-use Rattle.state_memo.proofs.Prelude.{nat_tests, utf8_width, total_width, item_code_points, OutputState, Ended, IsBounded}
+use Rattle.state_memo.proofs.Prelude.{nat_tests, utf8_width, total_width, item_code_points, OutputState, Ended, IsBounded, cond_both, One, Two, Error}
 
 utf8_width-le : (c : ℕ) → utf8_width c ≤ 4
 utf8_width-le c = grind (arith, nat_tests)
@@ -15,14 +13,10 @@ width-append f [] b = omega arith
 width-append f (c ∷ a) b = omega (arith, width-append f a b)
 
 item-scalars : (i : Item) → length (item_code_points i) ≡ scalar_count i
-item-scalars (One c) = refl
-item-scalars (Two a b) = refl
-item-scalars Error = refl
+item-scalars i = grind arith
 
 item-width : (i : Item) → total_width utf8_width (item_code_points i) ≤ 8
-item-width (One c) = omega (arith, utf8_width-le c)
-item-width (Two a b) = omega (arith, utf8_width-le a, utf8_width-le b)
-item-width Error = omega arith
+item-width i = grind (arith, utf8_width-le)
 
 module _ {X : Type 0} (item : X → Item) (end : X → ℤ) (output : X → OutputState) where
   abbrev pub text_by : List X → List ℕ

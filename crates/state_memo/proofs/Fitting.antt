@@ -2,8 +2,7 @@
 use Rattle.std.proofs.Common.{◌+◌, ◌*◌, ◌^◌, ◌<◌, ◌≤◌, List, [], ◌∷◌, length, arith}
 use Rattle.sum_tree.specs.Sums.{total}
 use Rattle.state_memo.specs.Fitting.{total_of}
-use Rattle.state_memo.specs.Sums.{no_sum, joined, Fits}
-use Rattle.state_memo.proofs.Prelude.{Outcome, Sum, IsBounded}
+use Rattle.state_memo.proofs.Prelude.{Outcome, Sum, IsBounded, no_sum, joined, Fits}
 
 module _ {T : Type 0} (sum_of : T → Sum) (bounded : (x : T) → IsBounded (sum_of x)) where
   total-utf8 : (xs : List T) → (total no_sum joined sum_of xs).utf8 ≤ 8 * (total no_sum joined sum_of xs).bytes + 64 * length xs

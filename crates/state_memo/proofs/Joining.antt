@@ -6,11 +6,7 @@ use Rattle.state_memo.proofs.Marks.{marks-append, ends_cr-append}
 use Rattle.state_memo.proofs.Walks.{errors-append, scalars-append}
 
 flag_count : (f x y : Bool) (k : ℕ) → (x ≡ true → y ≡ false) → one_if (x || (y && not f)) + k + one_if (f && y) ≡ one_if (x || (y && not false)) + k
-flag_count true true true k d = let h = d refl in cc
-flag_count true true false k d = omega arith
-flag_count true false true k d = omega arith
-flag_count true false false k d = omega arith
-flag_count false x y k d = omega arith
+flag_count f x y k d = grind (arith, d)
 
 not_both : (c : ℕ) → (c == 13) ≡ true → (c == 10) ≡ false
 not_both c e = let h : c ≡ 13 = grind (arith, nat_tests) in ap (λ v. v == 10) h

@@ -1,8 +1,7 @@
 -- What a code point's first byte tells of it.
 use Rattle.std.proofs.Common.{◌≡◌, sym, ap, ◌∙◌, ℕ, ◌+◌, ◌/◌, ◌<◌, List, [], ◌∷◌, ◌++◌, length, get_or, arith, nat_lt}
 use Rattle.std.proofs.Math.Utf8.{next, encode, encodes}
-use Rattle.std.proofs.lemmas.Bool.{cond_both}
-use Rattle.state_memo.proofs.Prelude.{nat_tests, length-encode, len_utf8, IsUtf8, continuation_len}
+use Rattle.state_memo.proofs.Prelude.{nat_tests, length-encode, len_utf8, IsUtf8, continuation_len, cond_both}
 
 -- the number of bytes is that which the first one promises
 abbrev Led : List ℕ → List ℕ → Type 0

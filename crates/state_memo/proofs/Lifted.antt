@@ -1,13 +1,12 @@
 -- What a decoder gives among all decoders.
 use Rattle.std.proofs.Common.{◌≡◌, refl, sym, ap, ◌∙◌, ℕ, ◌+◌, ◌≤◌, List, [], ◌∷◌, ◌++◌, map, fold, length, pos, ◌-ℤ◌}
-use Rattle.std.proofs.lemmas.List.{map-append}
 use Rattle.decoder_core.specs.declared.item.Ended.{Ended as EndedItem}
 use Rattle.decoder_core.specs.Lift.{IsLifted, lift_fed}
 use Rattle.decoder_core.specs.Queue.{Table, Fed, feed}
 use Rattle.decoder_core.specs.Shown.{Shown, shown_at, shown_from}
 use Rattle.state_memo.specs.Among.{IsAmong}
 use Rattle.state_memo.specs.Outcome.{Contents, outcome_of}
-use Rattle.state_memo.proofs.Prelude.{OutputState, AnyState, AnyDecoding, any, output_of, IsDone, Gathered, no_item, with_shown}
+use Rattle.state_memo.proofs.Prelude.{OutputState, AnyState, AnyDecoding, any, output_of, IsDone, Gathered, no_item, with_shown, map-append}
 use Rattle.state_memo.proofs.Gathered.{shown_all, contents_by, gathered-is, done, computed}
 
 abbrev lifted_shown : {S T : Type 0} → (S → T) → Shown S → Shown T

@@ -1,10 +1,8 @@
 -- Marks of a text's bytes are those of its code points.
 use Rattle.std.proofs.Common.{◌≡◌, refl, sym, ap, ◌∙◌, ℕ, suc, ◌+◌, ◌<◌, ◌≤◌, inl, inr, Bool, false, ◌==◌, List, [], ◌∷◌, ◌++◌, length, get_or, append-nil, arith, ◌-◌, Some, None, slice_get}
-use Rattle.std.proofs.lemmas.Option.{slice_get-get_or}
 use Rattle.std.proofs.Math.Utf8.{encode, encodes}
 use Rattle.std.proofs.lemmas.Str.{encode_ascii, inside_one, encodes-chars, length-encode, len_utf8_bounds}
-use Rattle.lane_ascii.specs.Marks.{cr, lf, is_mark, one_if, marks, ends_cr}
-use Rattle.state_memo.proofs.Prelude.{chars, IsUtf8, cases_lt, nat_tests, begins_lf}
+use Rattle.state_memo.proofs.Prelude.{chars, IsUtf8, cases_lt, nat_tests, begins_lf, slice_get-get_or, cr, lf, is_mark, one_if, marks, ends_cr}
 
 pub marks-append : (f : Bool) (a b : List ℕ) → marks f (a ++ b) ≡ marks f a + marks (ends_cr f a) b
 marks-append f [] b = omega arith

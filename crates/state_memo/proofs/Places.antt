@@ -1,13 +1,11 @@
 -- Where a state's outcome is remembered.
 use Rattle.std.proofs.Common.{◌≡◌, refl, sym, ap, ◌∙◌, ℕ, zero, suc, ◌≤◌, Bool, true, false, List, [], ◌∷◌, length, take, Option, Some, None, get_or, slice_get, option_map, is_some, arith, cond}
-use Rattle.std.proofs.lemmas.Bool.{cond-false, cond-true}
 use Rattle.std.proofs.lemmas.List.Edits.{length-remove}
 use Rattle.state_memo.specs.Memo.{same_state, recalled, without, put_first, entered, IsSlot}
-use Rattle.state_memo.proofs.Prelude.{remove, take_all, slice_get_read, AnyState, Outcome, Known}
+use Rattle.state_memo.proofs.Prelude.{remove, take_all, slice_get_read, AnyState, Outcome, Known, cond-false, cond-true}
 
 by-none : (b : Bool) (o : Outcome) (r : Option Outcome) → cond b (Some o) r ≡ None → (b ≡ false) × (r ≡ None)
-by-none true o r e = absurd cc
-by-none false o r e = (refl, e)
+by-none b o r e = (grind arith, grind arith)
 
 pub place-at : (ks : List Known) (s : AnyState) (i : ℕ) (k : Known) → slice_get ks i ≡ Some k → recalled (take i ks) s ≡ None → same_state k.entry s ≡ true → IsSlot ks s i
 place-at [] s zero k at none same = absurd cc

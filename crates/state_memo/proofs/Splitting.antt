@@ -1,7 +1,6 @@
 -- Runs that are one.
 use Rattle.std.proofs.Common.{◌≡◌, refl, sym, ap, ◌∙◌, ℕ, zero, suc, ◌+◌, ◌*◌, ◌<◌, List, [], ◌∷◌, ◌++◌, append_assoc, append-nil, arith, length, length-append, ◌≤◌, ◌-◌, Some, None, slice_get, ℤ, pos, ◌+ℤ◌, ◌-ℤ◌}
-use Rattle.std.proofs.lemmas.Option.{slice_get_past}
-use Rattle.state_memo.proofs.Prelude.{ints, Ended, ItemKind, Run, item_of_kind, items_until, items_of_run}
+use Rattle.state_memo.proofs.Prelude.{ints, Ended, ItemKind, Run, item_of_kind, items_until, items_of_run, slice_get_past}
 
 -- where one item stands, the step between items doesn't count
 pub until-step : (kind : ItemKind) (last : ℤ) (n s t : ℕ) → (0 < n → s ≡ t) → items_until kind s last (suc n) ≡ items_until kind t last (suc n)

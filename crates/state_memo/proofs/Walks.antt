@@ -1,12 +1,11 @@
 -- Walks over runs.
 use Rattle.std.proofs.Common.{◌≡◌, refl, sym, ap, subst, ◌∙◌, ℕ, zero, suc, ◌+◌, ◌-◌, ◌*◌, ◌/◌, ◌<◌, ◌≤◌, List, [], ◌∷◌, ◌++◌, length, length-append, arith, ℤ, pos, ◌+ℤ◌, ◌-ℤ◌, Bool, true, false, cond, Option, Some, None, nat_lt, drop, inl, inr, get_or, slice_get, append-nil, option_map}
-use Rattle.std.proofs.lemmas.Bool.{cond-false, cond-true, cond_both}
 use Rattle.std.proofs.lemmas.List.{at_drop_more}
 use Rattle.std.proofs.lemmas.Nat.{mul-le}
 use Rattle.std.proofs.Math.Nat.{div-mul-le_self, mod-add-div', mod-lt}
 use Rattle.state_memo.specs.declared.kind.ItemKind.TheVariants.{AsciiOne}
 use Rattle.state_memo.proofs.Prelude.{cases_lt, ints, nat_tests, le_z, one_if, Ended, ItemKind, Run, errors_in, all_scalars, scalars_before, item_of}
-use Rattle.state_memo.proofs.Prelude.{scalars_of, error_of, item_of_kind, items_until, items_of_run, items_of_runs}
+use Rattle.state_memo.proofs.Prelude.{scalars_of, error_of, item_of_kind, items_until, items_of_run, items_of_runs, cond-false, cond-true, cond_both}
 use Rattle.state_memo.proofs.Splitting.{length-until}
 
 -- what a run is read as where there is none
@@ -92,12 +91,10 @@ front-item (e ∷ a) b n h = by_test (nat_lt n e.scalars) (λ t. ap (λ o. optio
     by_test false f = f refl
 
 plus-one : (o : Option ℕ) (n : ℕ) → option_map (λ k. k + 1) (option_map (λ k. k + n) o) ≡ option_map (λ k. k + suc n) o
-plus-one None n = refl
-plus-one (Some k) n = ap Some (omega arith)
+plus-one o n = grind arith
 
 plus-none : (o : Option ℕ) → o ≡ option_map (λ k. k + 0) o
-plus-none None = refl
-plus-none (Some k) = ap Some (omega arith)
+plus-none o = grind arith
 
 pub back-item : (a b : List Ended) (n : ℕ) → all_scalars a ≤ n → item_of (a ++ b) n ≡ option_map (λ k. k + length a) (item_of b (n - all_scalars a))
 back-item [] b n h = ap (λ m. item_of b m) (omega arith) ∙ plus-none (item_of b (n - 0))
@@ -260,18 +257,14 @@ item-within [] n k h = absurd cc
 item-within (e ∷ es) n k h = by_test (nat_lt n e.scalars) (item_of es (n - e.scalars)) h (λ j. item-within es (n - e.scalars) j)
   where
     by_test : (t : Bool) (o : Option ℕ) → cond t (Some 0) (option_map (λ j. j + 1) o) ≡ Some k → ((j : ℕ) → o ≡ Some j → j < length es) → k < suc (length es)
-    by_test true o e f = let z : 0 ≡ k = cc in omega (arith, z)
-    by_test false None e f = absurd cc
-    by_test false (Some j) e f = let z : j + 1 ≡ k = cc in omega (arith, z, f j refl)
+    by_test t o e f = grind (arith, f)
 
 found-front : (a b : List Ended) (n k : ℕ) → item_of a n ≡ Some k → item_of (a ++ b) n ≡ Some k
 found-front [] b n k h = absurd cc
 found-front (e ∷ a) b n k h = by_test (nat_lt n e.scalars) (item_of a (n - e.scalars)) (item_of (a ++ b) (n - e.scalars)) h (λ j. found-front a b (n - e.scalars) j)
   where
     by_test : (t : Bool) (o p : Option ℕ) → cond t (Some 0) (option_map (λ j. j + 1) o) ≡ Some k → ((j : ℕ) → o ≡ Some j → p ≡ Some j) → cond t (Some 0) (option_map (λ j. j + 1) p) ≡ Some k
-    by_test true o p e f = e
-    by_test false None p e f = absurd cc
-    by_test false (Some j) p e f = ap (option_map (λ i. i + 1)) (f j refl) ∙ e
+    by_test t o p e f = grind (arith, f)
 
 length-few-until : (kind : ItemKind) (step : ℕ) (last : ℤ) (n : ℕ) → length (items_until kind step last n) ≤ all_scalars (items_until kind step last n)
 length-few-until kind step last n = omega (arith, length-until kind step last n, scalars-until kind step last n, mul-le n 1 n (scalars_of kind) (omega arith) (some-scalars kind))
@@ -298,8 +291,7 @@ found-here rs i d left k before h e =
     ∙ ap Some (omega arith)
 
 plus-plus : (o : Option ℕ) (a b : ℕ) → option_map (λ k. k + b) (option_map (λ k. k + a) o) ≡ option_map (λ k. k + (b + a)) o
-plus-plus None a b = refl
-plus-plus (Some k) a b = ap Some (omega arith)
+plus-plus o a b = grind arith
 
 pub found-next : (rs : List Run) (i : ℕ) (d : Run) (left before : ℕ) → i < length rs → all_scalars (items_of_run (get_or rs i d)) ≤ left
     → option_map (λ j. j + (before + ((get_or rs i d).more + 1))) (item_of (items_of_runs (drop (i + 1) rs)) (left - all_scalars (items_of_run (get_or rs i d))))
