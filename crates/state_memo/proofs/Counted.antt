@@ -3,7 +3,7 @@ use Rattle.std.proofs.Common.{◌≡◌, refl, ℕ, ℤ, ◌+◌, ◌*◌, ◌�
 use Rattle.decoder_core.specs.declared.item.Item.{Item}
 use Rattle.state_memo.specs.Items.{scalar_count, is_an_error, kept_item, errors_in, all_scalars}
 use Rattle.state_memo.specs.Sums.{sum_of}
-use Rattle.state_memo.proofs.Prelude.{nat_tests, utf8_width, total_width, item_code_points, OutputState, Ended, IsBounded, cond_both, One, Two, Error}
+use Rattle.state_memo.proofs.Prelude.{nat_tests, utf8_width, total_width, item_code_points, OutputState, Ended, IsBounded, cond_both}
 
 utf8_width-le : (c : ℕ) → utf8_width c ≤ 4
 utf8_width-le c = grind (arith, nat_tests)

@@ -8,8 +8,7 @@ by-none : (b : Bool) (o : Outcome) (r : Option Outcome) → cond b (Some o) r �
 by-none b o r e = (grind arith, grind arith)
 
 pub place-at : (ks : List Known) (s : AnyState) (i : ℕ) (k : Known) → slice_get ks i ≡ Some k → recalled (take i ks) s ≡ None → same_state k.entry s ≡ true → IsSlot ks s i
-place-at [] s zero k at none same = absurd cc
-place-at [] s (suc i) k at none same = absurd cc
+place-at [] s i k at none same = absurd cc
 place-at (x ∷ ks) s zero k at none same =
     let e : x ≡ k = cc in
     let t : same_state x.entry s ≡ true = ap (λ (y : Known). same_state y.entry s) e ∙ same in record {
@@ -26,8 +25,7 @@ place-at (x ∷ ks) s (suc i) k at none same =
     }
 
 pub absent-more : (ks : List Known) (s : AnyState) (i : ℕ) (k : Known) → slice_get ks i ≡ Some k → recalled (take i ks) s ≡ None → same_state k.entry s ≡ false → recalled (take (suc i) ks) s ≡ None
-absent-more [] s zero k at none same = refl
-absent-more [] s (suc i) k at none same = refl
+absent-more [] s i k at none same = absurd cc
 absent-more (x ∷ ks) s zero k at none same =
     let e : x ≡ k = cc in
     cond-false _ _ _ (ap (λ (y : Known). same_state y.entry s) e ∙ same)

@@ -62,10 +62,10 @@ longer-is r next last more step last_is kind more_is gap front back =
 pub first-until : (kind : ItemKind) (s : ℕ) (last : ℤ) (n : ℕ) → items_until kind s last (suc n) ≡ item_of_kind kind (last -ℤ pos (n * s)) ∷ items_until kind s last n
 first-until kind s last n = let add_one : suc n ≡ n + 1 = omega arith in ap (λ (k : ℕ). items_until kind s last k) add_one ∙ until-split kind s last 1 n
 
-behind-front : {A : Type 0} (a b : List A) (n : ℕ) → length a ≡ n → slice_get (a ++ b) n ≡ slice_get b 0
-behind-front [] b n e = ap (slice_get b) (sym e)
-behind-front (x ∷ a) b zero e = absurd (omega (arith, e))
-behind-front (x ∷ a) b (suc n) e = behind-front a b n (omega (arith, e))
+pub back-at : (a b : List Ended) (n : ℕ) → length a ≤ n → slice_get (a ++ b) n ≡ slice_get b (n - length a)
+back-at [] b n h = ap (slice_get b) (omega arith)
+back-at (x ∷ a) b zero h = absurd (omega (arith, h))
+back-at (x ∷ a) b (suc n) h = back-at a b n (omega (arith, h)) ∙ ap (slice_get b) (omega arith)
 
 pub length-until : (kind : ItemKind) (s : ℕ) (last : ℤ) (n : ℕ) → length (items_until kind s last n) ≡ n
 length-until kind s last zero = refl
@@ -74,10 +74,13 @@ length-until kind s last (suc n) = omega (arith, length-append (items_until kind
 pub item-at : (r : Run) (k behind : ℕ) → k ≤ r.more → behind ≡ r.more - k → slice_get (items_of_run r) k ≡ Some (item_of_kind r.kind (r.last -ℤ pos (behind * r.step)))
 item-at r k behind within behind_is =
     let front = items_until r.kind r.step (r.last -ℤ pos (suc behind * r.step)) k in
+    let long : length front ≡ k = length-until r.kind r.step (r.last -ℤ pos (suc behind * r.step)) k in
+    let none : k - length front ≡ 0 = omega (arith, long) in
     let all : suc r.more ≡ suc behind + k = omega (arith, within, behind_is) in
     ap (λ (n : ℕ). slice_get (items_until r.kind r.step r.last n) k) all
     ∙ ap (λ (xs : List Ended). slice_get xs k) (until-split r.kind r.step r.last k (suc behind))
-    ∙ behind-front front (items_until r.kind r.step r.last (suc behind)) k (length-until r.kind r.step (r.last -ℤ pos (suc behind * r.step)) k)
+    ∙ back-at front (items_until r.kind r.step r.last (suc behind)) k (omega (arith, long))
+    ∙ ap (slice_get (items_until r.kind r.step r.last (suc behind))) none
     ∙ ap (λ (xs : List Ended). slice_get xs 0) (first-until r.kind r.step r.last behind)
 
 pub no-item : (r : Run) (k : ℕ) → r.more < k → slice_get (items_of_run r) k ≡ None

@@ -6,7 +6,7 @@ use Rattle.std.proofs.Math.Nat.{div-mul-le_self, mod-add-div', mod-lt}
 use Rattle.state_memo.specs.declared.kind.ItemKind.TheVariants.{AsciiOne}
 use Rattle.state_memo.proofs.Prelude.{cases_lt, ints, nat_tests, le_z, one_if, Ended, ItemKind, Run, errors_in, all_scalars, scalars_before, item_of}
 use Rattle.state_memo.proofs.Prelude.{scalars_of, error_of, item_of_kind, items_until, items_of_run, items_of_runs, cond-false, cond-true, cond_both}
-use Rattle.state_memo.proofs.Splitting.{length-until}
+use Rattle.state_memo.proofs.Splitting.{back-at, length-until}
 
 -- what a run is read as where there is none
 abbrev pub no_run : Run
@@ -68,14 +68,12 @@ before-past kind step limit last (suc n) (suc p) h =
     } in
     omega (arith, before-append limit (items_until kind step (last -ℤ pos step) n) (item_of_kind kind last ∷ []), before-past kind step limit (last -ℤ pos step) n p next, cond-false (le_z last limit) (scalars_of kind) 0 last_far, ap (λ (k : ℕ). k * (scalars_of kind)) rest)
 
-far_step : (last : ℤ) (step : ℕ) → step ≡ 0 → last -ℤ pos step ≡ last
-far_step last step e = omega (arith, ints, e)
-
 -- all end behind the limit, where they end at one place
 pub before-none : (kind : ItemKind) (step : ℕ) (limit last : ℤ) (n : ℕ) → step ≡ 0 → le_z last limit ≡ false → scalars_before limit (items_until kind step last n) ≡ 0
 before-none kind step limit last zero z e = refl
 before-none kind step limit last (suc n) z e =
-    omega (arith, before-append limit (items_until kind step (last -ℤ pos step) n) (item_of_kind kind last ∷ []), ap (λ (l : ℤ). scalars_before limit (items_until kind step l n)) (far_step last step z) ∙ before-none kind step limit last n z e, cond-false (le_z last limit) (scalars_of kind) 0 e)
+    let same : last -ℤ pos step ≡ last = omega (arith, ints, z) in
+    omega (arith, before-append limit (items_until kind step (last -ℤ pos step) n) (item_of_kind kind last ∷ []), ap (λ (l : ℤ). scalars_before limit (items_until kind step l n)) same ∙ before-none kind step limit last n z e, cond-false (le_z last limit) (scalars_of kind) 0 e)
 
 pub before-gap : (kind : ItemKind) (step : ℕ) (limit last : ℤ) (n gap p : ℕ) → last ≡ limit +ℤ pos gap → gap ≤ p * step → ((q : ℕ) → p ≡ suc q → q * step < gap) → scalars_before limit (items_until kind step last n) ≡ (n - p) * (scalars_of kind)
 before-gap kind step limit last n gap p e near far =
@@ -87,8 +85,7 @@ front-item [] b n h = absurd (omega (arith, h))
 front-item (e ∷ a) b n h = by_test (nat_lt n e.scalars) (λ t. ap (λ o. option_map (λ k. k + 1) o) (front-item a b (n - e.scalars) (grind (arith, nat_tests, h, t))))
   where
     by_test : {x y : Option ℕ} (t : Bool) → (t ≡ false → x ≡ y) → cond t (Some 0) x ≡ cond t (Some 0) y
-    by_test true f = refl
-    by_test false f = f refl
+    by_test t f = grind (arith, f)
 
 plus-one : (o : Option ℕ) (n : ℕ) → option_map (λ k. k + 1) (option_map (λ k. k + n) o) ≡ option_map (λ k. k + suc n) o
 plus-one o n = grind arith
@@ -131,17 +128,8 @@ before-div r limit gap step same some gap_some e =
     let q = quotient (gap - 1) step some in
     let p = (gap - 1) / step in
     before-gap r.kind r.step limit r.last (suc r.more) gap (p + 1) e
-    (near p step r.step gap same gap_some q.1)
-    (λ k is. far p k step r.step gap same gap_some (omega (arith, is)) q.0)
-  where
-    near : (p step s gap : ℕ) → step ≡ s → 0 < gap → gap - 1 < p * step + step → gap ≤ (p + 1) * s
-    near p step s gap e g h = rw (sym e) (omega (arith, g, h, next p step))
-      where
-        next : (p s : ℕ) → (p + 1) * s ≡ p * s + s
-        next p s = grind (arith)
-
-    far : (p k step s gap : ℕ) → step ≡ s → 0 < gap → k ≡ p → p * step ≤ gap - 1 → k * s < gap
-    far p k step s gap e g is h = rw (is, sym e) (omega (arith, g, h))
+    (rw (sym same) (omega (arith, gap_some, q.1)))
+    (λ k is. let k_is : k ≡ p = omega (arith, is) in rw (k_is, sym same) (omega (arith, gap_some, q.0)))
 
 pub rest-none : (count c s : ℕ) → c ≡ count → 0 ≡ (count - c) * s
 rest-none count c s e = let none : count - count ≡ 0 = omega arith in rw (e, none) (omega arith)
@@ -206,11 +194,6 @@ front-at : (a b : List Ended) (n : ℕ) → n < length a → slice_get (a ++ b) 
 front-at [] b n h = absurd (omega (arith, h))
 front-at (x ∷ a) b zero h = refl
 front-at (x ∷ a) b (suc n) h = front-at a b n (omega (arith, h))
-
-back-at : (a b : List Ended) (n : ℕ) → length a ≤ n → slice_get (a ++ b) n ≡ slice_get b (n - length a)
-back-at [] b n h = ap (slice_get b) (omega arith)
-back-at (x ∷ a) b zero h = absurd (omega (arith, h))
-back-at (x ∷ a) b (suc n) h = back-at a b n (omega (arith, h)) ∙ ap (slice_get b) (omega arith)
 
 count-is : (r : Run) → length (items_of_run r) ≡ r.more + 1
 count-is r = omega (arith, length-until r.kind r.step r.last (suc r.more))
