@@ -1,7 +1,8 @@
 -- Places along a text by units.
 use Rattle.std.proofs.Common.{ℕ, ◌≡◌, refl, sym, ap, ◌∙◌, zero, suc, ◌+◌, ◌-◌, ◌<◌, ◌≤◌, ◌⊎◌, inl, inr, true, false, ◌==◌, nat_lt, List, [], ◌∷◌, ◌++◌, length, length-drop, take, drop, take-append-drop, append_assoc, arith, add-one, Option, Some, None}
-use Rattle.position_map.proofs.Words.{map_some, option_map, nat_tests, length-take-le, take-take, drop-take, TextUnit, width, width_of, along}
-use Rattle.position_map.proofs.Words.{between, by_le, same_some, none_some}
+use Rattle.std.proofs.lemmas.Iterator.Adapters.{option_map_id}
+use Rattle.position_map.proofs.Words.{zero-add, map_some, option_map, nat_tests, length-take-le, take-take, drop-take, TextUnit, width, width_of}
+use Rattle.position_map.proofs.Words.{along, between, by_le, same_some, none_some}
 use Rattle.position_map.proofs.Widths.{width-some, width-append}
 
 -- behind a whole code point
@@ -19,13 +20,9 @@ map_map : (f g h : ℕ → ℕ) → ((k : ℕ) → f (g k) ≡ h k) → (o : Opt
 map_map f g h e None = refl
 map_map f g h e (Some k) = ap Some (e k)
 
-map_id : (f : ℕ → ℕ) → ((k : ℕ) → f k ≡ k) → (o : Option ℕ) → option_map f o ≡ o
-map_id f e None = refl
-map_id f e (Some k) = ap Some (e k)
-
 -- the search may begin behind whole code points
 pub along-append : (u : TextUnit) (a b : List ℕ) (n : ℕ) → along u (a ++ b) (width u a + n) ≡ option_map (λ k. length a + k) (along u b n)
-along-append u [] b n = let e : 0 + n ≡ n = omega arith in ap (along u b) e ∙ sym (map_id (λ k. 0 + k) (λ k. omega arith) (along u b n))
+along-append u [] b n = simp (zero-add, option_map_id)
 along-append u (c ∷ cs) b n =
     let more : width_of u c ≤ width u (c ∷ cs) + n = omega arith in
     let less : width u (c ∷ cs) + n - width_of u c ≡ width u cs + n = omega arith in

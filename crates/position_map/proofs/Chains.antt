@@ -1,10 +1,10 @@
 -- Places of items in a row.
 use Rattle.std.proofs.Common.{ℕ, ◌≡◌, refl, sym, ap, subst, ◌∙◌, zero, suc, ◌+◌, ◌-◌, ◌<◌, ◌≤◌, true, false, cond, nat_lt, pos, List, [], ◌∷◌, ◌++◌, length, length-append, append_assoc, append-nil, arith, Option, Some, None, Bor, option_copied, get_or, drop, inl, inr}
-use Rattle.position_map.proofs.Words.{unary_clauses, by_le, map_some, map_none, same_cons, IsMade, text_of, decoded_text, option_map, unwrap_or}
-use Rattle.position_map.proofs.Words.{nat_tests, Place, Turned, Item, One, Two, Error, Placed, places, item_code_points, code_points, Ascii, decode}
-use Rattle.position_map.proofs.Words.{run_in, in_force, mark_length, Scalar, measure, Ended, Outcome, Sum, total_of, all_scalars, item_of, Document}
-use Rattle.position_map.proofs.Words.{decoded, IsFoundBy, IsFoundOutcome, IsEnded, AreEnded, AreMade, ends_at, place_of, bom_of, IsChained, last_to}
-use Rattle.position_map.proofs.Words.{HasItem, IsPlaced, Pieced, same_some, none_some}
+use Rattle.position_map.proofs.Words.{nil_from_length, unary_clauses, by_le, map_some, map_none, same_cons, IsMade, text_of, decoded_text, option_map}
+use Rattle.position_map.proofs.Words.{unwrap_or, nat_tests, Place, Turned, Item, One, Two, Error, Placed, places, item_code_points, code_points}
+use Rattle.position_map.proofs.Words.{Ascii, decode, run_in, in_force, mark_length, Scalar, measure, Ended, Outcome, Sum, total_of, all_scalars}
+use Rattle.position_map.proofs.Words.{item_of, Document, decoded, IsFoundBy, IsFoundOutcome, IsEnded, AreEnded, AreMade, ends_at, place_of, bom_of}
+use Rattle.position_map.proofs.Words.{IsChained, last_to, HasItem, IsPlaced, Pieced, same_some, none_some}
 use Rattle.position_map.proofs.Items.{IsPieced, items_of, counted, made_split, made_count, scalars-append}
 
 no_item : Ended
@@ -159,11 +159,7 @@ no_scalars front ps from m z = ap (last_to from) (no_items ps (made_count front 
 
 -- behind all items
 place_past : (ps : List Placed) (n : ℕ) → length (code_points ps) ≤ n → place_of ps n ≡ None
-place_past [] n h = refl
-place_past (p ∷ ps) n h =
-    let l = length-append (item_code_points p.item) (code_points ps) in
-    not_here n (length (item_code_points p.item)) (Some (record { from = p.from; to = p.to })) (place_of ps (n - length (item_code_points p.item))) (omega (arith, l, h))
-    ∙ place_past ps (n - length (item_code_points p.item)) (omega (arith, l, h))
+place_past ps n h = ap (λ t. place_of t n) (sym (append-nil ps)) ∙ place-append ps [] n h
 
 pub item_within : (es : List Ended) (n k : ℕ) → item_of es n ≡ Some k → k < length es
 item_within [] n k h = absurd (none_some h)
@@ -260,15 +256,13 @@ pub last_found : (d : Pieced) (count : ℕ) (s : Sum) (r : Option (Bor Outcome))
     → ((e : Ended) → 0 < length b.now.items → v ≡ ends_at s.bytes (get_or b.now.items (length b.now.items - 1) e).end)
     → (front back : List Outcome) (ps : List Placed) → d.pieces ≡ front ++ back → (total_of front).scalars ≡ count → AreMade 0 ps front → v ≡ last_to (bom_of d) ps
 last_found d count s r b v is some f x front back ps e h m =
-    let g : IsFoundOutcome Scalar (count - 1) d.pieces s (Some b.now) = subst (λ (o : Option (Bor Outcome)). IsFoundOutcome Scalar (count - 1) d.pieces s (option_copied o)) is f in
+    let g = rw is at f in
     let both : front ++ back ≡ g.front ++ b.now ∷ g.back = sym e ∙ g.split in
     let ss : s.scalars ≡ (total_of g.front).scalars = ap (λ (w : Sum). w.scalars) g.sum in
     let w = prev_some front back g.front g.back b.now count both h some (omega (arith, ss, g.low)) (omega (arith, ss, g.high)) in
     let here : 0 < b.now.sum.scalars = omega (arith, ss, g.low, g.high) in
-    let e0 = no_item in
-    let base : (total_of g.front).bytes ≡ s.bytes = sym (ap (λ (w2 : Sum). w2.bytes) g.sum) in
-    let at = last_before front g.front w.0 b.now ps e0 (bom_of d) w.1 w.2 here m ∙ ap (λ k. ends_at k (get_or b.now.items (length b.now.items - 1) e0).end) base in
-    x e0 (some_items b.now.items (omega (arith, here, counted b.now))) ∙ sym at
+    let base : s.bytes ≡ (total_of g.front).bytes = ap (λ (w2 : Sum). w2.bytes) g.sum in
+    x no_item (some_items b.now.items (omega (arith, here, counted b.now))) ∙ rw base (sym (last_before front g.front w.0 b.now ps no_item (bom_of d) w.1 w.2 here m))
 
 -- a search for a code point that is there finds a piece
 pub last_not_found : (d : Pieced) (count : ℕ) (s : Sum) (r : Option (Bor Outcome)) → r ≡ None → 0 < count → IsFoundOutcome Scalar (count - 1) d.pieces s (option_copied r)
@@ -278,20 +272,12 @@ last_not_found d count s r is some f front back e h =
     let all : g.front ≡ front ++ back = sym (g.split ∙ ap (λ t. g.front ++ t) (g.ends refl) ∙ append-nil g.front) ∙ e in
     omega (arith, ap (λ (w : Sum). w.scalars) g.sum, ap (λ t. (total_of t).scalars) all, scalars-append front back, g.low, h, some)
 
-nil_of : (xs : List Placed) → length xs ≡ 0 → xs ≡ []
-nil_of [] h = refl
-nil_of (x ∷ xs) h = absurd (omega (arith, h))
-
 pub first_item : (d : Pieced) (s : Sum) (o : Outcome) (v : ℕ) → ((front back : List Outcome) (ps : List Placed) → d.pieces ≡ front ++ back → (total_of front).scalars ≡ s.scalars → AreMade 0 ps front → v ≡ last_to (bom_of d) ps)
     → (front back : List Outcome) (left ps : List Placed) (n k : ℕ) → k ≡ 0 → d.pieces ≡ front ++ back → s ≡ total_of front → AreMade 0 left front → (h : HasItem s.bytes ps o.items n k) → v ≡ last_to (bom_of d) (left ++ h.front)
 first_item d s o v x front back left ps n k z e t m h =
-    let none : h.front ≡ [] = nil_of h.front (h.len ∙ z) in
-    let all : left ++ h.front ≡ left = ap (λ u. left ++ u) none ∙ append-nil left in
-    x front back left e (sym (ap (λ (w : Sum). w.scalars) t)) m ∙ ap (last_to (bom_of d)) (sym all)
+    let none : h.front ≡ [] = nil_from_length h.front (h.len ∙ z) in
+    rw (none, append-nil left) (x front back left e (sym (ap (λ (w : Sum). w.scalars) t)) m)
 
 pub later_item : (d : Pieced) (s : Sum) (o : Outcome) (v k : ℕ) → 0 < k → ((e : Ended) → v ≡ ends_at s.bytes (get_or o.items (k - 1) e).end)
     → (left ps : List Placed) (n : ℕ) (h : HasItem s.bytes ps o.items n k) → v ≡ last_to (bom_of d) (left ++ h.front)
-later_item d s o v k l x left ps n h =
-    let e0 = no_item in
-    let at = last-append (bom_of d) left h.front in
-    x e0 ∙ sym (at ∙ h.last e0 (last_to (bom_of d) left) l)
+later_item d s o v k l x left ps n h = x no_item ∙ sym (last-append (bom_of d) left h.front ∙ h.last no_item (last_to (bom_of d) left) l)

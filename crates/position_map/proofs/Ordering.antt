@@ -3,7 +3,7 @@ use Rattle.std.proofs.Common.{ℕ, ◌≡◌, refl, sym, ap, ◌∙◌, zero, su
 use Rattle.position_map.proofs.Words.{slice_get, option_map, nat_tests, length-take, Position, TextUnit, SplitsCharacter, LineSpan, lines_of}
 use Rattle.position_map.proofs.Words.{is_behind, along, between, offset_on, offset_at, offset_of, width_of, by_le, same_some, none_some, map_some}
 use Rattle.position_map.proofs.Words.{ok_some, same_ok, none_past, slice_get_within, end_of}
-use Rattle.position_map.proofs.Alongs.{along_place, along_step, along_inside}
+use Rattle.position_map.proofs.Alongs.{along_none, along_place, along_step, along_inside}
 use Rattle.position_map.proofs.LineMarks.{Ascending, ascending, ascending-line}
 
 -- ---- lines
@@ -19,8 +19,7 @@ ascending-lines from at to (x ∷ ls) (suc k) (suc m) a b w lt h g = ascending-l
 -- ---- characters on a line
 
 along-zero : (u : TextUnit) (cs : List ℕ) (k : ℕ) → along u cs 0 ≡ Some k → k ≡ 0
-along-zero u [] k h = sym (same_some h)
-along-zero u (c ∷ cs) k h = sym (same_some h)
+along-zero u cs k h = same_some (sym h ∙ along_none u cs)
 
 -- behind a code point that is passed
 along-past : (u : TextUnit) (c : ℕ) (cs : List ℕ) (n k : ℕ) → 0 < n → along u (c ∷ cs) n ≡ Some k

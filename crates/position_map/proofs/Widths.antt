@@ -1,5 +1,5 @@
 -- Widths of texts.
-use Rattle.std.proofs.Common.{ℕ, ◌≡◌, refl, sym, ap, ◌∙◌, zero, suc, ◌+◌, ◌<◌, ◌≤◌, List, [], ◌∷◌, ◌++◌, length, length-append, take, arith}
+use Rattle.std.proofs.Common.{take-append-drop, drop, ℕ, ◌≡◌, refl, sym, ap, ◌∙◌, ◌+◌, ◌<◌, ◌≤◌, List, [], ◌∷◌, ◌++◌, length, length-append, take, arith}
 use Rattle.position_map.proofs.Words.{chars, IsUtf8, encode, encodes, nat_tests, encodes-chars, length-encode, TextUnit, Utf8, Utf16, Utf32, width}
 use Rattle.position_map.proofs.Words.{width_of}
 
@@ -13,10 +13,7 @@ width-append u [] ys = omega arith
 width-append u (x ∷ xs) ys = omega (arith, width-append u xs ys)
 
 pub width-take_le : (u : TextUnit) (cs : List ℕ) (k : ℕ) → width u (take k cs) ≤ width u cs
-width-take_le u [] zero = omega arith
-width-take_le u [] (suc k) = omega arith
-width-take_le u (c ∷ cs) zero = omega arith
-width-take_le u (c ∷ cs) (suc k) = omega (arith, width-take_le u cs k)
+width-take_le u cs k = omega (arith, ap (width u) (take-append-drop k cs), width-append u (take k cs) (drop k cs))
 
 pub width-scalars : (cs : List ℕ) → width Utf32 cs ≡ length cs
 width-scalars [] = refl

@@ -5,8 +5,8 @@ pub use Rattle.std.specs.Str.{chars, IsUtf8, IsCharBoundary}
 pub use Rattle.std.specs.Option.{option_map, unwrap_or, option_to_list, IfSome, ok_or, option_eq}
 pub use Rattle.std.specs.List.{slice_get, filter, flat_map}
 pub use Rattle.std.proofs.lemmas.Bool.Decides.{nat_tests}
-pub use Rattle.std.proofs.lemmas.List.{length-take-le, take-take, drop-take, drop_more, take_at, drop_at, length-map, map-append, at_drop_more}
-pub use Rattle.std.proofs.lemmas.List.{length-take, drop-drop, take_all}
+pub use Rattle.std.proofs.lemmas.List.{length-take-le, take-take, drop-take, drop_more, nil_from_length, take_at, drop_at, length-map, map-append}
+pub use Rattle.std.proofs.lemmas.List.{at_drop_more, length-take, drop-drop, take_all}
 pub use Rattle.std.proofs.lemmas.Option.{slice_get-map, slice_get_past, slice_get_within}
 pub use Rattle.std.proofs.lemmas.List.Sums.{count_by-le-length, sum_by-cons, sum_by-append}
 pub use Rattle.lane_ascii.specs.Marks.{is_mark, marks, ends_cr, IsNthMark, one_if, cr, lf}
