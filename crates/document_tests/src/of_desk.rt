@@ -8,7 +8,7 @@ use desk::{Command, Desk, Fault, Reply, TextMode};
 use enc_names::{Bom, Encoding, Labels};
 use index_loader::Indexes;
 use position_map::{Position, Range, Unit};
-use std::alloc::Global;
+use std::alloc::{AllocError, Global};
 use std::process::Abort;
 use std::test::Fail;
 
@@ -51,126 +51,198 @@ fn change(doc: &str, rev: u64) -> Command<'_> {
     })
 }
 
-/// Whether the command is refused for this cause.
-fn is_refused(desk: &mut Desk<'_>, command: &Command<'_>, cause: Fault) -> bool {
-    match desk.answer(command) {
-        Reply::Refused { fault } => fault == cause,
-        _ => false,
-    }
-}
-
-/// Whether the command is an edit that leaves this revision.
-fn is_edited(desk: &mut Desk<'_>, command: &Command<'_>, revision: u64) -> bool {
-    match desk.answer(command) {
-        Reply::Edited(reply) => reply.rev == revision,
-        _ => false,
-    }
-}
-
-/// Whether the first two code points are these, at the revision.
-fn has_text(desk: &mut Desk<'_>, doc: &str, revision: u64, wanted: &str) -> bool {
-    let both = Command::Text(Text {
+/// The first two code points.
+fn first_two(doc: &str) -> Command<'_> {
+    Command::Text(Text {
         doc,
         from: 0,
         to: 2,
         mode: TextMode::Replacement,
-    });
-    match desk.answer(&both) {
-        Reply::Text(reply) => reply.rev == revision && reply.text.as_str() == wanted,
+    })
+}
+
+/// A document of no byte.
+fn open(doc: &str) -> Command<'_> {
+    Command::Open(Open {
+        doc,
+        label: "utf-8",
+        bytes: "",
+        bom: Bom::Sniff,
+    })
+}
+
+/// What a command is answered.
+#[derive(Clone, Copy)]
+enum Answer<'a> {
+    /// It is refused for this cause.
+    Refused(Fault),
+    /// It is an edit that leaves this revision.
+    Edited(u64),
+    /// The text at the revision is this.
+    Text(u64, &'a str),
+    /// The document is closed, and had this revision.
+    Closed(u64),
+}
+
+/// Whether the reply is this answer.
+fn is_answer(reply: &Reply, answer: Answer<'_>) -> bool {
+    match (reply, answer) {
+        (Reply::Refused { fault }, Answer::Refused(cause)) => *fault == cause,
+        (Reply::Edited(reply), Answer::Edited(revision)) => reply.rev == revision,
+        (Reply::Text(reply), Answer::Text(revision, text)) => {
+            reply.rev == revision && reply.text.as_str() == text
+        }
+        (Reply::Closed { rev }, Answer::Closed(revision)) => *rev == revision,
         _ => false,
     }
 }
 
-/// Whether the document is closed, and had this revision.
-fn is_closed(desk: &mut Desk<'_>, doc: &str, revision: u64) -> bool {
-    match desk.answer(&Command::Close(Close { doc })) {
-        Reply::Closed { rev } => rev == revision,
-        _ => false,
+/// Whether the command has this answer. The one call of `Desk::answer` here: to prove a function with it
+/// takes long.
+fn is_answered(desk: &mut Desk<'_>, command: &Command<'_>, answer: Answer<'_>) -> bool {
+    is_answer(&desk.answer(command), answer)
+}
+
+/// The commands have these answers, one after another.
+fn are_answered(rt: &impl Abort, desk: &mut Desk<'_>, rows: &[(Command<'_>, Answer<'_>)]) {
+    for (number, (command, answer)) in rows.iter().enumerate() {
+        assert!(rt; is_answered(desk, command, *answer), "row {number}");
     }
+}
+
+/// Whether adopting the document is refused for this cause, or not at all. The one call of
+/// `Desk::adopt` here.
+fn is_adopted(
+    rt: &impl Abort,
+    desk: &mut Desk<'_>,
+    (name, given): (&str, Encoding),
+    (bytes, revision): (&[u8], u64),
+    cause: Option<Fault>,
+) -> bool {
+    assert!(rt; 1 <= name.len() && name.len() <= 64 && revision <= LAST);
+    desk.adopt(name, given, Bom::Sniff, bytes, revision).err() == cause
+}
+
+/// A desk without index files, whose labels are the names alone.
+fn new_desk<'i>(alloc: Global, indexes: &'i Indexes) -> Result<Desk<'i>, Fail> {
+    Ok(Desk::new(alloc, indexes, Labels::names(alloc)?)?)
 }
 
 /// Edits of a document at the last revision but one, and at the last.
 fn is_edited_once_more(rt: &impl Abort, desk: &mut Desk<'_>) {
-    let stale = Fault::Stale { rev: LAST };
-    assert_eq!(rt;
-        desk.adopt("d", Encoding::Utf8, Bom::Sniff, b"a", LAST - 1),
-        Ok(())
-    );
-    assert!(rt; is_edited(desk, &splice("d", LAST - 1, 1), LAST));
-    assert!(rt; is_refused(desk, &splice("d", LAST - 1, 9), stale));
-    assert!(rt; is_refused(desk, &change("d", 7), stale));
-    assert!(rt; is_refused(desk, &splice("d", LAST, 9), Fault::RevisionsSpent));
-    assert!(rt; is_refused(desk, &change("d", LAST), Fault::RevisionsSpent));
-    assert!(rt; has_text(desk, "d", LAST, "ab"));
-    assert!(rt; is_closed(desk, "d", LAST));
+    let stale = Answer::Refused(Fault::Stale { rev: LAST });
+    let spent = Answer::Refused(Fault::RevisionsSpent);
+    let rows = [
+        (splice("d", LAST - 1, 1), Answer::Edited(LAST)),
+        (splice("d", LAST - 1, 9), stale),
+        (change("d", 7), stale),
+        (splice("d", LAST, 9), spent),
+        (change("d", LAST), spent),
+        (first_two("d"), Answer::Text(LAST, "ab")),
+        (Command::Close(Close { doc: "d" }), Answer::Closed(LAST)),
+    ];
+    assert!(rt; is_adopted(rt, desk, ("d", Encoding::Utf8), (b"a", LAST - 1), None));
+    are_answered(rt, desk, &rows);
 }
 
 /// A document that is adopted at the last revision.
 fn is_never_edited(rt: &impl Abort, desk: &mut Desk<'_>) {
-    let open = Command::Open(Open {
-        doc: "e",
-        label: "utf-8",
-        bytes: "",
-        bom: Bom::Sniff,
-    });
-    assert_eq!(rt;
-        desk.adopt("e", Encoding::Utf8, Bom::Sniff, b"\xE2\x82A", LAST),
-        Ok(())
-    );
-    assert!(rt; is_refused(desk, &splice("e", LAST, 0), Fault::RevisionsSpent));
-    assert!(rt; has_text(desk, "e", LAST, "\u{fffd}A"));
-    assert!(rt; is_refused(desk, &open, Fault::NameTaken));
+    let rows = [
+        (splice("e", LAST, 0), Answer::Refused(Fault::RevisionsSpent)),
+        (first_two("e"), Answer::Text(LAST, "\u{fffd}A")),
+        (open("e"), Answer::Refused(Fault::NameTaken)),
+    ];
+    assert!(rt; is_adopted(rt, desk, ("e", Encoding::Utf8), (b"\xE2\x82A", LAST), None));
+    are_answered(rt, desk, &rows);
 }
 
 #[test]
 fn adopted_at_the_last_revisions(rt: HostRuntime) -> Result<(), Fail> {
     truncated_sequence_is_completed();
     let indexes = Indexes::new();
-    let mut desk = Desk::new(rt.alloc(), &indexes, Labels::names(rt.alloc())?)?;
+    let mut desk = new_desk(rt.alloc(), &indexes)?;
     is_edited_once_more(&rt, &mut desk);
     is_never_edited(&rt, &mut desk);
     Ok(())
 }
 
 /// Adopts 63 documents of no byte, whose names are 1 to 63 letters.
-fn adopt_sixty_three(rt: &impl Abort, alloc: Global, desk: &mut Desk<'_>) -> Result<(), Fail> {
+fn adopt_sixty_three(
+    rt: &impl Abort,
+    alloc: Global,
+    desk: &mut Desk<'_>,
+) -> Result<(), AllocError> {
     let mut name = String::new(alloc);
     for _ in 0..63 {
         name.push_str("d")?;
-        assert!(rt; 1 <= name.len() && name.len() <= 64);
-        assert_eq!(rt;
-            desk.adopt(name.as_str(), Encoding::Utf8, Bom::Sniff, b"", 0),
-            Ok(())
-        );
+        let adopted = is_adopted(rt, desk, (name.as_str(), Encoding::Utf8), (b"", 0), None);
+        assert!(rt; adopted);
     }
+    Ok(())
+}
+
+/// What is adopted on the desk with 63 documents, of a byte too many and of as many as there may be,
+/// and why it is refused.
+const ADOPTIONS: [(&str, Encoding, Bytes, Option<Fault>); 2] = [
+    ("e", Encoding::Utf8, Bytes::TooMany, Some(Fault::TooLarge)),
+    ("e", Encoding::Utf8, Bytes::Most, None),
+];
+
+/// The same on the desk with 64 documents.
+const ADOPTIONS_PAST_THE_LAST: [(&str, Encoding, Bytes, Option<Fault>); 3] = [
+    ("d", Encoding::Big5, Bytes::TooMany, Some(Fault::NameTaken)),
+    ("f", Encoding::Big5, Bytes::TooMany, Some(Fault::NoIndex)),
+    (
+        "f",
+        Encoding::Utf8,
+        Bytes::TooMany,
+        Some(Fault::TooManyDocuments),
+    ),
+];
+
+/// How many bytes a document has.
+#[derive(Clone, Copy)]
+enum Bytes {
+    /// As many as there may be.
+    Most,
+    /// One more.
+    TooMany,
+}
+
+/// Adopts the documents at revision 7, some of all of these bytes and some of one less.
+fn are_adopted(
+    rt: &impl Abort,
+    desk: &mut Desk<'_>,
+    too_large: &[u8],
+    rows: &[(&str, Encoding, Bytes, Option<Fault>)],
+) {
+    for (name, given, bytes, cause) in rows {
+        let bytes = match bytes {
+            Bytes::Most => too_large.get(1..).unwrap_or(&[]),
+            Bytes::TooMany => too_large,
+        };
+        let adopted = is_adopted(rt, desk, (name, *given), (bytes, 7), *cause);
+        assert!(rt; adopted, "{name}, {cause:?}");
+    }
+}
+
+/// Adopts up to the last document and past it.
+fn adopt_past_the_last(
+    rt: &impl Abort,
+    alloc: Global,
+    desk: &mut Desk<'_>,
+) -> Result<(), AllocError> {
+    let too_large = vec![in alloc; b'a'; 16_777_217]?;
+    adopt_sixty_three(rt, alloc, desk)?;
+    are_adopted(rt, desk, &too_large, &ADOPTIONS);
+    are_answered(rt, desk, &[(first_two("e"), Answer::Text(7, "aa"))]);
+    are_adopted(rt, desk, &too_large, &ADOPTIONS_PAST_THE_LAST);
     Ok(())
 }
 
 #[test]
 fn adoptions_refused_in_their_order(rt: HostRuntime) -> Result<(), Fail> {
     let indexes = Indexes::new();
-    let mut desk = Desk::new(rt.alloc(), &indexes, Labels::names(rt.alloc())?)?;
-    let too_large = vec![in rt.alloc(); b'a'; 16_777_217]?;
-    let utf8 = Encoding::Utf8;
-    adopt_sixty_three(&rt, rt.alloc(), &mut desk)?;
-    assert_eq!(&rt;
-        desk.adopt("e", utf8, Bom::Sniff, &too_large, 7),
-        Err(Fault::TooLarge)
-    );
-    assert_eq!(&rt;
-        desk.adopt("e", utf8, Bom::Sniff, &too_large[1..], 7),
-        Ok(())
-    );
-    assert!(&rt; has_text(&mut desk, "e", 7, "aa"));
-    let (taken, full) = (Err(Fault::NameTaken), Err(Fault::TooManyDocuments));
-    assert_eq!(&rt;
-        desk.adopt("d", Encoding::Big5, Bom::Sniff, &too_large, 7),
-        taken
-    );
-    assert_eq!(&rt;
-        desk.adopt("f", Encoding::Big5, Bom::Sniff, &too_large, 7),
-        Err(Fault::NoIndex)
-    );
-    assert_eq!(&rt; desk.adopt("f", utf8, Bom::Sniff, &too_large, 7), full);
-    Ok(())
+    let mut desk = new_desk(rt.alloc(), &indexes)?;
+    Ok(adopt_past_the_last(&rt, rt.alloc(), &mut desk)?)
 }

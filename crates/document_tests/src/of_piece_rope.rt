@@ -2,7 +2,7 @@
 //! keeps byte order marks as the document does, and what pieces remember where an edit of several
 //! parts is taken back.
 
-use decoder_core::meter;
+use decoder_core::{Meter, meter};
 use enc_names::{Bom, Encoding, Setting};
 use index_loader::Indexes;
 use piece_rope::{Doc, DocFault};
@@ -14,6 +14,7 @@ mod copies;
 mod kept;
 mod marks;
 mod meters;
+mod scripts;
 mod several;
 
 /// So many bytes `a` and then these.
@@ -23,21 +24,22 @@ fn behind_letters(alloc: Global, count: usize, bytes: &[u8]) -> Result<Vec<u8>, 
     Ok(all)
 }
 
-/// The document has this text from one code point to another.
-fn has_text(
-    rt: &impl Abort,
-    doc: &Doc<'_>,
-    from: u64,
-    to: u64,
-    text: &str,
-) -> Result<(), DocFault> {
-    assert_eq!(rt; doc.text(from, to)?.as_str(), text);
-    Ok(())
+/// So many letters `A` in UTF-16LE.
+fn letters(alloc: Global, count: usize) -> Result<Vec<u8>, DocFault> {
+    let mut bytes = Vec::new(alloc);
+    for _ in 0..count {
+        bytes.extend_from_slice(&[0x41, 0x00])?;
+    }
+    Ok(bytes)
 }
 
-/// How far the splice raises the meter.
-fn raised(doc: &mut Doc<'_>, at: u64, del: u64, ins: &[u8]) -> Result<u64, DocFault> {
-    let mut meter = meter();
-    doc.splice(at, del, ins, &mut meter)?;
-    Ok(meter.decoded())
+/// The document of these bytes.
+fn opened<'i>(
+    alloc: Global,
+    indexes: &'i Indexes,
+    given: Encoding,
+    bom: Bom,
+    bytes: &[u8],
+) -> Result<Doc<'i>, DocFault> {
+    Doc::open(alloc, indexes, given, bom, bytes, &mut meter())
 }

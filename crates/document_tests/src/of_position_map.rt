@@ -3,10 +3,11 @@
 use decoder_core::meter;
 use enc_names::{Bom, Encoding};
 use index_loader::Indexes;
-use piece_rope::{Axis, DOCUMENT_LIMIT, Doc};
+use piece_rope::{Axis, DOCUMENT_LIMIT, Doc, DocFault};
 use position_map::{
     Position, Unit, byte_to_scalar, convert, line, scalar_to_place, to_offset, to_position,
 };
+use std::alloc::{AllocError, Global};
 use std::process::Abort;
 use std::test::Fail;
 use sum_tree::visits;
@@ -40,55 +41,101 @@ fn visits_few(rt: &impl Abort, doc: &Doc<'_>, hundredths: u64) {
 
 /// Those that are asked by the number of a line.
 fn few_by_lines(rt: &impl Abort, doc: &Doc<'_>, number: u64) {
-    let mut of_line = visits();
-    line(doc, number, &mut of_line);
-    assert!(rt; of_line.visited() <= MOST);
-    let position = Position {
-        line: number,
-        character: 3,
-    };
-    let mut of_offset = visits();
-    let _ = to_offset(doc, position, Unit::Utf16, &mut of_offset);
-    assert!(rt; of_offset.visited() <= MOST);
+    assert!(rt; of_line(doc, number) <= MOST);
+    assert!(rt; of_offset(doc, number) <= MOST);
 }
 
 /// Those that are asked by an offset or a byte.
 fn few_by_offsets(rt: &impl Abort, doc: &Doc<'_>, offset: u64, at: u64) {
-    let mut of_position = visits();
-    let _ = to_position(doc, offset, Unit::Utf16, &mut of_position);
-    assert!(rt; of_position.visited() <= MOST);
-    let mut of_scalar = visits();
-    let _ = byte_to_scalar(doc, at, &mut of_scalar);
-    assert!(rt; of_scalar.visited() <= MOST);
-    let mut of_place = visits();
-    scalar_to_place(doc, offset, &mut of_place);
-    assert!(rt; of_place.visited() <= MOST);
-    let mut of_units = visits();
-    let _ = convert(doc, offset, Unit::Utf32, Unit::Utf16, &mut of_units);
-    assert!(rt; of_units.visited() <= MOST);
+    assert!(rt; of_position(doc, offset) <= MOST);
+    assert!(rt; of_scalar(doc, at) <= MOST);
+    assert!(rt; of_place(doc, offset) <= MOST);
+    assert!(rt; of_units(doc, offset) <= MOST);
+}
+
+/// How many nodes `line` visits. Each call is in a function of its own that promises nothing, since to
+/// prove a function that has many promises takes long.
+fn of_line(doc: &Doc<'_>, number: u64) -> u64 {
+    let mut visited = visits();
+    line(doc, number, &mut visited);
+    visited.visited()
+}
+
+/// How many `to_offset` visits.
+fn of_offset(doc: &Doc<'_>, number: u64) -> u64 {
+    let position = Position {
+        line: number,
+        character: 3,
+    };
+    let mut visited = visits();
+    let _ = to_offset(doc, position, Unit::Utf16, &mut visited);
+    visited.visited()
+}
+
+/// How many `to_position` visits.
+fn of_position(doc: &Doc<'_>, offset: u64) -> u64 {
+    let mut visited = visits();
+    let _ = to_position(doc, offset, Unit::Utf16, &mut visited);
+    visited.visited()
+}
+
+/// How many `byte_to_scalar` visits.
+fn of_scalar(doc: &Doc<'_>, at: u64) -> u64 {
+    let mut visited = visits();
+    let _ = byte_to_scalar(doc, at, &mut visited);
+    visited.visited()
+}
+
+/// How many `scalar_to_place` visits.
+fn of_place(doc: &Doc<'_>, offset: u64) -> u64 {
+    let mut visited = visits();
+    scalar_to_place(doc, offset, &mut visited);
+    visited.visited()
+}
+
+/// How many `convert` visits.
+fn of_units(doc: &Doc<'_>, offset: u64) -> u64 {
+    let mut visited = visits();
+    let _ = convert(doc, offset, Unit::Utf32, Unit::Utf16, &mut visited);
+    visited.visited()
+}
+
+/// So many lines of 16 bytes.
+fn lines(alloc: Global, count: usize) -> Result<Vec<u8>, AllocError> {
+    let line = "ab\u{e9}\u{1f600}\u{3042}cde\r\n".as_bytes();
+    let mut bytes = Vec::with_capacity(alloc, DOCUMENT_LIMIT)?;
+    for _ in 0..count {
+        bytes.extend_from_slice(line)?;
+    }
+    Ok(bytes)
+}
+
+/// The document of these bytes, which are UTF-8.
+fn opened<'i>(alloc: Global, indexes: &'i Indexes, bytes: &[u8]) -> Result<Doc<'i>, DocFault> {
+    Doc::open(
+        alloc,
+        indexes,
+        Encoding::Utf8,
+        Bom::Sniff,
+        bytes,
+        &mut meter(),
+    )
+}
+
+/// Asserts that calls in a document of the greatest length visit few nodes.
+fn visits_few_anywhere(rt: &impl Abort, doc: &Doc<'_>) {
+    assert!(rt; doc.lengths().bytes == 16_777_216);
+    assert!(rt; count_pieces(doc) <= 32_769);
+    for hundredths in 0..101 {
+        visits_few(rt, doc, hundredths);
+    }
 }
 
 #[test]
 fn few_nodes_of_32769_pieces(rt: HostRuntime) -> Result<(), Fail> {
-    let alloc = rt.alloc();
     let indexes = Indexes::new();
-    let lines = "ab\u{e9}\u{1f600}\u{3042}cde\r\n".as_bytes();
-    let mut bytes = Vec::with_capacity(alloc, DOCUMENT_LIMIT)?;
-    for _ in 0..1_048_576 {
-        bytes.extend_from_slice(lines)?;
-    }
-    let doc = Doc::open(
-        alloc,
-        &indexes,
-        Encoding::Utf8,
-        Bom::Sniff,
-        &bytes,
-        &mut meter(),
-    )?;
-    assert_eq!(rt; doc.lengths().bytes, 16_777_216);
-    assert!(rt; count_pieces(&doc) <= 32_769);
-    for hundredths in 0..101 {
-        visits_few(&rt, &doc, hundredths);
-    }
+    let bytes = lines(rt.alloc(), 1_048_576)?;
+    let doc = opened(rt.alloc(), &indexes, &bytes)?;
+    visits_few_anywhere(&rt, &doc);
     Ok(())
 }

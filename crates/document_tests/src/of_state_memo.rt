@@ -35,43 +35,130 @@ fn outcome_from(
     computed(&piece, decoder, entry, meter)
 }
 
-/// What the second of two pieces decodes to.
-fn outcome_of_second(
+/// What is tried of a decoder.
+#[derive(Clone, Copy)]
+enum Trial<'a> {
+    /// Two pieces of the bytes and what the end gives have this text, wherever the cut is.
+    Cut(&'a [u8], &'a str),
+    /// What a piece of the second bytes decodes to where the first stand in front of it.
+    Behind(&'a [u8], &'a [u8], Shape<'a>),
+    /// The bytes have no text, and the end gives an error.
+    CutShort(&'a [u8]),
+    /// A fifth outcome forgets the one that was entered longest ago.
+    Forgets,
+}
+
+/// What an outcome is.
+#[derive(Clone, Copy)]
+enum Shape<'a> {
+    /// One run, whose last item this is.
+    OneRun(Ended),
+    /// Code points that end there, in so many runs.
+    Ends(&'a [i64], usize),
+    /// A pair of bytes that is two code points, and a letter.
+    TwoCodePoints,
+    /// A yen sign behind an escape.
+    Yen,
+}
+
+/// Tries it with a decoder of the encoding over small indexes. Here as below a function has one value
+/// of a large type, as the indexes, a decoder or an outcome: with several it would be long to prove.
+fn is_tried(
+    rt: &impl Abort,
+    alloc: Global,
+    encoding: Encoding,
+    trial: Trial<'_>,
+) -> Result<(), Fail> {
+    let indexes = small_indexes(alloc)?;
+    is_tried_over(rt, alloc, &indexes, encoding, trial)
+}
+
+fn is_tried_over(
+    rt: &impl Abort,
+    alloc: Global,
+    indexes: &Indexes,
+    encoding: Encoding,
+    trial: Trial<'_>,
+) -> Result<(), Fail> {
+    let decoder = AnyDecoder::new(indexes, encoding, Bom::Sniff);
+    match &decoder {
+        Some(decoder) => Ok(is_tried_by(rt, alloc, decoder, trial)?),
+        None => Err(Fail::from(CodecFault::NoIndex)),
+    }
+}
+
+fn is_tried_by(
+    rt: &impl Abort,
     alloc: Global,
     decoder: &AnyDecoder<'_>,
-    front: &[u8],
-    back: &[u8],
+    trial: Trial<'_>,
+) -> Result<(), OutOfMemory> {
+    match trial {
+        Trial::Cut(bytes, text) => decodes_cut(rt, alloc, decoder, bytes, text),
+        Trial::Behind(before, bytes, shape) => {
+            has_shape(rt, alloc, decoder, (before, bytes), shape)
+        }
+        Trial::CutShort(bytes) => ends_in_an_error(rt, alloc, decoder, bytes),
+        Trial::Forgets => forgets_the_first(rt, alloc, decoder),
+    }
+}
+
+/// Puts the text of a piece of the bytes behind another, and returns the state behind it.
+fn put_piece(
+    alloc: Global,
+    decoder: &AnyDecoder<'_>,
+    entry: AnyState,
+    bytes: &[u8],
+    text: &mut String,
     meter: &mut Meter,
-) -> Result<Outcome, OutOfMemory> {
-    let first = outcome_from(alloc, decoder, start_of(decoder), front, meter)?;
-    outcome_from(alloc, decoder, first.exit, back, meter)
+) -> Result<AnyState, OutOfMemory> {
+    let here = outcome_from(alloc, decoder, entry, bytes, meter)?;
+    text.push_str(here.text.as_str())?;
+    Ok(here.exit)
+}
+
+/// Puts the text that the end gives behind another.
+fn put_end(
+    alloc: Global,
+    decoder: &AnyDecoder<'_>,
+    state: AnyState,
+    text: &mut String,
+) -> Result<(), OutOfMemory> {
+    let last = finish_of(alloc, decoder, state)?;
+    text.push_str(last.text.as_str())?;
+    Ok(())
 }
 
 /// The texts of two pieces and of what the end gives, one behind another.
 fn text_of_two(
     alloc: Global,
     decoder: &AnyDecoder<'_>,
-    front: &[u8],
-    back: &[u8],
+    (front, back): (&[u8], &[u8]),
     meter: &mut Meter,
 ) -> Result<String, OutOfMemory> {
-    let first = outcome_from(alloc, decoder, start_of(decoder), front, meter)?;
-    let second = outcome_from(alloc, decoder, first.exit, back, meter)?;
-    let last = finish_of(alloc, decoder, second.exit)?;
-    join(
-        alloc,
-        first.text.as_str(),
-        second.text.as_str(),
-        last.text.as_str(),
-    )
+    let mut text = String::new(alloc);
+    let state = put_piece(alloc, decoder, start_of(decoder), front, &mut text, meter)?;
+    let state = put_piece(alloc, decoder, state, back, &mut text, meter)?;
+    put_end(alloc, decoder, state, &mut text)?;
+    Ok(text)
 }
 
-/// Three texts, one behind another.
-fn join(alloc: Global, first: &str, second: &str, last: &str) -> Result<String, OutOfMemory> {
-    let mut all = String::from_str(alloc, first)?;
-    all.push_str(second)?;
-    all.push_str(last)?;
-    Ok(all)
+/// Whether two pieces of the bytes and what the end gives have this text, each byte decoded once.
+fn is_text_of_two(
+    alloc: Global,
+    decoder: &AnyDecoder<'_>,
+    bytes: &[u8],
+    cut: usize,
+    text: &str,
+) -> Result<bool, OutOfMemory> {
+    let mut decoded = meter();
+    let whole = text_of_two(
+        alloc,
+        decoder,
+        bytes.split_at(cut.min(bytes.len())),
+        &mut decoded,
+    )?;
+    Ok(whole.as_str() == text && decoded.decoded() == bytes.len() as u64)
 }
 
 /// Two pieces of the bytes and what the end gives have this text, wherever the cut is.
@@ -83,13 +170,22 @@ fn decodes_cut(
     text: &str,
 ) -> Result<(), OutOfMemory> {
     for cut in 0..bytes.len() {
-        let (front, back) = bytes.split_at(cut);
-        let mut decoded = meter();
-        let parts = text_of_two(alloc, decoder, front, back, &mut decoded)?;
-        assert_eq!(rt; parts.as_str(), text, "cut at {cut}");
-        assert_eq!(rt; decoded.decoded(), bytes.len() as u64);
+        let same = is_text_of_two(alloc, decoder, bytes, cut, text)?;
+        assert!(rt; same, "cut at {cut}, for {text}");
     }
     Ok(())
+}
+
+/// Whether decoding the bytes whole gives this text.
+fn is_text_of_whole(
+    alloc: Global,
+    encoding: Encoding,
+    bytes: &[u8],
+    text: &str,
+) -> Result<bool, Fail> {
+    let indexes = small_indexes(alloc)?;
+    let whole = decode_whole(alloc, &indexes, encoding, Bom::Sniff, bytes)?;
+    Ok(whole.text.as_str() == text)
 }
 
 /// Two pieces of the bytes and what the end gives have this text, wherever the cut is, and so has
@@ -101,11 +197,9 @@ fn decodes(
     bytes: &[u8],
     text: &str,
 ) -> Result<(), Fail> {
-    let indexes = small_indexes(alloc)?;
-    let whole = decode_whole(alloc, &indexes, encoding, Bom::Sniff, bytes)?;
-    assert_eq!(rt; whole.text.as_str(), text);
-    let decoder = AnyDecoder::new(&indexes, encoding, Bom::Sniff).ok_or(CodecFault::NoIndex)?;
-    Ok(decodes_cut(rt, alloc, &decoder, bytes, text)?)
+    let same = is_text_of_whole(alloc, encoding, bytes, text)?;
+    assert!(rt; same, "{text}");
+    is_tried(rt, alloc, encoding, Trial::Cut(bytes, text))
 }
 
 /// Texts of each family, cut short by the end or not, and of each byte order mark.
@@ -152,16 +246,53 @@ fn each_family_of_encodings(rt: HostRuntime) -> Result<(), Fail> {
     Ok(())
 }
 
-/// What a piece of the bytes decodes to where the bytes `before` stand in front of it.
-fn outcome_behind(
+/// The state behind these bytes.
+fn exit_of(alloc: Global, decoder: &AnyDecoder<'_>, bytes: &[u8]) -> Result<AnyState, OutOfMemory> {
+    let mut text = String::new(alloc);
+    put_piece(
+        alloc,
+        decoder,
+        start_of(decoder),
+        bytes,
+        &mut text,
+        &mut meter(),
+    )
+}
+
+/// What a piece of the second bytes decodes to where the first stand in front of it has this shape.
+fn has_shape(
+    rt: &impl Abort,
+    alloc: Global,
+    decoder: &AnyDecoder<'_>,
+    (before, bytes): (&[u8], &[u8]),
+    shape: Shape<'_>,
+) -> Result<(), OutOfMemory> {
+    let entry = exit_of(alloc, decoder, before)?;
+    let here = outcome_from(alloc, decoder, entry, bytes, &mut meter())?;
+    assert!(rt; is_shaped(&here, shape), "{bytes:?}");
+    Ok(())
+}
+
+/// Whether the outcome has this shape.
+fn is_shaped(here: &Outcome, shape: Shape<'_>) -> bool {
+    match shape {
+        Shape::OneRun(last) => is_one_run(here, last),
+        Shape::Ends(ends, runs) => has_ends(here, ends, runs),
+        Shape::TwoCodePoints => are_before(here) && are_items(here),
+        Shape::Yen => is_yen(here),
+    }
+}
+
+/// A piece that is entered behind the first two bytes of itself has this shape.
+fn has_shape_behind_two(
+    rt: &impl Abort,
     alloc: Global,
     encoding: Encoding,
-    before: &[u8],
     bytes: &[u8],
-) -> Result<Outcome, Fail> {
-    let indexes = small_indexes(alloc)?;
-    let decoder = AnyDecoder::new(&indexes, encoding, Bom::Sniff).ok_or(CodecFault::NoIndex)?;
-    Ok(outcome_of_second(alloc, &decoder, before, bytes, &mut meter())?)
+    shape: Shape<'_>,
+) -> Result<(), Fail> {
+    let (front, _) = bytes.split_at(bytes.len().min(2));
+    is_tried(rt, alloc, encoding, Trial::Behind(front, bytes, shape))
 }
 
 /// Whether the items are one run, the last of which is this.
@@ -171,28 +302,14 @@ fn is_one_run(outcome: &Outcome, last: Ended) -> bool {
         && outcome.items.get(outcome.sum.scalars).is_none()
 }
 
-/// A piece that is entered behind the first two bytes of itself has one run, whose last item this is.
-fn has_one_run(
-    rt: &impl Abort,
-    alloc: Global,
-    encoding: Encoding,
-    bytes: &[u8],
-    last: Ended,
-) -> Result<(), Fail> {
-    let (front, _) = bytes.split_at(bytes.len().min(2));
-    let piece = outcome_behind(alloc, encoding, front, bytes)?;
-    assert!(rt; is_one_run(&piece, last), "{encoding:?}");
-    Ok(())
-}
-
 #[test]
 fn letters_are_one_run(rt: HostRuntime) -> Result<(), Fail> {
-    let last = Ended {
+    let last = Shape::OneRun(Ended {
         scalars: 1,
         end: 2048,
         error: false,
         output: OutputState::Ascii,
-    };
+    });
     let encodings = [
         Encoding::Utf8,
         Encoding::Windows1252,
@@ -205,36 +322,31 @@ fn letters_are_one_run(rt: HostRuntime) -> Result<(), Fail> {
         Encoding::XUserDefined,
     ];
     for encoding in encodings.iter() {
-        has_one_run(&rt, rt.alloc(), *encoding, &[0x61; 2048], last)?;
+        has_shape_behind_two(&rt, rt.alloc(), *encoding, &[0x61; 2048], last)?;
     }
     // The units 6161 of UTF-16.
-    has_one_run(&rt, rt.alloc(), Encoding::Utf16Le, &[0x61; 2048], last)
+    has_shape_behind_two(&rt, rt.alloc(), Encoding::Utf16Le, &[0x61; 2048], last)
 }
 
-/// The items of a piece that is entered behind the first two bytes of itself are code points that
-/// end there, in so many runs.
-fn has_ends(
-    rt: &impl Abort,
-    alloc: Global,
-    encoding: Encoding,
-    bytes: &[u8],
-    ends: &[i64],
-    runs: usize,
-) -> Result<(), Fail> {
-    let (front, _) = bytes.split_at(bytes.len().min(2));
-    let here = outcome_behind(alloc, encoding, front, bytes)?;
+/// Whether the items are code points that end there, in so many runs.
+fn has_ends(here: &Outcome, ends: &[i64], runs: usize) -> bool {
     for (k, end) in ends.iter().enumerate() {
-        let item = Ended {
-            scalars: 1,
-            end: *end,
-            error: false,
-            output: OutputState::Ascii,
-        };
-        assert_eq!(rt; here.items.get(k as u64), Some(item), "item {k}");
+        if !ends_at(here, k as u64, *end) {
+            return false;
+        }
     }
-    assert_eq!(rt; here.items.get(ends.len() as u64), None);
-    assert_eq!(rt; here.items.runs().len(), runs);
-    Ok(())
+    here.items.get(ends.len() as u64).is_none() && here.items.runs().len() == runs
+}
+
+/// Whether the item of this number is a code point that ends there.
+fn ends_at(here: &Outcome, k: u64, end: i64) -> bool {
+    let item = Ended {
+        scalars: 1,
+        end,
+        error: false,
+        output: OutputState::Ascii,
+    };
+    here.items.get(k) == Some(item)
 }
 
 #[test]
@@ -260,7 +372,8 @@ fn stretches_of_one_width_are_runs(rt: HostRuntime) -> Result<(), Fail> {
         ),
     ];
     for (encoding, bytes, ends, runs) in cases.iter() {
-        has_ends(&rt, rt.alloc(), *encoding, bytes, ends, *runs)?;
+        let shape = Shape::Ends(ends, *runs);
+        has_shape_behind_two(&rt, rt.alloc(), *encoding, bytes, shape)?;
     }
     Ok(())
 }
@@ -283,10 +396,8 @@ fn are_items(here: &Outcome) -> bool {
 
 #[test]
 fn items_of_two_code_points(rt: HostRuntime) -> Result<(), Fail> {
-    let here = outcome_behind(rt.alloc(), Encoding::Big5, b"", b"\x88\x62A")?;
-    assert!(&rt; are_before(&here));
-    assert!(&rt; are_items(&here));
-    Ok(())
+    let trial = Trial::Behind(b"", b"\x88\x62A", Shape::TwoCodePoints);
+    is_tried(&rt, rt.alloc(), Encoding::Big5, trial)
 }
 
 /// A yen sign behind an escape.
@@ -304,9 +415,8 @@ fn is_yen(here: &Outcome) -> bool {
 
 #[test]
 fn output_state_behind_an_escape(rt: HostRuntime) -> Result<(), Fail> {
-    let here = outcome_behind(rt.alloc(), Encoding::Iso2022Jp, b"", b"\x1B(J\\")?;
-    assert!(&rt; is_yen(&here));
-    Ok(())
+    let trial = Trial::Behind(b"", b"\x1B(J\\", Shape::Yen);
+    is_tried(&rt, rt.alloc(), Encoding::Iso2022Jp, trial)
 }
 
 /// An error that the end gives, which has no byte.
@@ -323,17 +433,26 @@ fn is_error_at_the_end(last: &Outcome) -> bool {
         && last.sum.bytes == 0
 }
 
+/// The bytes have no text, and the end gives an error.
+fn ends_in_an_error(
+    rt: &impl Abort,
+    alloc: Global,
+    decoder: &AnyDecoder<'_>,
+    bytes: &[u8],
+) -> Result<(), OutOfMemory> {
+    let mut text = String::new(alloc);
+    let start = start_of(decoder);
+    let exit = put_piece(alloc, decoder, start, bytes, &mut text, &mut meter())?;
+    assert!(rt; text.as_str() == "");
+    let last = finish_of(alloc, decoder, exit)?;
+    assert!(rt; is_error_at_the_end(&last));
+    Ok(())
+}
+
 #[test]
 fn utf8_sequence_cut_short_by_the_end(rt: HostRuntime) -> Result<(), Fail> {
-    let alloc = rt.alloc();
-    let indexes = Indexes::new();
-    let decoder = AnyDecoder::new(&indexes, Encoding::Utf8, Bom::Sniff).ok_or(CodecFault::NoIndex)?;
-    let start = start_of(&decoder);
-    let here = outcome_from(alloc, &decoder, start, b"\xF0\x9F\x98", &mut meter())?;
-    assert!(&rt; here.text.as_str() == "");
-    let last = finish_of(alloc, &decoder, here.exit)?;
-    assert!(&rt; is_error_at_the_end(&last));
-    Ok(())
+    let trial = Trial::CutShort(b"\xF0\x9F\x98");
+    is_tried(&rt, rt.alloc(), Encoding::Utf8, trial)
 }
 
 /// Computes the outcome from the state behind the beginning of a mark, and remembers it.
@@ -374,24 +493,41 @@ fn are_remembered(rt: &impl Abort, piece: &Piece, rows: &[(Prefix, Option<&str>)
     }
 }
 
+/// Remembers four outcomes, moves the first of them to the front, and remembers a fifth.
+fn remember_five(
+    rt: &impl Abort,
+    piece: &mut Piece,
+    decoder: &AnyDecoder<'_>,
+) -> Result<(), OutOfMemory> {
+    let four = [Prefix::Nothing, Prefix::Ef, Prefix::EfBb, Prefix::Fe];
+    remember_each(piece, decoder, &four)?;
+    assert!(rt; piece.move_first(AnyState::Sniffing(Prefix::Nothing)));
+    remember_each(piece, decoder, &[Prefix::Ff])
+}
+
+/// The texts that are then remembered.
+const REMEMBERED: [(Prefix, Option<&str>); 5] = [
+    (Prefix::Nothing, Some("a")),
+    (Prefix::Ef, None),
+    (Prefix::EfBb, Some("\u{FFFD}a")),
+    (Prefix::Fe, Some("\u{FFFD}a")),
+    (Prefix::Ff, Some("\u{FFFD}a")),
+];
+
+/// A fifth outcome forgets the one that was entered longest ago.
+fn forgets_the_first(
+    rt: &impl Abort,
+    alloc: Global,
+    decoder: &AnyDecoder<'_>,
+) -> Result<(), OutOfMemory> {
+    let mut piece = Piece::new(alloc, b"a")?;
+    remember_five(rt, &mut piece, decoder)?;
+    are_remembered(rt, &piece, &REMEMBERED);
+    assert!(rt; !piece.move_first(AnyState::Sniffing(Prefix::Ef)));
+    Ok(())
+}
+
 #[test]
 fn a_fifth_outcome_forgets_the_one_entered_longest_ago(rt: HostRuntime) -> Result<(), Fail> {
-    let alloc = rt.alloc();
-    let indexes = Indexes::new();
-    let decoder = AnyDecoder::new(&indexes, Encoding::Utf8, Bom::Sniff).ok_or(CodecFault::NoIndex)?;
-    let mut piece = Piece::new(alloc, b"a")?;
-    let four = [Prefix::Nothing, Prefix::Ef, Prefix::EfBb, Prefix::Fe];
-    remember_each(&mut piece, &decoder, &four)?;
-    assert!(&rt; piece.move_first(AnyState::Sniffing(Prefix::Nothing)));
-    remember_each(&mut piece, &decoder, &[Prefix::Ff])?;
-    let rows = [
-        (Prefix::Nothing, Some("a")),
-        (Prefix::Ef, None),
-        (Prefix::EfBb, Some("\u{FFFD}a")),
-        (Prefix::Fe, Some("\u{FFFD}a")),
-        (Prefix::Ff, Some("\u{FFFD}a")),
-    ];
-    are_remembered(&rt, &piece, &rows);
-    assert!(&rt; !piece.move_first(AnyState::Sniffing(Prefix::Ef)));
-    Ok(())
+    is_tried(&rt, rt.alloc(), Encoding::Utf8, Trial::Forgets)
 }

@@ -20,6 +20,13 @@ struct Case {
     left: Option<&'static [u8]>,
 }
 
+/// A splice, and the code points that it is to replace.
+#[derive(Clone, Copy)]
+struct Edit {
+    splice: (u64, u64, &'static [u8]),
+    replaced: (u64, u64, &'static str),
+}
+
 /// The bytes between so many letters in front of them and so many behind.
 fn between(alloc: Global, front: usize, bytes: &[u8], back: usize) -> Result<Vec<u8>, DocFault> {
     let mut all = behind_letters(alloc, front, bytes)?;
@@ -28,47 +35,56 @@ fn between(alloc: Global, front: usize, bytes: &[u8], back: usize) -> Result<Vec
     Ok(all)
 }
 
-/// What refuses the splice of the case, behind so many letters, as the document says before.
-fn refusal(rt: &impl Abort, doc: &mut Doc<'_>, case: &Case, front: usize) -> Option<DocFault> {
+/// The splice of the case behind so many letters, and the code points that it is to replace.
+fn moved(case: &Case, front: usize) -> Edit {
     let more = front as u64;
     let (at, del, ins) = case.splice;
     let (i, j, text) = case.replaced;
-    let at = at.saturating_add(more);
-    let (i, j) = (i.saturating_add(more), j.saturating_add(more));
-    let kept = doc.keeps(at, del, ins, i, j, text, &mut meter());
-    let refused = doc
-        .splice_kept(at, del, ins, i, j, text, &mut meter())
-        .err();
-    assert_eq!(rt; kept.ok(), Some(refused.is_none()));
-    refused
+    Edit {
+        splice: (at.saturating_add(more), del, ins),
+        replaced: (i.saturating_add(more), j.saturating_add(more), text),
+    }
 }
 
-/// The splice is made or refused as the case says, behind so many letters.
+/// Whether the document says that the splice would be made.
+fn keeps(doc: &Doc<'_>, edit: &Edit) -> Option<bool> {
+    let (at, del, ins) = edit.splice;
+    let (i, j, text) = edit.replaced;
+    doc.keeps(at, del, ins, i, j, text, &mut meter()).ok()
+}
+
+/// What refuses the splice.
+fn refusal(doc: &mut Doc<'_>, edit: &Edit) -> Option<DocFault> {
+    let (at, del, ins) = edit.splice;
+    let (i, j, text) = edit.replaced;
+    doc.splice_kept(at, del, ins, i, j, text, &mut meter())
+        .err()
+}
+
+/// The splice is made or refused as the case says, behind so many letters, as the document says before.
 fn is_made_or_refused(rt: &impl Abort, doc: &mut Doc<'_>, case: &Case, front: usize) {
-    let refused = match case.left {
-        Some(_) => None,
-        None => Some(DocFault::NotKept),
-    };
-    let answer = refusal(rt, doc, case, front);
-    let shows = case.shows;
-    assert_eq!(rt; answer, refused, "{shows}, behind {front} letters");
+    let edit = moved(case, front);
+    let (shows, made) = (case.shows, case.left.is_some());
+    let kept = keeps(doc, &edit);
+    assert!(rt; kept == Some(made), "{shows}, behind {front} letters");
+    let refused = if made { None } else { Some(DocFault::NotKept) };
+    assert!(rt;
+        refusal(doc, &edit) == refused,
+        "{shows}, behind {front} letters"
+    );
 }
 
-/// The document is that of the bytes that the case leaves, between so many letters.
+/// Whether the document is that of the bytes that the case leaves, between so many letters.
 fn is_left(
-    rt: &impl Abort,
     alloc: Global,
     doc: &Doc<'_>,
     case: &Case,
     front: usize,
     back: usize,
-) -> Result<(), DocFault> {
+) -> Result<bool, DocFault> {
     let wanted = between(alloc, front, case.left.unwrap_or(case.bytes), back)?;
     let setting = Setting::new(case.given, Bom::Sniff);
-    let same = agrees(alloc, doc, setting, &wanted);
-    let shows = case.shows;
-    assert_eq!(rt; same, Some(true), "{shows}, behind {front} letters");
-    Ok(())
+    Ok(agrees(alloc, doc, setting, &wanted) == Some(true))
 }
 
 /// The splice is made or refused as the case says, between so many letters in front and behind.
@@ -80,17 +96,24 @@ fn is_answered(
     back: usize,
 ) -> Result<(), Fail> {
     let indexes = small_indexes(alloc)?;
+    Ok(is_answered_over(rt, alloc, &indexes, case, front, back)?)
+}
+
+fn is_answered_over(
+    rt: &impl Abort,
+    alloc: Global,
+    indexes: &Indexes,
+    case: &Case,
+    front: usize,
+    back: usize,
+) -> Result<(), DocFault> {
     let bytes = between(alloc, front, case.bytes, back)?;
-    let mut doc = Doc::open(
-        alloc,
-        &indexes,
-        case.given,
-        Bom::Sniff,
-        &bytes,
-        &mut meter(),
-    )?;
+    let mut doc = opened(alloc, indexes, case.given, Bom::Sniff, &bytes)?;
     is_made_or_refused(rt, &mut doc, case, front);
-    Ok(is_left(rt, alloc, &doc, case, front, back)?)
+    let left = is_left(alloc, &doc, case, front, back)?;
+    let shows = case.shows;
+    assert!(rt; left, "{shows}, behind {front} letters");
+    Ok(())
 }
 
 /// The splice is made or refused as the case says, alone and between letters.

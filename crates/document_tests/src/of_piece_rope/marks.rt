@@ -3,6 +3,7 @@ ghost use Rattle.std.specs.Prelude.{ℕ, List, [], ◌∷◌};
 ghost use Rattle.piece_rope.specs.Examples.{in_utf8_keeping};
 ghost use Rattle.piece_rope.specs.Kept.{Resyncs};
 
+use super::scripts::{Opening, Step, play, play_with_copy};
 use super::*;
 
 /// A letter in front of any bytes leaves the state behind it as it was: the resync distance is 0.
@@ -12,41 +13,36 @@ fn letter_in_front()
 {}
 
 /// A document in UTF-8 whose marks are kept.
-fn keeping<'i>(alloc: Global, indexes: &'i Indexes, bytes: &[u8]) -> Result<Doc<'i>, DocFault> {
-    Doc::open(
-        alloc,
-        indexes,
-        Encoding::Utf8,
-        Bom::Keep,
+fn keeping(bytes: &[u8]) -> Opening<'_> {
+    Opening {
+        given: Encoding::Utf8,
+        bom: Bom::Keep,
         bytes,
-        &mut meter(),
-    )
+    }
 }
 
-/// What the document begins with is text, and no mark.
-fn is_all_text(rt: &impl Abort, doc: &Doc<'_>, text: &str, scalars: u64) -> Result<(), DocFault> {
-    has_text(rt, doc, 0, scalars, text)?;
-    assert_eq!(rt; doc.lengths().scalars, scalars);
-    assert_eq!(rt; doc.bom_len(), 0);
-    Ok(())
-}
+/// Steps on the copy of a mark and a letter.
+const COPIED: [Step; 3] = [
+    Step::AllText("\u{FEFF}A", 2),
+    Step::Splice(0, 0, b"\xEF\xBB\xBF"),
+    Step::AllText("\u{FEFF}\u{FEFF}A", 3),
+];
 
 #[test]
 fn copy_keeps_marks(rt: HostRuntime) -> Result<(), Fail> {
-    let indexes = Indexes::new();
-    let doc = keeping(rt.alloc(), &indexes, b"\xEF\xBB\xBFA")?;
-    let mut copy = doc.copy()?;
-    is_all_text(&rt, &copy, "\u{FEFF}A", 2)?;
-    copy.splice(0, 0, b"\xEF\xBB\xBF", &mut meter())?;
-    is_all_text(&rt, &copy, "\u{FEFF}\u{FEFF}A", 3)?;
+    let opening = keeping(b"\xEF\xBB\xBFA");
+    play_with_copy(&rt, rt.alloc(), &opening, &[], &COPIED)?;
     Ok(())
 }
 
+/// A letter gives way to a mark and another one.
+const PUT_IN_FRONT: [Step; 2] = [
+    Step::Kept(0, 1, b"\xEF\xBB\xBFx", 0, 1, "\u{FEFF}x"),
+    Step::AllText("\u{FEFF}x", 2),
+];
+
 #[test]
 fn mark_put_in_front_is_text(rt: HostRuntime) -> Result<(), Fail> {
-    let indexes = Indexes::new();
-    let mut doc = keeping(rt.alloc(), &indexes, b"A")?;
-    doc.splice_kept(0, 1, b"\xEF\xBB\xBFx", 0, 1, "\u{FEFF}x", &mut meter())?;
-    is_all_text(&rt, &doc, "\u{FEFF}x", 2)?;
+    play(&rt, rt.alloc(), &keeping(b"A"), &PUT_IN_FRONT)?;
     Ok(())
 }
