@@ -9,7 +9,8 @@ use Rattle.index_loader.specs.Form.{IsFormPut, is_wide}
 use Rattle.std.proofs.lemmas.Simd.{take_more_put_chunk}
 use Rattle.decoder_core.specs.declared.bulk.Stride.TheVariants.{Pairs, Bytes}
 use Rattle.decoder_core.specs.Queue.{Table}
-use Rattle.decoder_core.proofs.Moving.{take-one}
+use Rattle.decoder_core.proofs.Moving.{nothing_is_bulk, take-one}
+use Rattle.std.proofs.Math.Nat.{mul-add}
 use Rattle.decoder_core.proofs.Running.{feed-append}
 use Rattle.decoder_core.proofs.Showing.{shown-append}
 use Rattle.decoder_core.proofs.Turning.{given, held, at-front}
@@ -43,17 +44,11 @@ take-two bytes at within =
     ∙ ap (λ (xs : List ℕ). get_or bytes at 0 ∷ take 1 xs) (drop_more bytes (at + 1) 0 within)
 
 -- a code point is at most twice as long in UTF-8 as its item, or four times where the item is a byte
-wide-by : (c : ℕ) → len_utf8 c ≤ 2 * width_of Pairs c
-wide-by c = grind (arith, nat_tests)
+pub small-pair : (c : ℕ) → len_utf8 c ≤ 2 * width_of Pairs c
+small-pair c = grind (arith, nat_tests)
 
-few-pairs : (written at c got width end : ℕ) → got ≡ c → written ≤ 2 * at → width ≡ width_of Pairs c → end ≡ written + len_utf8 got → end ≤ 2 * (at + width)
-few-pairs written at c got width end same few wide end_is =
-    let one = wide-by c in
-    let length_is : len_utf8 got ≡ len_utf8 c = ap len_utf8 same in
-    omega (arith, few, wide, end_is, one, length_is)
-
-few-bytes : (written at got end : ℕ) → written ≤ 4 * at → end ≡ written + len_utf8 got → end ≤ 4 * (at + 1)
-few-bytes written at got end few end_is = let most = len_utf8_bounds got in omega (arith, few, end_is, most)
+pub small-byte : (c : ℕ) → len_utf8 c ≤ 4 * width_of Bytes c
+small-byte c = let most = len_utf8_bounds c in omega (arith, most)
 
 -- what holds of a code point that is there
 of-some : (P : ℕ → Type 0) (o : Option ℕ) (c : ℕ) → IfSome o P → o ≡ Some c → P c
@@ -123,20 +118,26 @@ module _ {S : Type 0} (table : Table S) (f : Falls table) (s : S) where
             ∙ ap (λ (xs : List ℕ). plain_from stride (pos read) s xs) (sym spelt);
       }
 
+  -- a run so far, of which each byte became at most k bytes of text
+  pub record IsTaken (k : ℕ) (stride : Stride) (bytes block : List ℕ) (at written : ℕ) : Type 0 where
+    pub bulk : IsBulk table s bytes (record { taken = at; written = written; stride = stride }) block
+    pub few : written ≤ k * at
+
+  pub none-taken : (k : ℕ) (stride : Stride) (bytes block : List ℕ) → IsTaken k stride bytes block 0 0
+  none-taken k stride bytes block = record { bulk = nothing_is_bulk table f s stride bytes block; few = omega arith }
+
   -- what was put is the next item
-  pub put-more : (stride : Stride) (width : ℕ) (bytes block new : List ℕ) (at written end : ℕ)
-      → IsBulk table s bytes (record { taken = at; written = written; stride = stride }) block → IsFrontPut table s stride width bytes at block new written end
-      → written + 4 ≤ 1024 → IsBulk table s bytes (record { taken = at + width; written = end; stride = stride }) new
-  put-more stride width bytes block new at written end bulk put room =
-      front-more stride bytes block new at written put.code_point width end bulk put.front put.scalar room put.ends put.text
-
-  pub put-few : (width : ℕ) (bytes block new : List ℕ) (at written end : ℕ) → IsFrontPut table s Pairs width bytes at block new written end → written ≤ 2 * at
-      → end ≤ 2 * (at + width)
-  put-few width bytes block new at written end put few = few-pairs written at put.code_point put.code_point width end refl few put.front.wide put.ends
-
-  pub put-few-bytes : (bytes block new : List ℕ) (at written end : ℕ) → IsFrontPut table s Bytes 1 bytes at block new written end → written ≤ 4 * at
-      → end ≤ 4 * (at + 1)
-  put-few-bytes bytes block new at written end put few = few-bytes written at put.code_point end few put.ends
+  pub put-taken : (k : ℕ) (stride : Stride) (width : ℕ) (bytes block new : List ℕ) (at written end : ℕ) → ((c : ℕ) → len_utf8 c ≤ k * width_of stride c)
+      → IsTaken k stride bytes block at written → IsFrontPut table s stride width bytes at block new written end → written + 4 ≤ 1024
+      → IsTaken k stride bytes new (at + width) end
+  put-taken k stride width bytes block new at written end small so_far put room =
+      let front = put.front in
+      let more = mul-add k at width in
+      let one : len_utf8 put.code_point ≤ k * width = rw front.wide (small put.code_point) in
+      record {
+        bulk = front-more stride bytes block new at written put.code_point width end so_far.bulk front put.scalar room put.ends put.text;
+        few = omega (arith, more, one, so_far.few, put.ends);
+      }
 
   -- an ASCII byte is put as its code point
   pub ascii-put : (stride : Stride) (bytes before after : List ℕ) (at written b end : ℕ) → 1 ≡ width_of stride b → TakesByte table s b b → at < length bytes
