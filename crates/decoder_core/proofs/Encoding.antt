@@ -50,24 +50,15 @@ module _ {S : Type 0} (table : Table S) (html : Bool) where
   goes now later index s next c cs e =
       sym (onward-goes now later index next (taken table html 2 s c) (λ next. encoded_from table html (index + 1) next cs) e)
 
-  stops : (index : ℕ) (s : S) (c d : ℕ) (cs : List ℕ) → taken table html 2 s c ≡ Err d
-      → encoded_from table html index s (c ∷ cs) ≡ Err (record { index = index; code_point = d })
-  stops index s c d cs e = ap (λ (r : Result (Put S) ℕ). onward index r (λ next. encoded_from table html (index + 1) next cs)) e
-
   -- a code point that was not
   pub stops-at : (f : PutFault) (now later old new : List ℕ) (index : ℕ) (s : S) (c : ℕ) (cs : List ℕ) (whole : Result (Put S) Unencodable)
       → PutOne (taken table html 2 s c) now (Err f) later → behind now (encoded_from table html index s (c ∷ cs)) ≡ behind old whole
       → PutAll whole old (Err (fault_at index f)) new
   stops-at (unencodable_here d) now later old new index s c cs whole fails held =
-      behind-err old whole _ (sym held ∙ ap (behind now) (stops index s c d cs fails))
+      behind-err old whole _ (sym held ∙ ap (behind now) (ap (λ (r : Result (Put S) ℕ). onward index r (λ next. encoded_from table html (index + 1) next cs)) fails))
   stops-at OutOfMemory now later old new index s c cs whole fails held = tt
 
-  -- a code point that is put as its byte
-  itself : (index : ℕ) (s : S) (b : ℕ) (cs : List ℕ) → PutsItself table s b
-      → encoded_from table html index s (b ∷ cs) ≡ behind (b ∷ []) (encoded_from table html (index + 1) s cs)
-  itself index s b cs plain = rw plain.1 refl
-
-  -- a run of such code points
+  -- a run of code points that are put as their bytes
   run-goes : (index : ℕ) (s : S) (run rest text : List ℕ) → text ≡ run ++ rest → IsUtf8 text → All (PutsItself table s) run
       → IsUtf8 rest × (encoded_from table html index s (chars text) ≡ behind run (encoded_from table html (index + length run) s (chars rest)))
   run-goes index s [] rest text parts is plain =
@@ -84,7 +75,7 @@ module _ {S : Type 0} (table : Table S) (html : Bool) where
       let same : index + 1 + length run ≡ index + length (b ∷ run) = omega arith in (
         others.0,
         ap (λ (cs : List ℕ). encoded_from table html index s cs) (chars_past_char text (run ++ rest) b is spelt)
-            ∙ itself index s b (chars (run ++ rest)) head
+            ∙ rw head.1 refl
             ∙ ap (λ (r : Result (Put S) Unencodable). behind (b ∷ []) r) others.1
             ∙ behind-behind (b ∷ []) run (encoded_from table html (index + 1 + length run) s (chars rest))
             ∙ ap (λ (i : ℕ). behind (b ∷ run) (encoded_from table html i s (chars rest))) same,

@@ -49,12 +49,6 @@ plain-first {S = S} stride end after c cs =
     let same : (end -ℤ pos (width_of stride c + run_width stride cs)) +ℤ pos (width_of stride c) ≡ end -ℤ pos (run_width stride cs) = Prim.omega (arith, ints) in
     ap (λ (z : ℤ). record { item = One c; end = z; after = after } ∷ plain_from stride z after cs) same
 
-pub text-first : {S : Type 0} (stride : Stride) (end : ℤ) (after : S) (text rest : List ℕ) (c : ℕ) → IsUtf8 text → text ≡ encode c ++ rest
-    → plain_to stride end after (chars text)
-    ≡ record { item = One c; end = end -ℤ pos (run_width stride (chars rest)); after = after } ∷ plain_to stride end after (chars rest)
-text-first stride end after text rest c spelt parts =
-    ap (λ (cs : List ℕ). plain_to stride end after cs) (chars_past_char text rest c spelt parts) ∙ plain-first stride end after c (chars rest)
-
 -- the item that comes next where a text's code points are collected
 abbrev pub next-item : {S : Type 0} → Stride → ℤ → S → ℕ → List ℕ → Shown S
 next-item stride end after c cs = record { item = One c; end = end -ℤ pos (run_width stride cs); after = after }
@@ -64,7 +58,8 @@ pub next-whole : {S : Type 0} (stride : Stride) (end : ℤ) (after : S) (text re
     → whole ≡ (front ++ next-item stride end after c (chars rest) ∷ []) ++ plain_to stride end after (chars rest)
 next-whole stride end after text rest c front whole spelt parts whole_is =
     whole_is
-    ∙ ap (λ (xs : List (Shown _)). front ++ xs) (text-first stride end after text rest c spelt parts)
+    ∙ ap (λ (cs : List ℕ). front ++ plain_to stride end after cs) (chars_past_char text rest c spelt parts)
+    ∙ ap (λ (xs : List (Shown _)). front ++ xs) (plain-first stride end after c (chars rest))
     ∙ sym (append_assoc front (next-item stride end after c (chars rest) ∷ []) (plain_to stride end after (chars rest)))
 
 pub next-seen : {S : Type 0} (stride : Stride) (end : ℤ) (after : S) (rest : List ℕ) (c given left : ℕ) (old now new : Collected) (front : List (Shown S))

@@ -29,9 +29,6 @@ run-part runs zero xs = omega arith
 run-part runs (suc k) [] = lit≤ tt
 run-part runs (suc k) (b ∷ xs) = part-longer (is_of runs b) _ _ (run-part runs k xs)
 
-pub run-within : (runs : AsciiRuns) (xs : List ℕ) → run_len runs xs ≤ length xs
-run-within runs xs = prefix_len-le-length (is_of runs) xs
-
 pub run-none : (xs : List ℕ) → 0 ≡ run_len None xs
 run-none [] = refl
 run-none (b ∷ xs) = refl
@@ -41,7 +38,7 @@ pub run-front : (runs : AsciiRuns) (n k : ℕ) (front bytes : List ℕ) → fron
     → (n ≤ run_len runs bytes) × (n ≤ k) × (n ≤ length bytes)
 run-front runs n k front bytes is run =
     let part = run-part runs k bytes in
-    let inside = run-within runs (take k bytes) in
+    let inside = prefix_len-le-length (is_of runs) (take k bytes) in
     let short = length-take k bytes in
     rw (run, is) (omega (arith, part), omega (arith, inside, short), omega (arith, inside, short))
 
@@ -96,7 +93,7 @@ module _ {S : Type 0} (table : Table S) (f : Falls table) (idle : S) (runs : Asc
   run_is_bulk bytes bulk block a =
       let q = take bulk.taken bytes in
       let ascii = run-ascii runs bulk.taken bytes a.run in
-      let longest = run-within runs bytes in
+      let longest = prefix_len-le-length (is_of runs) bytes in
       let text : take bulk.written block ≡ q = ap (λ (n : ℕ). take n block) a.as_taken ∙ a.copied in
       let spelt : chars (take bulk.written block) ≡ q = ap (λ (xs : List ℕ). chars xs) text ∙ chars-IsAscii q ascii in
       record {

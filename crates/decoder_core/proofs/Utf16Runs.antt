@@ -32,12 +32,6 @@ lead_of c = 0xD800 + (c - 0x10000) / 0x400
 abbrev trail_of : ℕ → ℕ
 trail_of c = 0xDC00 + (c - 0x10000) % 0x400
 
-lead-turn : (u : ℕ) → 0xD800 ≤ u → u ≤ 0xDBFF → utf16_single u ≡ holds (record { lead_byte = None; lead_surrogate = Some u })
-lead-turn u low high = rw (le-leb 0xD800 u low, le-leb u 0xDBFF high) refl
-
-trail-turn : (lead u : ℕ) (bytes : List ℕ) → 0xDC00 ≤ u → u ≤ 0xDFFF → utf16_second lead u bytes ≡ gives utf16_start (One (pair_code_point lead u)) []
-trail-turn lead u bytes low high = rw (le-leb 0xDC00 u low, le-leb u 0xDFFF high) refl
-
 module _ (order : ByteOrder) where
   one-turn : (a b c : ℕ) → unit_of order a b ≡ c → (c < 55296) ⊎ (57344 ≤ c)
       → utf16 order (record { lead_byte = Some a; lead_surrogate = None }) (Some b) ≡ gives utf16_start (One c) []
@@ -45,15 +39,15 @@ module _ (order : ByteOrder) where
 
   first-turn : (a b c : ℕ) → unit_of order a b ≡ lead_of c → 65536 ≤ c → c < 1114112
       → utf16 order (record { lead_byte = Some a; lead_surrogate = None }) (Some b) ≡ holds (record { lead_byte = None; lead_surrogate = Some (lead_of c) })
-  first-turn a b c unit low high = ap (λ (u : ℕ). utf16_single u) unit ∙ lead-turn (lead_of c) (omega arith) (omega arith)
+  first-turn a b c unit low high =
+      ap (λ (u : ℕ). utf16_single u) unit ∙ rw (le-leb 0xD800 (lead_of c) (omega arith), le-leb (lead_of c) 0xDBFF (omega arith)) refl
 
   second-turn : (a b c : ℕ) → unit_of order a b ≡ trail_of c → 65536 ≤ c → c < 1114112
       → utf16 order (record { lead_byte = Some a; lead_surrogate = Some (lead_of c) }) (Some b) ≡ gives utf16_start (One c) []
   second-turn a b c unit low high =
       let same : pair_code_point (lead_of c) (trail_of c) ≡ c = omega arith in
       ap (λ (u : ℕ). utf16_second (lead_of c) u (a ∷ b ∷ [])) unit
-      ∙ trail-turn (lead_of c) (trail_of c) (a ∷ b ∷ []) (omega arith) (omega arith)
-      ∙ ap (λ (n : ℕ). gives utf16_start (One n) []) same
+      ∙ rw (le-leb 0xDC00 (trail_of c) (omega arith), le-leb (trail_of c) 0xDFFF (omega arith)) (ap (λ (n : ℕ). gives utf16_start (One n) []) same)
 
   abbrev Passed : List ℕ → ℕ → Type 0
   Passed bytes c = Passes (utf16 order) (falls order) utf16_start utf16_start bytes c

@@ -1,6 +1,6 @@
 -- Runs of UTF-8: each code point is an item, and leaves nothing pending.
 use Rattle.std.proofs.Common.{◌≡◌, ℕ, ◌+◌, ◌-◌, ◌*◌, ◌/◌, ◌%◌, ◌<◌, ◌≤◌, Bool, true, false, List, [], ◌∷◌, ◌++◌, Some, if◌then◌else◌, ◌==◌, take, drop, subst, length, pos, refl, sym, ap, ◌∙◌, arith, ◌⊎◌, inl, inr}
-use Rattle.decoder_core.proofs.Prelude.{le-leb, lt-leb, eqb-true, lt-ltb, le-ltb, and_parts, cases_lt, encode, scalar, scalars, scalar_cases, chars}
+use Rattle.decoder_core.proofs.Prelude.{nat_tests, le-leb, lt-leb, eqb-true, lt-ltb, le-ltb, and_parts, cases_lt, encode, scalar, scalars, scalar_cases, chars}
 use Rattle.decoder_core.proofs.Prelude.{encode_utf8_all, IsUtf8, length-take, length-take-le, take-append-drop, take-append-le, encodes-chars}
 use Rattle.decoder_core.proofs.Prelude.{scalars-chars, length-encode, utf8_valid_len_le, IsBulk, plain_from, run_width, One, feed, holds, shown_from}
 use Rattle.decoder_core.proofs.Prelude.{utf8, utf8_start, utf8_begins, utf8_falls}
@@ -23,14 +23,6 @@ more : (p seen needed lower upper b : ℕ) → (needed == 0) ≡ false → (seen
     → utf8 (record { code_point = p; seen = seen; needed = needed; lower = lower; upper = upper }) (Some b)
     ≡ holds (record { code_point = 64 * p + (b - 0x80); seen = seen + 1; needed = needed; lower = 0x80; upper = 0xBF })
 more p seen needed lower upper b some are low high = rw (some, le-leb lower b low, le-leb b upper high, are) refl
-
-if_below : (k : Bool) (x y s : ℕ) → (k ≡ true → x ≤ s) → y ≤ s → (if k then x else y) ≤ s
-if_below true x y s h l = h refl
-if_below false x y s h l = l
-
-if_above : (k : Bool) (x y s : ℕ) → (k ≡ true → s ≤ x) → s ≤ y → s ≤ (if k then x else y)
-if_above true x y s h l = h refl
-if_above false x y s h l = l
 
 -- a lead byte of three, and of four
 lead_three : (b : ℕ) → 0xE0 ≤ b → b ≤ 0xEF
@@ -59,8 +51,8 @@ three c low high scalar =
     let second = 128 + c / 64 % 64 in
     let third = 128 + c % 64 in
     let p2 = 64 * (first - 0xE0) + (second - 0x80) in
-    let lower = if_below (first == 0xE0) 0xA0 0x80 second (λ k. let e = eqb-true first 0xE0 k in omega (arith, e)) (omega arith) in
-    let upper = if_above (first == 0xED) 0x9F 0xBF second (λ k. let e = eqb-true first 0xED k in elim scalar [ inl l ↦ omega (arith, e, l) | inr l ↦ absurd (omega (arith, e, l)) ]) (omega arith) in
+    let lower : (if first == 0xE0 then 0xA0 else 0x80) ≤ second = grind (arith, nat_tests) in
+    let upper : second ≤ (if first == 0xED then 0x9F else 0xBF) = elim scalar [ inl l ↦ grind (arith, nat_tests, l) | inr l ↦ grind (arith, nat_tests, l) ] in
     held utf8 utf8_falls utf8_start _ utf8_start first c (second ∷ third ∷ []) (lead_three first (omega arith) (omega arith))
     (held utf8 utf8_falls _ _ utf8_start second c (third ∷ []) (more (first - 0xE0) 0 2 _ _ second refl refl lower upper)
     (given utf8 utf8_falls _ utf8_start third c (last p2 1 2 0x80 0xBF third c refl refl (omega arith) (omega arith) (omega arith))))
@@ -73,8 +65,8 @@ four c low high =
     let fourth = 128 + c % 64 in
     let p2 = 64 * (first - 0xF0) + (second - 0x80) in
     let p3 = 64 * p2 + (third - 0x80) in
-    let lower = if_below (first == 0xF0) 0x90 0x80 second (λ k. let e = eqb-true first 0xF0 k in omega (arith, e)) (omega arith) in
-    let upper = if_above (first == 0xF4) 0x8F 0xBF second (λ k. let e = eqb-true first 0xF4 k in omega (arith, e)) (omega arith) in
+    let lower : (if first == 0xF0 then 0x90 else 0x80) ≤ second = grind (arith, nat_tests) in
+    let upper : second ≤ (if first == 0xF4 then 0x8F else 0xBF) = grind (arith, nat_tests) in
     held utf8 utf8_falls utf8_start _ utf8_start first c (second ∷ third ∷ fourth ∷ []) (lead_four first (omega arith) (omega arith))
     (held utf8 utf8_falls _ _ utf8_start second c (third ∷ fourth ∷ []) (more (first - 0xF0) 0 3 _ _ second refl refl lower upper)
     (held utf8 utf8_falls _ _ utf8_start third c (fourth ∷ []) (more p2 1 3 0x80 0xBF third refl refl (omega arith) (omega arith))
@@ -125,11 +117,6 @@ utf8_is_bulk bytes n block within room text copied =
           ∙ ap (λ (xs : List ℕ). plain_from by_utf8 (pos read) utf8_start xs) (sym same);
     }
 
-pub utf8-front : (n k : ℕ) (block bytes : List ℕ) → block ≡ take k bytes → n ≤ length block → IsUtf8 (take n block) → IsUtf8 (take n bytes)
-utf8-front n k block bytes is within valid =
-    let whole : bytes ≡ block ++ drop k bytes = sym (ap (λ (xs : List ℕ). xs ++ drop k bytes) is ∙ take-append-drop k bytes) in
-    subst (λ (xs : List ℕ). IsUtf8 xs) (sym (ap (λ (xs : List ℕ). take n xs) whole ∙ take-append-le n block (drop k bytes) within)) valid
-
 -- UTF-8 that was looked for in the first k bytes
 pub utf8-within : (n k : ℕ) (front bytes : List ℕ) → front ≡ take k bytes → n ≡ utf8_valid_len front → (n ≤ length bytes) × (n ≤ k)
 utf8-within n k front bytes is run =
@@ -138,4 +125,7 @@ utf8-within n k front bytes is run =
     rw (run, is) (omega (arith, inside, short), omega (arith, inside, short))
 
 pub utf8-valid : (n k : ℕ) (front bytes : List ℕ) → front ≡ take k bytes → n ≡ utf8_valid_len front → IsUtf8 (take n front) → IsUtf8 (take n bytes)
-utf8-valid n k front bytes is run valid = utf8-front n k front bytes is (rw run (utf8_valid_len_le front)) valid
+utf8-valid n k front bytes is run valid =
+    let whole : bytes ≡ front ++ drop k bytes = sym (ap (λ (xs : List ℕ). xs ++ drop k bytes) is ∙ take-append-drop k bytes) in
+    let within : n ≤ length front = rw run (utf8_valid_len_le front) in
+    subst (λ (xs : List ℕ). IsUtf8 xs) (sym (ap (λ (xs : List ℕ). take n xs) whole ∙ take-append-le n front (drop k bytes) within)) valid
