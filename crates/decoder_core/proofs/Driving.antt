@@ -23,8 +23,7 @@ module _ {S : Type 0} (table : Table S) (f : Falls table) (c : Counts table) whe
     pub runs : run table s q ≡ told a (length left) (run table next left)
 
   pub record FedOn (s : S) (q : List ℕ) (next : S) (a : Answer) (left : List ℕ) : Type 0 where
-    pub weight : 8 * length left + f.held next < 8 * length q + f.held s
-    pub room : length left + c.bytes next + cost a ≤ length q + c.bytes s
+    pub turn : Turned s q next a left
     pub state : (feed table s q).state ≡ (feed table next left).state
     pub items : (feed table s q).items ≡ told a (length left) (feed table next left).items
 
@@ -45,8 +44,7 @@ module _ {S : Type 0} (table : Table S) (f : Falls table) (c : Counts table) whe
   fed_on-at : (s : S) (b : ℕ) (q : List ℕ) → (table s (Some b)).answer ≢ Finished
       → FedOn s (b ∷ q) (table s (Some b)).state (table s (Some b)).answer (queue_after table s (b ∷ q))
   fed_on-at s b q going = record {
-    weight = f.falls s (b ∷ q) going;
-    room = c.costs s (b ∷ q);
+    turn = turned-at s (b ∷ q) going;
     state = ap (λ (x : Fed S). x.state) (feed-turn table f s b q) ∙ fed_state-on table f (table s (Some b)).answer (length (queue_after table s (b ∷ q))) (table s (Some b)).state (feed table (table s (Some b)).state (queue_after table s (b ∷ q))) going;
     items = ap (λ (x : Fed S). x.items) (feed-turn table f s b q) ∙ fed_items-told table f (table s (Some b)).answer (length (queue_after table s (b ∷ q))) (table s (Some b)).state (feed table (table s (Some b)).state (queue_after table s (b ∷ q)));
   }
@@ -79,11 +77,11 @@ module _ {S : Type 0} (table : Table S) (f : Falls table) (c : Counts table) whe
   -- a step that is one turn
   pub one_turn : (s next : S) (back : List ℕ) (b : ℕ) (a : Answer)
       → next ≡ (table s (Some b)).state → a ≡ (table s (Some b)).answer → back ≡ (table s (Some b)).back → back ≡ []
-      → a ≢ Finished → (next ≡ (feed table s (b ∷ [])).state) × (told a 0 [] ≡ (feed table s (b ∷ [])).items)
-  one_turn s next back b a next_is a_is back_is none going =
+      → (is : Answer) → a ≡ is → a ≢ Finished → (next ≡ (feed table s (b ∷ [])).state) × (told is 0 [] ≡ (feed table s (b ∷ [])).items)
+  one_turn s next back b a next_is a_is back_is none is same going =
       let fed = fed_on s next (b ∷ []) back [] [] b a refl refl next_is a_is back_is (sym (ap (λ (x : List ℕ). x ++ []) none)) going in (
         sym (fed.state ∙ ap (λ (x : Fed S). x.state) (feed-nil table f next)),
-        sym (fed.items ∙ ap (λ (x : Fed S). told a 0 x.items) (feed-nil table f next)),
+        sym (fed.items ∙ ap (λ (x : Fed S). told a 0 x.items) (feed-nil table f next) ∙ ap (λ (x : Answer). told x 0 []) same),
       )
 
   pub fed_empty : (s : S) (q : List ℕ) (o : Option ℕ) → o ≡ front q → o ≡ None → feed table s q ≡ record { state = s; items = [] }

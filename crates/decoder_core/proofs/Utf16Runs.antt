@@ -78,18 +78,6 @@ module _ (order : ByteOrder) where
   cut (a ∷ b ∷ q) u us even is =
       (a, b, q, refl, ap (λ (xs : List ℕ). get_or xs 0 0) is, ap (λ (xs : List ℕ). drop 1 xs) is, omega (arith, even))
 
-  form-one : (c : ℕ) (cs : List ℕ) → c < 65536 → utf16_forms (c ∷ cs) ≡ c ∷ utf16_forms cs
-  form-one c cs low = rw (lt-ltb c 65536 low) refl
-
-  form-two : (c : ℕ) (cs : List ℕ) → 65536 ≤ c → utf16_forms (c ∷ cs) ≡ lead_of c ∷ trail_of c ∷ utf16_forms cs
-  form-two c cs high = rw (le-ltb c 65536 high) refl
-
-  width-one : (c : ℕ) → c < 65536 → width_of by_utf16 c ≡ 2
-  width-one c low = rw (lt-ltb c 65536 low) refl
-
-  width-two : (c : ℕ) → 65536 ≤ c → width_of by_utf16 c ≡ 4
-  width-two c high = rw (le-ltb c 65536 high) refl
-
   -- ---- runs
 
   utf16-passed : (cs bytes : List ℕ) → scalars cs ≡ true → length bytes ≡ 2 * length (units_of order bytes) → units_of order bytes ≡ utf16_forms cs
@@ -102,16 +90,16 @@ module _ (order : ByteOrder) where
       let range = scalar_cases c two.0 in
       elim (cases_lt c 65536) [
         | inl low ↦
-            let p = cut bytes c (utf16_forms cs) even (is ∙ form-one c cs low) in
-            (p.0 ∷ p.1 ∷ [], p.2, p.3, unit p.0 p.1 c p.4 (narrow c range), sym (width-one c low), utf16-passed cs p.2 two.1 p.6 p.5)
+            let p = cut bytes c (utf16_forms cs) even (rw (lt-ltb c 65536 low) at is) in
+            (p.0 ∷ p.1 ∷ [], p.2, p.3, unit p.0 p.1 c p.4 (narrow c range), rw (lt-ltb c 65536 low) refl, utf16-passed cs p.2 two.1 p.6 p.5)
         | inr high ↦
-            let p = cut bytes (lead_of c) (trail_of c ∷ utf16_forms cs) even (is ∙ form-two c cs high) in
+            let p = cut bytes (lead_of c) (trail_of c ∷ utf16_forms cs) even (rw (le-ltb c 65536 high) at is) in
             let s = cut p.2 (trail_of c) (utf16_forms cs) p.6 p.5 in (
               p.0 ∷ p.1 ∷ s.0 ∷ s.1 ∷ [],
               s.2,
               p.3 ∙ ap (λ (xs : List ℕ). p.0 ∷ p.1 ∷ xs) s.3,
               pair p.0 p.1 s.0 s.1 c p.4 s.4 high (most c range),
-              sym (width-two c high),
+              rw (le-ltb c 65536 high) refl,
               utf16-passed cs s.2 two.1 s.6 s.5,
             )
       ]
@@ -120,16 +108,7 @@ module _ (order : ByteOrder) where
   utf16-bytes [] = refl
   utf16-bytes (c ∷ cs) =
       let rest = utf16-bytes cs in
-      elim (cases_lt c 65536) [
-        | inl low ↦
-            let width = width-one c low in
-            let units = ap (λ (xs : List ℕ). length xs) (form-one c cs low) in
-            omega (arith, rest, width, units)
-        | inr high ↦
-            let width = width-two c high in
-            let units = ap (λ (xs : List ℕ). length xs) (form-two c cs high) in
-            omega (arith, rest, width, units)
-      ]
+      elim (cases_lt c 65536) [ inl low ↦ rw (lt-ltb c 65536 low) (omega (arith, rest)) | inr high ↦ rw (le-ltb c 65536 high) (omega (arith, rest)) ]
 
   -- ---- units in a slice
 

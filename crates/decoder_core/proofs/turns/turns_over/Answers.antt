@@ -10,8 +10,8 @@ turns-preserved-in-Nothing g c =
     (sym c.in-Some.is ∙ c.split-read.ensures.front) c.split-read.ensures.behind c.turn-next.ensures.state c.turn-next.ensures.answer c.turn-next.ensures.back c.before-queue.ensures (λ e. cc) in
     let items = rw c.in-Nothing.is at fed.items in
     record {
-      weight = omega (arith, fed.weight);
-      room = omega (arith, fed.room);
+      weight = omega (arith, fed.turn.weight);
+      room = omega (arith, fed.turn.room);
       state = sym fed.state ∙ c.turns.invariant.state;
       items = ap (λ (x : List Ended). c.turns.items ++ x) (sym items) ∙ c.turns.invariant.items;
     }
@@ -24,8 +24,8 @@ turns-preserved g c =
     let paid : cost c.turn-next.result.answer ≡ 1 = ap (λ (a : Answer). cost a) c.in-Gives.is in
     let longer : length c.push.new.self ≡ suc (length c.turns.items) = rw c.push.ensures (rw length-append (omega arith)) in
     record {
-      weight = omega (arith, fed.weight);
-      room = omega (arith, fed.room, paid, longer);
+      weight = omega (arith, fed.turn.weight);
+      room = omega (arith, fed.turn.room, paid, longer);
       state = sym fed.state ∙ c.turns.invariant.state;
       items = pushed c.turns.items (feed (g.H.Handler.table c.args.handler.now) c.turns.state (bytes_of c.turns.queue)).items (feed (g.H.Handler.table c.args.handler.now) c.turn-next.result.state (bytes_of c.before-queue-in-Gives.result)).items
           c.push.new.self c.in-Gives.item c.count.result (length (bytes_of c.before-queue-in-Gives.result)) c.turn-next.result.answer
