@@ -2,7 +2,7 @@
 use Rattle.std.proofs.Common.{◌≡◌, ℕ, zero, suc, ◌+◌, ◌-◌, ◌*◌, ◌/◌, ◌%◌, ◌<◌, ◌≤◌, Bool, true, false, List, [], ◌∷◌, ◌++◌, Some, None, Ok, Err, Result, Option, if◌then◌else◌, nat_le, take, drop, get_or, set, subst, append_assoc, append-nil, length, pos, refl, sym, ap, ◌∙◌, arith, ◌⊎◌, inl, inr}
 use Rattle.decoder_core.proofs.Prelude.{le-leb, lt-leb, lt-ltb, le-ltb, leb-true, and_parts, cases_lt, scalar, scalars, scalar_cases, chars}
 use Rattle.decoder_core.proofs.Prelude.{encode_utf8_all, IsUtf8, length-take-le, take-take, drop_more, drop_all, take_more_set, take-append_seam}
-use Rattle.decoder_core.proofs.Prelude.{chars-encodes, One, BigEndian, LittleEndian, IsBulk, plain_from, run_width, width_of, holds, falls_of, Falls}
+use Rattle.decoder_core.proofs.Prelude.{chars-encodes, One, BigEndian, LittleEndian, IsBulk, plain_from, run_width, holds, falls_of, Falls}
 use Rattle.decoder_core.proofs.Prelude.{utf16, utf16_start, utf16_single, utf16_second, unit_of, units_of, pair_code_point, utf16_holding}
 use Rattle.lane_utf.specs.declared.faults.ToUtf8Fault.{ToUtf8Fault}
 use Rattle.lane_utf.specs.declared.faults.ToUtf8Fault.TheVariants.{NeedsRoom as needs_room}

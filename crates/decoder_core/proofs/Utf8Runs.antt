@@ -1,6 +1,6 @@
 -- Runs of UTF-8: each code point is an item, and leaves nothing pending.
-use Rattle.std.proofs.Common.{◌≡◌, ℕ, ◌+◌, ◌-◌, ◌*◌, ◌/◌, ◌%◌, ◌<◌, ◌≤◌, Bool, true, false, List, [], ◌∷◌, ◌++◌, Some, if◌then◌else◌, ◌==◌, take, drop, subst, length, pos, refl, sym, ap, ◌∙◌, arith, ◌⊎◌, inl, inr}
-use Rattle.decoder_core.proofs.Prelude.{nat_tests, le-leb, lt-leb, eqb-true, lt-ltb, le-ltb, and_parts, cases_lt, encode, scalar, scalars, scalar_cases, chars}
+use Rattle.std.proofs.Common.{◌≡◌, ℕ, ◌+◌, ◌-◌, ◌*◌, ◌/◌, ◌%◌, ◌<◌, ◌≤◌, true, false, List, [], ◌∷◌, ◌++◌, Some, if◌then◌else◌, ◌==◌, take, drop, subst, length, pos, refl, sym, ap, ◌∙◌, arith, ◌⊎◌, inl, inr}
+use Rattle.decoder_core.proofs.Prelude.{nat_tests, le-leb, lt-leb, lt-ltb, le-ltb, and_parts, cases_lt, encode, scalar, scalars, scalar_cases, chars}
 use Rattle.decoder_core.proofs.Prelude.{encode_utf8_all, IsUtf8, length-take, length-take-le, take-append-drop, take-append-le, encodes-chars}
 use Rattle.decoder_core.proofs.Prelude.{scalars-chars, length-encode, utf8_valid_len_le, IsBulk, plain_from, run_width, One, feed, holds, shown_from}
 use Rattle.decoder_core.proofs.Prelude.{utf8, utf8_start, utf8_begins, utf8_falls}

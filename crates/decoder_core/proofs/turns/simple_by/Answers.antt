@@ -1,6 +1,6 @@
-use Rattle.std.proofs.Common.{◌≢◌, [], ◌∷◌, refl, sym, ap, ◌∙◌}
+use Rattle.std.proofs.Common.{[], ◌∷◌, refl, sym, ap}
 use Rattle.decoder_core.specs.declared.few.Few.{Few}
-use Rattle.decoder_core.proofs.Prelude.{Answer, Finished, Fed, told, bytes_of}
+use Rattle.decoder_core.proofs.Prelude.{Fed, bytes_of}
 use Rattle.decoder_core.proofs.Driving.{one_turn, fed_finished}
 use Rattle.decoder_core.proofs.turns.simple_by.Goals as goal
 
