@@ -1,13 +1,8 @@
 -- What was delivered before, and what is delivered next.
 use Rattle.std.proofs.Common.{ℕ, ◌+◌, ◌≤◌, ◌≢◌, List, [], ◌∷◌, ◌++◌, Option, Err, refl, sym, ap, ◌∙◌, subst, append_assoc}
-use Rattle.std.specs.Io.KnownBytes.{Keeps}
-use Rattle.std.proofs.KnownBytes.{Appends-trans, Appends-nil, Consumes-trans, Consumes-nil, Consumes-kept, Keeps-refl}
-use Rattle.connections.specs.declared.serve.RunFault.{RunFault}
-use Rattle.connections.specs.declared.serve.RunFault.TheVariants.{NotFree, Read, Write, TooManyReads}
-use Rattle.desk.specs.Desk.{Office}
-use Rattle.connections.specs.Traffic.{Traffic}
-use Rattle.connections.specs.Serving.{Serves, Breaks, SameOthers, most_reads, IsReadUp}
-use Rattle.connections.specs.Delivery.{IsOpen, Delivered, DeliveredUntil, Pumped, PumpedUntil, Pumps}
+use Rattle.connections.proofs.Prelude.{Appends-trans, Appends-nil, Consumes-trans, Consumes-nil, Consumes-kept, Keeps, Office, IsOpen, Delivered}
+use Rattle.connections.proofs.Prelude.{DeliveredUntil, Pumped, PumpedUntil, Pumps, Serves, Breaks, most_reads, IsReadUp, Traffic, RunFault, NotFree}
+use Rattle.connections.proofs.Prelude.{Read, Write, TooManyReads}
 use Rattle.connections.proofs.Cuts.{complete-append, unfinished-append}
 
 pub Serves-append : (o m n : Office) (xs ys : List (List ℕ)) (a b : List ℕ) → Serves o xs a m → Serves m ys b n → Serves o (xs ++ ys) (a ++ b) n
@@ -33,9 +28,6 @@ Serves-Breaks o m n xs ys a b p q = record {
 
 -- ---- bytes that were delivered
 
-SameOthers-trans : (t u v : Traffic) (c : ℕ) → SameOthers t u c → SameOthers u v c → SameOthers t v c
-SameOthers-trans t u v c p q d ne = q d ne ∙ p d ne
-
 pub Delivered-nil : (c : ℕ) (t : Traffic) (x : Option (List ℕ)) → IsOpen t c → Delivered c [] t t x x
 Delivered-nil c t x is_open = record {
   out = [];
@@ -53,7 +45,7 @@ Delivered-trans c a b t u v x y z p q = record {
   serves = λ line begun. rw (complete-append line a b) (Serves-append t.office u.office v.office _ _ p.out q.out (p.serves line begun) (q.serves _ (p.begun line begun)));
   is_open = q.is_open;
   begun = λ line begun. rw (unfinished-append line a b) (q.begun _ (p.begun line begun));
-  others = SameOthers-trans t u v c p.others q.others;
+  others = λ d ne. q.others d ne ∙ p.others d ne;
 }
 
 pub Delivered-DeliveredUntil : (c : ℕ) (a b : List ℕ) (t u v : Traffic) (x y z : Option (List ℕ)) → Delivered c a t u x y → DeliveredUntil c b u v y z → DeliveredUntil c (a ++ b) t v x z
@@ -62,7 +54,7 @@ Delivered-DeliveredUntil c a b t u v x y z p q = record {
   appends = Appends-trans x y z p.out q.out p.appends q.appends;
   breaks = λ line begun. rw (complete-append line a b) (Serves-Breaks t.office u.office v.office _ _ p.out q.out (p.serves line begun) (q.breaks _ (p.begun line begun)));
   is_open = q.is_open;
-  others = SameOthers-trans t u v c p.others q.others;
+  others = λ d ne. q.others d ne ∙ p.others d ne;
 }
 
 -- ---- bytes that were read
@@ -73,9 +65,6 @@ Pumped-nil c t l m x is_open kept = record {
   consumes = Consumes-kept l l m [] (Consumes-nil l) kept;
   delivered = Delivered-nil c t x is_open;
 }
-
-pub Pumped-start : (c : ℕ) (t : Traffic) (l x : Option (List ℕ)) → IsOpen t c → Pumped c t t l l x x
-Pumped-start c t l x is_open = Pumped-nil c t l l x is_open (Keeps-refl l)
 
 pub Pumped-trans : (c : ℕ) (t u v : Traffic) (l m n x y z : Option (List ℕ)) → Pumped c t u l m x y → Pumped c u v m n y z → Pumped c t v l n x z
 Pumped-trans c t u v l m n x y z p q = record {
@@ -100,7 +89,5 @@ Pumped-Err A B TooManyReads = Pumped-trans
 
 -- a fault that came before the most reads
 pub reads_before : (A : Type 0) (f : RunFault) (old new : ℕ) → f ≢ TooManyReads → new ≤ old + most_reads → IsReadUp {A = A} (Err f) old new
-reads_before A NotFree old new ne small = small
-reads_before A Read old new ne small = small
-reads_before A Write old new ne small = small
 reads_before A TooManyReads old new ne small = absurd (ne refl)
+reads_before A f old new ne small = small

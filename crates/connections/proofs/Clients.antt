@@ -1,39 +1,26 @@
 -- The replies of many connections are those of one desk.
-use Rattle.std.proofs.Common.{◌≡◌, ℕ, ◌<◌, ◌==◌, Bool, true, false, List, [], ◌∷◌, ◌++◌, length, Option, None, Some, if◌then◌else◌, slice_set, replicate, zero, suc, inl, inr, refl, sym, ap, ◌∙◌, subst, append_assoc, arith}
-use Rattle.std.proofs.lemmas.List.{get_or-set_same, get_or-set_other, length-set}
-use Rattle.std.proofs.lemmas.Bool.{eqb-true, eqb-false}
+use Rattle.std.proofs.Common.{◌≡◌, ℕ, ◌<◌, ◌==◌, Bool, true, false, List, [], ◌∷◌, ◌++◌, length, Option, None, Some, if◌then◌else◌, slice_set, replicate, zero, suc, inl, inr, refl, sym, ap, ◌∙◌, subst, arith}
+use Rattle.connections.proofs.Prelude.{length-set, get_or-set_other, get_or-set_same, eqb-true, eqb-false, Office, Happening, Opening, Bringing}
+use Rattle.connections.proofs.Prelude.{Closing, connections, at_number, unless_open, unless_closed, unless_bad_number, line_at, gate_fault, Took}
+use Rattle.connections.proofs.Prelude.{Happens, has_end, before_end, Traffic, Partial, Received, Stands, GateFault}
 use Rattle.std.proofs.lemmas.Bool.Decides.{eqb_tells}
-use Rattle.desk.specs.Desk.{Office}
-use Rattle.connections.specs.declared.gateway.GateFault.{GateFault}
-use Rattle.connections.specs.Lines.{has_end, before_end}
-use Rattle.connections.specs.Traffic.{Partial, Received, Stands, Traffic, Completes, Continues}
-use Rattle.connections.specs.Events.{Happening, Opening, Bringing, Closing, connections, at_number, unless_open, unless_closed, unless_bad_number, line_at, gate_fault, Took, Happens}
 use Rattle.connections.specs.Clients.{Numbered, number_of, sent_to, OccursBy, Occurs, BegunLines, or_empty, begun_on, accepted, completed, unless_refused, begun_after, lines_in, lines_of, ServesAll, StandsAt, StandFor, NoneIsBegun, RepliesInOrder, own, events_of, LinesAreOwn, AnswerEach, RepliesAreOwn}
 use Rattle.connections.proofs.Took.{good_number}
 
 -- ---- what is known, and what is begun
 
-same_open : (x : Option Partial) (y : Option (List ℕ)) → StandsAt x y → unless_open x ≡ unless_open y
-same_open None None s = refl
-same_open (Some known) (Some line) s = refl
-same_open None (Some line) s = absurd s
-same_open (Some known) None s = absurd s
-
-same_closed : (x : Option Partial) (y : Option (List ℕ)) → StandsAt x y → unless_closed x ≡ unless_closed y
-same_closed None None s = refl
-same_closed (Some known) (Some line) s = refl
-same_closed None (Some line) s = absurd s
-same_closed (Some known) None s = absurd s
+same_unless : (x : Option Partial) (y : Option (List ℕ)) → StandsAt x y → (unless_open x ≡ unless_open y) × (unless_closed x ≡ unless_closed y)
+same_unless None None s = (refl, refl)
+same_unless (Some known) (Some line) s = (refl, refl)
+same_unless x y s = absurd s
 
 same_fault : (t : Traffic) (w : BegunLines) (e : Happening) → StandFor t w → gate_fault t.lines e ≡ gate_fault w e
-same_fault t w (Opening c) s = ap (unless_bad_number c) (same_closed _ _ (s.at c))
-same_fault t w (Bringing c bytes) s = ap (unless_bad_number c) (same_open _ _ (s.at c))
-same_fault t w (Closing c) s = ap (unless_bad_number c) (same_open _ _ (s.at c))
+same_fault t w (Opening c) s = ap (unless_bad_number c) (same_unless _ _ (s.at c)).1
+same_fault t w e s = ap (unless_bad_number (number_of e)) (same_unless _ _ (s.at (number_of e))).0
 
 number_fits : {A : Type 0} (ls : List (Option A)) (e : Happening) → gate_fault ls e ≡ None → number_of e < connections
 number_fits ls (Opening c) h = good_number c _ h
-number_fits ls (Bringing c bytes) h = good_number c _ h
-number_fits ls (Closing c) h = good_number c _ h
+number_fits ls e h = good_number (number_of e) _ h
 
 -- a line is put at a number on both sides
 put_at : (t u : Traffic) (w : BegunLines) (c : ℕ) (x : Option Partial) (y : Option (List ℕ)) → StandFor t w → c < connections → u.lines ≡ slice_set t.lines c x → StandsAt x y
@@ -42,14 +29,9 @@ put_at t u w c x y s small lines here = record {
   count = length-set w c y ∙ s.count;
   counted = ap length lines ∙ length-set t.lines c x ∙ s.counted;
   at = λ d. elim (eqb_tells d c) as (λ _. StandsAt (line_at u d) (at_number (slice_set w c y) d)) [
-    | inl same ↦
-        let left : line_at u d ≡ x = ap (λ l. at_number l d) lines ∙ ap (λ n. at_number (slice_set t.lines c x) n) same.1 ∙ get_or-set_same t.lines c x None (omega (arith, s.counted, small)) in
-        let right : at_number (slice_set w c y) d ≡ y = ap (λ n. at_number (slice_set w c y) n) same.1 ∙ get_or-set_same w c y None (omega (arith, s.count, small)) in
-        rw (left, right) here
-    | inr other ↦
-        let left : line_at u d ≡ line_at t d = ap (λ l. at_number l d) lines ∙ get_or-set_other t.lines c d x None other.1 in
-        let right : at_number (slice_set w c y) d ≡ at_number w d = get_or-set_other w c d y None other.1 in
-        rw (left, right) (s.at d)
+    | inl same ↦ rw (lines, same.1, get_or-set_same t.lines c x None (omega (arith, s.counted, small)))
+        (rw (get_or-set_same w c y None (omega (arith, s.count, small))) here)
+    | inr other ↦ rw (lines, get_or-set_other t.lines c d x None other.1, get_or-set_other w c d y None other.1) (s.at d)
   ];
 }
 
@@ -74,37 +56,30 @@ abbrev One : Traffic → Traffic → BegunLines → Happening → List Numbered 
 One t u w e replies = ServesAll t.office (completed w e) replies u.office × StandFor u (accepted w e)
 
 known_line : (x : Option Partial) (y : Option (List ℕ)) (known : Partial) → StandsAt x y → x ≡ Some known → Stands known (or_empty y)
-known_line None y known s e = cc
 known_line (Some k) (Some line) known s e = let same : k ≡ known = let is = e in cc in subst (λ p. Stands p line) same s
-known_line (Some k) None known s e = absurd s
+known_line None y known s e = cc
+known_line x None known s e = absurd s
 
 module _ (t u : Traffic) (w : BegunLines) (c : ℕ) (bytes : List ℕ) (s : StandFor t w) (small : c < connections) (taken : ℕ) (reply : Option (List ℕ)) (took : Took t c bytes taken reply u) where
   stood : Stands took.begun (begun_on w c)
   stood = known_line (line_at t c) (at_number w c) took.begun (s.at c) took.was
 
-  bring_end : has_end bytes ≡ true → One t u w (Bringing c bytes) (sent_to c reply)
-  bring_end e =
-      let done : Completes t.office took.begun (before_end bytes) reply u.office took.next = rw e at took.takes.step in
-      let next : StandsAt (Some took.next) (Some []) = rw done.fresh refl in
-      rw (e, done.is) ((u.office, done.text, [], done.answers (begun_on w c) stood, refl, (refl, refl)), put_at t u w c (Some took.next) (Some []) s small took.lines next)
-
-  bring_more : has_end bytes ≡ false → One t u w (Bringing c bytes) (sent_to c reply)
-  bring_more e =
-      let more : Continues t.office took.begun bytes reply u.office took.next = rw e at took.takes.step in
+  bring : (b : Bool) → has_end bytes ≡ b → One t u w (Bringing c bytes) (sent_to c reply)
+  bring true e =
+      let done = rw e at took.takes.step in
+      rw (e, done.is) (
+        (u.office, done.text, [], done.answers (begun_on w c) stood, refl, (refl, refl)),
+        put_at t u w c (Some took.next) (Some []) s small took.lines (rw done.fresh refl),
+      )
+  bring false e =
+      let more = rw e at took.takes.step in
       rw (e, more.silent) ((refl, more.same), put_at t u w c (Some took.next) (Some (begun_on w c ++ bytes)) s small took.lines (more.goes_on (begun_on w c) stood))
-
-  bring_by : (b : Bool) → has_end bytes ≡ b → One t u w (Bringing c bytes) (sent_to c reply)
-  bring_by true e = bring_end e
-  bring_by false e = bring_more e
-
-  bring : One t u w (Bringing c bytes) (sent_to c reply)
-  bring = bring_by (has_end bytes) refl
 
 one_accepted : (t u : Traffic) (w : BegunLines) (e : Happening) (taken : ℕ) (reply : Option (List ℕ)) → StandFor t w → number_of e < connections → Happens t e taken reply u
     → One t u w e (sent_to (number_of e) reply)
 one_accepted t u w (Opening c) taken reply s small h =
     rw h.1 ((refl, ap (λ (x : Traffic). x.office) h.2), put_at t u w c (Some (Received [])) (Some []) s small (ap (λ (x : Traffic). x.lines) h.2) refl)
-one_accepted t u w (Bringing c bytes) taken reply s small h = bring t u w c bytes s small taken reply h
+one_accepted t u w (Bringing c bytes) taken reply s small h = bring t u w c bytes s small taken reply h (has_end bytes) refl
 one_accepted t u w (Closing c) taken reply s small h =
     rw h.1 ((refl, ap (λ (x : Traffic). x.office) h.2), put_at t u w c None None s small (ap (λ (x : Traffic). x.lines) h.2) tt)
 
@@ -148,16 +123,14 @@ record Alike (c : ℕ) (w v : BegunLines) : Type 0 where
 
 same_number : (e : Happening) (c : ℕ) (w v : BegunLines) → number_of e ≡ c → Alike c w v → gate_fault w e ≡ gate_fault v e
 same_number (Opening n) c w v is a = ap (λ x. unless_bad_number n (unless_closed x)) (ap (at_number w) is ∙ a.here ∙ sym (ap (at_number v) is))
-same_number (Bringing n bytes) c w v is a = ap (λ x. unless_bad_number n (unless_open x)) (ap (at_number w) is ∙ a.here ∙ sym (ap (at_number v) is))
-same_number (Closing n) c w v is a = ap (λ x. unless_bad_number n (unless_open x)) (ap (at_number w) is ∙ a.here ∙ sym (ap (at_number v) is))
+same_number e c w v is a = ap (λ x. unless_bad_number (number_of e) (unless_open x)) (ap (at_number w) is ∙ a.here ∙ sym (ap (at_number v) is))
 
 same_begun : (n c : ℕ) (w v : BegunLines) → n ≡ c → Alike c w v → begun_on w n ≡ begun_on v n
 same_begun n c w v is a = ap or_empty (ap (at_number w) is ∙ a.here ∙ sym (ap (at_number v) is))
 
 same_completed : (e : Happening) (c : ℕ) (w v : BegunLines) → number_of e ≡ c → Alike c w v → completed w e ≡ completed v e
-same_completed (Opening n) c w v is a = refl
 same_completed (Bringing n bytes) c w v is a = ap (λ l. if has_end bytes then (n, l ++ before_end bytes) ∷ [] else []) (same_begun n c w v is a)
-same_completed (Closing n) c w v is a = refl
+same_completed e c w v is a = refl
 
 -- one line is put at n on both sides
 alike_set : (n c : ℕ) (w v : BegunLines) (x y : Option (List ℕ)) → n ≡ c → x ≡ y → n < length w → Alike c w v → Alike c (slice_set w n x) (slice_set v n y)
@@ -175,34 +148,26 @@ beside_set n c w v x other a = record {
 }
 
 alike_accepted : (e : Happening) (c : ℕ) (w v : BegunLines) → number_of e ≡ c → number_of e < length w → Alike c w v → Alike c (accepted w e) (accepted v e)
-alike_accepted (Opening n) c w v is small a = alike_set n c w v _ _ is refl small a
 alike_accepted (Bringing n bytes) c w v is small a =
     alike_set n c w v _ _ is (ap (λ l. Some (if has_end bytes then [] else l ++ bytes)) (same_begun n c w v is a)) small a
-alike_accepted (Closing n) c w v is small a = alike_set n c w v _ _ is refl small a
+alike_accepted e c w v is small a = alike_set (number_of e) c w v _ _ is refl small a
 
 beside_accepted : (e : Happening) (c : ℕ) (w v : BegunLines) → (c ≡ number_of e → ⊥) → Alike c w v → Alike c (accepted w e) v
 beside_accepted (Opening n) c w v other a = beside_set n c w v _ other a
-beside_accepted (Bringing n bytes) c w v other a = beside_set n c w v _ other a
-beside_accepted (Closing n) c w v other a = beside_set n c w v _ other a
+beside_accepted e c w v other a = beside_set (number_of e) c w v _ other a
 
 own-append : (c : ℕ) (xs ys : List Numbered) → own c (xs ++ ys) ≡ own c xs ++ own c ys
 own-append c [] ys = refl
-own-append c (x ∷ xs) ys = ap (λ l. (if x.0 == c then x.1 ∷ [] else []) ++ l) (own-append c xs ys) ∙ sym (append_assoc (if x.0 == c then x.1 ∷ [] else []) (own c xs) (own c ys))
+own-append c (x ∷ xs) ys = grind (arith, own-append c xs ys)
 
 -- an event of another connection completes no line of this one
 none_own : (e : Happening) (c : ℕ) (w : BegunLines) → (number_of e == c) ≡ false → own c (completed w e) ≡ []
-none_own (Opening n) c w other = refl
-none_own (Bringing n bytes) c w other =
-    elim (has_end bytes) as (λ b. own c (if b then (n, begun_on w n ++ before_end bytes) ∷ [] else []) ≡ []) [ true ↦ rw other refl | false ↦ refl ]
-none_own (Closing n) c w other = refl
+none_own (Bringing n bytes) c w other = grind arith
+none_own e c w other = refl
 
-none_in : (f : Option GateFault) (e : Happening) (c : ℕ) (w : BegunLines) → (number_of e == c) ≡ false → own c (unless_refused f (completed w e) []) ≡ []
-none_in None e c w other = none_own e c w other
-none_in (Some fault) e c w other = refl
-
-beside_after : (f : Option GateFault) (e : Happening) (c : ℕ) (w v : BegunLines) → (c ≡ number_of e → ⊥) → Alike c w v → Alike c (unless_refused f (accepted w e) w) v
-beside_after None e c w v other a = beside_accepted e c w v other a
-beside_after (Some fault) e c w v other a = a
+unless_by : {A : Type 0} (P : A → Type 0) (f : Option GateFault) (x y : A) → P x → P y → P (unless_refused f x y)
+unless_by P None x y p q = p
+unless_by P (Some fault) x y p q = q
 
 alike_after : (f : Option GateFault) (e : Happening) (c : ℕ) (w v : BegunLines) → gate_fault w e ≡ f → length w ≡ connections → number_of e ≡ c → Alike c w v
     → Alike c (unless_refused f (accepted w e) w) (unless_refused f (accepted v e) v)
@@ -211,12 +176,7 @@ alike_after (Some fault) e c w v is count same a = a
 
 length_accepted : (e : Happening) (w : BegunLines) → length (accepted w e) ≡ length w
 length_accepted (Opening n) w = length-set w n _
-length_accepted (Bringing n bytes) w = length-set w n _
-length_accepted (Closing n) w = length-set w n _
-
-length_after : (f : Option GateFault) (e : Happening) (w : BegunLines) → length (unless_refused f (accepted w e) w) ≡ length w
-length_after None e w = length_accepted e w
-length_after (Some fault) e w = refl
+length_accepted e w = length-set w (number_of e) _
 
 own_event : (c : ℕ) (w v : BegunLines) (e : Happening) (es : List Happening) → length w ≡ connections → Alike c w v → (b : Bool) → (number_of e == c) ≡ b
     → ((x : BegunLines) → Alike c (begun_after w e) x → own c (lines_of (begun_after w e) es) ≡ own c (lines_of x (events_of c es)))
@@ -231,15 +191,15 @@ own_event c w v e es count a true is later =
     ∙ sym (own-append c (lines_in v e) (lines_of (begun_after v e) (events_of c es)))
 own_event c w v e es count a false is later =
     let other : c ≡ number_of e → ⊥ = λ s. eqb-false (number_of e) c is (sym s) in
-    ap (λ l. l ++ own c (lines_of (begun_after w e) es)) (none_in (gate_fault w e) e c w is)
-    ∙ later v (beside_after (gate_fault w e) e c w v other a)
+    ap (λ l. l ++ own c (lines_of (begun_after w e) es)) (unless_by (λ l. own c l ≡ []) (gate_fault w e) _ _ (none_own e c w is) refl)
+    ∙ later v (unless_by (λ x. Alike c x v) (gate_fault w e) _ _ (beside_accepted e c w v other a) a)
 
 own_by : (c : ℕ) (w v : BegunLines) (es : List Happening) → length w ≡ connections → Alike c w v → own c (lines_of w es) ≡ own c (lines_of v (events_of c es))
 own_by c w v [] count a = refl
 own_by c w v (e ∷ es) count a =
-    let long : length (begun_after w e) ≡ connections = length_after (gate_fault w e) e w ∙ count in
-    let split : own c (lines_of w (e ∷ es)) ≡ own c (lines_in w e) ++ own c (lines_of (begun_after w e) es) = own-append c (lines_in w e) (lines_of (begun_after w e) es) in
-    split ∙ own_event c w v e es count a (number_of e == c) refl (λ x alike. own_by c (begun_after w e) x es long alike)
+    let long = unless_by (λ x. length x ≡ length w) (gate_fault w e) _ _ (length_accepted e w) refl ∙ count in
+    own-append c (lines_in w e) (lines_of (begun_after w e) es)
+    ∙ own_event c w v e es count a (number_of e == c) refl (λ x alike. own_by c (begun_after w e) x es long alike)
 
 pub lines_are_own : LinesAreOwn
 lines_are_own c w es count = own_by c w w es count (record { here = refl; count = refl })

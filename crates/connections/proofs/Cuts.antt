@@ -1,52 +1,32 @@
 -- Bytes cut at their line feeds, in two parts and at the first line feed.
 use Rattle.std.proofs.Common.{◌≡◌, ℕ, ◌+◌, ◌==◌, Bool, true, false, List, [], ◌∷◌, ◌++◌, length, take, if◌then◌else◌, refl, sym, ap, ◌∙◌, append_assoc, append-nil}
-use Rattle.std.proofs.lemmas.Bool.{eqb-true}
+use Rattle.connections.proofs.Prelude.{arith, eqb-true, has_end, before_end, complete, unfinished}
 use Rattle.std.proofs.Math.Seq.{take-append-add}
-use Rattle.connections.specs.Lines.{complete, unfinished, has_end, before_end}
 
 pub complete-append : (line a b : List ℕ) → complete line (a ++ b) ≡ complete line a ++ complete (unfinished line a) b
 complete-append line [] b = refl
-complete-append line (x ∷ a) b =
-    elim (x == 10)
-    as (λ t. (if t then line ∷ complete [] (a ++ b) else complete (line ++ x ∷ []) (a ++ b))
-    ≡ (if t then line ∷ complete [] a else complete (line ++ x ∷ []) a) ++ complete (if t then unfinished [] a else unfinished (line ++ x ∷ []) a) b)
-    [ true ↦ ap (λ l. line ∷ l) (complete-append [] a b) | false ↦ complete-append (line ++ x ∷ []) a b ]
+complete-append line (x ∷ a) b = grind (arith, complete-append [] a b, complete-append (line ++ x ∷ []) a b)
 
 pub unfinished-append : (line a b : List ℕ) → unfinished line (a ++ b) ≡ unfinished (unfinished line a) b
 unfinished-append line [] b = refl
-unfinished-append line (x ∷ a) b =
-    elim (x == 10)
-    as (λ t. (if t then unfinished [] (a ++ b) else unfinished (line ++ x ∷ []) (a ++ b)) ≡ unfinished (if t then unfinished [] a else unfinished (line ++ x ∷ []) a) b)
-    [ true ↦ unfinished-append [] a b | false ↦ unfinished-append (line ++ x ∷ []) a b ]
+unfinished-append line (x ∷ a) b = grind (arith, unfinished-append [] a b, unfinished-append (line ++ x ∷ []) a b)
 
 -- ---- bytes with no line feed
 
 pub complete_without : (line xs : List ℕ) → has_end xs ≡ false → complete line xs ≡ []
 complete_without line [] h = refl
-complete_without line (x ∷ xs) h =
-    elim (x == 10)
-    as (λ t. (if t then true else has_end xs) ≡ false → (if t then line ∷ complete [] xs else complete (line ++ x ∷ []) xs) ≡ [])
-    [ true ↦ λ no. cc | false ↦ λ no. complete_without (line ++ x ∷ []) xs no ]
-    h
+complete_without line (x ∷ xs) h = grind (arith, complete_without (line ++ x ∷ []) xs)
 
 pub unfinished_without : (line xs : List ℕ) → has_end xs ≡ false → unfinished line xs ≡ line ++ xs
 unfinished_without line [] h = sym (append-nil line)
-unfinished_without line (x ∷ xs) h =
-    elim (x == 10)
-    as (λ t. (if t then true else has_end xs) ≡ false → (if t then unfinished [] xs else unfinished (line ++ x ∷ []) xs) ≡ line ++ x ∷ xs)
-    [ true ↦ λ no. cc | false ↦ λ no. unfinished_without (line ++ x ∷ []) xs no ∙ append_assoc line (x ∷ []) xs ]
-    h
+unfinished_without line (x ∷ xs) h = grind (arith, unfinished_without (line ++ x ∷ []) xs, append_assoc line (x ∷ []) xs)
 
 -- ---- bytes with a line feed
-
-before_byte : (x : ℕ) (xs : List ℕ) (t : Bool) → (x == 10) ≡ t → has_end (before_end xs) ≡ false → has_end (if t then [] else x ∷ before_end xs) ≡ false
-before_byte x xs true e h = refl
-before_byte x xs false e h = rw e h
 
 -- the bytes before the first line feed have none
 pub before_without : (xs : List ℕ) → has_end (before_end xs) ≡ false
 before_without [] = refl
-before_without (x ∷ xs) = before_byte x xs (x == 10) refl (before_without xs)
+before_without (x ∷ xs) = grind (arith, before_without xs)
 
 cut_byte : (x : ℕ) (xs : List ℕ) (t : Bool) → (x == 10) ≡ t → (t ≡ false → (rest : List ℕ) × (xs ≡ before_end xs ++ 10 ∷ rest))
     → (rest : List ℕ) × (x ∷ xs ≡ (if t then [] else x ∷ before_end xs) ++ 10 ∷ rest)
@@ -56,8 +36,7 @@ cut_byte x xs false e later = let found = later refl in (found.0, ap (λ l. x �
 -- what stands behind the first line feed
 pub cut_at_end : (xs : List ℕ) → has_end xs ≡ true → (rest : List ℕ) × (xs ≡ before_end xs ++ 10 ∷ rest)
 cut_at_end [] h = cc
-cut_at_end (x ∷ xs) h =
-    cut_byte x xs (x == 10) refl (λ e. cut_at_end xs (rw e at h))
+cut_at_end (x ∷ xs) h = cut_byte x xs (x == 10) refl (λ e. cut_at_end xs (rw e at h))
 
 -- the lines of bytes up to a line feed, and of those behind it
 pub complete_at_end : (line before rest : List ℕ) → has_end before ≡ false → complete line (before ++ 10 ∷ rest) ≡ (line ++ before) ∷ complete [] rest

@@ -1,8 +1,7 @@
 -- The first line feed of a list of bytes.
 use Rattle.std.proofs.Common.{◌≡◌, ℕ, zero, suc, ◌<◌, ◌==◌, true, false, List, [], ◌∷◌, length, take, slice_index, MatchOption, Option, None, Some, refl, ap, arith}
-use Rattle.std.proofs.lemmas.Bool.{false_from_ne_true}
+use Rattle.connections.proofs.Prelude.{false_from_ne_true, has_end, before_end}
 use Rattle.memchr.specs.Find.{IsFirstByte, is_byte}
-use Rattle.connections.specs.Lines.{has_end, before_end}
 
 no_end : (xs : List ℕ) → ((k : ℕ) → k < length xs → ¬ (slice_index xs k == 10 ≡ true)) → has_end xs ≡ false
 no_end [] h = refl

@@ -1,14 +1,7 @@
 -- A connection that opens, is pumped and closes.
-use Rattle.std.proofs.Common.{◌≡◌, ℕ, ◌<◌, List, [], length, Option, None, Some, Result, Ok, Err, refl, sym, ap, ◌∙◌, subst}
-use Rattle.std.proofs.lemmas.List.{get_or-set_same, get_or-set_other}
-use Rattle.connections.specs.declared.serve.RunFault.{RunFault}
-use Rattle.connections.specs.declared.serve.RunFault.TheVariants.{NotFree, Read, Write, TooManyReads}
-use Rattle.desk.specs.Desk.{Office}
-use Rattle.connections.specs.Lines.{complete}
-use Rattle.connections.specs.Traffic.{Received, Traffic}
-use Rattle.connections.specs.Events.{line_at, with_line}
-use Rattle.connections.specs.Serving.{Serves, Breaks, SameOthers, Ran, RanUntil, RunGives}
-use Rattle.connections.specs.Delivery.{Begun, Pumped, PumpedUntil, Pumps}
+use Rattle.std.proofs.Common.{◌≡◌, ℕ, ◌<◌, List, [], length, Option, None, Some, Result, Ok, Err, refl, sym, ap, ◌∙◌, subst, get_or-set_other}
+use Rattle.connections.proofs.Prelude.{get_or-set_same, Office, Pumped, PumpedUntil, Pumps, Begun, line_at, with_line, complete, Serves, Breaks}
+use Rattle.connections.proofs.Prelude.{SameOthers, Ran, RanUntil, RunGives, Traffic, Received, RunFault, NotFree, Read, Write, TooManyReads}
 
 -- connection c opened
 pub record Opened (t u : Traffic) (c : ℕ) : Type 0 where

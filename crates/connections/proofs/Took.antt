@@ -1,18 +1,11 @@
 -- One event of bytes, and the write of its reply.
-use Rattle.std.proofs.Common.{◌≡◌, ℕ, ◌+◌, ◌<◌, ◌≤◌, Bool, true, false, nat_lt, List, [], ◌∷◌, ◌++◌, length, take, Option, None, Some, Ok, Err, if◌then◌else◌, refl, sym, ap, ◌∙◌, subst, append-nil, arith, length-append}
-use Rattle.std.specs.Io.KnownBytes.{Appends}
-use Rattle.std.proofs.KnownBytes.{Appends-nil}
-use Rattle.std.proofs.lemmas.List.{get_or-set_same, get_or-set_other, take_all}
-use Rattle.std.proofs.lemmas.Bool.{ltb-true, lt-ltb}
-use Rattle.connections.specs.declared.gateway.GateFault.{GateFault}
+use Rattle.std.proofs.Common.{◌≡◌, ℕ, ◌<◌, ◌≤◌, Bool, true, false, nat_lt, List, [], ◌∷◌, ◌++◌, length, take, Option, None, Some, Ok, Err, if◌then◌else◌, refl, sym, ap, ◌∙◌, subst, append-nil, arith}
+use Rattle.connections.proofs.Prelude.{take_all, is_some, get_or-set_other, get_or-set_same, ltb-true, lt-ltb, Appends-nil, Appends, IsOpen}
+use Rattle.connections.proofs.Prelude.{Delivered, DeliveredUntil, Begun, WritesReply, connections, at_number, unless_open, unless_bad_number, line_at}
+use Rattle.connections.proofs.Prelude.{Took, has_end, before_end, complete, SameOthers, Traffic, Partial, Stands, GateFault}
 use Rattle.connections.specs.declared.gateway.GateFault.TheVariants.{BadNumber}
 use Rattle.line_protocol.specs.Step.{Replies}
-use Rattle.connections.specs.Lines.{complete, has_end, before_end}
-use Rattle.connections.specs.Traffic.{Partial, Received, Stands, Traffic}
-use Rattle.connections.specs.Events.{connections, at_number, unless_open, unless_bad_number, line_at, Took}
 use Rattle.devices.specs.Devices.{AppendsPart}
-use Rattle.connections.specs.Serving.{Breaks, SameOthers}
-use Rattle.connections.specs.Delivery.{IsOpen, Begun, Delivered, DeliveredUntil, WritesReply}
 use Rattle.connections.proofs.Cuts.{complete_without, unfinished_without, before_without, cut_at_end, complete_at_end, unfinished_at_end, taken_at_end}
 
 -- ---- connections
@@ -45,38 +38,34 @@ module _ (t u : Traffic) (c taken : ℕ) (bytes : List ℕ) (reply : Option (Lis
 
 -- ---- what an event took
 
+end_within : (xs : List ℕ) → has_end xs ≡ true → length (before_end xs) < length xs
+end_within [] h = cc
+end_within (x ∷ xs) h = grind (arith, end_within xs)
+
 module _ (t u : Traffic) (c taken : ℕ) (bytes : List ℕ) (reply : Option (List ℕ)) (took : Took t c bytes taken reply u) where
-  taken_with : has_end bytes ≡ true → taken ≡ length (before_end bytes) + 1
-  taken_with e = rw e at took.takes.count
-
-  taken_without : has_end bytes ≡ false → taken ≡ length bytes
-  taken_without e = rw e at took.takes.count
-
-  some_by : (t : Bool) → has_end bytes ≡ t → 0 < length bytes → 0 < taken
-  some_by true e some = omega (arith, taken_with e)
-  some_by false e some = omega (arith, taken_without e)
-
-  within_by : (t : Bool) → has_end bytes ≡ t → taken ≤ length bytes
-  within_by true e =
-      let cut = cut_at_end bytes e in
-      let whole : length bytes ≡ length (before_end bytes) + length (10 ∷ cut.0) = ap length cut.1 ∙ length-append (before_end bytes) (10 ∷ cut.0) in
-      omega (arith, taken_with e, whole)
-  within_by false e = omega (arith, taken_without e)
-
   pub took_some : 0 < length bytes → 0 < taken
-  took_some = some_by (has_end bytes) refl
+  took_some some = let n = took.takes.count in grind arith
 
   pub took_within : taken ≤ length bytes
-  took_within = within_by (has_end bytes) refl
+  took_within = let n = took.takes.count in grind (arith, end_within bytes)
+
+  -- a reply comes where the bytes have a line feed
+  replies_by : (end : Bool) → has_end bytes ≡ end → end ≡ is_some reply
+  replies_by true e = let step = rw e at took.takes.step in sym (ap is_some step.is)
+  replies_by false e = let step = rw e at took.takes.step in sym (ap is_some step.silent)
+
+  replied : has_end bytes ≡ is_some reply
+  replied = replies_by (has_end bytes) refl
 
 -- ---- no reply
 
-delivered_without : (t u : Traffic) (c taken : ℕ) (bytes : List ℕ) (out : Option (List ℕ)) → has_end bytes ≡ false → Took t c bytes taken None u → IsOpen t c → length t.lines ≡ connections
+delivered_silent : (t u : Traffic) (c taken : ℕ) (bytes : List ℕ) (out : Option (List ℕ)) → Took t c bytes taken None u → IsOpen t c → length t.lines ≡ connections
     → Delivered c (take taken bytes) t u out out
-delivered_without t u c taken bytes out e took is_open count =
+delivered_silent t u c taken bytes out took is_open count =
+    let e : has_end bytes ≡ false = replied t u c taken bytes None took in
     let step = rw e at took.takes.step in
-    let all : take taken bytes ≡ bytes = take_all taken bytes (omega (arith, taken_without t u c taken bytes None took e)) in
-    rw all (record {
+    let gone : taken ≡ length bytes = rw e at took.takes.count in
+    rw (take_all taken bytes (omega (arith, gone))) (record {
       out = [];
       appends = Appends-nil out;
       serves = λ line b. rw (complete_without line bytes e) (refl, step.same);
@@ -89,24 +78,11 @@ delivered_without t u c taken bytes out e took is_open count =
       others = others_after t u c taken bytes None took is_open count;
     })
 
-silent_without : (t u : Traffic) (c taken : ℕ) (bytes : List ℕ) (end : Bool) → has_end bytes ≡ end → Took t c bytes taken None u → has_end bytes ≡ false
-silent_without t u c taken bytes true e took = let step = rw e at took.takes.step in let no = step.is in cc
-silent_without t u c taken bytes false e took = e
-
--- no reply came: the bytes have no line feed
-delivered_silent : (t u : Traffic) (c taken : ℕ) (bytes : List ℕ) (out : Option (List ℕ)) → Took t c bytes taken None u → IsOpen t c → length t.lines ≡ connections
-    → Delivered c (take taken bytes) t u out out
-delivered_silent t u c taken bytes out took = delivered_without t u c taken bytes out (silent_without t u c taken bytes (has_end bytes) refl took) took
-
 -- ---- a reply
-
-with_reply : (t u : Traffic) (c taken : ℕ) (bytes text : List ℕ) (end : Bool) → has_end bytes ≡ end → Took t c bytes taken (Some text) u → has_end bytes ≡ true
-with_reply t u c taken bytes text true e took = e
-with_reply t u c taken bytes text false e took = let step = rw e at took.takes.step in let no = step.silent in cc
 
 module _ (t u : Traffic) (c taken : ℕ) (bytes text : List ℕ) (took : Took t c bytes taken (Some text) u) (is_open : IsOpen t c) (count : length t.lines ≡ connections) where
   ended : has_end bytes ≡ true
-  ended = with_reply t u c taken bytes text (has_end bytes) refl took
+  ended = replied t u c taken bytes (Some text) took
 
   answers : (line : List ℕ) → Begun t c line → Replies t.office (line ++ before_end bytes) text u.office
   answers line b =
@@ -114,11 +90,10 @@ module _ (t u : Traffic) (c taken : ℕ) (bytes text : List ℕ) (took : Took t 
       let same : step.text ≡ text = let e = step.is in cc in
       subst (λ x. Replies t.office (line ++ before_end bytes) x u.office) same (step.answers line (stood t u c taken bytes (Some text) took is_open count line b))
 
-  fresh : took.next ≡ Received []
-  fresh = let step = rw ended at took.takes.step in step.fresh
-
   front : take taken bytes ≡ before_end bytes ++ 10 ∷ []
-  front = ap (λ n. take n bytes) (taken_with t u c taken bytes (Some text) took ended) ∙ taken_at_end bytes (before_end bytes) (cut_at_end bytes ended).0 (cut_at_end bytes ended).1
+  front =
+      ap (λ n. take n bytes) (rw ended at took.takes.count)
+      ∙ taken_at_end bytes (before_end bytes) (cut_at_end bytes ended).0 (cut_at_end bytes ended).1
 
   -- a reply came, and was written
   delivered_answered : (before after : Option (List ℕ)) → Appends before after text → Delivered c (take taken bytes) t u before after
@@ -130,33 +105,30 @@ module _ (t u : Traffic) (c taken : ℕ) (bytes text : List ℕ) (took : Took t 
     begun = λ line b. record {
       known = took.next;
       is = line_after t u c taken bytes (Some text) took is_open count;
-      stands = rw (unfinished_at_end line (before_end bytes), fresh) refl;
+      stands = let step = rw ended at took.takes.step in rw (unfinished_at_end line (before_end bytes), step.fresh) refl;
     };
     others = others_after t u c taken bytes (Some text) took is_open count;
   })
-
-  breaks_here : (part unsent : List ℕ) → text ≡ part ++ unsent → 0 < length unsent → (line : List ℕ) → Begun t c line → Breaks t.office (complete line bytes) part u.office
-  breaks_here part unsent e some line b = record {
-    first = [];
-    last = line ++ before_end bytes;
-    more = complete [] (cut_at_end bytes ended).0;
-    cut = ap (complete line) (cut_at_end bytes ended).1 ∙ complete_at_end line (before_end bytes) (cut_at_end bytes ended).0 (before_without bytes);
-    sent = [];
-    part = part;
-    unsent = unsent;
-    mid = t.office;
-    serves = (refl, refl);
-    fails = subst (λ x. Replies t.office (line ++ before_end bytes) x u.office) e (answers line b);
-    short = some;
-    front = refl;
-  }
 
   -- a reply came, and its write broke off
   delivered_broken : (before after : Option (List ℕ)) → AppendsPart before after text → DeliveredUntil c bytes t u before after
   delivered_broken before after gone = record {
     out = gone.0;
     appends = gone.4;
-    breaks = breaks_here gone.0 gone.1 gone.2 gone.3;
+    breaks = λ line b. record {
+      first = [];
+      last = line ++ before_end bytes;
+      more = complete [] (cut_at_end bytes ended).0;
+      cut = ap (complete line) (cut_at_end bytes ended).1 ∙ complete_at_end line (before_end bytes) (cut_at_end bytes ended).0 (before_without bytes);
+      sent = [];
+      part = gone.0;
+      unsent = gone.1;
+      mid = t.office;
+      serves = (refl, refl);
+      fails = subst (λ x. Replies t.office (line ++ before_end bytes) x u.office) gone.2 (answers line b);
+      short = gone.3;
+      front = refl;
+    };
     is_open = open_after t u c taken bytes (Some text) took is_open count;
     others = others_after t u c taken bytes (Some text) took is_open count;
   }

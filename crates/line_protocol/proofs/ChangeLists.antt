@@ -1,14 +1,9 @@
 -- Lists of changes, element by element.
 use Rattle.std.proofs.Common.{◌≡◌, ℕ, suc, ◌<◌, ◌+◌, List, [], ◌∷◌, ◌++◌, length, drop, map, get_or, Option, Some, None, refl, sym, ap, ◌∙◌, append_assoc, append-nil}
-use Rattle.std.specs.Option.{option_map}
+use Rattle.line_protocol.proofs.Prelude.{option_map, TextChange, change_of, items_len, view, items_view, Value, as_change, as_changes}
 use Rattle.std.proofs.Math.Numerals.{suc-eq-add-one}
 use Rattle.std.proofs.Math.Seq.{drop-cons}
-use Rattle.serde_json.specs.Events.{items_len}
-use Rattle.serde_json.specs.View.{view, items_view}
-use Rattle.serde_json.specs.declared.value.Value.{Value}
 use Rattle.desk.specs.declared.ops.changes.ContentChange.{ContentChange}
-use Rattle.desk.specs.Commands.{TextChange, change_of}
-use Rattle.line_protocol.specs.Request.{as_change, as_changes}
 
 -- as many items as values
 pub len_viewed : (vs : List Value) → items_len (items_view vs) ≡ length vs

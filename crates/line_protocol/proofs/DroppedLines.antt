@@ -1,8 +1,6 @@
 -- Replies to lines of which only the number of their bytes is known.
 use Rattle.std.proofs.Common.{◌≡◌, ℕ, ◌<◌, ◌≤◌, List, length, nat_lt, true, false, refl, rules}
-use Rattle.desk.specs.Desk.{Office}
-use Rattle.line_protocol.specs.Replies.{memory_text}
-use Rattle.line_protocol.specs.Step.{Replies, ran_out, line_limit, too_long_text}
+use Rattle.line_protocol.proofs.Prelude.{Office, memory_text, ran_out, line_limit, too_long_text, Replies}
 
 pub too_long_answers : (o : Office) (line text : List ℕ) → text ≡ too_long_text → line_limit < length line → Replies o line text o
 unfolding Replies

@@ -3,5 +3,6 @@ mod DroppedLines
 mod MemoryReplies
 pub mod Merging
 mod PlainText
+mod Prelude
 mod SentLines
 mod StepReplies

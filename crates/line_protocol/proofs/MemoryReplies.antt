@@ -1,17 +1,8 @@
 -- What the text that reports that memory ran out says of the desk.
-use Rattle.std.proofs.Common.{◌≡◌, ℕ, Bool, true, false, nat_lt, List, length, Result, Ok, Err, MatchBool, refl, sym, ap, ◌∙◌}
-use Rattle.std.specs.Str.{bytes_eq}
-use Rattle.json.specs.Print.{escape_byte}
-use Rattle.desk.specs.Accepted.{reports_change, OnlyChangesChange}
-use Rattle.desk.specs.Commands.{Asked}
-use Rattle.desk.specs.Desk.{Office, answer_of}
-use Rattle.desk.specs.Documents.{Names}
-use Rattle.desk.specs.declared.ops.Reply.{Reply}
-use Rattle.desk.specs.declared.ops.Reply.TheVariants.{Edited, Change, Changes, Closed}
-use Rattle.line_protocol.specs.declared.request.refusal.Refusal.{Refusal}
-use Rattle.line_protocol.specs.Replies.{reply_text, memory_text}
-use Rattle.line_protocol.specs.Request.{request_of_line}
-use Rattle.line_protocol.specs.Step.{LineStep, IsStep, taken, ran_out, Replies, step_by, step_of, line_limit, too_long_text}
+use Rattle.std.proofs.Common.{◌≡◌, ℕ, Bool, true, false, nat_lt, List, length, Result, Ok, Err, MatchBool, refl, sym, ap, ◌∙◌, bytes_eq}
+use Rattle.line_protocol.proofs.Prelude.{reports_change, OnlyChangesChange, Asked, Office, answer_of, Names, Reply, Edited, Change, Changes, Closed}
+use Rattle.line_protocol.proofs.Prelude.{escape_byte, memory_text, reply_text, request_of_line, ran_out, line_limit, too_long_text, LineStep, IsStep}
+use Rattle.line_protocol.proofs.Prelude.{taken, step_by, step_of, Replies, Refusal}
 
 memory_same : bytes_eq memory_text memory_text ≡ true
 unfolding escape_byte

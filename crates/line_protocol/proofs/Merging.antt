@@ -1,10 +1,8 @@
 -- Members of two lists in the order of their keys.
 use Rattle.std.proofs.Common.{◌≡◌, ℕ, List, [], ◌∷◌, length, refl, sym, ap, rules}
+use Rattle.line_protocol.proofs.Prelude.{Members, no_members, member, merged, MemberList, IsNext, members_of, content_data}
 use denote.Ref.{Bor}
-use Rattle.serde_json.specs.Data.{Members, no_members, member}
 use Rattle.line_protocol.specs.declared.reply_line.members.Content.{Content}
-use Rattle.line_protocol.specs.Replies.{merged}
-use Rattle.line_protocol.specs.Writing.{MemberList, IsNext, members_of, content_data}
 
 pub merged_none : (ms : Members) → merged ms no_members ≡ ms
 merged_none no_members = refl

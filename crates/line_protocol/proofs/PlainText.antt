@@ -1,8 +1,7 @@
 -- Text that JSON writes as it is.
 use Rattle.std.proofs.Common.{◌≡◌, ℕ, ◌&&◌, Bool, true, false, List, [], ◌∷◌, ◌++◌, refl, ap, arith, append_assoc}
+use Rattle.line_protocol.proofs.Prelude.{escape, quoted, escape_byte, is_plain, all_plain}
 use Rattle.std.proofs.lemmas.Bool.Decides.{nat_tests}
-use Rattle.json.specs.Print.{escape_byte, escape, quoted}
-use Rattle.line_protocol.specs.Writing.{is_plain, all_plain}
 
 pub left_true : (a b : Bool) → (a && b) ≡ true → a ≡ true
 left_true true b h = refl

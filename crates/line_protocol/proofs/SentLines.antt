@@ -1,11 +1,7 @@
 -- Lines that are written by the events of a value.
 use Rattle.std.proofs.Common.{◌≡◌, ℕ, suc, false, List, [], ◌∷◌, ◌++◌, length, refl, ap, ◌∙◌}
-use Rattle.serde_json.specs.Data.{Data}
-use Rattle.serde_json.specs.Events.{SendsValue, items_len}
-use Rattle.serde_json.specs.Written.{has_float, items_have_float}
+use Rattle.line_protocol.proofs.Prelude.{Data, items_len, SendsValue, has_float, items_have_float, line_of, items_of, IsLineOf}
 use Rattle.serde_json.proofs.FreeTexts.{text_of_value}
-use Rattle.line_protocol.specs.Replies.{line_of, items_of}
-use Rattle.line_protocol.specs.Writing.{IsLineOf}
 
 pub line-of : (d : Data) (line : List ℕ) → has_float d ≡ false → IsLineOf (SendsValue d) line → line ≡ line_of d
 line-of d line whole sent = sent.ends ∙ ap (λ t. t ++ 10 ∷ []) (text_of_value d sent.log sent.text sent.sent sent.written whole)

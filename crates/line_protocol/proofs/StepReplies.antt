@@ -1,24 +1,15 @@
 -- How the reply to a line comes about.
 use Rattle.std.proofs.Common.{◌≡◌, ℕ, ◌≤◌, true, false, nat_lt, List, length, Ok, Err, refl, sym, ap, ◌∙◌, subst, rules}
-use Rattle.serde_json.specs.Data.{Data}
+use Rattle.line_protocol.proofs.Prelude.{reports_change, Asked, asked, Office, answer_of, Outcome, Answers, Names, Reply, Edited, Change, Changes}
+use Rattle.line_protocol.proofs.Prelude.{Closed, Refused, Data, memory_text, reply_text, refusal_text, json_of_line, request_of, IsJsonOfLine, ◌>>=◌}
+use Rattle.line_protocol.proofs.Prelude.{IsRequest, ran_out, line_limit, LineStep, IsStep, taken, step_by, step_of, answered, Replies, Refusal}
 use Rattle.enc_names.specs.Labels.{LabelTable}
 use Rattle.index_loader.specs.Files.{Files}
-use Rattle.desk.specs.declared.fault.Fault.TheVariants.{OutOfMemory}
-use Rattle.desk.specs.declared.ops.Reply.{Reply}
-use Rattle.desk.specs.declared.ops.Reply.TheVariants.{Edited, Change, Changes, Closed, Refused}
-use Rattle.line_protocol.specs.declared.request.refusal.Refusal.{Refusal}
-use Rattle.line_protocol.specs.declared.request.refusal.Refusal.TheVariants as refusal
-use Rattle.desk.specs.Commands.{Asked, asked}
 use Rattle.desk.specs.declared.ops.Command.{Command}
-use Rattle.line_protocol.specs.Request.{◌>>=◌, json_of_line, request_of, IsJsonOfLine, IsRequest}
 use Rattle.line_protocol.specs.Inline.{is_short}
-use Rattle.line_protocol.specs.Replies.{reply_text, refusal_text, memory_text}
 use Rattle.std.proofs.lemmas.Bool.{false_from_ne_true}
-use Rattle.desk.specs.Documents.{Names}
-use Rattle.desk.specs.Desk.{Office, Outcome, Answers, answer_of}
-use Rattle.desk.specs.Accepted.{reports_change}
+use Rattle.desk.specs.declared.fault.Fault.{Fault}
 use Rattle.line_protocol.proofs.DroppedLines.{memory_answers}
-use Rattle.line_protocol.specs.Step.{LineStep, IsStep, taken, ran_out, Replies, answered, step_by, step_of, line_limit}
 
 -- ---- the desk's answer
 
@@ -36,7 +27,7 @@ same_step old new id outcome reply text e o p q =
 -- the desk answered, and its reply was written
 desk_step : (old new : Office) (id : ℕ) (command : Asked) (reply : Reply) (text : List ℕ) → text ≡ reply_text id reply → Answers old command reply new
     → IsStep old (answered old id (answer_of old command)) text new
-desk_step old new id command (Refused OutOfMemory) text e a = ran_out e (same_office old new a.indexes a.labels a.step)
+desk_step old new id command (Refused Fault.OutOfMemory) text e a = ran_out e (same_office old new a.indexes a.labels a.step)
 desk_step old new id command reply text e a = taken (same_step old new id _ reply text e a.step a.indexes a.labels)
 
 -- ---- replies that need memory
@@ -67,7 +58,7 @@ parsed_step old new d id command reply text is e a = subst (λ r. IsStep old (st
 
 -- a request without a command, or whose list memory didn't suffice for
 pub unparsed_step : (o : Office) (d : Data) (r : Refusal) (text : List ℕ) → IsRequest d (Err r) → text ≡ refusal_text r → IsStep o (step_by o (request_of d)) text o
-unparsed_step o d refusal.OutOfMemory text is e = ran_out e refl
+unparsed_step o d Refusal.OutOfMemory text is e = ran_out e refl
 unparsed_step o d r text is e = subst (λ s. IsStep o (step_by o s) text o) is (refused_step o r text e)
 
 -- ---- lines
@@ -86,6 +77,6 @@ read_answers o line text new d short e is =
 
 -- a line without a value, or whose value memory didn't suffice for
 pub unread_answers : (o : Office) (line text : List ℕ) (r : Refusal) → length line ≤ line_limit → IsJsonOfLine line (Err r) → text ≡ refusal_text r → Replies o line text o
-unread_answers o line text refusal.OutOfMemory short e is = memory_answers o line text is short
+unread_answers o line text Refusal.OutOfMemory short e is = memory_answers o line text is short
 unread_answers o line text r short e is =
     short_answers o line text o short (subst (λ s. IsStep o (step_by o s) text o) (sym (ap (λ v. v >>= request_of) e)) (refused_step o r text is))

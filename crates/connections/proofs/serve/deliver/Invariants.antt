@@ -1,5 +1,4 @@
-use Rattle.std.proofs.Common.{length, take, ◌-◌, ◌≡◌, ◌≤◌}
-use Rattle.connections.specs.Delivery.{Delivered}
+use Rattle.connections.proofs.Prelude.{◌≡◌, ◌-◌, ◌≤◌, length, take, Delivered}
 use Rattle.connections.proofs.serve.deliver.Given as goal
 
 abbrev pub invariant-loop-done : goal.invariant-loop-done

@@ -1,11 +1,11 @@
-use Rattle.std.proofs.Common.{Err, ap, arith, refl, add-zero, sym}
-use Rattle.connections.proofs.Chains.{Pumped-start, Pumped-trans, Pumped-Err, reads_before}
+use Rattle.connections.proofs.Prelude.{Err, sym, refl, ap, add-zero, arith, Keeps-refl}
 use Rattle.devices.specs.declared.reading.Progress.{Progress}
+use Rattle.connections.proofs.Chains.{Pumped-nil, Pumped-trans, Pumped-Err, reads_before}
 use Rattle.connections.proofs.serve.pump.Goals as goal
 
 pub loop-init : goal.loop-init
 loop-init g c = record {
-  pumped = Pumped-start _ _ _ _ c.requires;
+  pumped = Pumped-nil _ _ _ _ _ c.requires (Keeps-refl _);
   ends = refl;
   reads = sym (add-zero _);
   read_failures = refl;

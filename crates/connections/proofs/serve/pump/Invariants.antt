@@ -1,5 +1,4 @@
-use Rattle.std.proofs.Common.{◌≡◌, ◌+◌}
-use Rattle.connections.specs.Delivery.{Pumped}
+use Rattle.connections.proofs.Prelude.{◌≡◌, ◌+◌, Pumped}
 use Rattle.connections.proofs.serve.pump.Given as goal
 
 abbrev pub invariant-loop : goal.invariant-loop

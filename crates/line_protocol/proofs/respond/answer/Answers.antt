@@ -1,6 +1,4 @@
-use Rattle.serde_json.specs.View.{view}
-use Rattle.line_protocol.specs.Request.{request_of}
-use Rattle.line_protocol.specs.Step.{step_by}
+use Rattle.line_protocol.proofs.Prelude.{view, request_of, step_by}
 use Rattle.line_protocol.proofs.StepReplies.{parsed_step, unparsed_step, unwritten_reply_step}
 use Rattle.line_protocol.proofs.respond.answer.Goals as goal
 

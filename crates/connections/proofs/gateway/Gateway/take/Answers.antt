@@ -1,5 +1,4 @@
-use Rattle.std.proofs.Common.{sym, ◌∙◌, ap, slice_set, Some}
-use Rattle.std.proofs.lemmas.List.{set-set}
+use Rattle.std.proofs.Common.{sym, ◌∙◌, ap, slice_set, Some, set-set}
 use Rattle.connections.proofs.gateway.Gateway.take.Goals as goal
 
 pub returns-clause-step : goal.returns-clause-step

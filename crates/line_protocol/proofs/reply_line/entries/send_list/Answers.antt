@@ -1,6 +1,4 @@
-use Rattle.std.proofs.Common.{◌≡◌, [], drop}
-use Rattle.std.proofs.lemmas.Result.{IfOk-weaker}
-use Rattle.std.proofs.Math.ListN.{drop_of_length-le}
+use Rattle.line_protocol.proofs.Prelude.{◌≡◌, [], drop, drop_of_length-le, IfOk-weaker}
 use Rattle.line_protocol.proofs.SentLines.{items-len}
 use Rattle.line_protocol.proofs.reply_line.entries.send_list.Goals as goal
 

@@ -1,7 +1,5 @@
-use Rattle.std.proofs.Common.{drop}
+use Rattle.line_protocol.proofs.Prelude.{drop, SendsItems, items_of}
 use Rattle.serde.specs.Event.{Log}
-use Rattle.serde_json.specs.Events.{SendsItems}
-use Rattle.line_protocol.specs.Replies.{items_of}
 use Rattle.line_protocol.proofs.reply_line.entries.send_list.Given as goal
 
 -- What ends the entries that are left ends them all.

@@ -1,8 +1,4 @@
-use Rattle.std.proofs.Common.{ℕ, List, refl, ap, ◌∙◌}
-use Rattle.std.proofs.lemmas.Result.{IfOk-weaker}
-use Rattle.base64.specs.Engines.{standard}
-use Rattle.base64.specs.GeneralPurpose.{encode_of}
-use Rattle.line_protocol.specs.Replies.{base64_data, line_of}
+use Rattle.line_protocol.proofs.Prelude.{ℕ, List, refl, ap, ◌∙◌, IfOk-weaker, standard, encode_of, line_of, base64_data}
 use Rattle.line_protocol.proofs.SentLines.{line-of}
 use Rattle.line_protocol.proofs.reply_line.long.bytes.Goals as goal
 

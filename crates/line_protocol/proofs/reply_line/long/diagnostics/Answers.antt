@@ -1,7 +1,4 @@
-use Rattle.std.proofs.Common.{◌≡◌, false, refl}
-use Rattle.std.proofs.lemmas.Result.{IfOk-weaker}
-use Rattle.serde_json.specs.Written.{has_float}
-use Rattle.line_protocol.specs.Replies.{diagnostics_data, diagnostic_data}
+use Rattle.line_protocol.proofs.Prelude.{◌≡◌, false, refl, IfOk-weaker, has_float, diagnostics_data, diagnostic_data}
 use Rattle.line_protocol.proofs.SentLines.{line-of, whole-items}
 use Rattle.line_protocol.proofs.reply_line.long.diagnostics.Goals as goal
 

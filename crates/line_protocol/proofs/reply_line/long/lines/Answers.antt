@@ -1,7 +1,4 @@
-use Rattle.std.proofs.Common.{◌≡◌, false, refl}
-use Rattle.std.proofs.lemmas.Result.{IfOk-weaker}
-use Rattle.serde_json.specs.Written.{has_float}
-use Rattle.line_protocol.specs.Replies.{lines_data, line_data}
+use Rattle.line_protocol.proofs.Prelude.{◌≡◌, false, refl, IfOk-weaker, has_float, lines_data, line_data}
 use Rattle.line_protocol.proofs.SentLines.{line-of, whole-items}
 use Rattle.line_protocol.proofs.reply_line.long.lines.Goals as goal
 

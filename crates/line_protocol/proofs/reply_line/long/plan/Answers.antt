@@ -1,8 +1,4 @@
-use Rattle.std.proofs.Common.{ℕ, List, refl, ap, ◌∙◌}
-use Rattle.std.proofs.lemmas.Result.{IfOk-weaker}
-use Rattle.base64.specs.Engines.{standard}
-use Rattle.base64.specs.GeneralPurpose.{encode_of}
-use Rattle.line_protocol.specs.Replies.{plan_texts, line_of}
+use Rattle.line_protocol.proofs.Prelude.{ℕ, List, refl, ap, ◌∙◌, IfOk-weaker, standard, encode_of, line_of, plan_texts}
 use Rattle.line_protocol.proofs.SentLines.{line-of}
 use Rattle.line_protocol.proofs.reply_line.long.plan.Goals as goal
 

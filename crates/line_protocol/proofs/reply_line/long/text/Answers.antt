@@ -1,6 +1,4 @@
-use Rattle.std.proofs.Common.{refl}
-use Rattle.std.proofs.lemmas.Result.{IfOk-weaker}
-use Rattle.line_protocol.specs.Replies.{text_data}
+use Rattle.line_protocol.proofs.Prelude.{refl, IfOk-weaker, text_data}
 use Rattle.line_protocol.proofs.SentLines.{line-of}
 use Rattle.line_protocol.proofs.reply_line.long.text.Goals as goal
 

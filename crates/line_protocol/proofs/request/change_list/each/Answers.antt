@@ -1,9 +1,4 @@
-use Rattle.std.proofs.Common.{◌≡◌, List, [], drop, map, ◌+◌, sym, ap, ◌∙◌}
-use Rattle.std.proofs.Math.ListN.{drop_of_length-le}
-use Rattle.serde_json.specs.View.{items_view}
-use Rattle.serde_json.specs.declared.value.Value.{Value}
-use Rattle.desk.specs.Commands.{change_of}
-use Rattle.line_protocol.specs.Request.{as_changes}
+use Rattle.line_protocol.proofs.Prelude.{◌≡◌, ◌+◌, List, [], map, drop, sym, ap, ◌∙◌, drop_of_length-le, change_of, items_view, Value, as_changes}
 use Rattle.line_protocol.proofs.ChangeLists.{behind, behind_end, behind_nothing, goes_on, next_element, stops}
 use Rattle.line_protocol.proofs.request.change_list.each.Goals as goal
 

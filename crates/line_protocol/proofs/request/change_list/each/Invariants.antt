@@ -1,7 +1,4 @@
-use Rattle.std.proofs.Common.{◌≡◌, drop, map}
-use Rattle.serde_json.specs.View.{items_view}
-use Rattle.desk.specs.Commands.{change_of}
-use Rattle.line_protocol.specs.Request.{as_changes}
+use Rattle.line_protocol.proofs.Prelude.{◌≡◌, map, drop, change_of, items_view, as_changes}
 use Rattle.line_protocol.proofs.ChangeLists.{behind}
 use Rattle.line_protocol.proofs.request.change_list.each.Given as goal
 

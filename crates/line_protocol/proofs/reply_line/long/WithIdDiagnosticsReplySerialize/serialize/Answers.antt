@@ -1,4 +1,4 @@
-use Rattle.std.proofs.lemmas.Result.{IfOk-weaker}
+use Rattle.line_protocol.proofs.Prelude.{IfOk-weaker}
 use Rattle.line_protocol.proofs.reply_line.long.WithIdDiagnosticsReplySerialize.serialize.Goals as goal
 
 -- the members one in another, each with the events so far behind its key and behind its value
