@@ -1,24 +1,57 @@
 -- Lines of a trace, one after another.
 use Rattle.std.proofs.Common.{◌≡◌, ℕ, ◌+◌, ◌<◌, Bool, true, false, List, [], ◌∷◌, ◌++◌, length, take, Option, Err, refl, sym, ap, ◌∙◌, subst, append_assoc, append-nil, arith, length-append}
-use Rattle.std.specs.Io.KnownBytes.{Appends}
-use Rattle.std.proofs.KnownBytes.{Appends-trans, Appends-nil}
-use Rattle.std.proofs.lemmas.List.{take_all, length-take}
-use Rattle.gateway.specs.declared.traces.fault.TraceFault.{TraceFault}
-use Rattle.gateway.specs.declared.traces.fault.TraceFault.TheVariants as fault
-use Rattle.gateway.specs.declared.traces.begun_line.LineFault.{LineFault}
-use Rattle.gateway.specs.declared.traces.begun_line.LineFault.TheVariants.{Bad, Write, OutOfMemory}
-use Rattle.gateway.specs.declared.traces.feeding.TracePlace.{TracePlace}
-use Rattle.connections.specs.CitedLaws.{LinesCut}
-use Rattle.connections.specs.Lines.{complete, unfinished, has_end, before_end}
-use Rattle.connections.specs.Traffic.{Traffic}
-use Rattle.gateway.specs.Trace.{is_skipped, IsBad, PrintsLine, PrintsAll, text_lines, StopsAtBad, StopsInPrint, StopsForMemory}
-use Rattle.gateway.specs.TraceLines.{BegunTrace, Known, MayBe, Goes, PlaysLine}
-use Rattle.gateway.specs.Tracing.{FeedsOn, Feeds, Anything, FeedStops, numbered_fault}
+use Rattle.gateway.proofs.Prelude.{length-take, take_all, Appends-trans, Appends-nil, Appends, LinesCut, complete, unfinished, has_end, before_end}
+use Rattle.gateway.proofs.Prelude.{Traffic, is_skipped, IsBad, PrintsLine, PrintsAll, text_lines, StopsAtBad, StopsInPrint, StopsForMemory}
+use Rattle.gateway.proofs.Prelude.{PlaysLines, BegunTrace, Known, MayBe, Goes, PlaysLine, FeedsOn, Feeds, Anything, FeedStops, numbered_fault}
+use Rattle.gateway.proofs.Prelude.{LineFault, Bad, Write, OutOfMemory, TraceFault, TracePlace}
 
 pub prints-append : (t u v : Traffic) (xs ys : List (List ℕ)) (a b : List ℕ) → PrintsAll t xs a u → PrintsAll u ys b v → PrintsAll t (xs ++ ys) (a ++ b) v
 prints-append t u v [] ys a b p q = rw p.0 (subst (λ x. PrintsAll x ys b v) p.1 q)
 prints-append t u v (x ∷ xs) ys a b p q =
     (p.0, p.1, p.2 ++ b, p.3, prints-append p.0 u v xs ys p.2 b p.4 q, ap (λ l. l ++ b) p.5 ∙ append_assoc p.1 p.2 b)
+
+-- ---- lines that were played, and the next one, which stops
+
+pub played-none : (t : Traffic) (x : Option (List ℕ)) → PlaysLines [] t t x x
+played-none t x = record { out = []; appends = Appends-nil x; prints = (refl, refl) }
+
+pub plays-append : {t u v : Traffic} {x y z : Option (List ℕ)} {ls ms : List (List ℕ)} → PlaysLines ls t u x y → PlaysLines ms u v y z
+    → PlaysLines (ls ++ ms) t v x z
+plays-append {t} {u} {v} {x} {y} {z} {ls} {ms} p q = record {
+  out = p.out ++ q.out;
+  appends = Appends-trans x y z p.out q.out p.appends q.appends;
+  prints = prints-append t u v ls ms p.out q.out p.prints q.prints;
+}
+
+module _ {t u v : Traffic} {x y z : Option (List ℕ)} {first : List (List ℕ)} (p : PlaysLines first t u x y) {line bytes : List ℕ} where
+  pub bad-next : {P : List ℕ → Type 0} (n from : ℕ) → n ≡ from + length first
+      → ((w : List ℕ) → P w → (last : List ℕ) × (more : List (List ℕ)) × (text_lines line (bytes ++ w) ≡ first ++ last ∷ more) × IsBad last)
+      → v ≡ u → z ≡ y → StopsAtBad n from line bytes P t v x z
+  bad-next n from number bad same still =
+      rw (same, still) (record { first = first; number = number; bad = bad; out = p.out; appends = p.appends; prints = p.prints })
+
+  pub unprinted-next : {P : List ℕ → Type 0} (last : List ℕ)
+      → ((later : List ℕ) → P later → (more : List (List ℕ)) × (text_lines line (bytes ++ later) ≡ first ++ last ∷ more))
+      → PlaysLine {A = Unit {0}} (Err Write) last u v y z → StopsInPrint line bytes P t v x z
+  unprinted-next last cut done = record {
+    first = first;
+    last = last;
+    event = done.1;
+    cut = cut;
+    counts = done.0;
+    is = done.2;
+    mid = u;
+    sent = p.out;
+    part = done.3;
+    appends = Appends-trans x y z p.out done.3 p.appends done.4;
+    prints = p.prints;
+    stops = done.5;
+  }
+
+  pub unkept-next : (last : List ℕ) (more : List (List ℕ)) → text_lines line bytes ≡ first ++ last ∷ more
+      → PlaysLine {A = Unit {0}} (Err OutOfMemory) last u v y z → StopsForMemory line bytes t v x z
+  unkept-next last more cut done = rw (done.1, done.2)
+      (record { first = first; last = last; more = more; cut = cut; counts = done.0; out = p.out; appends = p.appends; prints = p.prints })
 
 -- ---- the lines of a text in two parts
 
@@ -62,21 +95,20 @@ feeds-trans cuts a b t u v x y z p q r one two line m =
       number = rw (cuts.complete-append line a b) (omega (arith, n, first.number, second.number));
     }
 
-module _ (cuts : LinesCut) (line a b : List ℕ) (t u v : Traffic) (x y z : Option (List ℕ)) (p q : TracePlace) (one : FeedsOn line a t u x y p q) where
-  stops-at-bad : (n : ℕ) → StopsAtBad n q.number (unfinished line a) b Anything u v y z → StopsAtBad n p.number line (a ++ b) Anything t v x z
-  stops-at-bad n two =
-      let m = length-append (complete line a) two.first in
-      record {
-        first = complete line a ++ two.first;
-        number = omega (arith, m, one.number, two.number);
-        bad = λ later any. let found = two.bad later any in (found.0, found.1, lines-append-later cuts line a b later two.first found.1 found.0 found.2, found.3);
-        out = one.out ++ two.out;
-        appends = Appends-trans x y z one.out two.out one.appends two.appends;
-        prints = prints-append t u v (complete line a) two.first one.out two.out one.prints two.prints;
-      }
+module _ (cuts : LinesCut) {line a : List ℕ} {t u v : Traffic} {x y z : Option (List ℕ)} {p q : TracePlace} (one : FeedsOn line a t u x y p q) where
+  both : {first : List (List ℕ)} → PlaysLines first u v y z → PlaysLines (complete line a ++ first) t v x z
+  both two = plays-append (record { out = one.out; appends = one.appends; prints = one.prints }) two
 
-  stops-in-print : StopsInPrint (unfinished line a) b Anything u v y z → StopsInPrint line (a ++ b) Anything t v x z
-  stops-in-print two = record {
+  stops-at-bad : {b : List ℕ} (n : ℕ)
+      → StopsAtBad n q.number (unfinished line a) b Anything u v y z → StopsAtBad n p.number line (a ++ b) Anything t v x z
+  stops-at-bad {b} n two =
+      let m = length-append (complete line a) two.first in
+      bad-next (both (record { out = two.out; appends = two.appends; prints = two.prints })) n p.number (omega (arith, m, one.number, two.number))
+      (λ later any.
+      let f = two.bad later any in (f.0, f.1, lines-append-later cuts line a b later two.first f.1 f.0 f.2, f.3)) refl refl
+
+  stops-in-print : {b : List ℕ} → StopsInPrint (unfinished line a) b Anything u v y z → StopsInPrint line (a ++ b) Anything t v x z
+  stops-in-print {b} two = record {
     first = complete line a ++ two.first;
     last = two.last;
     event = two.event;
@@ -91,24 +123,19 @@ module _ (cuts : LinesCut) (line a b : List ℕ) (t u v : Traffic) (x y z : Opti
     stops = two.stops;
   }
 
-  stops-for-memory : StopsForMemory (unfinished line a) b u v y z → StopsForMemory line (a ++ b) t v x z
-  stops-for-memory two = record {
-    first = complete line a ++ two.first;
-    last = two.last;
-    more = two.more;
-    cut = lines-append cuts line a b ∙ ap (λ l. complete line a ++ l) two.cut ∙ sym (append_assoc (complete line a) two.first (two.last ∷ two.more));
-    counts = two.counts;
-    out = one.out ++ two.out;
-    appends = Appends-trans x y z one.out two.out one.appends two.appends;
-    prints = prints-append t u v (complete line a) two.first one.out two.out one.prints two.prints;
-  }
+  stops-for-memory : {b : List ℕ} → StopsForMemory (unfinished line a) b u v y z → StopsForMemory line (a ++ b) t v x z
+  stops-for-memory {b} two =
+      unkept-next (both (record { out = two.out; appends = two.appends; prints = two.prints })) two.last two.more
+      (lines-append cuts line a b ∙ ap (λ l. complete line a ++ l) two.cut ∙ sym (append_assoc (complete line a) two.first (two.last ∷ two.more)))
+      (two.counts, refl, refl)
 
 pub feeds-stop : (cuts : LinesCut) (f : TraceFault) (a b : List ℕ) (t u v : Traffic) (x y z : Option (List ℕ)) (p q : TracePlace) → Feeds a t u x y p q → FeedStops f b u v y z q → FeedStops f (a ++ b) t v x z p
-feeds-stop cuts (fault.BadLine n) a b t u v x y z p q one two = λ line m. let first = one line m in stops-at-bad cuts line a b t u v x y z p q first n (two (unfinished line a) first.next)
-feeds-stop cuts fault.Read a b t u v x y z p q one two = two
-feeds-stop cuts fault.Write a b t u v x y z p q one two = λ line m. let first = one line m in stops-in-print cuts line a b t u v x y z p q first (two (unfinished line a) first.next)
-feeds-stop cuts fault.TooManyReads a b t u v x y z p q one two = two
-feeds-stop cuts fault.OutOfMemory a b t u v x y z p q one two = λ line m. let first = one line m in stops-for-memory cuts line a b t u v x y z p q first (two (unfinished line a) first.next)
+feeds-stop cuts (TraceFault.BadLine n) a b t u v x y z p q one two = λ line m.
+    stops-at-bad cuts (one line m) n (two (unfinished line a) (one line m).next)
+feeds-stop cuts TraceFault.Write a b t u v x y z p q one two = λ line m. stops-in-print cuts (one line m) (two (unfinished line a) (one line m).next)
+feeds-stop cuts TraceFault.OutOfMemory a b t u v x y z p q one two = λ line m.
+    stops-for-memory cuts (one line m) (two (unfinished line a) (one line m).next)
+feeds-stop cuts f a b t u v x y z p q one two = two
 
 -- ---- bytes without a line feed
 
@@ -130,25 +157,15 @@ more-lines cuts line bytes later e =
 
 pub more-stops : (cuts : LinesCut) (f : LineFault) (bytes : List ℕ) (t : Traffic) (x : Option (List ℕ)) (p : TracePlace) (q : BegunTrace) → has_end bytes ≡ false → Goes {A = Unit {0}} (Err f) p.begun bytes q
     → FeedStops (numbered_fault f p.number) bytes t t x x p
-more-stops cuts Bad bytes t x p q e bad = λ line m. record {
-  first = [];
-  number = omega arith;
-  bad = λ later any. let found = first-line cuts (line ++ bytes) later in ((line ++ bytes) ++ found.0, found.1, more-lines cuts line bytes later e ∙ found.2, bad line found.0 m);
-  out = [];
-  appends = Appends-nil x;
-  prints = (refl, refl);
-}
+more-stops cuts Bad bytes t x p q e bad = λ line m.
+    bad-next (played-none t x) p.number p.number (omega arith) (λ later any.
+    let found = first-line cuts (line ++ bytes) later in
+    ((line ++ bytes) ++ found.0, found.1, more-lines cuts line bytes later e ∙ found.2, bad line found.0 m)) refl refl
 more-stops cuts Write bytes t x p q e bad = absurd bad
-more-stops cuts OutOfMemory bytes t x p q e counts = λ line m. record {
-  first = [];
-  last = line ++ bytes;
-  more = [];
-  cut = ap (λ l. l ++ unfinished line bytes ∷ []) (cuts.complete_without line bytes e) ∙ ap (λ l. l ∷ []) (cuts.unfinished_without line bytes e);
-  counts = counts line m;
-  out = [];
-  appends = Appends-nil x;
-  prints = (refl, refl);
-}
+more-stops cuts OutOfMemory bytes t x p q e counts = λ line m.
+    unkept-next (played-none t x) (line ++ bytes) []
+    (ap (λ l. l ++ unfinished line bytes ∷ []) (cuts.complete_without line bytes e) ∙ ap (λ l. l ∷ []) (cuts.unfinished_without line bytes e))
+    (counts line m, refl, refl)
 
 -- ---- bytes with a line feed
 
@@ -169,32 +186,26 @@ module _ (cuts : LinesCut) (bytes : List ℕ) (k : ℕ) (e : has_end bytes ≡ t
   ended-here : (line : List ℕ) → text_lines line bytes ≡ (line ++ before_end bytes) ∷ complete [] rest ++ unfinished line bytes ∷ []
   ended-here line = ap (λ l. l ++ unfinished line bytes ∷ []) (ap (complete line) cut ∙ cuts.complete_at_end line (before_end bytes) rest (cuts.before_without bytes))
 
+  end-by : (t u : Traffic) (x y : Option (List ℕ)) (p : TracePlace) (f : LineFault)
+      → ((line : List ℕ) → MayBe p.begun line → PlaysLine {A = Unit {0}} (Err f) (line ++ before_end bytes) t u x y)
+      → FeedStops (numbered_fault f p.number) bytes t u x y p
+  end-by t u x y p Bad plays = λ line m.
+      let done = plays line m in
+      bad-next (played-none t x) p.number p.number (omega arith)
+      (λ later any. (line ++ before_end bytes, complete [] (rest ++ later) ++ unfinished line (bytes ++ later) ∷ [], ended-lines line later, done.0))
+      done.1 done.2
+  end-by t u x y p Write plays = λ line m.
+      unprinted-next (played-none t x) (line ++ before_end bytes)
+      (λ later any. (complete [] (rest ++ later) ++ unfinished line (bytes ++ later) ∷ [], ended-lines line later)) (plays line m)
+  end-by t u x y p OutOfMemory plays = λ line m.
+      unkept-next (played-none t x) (line ++ before_end bytes) (complete [] rest ++ unfinished line bytes ∷ []) (ended-here line) (plays line m)
+
   pub end-stops : (f : LineFault) (t : Traffic) (x : Option (List ℕ)) (p : TracePlace) (q : BegunTrace) → Goes {A = Unit {0}} (Err f) p.begun (take k bytes) q
       → FeedStops (numbered_fault f p.number) bytes t t x x p
-  end-stops Bad t x p q bad = λ line m. record {
-    first = [];
-    number = omega arith;
-    bad = λ later any. (
-      line ++ before_end bytes,
-      complete [] (rest ++ later) ++ unfinished line (bytes ++ later) ∷ [],
-      ended-lines line later,
-      rw front (subst IsBad (append-nil (line ++ take k bytes)) (bad line [] m)),
-    );
-    out = [];
-    appends = Appends-nil x;
-    prints = (refl, refl);
-  }
+  end-stops Bad t x p q bad =
+      end-by t t x x p Bad (λ line m. (rw front (subst IsBad (append-nil (line ++ take k bytes)) (bad line [] m)), refl, refl))
   end-stops Write t x p q bad = absurd bad
-  end-stops OutOfMemory t x p q counts = λ line m. record {
-    first = [];
-    last = line ++ before_end bytes;
-    more = complete [] rest ++ unfinished line bytes ∷ [];
-    cut = ended-here line;
-    counts = rw front (counts line m);
-    out = [];
-    appends = Appends-nil x;
-    prints = (refl, refl);
-  }
+  end-stops OutOfMemory t x p q counts = end-by t t x x p OutOfMemory (λ line m. (rw front (counts line m), refl, refl))
 
   module _ (t u : Traffic) (x y : Option (List ℕ)) (p : TracePlace) (q : BegunTrace) (goes : (line : List ℕ) → MayBe p.begun line → MayBe q (line ++ take k bytes)) where
     ended : (line : List ℕ) → MayBe p.begun line → MayBe q (line ++ before_end bytes)
@@ -216,41 +227,4 @@ module _ (cuts : LinesCut) (bytes : List ℕ) (k : ℕ) (e : has_end bytes ≡ t
         })
 
     pub end-played-stops : (f : LineFault) → ((line : List ℕ) → MayBe q line → PlaysLine {A = Unit {0}} (Err f) line t u x y) → FeedStops (numbered_fault f p.number) bytes t u x y p
-    end-played-stops Bad plays = λ line m.
-        let done = plays (line ++ before_end bytes) (ended line m) in
-        record {
-          first = [];
-          number = omega arith;
-          bad = λ later any. (line ++ before_end bytes, complete [] (rest ++ later) ++ unfinished line (bytes ++ later) ∷ [], ended-lines line later, done.0);
-          out = [];
-          appends = subst (λ w. Appends x w []) (sym done.2) (Appends-nil x);
-          prints = (refl, done.1);
-        }
-    end-played-stops Write plays = λ line m.
-        let done = plays (line ++ before_end bytes) (ended line m) in
-        record {
-          first = [];
-          last = line ++ before_end bytes;
-          event = done.1;
-          cut = λ later any. (complete [] (rest ++ later) ++ unfinished line (bytes ++ later) ∷ [], ended-lines line later);
-          counts = done.0;
-          is = done.2;
-          mid = t;
-          sent = [];
-          part = done.3;
-          appends = done.4;
-          prints = (refl, refl);
-          stops = done.5;
-        }
-    end-played-stops OutOfMemory plays = λ line m.
-        let done = plays (line ++ before_end bytes) (ended line m) in
-        record {
-          first = [];
-          last = line ++ before_end bytes;
-          more = complete [] rest ++ unfinished line bytes ∷ [];
-          cut = ended-here line;
-          counts = done.0;
-          out = [];
-          appends = subst (λ w. Appends x w []) (sym done.2) (Appends-nil x);
-          prints = (refl, done.1);
-        }
+    end-played-stops f plays = end-by t u x y p f (λ line m. plays (line ++ before_end bytes) (ended line m))

@@ -1,6 +1,6 @@
-mod BadLines
 mod Feeding
 mod Played
+mod Prelude
 mod Printed
 mod Traced
 mod Tracing

@@ -1,29 +1,17 @@
 -- Bytes of a trace line, part by part.
-use Rattle.std.proofs.Common.{◌≡◌, ℕ, ◌+◌, ◌<◌, ◌==◌, ◌&&◌, nat_lt, Bool, true, false, List, [], ◌∷◌, ◌++◌, length, take, drop, map, Option, None, Some, Result, Ok, Err, if◌then◌else◌, refl, sym, ap, ◌∙◌, subst, append_assoc, append-nil, arith}
-use Rattle.std.proofs.lemmas.Bool.{lt-ltb}
-use Rattle.std.specs.Io.KnownBytes.{Appends}
-use Rattle.std.proofs.KnownBytes.{Appends-trans, Appends-nil}
-use Rattle.std.proofs.lemmas.List.{drop_all, take_all, length-drop}
-use Rattle.std.proofs.Common.{◌-◌}
+use Rattle.std.proofs.Common.{◌≡◌, ℕ, ◌+◌, ◌<◌, nat_lt, Bool, true, false, List, [], ◌∷◌, ◌++◌, length, take, drop, map, Option, None, Result, Ok, Err, if◌then◌else◌, refl, sym, ap, ◌∙◌, subst, append_assoc, append-nil, arith, ◌-◌}
+use Rattle.gateway.proofs.Prelude.{length-drop, take_all, lt-ltb, Appends-trans, Appends-nil, Appends, LinesCut, Numbered, sent_to, Occurs, OccurAll}
+use Rattle.gateway.proofs.Prelude.{Happening, Bringing, gate_fault, Took, Happens, has_end, before_end, Traffic, printed, printed_all, after_ends}
+use Rattle.gateway.proofs.Prelude.{parts, bringings, Plays, PlaysRest, Played, PrintsReply}
+use Rattle.std.proofs.lemmas.List.{drop_all}
 use Rattle.std.proofs.Math.Seq.{drop-append-add}
-use Rattle.connections.specs.declared.gateway.GateFault.{GateFault}
-use Rattle.connections.specs.CitedLaws.{LinesCut}
-use Rattle.connections.specs.Lines.{has_end, before_end}
-use Rattle.connections.specs.Traffic.{Traffic}
-use Rattle.connections.specs.Events.{Happening, Bringing, gate_fault, Took, Happens}
 use Rattle.connections.specs.Delivery.{IsOpen}
-use Rattle.connections.specs.Clients.{Numbered, number_of, sent_to, Occurs, OccurAll}
-use Rattle.gateway.specs.Trace.{printed, printed_all, after_ends, parts, refusal_line}
-use Rattle.gateway.specs.Tracing.{bringings, Plays, PlaysRest, Played, WritesAll, PrintsReply}
 
 -- ---- what comes after a line feed
 
 after-none : (xs : List ℕ) → has_end xs ≡ false → after_ends xs ≡ []
 after-none [] h = refl
-after-none (x ∷ xs) h =
-    elim (x == 10)
-    as (λ t. (if t then true else has_end xs) ≡ false → (if t && nat_lt 0 (length xs) then xs ∷ after_ends xs else after_ends xs) ≡ [])
-    [ true ↦ λ never. cc | false ↦ λ e. after-none xs e ] h
+after-none (x ∷ xs) h = grind (arith, after-none xs)
 
 -- the events of what comes after a line feed
 after-end : (c : ℕ) (more : List ℕ) → map (Bringing c) (after_ends (10 ∷ more)) ≡ bringings c more
@@ -32,11 +20,7 @@ after-end c (m ∷ ms) = let some : nat_lt 0 (length (m ∷ ms)) ≡ true = lt-l
 
 after-before : (before more : List ℕ) → has_end before ≡ false → after_ends (before ++ 10 ∷ more) ≡ after_ends (10 ∷ more)
 after-before [] more h = refl
-after-before (x ∷ before) more h =
-    elim (x == 10)
-    as (λ t. (if t then true else has_end before) ≡ false
-    → (if t && nat_lt 0 (length (before ++ 10 ∷ more)) then (before ++ 10 ∷ more) ∷ after_ends (before ++ 10 ∷ more) else after_ends (before ++ 10 ∷ more)) ≡ after_ends (10 ∷ more))
-    [ true ↦ λ never. cc | false ↦ λ e. after-before before more e ] h
+after-before (x ∷ before) more h = grind (arith, after-before before more)
 
 rest-after : (cuts : LinesCut) (c : ℕ) (bytes : List ℕ) (taken : ℕ) (t : Bool) → has_end bytes ≡ t → taken ≡ (if t then length (before_end bytes) + 1 else length bytes)
     → map (Bringing c) (after_ends bytes) ≡ bringings c (drop taken bytes)
@@ -53,10 +37,14 @@ left_over cuts t u c taken bytes reply took = rest-after cuts c bytes taken (has
 
 -- ---- one event after others
 
+pub occur-append : (t u v : Traffic) (es fs : List Happening) (rs ss : List Numbered) → OccurAll t es rs u → OccurAll u fs ss v
+    → OccurAll t (es ++ fs) (rs ++ ss) v
+occur-append t u v [] fs rs ss p q = rw p.0 (subst (λ x. OccurAll x fs ss v) p.1 q)
+occur-append t u v (e ∷ es) fs rs ss p q =
+    (p.0, p.1, p.2 ++ ss, p.3, occur-append p.0 u v es fs p.2 ss p.4 q, ap (λ l. l ++ ss) p.5 ∙ append_assoc p.1 p.2 ss)
+
 occur-snoc : (t u v : Traffic) (es : List Happening) (e : Happening) (rs here : List Numbered) → OccurAll t es rs u → Occurs u e here v → OccurAll t (es ++ e ∷ []) (rs ++ here) v
-occur-snoc t u v [] e rs here p q = rw p.0 (v, here, [], subst (λ x. Occurs x e here v) p.1 q, (refl, refl), sym (append-nil here))
-occur-snoc t u v (x ∷ es) e rs here p q =
-    (p.0, p.1, p.2 ++ here, p.3, occur-snoc p.0 u v es e p.2 here p.4 q, ap (λ l. l ++ here) p.5 ∙ append_assoc p.1 p.2 here)
+occur-snoc t u v es e rs here p q = occur-append t u v es (e ∷ []) rs here p (v, here, [], q, (refl, refl), sym (append-nil here))
 
 printed-append : (a b : List Numbered) → printed_all (a ++ b) ≡ printed_all a ++ printed_all b
 printed-append [] b = refl
@@ -70,9 +58,6 @@ cut-on : (c b : ℕ) (bs : List ℕ) (whole done : List Happening) (taken : ℕ)
     → whole ≡ (done ++ Bringing c (b ∷ bs) ∷ []) ++ bringings c (drop taken (b ∷ bs))
 cut-on c b bs whole done taken cut left = cut ∙ ap (λ l. done ++ Bringing c (b ∷ bs) ∷ l) left ∙ sym (append_assoc done (Bringing c (b ∷ bs) ∷ []) (bringings c (drop taken (b ∷ bs))))
 
-pub played-nil : (c : ℕ) (bytes : List ℕ) (t : Traffic) (x : Option (List ℕ)) → IsOpen t c → Played c bytes bytes t t x x
-played-nil c bytes t x is_open = record { done = []; replies = []; cut = refl; occurs = (refl, refl); appends = Appends-nil x; is_open = is_open }
-
 pub played-on : (cuts : LinesCut) (c : ℕ) (bytes rest : List ℕ) (t u v : Traffic) (x y z : Option (List ℕ)) (taken : ℕ) (reply : Option (List ℕ)) → Played c bytes rest t u x y → 0 < length rest
     → Took u c rest taken reply v → IsOpen v c → Appends y z (printed_all (sent_to c reply)) → Played c bytes (drop taken rest) t v x z
 played-on cuts c bytes [] t u v x y z taken reply p some took still_open gone = absurd (omega (arith, some))
@@ -84,10 +69,6 @@ played-on cuts c bytes (b ∷ bs) t u v x y z taken reply p some took still_open
   appends = subst (λ o. Appends x z o) (sym (printed-append p.replies (sent_to c reply))) (Appends-trans x y z (printed_all p.replies) (printed_all (sent_to c reply)) p.appends gone);
   is_open = still_open;
 }
-
-pub played-all : (A E : Type 0) (a : A) (c : ℕ) (bytes rest : List ℕ) (t u : Traffic) (x y : Option (List ℕ)) → Played c bytes rest t u x y → rest ≡ [] → PlaysRest {A = A} {E = E} (Ok a) c bytes t u x y
-played-all A E a c bytes rest t u x y p none =
-    (p.replies, subst (λ es. OccurAll t es p.replies u) (sym (p.cut ∙ ap (λ r. p.done ++ bringings c r) none ∙ append-nil p.done)) p.occurs, p.appends)
 
 pub played-until : (cuts : LinesCut) (A E : Type 0) (f : E) (c : ℕ) (bytes rest : List ℕ) (t u v : Traffic) (x y z : Option (List ℕ)) (taken : ℕ) (reply : Option (List ℕ)) → Played c bytes rest t u x y → 0 < length rest
     → Took u c rest taken reply v → PrintsReply {A = A} {E = E} (Err f) (sent_to c reply) y z → PlaysRest {A = A} {E = E} (Err f) c bytes t v x z
@@ -108,14 +89,19 @@ played-until cuts A E f c bytes (b ∷ bs) t u v x y z taken reply p some took g
       Appends-trans x y z (printed_all p.replies) part.0 p.appends part.4,
     )
 
-pub some_rest : (xs : List ℕ) → (length xs ≡ 0 → ⊥) → 0 < length xs
-some_rest xs h = omega (arith, h)
-
 -- the rest of a slice, as it is lent
 pub rest_part : (xs : List ℕ) (n : ℕ) → take (length xs - n) (drop n xs) ≡ drop n xs
 rest_part xs n = take_all (length xs - n) (drop n xs) (let l = length-drop n xs in omega (arith, l))
 
 -- ---- an event of bytes that is accepted
+
+-- printing the last of some replies stopped short
+stopped-by : (A E : Type 0) (f : E) (e : Happening) (t v : Traffic) (x z : Option (List ℕ)) (done left : List Happening)
+    (replies : List Numbered) (last : Numbered) (part unsent : List ℕ)
+    → gate_fault t.lines e ≡ None → parts e ≡ done ++ left → OccurAll t done (replies ++ last ∷ []) v → printed last ≡ part ++ unsent
+    → 0 < length unsent → Appends x z (printed_all replies ++ part) → Plays {A = A} {E = E} (Err f) e t v x z
+stopped-by A E f e t v x z done left replies last part unsent fine cut occurs is some gone =
+    (printed_all replies ++ part, gone, rw fine (done, left, replies, last, part, unsent, cut, occurs, is, some, refl))
 
 module _ (cuts : LinesCut) (t u : Traffic) (c taken : ℕ) (bytes : List ℕ) (reply : Option (List ℕ)) (fine : gate_fault t.lines (Bringing c bytes) ≡ None) (took : Took t c bytes taken reply u) where
   first_occurs : Occurs t (Bringing c bytes) (sent_to c reply) u
@@ -132,50 +118,17 @@ module _ (cuts : LinesCut) (t u : Traffic) (c taken : ℕ) (bytes : List ℕ) (r
     rw fine (sent_to c reply ++ q.0, (u, sent_to c reply, q.0, first_occurs, subst (λ es. OccurAll u es q.0 v) (sym over) q.1, refl), refl),
   )
   bytes-play A E (Err f) v x y z gone q =
-      let sent = sent_to c reply in (
-        printed_all sent ++ (printed_all q.2 ++ q.4),
-        Appends-trans x y z (printed_all sent) (printed_all q.2 ++ q.4) gone q.10,
-        rw fine (
-          Bringing c bytes ∷ q.0,
-          q.1,
-          sent ++ q.2,
-          q.3,
-          q.4,
-          q.5,
-          ap (λ l. Bringing c bytes ∷ l) (over ∙ q.6),
-          (u, sent, q.2 ++ q.3 ∷ [], first_occurs, q.7, append_assoc sent q.2 (q.3 ∷ [])),
-          q.8,
-          q.9,
-          sym (append_assoc (printed_all sent) (printed_all q.2) q.4) ∙ ap (λ l. l ++ q.4) (sym (printed-append sent q.2)),
-        ),
-      )
+      let sent = sent_to c reply in
+      let out = sym (append_assoc (printed_all sent) (printed_all q.2) q.4) ∙ ap (λ l. l ++ q.4) (sym (printed-append sent q.2)) in
+      stopped-by A E f (Bringing c bytes) t v x z (Bringing c bytes ∷ q.0) q.1 (sent ++ q.2) q.3 q.4 q.5 fine
+      (ap (λ l. Bringing c bytes ∷ l) (over ∙ q.6)) (u, sent, q.2 ++ q.3 ∷ [], first_occurs, q.7, append_assoc sent q.2 (q.3 ∷ [])) q.8 q.9
+      (subst (Appends x z) out (Appends-trans x y z (printed_all sent) (printed_all q.2 ++ q.4) gone q.10))
 
   pub bytes-broken : (A E : Type 0) (f : E) (x y : Option (List ℕ)) → PrintsReply {A = A} {E = E} (Err f) (sent_to c reply) x y → Plays {A = A} {E = E} (Err f) (Bringing c bytes) t u x y
   bytes-broken A E f x y gone =
-      let part = gone.2 in (
-        part.0,
-        part.4,
-        rw fine (
-          Bringing c bytes ∷ [],
-          map (Bringing c) (after_ends bytes),
-          [],
-          gone.0,
-          part.0,
-          part.1,
-          refl,
-          (u, sent_to c reply, [], first_occurs, (refl, refl), sym gone.1 ∙ sym (append-nil (sent_to c reply))),
-          part.2,
-          part.3,
-          refl,
-        ),
-      )
-
--- ---- an event that is refused
-
-pub refused-play : (A E : Type 0) (r : Result A E) (t : Traffic) (e : Happening) (fault : GateFault) (x y : Option (List ℕ)) → gate_fault t.lines e ≡ Some fault
-    → WritesAll r (refusal_line (number_of e) fault) x y → Plays r e t t x y
-refused-play A E (Ok a) t e fault x y is gone = (refusal_line (number_of e) fault, gone, rw is (refl, refl))
-refused-play A E (Err f) t e fault x y is part = (part.0, part.4, rw is (part.1, sym part.2, part.3, refl))
+      let part = gone.2 in
+      stopped-by A E f (Bringing c bytes) t u x y (Bringing c bytes ∷ []) (map (Bringing c) (after_ends bytes)) [] gone.0 part.0 part.1 fine refl
+      (u, sent_to c reply, [], first_occurs, (refl, refl), sym gone.1 ∙ sym (append-nil (sent_to c reply))) part.2 part.3 part.4
 
 -- an open or a close that is accepted
 pub alone-play : (A E : Type 0) (a : A) (t u : Traffic) (e : Happening) (taken : ℕ) (reply : Option (List ℕ)) (x : Option (List ℕ)) → gate_fault t.lines e ≡ None → Happens t e taken reply u

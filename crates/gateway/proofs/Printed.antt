@@ -1,13 +1,7 @@
 -- Texts that are written one after another.
-use Rattle.std.proofs.Common.{◌≡◌, ℕ, List, [], ◌∷◌, ◌++◌, Option, Result, Ok, Err, refl, sym, ap, ◌∙◌, subst, append_assoc, append-nil, arith, length-append}
-use Rattle.std.specs.Io.KnownBytes.{Appends}
-use Rattle.std.proofs.KnownBytes.{Appends-trans}
+use Rattle.std.proofs.Common.{◌≡◌, ℕ, List, [], ◌∷◌, ◌++◌, Option, Result, Ok, Err, sym, ap, ◌∙◌, subst, append_assoc, arith, length-append, OnOk}
+use Rattle.gateway.proofs.Prelude.{OnErr, decimal, Appends-trans, Appends, printed, WritesAll}
 use Rattle.devices.specs.Devices.{AppendsPart}
-use Rattle.std.specs.Prelude.{OnOk, OnErr}
-use Rattle.std.specs.Fmt.{decimal}
-use Rattle.connections.specs.Clients.{Numbered}
-use Rattle.gateway.specs.Trace.{printed}
-use Rattle.gateway.specs.Tracing.{WritesAll, PrintsReply}
 
 -- a text was written, and what came of the next one
 pub wrote-then : {A E : Type 0} (r : Result A E) (x y z : Option (List ℕ)) (a b : List ℕ) → Appends x y a → WritesAll r b y z → WritesAll r (a ++ b) x z
@@ -31,8 +25,3 @@ line-then r c number line x y z is gone ok err =
 pub line-front : (c : ℕ) (number line : List ℕ) (x y : Option (List ℕ)) → number ≡ decimal c ++ 32 ∷ [] → AppendsPart x y number → AppendsPart x y (printed (c, line))
 line-front c number line x y is gone =
     subst (λ t. AppendsPart x y t) (ap (λ n. n ++ line) is ∙ append_assoc (decimal c) (32 ∷ []) line) (wrote-front x y number line gone)
-
--- the reply of an event
-pub reply-printed : {A E : Type 0} (r : Result A E) (last : Numbered) (x y : Option (List ℕ)) → WritesAll r (printed last) x y → PrintsReply r (last ∷ []) x y
-reply-printed (Ok u) last x y gone = subst (λ t. Appends x y t) (sym (append-nil (printed last))) gone
-reply-printed (Err f) last x y part = (last, refl, part)

@@ -1,11 +1,9 @@
 -- The events of a trace's lines, one after another.
 use Rattle.std.proofs.Common.{◌≡◌, ℕ, Bool, true, false, List, [], ◌∷◌, ◌++◌, map, Option, Some, None, refl, sym, ap, ◌∙◌, subst, append_assoc, append-nil}
-use Rattle.connections.specs.declared.gateway.GateFault.{GateFault}
-use Rattle.connections.specs.Traffic.{Traffic}
-use Rattle.connections.specs.Events.{Happening, Opening, Bringing, Closing, gate_fault}
-use Rattle.connections.specs.Clients.{Numbered, number_of, OccurAll, RepliesInOrder}
-use Rattle.gateway.specs.Trace.{is_skipped, parts, after_ends, refusal_line, printed, printed_all, PrintsBy, PrintsLine}
+use Rattle.gateway.proofs.Prelude.{Numbered, number_of, OccurAll, RepliesInOrder, Happening, Bringing, gate_fault, Traffic, GateFault, is_skipped}
+use Rattle.gateway.proofs.Prelude.{PrintsLine, printed, printed_all, after_ends, parts, refusal_line, PrintsBy}
 use Rattle.gateway.specs.Traced.{line_events, events_on, Said, Answered, Refused, said_text, replies_among, TracesAreEvents, TracesInOrder}
+use Rattle.gateway.proofs.Played.{occur-append}
 
 -- ---- what is said
 
@@ -29,11 +27,6 @@ all_replies (r ∷ rs) = ap (λ l. r ∷ l) (all_replies rs)
 
 -- ---- events
 
-occur-append : (t u v : Traffic) (es fs : List Happening) (rs ss : List Numbered) → OccurAll t es rs u → OccurAll u fs ss v → OccurAll t (es ++ fs) (rs ++ ss) v
-occur-append t u v [] fs rs ss p q = rw p.0 (subst (λ x. OccurAll x fs ss v) p.1 q)
-occur-append t u v (e ∷ es) fs rs ss p q =
-    (p.0, p.1, p.2 ++ ss, p.3, occur-append p.0 u v es fs p.2 ss p.4 q, ap (λ l. l ++ ss) p.5 ∙ append_assoc p.1 p.2 ss)
-
 -- Where an event is refused, so is each of its parts.
 refused-more : (t : Traffic) (c : ℕ) (fault : GateFault) (more : List (List ℕ)) → ((bytes : List ℕ) → gate_fault t.lines (Bringing c bytes) ≡ Some fault)
     → OccurAll t (map (Bringing c) more) [] t
@@ -41,9 +34,8 @@ refused-more t c fault [] is = (refl, refl)
 refused-more t c fault (bytes ∷ more) is = (t, [], [], rw (is bytes) (refl, refl), refused-more t c fault more is, refl)
 
 refused-parts : (t : Traffic) (e : Happening) (fault : GateFault) → gate_fault t.lines e ≡ Some fault → OccurAll t (parts e) [] t
-refused-parts t (Opening c) fault is = (t, [], [], rw is (refl, refl), (refl, refl), refl)
 refused-parts t (Bringing c bytes) fault is = (t, [], [], rw is (refl, refl), refused-more t c fault (after_ends bytes) (λ more. is), refl)
-refused-parts t (Closing c) fault is = (t, [], [], rw is (refl, refl), (refl, refl), refl)
+refused-parts t e fault is = (t, [], [], rw is (refl, refl), (refl, refl), refl)
 
 -- ---- lines
 

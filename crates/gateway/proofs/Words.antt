@@ -1,12 +1,10 @@
 -- Words of a trace line.
 use Rattle.std.proofs.Common.{◌≡◌, ◌≢◌, ℕ, zero, suc, ◌+◌, ◌<◌, ◌==◌, Bool, true, false, List, [], ◌∷◌, length, take, drop, slice_index, MatchOption, Option, None, Some, if◌then◌else◌, refl, sym, ap, ◌∙◌, arith}
+use Rattle.gateway.proofs.Prelude.{decimal, bytes_eq, before_space, after_space, number_below, number_in}
 use Rattle.std.proofs.lemmas.Bool.{false_from_ne_true}
 use Rattle.std.proofs.lemmas.Fmt.{decimal_injective}
 use Rattle.std.proofs.lemmas.Slice.Eq.{bytes_eq-Decides}
-use Rattle.std.specs.Fmt.{decimal}
-use Rattle.std.specs.Str.{bytes_eq}
 use Rattle.memchr.specs.Find.{IsFirstByte, is_byte}
-use Rattle.gateway.specs.Trace.{before_space, after_space, number_below, number_in}
 
 no_space : (xs : List ℕ) → ((k : ℕ) → k < length xs → ¬ (slice_index xs k == 32 ≡ true)) → after_space xs ≡ None
 no_space [] h = refl

@@ -1,4 +1,4 @@
-use Rattle.gateway.specs.declared.traces.begun_line.LineFault.{LineFault}
+use Rattle.gateway.proofs.Prelude.{LineFault}
 use Rattle.gateway.proofs.Tracing.{stopped, finished, unplayed}
 use Rattle.gateway.proofs.traces.trace.Goals as goal
 

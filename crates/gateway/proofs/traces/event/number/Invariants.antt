@@ -1,6 +1,4 @@
-use Rattle.std.proofs.Common.{◌≡◌, ◌<◌, ℕ, false}
-use Rattle.std.specs.Fmt.{decimal}
-use Rattle.std.specs.Str.{bytes_eq}
+use Rattle.std.proofs.Common.{◌≡◌, ◌<◌, ℕ, false, decimal, bytes_eq}
 use Rattle.gateway.proofs.traces.event.number.Given as goal
 
 abbrev pub invariant-loop-n : goal.invariant-loop-n

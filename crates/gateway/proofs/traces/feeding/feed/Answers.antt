@@ -1,5 +1,4 @@
-use Rattle.std.proofs.Common.{◌-◌, ◌≤◌, length, take, drop, arith, subst}
-use Rattle.gateway.specs.Tracing.{FeedStops}
+use Rattle.gateway.proofs.Prelude.{◌-◌, ◌≤◌, length, take, drop, subst, arith, FeedStops}
 use Rattle.gateway.proofs.Feeding.{feeds-trans, feeds-stop}
 use Rattle.gateway.proofs.traces.feeding.feed.Goals as goal
 

@@ -1,5 +1,4 @@
-use Rattle.std.proofs.Common.{length, take, ◌+◌, ◌-◌, ◌≡◌, ◌≤◌}
-use Rattle.gateway.specs.Tracing.{Feeds}
+use Rattle.gateway.proofs.Prelude.{◌≡◌, ◌+◌, ◌-◌, ◌≤◌, length, take, Feeds}
 use Rattle.gateway.proofs.traces.feeding.feed.Given as goal
 
 abbrev pub invariant-loop-done : goal.invariant-loop-done

@@ -1,4 +1,4 @@
-use Rattle.devices.specs.declared.device.Failed.{Failed}
+use Rattle.gateway.proofs.Prelude.{Failed}
 use Rattle.gateway.proofs.Played.{bytes-play, bytes-broken, rest_part}
 use Rattle.gateway.proofs.traces.play.play_bytes.Goals as goal
 

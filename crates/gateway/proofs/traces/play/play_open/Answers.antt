@@ -1,6 +1,4 @@
-use Rattle.std.proofs.Common.{refl}
-use Rattle.connections.specs.Events.{Opening}
-use Rattle.devices.specs.declared.device.Failed.{Failed}
+use Rattle.gateway.proofs.Prelude.{refl, Opening, Failed}
 use Rattle.gateway.proofs.Played.{alone-play}
 use Rattle.gateway.proofs.traces.play.play_open.Goals as goal
 

@@ -1,5 +1,4 @@
-use Rattle.std.proofs.Common.{◌∙◌, rules}
-use Rattle.devices.specs.declared.device.Failed.{Failed}
+use Rattle.gateway.proofs.Prelude.{◌∙◌, rules, Failed}
 use Rattle.gateway.proofs.Played.{played-on, played-until, rest_part}
 use Rattle.gateway.proofs.traces.play.play_rest.Goals as goal
 

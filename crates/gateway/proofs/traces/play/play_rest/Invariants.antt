@@ -1,5 +1,4 @@
-use Rattle.std.proofs.Common.{◌≡◌, length}
-use Rattle.gateway.specs.Tracing.{Played}
+use Rattle.gateway.proofs.Prelude.{◌≡◌, length, Played}
 use Rattle.gateway.proofs.traces.play.play_rest.Given as goal
 
 abbrev pub invariant-loop-rest : goal.invariant-loop-rest

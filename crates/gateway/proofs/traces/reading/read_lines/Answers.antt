@@ -1,7 +1,6 @@
-use Rattle.std.proofs.Common.{Err, ap, arith, refl, add-zero, sym}
-use Rattle.std.proofs.KnownBytes.{Keeps-refl}
-use Rattle.gateway.proofs.Tracing.{reads-nil, reads-trans, reads-err, read_so_far}
+use Rattle.gateway.proofs.Prelude.{Err, sym, refl, ap, add-zero, arith, Keeps-refl}
 use Rattle.devices.specs.declared.reading.Progress.{Progress}
+use Rattle.gateway.proofs.Tracing.{reads-nil, reads-trans, reads-err, read_so_far}
 use Rattle.gateway.proofs.traces.reading.read_lines.Goals as goal
 
 pub loop-init : goal.loop-init

@@ -1,5 +1,4 @@
-use Rattle.std.proofs.Common.{◌≡◌, ◌+◌, ◌*◌, ◌≤◌}
-use Rattle.gateway.specs.Tracing.{ReadsOn}
+use Rattle.gateway.proofs.Prelude.{◌≡◌, ◌+◌, ◌*◌, ◌≤◌, ReadsOn}
 use Rattle.gateway.proofs.traces.reading.read_lines.Given as goal
 
 abbrev pub invariant-loop : goal.invariant-loop
