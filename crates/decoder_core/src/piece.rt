@@ -70,7 +70,8 @@ struct Moved<S> {
     stretch: usize,
 }
 
-/// Takes what the decoder takes in bulk, or else steps over a stretch of bytes.
+/// Steps over the bytes that the decoder says are ahead, or else takes what it takes in bulk, or a
+/// stretch of bytes.
 #[inline(always)]
 fn advance<D: Decoder, K: Sink<D::State>>(
     decoder: &D,
