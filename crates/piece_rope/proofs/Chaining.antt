@@ -1,24 +1,14 @@
 -- Chains of pieces, taken apart and put together.
-use Rattle.std.proofs.Common.{◌≡◌, ◌≢◌, refl, sym, ap, ◌∙◌, subst, ℕ, zero, suc, ◌+◌, ◌≤◌, true, false, List, [], ◌∷◌, ◌++◌, take, drop, length, slice_get, Some, arith, append-nil, take-append-drop, length-append}
-use Rattle.piece_rope.proofs.Prelude.{flat_map-append, length-take-le, slice_get_within, feed, AnyDecoding, AnyState, any, same_state, outcome_of}
+use Rattle.std.proofs.Common.{◌≡◌, ◌≢◌, refl, sym, ap, ◌∙◌, subst, ℕ, zero, suc, ◌+◌, ◌≤◌, false, List, [], ◌∷◌, ◌++◌, take, drop, length, slice_get, Some, arith, append-nil, take-append-drop, length-append}
+use Rattle.piece_rope.proofs.Prelude.{flat_map-append, length-take-le, slice_get_within, feed, AnyDecoding, AnyState, any, same_state}
 use Rattle.piece_rope.proofs.Prelude.{Entry, LastDiffers, Passed, IsOwn, IsRenewed, Chain, AreRenewed, bytes_of, state_after, renew, renewed}
 use Rattle.piece_rope.proofs.Lists.{take-next, length-snoc}
+pub use Rattle.piece_rope.specs.Laws.{Laws}
+use Rattle.piece_rope.specs.Laws.{IsLawful}
 
--- what is said of one decoder's runs
-pub record Laws (d : AnyDecoding) : Type 0 where
-  pub none : (s : AnyState) → (feed (any d) s []).state ≡ s
-  pub parts : (s : AnyState) (p q : List ℕ) → (feed (any d) s (p ++ q)).state ≡ (feed (any d) (feed (any d) s p).state q).state
-  pub exact : (a b : AnyState) → same_state a b ≡ true → a ≡ b
-  pub same : (a : AnyState) → same_state a a ≡ true
-  pub exit : (s : AnyState) (bytes : List ℕ) → (outcome_of d s bytes).exit ≡ (feed (any d) s bytes).state
-  pub bytes : (s : AnyState) (bytes : List ℕ) → (outcome_of d s bytes).sum.bytes ≡ length bytes
-
-pub laws_from : (d : AnyDecoding) → ((s : AnyState) → (feed (any d) s []).state ≡ s)
-    → ((s : AnyState) (p q : List ℕ) → (feed (any d) s (p ++ q)).state ≡ (feed (any d) (feed (any d) s p).state q).state)
-    → ((a b : AnyState) → same_state a b ≡ true → a ≡ b) → ((a : AnyState) → same_state a a ≡ true)
-    → ((s : AnyState) (bytes : List ℕ) → (outcome_of d s bytes).exit ≡ (feed (any d) s bytes).state)
-    → ((s : AnyState) (bytes : List ℕ) → (outcome_of d s bytes).sum.bytes ≡ length bytes) → Laws d
-laws_from d none parts exact same exit bytes = record { none = none; parts = parts; exact = exact; same = same; exit = exit; bytes = bytes }
+pub laws_of : (d : AnyDecoding) → IsLawful d → Laws d
+unfolding IsLawful
+laws_of d all = all.laws
 
 pub bytes-append : (xs ys : List Entry) → bytes_of (xs ++ ys) ≡ bytes_of xs ++ bytes_of ys
 bytes-append xs ys = flat_map-append (λ (p : Entry). p.piece.bytes) xs ys

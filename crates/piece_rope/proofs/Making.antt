@@ -9,17 +9,19 @@ use Rattle.piece_rope.proofs.Prelude.{ending_of, text_of_shown, items_of_shown, 
 use Rattle.piece_rope.proofs.Prelude.{Document, decoded, Entry, here, here_of, ends_at, AreEnded, EndWithin, IsMade, AreMade, IsWhole, ended_by}
 use Rattle.piece_rope.proofs.Counting.{here-contents}
 use Rattle.piece_rope.proofs.Chaining.{Laws}
+pub use Rattle.piece_rope.specs.Laws.{ItemLaws}
+use Rattle.piece_rope.specs.Laws.{IsLawful}
+use Rattle.state_memo.specs.Facts.{IsSumOf}
+use Rattle.piece_rope.proofs.Prelude.{Ended, Sum, joined}
 
--- what is said of the items of one decoder's runs
-pub record ItemLaws (d : AnyDecoding) : Type 0 where
-  pub runs : (s : AnyState) (p q : List ℕ) → run (any d) s (p ++ q) ≡ further (length q) (feed (any d) s p).items ++ run (any d) (feed (any d) s p).state q
-  pub shown : (s : AnyState) (q : List ℕ) → shown_items (shown_from (any d) 0 s q) ≡ ended_at (length q) (feed (any d) s q).items
-  pub near : (s : AnyState) (q : List ℕ) → AreNear (length q + 7) (run (any d) s q)
+pub item_laws_of : (d : AnyDecoding) → IsLawful d → ItemLaws d
+unfolding IsLawful
+item_laws_of d all = all.items
 
-pub item_laws : (d : AnyDecoding) → ((s : AnyState) (p q : List ℕ) → run (any d) s (p ++ q) ≡ further (length q) (feed (any d) s p).items ++ run (any d) (feed (any d) s p).state q)
-    → ((s : AnyState) (q : List ℕ) → shown_items (shown_from (any d) 0 s q) ≡ ended_at (length q) (feed (any d) s q).items)
-    → ((s : AnyState) (q : List ℕ) → AreNear (length q + 7) (run (any d) s q)) → ItemLaws d
-item_laws d runs shown near = record { runs = runs; shown = shown; near = near }
+pub joins_of : (d : AnyDecoding) → IsLawful d
+    → (a b : List ℕ) (is js : List Ended) (s t : Sum) → IsSumOf a is s → IsSumOf b js t → IsSumOf (a ++ b) (is ++ js) (joined s t)
+unfolding IsLawful
+joins_of d all = all.joins
 
 scalars-of : (i : Item) → scalar_count i ≡ length (item_code_points i)
 scalars-of (One c) = refl

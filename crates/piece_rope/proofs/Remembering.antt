@@ -63,6 +63,11 @@ module _ (d : AnyDecoding) (laws : Laws d) where
       → m ≡ record { bytes = p.piece.bytes; known = installed p.piece.known s o } → IsOwn d (record { piece = m; entry = s })
   own-computed p m s o own is m_is = rw m_is (own-installed p.piece.bytes p.piece.known s o own.right is)
 
+  -- a new piece
+  pub own-made : (bytes : List ℕ) (m : Memo) (s : AnyState) (o : Outcome) → contents_of o ≡ outcome_of d s bytes → m ≡ record { bytes = bytes; known = installed [] s o }
+      → IsOwn d (record { piece = m; entry = s })
+  own-made bytes m s o is m_is = rw m_is (own-installed bytes [] s o tt is)
+
 -- what else the piece remembered is still there
 pub renewed-computed : (p : Entry) (m : Memo) (s : AnyState) (o : Outcome) → m ≡ record { bytes = p.piece.bytes; known = installed p.piece.known s o }
     → IsRenewed p (record { piece = m; entry = s })

@@ -11,6 +11,7 @@ pub mod Errors
 pub mod Examples
 pub mod Kept
 pub mod KeptExamples
+pub mod Laws
 pub mod Log
 pub mod Made
 pub mod Outcomes

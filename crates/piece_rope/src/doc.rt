@@ -19,6 +19,7 @@ use crate::errors::{errors_between, nth_error};
 use crate::fault::DocFault;
 use crate::fresh::{Fresh, fresh_pieces};
 use crate::install::install_edit;
+use crate::laws::law_decoder;
 use crate::lengths::{Lengths, whole_sum};
 use crate::limits::{DOCUMENT_LIMIT, checked_part};
 use crate::log::Log;
@@ -28,8 +29,7 @@ use crate::text::text_between;
 use enc_names::{Bom, Encoding, Place, Setting};
 use index_loader::Indexes;
 use state_memo::{
-    AnyDecoder, Meter, OutOfMemory, Outcome, Sum, finish_of, law_output_at_the_end, law_pieces,
-    sniff, start_of,
+    AnyDecoder, Meter, OutOfMemory, Outcome, Sum, finish_of, law_output_at_the_end, sniff, start_of,
 };
 use std::alloc::Global;
 use std::marker::Model;
@@ -93,7 +93,7 @@ impl<'i> Doc<'i> {
         if bytes.len() > DOCUMENT_LIMIT {
             return Err(DocFault::TooLarge);
         }
-        law_pieces(&decoder);
+        law_decoder(&decoder);
         let fresh = fresh_pieces(alloc, &decoder, start_of(&decoder), bytes, meter)?;
         let Fresh { mut pieces, exit } = fresh;
         let tail = finish_of(alloc, &decoder, exit)?;

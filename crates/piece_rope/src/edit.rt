@@ -4,6 +4,7 @@ ghost use Rattle.state_memo.specs.Decoding.{any_start};
 ghost use Rattle.state_memo.specs.Outcome.{contents_of, ending_of};
 ghost use Rattle.piece_rope.specs.Chain.{AreRenewed, bytes_of, state_after};
 ghost use Rattle.piece_rope.specs.Edit.{IsRope, edited, exchanged, Metered};
+ghost use Rattle.piece_rope.specs.Laws.{IsLawful};
 ghost use Rattle.piece_rope.specs.Sizes.{AreCounted, longest};
 ghost use Rattle.piece_rope.specs.Window.{Spans};
 
@@ -13,7 +14,7 @@ use crate::fresh::{Fresh, fresh_pieces};
 use crate::later::{Later, renewals_from};
 use crate::pieces::Pieces;
 use crate::window::{Window, window_of};
-use state_memo::{AnyDecoder, AnyState, Meter, OutOfMemory, Outcome, finish_of, law_pieces};
+use state_memo::{AnyDecoder, AnyState, Meter, OutOfMemory, Outcome, finish_of};
 use std::alloc::Global;
 
 /// New pieces for those at `first..last`, what the first of those behind become, and what the end
@@ -52,11 +53,11 @@ fn middle_bytes(
 
 /// The state behind the first pieces, where `end` is the state behind all of them.
 fn entry_of(decoder: &AnyDecoder<'_>, pieces: &Pieces, first: usize, end: AnyState) -> AnyState
+    requires lawful { IsLawful decoder.now }
     requires within { first ≤ length pieces.now.items }
     requires rope { IsRope decoder.now pieces.now.items end }
     ensures { result ≡ state_after decoder.now (any_start decoder.now) (take first pieces.now.items) }
 {
-    law_pieces(decoder);
     if first < pieces.len() {
         return pieces.get(first).entry();
     }
@@ -74,6 +75,7 @@ pub(crate) fn prepare(
     ins: &[u8],
     meter: &mut Meter,
 ) -> Result<PreparedEdit, OutOfMemory>
+    requires lawful { IsLawful decoder.now }
     requires rope { IsRope decoder.now pieces.now.items end }
     requires counted { AreCounted pieces.now.items }
     requires size { length (bytes_of pieces.now.items) < 2 ^ 63 }
@@ -88,7 +90,6 @@ pub(crate) fn prepare(
     ensures meter { Metered decoder.now (bytes_of pieces.now.items) at to ins.now meter.old meter.new }
     ensures meter_least { meter.old ≤ meter.new }
 {
-    law_pieces(decoder);
     let (old_end, last_end) = (end, end);
     let window = window_of(pieces, at, to, ins.len());
     let middle = middle_bytes(alloc, pieces, &window, at, to, ins)?;

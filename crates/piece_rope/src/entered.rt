@@ -3,8 +3,9 @@ ghost use Rattle.std.specs.Prelude.{◌≡◌, ◌+◌, ◌-◌, ◌^◌, ◌≤
 ghost use Rattle.state_memo.specs.Decoding.{feed, any, AnyState};
 ghost use Rattle.piece_rope.specs.Chain.{IsOwn, IsRenewed};
 ghost use Rattle.piece_rope.specs.Entry.{here_of};
+ghost use Rattle.piece_rope.specs.Laws.{IsLawful};
 
-use state_memo::{AnyDecoder, AnyState, Meter, OutOfMemory, Outcome, Piece, Sum, law_pieces};
+use state_memo::{AnyDecoder, AnyState, Meter, OutOfMemory, Outcome, Piece, Sum};
 use std::alloc::Global;
 use std::marker::Model;
 use std::rc::Rc;
@@ -38,6 +39,7 @@ impl Entered {
         bytes: &[u8],
         meter: &mut Meter,
     ) -> Result<(Entered, AnyState), OutOfMemory>
+        requires { IsLawful decoder.now }
         ensures bytes { IfOk result (λ r. r.0.piece.bytes ≡ bytes.now) }
         ensures entry { IfOk result (λ r. r.0.entry ≡ entry) }
         ensures own { IfOk result (λ r. IsOwn decoder.now r.0) }
@@ -46,7 +48,6 @@ impl Entered {
         ensures meter_most { meter.new ≤ meter.old + length bytes.now }
         ensures meter_least { meter.old ≤ meter.new }
     {
-        law_pieces(decoder);
         let mut piece = Piece::new(alloc, bytes)?;
         let (sought, first) = (entry, entry);
         let outcome = piece.compute(decoder, sought, meter)?;
@@ -65,7 +66,8 @@ impl Entered {
         entry: AnyState,
         meter: &mut Meter,
     ) -> Result<(Entered, AnyState), OutOfMemory>
-        requires { IsOwn decoder.now self.now }
+        requires lawful { IsLawful decoder.now }
+        requires own { IsOwn decoder.now self.now }
         ensures renewed { IfOk result (λ r. IsRenewed self.now r.0) }
         ensures entry { IfOk result (λ r. r.0.entry ≡ entry) }
         ensures own { IfOk result (λ r. IsOwn decoder.now r.0) }
@@ -73,7 +75,6 @@ impl Entered {
         ensures meter_most { meter.new ≤ meter.old + length self.now.piece.bytes }
         ensures meter_least { meter.old ≤ meter.new }
     {
-        law_pieces(decoder);
         let mut piece = self.piece.copy()?;
         let (sought, from, new) = (entry, entry, entry);
         if let Some(outcome) = self.piece.peek(sought) {

@@ -2,11 +2,12 @@
 ghost use Rattle.std.specs.Prelude.{◌≡◌, ◌+◌, ◌-◌, ◌^◌, ◌≤◌, ◌<◌, min, length, IfOk, OnOk};
 ghost use Rattle.state_memo.specs.Decoding.{feed, any};
 ghost use Rattle.piece_rope.specs.Chain.{Chain, bytes_of};
+ghost use Rattle.piece_rope.specs.Laws.{IsLawful};
 ghost use Rattle.piece_rope.specs.Sizes.{AreSized, longest, shortest};
 
 use crate::entered::Entered;
 use crate::limits::{LONGEST_PIECE, SHORTEST_PIECE};
-use state_memo::{AnyDecoder, AnyState, Meter, OutOfMemory, law_pieces};
+use state_memo::{AnyDecoder, AnyState, Meter, OutOfMemory};
 use std::alloc::{AllocError, Global};
 
 /// New pieces, and the state behind them.
@@ -42,6 +43,7 @@ pub(crate) fn fresh_pieces(
     bytes: &[u8],
     meter: &mut Meter,
 ) -> Result<Fresh, OutOfMemory>
+    requires { IsLawful decoder.now }
     ensures bytes { IfOk result (λ f. bytes_of f.pieces.items ≡ bytes.now) }
     ensures chain { IfOk result (λ f. Chain decoder.now entry f.pieces.items) }
     ensures exit { IfOk result (λ f. f.exit ≡ (feed (any decoder.now) entry bytes.now).state) }
@@ -52,7 +54,6 @@ pub(crate) fn fresh_pieces(
     ensures meter_most { meter.new ≤ meter.old + length bytes.now }
     ensures meter_least { meter.old ≤ meter.new }
 {
-    law_pieces(decoder);
     let mut pieces = Vec::new(alloc);
     let mut state = entry;
     let mut rest = bytes;

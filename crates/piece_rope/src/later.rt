@@ -1,11 +1,12 @@
 //! What becomes of the pieces behind an edit.
 ghost use Rattle.std.specs.Prelude.{◌≡◌, ◌+◌, ◌≤◌, length, drop, IfOk};
 ghost use Rattle.piece_rope.specs.Chain.{Chain, AreRenewed, renewed, state_after};
+ghost use Rattle.piece_rope.specs.Laws.{IsLawful};
 ghost use Rattle.piece_rope.specs.Resync.{Passed, Behind};
 
 use crate::entered::Entered;
 use crate::pieces::Pieces;
-use state_memo::{AnyDecoder, AnyState, Meter, OutOfMemory, law_pieces};
+use state_memo::{AnyDecoder, AnyState, Meter, OutOfMemory};
 use std::alloc::{AllocError, Global};
 
 /// What the first of the pieces behind an edit become, and the state behind all of them then.
@@ -27,6 +28,7 @@ pub(crate) fn renewals_from(
     end: AnyState,
     meter: &mut Meter,
 ) -> Result<Later, OutOfMemory>
+    requires lawful { IsLawful decoder.now }
     requires within { first ≤ length pieces.now.items }
     requires behind { Behind decoder.now (drop first pieces.now.items) end }
     ensures within { IfOk result (λ l. length l.renewals.items ≤ length (drop first pieces.now.items)) }
@@ -36,7 +38,6 @@ pub(crate) fn renewals_from(
     ensures meter { Passed decoder.now entry (drop first pieces.now.items) meter.old meter.new }
     ensures meter_least { meter.old ≤ meter.new }
 {
-    law_pieces(decoder);
     let mut renewals = Vec::new(alloc);
     let mut state = entry;
     let mut index = first;

@@ -16,6 +16,7 @@ mod fresh;
 mod install;
 mod kept_examples;
 mod later;
+mod laws;
 mod lengths;
 mod limits;
 mod log;

@@ -9,11 +9,12 @@ ghost use Rattle.piece_rope.specs.Splice.{IsReady};
 
 use crate::edit::{PreparedEdit, prepare};
 use crate::fault::DocFault;
+use crate::laws::law_decoder;
 use crate::limits::checked_cut;
 use crate::pieces::Pieces;
 use enc_names::Setting;
 use index_loader::Indexes;
-use state_memo::{AnyDecoder, Meter, Outcome, law_pieces};
+use state_memo::{AnyDecoder, Meter, Outcome};
 use std::alloc::Global;
 
 /// Prepares a splice of the document of these pieces. Refused with `OutOfRange` and then with
@@ -39,7 +40,7 @@ pub(crate) fn prepare_splice(
 {
     let (at, to) = checked_cut(pieces, at, del, ins)?;
     let decoder = AnyDecoder::under(indexes, setting).ok_or(DocFault::NoIndex)?;
-    law_pieces(&decoder);
+    law_decoder(&decoder);
     let end = tail.exit;
     let edit = prepare(alloc, &decoder, pieces, end, at, to, ins, meter)?;
     Ok(edit)

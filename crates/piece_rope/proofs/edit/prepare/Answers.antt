@@ -1,13 +1,10 @@
 use Rattle.std.proofs.Common.{ap, sym, ◌∙◌, subst, ◌++◌, length, take, drop, arith, refl}
 use Rattle.piece_rope.proofs.Prelude.{any_start, AnyState, bytes_of, renewed, state_after, IsRope, Metered}
-use Rattle.piece_rope.proofs.Chaining.{Laws, laws_from, chain-drop, state-drop}
+use Rattle.piece_rope.proofs.Chaining.{Laws, laws_of, chain-drop, state-drop}
 use Rattle.piece_rope.proofs.Preparing.{metered, metered-early, behind-middle, edited-bytes, edited-rope}
 use Rattle.piece_rope.proofs.Remembering.{ending-exit, ending-own}
-use Rattle.piece_rope.proofs.edit.prepare.Goals.{After-law_pieces, After-renewals_from}
+use Rattle.piece_rope.proofs.edit.prepare.Goals.{After-renewals_from}
 use Rattle.piece_rope.proofs.edit.prepare.Goals as goal
-
-laws : (c : After-law_pieces) → Laws c.args.decoder.now
-laws c = let e = c.law_pieces.ensures in laws_from c.args.decoder.now e.none e.parts e.exact e.same e.exit e.bytes
 
 -- the meter, once the pieces behind were gone over
 metered-behind : (c : After-renewals_from) → Laws c.args.decoder.now
@@ -26,17 +23,17 @@ metered-behind c laws =
 
 pub returns-in_err-middle-clause-meter : goal.returns-in_err-middle-clause-meter
 returns-in_err-middle-clause-meter c =
-    metered-early c.args.decoder.now (laws (goal.at.returns-in_err-middle-clause-meter c).After-law_pieces) c.args.pieces.now.items c.args.at c.args.to c.args.ins.now _ c.window_of-window.result
+    metered-early c.args.decoder.now (laws_of c.args.decoder.now c.requires.lawful) c.args.pieces.now.items c.args.at c.args.to c.args.ins.now _ c.window_of-window.result
     c.window_of-window.ensures.spans refl c.args.meter.now c.args.meter.now (omega arith)
 
 pub returns-in_err-fresh-clause-meter : goal.returns-in_err-fresh-clause-meter
 returns-in_err-fresh-clause-meter c =
-    metered-early c.args.decoder.now (laws (goal.at.returns-in_err-fresh-clause-meter c).After-law_pieces) c.args.pieces.now.items c.args.at c.args.to c.args.ins.now c.in_ok-middle.middle.items c.window_of-window.result
+    metered-early c.args.decoder.now (laws_of c.args.decoder.now c.requires.lawful) c.args.pieces.now.items c.args.at c.args.to c.args.ins.now c.in_ok-middle.middle.items c.window_of-window.result
     c.window_of-window.ensures.spans c.in_ok-middle.ensures c.args.meter.now c.fresh_pieces.new.meter (omega (arith, c.in_err-fresh.ensures.meter_most, ap length c.deref.ensures.value))
 
 pub renewals_from-requires-clause-behind : goal.renewals_from-requires-clause-behind
 renewals_from-requires-clause-behind c =
-    let l = laws (goal.at.renewals_from-requires-clause-behind c).After-law_pieces in
+    let l = laws_of c.args.decoder.now c.requires.lawful in
     let d = c.args.decoder.now in
     let last = c.window_of-window.result.last in
     record {
@@ -46,13 +43,13 @@ renewals_from-requires-clause-behind c =
     }
 
 pub returns-in_err-later-clause-meter : goal.returns-in_err-later-clause-meter
-returns-in_err-later-clause-meter c = let x = goal.at.returns-in_err-later-clause-meter c in metered-behind x.After-renewals_from (laws x.After-law_pieces)
+returns-in_err-later-clause-meter c = let x = goal.at.returns-in_err-later-clause-meter c in metered-behind x.After-renewals_from (laws_of c.args.decoder.now c.requires.lawful)
 
 pub returns-in_err-tail-clause-meter : goal.returns-in_err-tail-clause-meter
-returns-in_err-tail-clause-meter c = let x = goal.at.returns-in_err-tail-clause-meter c in metered-behind x.After-renewals_from (laws x.After-law_pieces)
+returns-in_err-tail-clause-meter c = let x = goal.at.returns-in_err-tail-clause-meter c in metered-behind x.After-renewals_from (laws_of c.args.decoder.now c.requires.lawful)
 
 pub returns-clause-meter : goal.returns-clause-meter
-returns-clause-meter c = let x = goal.at.returns-clause-meter c in metered-behind x.After-renewals_from (laws x.After-law_pieces)
+returns-clause-meter c = let x = goal.at.returns-clause-meter c in metered-behind x.After-renewals_from (laws_of c.args.decoder.now c.requires.lawful)
 
 pub returns-clause-rope : goal.returns-clause-rope
 returns-clause-rope c =
@@ -63,13 +60,13 @@ returns-clause-rope c =
     let w = c.window_of-window.result in
     subst (λ (s : AnyState). IsRope d (take w.first ps ++ (fresh.fresh.pieces.items ++ renewed (drop w.last ps) later.later.renewals.items)) s)
     (sym (ending-exit d later.later.exit c.in_ok-tail.tail c.in_ok-tail.ensures))
-    (edited-rope d (laws (goal.at.returns-clause-rope c).After-law_pieces) ps c.args.at c.args.to c.args.ins.now c.deref.result.now w c.window_of-window.ensures.spans (c.deref.ensures.value ∙ c.in_ok-middle.ensures)
+    (edited-rope d (laws_of c.args.decoder.now c.requires.lawful) ps c.args.at c.args.to c.args.ins.now c.deref.result.now w c.window_of-window.ensures.spans (c.deref.ensures.value ∙ c.in_ok-middle.ensures)
     c.entry_of-entry.result fresh.fresh.exit c.args.end later.later.exit fresh.fresh.pieces.items later.later.renewals.items c.requires.rope c.window_of-window.ensures.roomy c.requires.order c.requires.within
     c.entry_of-entry.ensures fresh.ensures.bytes fresh.ensures.chain fresh.ensures.exit fresh.ensures.small fresh.ensures.wide fresh.ensures.few later.ensures.chain later.ensures.exit)
 
 pub returns-clause-bytes : goal.returns-clause-bytes
 returns-clause-bytes c =
-    edited-bytes c.args.decoder.now (laws (goal.at.returns-clause-bytes c).After-law_pieces) c.args.pieces.now.items c.args.at c.args.to c.args.ins.now c.deref.result.now c.window_of-window.result
+    edited-bytes c.args.decoder.now (laws_of c.args.decoder.now c.requires.lawful) c.args.pieces.now.items c.args.at c.args.to c.args.ins.now c.deref.result.now c.window_of-window.result
     c.window_of-window.ensures.spans (c.deref.ensures.value ∙ c.in_ok-middle.ensures) c.in_ok-fresh.fresh.pieces.items c.in_ok-later.later.renewals.items c.in_ok-fresh.ensures.bytes
 
 pub returns-clause-tail : goal.returns-clause-tail

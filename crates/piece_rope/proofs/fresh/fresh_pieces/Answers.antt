@@ -1,6 +1,6 @@
 use Rattle.std.proofs.Common.{◌≡◌, rules, sym, ap, ◌∙◌, ◌+◌, ◌<◌, length, arith, [], ◌∷◌, ◌++◌, refl, length-append}
 use Rattle.piece_rope.proofs.Prelude.{common_steps, shortest, bytes_of}
-use Rattle.piece_rope.proofs.Chaining.{laws_from}
+use Rattle.piece_rope.proofs.Chaining.{laws_of}
 use Rattle.piece_rope.proofs.Editing.{sized-append, metered-step, added-length, added-bytes, added-chain, added-state, none-before}
 use Rattle.piece_rope.proofs.Lists.{length-snoc}
 use Rattle.piece_rope.proofs.fresh.fresh_pieces.Goals as goal
@@ -9,7 +9,7 @@ pub rest-init : goal.rest-init
 rest-init c = rw c.new-pieces.ensures.items (record {
   bytes = refl;
   chain = tt;
-  state = sym (c.law_pieces.ensures.none c.args.entry);
+  state = sym ((laws_of c.args.decoder.now c.requires).none c.args.entry);
   small = tt;
   wide = λ _. tt;
   room = λ h _. h;
@@ -22,8 +22,7 @@ rest-init c = rw c.new-pieces.ensures.items (record {
 pub rest-preserved : goal.rest-preserved
 rest-preserved c =
     let d = c.args.decoder.now in
-    let e = c.law_pieces.ensures in
-    let laws = laws_from d e.none e.parts e.exact e.same e.exit e.bytes in
+    let laws = laws_of d c.requires in
     let made = c.rest.pieces.items in
     let more = c.push.new.self.items in
     let p = c.in_ok-piece.piece in

@@ -1,12 +1,9 @@
 use Rattle.std.proofs.Common.{◌≡◌, true, false, rules, sym, ◌∙◌, length, take, drop, Some, slice_get, arith, [], ◌∷◌, ◌++◌}
 use Rattle.piece_rope.proofs.Prelude.{same_state, state_after, Passed}
-use Rattle.piece_rope.proofs.Chaining.{Laws, laws_from, differs, next-chain, state-next, differs-here, passed-more, bytes-next, rest-chains, same-end, entry-at, own-at, renewed-on}
+use Rattle.piece_rope.proofs.Chaining.{Laws, laws_of, differs, next-chain, state-next, differs-here, passed-more, bytes-next, rest-chains, same-end, entry-at, own-at, renewed-on}
 use Rattle.piece_rope.proofs.Lists.{at-behind, length-snoc}
-use Rattle.piece_rope.proofs.later.renewals_from.Goals.{After-law_pieces, After-get-piece, After-renewed}
+use Rattle.piece_rope.proofs.later.renewals_from.Goals.{After-get-piece, After-renewed}
 use Rattle.piece_rope.proofs.later.renewals_from.Goals as goal
-
-laws : (c : After-law_pieces) → Laws c.args.decoder.now
-laws c = let e = c.law_pieces.ensures in laws_from c.args.decoder.now e.none e.parts e.exact e.same e.exit e.bytes
 
 -- the piece that is gone over
 here : (c : After-get-piece) → slice_get (drop c.args.first c.args.pieces.now.items) (length c.pieces.renewals.items) ≡ Some c.get-piece.result.now
@@ -16,7 +13,7 @@ here c = at-behind c.args.pieces.now.items c.args.first (length c.pieces.renewal
 met : (c : goal.Then-eq) → c.get-piece.result.now.entry ≡ state_after c.args.decoder.now c.args.entry (take (length c.pieces.renewals.items) (drop c.args.first c.args.pieces.now.items))
 met c =
     let equal : same_state c.get-piece.result.now.entry c.pieces.state ≡ true = search rules in
-    c.law_pieces.ensures.exact c.get-piece.result.now.entry c.pieces.state equal ∙ c.pieces.invariant.state
+    (laws_of c.args.decoder.now c.requires.lawful).exact c.get-piece.result.now.entry c.pieces.state equal ∙ c.pieces.invariant.state
 
 -- it was entered in another one, and the meter went up by its bytes at most
 passed : (c : After-renewed) → Laws c.args.decoder.now → slice_get (drop c.args.first c.args.pieces.now.items) (length c.pieces.renewals.items) ≡ Some c.get-piece.result.now
@@ -33,7 +30,7 @@ pieces-init c = rw c.new-renewals.ensures.items (record {
   within = c.requires.within;
   kept = tt;
   chain = tt;
-  state = sym (c.law_pieces.ensures.none c.args.entry);
+  state = sym ((laws_of c.args.decoder.now c.requires.lawful).none c.args.entry);
   differs = λ j p e at. absurd (omega (arith, e));
   most = omega arith;
   least = omega arith;
@@ -42,34 +39,37 @@ pieces-init c = rw c.new-renewals.ensures.items (record {
 pub returns-then-eq-clause-chain : goal.returns-then-eq-clause-chain
 returns-then-eq-clause-chain c =
     let x = goal.at.returns-then-eq-clause-chain c in
-    rest-chains c.args.decoder.now (laws x.After-law_pieces) c.args.entry c.requires.behind.from (drop c.args.first c.args.pieces.now.items) c.get-piece.result.now c.pieces.renewals.items
+    rest-chains c.args.decoder.now (laws_of c.args.decoder.now c.requires.lawful) c.args.entry c.requires.behind.from (drop c.args.first c.args.pieces.now.items) c.get-piece.result.now c.pieces.renewals.items
     (here x.After-get-piece) c.requires.behind.chain c.pieces.invariant.chain (met c)
 
 pub returns-then-eq-clause-exit : goal.returns-then-eq-clause-exit
 returns-then-eq-clause-exit c =
     let x = goal.at.returns-then-eq-clause-exit c in
     let ps = drop c.args.first c.args.pieces.now.items in
-    let l = laws x.After-law_pieces in
+    let l = laws_of c.args.decoder.now c.requires.lawful in
     let old = entry-at c.args.decoder.now l c.requires.behind.from ps (length c.pieces.renewals.items) c.get-piece.result.now c.requires.behind.chain (here x.After-get-piece) in
     c.requires.behind.end_is ∙ same-end c.args.decoder.now l c.args.entry c.requires.behind.from ps (length c.pieces.renewals.items) (sym old ∙ met c)
 
 pub renewed-requires : goal.renewed-requires
 renewed-requires c =
     let x = goal.at.renewed-requires c in
-    own-at c.args.decoder.now (laws x.After-law_pieces) c.requires.behind.from (drop c.args.first c.args.pieces.now.items) (length c.pieces.renewals.items) c.get-piece.result.now
-    c.requires.behind.chain (here x.After-get-piece)
+    record {
+      lawful = c.requires.lawful;
+      own = own-at c.args.decoder.now (laws_of c.args.decoder.now c.requires.lawful) c.requires.behind.from (drop c.args.first c.args.pieces.now.items) (length c.pieces.renewals.items)
+          c.get-piece.result.now c.requires.behind.chain (here x.After-get-piece);
+    }
 
 pub returns-in_err-renewed-clause-meter : goal.returns-in_err-renewed-clause-meter
-returns-in_err-renewed-clause-meter c = let x = goal.at.returns-in_err-renewed-clause-meter c in passed x.After-renewed (laws x.After-law_pieces) (here x.After-get-piece)
+returns-in_err-renewed-clause-meter c = let x = goal.at.returns-in_err-renewed-clause-meter c in passed x.After-renewed (laws_of c.args.decoder.now c.requires.lawful) (here x.After-get-piece)
 
 pub returns-in_err-map_err-clause-meter : goal.returns-in_err-map_err-clause-meter
-returns-in_err-map_err-clause-meter c = let x = goal.at.returns-in_err-map_err-clause-meter c in passed x.After-renewed (laws x.After-law_pieces) (here x.After-get-piece)
+returns-in_err-map_err-clause-meter c = let x = goal.at.returns-in_err-map_err-clause-meter c in passed x.After-renewed (laws_of c.args.decoder.now c.requires.lawful) (here x.After-get-piece)
 
 pub pieces-preserved : goal.pieces-preserved
 pieces-preserved c =
     let x = goal.at.pieces-preserved c in
     let d = c.args.decoder.now in
-    let l = laws x.After-law_pieces in
+    let l = laws_of c.args.decoder.now c.requires.lawful in
     let ps = drop c.args.first c.args.pieces.now.items in
     let rs = c.pieces.renewals.items in
     let p = c.get-piece.result.now in

@@ -1,6 +1,6 @@
 use Rattle.piece_rope.proofs.Prelude.{ap, sym, ◌∙◌, ◌≤◌, ℕ, ◌+◌, ◌*◌, length, arith, bytes_of, document, edited, document_limit, Resyncs, longest}
-use Rattle.piece_rope.proofs.Chaining.{laws_from}
-use Rattle.piece_rope.proofs.Making.{item_laws}
+use Rattle.piece_rope.proofs.Chaining.{laws_of}
+use Rattle.piece_rope.proofs.Making.{item_laws_of, joins_of}
 use Rattle.piece_rope.proofs.Keeping.{join-rope, kept-rope, exchanged-bytes}
 use Rattle.piece_rope.proofs.Metering.{metered-cut}
 use Rattle.piece_rope.proofs.splice.prepare_splice.Goals.{After-prepare}
@@ -21,8 +21,8 @@ returns-clause-meter_most c = metered (goal.at.returns-clause-meter_most c).Afte
 pub returns-clause-ready : goal.returns-clause-ready
 returns-clause-ready c =
     let d = c.in_ok-decoder.decoder in
-    let e = c.law_pieces.ensures in
-    let laws = laws_from d e.none e.parts e.exact e.same e.exit e.bytes in
+    let e = c.law_decoder.ensures in
+    let laws = laws_of d e in
     let old = c.args.pieces.now.items in
     let edit = c.in_ok-edit.edit in
     let new = edited old edit in
@@ -38,15 +38,15 @@ returns-clause-ready c =
         within = c.in_ok-edit.ensures.within;
         few_old = old_joins.few;
         few = new_joins.few;
-        same = e.same;
-        exact = e.exact;
+        same = laws.same;
+        exact = laws.exact;
       };
       renewals = c.in_ok-edit.ensures.kept;
       old = old_joins;
       new = new_joins;
       bytes = bytes;
-      kept = kept-rope c.args.indexes.now c.args.setting d new edit.tail laws (item_laws d e.runs e.shown e.near) chosen c.requires.can within c.in_ok-edit.ensures.rope
-          c.in_ok-edit.ensures.tail scratch e.joined;
+      kept = kept-rope c.args.indexes.now c.args.setting d new edit.tail laws (item_laws_of d e) chosen c.requires.can within c.in_ok-edit.ensures.rope
+          c.in_ok-edit.ensures.tail scratch (joins_of d e);
       decoder = d;
       chosen = chosen;
     }

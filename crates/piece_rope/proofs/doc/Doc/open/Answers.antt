@@ -1,13 +1,13 @@
 use Rattle.piece_rope.proofs.Prelude.{ap, sym, ◌∙◌, ◌≤◌, length, arith, is_some, bytes_of, document_limit, IsRope}
-use Rattle.piece_rope.proofs.Chaining.{Laws, laws_from}
-use Rattle.piece_rope.proofs.Making.{item_laws}
+use Rattle.piece_rope.proofs.Chaining.{Laws, laws_of}
+use Rattle.piece_rope.proofs.Making.{item_laws_of, joins_of}
 use Rattle.piece_rope.proofs.Keeping.{join-rope, kept-rope, new-rope}
 use Rattle.piece_rope.proofs.Remembering.{ending-exit, ending-own}
 use Rattle.piece_rope.proofs.doc.Doc.open.Goals.{In_ok-fresh}
 use Rattle.piece_rope.proofs.doc.Doc.open.Goals as goal
 
 laws : (c : In_ok-fresh) → Laws c.in_ok-decoder.decoder
-laws c = let e = c.law_pieces.ensures in laws_from c.in_ok-decoder.decoder e.none e.parts e.exact e.same e.exit e.bytes
+laws c = laws_of c.in_ok-decoder.decoder c.law_decoder.ensures
 
 -- the pieces that were made
 rope : (c : In_ok-fresh) → IsRope c.in_ok-decoder.decoder c.in_ok-fresh.fresh.pieces.items c.in_ok-fresh.fresh.exit
@@ -27,7 +27,7 @@ pub invariant_of-result : goal.invariant_of-result
 invariant_of-result c =
     let x = (goal.at.invariant_of-result c).In_ok-fresh in
     let d = c.in_ok-decoder.decoder in
-    let e = c.law_pieces.ensures in
+    let e = c.law_decoder.ensures in
     let tail = c.in_ok-tail.tail in
     let scratch = rw c.in_ok-decoder.ensures.ok_part at c.under.ensures.decode in
     let chosen = sym c.under.ensures.value ∙ c.in_ok-decoder.ensures.ok_part in
@@ -35,7 +35,7 @@ invariant_of-result c =
     let own : IsRope d c.in_ok-fresh.fresh.pieces.items tail.exit = rw (ending-exit d c.in_ok-fresh.fresh.exit tail c.in_ok-tail.ensures) (rope x) in
     record {
       kept = rw c.in_ok-pieces.ensures
-          (kept-rope c.args.indexes.now c.new-setting.result d c.in_ok-fresh.fresh.pieces.items tail (laws x) (item_laws d e.runs e.shown e.near) chosen can (within x) own
-          (ending-own d c.in_ok-fresh.fresh.exit tail c.in_ok-tail.ensures) scratch e.joined);
+          (kept-rope c.args.indexes.now c.new-setting.result d c.in_ok-fresh.fresh.pieces.items tail (laws x) (item_laws_of d e) chosen can (within x) own
+          (ending-own d c.in_ok-fresh.fresh.exit tail c.in_ok-tail.ensures) scratch (joins_of d e));
       back = tt;
     }
