@@ -3,7 +3,7 @@ use Rattle.std.proofs.Common.{◌≡◌, ◌≢◌, ℕ, ◌+◌, ◌&&◌, ◌=
 use Rattle.desk.proofs.Prelude.{IfOk, OnErr, Some, None, Ok, Err, Result, nat_tests, lookup, set_value, Files, Document, spliced, document_limit}
 use Rattle.desk.proofs.Prelude.{splice_fault, is_accepted, reports_change, Ask, IsOutcome, outcome, Entry, reply_of, document_of, max_number, Applied}
 use Rattle.desk.proofs.Prelude.{put_applied, at_revision, edited, Makes, Effect, of_document, Puts, edited_by, is_edit, named_by, AllOpened, entry_of}
-use Rattle.desk.proofs.Prelude.{names, Fault, NoDocument, OutOfMemory, OpenDocument, Reply, Refused}
+use Rattle.desk.proofs.Prelude.{raised, IsIdle, Option, ◌<◌, ◌≤◌, names, Fault, NoDocument, OutOfMemory, OpenDocument, Reply, Refused}
 use Rattle.std.proofs.lemmas.Map.Steps.{set_value_same}
 use Rattle.std.specs.FinMap as finite
 use Rattle.desk.proofs.Names.{at_text, entry_none, entry_some, names_updated, opened_found, Map, Updates}
@@ -52,6 +52,44 @@ module _ (old new : Map) (doc : List ℕ) where
     edited_here answer makes is same write updates =
         there (edit indexes) k (reply_of answer) some
         (made answer (subst (λ i. Makes (edit i (entry_of k)) answer (entry_of l)) (opened_found indexes doc old.entries k all some).files makes) is same write updates)
+
+-- ---- the revision that an edit names
+
+-- it is the one now, and can be raised
+abbrev pub Passes : Entry → ℕ → Type 0
+Passes h rev = let ok : Result (Unit {0}) Fault = Ok tt in ok ≡ at_revision h rev ok
+
+module _ {A : Type 0} (h : Entry) (rev : ℕ) (answer : Result A Fault) where
+  pub revision_named : rev ≡ h.revision → h.revision < max_number → at_revision h rev answer ≡ answer
+  revision_named now few = grind (arith, nat_tests)
+
+  pub revision_spent : rev ≡ h.revision → max_number ≤ h.revision → at_revision h rev answer ≡ Err Fault.RevisionsSpent
+  revision_spent now last = grind (arith, nat_tests)
+
+  pub revision_stale : rev ≢ h.revision → at_revision h rev answer ≡ Err (Fault.Stale h.revision)
+  revision_stale other = grind (arith, nat_tests)
+
+  passed : Passes h rev → at_revision h rev answer ≡ answer
+  passed e = grind (arith, nat_tests)
+
+-- ---- an edit of an open document
+
+-- a document in no edit of several parts is what is held of it
+pub idle_document : (indexes : Files) (k : OpenDocument) → IsIdle indexes k → k.document ≡ document_of indexes (entry_of k)
+idle_document indexes k is =
+    let by : Files → Option (List ℕ) → Document = λ i e. record { indexes = i; setting = k.document.setting; bytes = k.document.bytes; earlier = e } in
+    ap (λ i. by i k.document.earlier) is.files ∙ ap (λ e. by indexes e) is.idle
+
+pub edit_made : {A : Type 0} (k : OpenDocument) (rev names_rev : ℕ) (apply : Document → Result (Applied A) Fault) (answer : A → Document → ℕ → Reply) (made : A) (d : Document) (reply : Reply)
+    → k.document.earlier ≡ None → rev ≡ names_rev → Passes (entry_of k) rev → apply k.document ≡ Ok (record { document = d; done = made })
+    → reply ≡ answer made d (k.revision + 1)
+    → edited k.document.indexes names_rev apply answer (entry_of k) ≡ record { reply = reply; move = Puts (raised (entry_of k) d) }
+edit_made k rev names_rev apply answer made d reply idle same may applies replies =
+    let h = entry_of k in
+    let held = document_of k.document.indexes h in
+    let here = idle_document k.document.indexes k (record { files = refl; idle = idle }) in
+    let effect_by : Reply → Effect = λ r. record { reply = r; move = Puts (raised h d) } in
+    ap (put_applied h answer) (passed h names_rev (apply held) (rw same at may) ∙ ap apply (sym here) ∙ applies) ∙ ap effect_by (sym replies)
 
 -- ---- an edit that is accepted
 

@@ -3,6 +3,10 @@ use Rattle.desk.proofs.Prelude.{◌≡◌, ℕ, Bool, true, false, List, length,
 use Rattle.desk.proofs.Prelude.{subst, LabelTable, lookup_in, setting_of, Bom, Encoding, Setting, Files, has_files, document_limit, open_fault}
 use Rattle.desk.proofs.Prelude.{is_accepted, asked_of, Opens, Office, Outcome, Answers, IsOutcome, has_place, outcome, Adopts, Entry, Names}
 use Rattle.desk.proofs.Prelude.{edit_reply, put, with_bytes, base64_bytes, done, admitted, opened, Shelf, Fault, Reply, Refused}
+use Rattle.desk.proofs.Prelude.{◌<◌, rules, DocFault, named, fault_of, Gives, unless, entry, OutOfMemory}
+use Rattle.desk.specs.Desk.{max_documents}
+use Rattle.desk.specs.declared.ops.Reply.TheVariants.{Edited}
+use Rattle.desk.specs.declared.reply.EditedReply.{EditedReply}
 use Rattle.std.specs.FinMap as finite
 use Rattle.desk.proofs.Row.{IsRow, Keeps, Answered, ContinuesBy, Decided, IsOther, Caused, caused-if, decided-if, decided-unless, by-bytes, keeps-put, answered-put}
 
@@ -19,6 +23,28 @@ opened_answers o after doc label text bytes lent given bom setting reply read sa
   indexes = indexes;
   labels = refl;
 }
+
+-- ---- a document that is put under a free name
+
+pub unopened : (fault : Option DocFault) (h : Entry) (cause : DocFault) → fault ≡ named cause → Gives (unless fault h) (Err (fault_of cause))
+unopened fault h DocFault.OutOfMemory e = tt
+unopened fault h cause e = rw e refl
+
+module _ (indexes : Files) (old : Names) (name : List ℕ) (setting : Setting) (bytes : List ℕ) (rev : ℕ) where
+  abbrev Step : Reply → Names → Type 0
+  Step reply new = IsOutcome (outcome old name (put (edit_reply indexes) (admitted indexes (has_place old) setting bytes rev))) reply old new
+
+  abbrev Entered : Result Entry Fault → Type 0
+  Entered answer = Gives (unless (open_fault indexes setting.given bytes) (entry setting bytes rev)) answer
+
+  module _ (files : has_files indexes setting.given ≡ true) (free : finite.len old < max_documents) where
+    room : has_place old ≡ true
+    room = search (rules, free)
+
+    pub with_document : (h : Entry) (r : EditedReply) (new : Names) → Entered (Ok h) → Edited r ≡ edit_reply indexes h → new ≡ finite.insert old name h → Step (Edited r) new
+    with_document h r new gives replies puts =
+        let put_by : Reply → Outcome = λ reply. record { reply = reply; documents = finite.insert old name h } in
+        rw (puts, files, room, gives) (ap put_by (sym replies))
 
 -- ---- adoptions
 

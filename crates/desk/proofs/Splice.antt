@@ -2,6 +2,7 @@
 use Rattle.std.proofs.Common.{◌≡◌, ℕ, List, refl, sym, ap, ◌∙◌, subst, Some, None, Ok, Option}
 use Rattle.desk.proofs.Prelude.{LabelTable, Files, Document, splice_fault, DocFault, asked_of, Splices, Office, Answers, IsOutcome, outcome, Entry}
 use Rattle.desk.proofs.Prelude.{document_of, unless, Applied, of_document, with_bytes, base64_bytes, edited_by, with_spliced, Shelf, Reply}
+use Rattle.desk.proofs.Prelude.{Err, Applies, named, fault_of, spliced_document}
 use Rattle.desk.specs.Splice.{spliced, splice_reply, splice_effect}
 use Rattle.std.specs.FinMap as finite
 use Rattle.desk.proofs.Edits.{caused-splice, keeps-edited, answered-edited, continues-edited}
@@ -19,6 +20,15 @@ spliced_answers o after doc rev at del text ins lent reply read same step indexe
   indexes = indexes;
   labels = refl;
 }
+
+-- a splice that was made, and one that is refused
+pub splice_made : (d new : Document) (at del : ℕ) (ins : List ℕ) → splice_fault d.bytes at del ins ≡ None → new ≡ spliced_document d at del ins → Applies (spliced at del ins d) (Ok tt) new
+splice_made d new at del ins fits is = rw (fits, is) refl
+
+pub splice_refused : (d new : Document) (at del : ℕ) (ins : List ℕ) (cause : DocFault) → splice_fault d.bytes at del ins ≡ named cause
+    → Applies (spliced at del ins d) (Err (fault_of cause)) new
+splice_refused d new at del ins DocFault.OutOfMemory e = tt
+splice_refused d new at del ins cause e = rw e refl
 
 -- ---- the row
 

@@ -1,16 +1,22 @@
 -- What the open documents stand for. Nothing here has to be believed.
-use Rattle.std.specs.Prelude.{◌≡◌, List, String, None, map, string_bytes}
+use Rattle.std.specs.Prelude.{◌≡◌, List, String, None, map, string_bytes, Result, Ok, Err}
 use Rattle.std.specs.List.{All}
 use Rattle.std.specs.Map.{values_of}
 use Rattle.std.specs.declared.alloc.Global.{Global}
 use Rattle.std.specs.FinMap.{from_entries}
 use Rattle.index_loader.specs.Files.{Files}
+use Rattle.desk.specs.declared.fault.Fault.{Fault}
 use Rattle.desk.specs.declared.open_document.OpenDocument.{OpenDocument}
 use Rattle.desk.specs.Documents.{Entry, Names}
 
 -- an open document, without its index files
 abbrev pub entry_of : OpenDocument → Entry
 entry_of k = record { setting = k.document.setting; bytes = k.document.bytes; revision = k.revision }
+
+-- what was opened, without its index files, or why nothing was
+abbrev pub opened_entry : Result OpenDocument Fault → Result Entry Fault
+opened_entry (Ok k) = Ok (entry_of k)
+opened_entry (Err fault) = Err fault
 
 -- the names with what is held at them
 abbrev pub names : List (String Global × OpenDocument) → Names

@@ -13,13 +13,11 @@ ghost use Rattle.index_loader.specs.Files.{Files};
 
 use crate::edit::Edit;
 use crate::fault::Fault;
-use crate::open_document::OpenDocument;
+use crate::open_document::{OpenDocument, edited_reply};
 use crate::ops::Reply;
 use crate::question::Question;
-use decoder_core::meter;
 use enc_names::{Labels, Setting};
 use index_loader::Indexes;
-use piece_rope::Doc;
 use std::alloc::{AllocError, Global};
 use std::collections::BTreeMap;
 use std::marker::Model;
@@ -87,7 +85,6 @@ impl<'i> Documents<'i> {
     }
 
     /// Puts a document at a revision under a name that is free.
-    #[tactic(auto, unfolding(piece_rope::specs::Edits::open_fault, index_loader::specs::Files::has_files))]
     pub fn open(
         &mut self,
         alloc: Global,
@@ -109,19 +106,11 @@ impl<'i> Documents<'i> {
         if self.len() >= MAX_DOCUMENTS {
             return Err(Fault::TooManyDocuments);
         }
-        let document = Doc::open(
-            alloc,
-            self.indexes,
-            setting.given,
-            setting.bom,
-            bytes,
-            &mut meter(),
-        )?;
-        let opened = OpenDocument { document, revision };
-        let reply = opened.open_reply();
         let name = String::from_str(alloc, name)?;
+        let opened = OpenDocument::open(alloc, self.indexes, setting, bytes, revision)?;
+        let reply = edited_reply(&opened.document, opened.revision);
         self.insert(name, opened)?;
-        Ok(reply)
+        Ok(Reply::Edited(reply))
     }
 
     /// Makes an edit of the document of this name.
@@ -144,10 +133,12 @@ impl<'i> Documents<'i> {
             (reply_of result) self.old.named self.new.named }
         ensures indexes { self.new.indexes ≡ self.old.indexes }
     {
-        let Some(open) = self.named.remove(name) else {
+        let Some(closed) = self.named.remove(name) else {
             return Err(Fault::NoDocument);
         };
-        Ok(open.close_reply())
+        Ok(Reply::Closed {
+            rev: closed.revision,
+        })
     }
 
     /// How many documents are open.
@@ -163,7 +154,9 @@ impl<'i> Documents<'i> {
         ensures ok { OnOk result (self.new ≡ record { indexes = self.old.indexes; named = map.insert self.old.named (string_bytes name) (entry_of opened.entry) }) }
         ensures err { OnErr result (self.new ≡ self.old) }
     {
-        self.named.insert(name, opened)?;
+        let Ok(_) = self.named.insert(name, opened) else {
+            return Err(AllocError);
+        };
         Ok(())
     }
 }

@@ -1,15 +1,20 @@
 //! One open document and its revision. What it answers to an op is in that op's file.
 ghost use Rattle.std.specs.Prelude.{◌≡◌, true, Ok, None, IfOk, OnErr};
+ghost use Rattle.piece_rope.specs.Edits.{open_fault};
 ghost use Rattle.desk.specs.Accepted.{is_accepted};
-ghost use Rattle.desk.specs.Documents.{edit_reply, edited_reply};
+ghost use Rattle.desk.specs.Documents.{Gives, edited_reply, entry, unless};
 ghost use Rattle.desk.specs.Edits.{at_revision, edited, Makes};
-ghost use Rattle.desk.specs.OpenDocuments.{entry_of};
+ghost use Rattle.desk.specs.OpenDocuments.{IsIdle, entry_of, opened_entry};
+ghost use Rattle.desk.specs.declared.ops.Reply.TheVariants.{Edited};
 
 use crate::edit::Edit;
 use crate::fault::Fault;
 use crate::max_number::MAX_NUMBER;
 use crate::ops::Reply;
 use crate::reply::EditedReply;
+use decoder_core::meter;
+use enc_names::Setting;
+use index_loader::Indexes;
 use piece_rope::Doc;
 use std::alloc::Global;
 
@@ -20,6 +25,26 @@ pub struct OpenDocument<'i> {
     pub document: Doc<'i>,
     /// The revision at which it was opened or adopted, and one more for each accepted edit.
     pub revision: u64,
+}
+
+impl<'i> OpenDocument<'i> {
+    /// Opens a document of these bytes, at a revision.
+    pub fn open(
+        alloc: Global,
+        indexes: &'i Indexes,
+        setting: Setting,
+        bytes: &[u8],
+        revision: u64,
+    ) -> Result<OpenDocument<'i>, Fault>
+        ensures entry { Gives (unless (open_fault indexes.now setting.given bytes.now) (entry setting bytes.now revision)) (opened_entry result) }
+        ensures idle { IfOk result (IsIdle indexes.now) }
+    {
+        let (given, bom) = (setting.given, setting.bom);
+        match Doc::open(alloc, indexes, given, bom, bytes, &mut meter()) {
+            Ok(document) => Ok(OpenDocument { document, revision }),
+            Err(cause) => Err(Fault::from(cause)),
+        }
+    }
 }
 
 impl OpenDocument<'_> {
@@ -52,22 +77,15 @@ impl OpenDocument<'_> {
         }
         Ok(())
     }
-
-    /// The reply to the open that led to this.
-    pub fn open_reply(&self) -> Reply
-        ensures { result ≡ edit_reply self.now.document.indexes (entry_of self.now) }
-    {
-        edited_reply(&self.document, self.revision)
-    }
 }
 
-/// The reply to an open or a splice that left this document, at this revision.
-pub(crate) fn edited_reply(document: &Doc<'_>, rev: u64) -> Reply
-    ensures { result ≡ edited_reply document.now rev }
+/// What is replied to an open or a splice that left this document, at this revision.
+pub(crate) fn edited_reply(document: &Doc<'_>, rev: u64) -> EditedReply
+    ensures { Edited result ≡ edited_reply document.now rev }
 {
-    Reply::Edited(EditedReply {
+    EditedReply {
         bom: document.bom_len(),
         encoding: document.encoding(),
         rev,
-    })
+    }
 }

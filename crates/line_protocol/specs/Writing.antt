@@ -8,7 +8,9 @@ use Rattle.line_protocol.specs.declared.reply_line.reasons.More.{More}
 use Rattle.line_protocol.specs.declared.reply_line.reasons.More.TheVariants.{NoMore, One, Two}
 use Rattle.line_protocol.specs.declared.reply_line.members.Content.{Content}
 use Rattle.line_protocol.specs.declared.reply_line.members.Content.TheVariants.{Number, Small, Text, At, Nothing}
-use Rattle.serde.specs.Event.{Log}
+use Rattle.serde.specs.Event.{Log, Logs, field_key}
+use Rattle.serde.specs.declared.name.Case.TheVariants.{AsIs}
+use Rattle.serde_json.specs.Events.{SendsValue}
 use Rattle.serde_json.specs.Sent.{IsTextOf}
 use Rattle.line_protocol.specs.declared.reply_line.Storage.{Storage}
 use Rattle.line_protocol.specs.declared.reply_line.Storage.TheVariants.{Inline, Allocated}
@@ -104,6 +106,12 @@ abbrev pub reason_room : ℕ
 reason_room = 100
 
 -- ---- a line that is written by the events of a value
+
+-- a member of an object is sent, its key and then its value
+pub record SendsMember (key : List ℕ) (d : Data) (old new : Log) : Type 0 where
+  pub named : Log
+  pub key_sent : Logs old named (field_key key AsIs)
+  pub value_sent : SendsValue d named new
 
 -- the text of the events that the value sends, and a line end
 pub record IsLineOf (writes : Log → Log → Type 0) (line : List ℕ) : Type 0 where

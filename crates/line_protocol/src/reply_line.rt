@@ -4,6 +4,7 @@ mod entries;
 mod long;
 mod members;
 mod reasons;
+mod sent_members;
 mod short;
 mod short_text;
 

@@ -74,6 +74,6 @@ impl Edit for ReadSplice<'_> {
     }
 
     fn reply(&self, _: &(), document: &Doc<'_>, rev: u64) -> Reply {
-        edited_reply(document, rev)
+        Reply::Edited(edited_reply(document, rev))
     }
 }

@@ -6,6 +6,7 @@ ghost use Rattle.line_protocol.specs.Inline.{is_short};
 ghost use Rattle.line_protocol.specs.Replies.{line_of, reply_text, text_data, base64_data, bytes_data, plan_data, plan_texts, errors_data, diagnostics_data, lines_data};
 
 use crate::reply_line::entries::send_list;
+use crate::reply_line::sent_members::{send_number, send_text};
 use base64::engine::general_purpose::STANDARD;
 use desk::ops::{DiagnosticsReply, ErrorsReply, LinesReply, PlanReply, TextReply};
 use desk::{BytesReply, Reply};
@@ -107,12 +108,9 @@ impl Described for WithId<'_, TextReply> {
 impl Serialize for WithId<'_, TextReply> {
     fn serialize<S: Serializer>(&self, out: &mut S) -> Result<(), S::Error> {
         out.begin_map(Some(3))?;
-        out.key("id")?;
-        out.u64(self.id)?;
-        out.key("rev")?;
-        out.u64(self.reply.rev)?;
-        out.key("text")?;
-        out.str(self.reply.text.as_str())?;
+        send_number(out, "id", self.id)?;
+        send_number(out, "rev", self.reply.rev)?;
+        send_text(out, "text", self.reply.text.as_str())?;
         out.end_map()
     }
 }
@@ -133,12 +131,9 @@ impl Described for Base64Reply<'_> {
 impl Serialize for Base64Reply<'_> {
     fn serialize<S: Serializer>(&self, out: &mut S) -> Result<(), S::Error> {
         out.begin_map(Some(3))?;
-        out.key("bytes")?;
-        out.str(self.text)?;
-        out.key("id")?;
-        out.u64(self.id)?;
-        out.key("rev")?;
-        out.u64(self.rev)?;
+        send_text(out, "bytes", self.text)?;
+        send_number(out, "id", self.id)?;
+        send_number(out, "rev", self.rev)?;
         out.end_map()
     }
 }
@@ -161,20 +156,14 @@ impl Described for PlanTexts<'_> {
 impl Serialize for PlanTexts<'_> {
     fn serialize<S: Serializer>(&self, out: &mut S) -> Result<(), S::Error> {
         out.begin_map(Some(7))?;
-        out.key("at")?;
-        out.u64(self.reply.at)?;
-        out.key("bytes")?;
-        out.str(self.bytes)?;
-        out.key("del")?;
-        out.u64(self.reply.old.as_slice().len() as u64)?;
-        out.key("id")?;
-        out.u64(self.id)?;
+        send_number(out, "at", self.reply.at)?;
+        send_text(out, "bytes", self.bytes)?;
+        send_number(out, "del", self.reply.old.as_slice().len() as u64)?;
+        send_number(out, "id", self.id)?;
         out.key("kept")?;
         out.bool(self.reply.kept)?;
-        out.key("old")?;
-        out.str(self.old)?;
-        out.key("rev")?;
-        out.u64(self.reply.rev)?;
+        send_text(out, "old", self.old)?;
+        send_number(out, "rev", self.reply.rev)?;
         out.end_map()
     }
 }
@@ -188,12 +177,9 @@ impl Serialize for WithId<'_, ErrorsReply> {
         out.begin_map(Some(4))?;
         out.key("errors")?;
         send_list(self.reply.places.as_slice(), out)?;
-        out.key("id")?;
-        out.u64(self.id)?;
-        out.key("rev")?;
-        out.u64(self.reply.rev)?;
-        out.key("total")?;
-        out.u64(self.reply.total)?;
+        send_number(out, "id", self.id)?;
+        send_number(out, "rev", self.reply.rev)?;
+        send_number(out, "total", self.reply.total)?;
         out.end_map()
     }
 }
@@ -207,12 +193,9 @@ impl Serialize for WithId<'_, DiagnosticsReply> {
         out.begin_map(Some(4))?;
         out.key("diagnostics")?;
         send_list(self.reply.diagnostics.as_slice(), out)?;
-        out.key("id")?;
-        out.u64(self.id)?;
-        out.key("rev")?;
-        out.u64(self.reply.rev)?;
-        out.key("total")?;
-        out.u64(self.reply.total)?;
+        send_number(out, "id", self.id)?;
+        send_number(out, "rev", self.reply.rev)?;
+        send_number(out, "total", self.reply.total)?;
         out.end_map()
     }
 }
@@ -224,14 +207,11 @@ impl Described for WithId<'_, LinesReply> {
 impl Serialize for WithId<'_, LinesReply> {
     fn serialize<S: Serializer>(&self, out: &mut S) -> Result<(), S::Error> {
         out.begin_map(Some(4))?;
-        out.key("count")?;
-        out.u64(self.reply.count)?;
-        out.key("id")?;
-        out.u64(self.id)?;
+        send_number(out, "count", self.reply.count)?;
+        send_number(out, "id", self.id)?;
         out.key("lines")?;
         send_list(self.reply.lines.as_slice(), out)?;
-        out.key("rev")?;
-        out.u64(self.reply.rev)?;
+        send_number(out, "rev", self.reply.rev)?;
         out.end_map()
     }
 }

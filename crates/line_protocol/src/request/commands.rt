@@ -17,6 +17,16 @@ use std::alloc::Global;
 /// The most places of errors, or lines, that one request may ask for.
 const MAX_ENTRIES: u64 = 10_000;
 
+/// What a field holds. Where it holds nothing of its kind, the function returns the refusal.
+macro_rules! need {
+    ($refusal:expr, $found:expr) => {
+        match $found {
+            Some(found) => found,
+            None => return Err($refusal),
+        }
+    };
+}
+
 /// The number of a request and its command, which borrows the request's texts.
 ///
 /// # Errors
@@ -29,8 +39,11 @@ pub fn parse_request(alloc: Global, value: &Value) -> Result<(u64, Command<'_>),
     if !value.is_object() {
         return Err(bad(None, Field::Object));
     }
-    let id = fields::number(value, "id", MAX_NUMBER).ok_or(bad(None, Field::Id))?;
-    let op = fields::text(value, "op").ok_or(bad(Some(id), Field::Op))?;
+    let id = need!(
+        bad(None, Field::Id),
+        fields::number(value, "id", MAX_NUMBER)
+    );
+    let op = need!(bad(Some(id), Field::Op), fields::text(value, "op"));
     let command = match op {
         "open" => open(value),
         "close" => close(value),
@@ -67,10 +80,10 @@ fn bad(id: Option<u64>, field: Field) -> Refusal
 fn open(value: &Value) -> Result<Command<'_>, Field>
     ensures { command_asked result ≡ open_command (view value.now) }
 {
-    let doc = fields::name(value).ok_or(Field::Doc)?;
-    let label = fields::text(value, "label").ok_or(Field::Label)?;
-    let bytes = fields::text(value, "bytes").ok_or(Field::Bytes)?;
-    let bom = fields::bom(value).ok_or(Field::Bom)?;
+    let doc = need!(Field::Doc, fields::name(value));
+    let label = need!(Field::Label, fields::text(value, "label"));
+    let bytes = need!(Field::Bytes, fields::text(value, "bytes"));
+    let bom = need!(Field::Bom, fields::bom(value));
     Ok(Command::Open(ops::Open {
         doc,
         label,
@@ -83,7 +96,7 @@ fn open(value: &Value) -> Result<Command<'_>, Field>
 fn close(value: &Value) -> Result<Command<'_>, Field>
     ensures { command_asked result ≡ close_command (view value.now) }
 {
-    let doc = fields::name(value).ok_or(Field::Doc)?;
+    let doc = need!(Field::Doc, fields::name(value));
     Ok(Command::Close(ops::Close { doc }))
 }
 
@@ -91,11 +104,11 @@ fn close(value: &Value) -> Result<Command<'_>, Field>
 fn splice(value: &Value) -> Result<Command<'_>, Field>
     ensures { command_asked result ≡ splice_command (view value.now) }
 {
-    let doc = fields::name(value).ok_or(Field::Doc)?;
-    let rev = fields::number(value, "rev", MAX_NUMBER).ok_or(Field::Rev)?;
-    let at = fields::number(value, "at", MAX_NUMBER).ok_or(Field::At)?;
-    let del = fields::number(value, "del", MAX_NUMBER).ok_or(Field::Del)?;
-    let bytes = fields::text(value, "bytes").ok_or(Field::Bytes)?;
+    let doc = need!(Field::Doc, fields::name(value));
+    let rev = need!(Field::Rev, fields::number(value, "rev", MAX_NUMBER));
+    let at = need!(Field::At, fields::number(value, "at", MAX_NUMBER));
+    let del = need!(Field::Del, fields::number(value, "del", MAX_NUMBER));
+    let bytes = need!(Field::Bytes, fields::text(value, "bytes"));
     Ok(Command::Splice(ops::Splice {
         doc,
         rev,
@@ -109,11 +122,11 @@ fn splice(value: &Value) -> Result<Command<'_>, Field>
 fn change(value: &Value) -> Result<Command<'_>, Field>
     ensures { command_asked result ≡ change_command (view value.now) }
 {
-    let doc = fields::name(value).ok_or(Field::Doc)?;
-    let rev = fields::number(value, "rev", MAX_NUMBER).ok_or(Field::Rev)?;
-    let unit = fields::unit(value).ok_or(Field::Unit)?;
-    let range = fields::range(value).ok_or(Field::Range)?;
-    let text = fields::text(value, "text").ok_or(Field::Text)?;
+    let doc = need!(Field::Doc, fields::name(value));
+    let rev = need!(Field::Rev, fields::number(value, "rev", MAX_NUMBER));
+    let unit = need!(Field::Unit, fields::unit(value));
+    let range = need!(Field::Range, fields::range(value));
+    let text = need!(Field::Text, fields::text(value, "text"));
     Ok(Command::Change(ops::Change {
         doc,
         rev,
@@ -129,10 +142,10 @@ fn changes<'a>(value: &'a Value, list: Option<Vec<ContentChange<'a>>>) -> Result
     requires { option_map (λ list. map change_of list.items) list ≡ changes_at (view value.now) }
     ensures { command_asked result ≡ changes_command (view value.now) }
 {
-    let doc = fields::name(value).ok_or(Field::Doc)?;
-    let rev = fields::number(value, "rev", MAX_NUMBER).ok_or(Field::Rev)?;
-    let unit = fields::unit(value).ok_or(Field::Unit)?;
-    let changes = list.ok_or(Field::Changes)?;
+    let doc = need!(Field::Doc, fields::name(value));
+    let rev = need!(Field::Rev, fields::number(value, "rev", MAX_NUMBER));
+    let unit = need!(Field::Unit, fields::unit(value));
+    let changes = need!(Field::Changes, list);
     Ok(Command::Changes(ops::Changes {
         doc,
         rev,
@@ -145,10 +158,10 @@ fn changes<'a>(value: &'a Value, list: Option<Vec<ContentChange<'a>>>) -> Result
 fn plan(value: &Value) -> Result<Command<'_>, Field>
     ensures { command_asked result ≡ plan_command (view value.now) }
 {
-    let doc = fields::name(value).ok_or(Field::Doc)?;
-    let unit = fields::unit(value).ok_or(Field::Unit)?;
-    let range = fields::range(value).ok_or(Field::Range)?;
-    let text = fields::text(value, "text").ok_or(Field::Text)?;
+    let doc = need!(Field::Doc, fields::name(value));
+    let unit = need!(Field::Unit, fields::unit(value));
+    let range = need!(Field::Range, fields::range(value));
+    let text = need!(Field::Text, fields::text(value, "text"));
     Ok(Command::Plan(ops::Plan {
         doc,
         unit,
@@ -161,10 +174,10 @@ fn plan(value: &Value) -> Result<Command<'_>, Field>
 fn text(value: &Value) -> Result<Command<'_>, Field>
     ensures { command_asked result ≡ text_command (view value.now) }
 {
-    let doc = fields::name(value).ok_or(Field::Doc)?;
-    let from = fields::number(value, "from", MAX_NUMBER).ok_or(Field::From)?;
-    let to = fields::number(value, "to", MAX_NUMBER).ok_or(Field::To)?;
-    let mode = fields::text_mode(value).ok_or(Field::Mode)?;
+    let doc = need!(Field::Doc, fields::name(value));
+    let from = need!(Field::From, fields::number(value, "from", MAX_NUMBER));
+    let to = need!(Field::To, fields::number(value, "to", MAX_NUMBER));
+    let mode = need!(Field::Mode, fields::text_mode(value));
     Ok(Command::Text(ops::Text {
         doc,
         from,
@@ -177,9 +190,9 @@ fn text(value: &Value) -> Result<Command<'_>, Field>
 fn source(value: &Value) -> Result<Command<'_>, Field>
     ensures { command_asked result ≡ source_command (view value.now) }
 {
-    let doc = fields::name(value).ok_or(Field::Doc)?;
-    let at = fields::number(value, "at", MAX_NUMBER).ok_or(Field::At)?;
-    let len = fields::number(value, "len", MAX_NUMBER).ok_or(Field::Len)?;
+    let doc = need!(Field::Doc, fields::name(value));
+    let at = need!(Field::At, fields::number(value, "at", MAX_NUMBER));
+    let len = need!(Field::Len, fields::number(value, "len", MAX_NUMBER));
     Ok(Command::Source(ops::Source { doc, at, len }))
 }
 
@@ -187,11 +200,11 @@ fn source(value: &Value) -> Result<Command<'_>, Field>
 fn encode(value: &Value) -> Result<Command<'_>, Field>
     ensures { command_asked result ≡ encode_command (view value.now) }
 {
-    let doc = fields::name(value).ok_or(Field::Doc)?;
-    let from = fields::number(value, "from", MAX_NUMBER).ok_or(Field::From)?;
-    let to = fields::number(value, "to", MAX_NUMBER).ok_or(Field::To)?;
-    let label = fields::text(value, "label").ok_or(Field::Label)?;
-    let mode = fields::encode_mode(value).ok_or(Field::Mode)?;
+    let doc = need!(Field::Doc, fields::name(value));
+    let from = need!(Field::From, fields::number(value, "from", MAX_NUMBER));
+    let to = need!(Field::To, fields::number(value, "to", MAX_NUMBER));
+    let label = need!(Field::Label, fields::text(value, "label"));
+    let mode = need!(Field::Mode, fields::encode_mode(value));
     Ok(Command::Encode(ops::Encode {
         doc,
         from,
@@ -205,9 +218,9 @@ fn encode(value: &Value) -> Result<Command<'_>, Field>
 fn errors(value: &Value) -> Result<Command<'_>, Field>
     ensures { command_asked result ≡ errors_command (view value.now) }
 {
-    let doc = fields::name(value).ok_or(Field::Doc)?;
-    let from = fields::number(value, "from", MAX_NUMBER).ok_or(Field::From)?;
-    let max = fields::number(value, "max", MAX_ENTRIES).ok_or(Field::Max)?;
+    let doc = need!(Field::Doc, fields::name(value));
+    let from = need!(Field::From, fields::number(value, "from", MAX_NUMBER));
+    let max = need!(Field::Max, fields::number(value, "max", MAX_ENTRIES));
     Ok(Command::Errors(ops::Errors { doc, from, max }))
 }
 
@@ -215,10 +228,10 @@ fn errors(value: &Value) -> Result<Command<'_>, Field>
 fn diagnostics(value: &Value) -> Result<Command<'_>, Field>
     ensures { command_asked result ≡ diagnostics_command (view value.now) }
 {
-    let doc = fields::name(value).ok_or(Field::Doc)?;
+    let doc = need!(Field::Doc, fields::name(value));
     let start = fields::page_start(value)?;
-    let max = fields::number(value, "max", MAX_ENTRIES).ok_or(Field::Max)?;
-    let unit = fields::unit(value).ok_or(Field::Unit)?;
+    let max = need!(Field::Max, fields::number(value, "max", MAX_ENTRIES));
+    let unit = need!(Field::Unit, fields::unit(value));
     Ok(Command::Diagnostics(ops::Diagnostics {
         doc,
         start,
@@ -231,9 +244,9 @@ fn diagnostics(value: &Value) -> Result<Command<'_>, Field>
 fn lines(value: &Value) -> Result<Command<'_>, Field>
     ensures { command_asked result ≡ lines_command (view value.now) }
 {
-    let doc = fields::name(value).ok_or(Field::Doc)?;
-    let from = fields::number(value, "from", MAX_NUMBER).ok_or(Field::From)?;
-    let max = fields::number(value, "max", MAX_ENTRIES).ok_or(Field::Max)?;
+    let doc = need!(Field::Doc, fields::name(value));
+    let from = need!(Field::From, fields::number(value, "from", MAX_NUMBER));
+    let max = need!(Field::Max, fields::number(value, "max", MAX_ENTRIES));
     Ok(Command::Lines(ops::Lines { doc, from, max }))
 }
 
@@ -241,9 +254,9 @@ fn lines(value: &Value) -> Result<Command<'_>, Field>
 fn position(value: &Value) -> Result<Command<'_>, Field>
     ensures { command_asked result ≡ position_command (view value.now) }
 {
-    let doc = fields::name(value).ok_or(Field::Doc)?;
-    let offset = fields::number(value, "offset", MAX_NUMBER).ok_or(Field::Offset)?;
-    let unit = fields::unit(value).ok_or(Field::Unit)?;
+    let doc = need!(Field::Doc, fields::name(value));
+    let offset = need!(Field::Offset, fields::number(value, "offset", MAX_NUMBER));
+    let unit = need!(Field::Unit, fields::unit(value));
     Ok(Command::Position(ops::Position { doc, offset, unit }))
 }
 
@@ -251,10 +264,13 @@ fn position(value: &Value) -> Result<Command<'_>, Field>
 fn offset(value: &Value) -> Result<Command<'_>, Field>
     ensures { command_asked result ≡ offset_command (view value.now) }
 {
-    let doc = fields::name(value).ok_or(Field::Doc)?;
-    let line = fields::number(value, "line", MAX_NUMBER).ok_or(Field::Line)?;
-    let character = fields::number(value, "character", MAX_NUMBER).ok_or(Field::Character)?;
-    let unit = fields::unit(value).ok_or(Field::Unit)?;
+    let doc = need!(Field::Doc, fields::name(value));
+    let line = need!(Field::Line, fields::number(value, "line", MAX_NUMBER));
+    let character = need!(
+        Field::Character,
+        fields::number(value, "character", MAX_NUMBER)
+    );
+    let unit = need!(Field::Unit, fields::unit(value));
     Ok(Command::Offset(ops::Offset {
         doc,
         line,
@@ -267,9 +283,9 @@ fn offset(value: &Value) -> Result<Command<'_>, Field>
 fn place(value: &Value) -> Result<Command<'_>, Field>
     ensures { command_asked result ≡ place_command (view value.now) }
 {
-    let doc = fields::name(value).ok_or(Field::Doc)?;
-    let unit = fields::place_unit(value).ok_or(Field::Unit)?;
-    let named = fields::number(value, "value", MAX_NUMBER).ok_or(Field::Value)?;
+    let doc = need!(Field::Doc, fields::name(value));
+    let unit = need!(Field::Unit, fields::place_unit(value));
+    let named = need!(Field::Value, fields::number(value, "value", MAX_NUMBER));
     Ok(Command::Place(ops::Place {
         doc,
         unit,
@@ -281,6 +297,6 @@ fn place(value: &Value) -> Result<Command<'_>, Field>
 fn stat(value: &Value) -> Result<Command<'_>, Field>
     ensures { command_asked result ≡ stat_command (view value.now) }
 {
-    let doc = fields::name(value).ok_or(Field::Doc)?;
+    let doc = need!(Field::Doc, fields::name(value));
     Ok(Command::Stat(ops::Stat { doc }))
 }

@@ -1,4 +1,4 @@
-use Rattle.desk.proofs.Prelude.{All-map-remove_entry, IsIdle}
+use Rattle.desk.proofs.Prelude.{refl, All-map-remove_entry, IsIdle}
 use Rattle.desk.proofs.Close.{closed_answers}
 use Rattle.desk.proofs.Edits.{nowhere}
 use Rattle.desk.proofs.documents.Documents.close.Goals as goal
@@ -12,4 +12,4 @@ invariant_of-self-2 c = rw c.remove.ensures.entries (All-map-remove_entry _ (λ 
 
 pub returns-clause-step : goal.returns-clause-step
 returns-clause-step c = rw (← c.self.view_is)
-    (closed_answers c.self.inside.named c.remove.new.self c.args.name.now c.in-Some.open c.close_reply.result c.in-Some.ensures.value c.in-Some.ensures.updates c.close_reply.ensures)
+    (closed_answers c.self.inside.named c.remove.new.self c.args.name.now c.in-Some.closed _ c.in-Some.ensures.value c.in-Some.ensures.updates refl)

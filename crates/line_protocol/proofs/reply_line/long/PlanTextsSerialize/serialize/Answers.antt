@@ -5,42 +5,48 @@ use Rattle.line_protocol.proofs.reply_line.long.PlanTextsSerialize.serialize.Goa
 pub returns : goal.returns
 returns g c =
     let written = g.S.Serializer.written in
-    let counted = rw c.as_slice.ensures at c.in_ok-u64-2.ensures in
+    let send_number_2 = rw c.as_slice.ensures at c.in_ok-send_number-2.ensures in
     IfOk-weaker c.end_map.result _ _
     (λ _ ended. (
       written c.begin_map.new.self,
       c.in_ok-begin_map.ensures,
       (
-        written c.key.new.self,
-        written c.u64.new.self,
-        c.in_ok-key.ensures,
-        c.in_ok-u64.ensures,
+        c.in_ok-send_number.ensures.named,
+        written c.send_number.new.out,
+        c.in_ok-send_number.ensures.key_sent,
+        c.in_ok-send_number.ensures.value_sent,
         (
-          written c.key-2.new.self,
-          written c.str.new.self,
-          c.in_ok-key-2.ensures,
-          c.in_ok-str.ensures,
+          c.in_ok-send_text.ensures.named,
+          written c.send_text.new.out,
+          c.in_ok-send_text.ensures.key_sent,
+          c.in_ok-send_text.ensures.value_sent,
           (
-            written c.key-3.new.self,
-            written c.u64-2.new.self,
-            c.in_ok-key-3.ensures,
-            counted,
+            send_number_2.named,
+            written c.send_number-2.new.out,
+            send_number_2.key_sent,
+            send_number_2.value_sent,
             (
-              written c.key-4.new.self,
-              written c.u64-3.new.self,
-              c.in_ok-key-4.ensures,
-              c.in_ok-u64-3.ensures,
+              c.in_ok-send_number-3.ensures.named,
+              written c.send_number-3.new.out,
+              c.in_ok-send_number-3.ensures.key_sent,
+              c.in_ok-send_number-3.ensures.value_sent,
               (
-                written c.key-5.new.self,
+                written c.key.new.self,
                 written c.bool.new.self,
-                c.in_ok-key-5.ensures,
+                c.in_ok-key.ensures,
                 c.in_ok-bool.ensures,
                 (
-                  written c.key-6.new.self,
-                  written c.str-2.new.self,
-                  c.in_ok-key-6.ensures,
-                  c.in_ok-str-2.ensures,
-                  (written c.key-7.new.self, written c.u64-4.new.self, c.in_ok-key-7.ensures, c.in_ok-u64-4.ensures, ended),
+                  c.in_ok-send_text-2.ensures.named,
+                  written c.send_text-2.new.out,
+                  c.in_ok-send_text-2.ensures.key_sent,
+                  c.in_ok-send_text-2.ensures.value_sent,
+                  (
+                    c.in_ok-send_number-4.ensures.named,
+                    written c.send_number-4.new.out,
+                    c.in_ok-send_number-4.ensures.key_sent,
+                    c.in_ok-send_number-4.ensures.value_sent,
+                    ended,
+                  ),
                 ),
               ),
             ),
