@@ -1,4 +1,5 @@
 pub mod Alongs
+pub mod AsciiFronts
 pub mod Bytes
 pub mod Cases
 pub mod Chains

@@ -2,6 +2,7 @@
 ghost use Rattle.std.specs.Prelude.{◌≡◌, ℕ, ◌<◌, ◌≤◌, ◌&&◌, length, MatchOption};
 ghost use Rattle.std.specs.Str.{chars};
 ghost use Rattle.lane_ascii.specs.Marks.{marks, ends_cr};
+ghost use Rattle.lane_utf.specs.Selected.{scalar_place};
 ghost use Rattle.piece_rope.specs.Outcomes.{begins_lf};
 ghost use Rattle.position_map.specs.LineEnds.{ending_of};
 ghost use Rattle.position_map.specs.Marked.{IsMarkCut};
@@ -29,10 +30,22 @@ pub(crate) fn split_at_scalar(text: &str, n: usize) -> Option<(&str, &str)>
     ensures { MatchOption result (length (chars text.now) < n)
         (λ x. IsScalarCut (chars text.now) n (chars x.0.now) (chars x.1.now)) }
 {
-    match nth_scalar(text, n) {
+    match scalar_index(text, n) {
         None => None,
         Some(at) => Some(text.split_at(at)),
     }
+}
+
+// The byte behind the first `n` code points, where there are so many. A line end, which is what is
+// cut off most often, is one or two bytes of ASCII.
+fn scalar_index(text: &str, n: usize) -> Option<usize>
+    ensures { result ≡ scalar_place (chars text.now) n }
+{
+    let bytes = text.as_bytes();
+    if n == 0 || n > 2 || n > bytes.len() || bytes[0] >= 0x80 || bytes[n - 1] >= 0x80 {
+        return nth_scalar(text, n);
+    }
+    Some(n)
 }
 
 // Whether a CR stands last in the first text, where the flag says so of what stands in front, and
