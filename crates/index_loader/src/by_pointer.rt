@@ -32,6 +32,8 @@ impl ByPointer {
     }
 
     /// The code point that stands beside a pointer.
+    // In the loop over the lines of a file.
+    #[inline(always)]
     pub(crate) fn find(&self, pointer: u32) -> Option<Scalar>
         ensures { result ≡ code_point_at (pairs_by_pointer self.now) pointer }
     {

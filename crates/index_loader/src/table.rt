@@ -44,6 +44,8 @@ impl PointerTable {
     }
 
     /// The code point of a pointer.
+    // In the loop over the lines of a file.
+    #[inline(always)]
     pub(crate) fn code_point(&self, pointer: u32) -> Option<Scalar>
         ensures { result ≡ slice_index_or self.now pointer None }
     {
