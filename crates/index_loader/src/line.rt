@@ -14,6 +14,8 @@ use enc_names::Scalar;
 use memchr::memchr;
 
 /// The place of the first of these bytes.
+// In the loop over the lines of a file.
+#[inline(always)]
 fn place_of(text: &[u8], byte: u8) -> Option<usize>
     ensures { result ≡ position (λ b. b == byte) text.now }
 {
