@@ -1,5 +1,5 @@
 -- Pairs in cells, and the others beside them.
-use Rattle.std.proofs.Common.{◌≡◌, ◌≢◌, true, false, cond, ℕ, zero, suc, ◌+◌, ◌-◌, ◌≤◌, ◌<◌, ◌⊎◌, inl, inr, List, [], ◌∷◌, ◌++◌, length, get_or, set, map, filter, nat_le, replicate, Option, Some, None, All, refl, sym, ap, subst, arith, ◌∙◌, ⊎_elim, append_assoc, get_or-set_other, IsPermutation, IfSome}
+use Rattle.std.proofs.Common.{◌≡◌, ◌≢◌, true, false, cond, ℕ, zero, suc, ◌+◌, ◌-◌, ◌≤◌, ◌<◌, ◌⊎◌, inl, inr, List, [], ◌∷◌, ◌++◌, length, get_or, set, map, filter, nat_le, replicate, Option, Some, None, All, refl, sym, ap, subst, arith, ◌∙◌, ⊎_elim, append-nil, append_assoc, get_or-set_other, IsPermutation, IfSome}
 use Rattle.std.proofs.lemmas.Bool.{cases_eq, leb-true}
 use Rattle.std.proofs.lemmas.Grind.{get_or-set_at}
 use Rattle.std.proofs.lemmas.List.Sorted.{All-permutation, IsPermutation-append_comm, IsPermutation-append_left, IsPermutation-append_right, IsPermutation-cons, IsPermutation-middle, IsPermutation-refl, IsPermutation-sym, IsPermutation-trans}
@@ -218,6 +218,20 @@ pub record AreTaken (all rows : Pairs) (cells : List ℕ) (others : Pairs) : Typ
   pub rising : IsRising rows
   pub below : (row other : ℕ × ℕ) → Has row rows → Has other (pairs_held cells others) → row.0 < other.0
   pub first : AreFirst cells others
+
+-- before any is taken
+pub taken-none : (all : Pairs) (cells : List ℕ) → IsRising all → pairs_in_cells 0 cells ≡ [] → AreTaken all all cells []
+taken-none all cells up none = record {
+  moved = rw (none, append-nil) (IsPermutation-refl all);
+  rising = up;
+  below = λ row other h there. absurd (rw none at there);
+  first = all-from (λ (y : ℕ × ℕ). (p : ℕ) → first_in cells y.1 ≡ Some p → p ≤ y.0) [] (λ other h. absurd h);
+}
+
+-- where no cell has a pointer, each of the others is first
+pub first-none : (cells : List ℕ) (others : Pairs) → pairs_in_cells 0 cells ≡ [] → AreFirst cells others
+first-none cells others none =
+    all-from (λ (y : ℕ × ℕ). (p : ℕ) → first_in cells y.1 ≡ Some p → p ≤ y.0) others (λ other h p is. absurd (rw none at (first-in_cells cells other.1 p is)))
 
 pub taken-more : (all rows before : Pairs) (last : ℕ × ℕ) (cells : List ℕ) (others : Pairs) (after : List ℕ) (others_after : Pairs) → before ≡ rows ++ last ∷ [] → AreTaken all before cells others → IsTaken last cells others after others_after → AreTaken all rows after others_after
 taken-more all rows before last cells others after others_after is taken step =

@@ -1,18 +1,19 @@
 -- The lines of a file, one after another.
-use Rattle.std.proofs.Common.{◌≡◌, ℕ, ◌<◌, ◌&&◌, not, true, false, List, [], length, get_or, set, Option, Some, None, is_some, Ok, Err, refl, ap, ◌∙◌, arith}
+use Rattle.std.proofs.Common.{◌≡◌, ℕ, ◌<◌, ◌&&◌, not, true, false, List, [], length, get_or, set, Option, Some, None, Ok, Err, refl, ap, ◌∙◌, arith}
 use Rattle.std.proofs.lemmas.Bool.Decides.{nat_tests}
 use Rattle.index_loader.proofs.Places.{code_point-in_table, inserted-in_table}
-use Rattle.index_loader.proofs.Prelude.{BadRanges, DuplicatePointer, IndexKind, has_needed_rows, if_complete, pairs_beside, pairs_from, pairs_parsed, allows, lines_of, is_ranges, Pairs, pairs_in, table_len}
+use Rattle.index_loader.proofs.Prelude.{BadRanges, IndexKind, has_needed_rows, if_complete, pairs_from, pairs_parsed, allows, code_point_at, inserted, lines_of, is_ranges, Pairs, pairs_in, table_len}
+use Rattle.index_loader.specs.declared.by_pointer.ByPointer.{ByPointer}
+use Rattle.index_loader.specs.declared.by_pointer.ByPointer.TheVariants.{Table}
+use Rattle.index_loader.specs.Inside.{limit_of, pairs_by_pointer}
 
--- a pair whose pointer stands above
-pub pair-duplicate : (number : ℕ) (places : List (Option ℕ)) (pair : ℕ × ℕ) → is_some (get_or places pair.0 None) ≡ true → pairs_beside number (pairs_in places) pair ≡ Err (record { line = number; cause = DuplicatePointer })
-pair-duplicate number places pair there = rw (code_point-in_table places pair.0, there) refl
-
--- a pair with a new pointer
-pub pair-inserted : (number : ℕ) (places : List (Option ℕ)) (pointer code_point : ℕ) → pointer < length places → is_some (get_or places pointer None) ≡ false → pairs_beside number (pairs_in places) (pointer, code_point) ≡ Ok (pairs_in (set places pointer (Some code_point)))
-pair-inserted number places pointer code_point lt empty =
-    let none : get_or places pointer None ≡ None = grind arith in
-    rw (code_point-in_table places pointer, empty, inserted-in_table places pointer code_point lt none) refl
+-- a pair put into a table that has none of its pointer
+pub put-in_table : (by_pointer : ByPointer) (places : List (Option ℕ)) (pointer code_point : ℕ) → by_pointer ≡ Table places → pointer < limit_of by_pointer → code_point_at (pairs_by_pointer by_pointer) pointer ≡ None
+    → pairs_in (set places pointer (Some code_point)) ≡ inserted (pointer, code_point) (pairs_by_pointer by_pointer)
+put-in_table by_pointer places pointer code_point is room new =
+    let none : get_or places pointer None ≡ None = rw (is, code_point-in_table places pointer) at new in
+    let within : pointer < length places = rw is at room in
+    rw is (inserted-in_table places pointer code_point within none)
 
 -- an allowed pointer has a place in the table
 pub allowed-place : (kind : IndexKind) (pointer code_point : ℕ) → allows kind pointer code_point ≡ true → pointer < table_len kind

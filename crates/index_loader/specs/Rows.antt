@@ -7,6 +7,10 @@ abbrev pub IsRising : Pairs → Type 0
 IsRising [] = ⊤
 IsRising (row ∷ rows) = All (λ other. row.0 < other.0) rows × IsRising rows
 
+-- rows in that order, none of which has a pointer above all that files may have
+abbrev pub AreRows : Pairs → Type 0
+AreRows rows = IsRising rows × All (λ row. row.0 ≤ 189000) rows
+
 -- the last of the rows up to a pointer
 pub record LastRowUpTo (rows : Pairs) (bound : ℕ) (row : ℕ × ℕ) : Type 0 where
   pub there : Contains rows row

@@ -7,7 +7,7 @@ ghost use Rattle.index_loader.specs.Split.{parts_behind};
 use crate::fault::ExceptionCause;
 use crate::field::{number_in, scalar_in, stripped};
 use crate::line::{is_skipped, split_at_byte, without_cr};
-use crate::plain::plain_number;
+use crate::plain::{behind_0x, plain_number};
 use enc_names::Scalar;
 
 /// The two bytes of a number, where gb18030 has such. It stands for every number that counts as it
@@ -49,7 +49,7 @@ fn plain_bytes(text: &[u8]) -> Option<[u8; 2]>
 fn plain_exception(text: &[u8]) -> Option<(Scalar, [u8; 2])>
     ensures { IfSome result (λ exception. exception_in (fields_of text.now) ≡ Ok (Some exception)) }
 {
-    let digits = text.strip_prefix(b"0x")?;
+    let digits = behind_0x(text)?;
     let (number, behind) = plain_number(16, digits)?;
     let bytes = plain_bytes(behind?)?;
     Some((Scalar::new(number)?, bytes))

@@ -24,13 +24,11 @@ impl Model for FirstPointers {
 }
 
 impl FirstPointers {
-    /// A table with a cell for each code point of these pairs, which stand in the order of their
-    /// pointers. It has no cells where the last of these has no place in one: the ranges of gb18030
-    /// are asked for code points between those of their rows, which cells don't find.
-    pub(crate) fn new(alloc: Global, pairs: &[(u32, Scalar)]) -> Result<FirstPointers, AllocError>
+    /// A table of so many cells, none of which holds a pointer.
+    pub(crate) fn new(alloc: Global, len: usize) -> Result<FirstPointers, AllocError>
         ensures { IfOk result (λ firsts. pairs_in_cells 0 firsts ≡ []) }
     {
-        let cells = vec![in alloc; 0; len_for(pairs)]?;
+        let cells = vec![in alloc; 0; len]?;
         Ok(FirstPointers { cells })
     }
 
@@ -96,21 +94,4 @@ fn held_in(cell: u16) -> Option<u32>
     } else {
         None
     }
-}
-
-/// How many cells there are: up to the greatest code point.
-fn len_for(pairs: &[(u32, Scalar)]) -> usize {
-    match pairs.last() {
-        Some((pointer, _)) if *pointer < 0xFFFF => greatest(pairs) as usize + 1,
-        _ => 0,
-    }
-}
-
-/// The greatest code point of these pairs.
-fn greatest(pairs: &[(u32, Scalar)]) -> u32 {
-    let mut greatest = 0;
-    for (_, code_point) in pairs {
-        greatest = code_point.get().max(greatest);
-    }
-    greatest
 }

@@ -1,7 +1,7 @@
 //! UTF-8 forms of code points, made before they are written.
-ghost use Rattle.std.specs.Prelude.{◌≡◌, ◌+◌, ◌≤◌, IfNone, IfSome, None, Some, drop, length};
+ghost use Rattle.std.specs.Prelude.{◌≡◌, ◌+◌, ◌≤◌, IfNone, IfSome, None, Some, drop, length, slice_index_or};
 ghost use Rattle.std.specs.Char.{IsScalar};
-ghost use Rattle.index_loader.specs.Form.{AreFronts, IsFormPut, form_number, is_wide};
+ghost use Rattle.index_loader.specs.Form.{AreFronts, IsFormPut, code_point_in, form_number, is_wide};
 
 use enc_names::Scalar;
 use std::marker::Model;
@@ -55,6 +55,13 @@ impl Utf8Form {
             Some(code_point) => Utf8Form::new(code_point),
             None => Utf8Form::none(),
         }
+    }
+
+    /// The code point of the form.
+    pub(crate) fn code_point(self) -> Option<Scalar>
+        ensures { result ≡ self }
+    {
+        Scalar::new(code_point_in(self.number)?)
     }
 
     /// Whether there is a form, and it has more than one byte.
@@ -122,5 +129,39 @@ fn form_number(c: u32) -> u32
             + 0x1_0000 * (0x80 + c / 0x40 % 0x40)
             + 0x100 * (0x80 + c / 0x1000 % 0x40)
             + (0xF0 + c / 0x4_0000)
+    }
+}
+
+/// The code point of a number.
+fn code_point_in(n: u32) -> Option<u32>
+    ensures { result ≡ code_point_in n }
+{
+    if n < 0x100_0000 {
+        None
+    } else if n < 0x200_0000 {
+        Some(n % 0x80)
+    } else if n < 0x300_0000 {
+        Some(n % 0x40 * 0x40 + n / 0x100 % 0x40)
+    } else if n < 0x400_0000 {
+        Some(n % 0x10 * 0x1000 + n / 0x100 % 0x40 * 0x40 + n / 0x1_0000 % 0x40)
+    } else {
+        Some(
+            n % 0x10 * 0x4_0000
+                + n / 0x100 % 0x40 * 0x1000
+                + n / 0x1_0000 % 0x40 * 0x40
+                + n / 0x100_0000 % 0x40,
+        )
+    }
+}
+
+/// The form at a pointer.
+// In the loop over the bytes of a text.
+#[inline(always)]
+pub(crate) fn form_at(forms: &[Utf8Form], pointer: u32) -> Utf8Form
+    ensures { result ≡ slice_index_or forms.now pointer None }
+{
+    match forms.get(pointer as usize) {
+        Some(form) => *form,
+        None => Utf8Form::none(),
     }
 }

@@ -2,7 +2,7 @@
 ghost use Rattle.std.specs.Prelude.{◌≡◌, ℕ, ◌<◌, IfSome, None, Some, slice_index_or};
 ghost use Rattle.index_loader.specs.Index.{code_point_of, table_code_point_of};
 
-use crate::form::Utf8Form;
+use crate::form::{Utf8Form, form_at};
 use crate::index::Index;
 use enc_names::Scalar;
 use std::marker::Model;
@@ -59,17 +59,5 @@ impl<'i> FormedIndex<'i> {
     {
         let front = self.forms.first_chunk::<128>()?;
         Some(front)
-    }
-}
-
-/// The form at a pointer.
-// In the loop over the bytes of a text.
-#[inline(always)]
-fn form_at(forms: &[Utf8Form], pointer: u32) -> Utf8Form
-    ensures { result ≡ slice_index_or forms.now pointer None }
-{
-    match forms.get(pointer as usize) {
-        Some(form) => *form,
-        None => Utf8Form::none(),
     }
 }

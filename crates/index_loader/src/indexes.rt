@@ -1,5 +1,6 @@
 //! The loaded index files.
 ghost use Rattle.std.specs.Prelude.{◌≡◌, IfSome, MatchOption, None, Some, is_some};
+ghost use Rattle.enc_names.specs.declared.encoding.Encoding.TheVariants.{EucJp, Gb18030, Iso2022Jp};
 ghost use Rattle.index_loader.specs.Exceptions.{exception_of};
 ghost use Rattle.index_loader.specs.Families.{family_map};
 ghost use Rattle.index_loader.specs.Files.{has_files, index_of, indexes_of, no_files, with_exceptions, with_index};
@@ -90,19 +91,10 @@ impl Indexes {
     {
         Some(match encoding {
             Encoding::Utf8 => Family::Utf8,
-            Encoding::Gb18030 | Encoding::Gbk => Family::Gb18030 {
-                index: self.get(IndexKind::Gb18030)?,
-                ranges: self.get(IndexKind::Gb18030Ranges)?,
-            },
+            Encoding::Gb18030 | Encoding::Gbk => return self.of_gb18030(),
             Encoding::Big5 => Family::Big5(self.get(IndexKind::Big5)?),
-            Encoding::EucJp => Family::EucJp {
-                jis0208: self.get(IndexKind::Jis0208)?,
-                jis0212: self.get(IndexKind::Jis0212)?,
-            },
-            Encoding::Iso2022Jp => Family::Iso2022Jp {
-                jis0208: self.get(IndexKind::Jis0208)?,
-                katakana: self.get(IndexKind::Katakana)?,
-            },
+            Encoding::EucJp => return self.of_euc_jp(),
+            Encoding::Iso2022Jp => return self.of_iso2022_jp(),
             Encoding::ShiftJis => Family::ShiftJis(self.get(IndexKind::Jis0208)?),
             Encoding::EucKr => Family::EucKr(self.get(IndexKind::EucKr)?),
             Encoding::Replacement => Family::Replacement,
@@ -110,6 +102,42 @@ impl Indexes {
             Encoding::Utf16Le => Family::Utf16Le,
             Encoding::XUserDefined => Family::XUserDefined,
             _ => Family::SingleByte(self.get(IndexKind::SingleByte(encoding))?),
+        })
+    }
+
+    /// What gb18030 and GBK need.
+    #[tactic(auto, unfolding(crate::specs::Files::has_files))]
+    fn of_gb18030(&self) -> Option<Family<&Index>>
+        ensures there { is_some result ≡ has_files self.now Gb18030 }
+        ensures lent { IfSome result (λ family. family_map (λ index. Some index.now) family ≡ indexes_of self.now Gb18030) }
+    {
+        Some(Family::Gb18030 {
+            index: self.get(IndexKind::Gb18030)?,
+            ranges: self.get(IndexKind::Gb18030Ranges)?,
+        })
+    }
+
+    /// What EUC-JP needs.
+    #[tactic(auto, unfolding(crate::specs::Files::has_files))]
+    fn of_euc_jp(&self) -> Option<Family<&Index>>
+        ensures there { is_some result ≡ has_files self.now EucJp }
+        ensures lent { IfSome result (λ family. family_map (λ index. Some index.now) family ≡ indexes_of self.now EucJp) }
+    {
+        Some(Family::EucJp {
+            jis0208: self.get(IndexKind::Jis0208)?,
+            jis0212: self.get(IndexKind::Jis0212)?,
+        })
+    }
+
+    /// What ISO-2022-JP needs.
+    #[tactic(auto, unfolding(crate::specs::Files::has_files))]
+    fn of_iso2022_jp(&self) -> Option<Family<&Index>>
+        ensures there { is_some result ≡ has_files self.now Iso2022Jp }
+        ensures lent { IfSome result (λ family. family_map (λ index. Some index.now) family ≡ indexes_of self.now Iso2022Jp) }
+    {
+        Some(Family::Iso2022Jp {
+            jis0208: self.get(IndexKind::Jis0208)?,
+            katakana: self.get(IndexKind::Katakana)?,
         })
     }
 

@@ -3,6 +3,7 @@
 #![tactic(auto)]
 
 mod by_code_point;
+mod by_pointer;
 mod exception_line;
 mod exceptions;
 mod family;
@@ -11,7 +12,6 @@ mod field;
 mod files;
 mod first_pointers;
 mod form;
-mod form_table;
 mod formed_index;
 mod index;
 mod indexes;

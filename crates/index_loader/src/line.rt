@@ -14,6 +14,8 @@ use enc_names::Scalar;
 use memchr::memchr;
 
 /// The place of the first of these bytes.
+// In the loop over the lines of a file.
+#[inline(always)]
 fn place_of(text: &[u8], byte: u8) -> Option<usize>
     ensures { result ≡ position (λ b. b == byte) text.now }
 {
@@ -21,6 +23,8 @@ fn place_of(text: &[u8], byte: u8) -> Option<usize>
 }
 
 /// What stands before the first of these bytes, and what behind it, if it is there.
+// In the loop over the lines of a file.
+#[inline(always)]
 pub(crate) fn split_at_byte(text: &[u8], byte: u8) -> (&[u8], Option<&[u8]>)
     ensures parts { slice_split (λ b. b == byte) text.now ≡ result.0.now ∷ parts_behind byte (option_copied result.1) }
     ensures shorter { IfSome result.1 (λ rest. length rest.now < length text.now) }

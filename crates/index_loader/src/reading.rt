@@ -1,69 +1,59 @@
 //! The reading of an index file.
-ghost use Rattle.std.specs.Prelude.{◌≡◌, ◌<◌, ◌&&◌, false, not, [], Ok, Err, IfErr, IfOk, None, OnOk, length, slice_index_or};
+ghost use Rattle.std.specs.Prelude.{◌≡◌, ◌<◌, ◌&&◌, false, not, [], Ok, IfErr, IfOk, OnOk};
 ghost use Rattle.index_loader.specs.File.{has_needed_rows, is_number, is_out_of_memory, pairs_beside, pairs_from, with_line};
 ghost use Rattle.index_loader.specs.Index.{is_ranges};
+ghost use Rattle.index_loader.specs.Inside.{keeps_rows, limit_of, pairs_by_pointer};
 ghost use Rattle.index_loader.specs.Lines.{lines_of};
 ghost use Rattle.index_loader.specs.Numbered.{FaultIs};
-ghost use Rattle.index_loader.specs.Table.{pairs_in, table_len};
+ghost use Rattle.index_loader.specs.Pairs.{code_point_at};
+ghost use Rattle.index_loader.specs.Table.{table_len};
 
+use crate::by_pointer::ByPointer;
 use crate::fault::{IndexCause, IndexFault};
 use crate::kind::IndexKind;
 use crate::line::{pair_on, split_at_byte};
-use crate::table::PointerTable;
 use enc_names::Scalar;
 use std::alloc::Global;
 
-/// How many places a table for files of this kind has.
-fn table_len(kind: IndexKind) -> usize
-    ensures { result ≡ table_len kind }
-{
-    if kind.is_ranges() {
-        189_001
-    } else {
-        kind.greatest_pointer() as usize + 1
-    }
-}
-
-/// Puts a pair of the line with this number into the table.
+/// Puts a pair of the line with this number beside those above.
 fn put_pair(
-    table: &mut PointerTable,
+    pairs: &mut ByPointer,
     number: u64,
     pointer: u32,
     code_point: Scalar,
 ) -> Result<(), IndexFault>
-    requires { pointer < length table.old }
-    ensures len { length table.new ≡ length table.old }
-    ensures ok { OnOk result (pairs_beside number (pairs_in table.old) (pointer, code_point) ≡ Ok (pairs_in table.new)) }
-    ensures err { IfErr result (λ fault. pairs_beside number (pairs_in table.old) (pointer, code_point) ≡ Err fault) }
-    ensures cause { IfErr result (λ fault. is_out_of_memory fault.cause ≡ false) }
+    requires { pointer < limit_of pairs.old }
+    ensures limit { OnOk result (limit_of pairs.new ≡ limit_of pairs.old) }
+    ensures rows { OnOk result (keeps_rows pairs.new ≡ keeps_rows pairs.old) }
+    ensures ok { OnOk result (pairs_beside number (pairs_by_pointer pairs.old) (pointer, code_point) ≡ Ok (pairs_by_pointer pairs.new)) }
+    ensures err { IfErr result (λ fault. FaultIs (is_out_of_memory fault.cause) fault.line fault (pairs_beside number (pairs_by_pointer pairs.old) (pointer, code_point))) }
 {
-    if table.code_point(pointer).is_some() {
+    if pairs.find(pointer).is_some() {
         let cause = IndexCause::DuplicatePointer;
         return Err(IndexFault {
             line: number,
             cause,
         });
     }
-    table.set(pointer, code_point);
-    Ok(())
+    Ok(pairs.put(pointer, code_point)?)
 }
 
-/// Puts the pair that a line holds, if it holds one, into the table.
+/// Puts the pair that a line holds, if it holds one, beside those above.
 fn put_line(
-    table: &mut PointerTable,
+    pairs: &mut ByPointer,
     kind: IndexKind,
     number: u64,
     line: &[u8],
 ) -> Result<(), IndexFault>
-    requires { length table.old ≡ table_len kind }
-    ensures len { length table.new ≡ length table.old }
-    ensures ok { OnOk result (with_line kind number (pairs_in table.old) line.now ≡ Ok (pairs_in table.new)) }
-    ensures err { IfErr result (λ fault. with_line kind number (pairs_in table.old) line.now ≡ Err fault) }
-    ensures cause { IfErr result (λ fault. is_out_of_memory fault.cause ≡ false) }
+    requires { limit_of pairs.old ≡ table_len kind }
+    ensures limit { OnOk result (limit_of pairs.new ≡ limit_of pairs.old) }
+    ensures rows { OnOk result (keeps_rows pairs.new ≡ keeps_rows pairs.old) }
+    ensures ok { OnOk result (with_line kind number (pairs_by_pointer pairs.old) line.now ≡ Ok (pairs_by_pointer pairs.new)) }
+    ensures err { IfErr result (λ fault. FaultIs (is_out_of_memory fault.cause) fault.line fault (with_line kind number (pairs_by_pointer pairs.old) line.now)) }
 {
     match pair_on(kind, line) {
         Ok(None) => Ok(()),
-        Ok(Some((pointer, code_point))) => put_pair(table, number, pointer, code_point),
+        Ok(Some((pointer, code_point))) => put_pair(pairs, number, pointer, code_point),
         Err(cause) => Err(IndexFault {
             line: number,
             cause,
@@ -71,33 +61,34 @@ fn put_line(
     }
 }
 
-/// The table of what the lines of a file hold.
-pub(crate) fn read_table(
+/// The pairs that the lines of a file hold.
+pub(crate) fn read_pairs(
     alloc: Global,
     kind: IndexKind,
     bytes: &[u8],
-) -> Result<PointerTable, IndexFault>
-    ensures len { IfOk result (λ table. length table ≡ table_len kind) }
-    ensures ok { IfOk result (λ table. pairs_from kind (Ok []) 1 (lines_of bytes.now) ≡ Ok (pairs_in table)) }
+) -> Result<ByPointer, IndexFault>
+    ensures limit { IfOk result (λ pairs. limit_of pairs ≡ table_len kind) }
+    ensures rows { IfOk result (λ pairs. keeps_rows pairs ≡ is_ranges kind) }
+    ensures ok { IfOk result (λ pairs. pairs_from kind (Ok []) 1 (lines_of bytes.now) ≡ Ok (pairs_by_pointer pairs)) }
     ensures fault { IfErr result (λ fault. FaultIs (is_out_of_memory fault.cause) fault.line fault (pairs_from kind (Ok []) 1 (lines_of bytes.now))) }
 {
-    let mut table = PointerTable::new(alloc, table_len(kind))?;
+    let mut pairs = ByPointer::new(alloc, kind)?;
     let mut rest = Some(bytes);
     let mut number = 0;
     while let Some(text) = rest {
         let (line, below) = split_at_byte(text, b'\n');
         number += 1;
-        put_line(&mut table, kind, number, line)?;
+        put_line(&mut pairs, kind, number, line)?;
         rest = below;
     }
-    Ok(table)
+    Ok(pairs)
 }
 
-/// Whether the table has this code point at this pointer.
-fn has_pair(table: &PointerTable, pointer: u32, code_point: u32) -> bool
-    ensures { result ≡ is_number (slice_index_or table.now pointer None) code_point }
+/// Whether this code point stands beside this pointer.
+fn has_pair(pairs: &ByPointer, pointer: u32, code_point: u32) -> bool
+    ensures { result ≡ is_number (code_point_at (pairs_by_pointer pairs.now) pointer) code_point }
 {
-    match table.code_point(pointer) {
+    match pairs.find(pointer) {
         Some(found) => found.get() == code_point,
         None => false,
     }
@@ -105,15 +96,15 @@ fn has_pair(table: &PointerTable, pointer: u32, code_point: u32) -> bool
 
 /// Whether the rows that the ranges need stand there: the first behind ASCII and the first of the
 /// planes above.
-fn has_needed_rows(table: &PointerTable) -> bool
-    ensures { result ≡ has_needed_rows (pairs_in table.now) }
+fn has_needed_rows(pairs: &ByPointer) -> bool
+    ensures { result ≡ has_needed_rows (pairs_by_pointer pairs.now) }
 {
-    has_pair(table, 0, 0x80) && has_pair(table, 189_000, 0x10000)
+    has_pair(pairs, 0, 0x80) && has_pair(pairs, 189_000, 0x10000)
 }
 
 /// Whether a file of this kind lacks rows that it needs.
-pub(crate) fn lacks_rows(kind: IndexKind, table: &PointerTable) -> bool
-    ensures { result ≡ (is_ranges kind && not (has_needed_rows (pairs_in table.now))) }
+pub(crate) fn lacks_rows(kind: IndexKind, pairs: &ByPointer) -> bool
+    ensures { result ≡ (is_ranges kind && not (has_needed_rows (pairs_by_pointer pairs.now))) }
 {
-    kind.is_ranges() && !has_needed_rows(table)
+    kind.is_ranges() && !has_needed_rows(pairs)
 }

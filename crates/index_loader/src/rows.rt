@@ -1,10 +1,12 @@
 //! The ranges of gb18030.
-ghost use Rattle.std.specs.Prelude.{◌≡◌, ◌≤◌, true, false, length, nat_le, option_and_then};
+ghost use Rattle.std.specs.Prelude.{◌≡◌, ◌≤◌, true, false, [], length, nat_le, option_and_then, All, IfOk, None, OnOk};
 ghost use Rattle.std.specs.List.Sorted.{IsPartitionPoint};
+ghost use Rattle.index_loader.specs.Pairs.{code_point_at, inserted};
 ghost use Rattle.index_loader.specs.Ranges.{code_point_in_row, is_in_gap, range_code_point, row_pointer};
 ghost use Rattle.index_loader.specs.Rows.{IsLastRowUpTo, IsRising};
 
 use enc_names::Scalar;
+use std::alloc::{AllocError, Global};
 use std::marker::Model;
 
 /// The rows of the ranges, in the order of their pointers. Contracts see the list of the rows.
@@ -15,13 +17,13 @@ pub(crate) struct Rows {
 
 impl Model for Rows {
     ghost use Rattle.index_loader.specs.Pairs.{Pairs};
-    ghost use Rattle.index_loader.specs.Rows.{IsRising};
+    ghost use Rattle.index_loader.specs.Rows.{AreRows};
 
     ghost Value = { Pairs };
 
     ghost view = { λ s. s.rows.items };
 
-    ghost invariant = { λ s. IsRising s.rows.items };
+    ghost invariant = { λ s. AreRows s.rows.items };
 }
 
 /// Whether no code point has this pointer because it lies between those of the Basic Multilingual
@@ -42,12 +44,40 @@ fn count_up_to(rows: &[(u32, Scalar)], pointer: u32) -> usize
 }
 
 impl Rows {
-    /// The rows, which stand in order.
-    pub(crate) fn new(rows: Vec<(u32, Scalar)>) -> Rows
-        requires { IsRising rows.items }
-        ensures { result ≡ rows.items }
+    /// No row.
+    pub(crate) fn new(alloc: Global) -> Rows
+        ensures { result ≡ [] }
     {
-        Rows { rows }
+        Rows {
+            rows: Vec::new(alloc),
+        }
+    }
+
+    /// Puts a row at its place. No other row has its pointer.
+    pub(crate) fn put(&mut self, pointer: u32, code_point: Scalar) -> Result<(), AllocError>
+        requires small { pointer ≤ 189000 }
+        requires other { code_point_at self.old pointer ≡ None }
+        ensures { OnOk result (self.new ≡ inserted (pointer, code_point) self.old) }
+    {
+        let at = count_up_to(&self.rows, pointer);
+        self.rows.insert(at, (pointer, code_point))?;
+        Ok(())
+    }
+
+    /// The code point of the row of this pointer, if there is such a row.
+    pub(crate) fn find(&self, pointer: u32) -> Option<Scalar>
+        ensures { result ≡ code_point_at self.now pointer }
+    {
+        let (start, first) = self.at_or_below(pointer)?;
+        if start == pointer { Some(first) } else { None }
+    }
+
+    /// The rows, copied.
+    pub(crate) fn pairs(&self, alloc: Global) -> Result<Vec<(u32, Scalar)>, AllocError>
+        ensures pairs { IfOk result (λ pairs. pairs.items ≡ self.now) }
+        ensures small { All (λ row. row.0 ≤ 189000) self.now }
+    {
+        Vec::from_slice(alloc, &self.rows)
     }
 
     /// The code point of a pointer (Encoding Standard, "index gb18030 ranges code point").
