@@ -87,38 +87,39 @@ forms_same {p} {forms} {w} class (suc n) (u ∷ us) h fits =
 drop_fits : (at : ℕ) (units : List ℕ) → ((i : ℕ) → Fits w16 (get_or units i 0)) → (i : ℕ) → Fits w16 (get_or (drop at units) i 0)
 drop_fits at units fits i = rw (get_or-drop at units i 0) (fits (at + i))
 
--- what is stored for the widest run has room among what is to be written
-pub run_room : (units : List ℕ) (from : Reached) (room : ℕ) → ((i : ℕ) → Fits w16 (get_or units i 0)) → from.read + 24 ≤ length units
-    → first_lone (drop from.read units) ≡ None → HasRoom units from room → from.written + 24 ≤ room
-run_room units from room fits left paired h =
+-- as many bytes as units have room among what is to be written
+pub run_room : (units : List ℕ) (from : Reached) (n room : ℕ) → ((i : ℕ) → Fits w16 (get_or units i 0)) → from.read + n ≤ length units
+    → first_lone (drop from.read units) ≡ None → HasRoom units from room → from.written + n ≤ room
+run_room units from n room fits left paired h =
     let us = drop from.read units in
     omega (arith, left, length-drop from.read units, units-least us, paired-bytes us (drop_fits from.read units fits) paired, h)
 
-pub run_up_to : {p : ℕ → Bool} {forms : List ℕ → List ℕ} {w : ℕ} → IsClass p forms w
+-- n units, of which the first k are of the class, and so many that all that is stored is among what is to be written
+pub run_up_to : {p : ℕ → Bool} {forms : List ℕ → List ℕ} {w : ℕ} → IsClass p forms w → (n : ℕ)
     → {units out old : List ℕ} {from : Reached} (new : List ℕ) (k m : ℕ)
-    → ((i : ℕ) → Fits w16 (get_or units i 0)) → from.read + 24 ≤ length units → HasRoom units from (length out)
-    → k ≡ prefix_len p (take 8 (drop from.read units)) → m ≡ w * k → new ≡ put_chunk from.written out (forms (take 8 (drop from.read units)))
+    → ((i : ℕ) → Fits w16 (get_or units i 0)) → from.read + n ≤ length units → from.read + w * n ≤ length units → HasRoom units from (length out)
+    → k ≡ prefix_len p (take n (drop from.read units)) → m ≡ w * k → new ≡ put_chunk from.written out (forms (take n (drop from.read units)))
     → IsUpTo units out old from → IsUpTo units new old (record { read = from.read + k; written = from.written + m })
-run_up_to {p} {forms} {w} class {units} {out} {old} {from} new k m fits left room count bytes is u =
+run_up_to {p} {forms} {w} class n {units} {out} {old} {from} new k m fits some left room count bytes is u =
     let us = drop from.read units in
-    let v = take 8 us in
+    let v = take n us in
     let us_fits = drop_fits from.read units fits in
-    let long : length v ≡ 8 = length-chunk from.read 8 units (omega (arith, left)) in
-    let few : k ≤ 8 = omega (arith, count, prefix_len-le-length p v, long) in
+    let long : length v ≡ n = length-chunk from.read n units some in
+    let few : k ≤ n = omega (arith, count, prefix_len-le-length p v, long) in
     let run : k ≤ prefix_len p v = omega (arith, count) in
-    let split = run_split p class.single k 8 us run us_fits u.paired in
+    let split = run_split p class.single k n us run us_fits u.paired in
     let behind = drop-drop k from.read units in
-    let wide : length (forms v) ≡ w * 8 = forms_long class v ∙ ap (λ n. w * n) long in
+    let wide : length (forms v) ≡ w * n = forms_long class v ∙ ap (λ j. w * j) long in
     let stored : take m (forms v) ≡ encodes (take k us) =
-    ap (λ n. take n (forms v)) bytes ∙ forms_same class k v run (chunk-fits w16 from.read 8 units fits) ∙ ap encodes (take-take k 8 us few) in
+    ap (λ j. take j (forms v)) bytes ∙ forms_same class k v run (chunk-fits w16 from.read n units fits) ∙ ap encodes (take-take k n us few) in
     let tail : utf8_of us ≡ take m (forms v) ++ utf8_of (drop (from.read + k) units) =
     ap encodes split.1 ∙ encodes-append (take k us) (code_points (drop k us)) ∙ ap₂ (λ x y. x ++ utf8_of y) (sym stored) behind in
     record {
-      within = omega (arith, left, few);
+      within = omega (arith, some, few);
       paired = ap first_lone (sym behind) ∙ split.0;
       writing = front_goes_on (forms v) _ new m _ u.writing (omega (arith, room, u.writing.count)) tail
           (omega (arith, wide, bytes, mul-le-mul_left w few))
-          (omega (arith, wide, class.few, left, length-drop from.read units, units-least us, paired-bytes us us_fits u.paired)) refl is;
+          (omega (arith, wide, left, length-drop from.read units, units-least us, paired-bytes us us_fits u.paired)) refl is;
     }
 
 -- ---- the three classes

@@ -8,7 +8,9 @@ use Rattle.std.proofs.lemmas.List.Sums.{prefix_len-le-length}
 use lib.Count.{count_trailing_zeros, under}
 use Rattle.std.specs.List.{prefix_len}
 use Rattle.std.specs.Simd.Lanes.{Each1, put_chunk}
-use Rattle.lane_utf.specs.UnitRuns.{trail_byte, one_forms, two_forms, three_forms}
+use Rattle.lane_utf.specs.Weights.{has_two}
+use Rattle.std.proofs.lemmas.Bool.Decides.{nat_tests}
+use Rattle.lane_utf.specs.UnitRuns.{is_one, trail_byte, one_forms, two_forms, three_forms}
 use Rattle.lane_utf.proofs.Putting.{put_append}
 use lib.Lanes.{mask_l, zip2}
 
@@ -42,6 +44,13 @@ front_run p v {r = r} long is set =
     let run : r ≡ prefix_len p v = set (map p v) (omega (arith, length-map v p)) is ∙ front_set p v in
     (run, omega (arith, prefix_len-le-length p v))
 
+-- units of which none has a second byte are ASCII
+pub none_has_two : (v : List ℕ) → mask_l (map has_two v) ≡ 0 → length v ≡ prefix_len is_one v
+none_has_two [] e = refl
+none_has_two (u ∷ us) e =
+    let rest = none_has_two us (omega (arith, e)) in
+    grind (arith, nat_tests, e, rest)
+
 -- ---- a byte of each unit's form, lane by lane
 
 abbrev wrapped_sum : ℕ → ℕ → ℕ
@@ -50,10 +59,10 @@ wrapped_sum a b = (a + b) % 65536
 abbrev down : ℕ → ℕ → ℕ
 down a b = a / 2 ^ b
 
-pub parts : (v : List ℕ) (shift mask mark : ℕ) → length v ≡ 8
-    → zip2 wrapped_sum (zip2 bit_and (zip2 down v (replicate 8 shift)) (replicate 8 mask)) (replicate 8 mark) ≡ map (λ u. (bit_and (u / 2 ^ shift) mask + mark) % 65536) v
-parts v shift mask mark long =
-    zip2_of_maps wrapped_sum _ _ v (zip2_of_maps bit_and _ _ v (zip2_splat down v 8 shift long) (splat_is_map v 8 mask long)) (splat_is_map v 8 mark long)
+pub parts : (n : ℕ) (v : List ℕ) (shift mask mark : ℕ) → length v ≡ n
+    → zip2 wrapped_sum (zip2 bit_and (zip2 down v (replicate n shift)) (replicate n mask)) (replicate n mark) ≡ map (λ u. (bit_and (u / 2 ^ shift) mask + mark) % 65536) v
+parts n v shift mask mark long =
+    zip2_of_maps wrapped_sum _ _ v (zip2_of_maps bit_and _ _ v (zip2_splat down v n shift long) (splat_is_map v n mask long)) (splat_is_map v n mark long)
 
 part : (x mask mark : ℕ) → mark + mask < 256 → (bit_and x mask + mark) % 65536 ≡ mark + bit_and x mask
 part x mask mark h = omega (arith, h, and_le_r x mask)

@@ -1,17 +1,21 @@
 //! From UTF-16 to UTF-8.
-ghost use Rattle.std.specs.Prelude.{◌≡◌, ◌+◌, ◌<◌, ◌≤◌, ℕ, List, true, length, drop, is_ok, OnOk, None, if◌then◌else◌};
+ghost use Rattle.std.specs.Prelude.{◌≡◌, ◌+◌, ◌<◌, ◌≤◌, ℕ, List, true, length, take, drop, is_ok, OnOk, None, if◌then◌else◌};
 ghost use Rattle.std.specs.Char.{encode_utf8, IsScalar};
 ghost use Rattle.std.specs.Simd.Lanes.{put_chunk};
 ghost use Rattle.std.specs.Str.{encode_utf8_all, all_scalars};
 ghost use Rattle.lane_utf.specs.Conversions.{over_front, utf8_answer};
 ghost use Rattle.lane_utf.specs.Front.{IsUtf16Front};
 ghost use Rattle.lane_utf.specs.Progress.{HasRoom, IsUpTo};
+ghost use Rattle.std.specs.List.{prefix_len};
+ghost use Rattle.lane_utf.specs.UnitRuns.{is_one};
 ghost use Rattle.lane_utf.specs.Utf16.{code_points, first_lone, utf16_forms};
 ghost use Rattle.lane_utf.specs.Widths.{utf8_width};
 
 use crate::faults::ToUtf8Fault;
 use crate::surrogates::{first_lone_surrogate, is_lead};
-use crate::unit_runs::{ones_front, put_ones, put_threes, put_twos, threes_front, twos_front};
+use crate::unit_runs::{
+    are_ones, ones_front, put_ones, put_threes, put_twos, threes_front, twos_front,
+};
 use crate::utf8_length::utf8_length;
 use std::simd::prelude::*;
 
@@ -74,14 +78,14 @@ fn write(units: &[u16], bytes: &mut [u8]) -> usize
         reached = put_run(units, reached, bytes);
     }
     'rest: while reached.read < units.len() {
-        reached = put_front(units, reached, bytes);
+        reached = put_last(units, reached, bytes);
     }
     reached.written
 }
 
-/// Writes the units at the front that take as many bytes as the first one, up to eight. What is
-/// stored behind them is written over by the units that follow: three vectors of units are left, so
-/// that even the widest store ends among what is to be written.
+/// Writes sixteen units at the front if they are ASCII, or else those that take as many bytes as the
+/// first one, up to eight. What is stored behind them is written over by the units that follow: three
+/// vectors of units are left, so that even the widest store ends among what is to be written.
 #[inline(always)]
 fn put_run(units: &[u16], from: Reached, bytes: &mut [u8]) -> Reached
     requires left { from.read + 24 ≤ length units.now }
@@ -93,6 +97,9 @@ fn put_run(units: &[u16], from: Reached, bytes: &mut [u8]) -> Reached
     let Reached { read, written } = from;
     let lanes = u16x8::from_slice(&units[read..]);
     let count = ones_front(lanes);
+    if count == 8 && is_ascii_block::<16>(units, read) {
+        return put_ascii_block::<16>(units, from, bytes);
+    }
     if count > 0 {
         put_ones(lanes, bytes, written);
         return Reached {
@@ -120,6 +127,54 @@ fn put_run(units: &[u16], from: Reached, bytes: &mut [u8]) -> Reached
         }
     }
     put_front(units, from, bytes)
+}
+
+/// Writes eight units at the front if they are ASCII, or else the code point there: of the last units,
+/// behind which nothing may be stored.
+#[inline(always)]
+fn put_last(units: &[u16], from: Reached, bytes: &mut [u8]) -> Reached
+    requires within { from.read < length units.now }
+    requires paired { first_lone (drop from.read units.now) ≡ None }
+    requires room { HasRoom units.now from (length bytes.old) }
+    ensures more { from.read < result.read }
+    ensures up_to { (old : List ℕ) → IsUpTo units.now bytes.old old from → IsUpTo units.now bytes.new old result }
+{
+    if units.len() - from.read >= 8 && is_ascii_block::<8>(units, from.read) {
+        put_ascii_block::<8>(units, from, bytes)
+    } else {
+        put_front(units, from, bytes)
+    }
+}
+
+/// Whether the next N units are ASCII.
+#[inline(always)]
+fn is_ascii_block<const N: usize>(units: &[u16], at: usize) -> bool
+    requires few { N ≤ 64 }
+    requires within { at + N ≤ length units.now }
+    ensures { result ≡ true → N ≡ prefix_len is_one (take N (drop at units.now)) }
+{
+    are_ones(Simd::<u16, N>::from_slice(&units[at..]))
+}
+
+/// Writes N units at the front, which are ASCII. By themselves these need no count of units, for
+/// which the next step would have to wait.
+#[inline(always)]
+fn put_ascii_block<const N: usize>(units: &[u16], from: Reached, bytes: &mut [u8]) -> Reached
+    requires some { 0 < N }
+    requires few { N ≤ 64 }
+    requires within { from.read + N ≤ length units.now }
+    requires ascii { N ≡ prefix_len is_one (take N (drop from.read units.now)) }
+    requires paired { first_lone (drop from.read units.now) ≡ None }
+    requires room { HasRoom units.now from (length bytes.old) }
+    ensures more { from.read < result.read }
+    ensures up_to { (old : List ℕ) → IsUpTo units.now bytes.old old from → IsUpTo units.now bytes.new old result }
+{
+    let lanes = Simd::<u16, N>::from_slice(&units[from.read..]);
+    put_ones(lanes, bytes, from.written);
+    Reached {
+        read: from.read + N,
+        written: from.written + N,
+    }
 }
 
 /// Writes the code point at the front.

@@ -1,13 +1,22 @@
-//! Units at the front that stand for equally many bytes of UTF-8 each, eight lanes at a time.
-ghost use Rattle.std.specs.Prelude.{◌≡◌, ◌+◌, ◌/◌, ◌^◌, ◌<◌, ◌≤◌, List, Bool, length, map, bit_and};
+//! Units at the front that stand for equally many bytes of UTF-8 each, some lanes at a time.
+ghost use Rattle.std.specs.Prelude.{◌≡◌, ◌+◌, ◌/◌, ◌^◌, ◌<◌, ◌≤◌, true, List, Bool, length, map, bit_and};
 ghost use Rattle.std.specs.List.{prefix_len};
 ghost use Rattle.std.specs.Simd.Lanes.{put_chunk};
 ghost use Rattle.lane_utf.specs.UnitRuns.{is_one, is_two, one_forms, two_forms, three_forms};
 ghost use Rattle.lane_utf.specs.Weights.{has_three};
 ghost use lib.Lanes.{mask_l};
 
-use crate::utf8_length::third_bytes;
+use crate::utf8_length::{second_bytes, third_bytes};
 use std::simd::prelude::*;
+
+/// Whether all units are ASCII.
+#[inline(always)]
+pub(crate) fn are_ones<const N: usize>(lanes: Simd<u16, N>) -> bool
+    requires { N ≤ 64 }
+    ensures { result ≡ true → N ≡ prefix_len is_one lanes.entry }
+{
+    second_bytes(lanes) == 0
+}
 
 /// How many units at the front are ASCII.
 #[inline(always)]
@@ -63,9 +72,10 @@ fn set_front(mask: u64) -> usize
 
 /// Writes a byte for each unit: where the unit is ASCII, its form.
 #[inline(always)]
-pub(crate) fn put_ones(lanes: u16x8, bytes: &mut [u8], at: usize)
-    requires { at + 8 ≤ length bytes.old }
-    ensures { bytes.new ≡ put_chunk at bytes.old (one_forms lanes) }
+pub(crate) fn put_ones<const N: usize>(lanes: Simd<u16, N>, bytes: &mut [u8], at: usize)
+    requires few { N ≤ 64 }
+    requires room { at + N ≤ length bytes.old }
+    ensures { bytes.new ≡ put_chunk at bytes.old (one_forms lanes.entry) }
 {
     part_of(lanes, 0, 0x7F, 0).copy_to_slice(&mut bytes[at..]);
 }
@@ -111,10 +121,11 @@ pub(crate) fn put_threes(lanes: u16x8, bytes: &mut [u8], at: usize)
 /// A byte of each unit's form: bits of the unit from the bit number `shift` on, behind those that
 /// mark the byte.
 #[inline(always)]
-fn part_of(lanes: u16x8, shift: u16, mask: u16, mark: u16) -> u8x8
+fn part_of<const N: usize>(lanes: Simd<u16, N>, shift: u16, mask: u16, mark: u16) -> Simd<u8, N>
+    requires few { N ≤ 64 }
     requires shift { shift < 16 }
     requires byte { mark + mask < 256 }
-    ensures { result ≡ map (λ u. mark + bit_and (u / 2 ^ shift) mask) lanes }
+    ensures { result ≡ map (λ u. mark + bit_and (u / 2 ^ shift) mask) lanes.entry }
 {
     (((lanes >> Simd::splat(shift)) & Simd::splat(mask)) + Simd::splat(mark)).cast()
 }

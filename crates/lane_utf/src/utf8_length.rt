@@ -57,7 +57,7 @@ fn weight_of(lanes: u16x32) -> usize
 
 /// The lanes that stand for a second byte.
 #[inline(always)]
-fn second_bytes<const N: usize>(lanes: Simd<u16, N>) -> u64
+pub(crate) fn second_bytes<const N: usize>(lanes: Simd<u16, N>) -> u64
     requires { N ≤ 64 }
     ensures { result ≡ mask_l (map has_two lanes.entry) }
 {
