@@ -1,7 +1,7 @@
 -- A decoder to which, in one of its states, each byte of a class is its own code point takes runs of them in bulk.
 use Rattle.std.proofs.Common.{◌≡◌, ℕ, zero, suc, ◌+◌, ◌<◌, ◌≤◌, Bool, true, false, List, [], ◌∷◌, cond, nat_lt, length, take, pos, refl, sym, ap, ◌∙◌, subst, arith, lit≤, not, ◌||◌, ◌==◌}
 use Rattle.decoder_core.proofs.Prelude.{chars, IsAscii, IsUtf8, ltb-true, eqb-false, and_parts, length-take, chars-IsAscii, IsUtf8-from_ascii}
-use Rattle.decoder_core.proofs.Prelude.{len_utf8_ascii, Bulk, Falls, IsBulk, plain_from, run_width}
+use Rattle.decoder_core.proofs.Prelude.{len_utf8_ascii, Bulk, Falls, IsBulk, IsOwnText, plain_from, run_width}
 use Rattle.std.proofs.lemmas.List.Sums.{prefix_len-le-length}
 use Rattle.std.proofs.lemmas.Str.Ascii.{IsAscii-nil, IsAscii-cons}
 use Rattle.decoder_core.specs.declared.bulk.Stride.TheVariants.{Utf8}
@@ -89,24 +89,39 @@ module _ {S : Type 0} (table : Table S) (f : Falls table) (idle : S) (runs : Asc
       let p = run-first runs n b xs h in
       (b ∷ [], take n xs, refl, given table f idle idle b b (takes b (of-class runs b p.0)), sym (len_utf8_ascii b (first-ascii runs b p.0)), run-passed n xs p.1)
 
+  pub run_is_own : (bytes : List ℕ) (n : ℕ) → n ≤ run_len runs bytes → IsOwnText table idle bytes n
+  run_is_own bytes n run =
+      let q = take n bytes in
+      let ascii = run-ascii runs n bytes run in
+      let longest = prefix_len-le-length (is_of runs) bytes in
+      let spelt : chars q ≡ q = chars-IsAscii q ascii in
+      record {
+        within = omega (arith, run, longest);
+        text = IsUtf8-from_ascii q ascii;
+        stays = passed-stays table f idle Utf8 q q (run-passed n bytes run);
+        whole = ap (λ (xs : List ℕ). run_width Utf8 xs) spelt ∙ run-bytes runs n bytes run;
+        items = λ read.
+            passed-shown table f idle Utf8 q q (run-passed n bytes run) read ∙ ap (λ (xs : List ℕ). plain_from Utf8 (pos read) idle xs) (sym spelt);
+      }
+
+  -- the same where they were copied into the block
   pub run_is_bulk : (bytes : List ℕ) (bulk : Bulk) (block : List ℕ) → IsRunBulk runs bytes bulk block → IsBulk table idle bytes bulk block
   run_is_bulk bytes bulk block a =
-      let q = take bulk.taken bytes in
-      let ascii = run-ascii runs bulk.taken bytes a.run in
-      let longest = prefix_len-le-length (is_of runs) bytes in
-      let text : take bulk.written block ≡ q = ap (λ (n : ℕ). take n block) a.as_taken ∙ a.copied in
-      let spelt : chars (take bulk.written block) ≡ q = ap (λ (xs : List ℕ). chars xs) text ∙ chars-IsAscii q ascii in
+      let own = run_is_own bytes bulk.taken a.run in
+      let cs = chars (take bulk.taken bytes) in
+      let text : take bulk.written block ≡ take bulk.taken bytes = ap (λ (n : ℕ). take n block) a.as_taken ∙ a.copied in
+      let spelt : chars (take bulk.written block) ≡ cs = ap (λ (xs : List ℕ). chars xs) text in
       record {
-        within = omega (arith, a.run, longest);
+        within = own.within;
         room = subst (λ (n : ℕ). n ≤ 1024) (sym a.as_taken) a.room;
-        text = subst (λ (xs : List ℕ). IsUtf8 xs) (sym text) (IsUtf8-from_ascii q ascii);
-        stays = passed-stays table f idle Utf8 q q (run-passed bulk.taken bytes a.run);
+        text = subst (λ (xs : List ℕ). IsUtf8 xs) (sym text) own.text;
+        stays = own.stays;
         whole =
             ap (λ (xs : List ℕ). run_width bulk.stride xs) spelt
-            ∙ ap (λ (s : _). run_width s q) a.stride
-            ∙ run-bytes runs bulk.taken bytes a.run;
+            ∙ ap (λ (s : _). run_width s cs) a.stride
+            ∙ own.whole;
         items = λ read.
-            passed-shown table f idle Utf8 q q (run-passed bulk.taken bytes a.run) read
-            ∙ ap (λ (s : _). plain_from s (pos read) idle q) (sym a.stride)
+            own.items read
+            ∙ ap (λ (s : _). plain_from s (pos read) idle cs) (sym a.stride)
             ∙ ap (λ (xs : List ℕ). plain_from bulk.stride (pos read) idle xs) (sym spelt);
       }

@@ -1,5 +1,5 @@
 -- What many of this crate's proofs name.
-pub use Rattle.decoder_core.specs.Bulk.{IsBulk, plain_from, plain_to, run_width, width_of}
+pub use Rattle.decoder_core.specs.Bulk.{IsBulk, IsOwnText, plain_from, plain_to, run_width, width_of}
 pub use Rattle.decoder_core.specs.Collected.{Collected, collect, collect_item, collect_one, further_on, last_end}
 pub use Rattle.decoder_core.specs.Counts.{Counts, cost}
 pub use Rattle.decoder_core.specs.EncoderOutput.{PutAll, PutOne, fault_at}

@@ -42,3 +42,13 @@ pub record IsBulk {S : Type 0} (table : Table S) (state : S) (bytes : List ℕ) 
   pub whole : run_width bulk.stride (chars (take bulk.written block)) ≡ bulk.taken
   pub items : (read : ℕ)
       → shown_from table read state (take bulk.taken bytes) ≡ plain_from bulk.stride (pos read) state (chars (take bulk.written block))
+
+-- so many bytes are the text that they stand for: steps over them leave the state as it was, and give exactly its code points, one item a code
+-- point and as long as its form, without gaps from the first byte on
+pub record IsOwnText {S : Type 0} (table : Table S) (state : S) (bytes : List ℕ) (count : ℕ) : Type 0 where
+  pub within : count ≤ length bytes
+  pub text : IsUtf8 (take count bytes)
+  pub stays : (feed table state (take count bytes)).state ≡ state
+  pub whole : run_width Utf8 (chars (take count bytes)) ≡ count
+  pub items : (read : ℕ)
+      → shown_from table read state (take count bytes) ≡ plain_from Utf8 (pos read) state (chars (take count bytes))

@@ -1,6 +1,6 @@
 //! Decoders, one byte at a time.
 ghost use Rattle.std.specs.Prelude.{◌≡◌, ℕ, Bool, true, List, [], ◌∷◌, Option, IfSome};
-ghost use Rattle.decoder_core.specs.Bulk.{IsBulk};
+ghost use Rattle.decoder_core.specs.Bulk.{IsBulk, IsOwnText};
 ghost use Rattle.decoder_core.specs.Steps.{alone};
 ghost use Rattle.decoder_core.specs.Queue.{Turn, Falls, run, feed};
 
@@ -56,6 +56,12 @@ pub trait Decoder {
         let _ = (state, byte);
         None
     }
+
+    /// How many bytes at the front are the text that they stand for, where the decoder knows at once
+    /// that each of its code points is an item as long as its UTF-8 form and leaves the state as it
+    /// is: they need not be written anew. It may be fewer than there are, or none.
+    fn own_text(&self, state: Self::State, bytes: &[u8]) -> usize
+        ensures { IsOwnText (table self.now) state bytes.now result };
 
     /// Takes bytes from the front in bulk, where the decoder knows at once that each of their items
     /// is one code point and that they leave the state as it is, and writes the UTF-8 of the code

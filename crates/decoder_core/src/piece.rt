@@ -3,7 +3,7 @@ ghost use Rattle.std.specs.Prelude.{◌≡◌, ℕ, ◌+◌, ◌-◌, ◌^◌, �
 ghost use Rattle.decoder_core.specs.Queue.{feed};
 ghost use Rattle.decoder_core.specs.Shown.{shown_at, shown_from, TookPrefix};
 
-use crate::bulk::Bulk;
+use crate::bulk::{Bulk, Stride};
 use crate::counts::Meter;
 use crate::decoder::{Decoder, Simple, Step};
 use crate::item::Ended;
@@ -161,6 +161,12 @@ fn bulk_into<D: Decoder, K: Sink<D::State>>(
     ensures items { IfOk result (λ taken. K.seen sink.new ≡ fold K.taken (K.seen sink.old) (shown_from (D.table decoder.now) read state (take taken rest.now))) }
     ensures err { OnErr result (TookPrefix K.taken (K.seen sink.old) (shown_from (D.table decoder.now) read state rest.now) (K.seen sink.new)) }
 {
+    let own = decoder.own_text(state, rest);
+    if own > 0 {
+        let text = unsafe { str::from_utf8_unchecked(&rest[..own]) };
+        sink.plain(text, (read + own) as i64, Stride::Utf8, state)?;
+        return Ok(own);
+    }
     let Bulk {
         taken,
         written,

@@ -1,12 +1,47 @@
 //! Runs of bytes that are their own code points, in bulk.
 ghost use Rattle.std.specs.Prelude.{◌≡◌, ◌≤◌, length, take};
-ghost use Rattle.decoder_core.specs.Bulk.{IsBulk};
+ghost use Rattle.decoder_core.specs.Bulk.{IsBulk, IsOwnText};
 ghost use Rattle.decoder_core.specs.AsciiRuns.{run_len, TakesAscii, IsRunBulk};
 
 use crate::ascii_runs::AsciiRuns;
 use crate::bulk::{Bulk, NO_BULK, Stride};
 use crate::handler::Handler;
 use lane_ascii::{ascii_run, plain_run_iso};
+
+/// How many bytes the block takes.
+const BLOCK: usize = 1024;
+
+/// How many bytes of a run are taken at a time where they aren't copied into the block: few enough
+/// that they are still at hand when they are copied into the text.
+const LONGEST: usize = 8192;
+
+/// How many bytes of the class there are at the front, each of which is its own code point in this
+/// state, where they may be enough to be worth it.
+// In the loop over the bytes.
+#[inline(always)]
+pub(crate) fn own_run<H: Handler>(
+    _handler: &H,
+    _state: H::State,
+    runs: AsciiRuns,
+    bytes: &[u8],
+) -> usize
+    requires { TakesAscii (H.table _handler.now) _state runs }
+    ensures { IsOwnText (H.table _handler.now) _state bytes.now result }
+{
+    long_run(runs, bytes)
+}
+
+/// The same of a class.
+#[inline(always)]
+fn long_run(runs: AsciiRuns, bytes: &[u8]) -> usize
+    ensures { result ≤ run_len runs bytes.now }
+{
+    if is_worth_it(runs, bytes) {
+        front_run(runs, bytes, LONGEST)
+    } else {
+        0
+    }
+}
 
 /// Takes the bytes of the class at the front, each of which is its own code point in this state.
 // In the loop over the bytes.
@@ -32,7 +67,7 @@ fn copy_run(runs: AsciiRuns, bytes: &[u8], text: &mut [u8; 1024]) -> Bulk
     if !is_worth_it(runs, bytes) {
         return NO_BULK;
     }
-    let taken = block_run(runs, bytes);
+    let taken = front_run(runs, bytes, BLOCK);
     copy_front(bytes, taken, text);
     Bulk {
         taken,
@@ -64,17 +99,14 @@ pub(crate) fn begins_ascii(bytes: &[u8]) -> bool {
     }
 }
 
-/// How many bytes of the class there are at the front, as far as the block takes them.
+/// How many bytes of the class there are at the front, of so many at most.
 #[inline(always)]
-fn block_run(runs: AsciiRuns, bytes: &[u8]) -> usize
+fn front_run(runs: AsciiRuns, bytes: &[u8], most: usize) -> usize
     ensures run { result ≤ run_len runs bytes.now }
-    ensures room { result ≤ 1024 }
+    ensures room { result ≤ most }
     ensures within { result ≤ length bytes.now }
 {
-    match bytes.get(..1024) {
-        Some(front) => class_run(runs, front),
-        None => class_run(runs, bytes),
-    }
+    class_run(runs, &bytes[..bytes.len().min(most)])
 }
 
 /// How many bytes of the class there are at the front.

@@ -12,7 +12,7 @@ use crate::few::Few;
 use crate::handler::{Answer, Handled, Handler};
 use crate::items::Items;
 use crate::pair_bulk::{take_pairs, take_pairs_alone};
-use crate::run_bulk::{begins_ascii, run_bulk};
+use crate::run_bulk::{begins_ascii, own_run, run_bulk};
 
 impl<H: Handler> Decoder for H {
     type State = H::State;
@@ -31,6 +31,12 @@ impl<H: Handler> Decoder for H {
 
     fn simple_step(&self, state: H::State, byte: u8) -> Option<Simple<H::State>> {
         simple_by(self, state, byte)
+    }
+
+    // In the loop over the bytes.
+    #[inline(always)]
+    fn own_text(&self, state: H::State, bytes: &[u8]) -> usize {
+        own_run(self, state, self.ascii_runs(state), bytes)
     }
 
     // In the loop over the bytes.

@@ -47,6 +47,28 @@ fn ascii_where_a_character_is_a_byte(rt: HostRuntime) -> Result<(), Fail> {
     Ok(())
 }
 
+/// How many of these bytes the decoder says are their own text in its first state.
+fn own_text<D: Decoder>(decoder: &D, bytes: &[u8]) -> usize {
+    decoder.own_text(decoder.start(), bytes)
+}
+
+#[test]
+fn ascii_is_its_own_text(rt: HostRuntime) -> Result<(), Fail> {
+    let kind = IndexKind::SingleByte(Encoding::Windows1252);
+    let index = Index::parse(rt.alloc(), kind, WINDOWS_1252)?;
+    let decoder = SingleByteDecoder::new(&index);
+    assert!(rt; own_text(&decoder, &LETTERS) == 64);
+    // A run that a byte above ASCII ends, one too short to pay, and one longer than is taken.
+    let mut bytes = [b'a'; 8200];
+    assert!(rt; own_text(&decoder, &bytes) == 8192);
+    assert!(rt; own_text(&decoder, &bytes[..15]) == 0);
+    bytes[63] = 0x80;
+    assert!(rt; own_text(&decoder, &bytes) == 63);
+    assert!(rt; own_text(&decoder, &bytes[60..]) == 0);
+    assert!(rt; own_text(&ReplacementDecoder, &LETTERS) == 0);
+    Ok(())
+}
+
 /// The decoder takes a byte above ASCII and a letter in turn, up to the first 256, and writes their
 /// text.
 fn expect_bytes<D: Decoder>(

@@ -5,15 +5,17 @@ use index_loader::{Index, IndexKind};
 use iso2022jp::Iso2022JpDecoder;
 use std::test::Fail;
 
-/// How many bytes of a line the decoder takes once it read some bytes.
-fn taken_behind(decoder: &Iso2022JpDecoder<'_>, bytes: &[u8]) -> usize {
+/// How many bytes of a line the decoder takes once it read some bytes, and how many it says are
+/// their own text.
+fn taken_behind(decoder: &Iso2022JpDecoder<'_>, bytes: &[u8]) -> (usize, usize) {
     let mut state = decoder.start();
     for byte in bytes {
         state = decoder.step(state, *byte).state;
     }
     let mut block = [0; 1024];
     let line = b"of twenty-six letters each\x1B$B";
-    decoder.bulk(state, line, &mut block).taken
+    let taken = decoder.bulk(state, line, &mut block).taken;
+    (taken, decoder.own_text(state, line))
 }
 
 #[test]
@@ -33,7 +35,7 @@ fn bulk_in_the_state_ascii_alone(rt: HostRuntime) -> Result<(), Fail> {
         (b"\x1B", 0),
     ];
     for (bytes, taken) in rows {
-        assert!(rt; taken_behind(&decoder, bytes) == taken);
+        assert!(rt; taken_behind(&decoder, bytes) == (taken, taken));
     }
     Ok(())
 }

@@ -9,22 +9,24 @@ use multibyte_decoders::{
 use std::process::Abort;
 use std::test::Fail;
 
-/// How many of 64 letters the decoder takes once it read some bytes.
-fn letters_behind<D: Decoder>(decoder: &D, bytes: &[u8]) -> usize {
+/// How many of 64 letters the decoder takes once it read some bytes, and how many it says are their
+/// own text.
+fn letters_behind<D: Decoder>(decoder: &D, bytes: &[u8]) -> (usize, usize) {
     let mut state = decoder.start();
     for byte in bytes {
         state = decoder.step(state, *byte).state;
     }
     let mut block = [0; 1024];
-    decoder.bulk(state, &[0x61; 64], &mut block).taken
+    let taken = decoder.bulk(state, &[0x61; 64], &mut block).taken;
+    (taken, decoder.own_text(state, &[0x61; 64]))
 }
 
 /// The decoder takes letters where nothing is pending, and none behind these bytes.
 fn expect_bulk<D: Decoder>(rt: &impl Abort, decoder: &D, pending: &[u8]) {
-    assert!(rt; letters_behind(decoder, &[]) == 64);
+    assert!(rt; letters_behind(decoder, &[]) == (64, 64));
     for count in 1..=pending.len() {
         assert!(rt;
-            letters_behind(decoder, &pending[..count]) == 0,
+            letters_behind(decoder, &pending[..count]) == (0, 0),
             "behind {count} bytes"
         );
     }
