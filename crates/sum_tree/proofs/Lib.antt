@@ -2,4 +2,5 @@ pub mod Edits
 pub mod Levels
 pub mod Reaching
 pub mod Searching
+pub mod Shapes
 pub mod Totals

@@ -1,7 +1,8 @@
 //! The tree as a list.
-ghost use Rattle.std.specs.Prelude.{◌≡◌, ℕ, ◌+◌, ◌-◌, ◌^◌, ◌<◌, ◌≤◌, [], length, take, slice_get, slice_set, option_copied, IfOk, OnErr, OnOk};
+ghost use Rattle.std.specs.Prelude.{◌≡◌, ℕ, ◌+◌, ◌-◌, ◌*◌, ◌^◌, ◌<◌, ◌≤◌, [], length, take, slice_get, slice_set, option_copied, vec_len, vec_capacity, IfOk, OnErr, OnOk};
 ghost use Rattle.std.specs.List.{insert, remove};
-ghost use Rattle.sum_tree.specs.Sums.{total, AllRunsFit};
+ghost use Rattle.sum_tree.specs.Row.{IsSound};
+ghost use Rattle.sum_tree.specs.Sums.{total, AllRunsFit, IsSummable};
 ghost use Rattle.sum_tree.specs.Reached.{IsFirstAbove, IsSearched};
 
 use crate::build::built;
@@ -88,6 +89,22 @@ impl<T: Summed<S> + Drop, S: Summary> SumTree<T, S> {
         }
     }
 
+    /// The list of the elements below this root, with no place beside them.
+    fn under(root: Child<T, S>, pool: Pool<T, S>, alloc: Global) -> SumTree<T, S>
+        requires sound { IsSound root }
+        requires summable { IsSummable S.fits S.empty S.op T.sum_of root.items }
+        requires room { 2 * length root.items ≤ vec_len pool + root.nodes + 1 }
+        requires space { vec_len pool + root.nodes ≤ vec_capacity pool }
+        ensures { result.items ≡ root.items }
+    {
+        SumTree {
+            root: Some(root),
+            pool,
+            spare: 0,
+            alloc,
+        }
+    }
+
     /// How many inserts are sure to need no memory.
     pub fn spare(&self) -> usize
         ensures { result ≡ self.now.spare }
@@ -106,7 +123,17 @@ impl<T: Summed<S> + Drop, S: Summary> SumTree<T, S> {
         if n <= self.spare {
             return Ok(());
         }
-        let missing = n - self.spare;
+        self.grow(n, n - self.spare)
+    }
+
+    /// Makes so many places, which `missing` more make up. Where memory is refused the list and its
+    /// places are as before.
+    fn grow(&mut self, n: usize, missing: usize) -> Result<(), OutOfMemory>
+        requires { self.old.spare + missing ≡ n }
+        ensures items { self.new.items ≡ self.old.items }
+        ensures ok { OnOk result (self.new.spare ≡ n) }
+        ensures err { OnErr result (self.new.spare ≡ self.old.spare) }
+    {
         let boxes = self
             .len()
             .checked_add(missing)
@@ -259,11 +286,6 @@ impl<T: Summed<S> + TryCopy + Drop, S: Summary> SumTree<T, S> {
         let mut pool = Vec::with_capacity(alloc, boxes)?;
         add_places(alloc, &mut pool, count)?;
         let root = root.copy(&mut pool)?;
-        Ok(SumTree {
-            root: Some(root),
-            pool,
-            spare: 0,
-            alloc,
-        })
+        Ok(SumTree::under(root, pool, alloc))
     }
 }

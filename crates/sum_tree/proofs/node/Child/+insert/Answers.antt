@@ -1,6 +1,10 @@
 use Rattle.std.proofs.lemmas.Grind.{common_steps}
-use Rattle.std.proofs.Common.{rules, ◌-◌, sym, ◌∙◌, arith}
-use Rattle.sum_tree.proofs.Edits.{inserts, edited_right, edited_middle, edited_last, summable_left, summable_right, summable_first, summable_middle, summable_last, insert_first, insert_second}
+use Rattle.std.proofs.Common.{◌≡◌, ◌+◌, ◌-◌, rules, refl, sym, ap, ◌∙◌, arith, length, insert}
+use Rattle.std.proofs.lemmas.List.Edits.{length-insert}
+use Rattle.sum_tree.specs.Grown.{grown}
+use Rattle.sum_tree.specs.Opened.{IsTwo, IsThree}
+use Rattle.sum_tree.proofs.Edits.{inserts, edited_left, edited_right, edited_first, edited_middle, edited_last, summable_left, summable_right, summable_first, summable_middle, summable_last, insert_first, insert_second}
+use Rattle.sum_tree.proofs.Shapes.{grown_at}
 use Rattle.sum_tree.proofs.Totals.{summable_as}
 use Rattle.sum_tree.proofs.node.Child.+insert.Goals as goal
 
@@ -26,10 +30,23 @@ insert-front-requires g t c κs within =
     search rules
 
 pub beside_right-requires : goal.beside_right-requires
-beside_right-requires g t c = grind (arith, common_steps)
+beside_right-requires g t c =
+    let o : IsTwo c.args.self c.in-Two.a c.in-Two.b = c.in-Two.ensures.opened in
+    record {
+      shape = grown_at c.in-Two.a.height c.in-Two.b.height c.insert-front.result o.level c.insert-front.ensures.shape;
+      sound = o.right;
+      summable = summable_as g.met.S.Summary.laws g.T.Summed.sum_of _ _ (edited_left (inserts c.args.item) o c.args.i c.insert-front.ensures.items (omega arith)) c.requires.summable;
+    }
 
 pub returns-then-i-count : goal.returns-then-i-count
-returns-then-i-count g t c = grind (arith, common_steps)
+returns-then-i-count g t c =
+    let o : IsTwo c.args.self c.in-Two.a c.in-Two.b = c.in-Two.ensures.opened in
+    record {
+      items = c.beside_right.ensures.items ∙ sym (edited_left (inserts c.args.item) o c.args.i c.insert-front.ensures.items (omega arith));
+      shape = (c.beside_right.ensures.sound, omega arith);
+      boxes = omega arith;
+      capacity = c.insert-front.ensures.capacity;
+    }
 
 pub insert-back-requires : goal.insert-back-requires
 insert-back-requires g t c κs within =
@@ -38,11 +55,22 @@ insert-back-requires g t c κs within =
 
 pub beside_left-requires : goal.beside_left-requires
 beside_left-requires g t c =
-    grind (arith, common_steps, summable_as g.met.S.Summary.laws g.T.Summed.sum_of _ _ (edited_right (inserts c.args.item) c.in-Two.ensures.opened c.args.i (c.args.i - c.count-else-i-count.result) c.insert-back.ensures.items (omega arith)) c.requires.summable)
+    let o : IsTwo c.args.self c.in-Two.a c.in-Two.b = c.in-Two.ensures.opened in
+    record {
+      shape = grown_at c.in-Two.b.height c.in-Two.a.height c.insert-back.result (sym o.level) c.insert-back.ensures.shape;
+      sound = o.left;
+      summable = summable_as g.met.S.Summary.laws g.T.Summed.sum_of _ _ (edited_right (inserts c.args.item) o c.args.i (c.args.i - c.count-else-i-count.result) c.insert-back.ensures.items (omega arith)) c.requires.summable;
+    }
 
 pub returns-else-i-count : goal.returns-else-i-count
 returns-else-i-count g t c =
-    grind (arith, common_steps, c.beside_left.ensures.items ∙ sym (edited_right (inserts c.args.item) c.in-Two.ensures.opened c.args.i (c.args.i - c.count-else-i-count.result) c.insert-back.ensures.items (omega arith)))
+    let o : IsTwo c.args.self c.in-Two.a c.in-Two.b = c.in-Two.ensures.opened in
+    record {
+      items = c.beside_left.ensures.items ∙ sym (edited_right (inserts c.args.item) o c.args.i (c.args.i - c.count-else-i-count.result) c.insert-back.ensures.items (omega arith));
+      shape = (c.beside_left.ensures.sound, omega arith);
+      boxes = omega arith;
+      capacity = c.insert-back.ensures.capacity;
+    }
 
 pub insert-front-requires-then-i-count-2 : goal.insert-front-requires-then-i-count-2
 insert-front-requires-then-i-count-2 g t c κs within =
@@ -50,10 +78,26 @@ insert-front-requires-then-i-count-2 g t c κs within =
     search rules
 
 pub grown_front-requires : goal.grown_front-requires
-grown_front-requires g t c = grind (arith, common_steps)
+grown_front-requires g t c =
+    let o : IsThree c.args.self c.in-Three.a c.in-Three.b c.in-Three.c = c.in-Three.ensures.opened in
+    let more = length-insert c.in-Three.a.items c.args.i c.args.item (omega arith) in
+    let long : length (grown c.insert-front-then-i-count-2.result).items ≡ length (insert c.in-Three.a.items c.args.i c.args.item) = ap length c.insert-front-then-i-count-2.ensures.items in
+    record {
+      shape = grown_at c.in-Three.a.height c.in-Three.b.height c.insert-front-then-i-count-2.result o.level c.insert-front-then-i-count-2.ensures.shape;
+      pair = (o.middle, o.right, refl, sym o.level_right);
+      summable = summable_as g.met.S.Summary.laws g.T.Summed.sum_of _ _ (edited_first (inserts c.args.item) o c.args.i c.insert-front-then-i-count-2.ensures.items (omega arith)) c.requires.summable;
+      room = omega arith;
+    }
 
 pub returns-then-i-count-2 : goal.returns-then-i-count-2
-returns-then-i-count-2 g t c = grind (arith, common_steps)
+returns-then-i-count-2 g t c =
+    let o : IsThree c.args.self c.in-Three.a c.in-Three.b c.in-Three.c = c.in-Three.ensures.opened in
+    record {
+      items = c.grown_front.ensures.items ∙ sym (edited_first (inserts c.args.item) o c.args.i c.insert-front-then-i-count-2.ensures.items (omega arith));
+      shape = grown_at (c.in-Three.b.height + 1) c.args.self.height c.grown_front.result (omega arith) c.grown_front.ensures.shape;
+      boxes = omega arith;
+      capacity = c.grown_front.ensures.capacity ∙ c.insert-front-then-i-count-2.ensures.capacity;
+    }
 
 pub insert-middle-requires : goal.insert-middle-requires
 insert-middle-requires g t c κs within =
@@ -62,11 +106,25 @@ insert-middle-requires g t c κs within =
 
 pub grown_middle-requires : goal.grown_middle-requires
 grown_middle-requires g t c =
-    grind (arith, common_steps, summable_as g.met.S.Summary.laws g.T.Summed.sum_of _ _ (edited_middle (inserts c.args.item) c.in-Three.ensures.opened c.args.i (c.args.i - c.count-in-Three-2.result) c.insert-middle.ensures.items (omega arith) (omega arith)) c.requires.summable)
+    let o : IsThree c.args.self c.in-Three.a c.in-Three.b c.in-Three.c = c.in-Three.ensures.opened in
+    let more = length-insert c.in-Three.b.items (c.args.i - c.count-in-Three-2.result) c.args.item (omega arith) in
+    let long : length (grown c.insert-middle.result).items ≡ length (insert c.in-Three.b.items (c.args.i - c.count-in-Three-2.result) c.args.item) = ap length c.insert-middle.ensures.items in
+    record {
+      shape = grown_at c.in-Three.b.height c.in-Three.a.height c.insert-middle.result (sym o.level) c.insert-middle.ensures.shape;
+      pair = (o.left, o.right, refl, sym (o.level ∙ o.level_right));
+      summable = summable_as g.met.S.Summary.laws g.T.Summed.sum_of _ _ (edited_middle (inserts c.args.item) o c.args.i (c.args.i - c.count-in-Three-2.result) c.insert-middle.ensures.items (omega arith) (omega arith)) c.requires.summable;
+      room = omega arith;
+    }
 
 pub returns-then-j-count : goal.returns-then-j-count
 returns-then-j-count g t c =
-    grind (arith, common_steps, c.grown_middle.ensures.items ∙ sym (edited_middle (inserts c.args.item) c.in-Three.ensures.opened c.args.i (c.args.i - c.count-in-Three-2.result) c.insert-middle.ensures.items (omega arith) (omega arith)))
+    let o : IsThree c.args.self c.in-Three.a c.in-Three.b c.in-Three.c = c.in-Three.ensures.opened in
+    record {
+      items = c.grown_middle.ensures.items ∙ sym (edited_middle (inserts c.args.item) o c.args.i (c.args.i - c.count-in-Three-2.result) c.insert-middle.ensures.items (omega arith) (omega arith));
+      shape = grown_at (c.in-Three.a.height + 1) c.args.self.height c.grown_middle.result (omega arith) c.grown_middle.ensures.shape;
+      boxes = omega arith;
+      capacity = c.grown_middle.ensures.capacity ∙ c.insert-middle.ensures.capacity;
+    }
 
 pub insert-back-requires-else-j-count : goal.insert-back-requires-else-j-count
 insert-back-requires-else-j-count g t c κs within =
@@ -75,20 +133,37 @@ insert-back-requires-else-j-count g t c κs within =
 
 pub grown_back-requires : goal.grown_back-requires
 grown_back-requires g t c =
-    grind (arith, common_steps, summable_as g.met.S.Summary.laws g.T.Summed.sum_of _ _ (edited_last (inserts c.args.item) c.in-Three.ensures.opened c.args.i (c.args.i - c.count-in-Three-2.result) (c.args.i - c.count-in-Three-2.result - c.count-else-j-count.result) c.insert-back-else-j-count.ensures.items (omega arith) (omega arith)) c.requires.summable)
+    let o : IsThree c.args.self c.in-Three.a c.in-Three.b c.in-Three.c = c.in-Three.ensures.opened in
+    let more = length-insert c.in-Three.c.items (c.args.i - c.count-in-Three-2.result - c.count-else-j-count.result) c.args.item (omega arith) in
+    let long : length (grown c.insert-back-else-j-count.result).items ≡ length (insert c.in-Three.c.items (c.args.i - c.count-in-Three-2.result - c.count-else-j-count.result) c.args.item) = ap length c.insert-back-else-j-count.ensures.items in
+    record {
+      shape = grown_at c.in-Three.c.height c.in-Three.a.height c.insert-back-else-j-count.result (sym (o.level ∙ o.level_right)) c.insert-back-else-j-count.ensures.shape;
+      pair = (o.left, o.middle, refl, sym o.level);
+      summable = summable_as g.met.S.Summary.laws g.T.Summed.sum_of _ _ (edited_last (inserts c.args.item) o c.args.i (c.args.i - c.count-in-Three-2.result) (c.args.i - c.count-in-Three-2.result - c.count-else-j-count.result) c.insert-back-else-j-count.ensures.items (omega arith) (omega arith)) c.requires.summable;
+      room = omega arith;
+    }
 
 pub returns-else-j-count : goal.returns-else-j-count
 returns-else-j-count g t c =
-    grind (arith, common_steps, c.grown_back.ensures.items ∙ sym (edited_last (inserts c.args.item) c.in-Three.ensures.opened c.args.i (c.args.i - c.count-in-Three-2.result) (c.args.i - c.count-in-Three-2.result - c.count-else-j-count.result) c.insert-back-else-j-count.ensures.items (omega arith) (omega arith)))
+    let o : IsThree c.args.self c.in-Three.a c.in-Three.b c.in-Three.c = c.in-Three.ensures.opened in
+    record {
+      items = c.grown_back.ensures.items ∙ sym (edited_last (inserts c.args.item) o c.args.i (c.args.i - c.count-in-Three-2.result) (c.args.i - c.count-in-Three-2.result - c.count-else-j-count.result) c.insert-back-else-j-count.ensures.items (omega arith) (omega arith));
+      shape = grown_at (c.in-Three.a.height + 1) c.args.self.height c.grown_back.result (omega arith) c.grown_back.ensures.shape;
+      boxes = omega arith;
+      capacity = c.grown_back.ensures.capacity ∙ c.insert-back-else-j-count.ensures.capacity;
+    }
 
 pub take_last-other-requires : goal.take_last-other-requires
 take_last-other-requires g t c = grind (arith, common_steps)
 
 pub overflow_sub-j : goal.overflow_sub-j
-overflow_sub-j g t c = grind (arith, common_steps)
+overflow_sub-j g t c =
+    omega arith
 
 pub overflow_sub-j-in-Three : goal.overflow_sub-j-in-Three
-overflow_sub-j-in-Three g t c = grind (arith, common_steps)
+overflow_sub-j-in-Three g t c =
+    omega arith
 
 pub overflow_sub-k : goal.overflow_sub-k
-overflow_sub-k g t c = grind (arith, common_steps)
+overflow_sub-k g t c =
+    omega arith
