@@ -95,7 +95,7 @@ fn own_part(alloc: Global, rng: &mut SmallRng, own: &[char]) -> Option<Vec<char>
 }
 
 /// A new text; `None` where memory is refused.
-pub fn new_text(alloc: Global, rng: &mut SmallRng, own: &[char]) -> Option<Vec<char>> {
+fn new_text(alloc: Global, rng: &mut SmallRng, own: &[char]) -> Option<Vec<char>> {
     if up_to(rng, 1) == 0 {
         own_part(alloc, rng, own)
     } else {
@@ -156,15 +156,32 @@ fn range(rng: &mut SmallRng, plain: &WalkedText, unit: Unit) -> Option<Range> {
     Some(Range { start, end })
 }
 
+/// A range, or now and then `None` for the whole text.
+fn range_or_whole(rng: &mut SmallRng, plain: &WalkedText, unit: Unit) -> Option<Option<Range>> {
+    if up_to(rng, 63) == 0 {
+        return Some(None);
+    }
+    Some(Some(range(rng, plain, unit)?))
+}
+
 impl RangeChange {
+    /// A change of this range of a text; `None` where memory is refused.
+    pub fn of_range(
+        alloc: Global,
+        rng: &mut SmallRng,
+        own: &[char],
+        range: Range,
+        unit: Unit,
+    ) -> Option<RangeChange> {
+        let text = new_text(alloc, rng, own)?;
+        let range = Some(range);
+        Some(RangeChange { range, unit, text })
+    }
+
     /// A change of this text; `None` where memory is refused.
     pub fn drawn(alloc: Global, rng: &mut SmallRng, plain: &WalkedText) -> Option<RangeChange> {
         let unit = *UNITS.as_slice().choose(rng)?;
-        let range = if up_to(rng, 63) == 0 {
-            None
-        } else {
-            Some(range(rng, plain, unit)?)
-        };
+        let range = range_or_whole(rng, plain, unit)?;
         let text = new_text(alloc, rng, &plain.text.chars)?;
         Some(RangeChange { range, unit, text })
     }

@@ -1,6 +1,6 @@
 //! Documents that look random, changed.
 
-use crate::change::{RangeChange, UNITS, new_text};
+use crate::change::{RangeChange, UNITS};
 use crate::kind::Tally;
 use crate::mirrored_document::MirroredDocument;
 use crate::numbers::up_to;
@@ -63,14 +63,62 @@ impl<'a> SmallDocument<'a> {
     }
 }
 
-/// A change of the document as it was; `None` where a call is refused.
+/// A change of the document as it was; `None` where a call is refused. Here as below the document is
+/// dropped by a call: where it is dropped in place, the function is long to prove.
 fn change_anew(
     alloc: Global,
     document: SmallDocument<'_>,
     change: &RangeChange,
     tally: &mut Tally,
 ) -> Option<()> {
-    document.opened(alloc)?.change(alloc, change, tally)
+    let mut opened = document.opened(alloc)?;
+    let changed = opened.change(alloc, change, tally);
+    drop(opened);
+    changed
+}
+
+/// Every range of a text in a unit, up to one unit behind its end; `None` where memory is refused.
+fn ranges(alloc: Global, plain: &WalkedText, unit: Unit) -> Option<Vec<Range>> {
+    let borders = borders(alloc, plain, unit)?;
+    let mut ranges = Vec::new(alloc);
+    for (n, start) in borders.iter().enumerate() {
+        for end in borders.get(n..)? {
+            let (start, end) = (*start, *end);
+            ranges.push(Range { start, end }).ok()?;
+        }
+    }
+    Some(ranges)
+}
+
+/// A change of each of these ranges, each of the document as it was; `None` where a call is refused.
+fn change_each(
+    alloc: Global,
+    rng: &mut SmallRng,
+    document: SmallDocument<'_>,
+    (own, unit): (&[char], Unit),
+    ranges: &[Range],
+    tally: &mut Tally,
+) -> Option<()> {
+    for range in ranges {
+        let change = RangeChange::of_range(alloc, rng, own, *range, unit)?;
+        change_anew(alloc, document, &change, tally)?;
+    }
+    Some(())
+}
+
+/// Changes of every range of a text in a unit, each of the document as it was; `None` where a call is
+/// refused.
+fn change_every_range(
+    alloc: Global,
+    rng: &mut SmallRng,
+    document: SmallDocument<'_>,
+    plain: &WalkedText,
+    unit: Unit,
+    tally: &mut Tally,
+) -> Option<()> {
+    let ranges = ranges(alloc, plain, unit)?;
+    let own = &plain.text.chars;
+    change_each(alloc, rng, document, (own, unit), &ranges, tally)
 }
 
 /// Changes of every range of a document in a unit, each of the document as it was; `None` where a
@@ -83,43 +131,48 @@ fn every_range(
     tally: &mut Tally,
 ) -> Option<()> {
     let first = document.opened(alloc)?;
-    let plain = first.plain();
-    let borders = borders(alloc, plain, unit)?;
-    for (n, start) in borders.iter().enumerate() {
-        for end in borders.iter().skip(n) {
-            let range = Some(Range {
-                start: *start,
-                end: *end,
-            });
-            let text = new_text(alloc, rng, &plain.text.chars)?;
-            let change = RangeChange { range, unit, text };
-            change_anew(alloc, document, &change, tally)?;
-        }
+    let changed = change_every_range(alloc, rng, document, first.plain(), unit, tally);
+    drop(first);
+    changed
+}
+
+/// Changes of every range of a document in every unit; `None` where a call is refused.
+fn every_unit(
+    alloc: Global,
+    rng: &mut SmallRng,
+    document: SmallDocument<'_>,
+    tally: &mut Tally,
+) -> Option<()> {
+    for unit in &UNITS {
+        every_range(alloc, rng, document, *unit, tally)?;
     }
     Some(())
 }
 
-/// Changes of every range of small documents; `None` where a call is refused.
-fn small_documents(
+/// Changes of every range of the small document of this number; `None` where a call is refused.
+fn small_document(
     alloc: Global,
     indexes: &Indexes,
     rng: &mut SmallRng,
     sample: &Sample,
+    number: usize,
     tally: &mut Tally,
 ) -> Option<()> {
-    for number in 0..SMALL {
-        let len = up_to(rng, SMALL_LENGTH);
-        let bytes = bytes_of(alloc, rng, sample, len)?;
-        let document = SmallDocument {
-            indexes,
-            setting: sample.setting(number),
-            bytes: &bytes,
-        };
-        for unit in &UNITS {
-            every_range(alloc, rng, document, *unit, tally)?;
-        }
-    }
-    Some(())
+    let len = up_to(rng, SMALL_LENGTH);
+    let bytes = bytes_of(alloc, rng, sample, len)?;
+    let document = SmallDocument {
+        indexes,
+        setting: sample.setting(number),
+        bytes: &bytes,
+    };
+    every_unit(alloc, rng, document, tally)
+}
+
+/// Bytes for a document of this encoding; `None` where memory is refused.
+fn drawn_bytes(alloc: Global, rng: &mut SmallRng, sample: &Sample) -> Option<Vec<u8>> {
+    let len = length(rng);
+    let len = len.saturating_mul(up_to(rng, 2).saturating_add(1));
+    bytes_of(alloc, rng, sample, len)
 }
 
 /// The document of this number with changes one after another; `None` where a call is refused.
@@ -131,12 +184,11 @@ fn one_document(
     number: usize,
     tally: &mut Tally,
 ) -> Option<()> {
-    let len = length(rng);
-    let len = len.saturating_mul(up_to(rng, 2).saturating_add(1));
-    let bytes = bytes_of(alloc, rng, sample, len)?;
-    let setting = sample.setting(number);
-    let mut trial = MirroredDocument::open(alloc, indexes, setting, bytes)?;
-    change_often(alloc, rng, &mut trial, tally)
+    let bytes = drawn_bytes(alloc, rng, sample)?;
+    let mut trial = MirroredDocument::open(alloc, indexes, sample.setting(number), bytes)?;
+    let changed = change_often(alloc, rng, &mut trial, tally);
+    drop(trial);
+    changed
 }
 
 /// Changes a document again and again; `None` where a call is refused.
@@ -161,11 +213,27 @@ pub fn changes(
     sample: &Sample,
 ) -> Option<Tally> {
     let mut tally = Tally::new();
-    small_documents(alloc, indexes, rng, sample, &mut tally)?;
+    for number in 0..SMALL {
+        small_document(alloc, indexes, rng, sample, number, &mut tally)?;
+    }
     for number in 0..DOCUMENTS {
         one_document(alloc, indexes, rng, sample, number, &mut tally)?;
     }
     Some(tally)
+}
+
+/// A document of so many bytes; `None` where a call is refused.
+fn document_of<'i>(
+    alloc: Global,
+    indexes: &'i Indexes,
+    rng: &mut SmallRng,
+    sample: &Sample,
+    count: usize,
+) -> Option<MirroredDocument<'i>> {
+    let drawn = bytes_of(alloc, rng, sample, count.saturating_add(SPARE))?;
+    let bytes = Vec::from_slice(alloc, drawn.get(..count)?).ok()?;
+    let setting = Setting::new(sample.given, Bom::Sniff);
+    MirroredDocument::open(alloc, indexes, setting, bytes)
 }
 
 /// Changes that put something into a document of so many bytes, which are nearly the most that there
@@ -178,12 +246,25 @@ pub fn full_document(
     count: usize,
 ) -> Option<Tally> {
     let mut tally = Tally::new();
-    let drawn = bytes_of(alloc, rng, sample, count.saturating_add(SPARE))?;
-    let bytes = Vec::from_slice(alloc, drawn.get(..count)?).ok()?;
-    let setting = Setting::new(sample.given, Bom::Sniff);
-    let mut trial = MirroredDocument::open(alloc, indexes, setting, bytes)?;
-    insert_often(alloc, rng, &mut trial, &mut tally)?;
+    let mut trial = document_of(alloc, indexes, rng, sample, count)?;
+    let inserted = insert_often(alloc, rng, &mut trial, &mut tally);
+    drop(trial);
+    inserted?;
     Some(tally)
+}
+
+/// Puts something into a document, if the change that is drawn has a text, and says whether it led to
+/// what it had to; `None` where a call is refused.
+fn insert_once(
+    alloc: Global,
+    rng: &mut SmallRng,
+    trial: &mut MirroredDocument<'_>,
+    tally: &mut Tally,
+) -> Option<bool> {
+    match RangeChange::drawn(alloc, rng, trial.plain())?.insertion() {
+        Some(insertion) => trial.made(alloc, &insertion, tally),
+        None => Some(true),
+    }
 }
 
 /// Puts something into a document again and again, and looks at all that it has once behind them;
@@ -196,10 +277,7 @@ fn insert_often(
 ) -> Option<()> {
     let mut all = true;
     for _ in 0..FULL_CHANGES {
-        let change = RangeChange::drawn(alloc, rng, trial.plain())?;
-        if let Some(insertion) = change.insertion() {
-            all = trial.made(alloc, &insertion, tally)? && all;
-        }
+        all = insert_once(alloc, rng, trial, tally)? && all;
     }
     tally.compare(all && trial.is_held()?);
     Some(())

@@ -60,53 +60,126 @@ fn take(
     print_counts(rt, given.name(), &tally)
 }
 
+/// Prints what the numbers of a line are.
+fn print_heading(rt: &HostRuntime) -> io::Result<()> {
+    print!(rt; "                made differ OutOfRange SplitsCharacter SplitsItem")?;
+    println!(rt; " NoEncoder Unencodable TooLarge NotKept")
+}
+
+/// Compares changes of documents in one encoding.
+fn compare_sample(
+    rt: &HostRuntime,
+    indexes: &Indexes,
+    rng: &mut SmallRng,
+    sample: &Sample,
+    all: &mut Tally,
+) -> io::Result<()> {
+    let tally = changes(rt.alloc(), indexes, rng, sample);
+    take(rt, sample.given, tally, all)
+}
+
+/// Compares changes of documents in each encoding.
+fn compare_samples(
+    rt: &HostRuntime,
+    indexes: &Indexes,
+    rng: &mut SmallRng,
+    all: &mut Tally,
+) -> io::Result<()> {
+    for sample in &SAMPLES {
+        compare_sample(rt, indexes, rng, sample, all)?;
+    }
+    compare_sample(rt, indexes, rng, &REPLACEMENT, all)
+}
+
+/// Compares changes of a full document in one encoding.
+fn compare_full(
+    rt: &HostRuntime,
+    indexes: &Indexes,
+    rng: &mut SmallRng,
+    sample: &Sample,
+    all: &mut Tally,
+) -> io::Result<()> {
+    let count = DOCUMENT_LIMIT - SPARE;
+    let tally = full_document(rt.alloc(), indexes, rng, sample, count);
+    take(rt, sample.given, tally, all)
+}
+
+/// Compares changes of full documents.
+fn compare_all_full(
+    rt: &HostRuntime,
+    indexes: &Indexes,
+    rng: &mut SmallRng,
+    all: &mut Tally,
+) -> io::Result<()> {
+    println!(rt; "Full documents:")?;
+    for sample in SAMPLES.iter().take(FULL) {
+        compare_full(rt, indexes, rng, sample, all)?;
+    }
+    Ok(())
+}
+
+/// Prints what all changes led to, and says whether that told something.
+fn conclude(rt: &HostRuntime, all: &Tally) -> io::Result<bool> {
+    print_counts(rt, "All", all)?;
+    Ok(is_telling(all))
+}
+
 /// Compares all changes, and says whether that told something.
 fn compare_changes(rt: &HostRuntime, indexes: &Indexes) -> io::Result<bool> {
     let mut rng = SmallRng::seed_from_u64(7);
     let mut all = Tally::new();
-    print!(rt; "                made differ OutOfRange SplitsCharacter SplitsItem")?;
-    println!(rt; " NoEncoder Unencodable TooLarge NotKept")?;
-    for sample in SAMPLES.iter().chain([REPLACEMENT].iter()) {
-        let tally = changes(rt.alloc(), indexes, &mut rng, sample);
-        take(rt, sample.given, tally, &mut all)?;
-    }
-    println!(rt; "Full documents:")?;
-    for sample in SAMPLES.iter().take(FULL) {
-        let count = DOCUMENT_LIMIT - SPARE;
-        let tally = full_document(rt.alloc(), indexes, &mut rng, sample, count);
-        take(rt, sample.given, tally, &mut all)?;
-    }
-    print_counts(rt, "All", &all)?;
-    Ok(is_telling(&all))
+    print_heading(rt)?;
+    compare_samples(rt, indexes, &mut rng, &mut all)?;
+    compare_all_full(rt, indexes, &mut rng, &mut all)?;
+    conclude(rt, &all)
+}
+
+/// Prints how many splices in a family of encodings agree, and says whether all do.
+fn print_splices(
+    rt: &HostRuntime,
+    given: Encoding,
+    tally: Option<oracle::Tally<1>>,
+) -> io::Result<bool> {
+    let name = given.name();
+    let Some(tally) = tally else {
+        println!(rt; "{name:<14} a call was refused")?;
+        return Ok(false);
+    };
+    let [spliced] = tally.seen;
+    let agree = spliced.saturating_sub(tally.different);
+    println!(rt; "{name:<14} {agree} of {SPLICES} splices agree")?;
+    Ok(tally.is_telling(&[SPLICES]))
 }
 
 /// Compares splices in each family of encodings, prints how many agree, and says whether all do.
 fn compare_splices(rt: &HostRuntime, indexes: &Indexes, bom: Bom) -> io::Result<bool> {
     let mut all = true;
     for given in &FAMILIES {
-        let name = given.name();
-        let Some(tally) = splices(rt.alloc(), indexes, Setting::new(*given, bom)) else {
-            println!(rt; "{name:<14} a call was refused")?;
-            all = false;
-            continue;
-        };
-        let [spliced] = tally.seen;
-        let agree = spliced.saturating_sub(tally.different);
-        println!(rt; "{name:<14} {agree} of {SPLICES} splices agree")?;
-        all = all && tally.is_telling(&[SPLICES]);
+        let tally = splices(rt.alloc(), indexes, Setting::new(*given, bom));
+        all = print_splices(rt, *given, tally)? && all;
     }
     Ok(all)
 }
 
+/// Compares splices where marks are kept.
+fn compare_kept_marks(rt: &HostRuntime, indexes: &Indexes) -> io::Result<bool> {
+    println!(rt; "Byte order marks kept:")?;
+    compare_splices(rt, indexes, Bom::Keep)
+}
+
+/// Compares all over these index files, and says whether that told something.
+fn compare_over(rt: &HostRuntime, indexes: &Indexes) -> io::Result<bool> {
+    let changes = compare_changes(rt, indexes)?;
+    let sniffed = compare_splices(rt, indexes, Bom::Sniff)?;
+    Ok(compare_kept_marks(rt, indexes)? && sniffed && changes)
+}
+
 /// Compares all, and says whether that told something.
 fn compare(rt: &HostRuntime) -> io::Result<bool> {
-    let Some(indexes) = small_indexes(rt.alloc()) else {
-        return Err(io::ErrorKind::OutOfMemory)?;
-    };
-    let changes = compare_changes(rt, &indexes)?;
-    let sniffed = compare_splices(rt, &indexes, Bom::Sniff)?;
-    println!(rt; "Byte order marks kept:")?;
-    Ok(compare_splices(rt, &indexes, Bom::Keep)? && sniffed && changes)
+    match small_indexes(rt.alloc()) {
+        Some(indexes) => compare_over(rt, &indexes),
+        None => Err(io::Error::from(io::ErrorKind::OutOfMemory)),
+    }
 }
 
 fn main(rt: HostRuntime) -> ExitCode {

@@ -62,6 +62,19 @@ fn foretold(made: &Result<(), DocFault>) -> Result<bool, DocFault> {
     }
 }
 
+/// Whether the splice of a plan would keep the text. This call and the next stand alone: they promise
+/// much, which no caller needs.
+fn keeps(doc: &Doc<'_>, plan: &Plan, text: &str, asked: &mut Meter) -> Result<bool, DocFault> {
+    let Plan { at, del, i, j, .. } = *plan;
+    doc.keeps(at, del, plan.ins.as_slice(), i, j, text, asked)
+}
+
+/// Makes the splice of a plan.
+fn splice(doc: &mut Doc<'_>, plan: &Plan, text: &str, made: &mut Meter) -> Result<(), DocFault> {
+    let Plan { at, del, i, j, .. } = *plan;
+    doc.splice_kept(at, del, plan.ins.as_slice(), i, j, text, made)
+}
+
 /// Makes a change by its plan, and counts whether it is made exactly where that was said before, for
 /// as many bytes decoded.
 fn make(
@@ -71,13 +84,25 @@ fn make(
     made: &mut Meter,
     tally: &mut Tally,
 ) -> Result<(), DocFault> {
-    let Plan { at, del, i, j, .. } = *plan;
-    let ins = plan.ins.as_slice();
     let mut asked = meter();
-    let kept = doc.keeps(at, del, ins, i, j, text, &mut asked);
-    let result = doc.splice_kept(at, del, ins, i, j, text, made);
+    let kept = keeps(doc, plan, text, &mut asked);
+    let result = splice(doc, plan, text, made);
     tally.compare(kept == foretold(&result) && asked.decoded() == made.decoded());
     result
+}
+
+/// What a change leads to whose new text is this.
+fn changed_to(
+    alloc: Global,
+    doc: &mut Doc<'_>,
+    change: &RangeChange,
+    text: &str,
+    meter: &mut Meter,
+    tally: &mut Tally,
+) -> Result<Plan, ChangeRefusal> {
+    let plan = planned(alloc, doc, change, text)?;
+    make(doc, &plan, text, meter, tally)?;
+    Ok(plan)
 }
 
 /// What a change leads to.
@@ -89,9 +114,42 @@ fn changed(
     tally: &mut Tally,
 ) -> Result<Plan, ChangeRefusal> {
     let text = change.string(alloc).ok_or(DocFault::OutOfMemory)?;
-    let plan = planned(alloc, doc, change, &text)?;
-    make(doc, &plan, &text, meter, tally)?;
-    Ok(plan)
+    changed_to(alloc, doc, change, &text, meter, tally)
+}
+
+/// Makes a change of a document, and says whether it led to what it had to.
+fn is_made(
+    alloc: Global,
+    doc: &mut Doc<'_>,
+    change: &RangeChange,
+    wanted: &Result<After, ChangeRefusal>,
+    tally: &mut Tally,
+) -> bool {
+    let mut meter = meter();
+    let found = changed(alloc, doc, change, &mut meter, tally);
+    is_as_wanted(&found, wanted, meter.decoded())
+}
+
+/// Counts a change by what it has to lead to.
+fn count(wanted: &Result<After, ChangeRefusal>, tally: &mut Tally) {
+    let refusal = match wanted {
+        Ok(_) => None,
+        Err(refusal) => Some(*refusal),
+    };
+    if let Some(kind) = ChangeKind::of(refusal) {
+        tally.count(kind as usize);
+    }
+}
+
+/// The document of these bytes under a setting; `None` where a call is refused.
+fn opened<'i>(
+    alloc: Global,
+    indexes: &'i Indexes,
+    setting: Setting,
+    bytes: &[u8],
+) -> Option<Doc<'i>> {
+    let Setting { given, bom } = setting;
+    Doc::open(alloc, indexes, given, bom, bytes, &mut meter()).ok()
 }
 
 impl<'i> MirroredDocument<'i> {
@@ -102,9 +160,9 @@ impl<'i> MirroredDocument<'i> {
         setting: Setting,
         bytes: Vec<u8>,
     ) -> Option<MirroredDocument<'i>> {
-        let Setting { given, bom } = setting;
-        let doc = Doc::open(alloc, indexes, given, bom, &bytes, &mut meter()).ok()?;
-        let source = PlainDocument::of(alloc, indexes, setting, bytes)?;
+        let doc = opened(alloc, indexes, setting, &bytes);
+        let source = PlainDocument::of(alloc, indexes, setting, bytes);
+        let (doc, source) = doc.zip(source)?;
         Some(MirroredDocument { doc, source })
     }
 }
@@ -127,18 +185,10 @@ impl MirroredDocument<'_> {
     /// memory is refused.
     pub fn made(&mut self, alloc: Global, change: &RangeChange, tally: &mut Tally) -> Option<bool> {
         let wanted = self.source.changed(alloc, change);
-        let mut meter = meter();
-        let found = changed(alloc, &mut self.doc, change, &mut meter, tally);
-        let as_wanted = is_as_wanted(&found, &wanted, meter.decoded());
-        let refusal = match wanted {
-            Ok(after) => {
-                self.source.take(alloc, after.bytes, after.text)?;
-                None
-            }
-            Err(refusal) => Some(refusal),
-        };
-        if let Some(kind) = ChangeKind::of(refusal) {
-            tally.count(kind as usize);
+        let as_wanted = is_made(alloc, &mut self.doc, change, &wanted, tally);
+        count(&wanted, tally);
+        if let Ok(after) = wanted {
+            self.source.take(alloc, after)?;
         }
         Some(as_wanted)
     }

@@ -42,6 +42,35 @@ fn cut(text: &PlacedText, n: usize) -> Result<usize, ChangeFault> {
     Ok(place.to as usize)
 }
 
+/// What a change replaces: code points from `i` to `j`, and bytes from `left` to `right`.
+#[derive(Clone, Copy)]
+struct Part {
+    i: usize,
+    j: usize,
+    left: usize,
+    right: usize,
+}
+
+/// What a change replaces, or why it can't.
+fn part_of(plain: &WalkedText, change: &RangeChange) -> Result<Part, ChangeFault> {
+    let (i, j) = ends(plain, change)?;
+    let left = cut(&plain.text, i)?;
+    let right = cut(&plain.text, j)?;
+    Ok(Part { i, j, left, right })
+}
+
+/// The splice that puts these bytes in the place of a part.
+fn plan_of(part: Part, ins: Vec<u8>) -> Plan {
+    let Part { i, j, left, right } = part;
+    Plan {
+        at: left as u64,
+        del: right.saturating_sub(left) as u64,
+        ins: PlannedBytes::new(ins),
+        i: i as u64,
+        j: j as u64,
+    }
+}
+
 /// The escape in force at a place.
 fn in_force(bytes: &[u8], at: usize) -> Escape {
     last_escape(bytes.get(..at).unwrap_or(bytes))
@@ -79,6 +108,22 @@ fn put_in(
     encode(alloc, encoding, indexes, EncodeMode::Fatal, &text)
 }
 
+/// The bytes of the new text in the encoding in force, between the bytes in front and those behind it.
+fn put_between(
+    alloc: Global,
+    indexes: &Indexes,
+    (bytes, encoding): (&[u8], Encoding),
+    part: &Part,
+    change: &RangeChange,
+) -> Result<Vec<u8>, EncodeFault> {
+    match encoding {
+        Encoding::Iso2022Jp => {
+            put_iso(alloc, indexes, bytes, part.left, part.right, &change.text)
+        }
+        encoding => put_in(alloc, indexes, encoding, change),
+    }
+}
+
 /// The splice that makes a change of the document of these bytes and this text, or the first cause
 /// that refuses it.
 pub fn planned(
@@ -88,17 +133,8 @@ pub fn planned(
     plain: &WalkedText,
     change: &RangeChange,
 ) -> Result<Plan, ChangeFault> {
-    let (i, j) = ends(plain, change)?;
-    let (left, right) = (cut(&plain.text, i)?, cut(&plain.text, j)?);
-    let ins = match plain.text.encoding {
-        Encoding::Iso2022Jp => put_iso(alloc, indexes, bytes, left, right, &change.text)?,
-        encoding => put_in(alloc, indexes, encoding, change)?,
-    };
-    Ok(Plan {
-        at: left as u64,
-        del: right.saturating_sub(left) as u64,
-        ins: PlannedBytes::new(ins),
-        i: i as u64,
-        j: j as u64,
-    })
+    let part = part_of(plain, change)?;
+    let source = (bytes, plain.text.encoding);
+    let ins = put_between(alloc, indexes, source, &part, change)?;
+    Ok(plan_of(part, ins))
 }

@@ -43,19 +43,46 @@ fn agrees_behind(
     agrees(alloc, doc, setting, bytes)
 }
 
-/// Splices of a document under a setting, one after another: how many there were, and how many of them left a
-/// document that differs from decoding from scratch; `None` where a call is refused.
-pub fn splices(alloc: Global, indexes: &Indexes, setting: Setting) -> Option<Tally<1>> {
-    let Setting { given, bom } = setting;
+/// Draws a splice of the document of these bytes, makes it, and counts whether the document agrees with
+/// decoding the bytes behind it from scratch; `None` where a call is refused.
+fn splice_once(
+    alloc: Global,
+    rng: &mut SmallRng,
+    doc: &mut Doc<'_>,
+    setting: Setting,
+    bytes: &mut Vec<u8>,
+    tally: &mut Tally<1>,
+) -> Option<()> {
+    let splice = splice_of(alloc, rng, bytes.len())?;
+    *bytes = spliced(alloc, bytes, &splice)?;
+    tally.count(0);
+    tally.compare(agrees_behind(alloc, doc, setting, bytes, &splice)?);
+    Some(())
+}
+
+/// Splices of an empty document under a setting, one after another: how many there were, and how many
+/// of them left a document that differs from decoding from scratch; `None` where a call is refused.
+fn splice_often(alloc: Global, doc: &mut Doc<'_>, setting: Setting) -> Option<Tally<1>> {
     let mut rng = SmallRng::seed_from_u64(1);
     let mut bytes = Vec::new(alloc);
-    let mut doc = Doc::open(alloc, indexes, given, bom, &bytes, &mut meter()).ok()?;
     let mut tally = Tally::new();
     for _ in 0..SPLICES {
-        let splice = splice_of(alloc, &mut rng, bytes.len())?;
-        bytes = spliced(alloc, &bytes, &splice)?;
-        tally.count(0);
-        tally.compare(agrees_behind(alloc, &mut doc, setting, &bytes, &splice)?);
+        splice_once(alloc, &mut rng, doc, setting, &mut bytes, &mut tally)?;
     }
     Some(tally)
+}
+
+/// An empty document; `None` where a call is refused.
+fn opened<'i>(alloc: Global, indexes: &'i Indexes, setting: Setting) -> Option<Doc<'i>> {
+    let Setting { given, bom } = setting;
+    Doc::open(alloc, indexes, given, bom, &[], &mut meter()).ok()
+}
+
+/// Splices of a document under a setting, which begins empty. It is dropped by a call: where it is
+/// dropped in place, the function is long to prove.
+pub fn splices(alloc: Global, indexes: &Indexes, setting: Setting) -> Option<Tally<1>> {
+    let mut doc = opened(alloc, indexes, setting)?;
+    let tally = splice_often(alloc, &mut doc, setting);
+    drop(doc);
+    tally
 }

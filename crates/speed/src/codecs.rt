@@ -1,17 +1,29 @@
 //! How fast text is decoded and encoded, by encoding.
 
 use crate::fastest::Fastest;
-use crate::samples::{Text, copies, document, samples};
-use codec::{CodecFault, decode_whole};
+use crate::samples::{EncodingSample, Text, copies, document, samples};
+use codec::{CodecFault, Decoded, decode_whole};
 use enc_names::{Bom, Encoding};
 use encoders::{EncodeFault, EncodeMode, encode};
 use index_files::{EarlyEnd, indexes_in};
 use index_loader::Indexes;
 use oracle::megabytes_per_second;
+use std::alloc::AllocError;
 use std::time::{Duration, Instant};
 
 /// How often each document is decoded, and its text encoded.
 const ROUNDS: u32 = 20;
+
+/// What was measured of a document.
+#[derive(Clone, Copy)]
+enum Measured {
+    /// The times of decoding it and of encoding its text, if that has all index files.
+    Speeds(Duration, Option<Duration>),
+    /// How many errors it has.
+    Errors(usize),
+    /// The encoding lacks an index file.
+    NoIndex,
+}
 
 /// What decoding a document gave.
 #[derive(Drop)]
@@ -24,15 +36,26 @@ struct DecodedText {
     errors: usize,
 }
 
+/// Prints how many copies of a text a document has.
+fn list_text(rt: &HostRuntime, name: &str, (kind, text): Text) -> Result<(), EarlyEnd> {
+    let times = copies(text);
+    let bytes = text.len();
+    println!(rt; "{name:<13} {kind:<9} {times} times {bytes} bytes")?;
+    Ok(())
+}
+
+/// Prints the texts of a sample.
+fn list_sample(rt: &HostRuntime, sample: &EncodingSample) -> Result<(), EarlyEnd> {
+    for text in &sample.texts() {
+        list_text(rt, sample.encoding.name(), *text)?;
+    }
+    Ok(())
+}
+
 /// Prints which samples there are, and how to measure.
 pub fn list(rt: &HostRuntime) -> Result<(), EarlyEnd> {
     for sample in &samples() {
-        let name = sample.encoding.name();
-        for (kind, text) in &sample.texts() {
-            let times = copies(text);
-            let bytes = text.len();
-            println!(rt; "{name:<13} {kind:<9} {times} times {bytes} bytes")?;
-        }
+        list_sample(rt, sample)?;
     }
     println!(rt; "'speed codecs --indexes DIR' measures with the index files in DIR.")?;
     Ok(())
@@ -41,10 +64,25 @@ pub fn list(rt: &HostRuntime) -> Result<(), EarlyEnd> {
 /// Prints how fast each sample's documents are decoded, and their texts encoded.
 pub fn measure(rt: &HostRuntime, folder: &str) -> Result<(), EarlyEnd> {
     let indexes = indexes_in(rt, rt.alloc(), folder)?;
+    measure_over(rt, &indexes)
+}
+
+/// The same over these index files.
+fn measure_over(rt: &HostRuntime, indexes: &Indexes) -> Result<(), EarlyEnd> {
     for sample in &samples() {
-        for text in &sample.texts() {
-            measure_one(rt, &indexes, sample.encoding, *text)?;
-        }
+        measure_sample(rt, indexes, sample)?;
+    }
+    Ok(())
+}
+
+/// The same of one sample.
+fn measure_sample(
+    rt: &HostRuntime,
+    indexes: &Indexes,
+    sample: &EncodingSample,
+) -> Result<(), EarlyEnd> {
+    for text in &sample.texts() {
+        measure_one(rt, indexes, sample.encoding, *text)?;
     }
     Ok(())
 }
@@ -57,25 +95,66 @@ fn measure_one(
     encoding: Encoding,
     (kind, text): Text,
 ) -> Result<(), EarlyEnd> {
-    let name = encoding.name();
     let bytes = document(rt.alloc(), text)?;
-    match fastest_decoding(rt, indexes, encoding, &bytes)? {
-        Some(
-            DecodedText {
-                time,
-                text,
-                errors: 0,
-            },
-        ) => {
-            let speed = megabytes_per_second(bytes.len(), time);
-            let back = fastest_encoding(rt, indexes, encoding, text.as_str())?;
-            let back = back.map_or(0, |time| megabytes_per_second(bytes.len(), time));
+    let back = match fastest_decoding(rt, indexes, encoding, &bytes)? {
+        Some(decoded) if decoded.errors == 0 => {
+            let back = fastest_encoding(rt, indexes, encoding, decoded.text.as_str())?;
+            Measured::Speeds(decoded.time, back)
+        }
+        Some(decoded) => Measured::Errors(decoded.errors),
+        None => Measured::NoIndex,
+    };
+    print_measured(rt, (encoding.name(), kind), bytes.len(), back)
+}
+
+/// Prints what was measured of a document of so many bytes.
+fn print_measured(
+    rt: &HostRuntime,
+    (name, kind): (&str, &str),
+    bytes: usize,
+    measured: Measured,
+) -> Result<(), EarlyEnd> {
+    match measured {
+        Measured::Speeds(time, back) => {
+            let speed = megabytes_per_second(bytes, time);
+            let back = back.map_or(0, |time| megabytes_per_second(bytes, time));
             println!(rt; "{name:<13} {kind:<9} {speed:>6} {back:>6} MB/s decoded, encoded")?;
         }
-        Some(DecodedText { errors, .. }) => println!(rt; "{name:<13} {kind:<9} {errors} errors")?,
-        None => println!(rt; "{name:<13} {kind:<9} no index")?,
+        Measured::Errors(errors) => println!(rt; "{name:<13} {kind:<9} {errors} errors")?,
+        Measured::NoIndex => println!(rt; "{name:<13} {kind:<9} no index")?,
     }
     Ok(())
+}
+
+/// A document, decoded; `None` where the encoding lacks an index file.
+fn decoded(
+    rt: &HostRuntime,
+    indexes: &Indexes,
+    encoding: Encoding,
+    document: &[u8],
+) -> Result<Option<Decoded>, AllocError> {
+    match decode_whole(rt.alloc(), indexes, encoding, Bom::Sniff, document) {
+        Ok(decoded) => Ok(Some(decoded)),
+        Err(CodecFault::NoIndex) => Ok(None),
+        Err(CodecFault::OutOfMemory) => Err(AllocError),
+        Err(CodecFault::Malformed(_)) => unreachable!(),
+    }
+}
+
+/// One decoding of a document, timed; `None` where the encoding lacks an index file.
+fn time_decoding(
+    rt: &HostRuntime,
+    indexes: &Indexes,
+    encoding: Encoding,
+    document: &[u8],
+    best: &mut Fastest,
+) -> Result<Option<Decoded>, EarlyEnd> {
+    let start = Instant::now(rt)?;
+    let found = decoded(rt, indexes, encoding, document)?;
+    if let Some(decoded) = &found {
+        best.take(rt, start, decoded.text.len())?;
+    }
+    Ok(found)
 }
 
 /// The fastest of some decodings of a document, or `None` where the encoding lacks an index file.
@@ -86,22 +165,17 @@ fn fastest_decoding(
     document: &[u8],
 ) -> Result<Option<DecodedText>, EarlyEnd> {
     let mut best = Fastest::new();
-    let mut last = None;
-    for _ in 0..ROUNDS {
-        // Freed before the clock is looked at, so that each round finds the same memory.
-        last = None;
-        let start = Instant::now(rt)?;
-        let decoded = match decode_whole(rt.alloc(), indexes, encoding, Bom::Sniff, document) {
-            Ok(decoded) => decoded,
-            Err(CodecFault::NoIndex) => return Ok(None),
-            Err(CodecFault::OutOfMemory) => return Err(EarlyEnd::OutOfMemory),
-            Err(CodecFault::Malformed(_)) => unreachable!(),
-        };
-        best.take(rt, start, decoded.text.len())?;
-        last = Some((decoded.text, decoded.errors.len()));
+    for _ in 1..ROUNDS {
+        // Each is freed before the clock is looked at again, so that each round finds the same memory.
+        time_decoding(rt, indexes, encoding, document, &mut best)?;
     }
+    let last = time_decoding(rt, indexes, encoding, document, &mut best)?;
     let time = best.time;
-    Ok(last.map(|(text, errors)| DecodedText { time, text, errors }))
+    Ok(last.map(|decoded| DecodedText {
+        time,
+        errors: decoded.errors.len(),
+        text: decoded.text,
+    }))
 }
 
 /// The time of the fastest of some encodings of a text, or `None` where the encoding lacks an index
@@ -114,12 +188,39 @@ fn fastest_encoding(
 ) -> Result<Option<Duration>, EarlyEnd> {
     let mut best = Fastest::new();
     for _ in 0..ROUNDS {
-        let start = Instant::now(rt)?;
-        match encode(rt.alloc(), encoding, indexes, EncodeMode::Html, text) {
-            Ok(bytes) => best.take(rt, start, bytes.len())?,
-            Err(EncodeFault::OutOfMemory) => return Err(EarlyEnd::OutOfMemory),
-            Err(_) => return Ok(None),
+        if !time_encoding(rt, indexes, encoding, text, &mut best)? {
+            return Ok(None);
         }
     }
     Ok(Some(best.time))
+}
+
+/// One encoding of a text, timed; says whether the encoding has its index files.
+fn time_encoding(
+    rt: &HostRuntime,
+    indexes: &Indexes,
+    encoding: Encoding,
+    text: &str,
+    best: &mut Fastest,
+) -> Result<bool, EarlyEnd> {
+    let start = Instant::now(rt)?;
+    match encoded(rt, indexes, encoding, text)? {
+        Some(bytes) => best.take(rt, start, bytes.len())?,
+        None => return Ok(false),
+    }
+    Ok(true)
+}
+
+/// A text, encoded; `None` where the encoding lacks an index file.
+fn encoded(
+    rt: &HostRuntime,
+    indexes: &Indexes,
+    encoding: Encoding,
+    text: &str,
+) -> Result<Option<Vec<u8>>, AllocError> {
+    match encode(rt.alloc(), encoding, indexes, EncodeMode::Html, text) {
+        Ok(bytes) => Ok(Some(bytes)),
+        Err(EncodeFault::OutOfMemory) => Err(AllocError),
+        Err(_) => Ok(None),
+    }
 }

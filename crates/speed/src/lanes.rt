@@ -5,6 +5,7 @@ use crate::fastest::Fastest;
 use crate::text_kernels::{Forms, TEXT_KERNELS, TextKernel};
 use index_files::EarlyEnd;
 use oracle::megabytes_per_second;
+use std::io;
 use std::time::{Duration, Instant};
 
 /// Who does the work.
@@ -44,13 +45,19 @@ const TEXT_SIZE: usize = 65_536;
 /// How often a text is passed over in a round.
 const TURNS: u32 = 32;
 
+/// Prints a name.
+fn list_name(rt: &HostRuntime, name: &str) -> Result<(), EarlyEnd> {
+    println!(rt; "{name}")?;
+    Ok(())
+}
+
 /// Prints the names of the kernels, and how to measure.
 pub fn list(rt: &HostRuntime) -> Result<(), EarlyEnd> {
     for (name, _) in &BYTE_KERNELS {
-        println!(rt; "{name}")?;
+        list_name(rt, name)?;
     }
     for (name, _) in &TEXT_KERNELS {
-        println!(rt; "{name}")?;
+        list_name(rt, name)?;
     }
     println!(rt; "'speed lanes' measures them.")?;
     Ok(())
@@ -59,14 +66,26 @@ pub fn list(rt: &HostRuntime) -> Result<(), EarlyEnd> {
 /// Prints how fast each kernel is, a line a size or a text.
 pub fn measure(rt: &HostRuntime) -> Result<(), EarlyEnd> {
     for (name, kernel) in &BYTE_KERNELS {
-        for size in &SIZES {
-            measure_size(rt, name, *kernel, *size)?;
-        }
+        measure_sizes(rt, name, *kernel)?;
     }
     for (name, kernel) in &TEXT_KERNELS {
-        for (language, sample) in &TEXTS {
-            measure_text(rt, name, *kernel, language, sample)?;
-        }
+        measure_texts(rt, name, *kernel)?;
+    }
+    Ok(())
+}
+
+/// Prints how fast a kernel is over slices, a line a size.
+fn measure_sizes(rt: &HostRuntime, name: &str, kernel: ByteKernel) -> Result<(), EarlyEnd> {
+    for size in &SIZES {
+        measure_size(rt, name, kernel, *size)?;
+    }
+    Ok(())
+}
+
+/// Prints how fast a kernel is over texts, a line a text.
+fn measure_texts(rt: &HostRuntime, name: &str, kernel: TextKernel) -> Result<(), EarlyEnd> {
+    for (language, sample) in &TEXTS {
+        measure_text(rt, name, kernel, language, sample)?;
     }
     Ok(())
 }
@@ -78,11 +97,22 @@ fn measure_size(
     kernel: ByteKernel,
     size: usize,
 ) -> Result<(), EarlyEnd> {
-    let passed = turns(size).saturating_mul(size);
-    let plain = megabytes_per_second(passed, fastest_slices(rt, kernel, By::Plain, size)?);
-    let kernel = megabytes_per_second(passed, fastest_slices(rt, kernel, By::Kernel, size)?);
+    let plain = speed_over_slices(rt, kernel, By::Plain, size)?;
+    let kernel = speed_over_slices(rt, kernel, By::Kernel, size)?;
     println!(rt; "{name:<17} {size:>8} bytes {kernel:>7} MB/s, plain {plain:>6} MB/s")?;
     Ok(())
+}
+
+/// How many megabytes a second are passed over in slices of a size.
+fn speed_over_slices(
+    rt: &HostRuntime,
+    kernel: ByteKernel,
+    by: By,
+    size: usize,
+) -> Result<u128, EarlyEnd> {
+    let passed = turns(size).saturating_mul(size);
+    let time = fastest_slices(rt, kernel, by, size)?;
+    Ok(megabytes_per_second(passed, time))
 }
 
 /// Prints how fast a kernel is over copies of a text, in bytes of the text's UTF-8.
@@ -95,12 +125,31 @@ fn measure_text(
 ) -> Result<(), EarlyEnd> {
     let copies = TEXT_SIZE.checked_div(sample.len()).unwrap_or(0);
     let text = sample.repeat(rt.alloc(), copies)?;
-    let plain = fastest_pass(rt, kernel, By::Plain, text.as_str())?;
-    let kernel = fastest_pass(rt, kernel, By::Kernel, text.as_str())?;
-    let plain = megabytes_per_second(text.len(), plain);
-    let kernel = megabytes_per_second(text.len(), kernel);
+    let plain = speed_over_text(rt, kernel, By::Plain, text.as_str())?;
+    let kernel = speed_over_text(rt, kernel, By::Kernel, text.as_str())?;
+    print_text(rt, (name, language), kernel, plain)
+}
+
+/// Prints how fast a kernel is over a text in a language, and how fast the standard library.
+fn print_text(
+    rt: &HostRuntime,
+    (name, language): (&str, &str),
+    kernel: u128,
+    plain: u128,
+) -> Result<(), EarlyEnd> {
     println!(rt; "{name:<20} {language:<9} {kernel:>7} MB/s, std {plain:>6} MB/s")?;
     Ok(())
+}
+
+/// How many megabytes of a text are passed over in a second.
+fn speed_over_text(
+    rt: &HostRuntime,
+    kernel: TextKernel,
+    by: By,
+    text: &str,
+) -> Result<u128, EarlyEnd> {
+    let time = fastest_pass(rt, kernel, by, text)?;
+    Ok(megabytes_per_second(text.len(), time))
 }
 
 /// The time of the fastest of some rounds over slices of that size.
@@ -114,10 +163,22 @@ fn fastest_slices(
     let copies = needed.checked_div(LINES.len()).unwrap_or(0);
     let mut bytes = LINES.repeat(rt.alloc(), copies.saturating_add(1))?;
     let mut units = vec![in rt.alloc(); 0u16; size]?;
+    Ok(fastest_of(rt, kernel, by, &mut bytes, &mut units)?)
+}
+
+/// The same, with these bytes and room for the units of a slice.
+fn fastest_of(
+    rt: &HostRuntime,
+    kernel: ByteKernel,
+    by: By,
+    bytes: &mut [u8],
+    units: &mut [u16],
+) -> io::Result<Duration> {
+    let size = units.len();
     let mut best = Fastest::new();
     for _ in 0..ROUNDS {
         let start = Instant::now(rt)?;
-        let sum = round_of_slices(kernel, by, &mut bytes, &mut units, size);
+        let sum = round_of_slices(kernel, by, bytes, units, size);
         best.take(rt, start, sum)?;
     }
     Ok(best.time)

@@ -38,10 +38,7 @@ fn perform(rt: &HostRuntime, job: Measurement<'_>) -> Result<(), EarlyEnd> {
 fn performed(rt: &HostRuntime, job: Measurement<'_>) -> u8 {
     match perform(rt, job) {
         Ok(()) => 0,
-        Err(failure) => {
-            let _ = eprintln!(rt; "speed: {failure}");
-            failure.status()
-        }
+        Err(failure) => ended(rt, failure),
     }
 }
 
@@ -57,18 +54,25 @@ fn words(rt: &HostRuntime) -> io::Result<Vec<String>> {
     Ok(env::args(rt)?.skip(1).collect(rt.alloc())?)
 }
 
+/// Does what these words ask, and returns the exit status.
+fn attempt_words(rt: &HostRuntime, words: &[String]) -> u8 {
+    match job_of(rt.alloc(), words) {
+        Ok(job) => performed(rt, job),
+        Err(error) => told(rt, &error),
+    }
+}
+
+/// Prints why the program ends early, and returns the exit status.
+fn ended(rt: &HostRuntime, failure: EarlyEnd) -> u8 {
+    let _ = eprintln!(rt; "speed: {failure}");
+    failure.status()
+}
+
 /// Does what the words ask, and returns the exit status.
 fn attempt(rt: &HostRuntime) -> u8 {
     match words(rt) {
-        Ok(words) => match job_of(rt.alloc(), &words) {
-            Ok(job) => performed(rt, job),
-            Err(error) => told(rt, &error),
-        },
-        Err(error) => {
-            let failure = EarlyEnd::from(error);
-            let _ = eprintln!(rt; "speed: {failure}");
-            failure.status()
-        }
+        Ok(words) => attempt_words(rt, &words),
+        Err(error) => ended(rt, EarlyEnd::from(error)),
     }
 }
 

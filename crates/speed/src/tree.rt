@@ -6,6 +6,7 @@ use oracle::tree::{Items, LoadAxis, light, put, take};
 use rand::rngs::SmallRng;
 use rand::{RngExt, SeedableRng};
 use std::alloc::{AllocError, Global};
+use std::io;
 use std::time::{Duration, Instant};
 use sum_tree::{SumTree, visits};
 
@@ -18,47 +19,113 @@ const ROUNDS: usize = 20;
 /// How many edits or searches a step has.
 const STEPS: usize = 1000;
 
+/// Prints how many nodes a search visits in a list of so many items.
+fn list_one(rt: &HostRuntime, count: usize) -> Result<(), EarlyEnd> {
+    let items = grown(rt.alloc(), count)?;
+    let (fewest, most) = visited(&items);
+    drop(items);
+    println!(rt; "{count:>6} items: a find visits {fewest} to {most} nodes")?;
+    Ok(())
+}
+
 /// Prints how many nodes a search visits, and how to measure.
 pub fn list(rt: &HostRuntime) -> Result<(), EarlyEnd> {
     for count in &SIZES {
-        let items = grown(rt.alloc(), *count)?;
-        let (fewest, most) = visited(&items);
-        println!(rt; "{count:>6} items: a find visits {fewest} to {most} nodes")?;
+        list_one(rt, *count)?;
     }
     println!(rt; "'speed tree' measures how long a step takes.")?;
     Ok(())
+}
+
+/// The fastest rounds of finds, of inserts and of removes.
+#[derive(Clone, Copy)]
+struct Steps {
+    find: Fastest,
+    insert: Fastest,
+    remove: Fastest,
 }
 
 /// Prints what each step costs.
 pub fn measure(rt: &HostRuntime) -> Result<(), EarlyEnd> {
     for count in &SIZES {
         let mut items = grown(rt.alloc(), *count)?;
-        measure_one(rt, &mut items)?;
+        let steps = measure_one(rt, &mut items);
+        drop(items);
+        print_steps(rt, *count, steps?)?;
     }
     Ok(())
 }
 
-/// Prints what each step costs in a list: the fastest of some rounds of a thousand finds, inserts
-/// and removes.
-fn measure_one(rt: &HostRuntime, items: &mut Items) -> Result<(), EarlyEnd> {
-    let count = items.len();
-    let mut rng = SmallRng::seed_from_u64(2);
-    let (mut find, mut insert, mut remove) = (Fastest::new(), Fastest::new(), Fastest::new());
-    for _ in 0..ROUNDS {
-        let targets = targets(rt.alloc(), &mut rng, items.len())?;
-        let start = Instant::now(rt)?;
-        let visited = search(items, &targets);
-        find.take(rt, start, visited)?;
-        let start = Instant::now(rt)?;
-        put_all(items, &targets);
-        insert.take(rt, start, items.len())?;
-        let start = Instant::now(rt)?;
-        take_all(items, &targets);
-        remove.take(rt, start, items.len())?;
-    }
-    let (insert, remove, find) = (each(insert.time), each(remove.time), each(find.time));
+/// Prints what each step costs in a list of so many items.
+fn print_steps(rt: &HostRuntime, count: usize, steps: Steps) -> Result<(), EarlyEnd> {
+    let (insert, remove) = (each(steps.insert.time), each(steps.remove.time));
+    let find = each(steps.find.time);
     println!(rt; "{count:>6} items: insert {insert} ns, remove {remove} ns, find {find} ns")?;
     Ok(())
+}
+
+/// What each step costs in a list: the fastest of some rounds of a thousand finds, inserts and
+/// removes.
+fn measure_one(rt: &HostRuntime, items: &mut Items) -> Result<Steps, EarlyEnd> {
+    let mut rng = SmallRng::seed_from_u64(2);
+    let mut steps = Steps {
+        find: Fastest::new(),
+        insert: Fastest::new(),
+        remove: Fastest::new(),
+    };
+    for _ in 0..ROUNDS {
+        let targets = targets(rt.alloc(), &mut rng, items.len())?;
+        time_steps(rt, items, &targets, &mut steps)?;
+    }
+    Ok(steps)
+}
+
+/// Times a round of finds, of inserts and of removes of these items.
+fn time_steps(
+    rt: &HostRuntime,
+    items: &mut Items,
+    targets: &[usize],
+    steps: &mut Steps,
+) -> io::Result<()> {
+    time_finds(rt, items, targets, &mut steps.find)?;
+    time_inserts(rt, items, targets, &mut steps.insert)?;
+    time_removes(rt, items, targets, &mut steps.remove)
+}
+
+/// Times a round of finds.
+fn time_finds(
+    rt: &HostRuntime,
+    items: &Items,
+    targets: &[usize],
+    best: &mut Fastest,
+) -> io::Result<()> {
+    let start = Instant::now(rt)?;
+    let visited = search(items, targets);
+    best.take(rt, start, visited)
+}
+
+/// Times a round of inserts.
+fn time_inserts(
+    rt: &HostRuntime,
+    items: &mut Items,
+    targets: &[usize],
+    best: &mut Fastest,
+) -> io::Result<()> {
+    let start = Instant::now(rt)?;
+    put_all(items, targets);
+    best.take(rt, start, items.len())
+}
+
+/// Times a round of removes.
+fn time_removes(
+    rt: &HostRuntime,
+    items: &mut Items,
+    targets: &[usize],
+    best: &mut Fastest,
+) -> io::Result<()> {
+    let start = Instant::now(rt)?;
+    take_all(items, targets);
+    best.take(rt, start, items.len())
 }
 
 /// Nanoseconds a step.
