@@ -1,7 +1,49 @@
 //! What a document answers.
 
+use decoder_core::Meter;
 use enc_names::Place;
-use piece_rope::{Doc, Lengths};
+use piece_rope::{Doc, DocFault, Lengths};
+
+/// A document, by the calls that are tried on it. What tries them is proved over these alone: over
+/// all that a `Doc` is it would take many times as long.
+pub trait Document: Drop {
+    /// `Doc::lengths`.
+    fn lengths(&self) -> Lengths;
+
+    /// `Doc::text`.
+    fn text(&self, i: u64, j: u64) -> Result<String, DocFault>;
+
+    /// `Doc::source`.
+    fn source(&self, at: u64, len: u64) -> Result<Vec<u8>, DocFault>;
+
+    /// `Doc::errors`.
+    fn errors(&self, from: u64, max: u64) -> Result<Vec<Place>, DocFault>;
+
+    /// `Doc::splice`.
+    fn splice(&mut self, at: u64, del: u64, ins: &[u8], meter: &mut Meter) -> Result<(), DocFault>;
+}
+
+impl Document for Doc<'_> {
+    fn lengths(&self) -> Lengths {
+        Doc::lengths(self)
+    }
+
+    fn text(&self, i: u64, j: u64) -> Result<String, DocFault> {
+        Doc::text(self, i, j)
+    }
+
+    fn source(&self, at: u64, len: u64) -> Result<Vec<u8>, DocFault> {
+        Doc::source(self, at, len)
+    }
+
+    fn errors(&self, from: u64, max: u64) -> Result<Vec<Place>, DocFault> {
+        Doc::errors(self, from, max)
+    }
+
+    fn splice(&mut self, at: u64, del: u64, ins: &[u8], meter: &mut Meter) -> Result<(), DocFault> {
+        Doc::splice(self, at, del, ins, meter)
+    }
+}
 
 /// What a document answers, with memory.
 #[derive(Drop)]
@@ -17,7 +59,7 @@ pub struct DocumentAnswers {
 }
 
 /// What a document answers; `None` where a call is refused.
-pub fn answers_of(doc: &Doc<'_>) -> Option<DocumentAnswers> {
+pub fn answers_of<D: Document>(doc: &D) -> Option<DocumentAnswers> {
     let lengths = doc.lengths();
     let text = doc.text(0, lengths.scalars).ok()?;
     let source = doc.source(0, lengths.bytes).ok()?;
@@ -32,7 +74,7 @@ pub fn answers_of(doc: &Doc<'_>) -> Option<DocumentAnswers> {
 
 impl DocumentAnswers {
     /// Whether the document answers all this.
-    pub fn are_of(&self, doc: &Doc<'_>) -> bool {
+    pub fn are_of<D: Document>(&self, doc: &D) -> bool {
         match answers_of(doc) {
             Some(now) => self.are(&now),
             None => false,

@@ -1,6 +1,6 @@
 //! What a gateway answers of its documents.
 
-use gateway::{Event, Gateway, ReplyLine};
+use gateway::{Event, GateFault, Gateway, Out, ReplyLine};
 use std::alloc::Global;
 
 /// The names of the documents that are asked about.
@@ -30,8 +30,21 @@ impl Replies {
     }
 }
 
+/// What takes events: a gateway. What is sent to one is proved over this alone, since over all that a
+/// `Gateway` is it would take many times as long.
+pub trait EventTaker: Drop {
+    /// `Gateway::event`.
+    fn event(&mut self, event: Event<'_>) -> Result<Out, GateFault>;
+}
+
+impl EventTaker for Gateway<'_> {
+    fn event(&mut self, event: Event<'_>) -> Result<Out, GateFault> {
+        Gateway::event(self, event)
+    }
+}
+
 /// The reply to bytes on a connection; `None` where they end no line, or are refused.
-pub fn reply_to(gateway: &mut Gateway<'_>, connection: u8, bytes: &[u8]) -> Option<ReplyLine> {
+pub fn reply_to<G: EventTaker>(gateway: &mut G, connection: u8, bytes: &[u8]) -> Option<ReplyLine> {
     match gateway.event(Event::Bytes(connection, bytes)) {
         Ok(out) => out.reply,
         Err(_) => None,
@@ -39,7 +52,7 @@ pub fn reply_to(gateway: &mut Gateway<'_>, connection: u8, bytes: &[u8]) -> Opti
 }
 
 /// What is answered of all documents; `None` where memory is refused.
-pub fn asked(alloc: Global, gateway: &mut Gateway<'_>) -> Option<Replies> {
+pub fn asked<G: EventTaker>(alloc: Global, gateway: &mut G) -> Option<Replies> {
     let mut lines = Vec::new(alloc);
     for name in &NAMES {
         ask(alloc, gateway, name, &mut lines)?;
@@ -48,9 +61,9 @@ pub fn asked(alloc: Global, gateway: &mut Gateway<'_>) -> Option<Replies> {
 }
 
 /// What is answered of one.
-fn ask(
+fn ask<G: EventTaker>(
     alloc: Global,
-    gateway: &mut Gateway<'_>,
+    gateway: &mut G,
     name: &str,
     lines: &mut Vec<ReplyLine>,
 ) -> Option<()> {
@@ -61,9 +74,9 @@ fn ask(
 }
 
 /// Asks for the lengths of a document.
-fn ask_stat(
+fn ask_stat<G: EventTaker>(
     alloc: Global,
-    gateway: &mut Gateway<'_>,
+    gateway: &mut G,
     name: &str,
     lines: &mut Vec<ReplyLine>,
 ) -> Option<()> {
@@ -72,9 +85,9 @@ fn ask_stat(
 }
 
 /// Asks for all bytes of a document.
-fn ask_source(
+fn ask_source<G: EventTaker>(
     alloc: Global,
-    gateway: &mut Gateway<'_>,
+    gateway: &mut G,
     name: &str,
     bytes: u64,
     lines: &mut Vec<ReplyLine>,
@@ -86,9 +99,9 @@ fn ask_source(
 }
 
 /// Asks for all of a document's text.
-fn ask_text(
+fn ask_text<G: EventTaker>(
     alloc: Global,
-    gateway: &mut Gateway<'_>,
+    gateway: &mut G,
     name: &str,
     scalars: u64,
     lines: &mut Vec<ReplyLine>,
@@ -100,7 +113,7 @@ fn ask_text(
 }
 
 /// Asks what a line asks, and puts its reply behind the others.
-fn ask_line(gateway: &mut Gateway<'_>, line: &str, lines: &mut Vec<ReplyLine>) -> Option<()> {
+fn ask_line<G: EventTaker>(gateway: &mut G, line: &str, lines: &mut Vec<ReplyLine>) -> Option<()> {
     let reply = reply_to(gateway, ASKING, line.as_bytes())?;
     lines.push(reply).ok()
 }

@@ -11,10 +11,17 @@ mod pieces;
 mod traces;
 mod tree;
 
+use crate::documents::Opener;
+use crate::office::Office;
 use crate::outcome::TrialOutcome;
 use crate::tried::Tried;
-use index_loader::Indexes;
+pub use changes::Changeable;
+use decoding::Decodes;
+use desks::Desks;
+use encoding::Encodes;
+use pieces::Pieces;
 use std::alloc::Global;
+use traces::Players;
 
 /// A call that allocates, beside those on documents of some pieces.
 #[derive(Clone, Copy)]
@@ -82,20 +89,25 @@ pub const CALLS: [(Call, &str, u64); 19] = [
     (Call::Trace, "trace", 1),
 ];
 
-/// A call, with the index files that it needs.
+/// What the calls that need index files are made on.
+pub trait CallOffice: Decodes + Encodes + Pieces + Opener + Desks + Players {}
+
+impl CallOffice for Office<'_> {}
+
+/// A call, with the index files that it may need.
 #[derive(Drop)]
-pub struct CallTrial<'a> {
+pub struct CallTrial<'a, O> {
     /// Where memory comes from.
     pub alloc: Global,
     /// The index files.
-    pub indexes: &'a Indexes,
+    pub office: &'a O,
     /// The call.
     pub call: Call,
 }
 
-impl Tried for CallTrial<'_> {
+impl<O: CallOffice> Tried for CallTrial<'_, O> {
     fn tried(&self, budget: usize) -> Option<TrialOutcome> {
-        let (alloc, indexes) = (self.alloc, self.indexes);
+        let (alloc, office) = (self.alloc, self.office);
         match self.call {
             Call::Names => labels::names(alloc, budget),
             Call::FromJson => labels::from_json(alloc, budget),
@@ -103,19 +115,19 @@ impl Tried for CallTrial<'_> {
             Call::ParseExceptions => exceptions::parse(alloc, budget),
             Call::PutExceptions => exceptions::put(alloc, budget),
             Call::RunPiece => decoding::run(alloc, budget),
-            Call::DecodeWhole => decoding::whole(alloc, indexes, budget),
-            Call::DecodeFatal => decoding::fatal(alloc, indexes, budget),
-            Call::Encode => encoding::whole(alloc, indexes, budget),
-            Call::EncodeFrom => encoding::from_state(alloc, indexes, budget),
+            Call::DecodeWhole => decoding::whole(alloc, office, budget),
+            Call::DecodeFatal => decoding::fatal(alloc, office, budget),
+            Call::Encode => encoding::whole(alloc, office, budget),
+            Call::EncodeFrom => encoding::from_state(alloc, office, budget),
             Call::NewPiece => pieces::new(alloc, budget),
-            Call::Compute => pieces::compute(alloc, indexes, budget),
-            Call::FinishOf => pieces::finish(alloc, indexes, budget),
+            Call::Compute => pieces::compute(alloc, office, budget),
+            Call::FinishOf => pieces::finish(alloc, office, budget),
             Call::Reserve => tree::reserve(alloc, budget),
-            Call::PlanChange => changes::plan(alloc, indexes, budget),
-            Call::SpliceKept => changes::splice_kept(alloc, indexes, budget),
-            Call::NewDesk => desks::new(alloc, indexes, budget),
-            Call::Adopt => desks::adopt(alloc, indexes, budget),
-            Call::Trace => traces::play(alloc, indexes, budget),
+            Call::PlanChange => changes::plan(alloc, office, budget),
+            Call::SpliceKept => changes::splice_kept(alloc, office, budget),
+            Call::NewDesk => desks::new(alloc, office, budget),
+            Call::Adopt => desks::adopt(alloc, office, budget),
+            Call::Trace => traces::play(alloc, office, budget),
         }
     }
 }

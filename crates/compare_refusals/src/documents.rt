@@ -1,13 +1,14 @@
 //! Calls on documents of some pieces.
 
-use crate::answers::{DocumentAnswers, answers_of};
+use crate::answers::{Document, DocumentAnswers, answers_of};
 use crate::budget::all_but;
+use crate::calls::Changeable;
 use crate::cases::{AT, Bytes};
+use crate::office::Office;
 use crate::outcome::{TrialOutcome, outcome_if};
 use crate::tried::Tried;
 use decoder_core::{Meter, meter};
 use enc_names::{Bom, Encoding};
-use index_loader::Indexes;
 use piece_rope::{Doc, DocFault};
 use std::alloc::Global;
 
@@ -35,47 +36,63 @@ pub const DOCUMENT_CALLS: [(DocumentCall, &str); 5] = [
     (DocumentCall::Errors, "errors"),
 ];
 
+/// What opens documents.
+pub trait Opener {
+    /// The documents.
+    type Doc: Changeable;
+
+    /// `Doc::open`.
+    fn open(&self, given: Encoding, bytes: &[u8]) -> Result<Self::Doc, DocFault>;
+}
+
+impl<'i> Opener for Office<'i> {
+    type Doc = Doc<'i>;
+
+    fn open(&self, given: Encoding, bytes: &[u8]) -> Result<Doc<'i>, DocFault> {
+        Doc::open(
+            self.alloc,
+            self.indexes,
+            given,
+            Bom::Sniff,
+            bytes,
+            &mut meter(),
+        )
+    }
+}
+
 /// Where a document comes from.
 #[derive(Drop)]
-pub struct DocumentSource<'a> {
+pub struct DocumentSource<'a, O> {
     /// Where memory comes from.
     pub alloc: Global,
-    /// The index files.
-    pub indexes: &'a Indexes,
+    /// What opens it.
+    pub opener: &'a O,
     /// The encoding given.
     pub given: Encoding,
     /// Its bytes, and those of its edit.
     pub bytes: &'a Bytes,
 }
 
-impl<'a> DocumentSource<'a> {
+impl<O: Opener> DocumentSource<'_, O> {
     /// Opens the document.
-    fn open(&self) -> Result<Doc<'a>, DocFault> {
-        let bytes = &self.bytes.bytes;
-        Doc::open(
-            self.alloc,
-            self.indexes,
-            self.given,
-            Bom::Sniff,
-            bytes,
-            &mut meter(),
-        )
+    fn open(&self) -> Result<O::Doc, DocFault> {
+        self.opener.open(self.given, &self.bytes.bytes)
     }
 
     /// Makes the edit.
-    fn edit(&self, doc: &mut Doc<'_>) -> Result<(), DocFault> {
+    fn edit(&self, doc: &mut O::Doc) -> Result<(), DocFault> {
         let del = self.bytes.out.len() as u64;
         doc.splice(AT, del, &self.bytes.ins, &mut meter())
     }
 
     /// Takes the edit back.
-    fn take_back(&self, doc: &mut Doc<'_>, meter: &mut Meter) -> Result<(), DocFault> {
+    fn take_back(&self, doc: &mut O::Doc, meter: &mut Meter) -> Result<(), DocFault> {
         let del = self.bytes.ins.len() as u64;
         doc.splice(AT, del, &self.bytes.out, meter)
     }
 
     /// The document behind the edit; `None` where memory is refused.
-    fn edited(&self) -> Option<Doc<'a>> {
+    fn edited(&self) -> Option<O::Doc> {
         let mut doc = self.open().ok()?;
         self.edit(&mut doc).ok()?;
         Some(doc)
@@ -94,7 +111,7 @@ pub struct Wanted {
 }
 
 /// What is answered with memory; `None` where it is refused.
-pub fn wanted_of(source: &DocumentSource<'_>) -> Option<Wanted> {
+pub fn wanted_of<O: Opener>(source: &DocumentSource<'_, O>) -> Option<Wanted> {
     let opened = answers_of(&source.open().ok()?)?;
     let mut doc = source.edited()?;
     let edited = answers_of(&doc)?;
@@ -109,16 +126,16 @@ pub fn wanted_of(source: &DocumentSource<'_>) -> Option<Wanted> {
 
 /// A call on a document.
 #[derive(Drop)]
-pub struct DocumentTrial<'a> {
+pub struct DocumentTrial<'a, O> {
     /// Where the document comes from.
-    pub source: &'a DocumentSource<'a>,
+    pub source: &'a DocumentSource<'a, O>,
     /// What is answered with memory.
     pub wanted: &'a Wanted,
     /// The call.
     pub call: DocumentCall,
 }
 
-impl Tried for DocumentTrial<'_> {
+impl<O: Opener> Tried for DocumentTrial<'_, O> {
     fn tried(&self, budget: usize) -> Option<TrialOutcome> {
         match self.call {
             DocumentCall::Open => self.open(budget),
@@ -130,7 +147,7 @@ impl Tried for DocumentTrial<'_> {
     }
 }
 
-impl DocumentTrial<'_> {
+impl<O: Opener> DocumentTrial<'_, O> {
     /// `Doc::open`.
     fn open(&self, budget: usize) -> Option<TrialOutcome> {
         let room = all_but(self.source.alloc, budget)?;
@@ -200,7 +217,7 @@ impl DocumentTrial<'_> {
     }
 
     /// How the splice that was refused comes out with memory.
-    fn later(&self, doc: &mut Doc<'_>) -> TrialOutcome {
+    fn later(&self, doc: &mut O::Doc) -> TrialOutcome {
         let mut meter = meter();
         let spliced = self.source.take_back(doc, &mut meter);
         let decoded = meter.decoded() == self.wanted.decoded;

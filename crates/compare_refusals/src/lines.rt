@@ -1,12 +1,11 @@
 //! Lines whose bytes need memory of their own, while another line is begun on another connection.
 
-use crate::asked::reply_to;
+use crate::asked::{EventTaker, reply_to};
 use crate::budget::all_but;
 use crate::outcome::{TrialOutcome, outcome_if};
-use crate::play::{is_refusal, is_wanted, new_gateway};
+use crate::play::{Starter, is_refusal, is_wanted, new_gateway};
 use crate::tried::{Budgets, Tried};
-use gateway::{Gateway, ReplyLine};
-use index_loader::Indexes;
+use gateway::ReplyLine;
 use std::alloc::Global;
 
 /// How many bytes are sent at a time, at most.
@@ -93,18 +92,18 @@ pub const LINES: [TriedLine; 5] = [
 
 /// A line that is received under a budget.
 #[derive(Drop)]
-pub struct LineTrial<'a> {
+pub struct LineTrial<'a, S> {
     /// Where memory comes from.
     pub alloc: Global,
-    /// The index files.
-    pub indexes: &'a Indexes,
+    /// What makes its gateway.
+    pub starter: &'a S,
     /// The line.
     pub line: &'a TriedLine,
 }
 
-impl Tried for LineTrial<'_> {
+impl<S: Starter> Tried for LineTrial<'_, S> {
     fn tried(&self, budget: usize) -> Option<TrialOutcome> {
-        let mut gateway = new_gateway(self.alloc, self.indexes)?;
+        let mut gateway = new_gateway(self.starter)?;
         if !self.begins(&mut gateway) {
             return Some(TrialOutcome::Wrong);
         }
@@ -119,15 +118,15 @@ impl Tried for LineTrial<'_> {
     }
 }
 
-impl LineTrial<'_> {
+impl<S: Starter> LineTrial<'_, S> {
     /// Begins both lines, and says whether nothing was answered.
-    fn begins(&self, gateway: &mut Gateway<'_>) -> bool {
+    fn begins(&self, gateway: &mut S::Gateway) -> bool {
         let (front, _, _) = OTHER;
         is_replied(gateway, 2, front, "") && send(gateway, self.line.begun)
     }
 
     /// How the line comes out once its rest is sent.
-    fn ended(&self, gateway: &mut Gateway<'_>) -> TrialOutcome {
+    fn ended(&self, gateway: &mut S::Gateway) -> TrialOutcome {
         if send(gateway, self.line.rest) {
             self.outcome(&reply_to(gateway, 1, b"\n"))
         } else {
@@ -149,19 +148,19 @@ impl LineTrial<'_> {
 }
 
 /// Whether the next line and the rest of the other one have their replies.
-fn goes_on(gateway: &mut Gateway<'_>) -> bool {
+fn goes_on<G: EventTaker>(gateway: &mut G) -> bool {
     let (line, next) = NEXT;
     let (_, back, reply) = OTHER;
     is_replied(gateway, 1, line, next) && is_replied(gateway, 2, back, reply)
 }
 
 /// Sends bytes on a connection, and says whether the reply is the one wanted.
-fn is_replied(gateway: &mut Gateway<'_>, connection: u8, bytes: &[u8], wanted: &str) -> bool {
+fn is_replied<G: EventTaker>(gateway: &mut G, connection: u8, bytes: &[u8], wanted: &str) -> bool {
     is_wanted(&reply_to(gateway, connection, bytes), wanted)
 }
 
 /// Sends so many bytes of the line on connection 1, and says whether none was answered.
-fn send(gateway: &mut Gateway<'_>, count: usize) -> bool {
+fn send<G: EventTaker>(gateway: &mut G, count: usize) -> bool {
     let mut left = count;
     for _ in 0..count {
         if left == 0 {

@@ -12,6 +12,7 @@ mod calls;
 mod cases;
 mod documents;
 mod lines;
+mod office;
 mod outcome;
 mod play;
 mod report;
@@ -20,14 +21,14 @@ mod stack;
 mod tried;
 
 use budget::{Room, all_but_room};
-use calls::{CALLS, CallTrial};
-use cases::{CASES, made, repeated};
-use documents::{DOCUMENT_CALLS, DocumentCall, DocumentSource, DocumentTrial, wanted_of};
-use index_loader::Indexes;
+use calls::{CALLS, CallOffice, CallTrial};
+use cases::{CASES, DocumentCase, made, repeated};
+use documents::{DOCUMENT_CALLS, DocumentCall, DocumentSource, DocumentTrial, Opener, wanted_of};
 use lines::{LINES, LineTrial};
+use office::Office;
 use oracle::small_indexes;
 use outcome::Tally;
-use play::StepTrial;
+use play::{Starter, StepTrial};
 use report::print_outcome;
 use sessions::{SESSIONS, Session};
 use stack::has_stack;
@@ -40,15 +41,13 @@ use tried::{Budgets, tally_of};
 const STACK: usize = 512;
 
 /// Tries the calls, and says whether all came out as they have to.
-fn try_calls(rt: &HostRuntime, counts: bool, indexes: &Indexes) -> io::Result<bool> {
-    let alloc = rt.alloc();
+fn try_calls<O: CallOffice>(rt: &HostRuntime, counts: bool, office: &O) -> io::Result<bool> {
     let mut all = true;
     for (call, name, least) in &CALLS {
-        let call = *call;
         let trial = CallTrial {
-            alloc,
-            indexes,
-            call,
+            alloc: rt.alloc(),
+            office,
+            call: *call,
         };
         let tally = tally_of(Budgets::Steps, &trial);
         all = print_outcome(rt, counts, name, *least, tally)? && all;
@@ -57,45 +56,55 @@ fn try_calls(rt: &HostRuntime, counts: bool, indexes: &Indexes) -> io::Result<bo
 }
 
 /// A call on the document of each case.
-fn document_tally(alloc: Global, indexes: &Indexes, call: DocumentCall) -> Option<Tally> {
+fn document_tally<O: Opener>(alloc: Global, opener: &O, call: DocumentCall) -> Option<Tally> {
     let mut total = Tally::new();
     for case in &CASES {
-        let bytes = made(alloc, case)?;
-        let source = DocumentSource {
-            alloc,
-            indexes,
-            given: case.given,
-            bytes: &bytes,
-        };
-        let wanted = wanted_of(&source)?;
-        let trial = DocumentTrial {
-            source: &source,
-            wanted: &wanted,
-            call,
-        };
-        total.add(&tally_of(Budgets::Steps, &trial)?);
+        total.add(&case_tally(alloc, opener, call, case)?);
     }
     Some(total)
 }
 
+/// A call on the document of one case.
+fn case_tally<O: Opener>(
+    alloc: Global,
+    opener: &O,
+    call: DocumentCall,
+    case: &DocumentCase,
+) -> Option<Tally> {
+    let bytes = made(alloc, case)?;
+    let source = DocumentSource {
+        alloc,
+        opener,
+        given: case.given,
+        bytes: &bytes,
+    };
+    let wanted = wanted_of(&source)?;
+    let trial = DocumentTrial {
+        source: &source,
+        wanted: &wanted,
+        call,
+    };
+    tally_of(Budgets::Steps, &trial)
+}
+
 /// Tries the calls on documents of some pieces, and says whether all came out as they have to.
-fn try_documents(rt: &HostRuntime, counts: bool, indexes: &Indexes) -> io::Result<bool> {
+fn try_documents<O: Opener>(rt: &HostRuntime, counts: bool, opener: &O) -> io::Result<bool> {
     let mut all = true;
     for (call, name) in &DOCUMENT_CALLS {
-        let tally = document_tally(rt.alloc(), indexes, *call);
+        let tally = document_tally(rt.alloc(), opener, *call);
         all = print_outcome(rt, counts, name, 1, tally)? && all;
     }
     Ok(all)
 }
 
 /// A session, each of its steps in turn.
-fn session_tally(alloc: Global, indexes: &Indexes, session: &Session) -> Option<Tally> {
+fn session_tally<S: Starter>(alloc: Global, starter: &S, session: &Session) -> Option<Tally> {
     let mut total = Tally::new();
     let steps = session.steps;
     for number in 0..steps.len() {
         let trial = StepTrial {
             alloc,
-            indexes,
+            starter,
             steps,
             number,
         };
@@ -105,23 +114,23 @@ fn session_tally(alloc: Global, indexes: &Indexes, session: &Session) -> Option<
 }
 
 /// Tries the sessions, and says whether all came out as they have to.
-fn try_sessions(rt: &HostRuntime, counts: bool, indexes: &Indexes) -> io::Result<bool> {
+fn try_sessions<S: Starter>(rt: &HostRuntime, counts: bool, starter: &S) -> io::Result<bool> {
     let mut all = true;
     for session in &SESSIONS {
-        let tally = session_tally(rt.alloc(), indexes, session);
+        let tally = session_tally(rt.alloc(), starter, session);
         all = print_outcome(rt, counts, session.name, 1, tally)? && all;
     }
     Ok(all)
 }
 
 /// Tries the lines, and says whether all came out as they have to.
-fn try_lines(rt: &HostRuntime, counts: bool, indexes: &Indexes) -> io::Result<bool> {
+fn try_lines<S: Starter>(rt: &HostRuntime, counts: bool, starter: &S) -> io::Result<bool> {
     let alloc = rt.alloc();
     let mut all = true;
     for line in &LINES {
         let trial = LineTrial {
             alloc,
-            indexes,
+            starter,
             line,
         };
         let tally = tally_of(line.budgets, &trial);
@@ -147,17 +156,25 @@ fn try_all(rt: &HostRuntime, counts: bool) -> io::Result<bool> {
         println!(rt; "out of memory")?;
         return Ok(false);
     };
-    let all = try_each(rt, counts, &indexes);
+    let office = Office {
+        alloc: rt.alloc(),
+        indexes: &indexes,
+    };
+    let all = try_each(rt, counts, &office);
     drop(taken);
     all
 }
 
 /// Tries all.
-fn try_each(rt: &HostRuntime, counts: bool, indexes: &Indexes) -> io::Result<bool> {
-    let calls = try_calls(rt, counts, indexes)?;
-    let documents = try_documents(rt, counts, indexes)?;
-    let sessions = try_sessions(rt, counts, indexes)?;
-    let lines = try_lines(rt, counts, indexes)?;
+fn try_each<O: CallOffice + Starter>(
+    rt: &HostRuntime,
+    counts: bool,
+    office: &O,
+) -> io::Result<bool> {
+    let calls = try_calls(rt, counts, office)?;
+    let documents = try_documents(rt, counts, office)?;
+    let sessions = try_sessions(rt, counts, office)?;
+    let lines = try_lines(rt, counts, office)?;
     Ok(calls && documents && sessions && lines)
 }
 

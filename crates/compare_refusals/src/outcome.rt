@@ -22,6 +22,15 @@ pub fn outcome_if(wanted: bool) -> TrialOutcome {
     }
 }
 
+/// The outcome of a call that was refused, for memory or not.
+pub fn refused_if(memory: bool) -> TrialOutcome {
+    if memory {
+        TrialOutcome::Refused
+    } else {
+        TrialOutcome::Wrong
+    }
+}
+
 /// Counts of outcomes: those that are wrong, and of the other two each.
 pub type Tally = oracle::Tally<2>;
 

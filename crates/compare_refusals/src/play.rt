@@ -1,14 +1,14 @@
 //! Sessions, of which one step is played under a budget.
 
-use crate::asked::{Replies, asked, reply_to};
+use crate::asked::{EventTaker, Replies, asked, reply_to};
 use crate::budget::all_but;
+use crate::office::Office;
 use crate::outcome::TrialOutcome;
 use crate::sessions::SessionStep;
 use crate::tried::Tried;
 use desk::Desk;
 use enc_names::Labels;
 use gateway::{Event, Gateway, ReplyLine};
-use index_loader::Indexes;
 use std::alloc::Global;
 
 /// The reply where memory is refused.
@@ -17,11 +17,28 @@ const REFUSED: &[u8] = b"{\"fault\":\"OutOfMemory\"}\n";
 /// The connections that are open: two on which a session is played, and one on which is asked.
 const OPEN: [u8; 3] = [1, 2, 15];
 
+/// What makes gateways.
+pub trait Starter {
+    /// The gateways.
+    type Gateway: EventTaker;
+
+    /// A gateway without a document and with no connection open; `None` where memory is refused.
+    fn gateway(&self) -> Option<Self::Gateway>;
+}
+
+impl<'i> Starter for Office<'i> {
+    type Gateway = Gateway<'i>;
+
+    fn gateway(&self) -> Option<Gateway<'i>> {
+        let labels = Labels::names(self.alloc).ok()?;
+        let desk = Desk::new(self.alloc, self.indexes, labels).ok()?;
+        Some(Gateway::new(self.alloc, desk))
+    }
+}
+
 /// A gateway without a document, with connections 1, 2 and 15 open; `None` where memory is refused.
-pub fn new_gateway<'i>(alloc: Global, indexes: &'i Indexes) -> Option<Gateway<'i>> {
-    let labels = Labels::names(alloc).ok()?;
-    let desk = Desk::new(alloc, indexes, labels).ok()?;
-    let mut gateway = Gateway::new(alloc, desk);
+pub fn new_gateway<S: Starter>(starter: &S) -> Option<S::Gateway> {
+    let mut gateway = starter.gateway()?;
     for connection in &OPEN {
         gateway.event(Event::Open(*connection)).ok()?;
     }
@@ -46,20 +63,20 @@ pub fn is_wanted(reply: &Option<ReplyLine>, wanted: &str) -> bool {
 
 /// A session of which one step is played under a budget.
 #[derive(Drop)]
-pub struct StepTrial<'a> {
+pub struct StepTrial<'a, S> {
     /// Where memory comes from.
     pub alloc: Global,
-    /// The index files.
-    pub indexes: &'a Indexes,
+    /// What makes its gateway.
+    pub starter: &'a S,
     /// The session.
     pub steps: &'a [SessionStep],
     /// The number of the step, from 0.
     pub number: usize,
 }
 
-impl Tried for StepTrial<'_> {
+impl<S: Starter> Tried for StepTrial<'_, S> {
     fn tried(&self, budget: usize) -> Option<TrialOutcome> {
-        let mut gateway = new_gateway(self.alloc, self.indexes)?;
+        let mut gateway = new_gateway(self.starter)?;
         let mut outcome = TrialOutcome::Same;
         for (number, step) in self.steps.iter().enumerate() {
             match self.played(&mut gateway, number, step, budget)? {
@@ -74,12 +91,12 @@ impl Tried for StepTrial<'_> {
     }
 }
 
-impl StepTrial<'_> {
+impl<S: Starter> StepTrial<'_, S> {
     /// How a step comes out. Where its line is refused, by the step itself or since bytes of it were
     /// dropped before, the documents have to be as before, and the line sent again has the reply.
     fn played(
         &self,
-        gateway: &mut Gateway<'_>,
+        gateway: &mut S::Gateway,
         number: usize,
         step: &SessionStep,
         budget: usize,
@@ -99,7 +116,7 @@ impl StepTrial<'_> {
     /// one; `None` where memory is refused that is to be there.
     fn sent(
         &self,
-        gateway: &mut Gateway<'_>,
+        gateway: &mut S::Gateway,
         number: usize,
         step: &SessionStep,
         budget: usize,
@@ -116,9 +133,9 @@ impl StepTrial<'_> {
 }
 
 /// How a step whose line was refused comes out, where the documents are to answer as before.
-fn later(
+fn later<G: EventTaker>(
     alloc: Global,
-    gateway: &mut Gateway<'_>,
+    gateway: &mut G,
     before: &Replies,
     step: &SessionStep,
 ) -> Option<TrialOutcome> {
@@ -131,7 +148,7 @@ fn later(
 }
 
 /// How a line comes out that was refused and is sent again, with memory.
-fn sent_again(gateway: &mut Gateway<'_>, step: &SessionStep) -> TrialOutcome {
+fn sent_again<G: EventTaker>(gateway: &mut G, step: &SessionStep) -> TrialOutcome {
     let begun = reply_to(gateway, step.connection, step.begun.as_bytes());
     let reply = reply_to(gateway, step.connection, step.bytes.as_bytes());
     if begun.is_none() && is_wanted(&reply, step.reply) {

@@ -1,7 +1,8 @@
 //! What is tried under each budget.
 
-use crate::budget::STEP;
+use crate::budget::{STEP, all_but};
 use crate::outcome::{Tally, TrialOutcome, count};
+use std::alloc::Global;
 
 /// How often it has to answer before no greater budget is tried.
 const ANSWERS: u64 = 16;
@@ -52,4 +53,23 @@ pub fn tally_of<T: Tried>(budgets: Budgets, trial: &T) -> Option<Tally> {
         budget = budgets.next(budget);
     }
     Some(tally)
+}
+
+/// A call whose answer is known.
+pub trait Known {
+    /// How it comes out, beside that answer.
+    fn outcome(&self) -> TrialOutcome;
+}
+
+/// How a call whose answer is known comes out under a budget; `None` where memory is refused that is
+/// to be there. With memory it has to have its answer too.
+pub fn known_under<K: Known>(alloc: Global, call: &K, budget: usize) -> Option<TrialOutcome> {
+    let room = all_but(alloc, budget)?;
+    let first = call.outcome();
+    drop(room);
+    match call.outcome() {
+        TrialOutcome::Same => Some(first),
+        TrialOutcome::Refused => None,
+        TrialOutcome::Wrong => Some(TrialOutcome::Wrong),
+    }
 }

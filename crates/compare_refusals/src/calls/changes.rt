@@ -1,12 +1,12 @@
 //! Changes of a range.
 
-use crate::answers::{DocumentAnswers, answers_of};
+use crate::answers::{Document, DocumentAnswers, answers_of};
 use crate::budget::all_but;
 use crate::cases::repeated;
+use crate::documents::Opener;
 use crate::outcome::TrialOutcome;
 use decoder_core::{Meter, meter};
-use enc_names::{Bom, Encoding};
-use index_loader::Indexes;
+use enc_names::Encoding;
 use piece_rope::{Doc, DocFault};
 use position_map::{ChangeFault, Plan, Position, Range, Unit, plan_change};
 use std::alloc::Global;
@@ -33,34 +33,35 @@ const RANGE: Range = Range {
 /// The text that is put in its place.
 const TEXT: &str = "\u{4E9C} text \u{3042}\u{3042} text \u{4E9C}\u{4E9C}";
 
+/// A document whose changes are planned.
+pub trait Changeable: Document {
+    /// `plan_change`.
+    fn planned(&self, alloc: Global) -> Result<Plan, ChangeFault>;
+
+    /// `Doc::splice_kept`, by which the planned change is made.
+    fn make(&mut self, plan: &Plan, meter: &mut Meter) -> Result<(), DocFault>;
+}
+
+impl Changeable for Doc<'_> {
+    fn planned(&self, alloc: Global) -> Result<Plan, ChangeFault> {
+        plan_change(alloc, self, Some(RANGE), Unit::Utf16, TEXT, &mut visits())
+    }
+
+    fn make(&mut self, plan: &Plan, meter: &mut Meter) -> Result<(), DocFault> {
+        let ins = plan.ins.as_slice();
+        self.splice_kept(plan.at, plan.del, ins, plan.i, plan.j, TEXT, meter)
+    }
+}
+
 /// The document; `None` where memory is refused.
-fn opened<'i>(alloc: Global, indexes: &'i Indexes) -> Option<Doc<'i>> {
+fn opened<O: Opener>(alloc: Global, opener: &O) -> Option<O::Doc> {
     let bytes = repeated(alloc, PATTERN, LENGTH)?;
-    Doc::open(
-        alloc,
-        indexes,
-        Encoding::Iso2022Jp,
-        Bom::Sniff,
-        &bytes,
-        &mut meter(),
-    )
-    .ok()
-}
-
-/// The plan.
-fn planned(alloc: Global, doc: &Doc<'_>) -> Result<Plan, ChangeFault> {
-    plan_change(alloc, doc, Some(RANGE), Unit::Utf16, TEXT, &mut visits())
-}
-
-/// Makes the planned change.
-fn make(doc: &mut Doc<'_>, plan: &Plan, meter: &mut Meter) -> Result<(), DocFault> {
-    let ins = plan.ins.as_slice();
-    doc.splice_kept(plan.at, plan.del, ins, plan.i, plan.j, TEXT, meter)
+    opener.open(Encoding::Iso2022Jp, &bytes).ok()
 }
 
 /// `plan_change`: the document is as before.
-pub fn plan(alloc: Global, indexes: &Indexes, budget: usize) -> Option<TrialOutcome> {
-    let doc = opened(alloc, indexes)?;
+pub fn plan<O: Opener>(alloc: Global, opener: &O, budget: usize) -> Option<TrialOutcome> {
+    let doc = opened(alloc, opener)?;
     let before = answers_of(&doc)?;
     let outcome = planned_under(alloc, &doc, budget)?;
     Some(if before.are_of(&doc) {
@@ -71,11 +72,11 @@ pub fn plan(alloc: Global, indexes: &Indexes, budget: usize) -> Option<TrialOutc
 }
 
 /// How the plan comes out under a budget.
-fn planned_under(alloc: Global, doc: &Doc<'_>, budget: usize) -> Option<TrialOutcome> {
+fn planned_under<D: Changeable>(alloc: Global, doc: &D, budget: usize) -> Option<TrialOutcome> {
     let room = all_but(alloc, budget)?;
-    let first = planned(alloc, doc);
+    let first = doc.planned(alloc);
     drop(room);
-    let wanted = planned(alloc, doc).ok()?;
+    let wanted = doc.planned(alloc).ok()?;
     Some(match first {
         Ok(plan) if is_same(&plan, &wanted) => TrialOutcome::Same,
         Err(ChangeFault::OutOfMemory) => TrialOutcome::Refused,
@@ -99,10 +100,10 @@ struct Changed {
 }
 
 /// What the change leads to, with memory.
-fn made_on_another(alloc: Global, indexes: &Indexes, plan: &Plan) -> Option<Changed> {
-    let mut doc = opened(alloc, indexes)?;
+fn made_on_another<O: Opener>(alloc: Global, opener: &O, plan: &Plan) -> Option<Changed> {
+    let mut doc = opened(alloc, opener)?;
     let mut meter = meter();
-    make(&mut doc, plan, &mut meter).ok()?;
+    doc.make(plan, &mut meter).ok()?;
     Some(Changed {
         answers: answers_of(&doc)?,
         decoded: meter.decoded(),
@@ -111,25 +112,25 @@ fn made_on_another(alloc: Global, indexes: &Indexes, plan: &Plan) -> Option<Chan
 
 /// `Doc::splice_kept`: where it is refused, the document is as before, and the same change with
 /// memory decodes no more than it would have.
-pub fn splice_kept(alloc: Global, indexes: &Indexes, budget: usize) -> Option<TrialOutcome> {
-    let mut doc = opened(alloc, indexes)?;
-    let plan = planned(alloc, &doc).ok()?;
-    let wanted = made_on_another(alloc, indexes, &plan)?;
+pub fn splice_kept<O: Opener>(alloc: Global, opener: &O, budget: usize) -> Option<TrialOutcome> {
+    let mut doc = opened(alloc, opener)?;
+    let plan = doc.planned(alloc).ok()?;
+    let wanted = made_on_another(alloc, opener, &plan)?;
     wanted.made_under(alloc, &mut doc, &plan, budget)
 }
 
 impl Changed {
     /// How the change comes out under a budget.
-    fn made_under(
+    fn made_under<D: Changeable>(
         &self,
         alloc: Global,
-        doc: &mut Doc<'_>,
+        doc: &mut D,
         plan: &Plan,
         budget: usize,
     ) -> Option<TrialOutcome> {
         let before = answers_of(doc)?;
         let room = all_but(alloc, budget)?;
-        let made = make(doc, plan, &mut meter());
+        let made = doc.make(plan, &mut meter());
         drop(room);
         Some(match made {
             Ok(()) if self.answers.are_of(doc) => TrialOutcome::Same,
@@ -139,9 +140,9 @@ impl Changed {
     }
 
     /// How the same change comes out with memory.
-    fn later(&self, doc: &mut Doc<'_>, plan: &Plan) -> TrialOutcome {
+    fn later<D: Changeable>(&self, doc: &mut D, plan: &Plan) -> TrialOutcome {
         let mut meter = meter();
-        let made = make(doc, plan, &mut meter);
+        let made = doc.make(plan, &mut meter);
         if made.is_ok() && meter.decoded() == self.decoded && self.answers.are_of(doc) {
             TrialOutcome::Refused
         } else {

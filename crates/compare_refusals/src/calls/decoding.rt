@@ -3,11 +3,11 @@
 use crate::budget::all_but;
 use crate::calls::ends::Ends;
 use crate::cases::repeated;
+use crate::office::Office;
 use crate::outcome::TrialOutcome;
 use codec::{CodecFault, Decoded, decode_fatal, decode_whole};
-use decoder_core::{Decoder, Utf8Decoder, meter, run_piece};
+use decoder_core::{Decoder, OutOfMemory, Utf8Decoder, Utf8State, meter, run_piece};
 use enc_names::{Bom, Encoding};
-use index_loader::Indexes;
 use std::alloc::Global;
 
 /// How many bytes are decoded, at least.
@@ -22,13 +22,32 @@ const NO_ERRORS: &[u8] = b"\xB0\xA1 text ";
 /// What bytes with errors repeat, in UTF-8.
 const UTF_8: &[u8] = b"\xE2\x82\xAC\xE2\x82\x80\x80";
 
+/// What decodes whole documents.
+pub trait Decodes {
+    /// `decode_whole`.
+    fn whole(&self, bytes: &[u8]) -> Result<Decoded, CodecFault>;
+
+    /// `decode_fatal`.
+    fn fatal(&self, bytes: &[u8]) -> Result<String, CodecFault>;
+}
+
+impl Decodes for Office<'_> {
+    fn whole(&self, bytes: &[u8]) -> Result<Decoded, CodecFault> {
+        decode_whole(self.alloc, self.indexes, Encoding::EucKr, Bom::Sniff, bytes)
+    }
+
+    fn fatal(&self, bytes: &[u8]) -> Result<String, CodecFault> {
+        decode_fatal(self.alloc, self.indexes, Encoding::EucKr, Bom::Sniff, bytes)
+    }
+}
+
 /// `decode_whole`.
-pub fn whole(alloc: Global, indexes: &Indexes, budget: usize) -> Option<TrialOutcome> {
+pub fn whole<D: Decodes>(alloc: Global, decodes: &D, budget: usize) -> Option<TrialOutcome> {
     let bytes = repeated(alloc, ERRORS, LENGTH)?;
     let room = all_but(alloc, budget)?;
-    let first = decode_whole(alloc, indexes, Encoding::EucKr, Bom::Sniff, &bytes);
+    let first = decodes.whole(&bytes);
     drop(room);
-    let wanted = decode_whole(alloc, indexes, Encoding::EucKr, Bom::Sniff, &bytes).ok()?;
+    let wanted = decodes.whole(&bytes).ok()?;
     Some(match first {
         Ok(decoded) if is_same(&decoded, &wanted) => TrialOutcome::Same,
         Err(CodecFault::OutOfMemory) => TrialOutcome::Refused,
@@ -46,12 +65,12 @@ fn is_same(decoded: &Decoded, wanted: &Decoded) -> bool {
 }
 
 /// `decode_fatal`.
-pub fn fatal(alloc: Global, indexes: &Indexes, budget: usize) -> Option<TrialOutcome> {
+pub fn fatal<D: Decodes>(alloc: Global, decodes: &D, budget: usize) -> Option<TrialOutcome> {
     let bytes = repeated(alloc, NO_ERRORS, LENGTH)?;
     let room = all_but(alloc, budget)?;
-    let first = decode_fatal(alloc, indexes, Encoding::EucKr, Bom::Sniff, &bytes);
+    let first = decodes.fatal(&bytes);
     drop(room);
-    let wanted = decode_fatal(alloc, indexes, Encoding::EucKr, Bom::Sniff, &bytes).ok()?;
+    let wanted = decodes.fatal(&bytes).ok()?;
     Some(match first {
         Ok(text) if text.as_str() == wanted.as_str() => TrialOutcome::Same,
         Err(CodecFault::OutOfMemory) => TrialOutcome::Refused,
@@ -59,17 +78,21 @@ pub fn fatal(alloc: Global, indexes: &Indexes, budget: usize) -> Option<TrialOut
     })
 }
 
+/// `run_piece`.
+fn ran(bytes: &[u8], sink: &mut Ends) -> Result<Utf8State, OutOfMemory> {
+    run_piece(&Utf8Decoder, Utf8Decoder.start(), bytes, sink, &mut meter())
+}
+
 /// `run_piece`: where it is refused, its sink has a prefix of the items.
 pub fn run(alloc: Global, budget: usize) -> Option<TrialOutcome> {
     let bytes = repeated(alloc, UTF_8, LENGTH)?;
-    let start = Utf8Decoder.start();
     let mut first = Ends::new(alloc);
     let room = all_but(alloc, budget)?;
-    let ran = run_piece(&Utf8Decoder, start, &bytes, &mut first, &mut meter());
+    let reached = ran(&bytes, &mut first);
     drop(room);
     let mut wanted = Ends::new(alloc);
-    let state = run_piece(&Utf8Decoder, start, &bytes, &mut wanted, &mut meter()).ok()?;
-    Some(match ran {
+    let state = ran(&bytes, &mut wanted).ok()?;
+    Some(match reached {
         Ok(reached) if reached == state && first.are(&wanted) => TrialOutcome::Same,
         Err(_) if first.begin(&wanted) => TrialOutcome::Refused,
         _ => TrialOutcome::Wrong,

@@ -1,10 +1,10 @@
 //! Encoding.
 
 use crate::budget::all_but;
+use crate::office::Office;
 use crate::outcome::TrialOutcome;
 use enc_names::Encoding;
 use encoders::{EncodeFault, EncodeMode, encode};
-use index_loader::Indexes;
 use iso2022jp::{FromFault, OutputState, encode_from};
 use std::alloc::Global;
 
@@ -23,14 +23,37 @@ fn text_of(alloc: Global) -> Option<String> {
     Some(text)
 }
 
+/// What encodes texts.
+pub trait Encodes {
+    /// `encode`.
+    fn whole(&self, text: &str) -> Result<Vec<u8>, EncodeFault>;
+
+    /// `encode_from`; `None` where the index file isn't there.
+    fn from_state(&self, text: &str) -> Option<Result<(Vec<u8>, OutputState), FromFault>>;
+}
+
+impl Encodes for Office<'_> {
+    fn whole(&self, text: &str) -> Result<Vec<u8>, EncodeFault> {
+        let (to, mode) = (Encoding::ShiftJis, EncodeMode::Html);
+        encode(self.alloc, to, self.indexes, mode, text)
+    }
+
+    fn from_state(&self, text: &str) -> Option<Result<(Vec<u8>, OutputState), FromFault>> {
+        if !self.indexes.has(Encoding::Iso2022Jp) {
+            return None;
+        }
+        let state = OutputState::Jis0208;
+        Some(encode_from(self.alloc, self.indexes, state, text, true, true))
+    }
+}
+
 /// `encode`.
-pub fn whole(alloc: Global, indexes: &Indexes, budget: usize) -> Option<TrialOutcome> {
-    let (to, mode) = (Encoding::ShiftJis, EncodeMode::Html);
+pub fn whole<E: Encodes>(alloc: Global, encodes: &E, budget: usize) -> Option<TrialOutcome> {
     let text = text_of(alloc)?;
     let room = all_but(alloc, budget)?;
-    let first = encode(alloc, to, indexes, mode, &text);
+    let first = encodes.whole(&text);
     drop(room);
-    let wanted = encode(alloc, to, indexes, mode, &text).ok()?;
+    let wanted = encodes.whole(&text).ok()?;
     Some(match first {
         Ok(bytes) if bytes.as_slice() == wanted.as_slice() => TrialOutcome::Same,
         Err(EncodeFault::OutOfMemory) => TrialOutcome::Refused,
@@ -39,16 +62,12 @@ pub fn whole(alloc: Global, indexes: &Indexes, budget: usize) -> Option<TrialOut
 }
 
 /// `encode_from`.
-pub fn from_state(alloc: Global, indexes: &Indexes, budget: usize) -> Option<TrialOutcome> {
-    if !indexes.has(Encoding::Iso2022Jp) {
-        return None;
-    }
-    let state = OutputState::Jis0208;
+pub fn from_state<E: Encodes>(alloc: Global, encodes: &E, budget: usize) -> Option<TrialOutcome> {
     let text = text_of(alloc)?;
     let room = all_but(alloc, budget)?;
-    let first = encode_from(alloc, indexes, state, &text, true, true);
+    let first = encodes.from_state(&text)?;
     drop(room);
-    let (wanted, end) = encode_from(alloc, indexes, state, &text, true, true).ok()?;
+    let (wanted, end) = encodes.from_state(&text)?.ok()?;
     Some(match first {
         Ok((bytes, after)) if after == end && bytes.as_slice() == wanted.as_slice() =>
             TrialOutcome::Same,

@@ -1,7 +1,8 @@
 //! Exceptions of the gb18030 encoder.
 
 use crate::budget::all_but;
-use crate::outcome::{TrialOutcome, outcome_if};
+use crate::outcome::{TrialOutcome, outcome_if, refused_if};
+use crate::tried::{Known, known_under};
 use enc_names::Scalar;
 use index_loader::{ExceptionCause, ExceptionFault, Exceptions, Indexes};
 use std::alloc::Global;
@@ -22,29 +23,71 @@ const FOUND: [(char, Option<[u8; 2]>); 5] = [
     ('\u{E797}', None),
 ];
 
+/// The file of exceptions.
+#[derive(Clone, Copy)]
+struct ExceptionFile {
+    alloc: Global,
+}
+
+impl Known for ExceptionFile {
+    fn outcome(&self) -> TrialOutcome {
+        match Exceptions::parse(self.alloc, FILE) {
+            Ok(exceptions) => outcome_if(has_all(&exceptions)),
+            Err(fault) => refused_if(is_refusal(fault)),
+        }
+    }
+}
+
 /// `Exceptions::parse`.
 pub fn parse(alloc: Global, budget: usize) -> Option<TrialOutcome> {
-    let room = all_but(alloc, budget)?;
-    let first = Exceptions::parse(alloc, FILE);
-    drop(room);
-    let wanted = Exceptions::parse(alloc, FILE).ok()?;
-    Some(match first {
-        Ok(exceptions) if has_all(&exceptions) && has_all(&wanted) => TrialOutcome::Same,
-        Err(fault) if is_refusal(fault) && has_all(&wanted) => TrialOutcome::Refused,
-        _ => TrialOutcome::Wrong,
-    })
+    known_under(alloc, &ExceptionFile { alloc }, budget)
 }
 
 /// `Indexes::put_exceptions`, and a look-up, in place of other exceptions.
 pub fn put(alloc: Global, budget: usize) -> Option<TrialOutcome> {
-    let mut indexes = Indexes::new();
-    indexes.put_exceptions(Exceptions::parse(alloc, b"0xE797\tA6F4\n").ok()?);
+    let others = Exceptions::parse(alloc, b"0xE797\tA6F4\n").ok()?;
     let exceptions = Exceptions::parse(alloc, FILE).ok()?;
-    let room = all_but(alloc, budget)?;
+    put_under(alloc, &mut indexes_with(others), exceptions, budget)
+}
+
+/// Index files with these exceptions alone.
+fn indexes_with(exceptions: Exceptions) -> Indexes {
+    let mut indexes = Indexes::new();
     indexes.put_exceptions(exceptions);
+    indexes
+}
+
+/// Index files, by the calls that are tried on them.
+trait Finder: Drop {
+    /// `Indexes::put_exceptions`.
+    fn put(&mut self, exceptions: Exceptions);
+
+    /// Whether a code point has these bytes.
+    fn has(&self, code_point: char, bytes: Option<[u8; 2]>) -> bool;
+}
+
+impl Finder for Indexes {
+    fn put(&mut self, exceptions: Exceptions) {
+        self.put_exceptions(exceptions);
+    }
+
+    fn has(&self, code_point: char, bytes: Option<[u8; 2]>) -> bool {
+        self.exception_of(Scalar::from(code_point)) == bytes
+    }
+}
+
+/// How putting exceptions comes out under a budget.
+fn put_under<F: Finder>(
+    alloc: Global,
+    indexes: &mut F,
+    exceptions: Exceptions,
+    budget: usize,
+) -> Option<TrialOutcome> {
+    let room = all_but(alloc, budget)?;
+    indexes.put(exceptions);
     let mut all = true;
     for (code_point, bytes) in FOUND {
-        all = all && indexes.exception_of(Scalar::from(code_point)) == bytes;
+        all = all && indexes.has(code_point, bytes);
     }
     drop(room);
     Some(outcome_if(all))

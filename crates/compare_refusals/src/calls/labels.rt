@@ -1,7 +1,8 @@
 //! Labels and index files.
 
 use crate::budget::all_but;
-use crate::outcome::TrialOutcome;
+use crate::outcome::{TrialOutcome, outcome_if, refused_if};
+use crate::tried::{Known, known_under};
 use enc_names::{Encoding, LabelFault, Labels, Scalar};
 use index_loader::{Index, IndexCause, IndexFault, IndexKind};
 use std::alloc::Global;
@@ -61,18 +62,25 @@ fn is_same(labels: &Labels, wanted: &Labels) -> bool {
     true
 }
 
+/// The index file.
+#[derive(Clone, Copy)]
+struct IndexFile {
+    alloc: Global,
+}
+
+impl Known for IndexFile {
+    fn outcome(&self) -> TrialOutcome {
+        let kind = IndexKind::SingleByte(Encoding::Windows1252);
+        match Index::parse(self.alloc, kind, INDEX) {
+            Ok(index) => outcome_if(has_pairs(&index)),
+            Err(fault) => refused_if(is_refusal(fault)),
+        }
+    }
+}
+
 /// `Index::parse`.
 pub fn parse(alloc: Global, budget: usize) -> Option<TrialOutcome> {
-    let kind = IndexKind::SingleByte(Encoding::Windows1252);
-    let room = all_but(alloc, budget)?;
-    let first = Index::parse(alloc, kind, INDEX);
-    drop(room);
-    let wanted = Index::parse(alloc, kind, INDEX).ok()?;
-    Some(match first {
-        Ok(index) if has_pairs(&index) && has_pairs(&wanted) => TrialOutcome::Same,
-        Err(fault) if is_refusal(fault) && has_pairs(&wanted) => TrialOutcome::Refused,
-        _ => TrialOutcome::Wrong,
-    })
+    known_under(alloc, &IndexFile { alloc }, budget)
 }
 
 /// Whether memory was refused, which no line is to blame for.
@@ -82,16 +90,15 @@ fn is_refusal(fault: IndexFault) -> bool {
 
 /// Whether the index has the file's pairs, in both directions, and no pair of another pointer.
 fn has_pairs(index: &Index) -> bool {
-    for (pointer, code_point) in [
-        (0, '\u{20AC}'),
-        (59, '\u{BB}'),
-        (63, '\u{BF}'),
-        (127, '\u{FF}'),
-    ] {
-        let scalar = Scalar::from(code_point);
-        if index.code_point(pointer) != Some(scalar) || index.pointer(scalar) != Some(pointer) {
-            return false;
-        }
-    }
-    index.code_point(1).is_none()
+    has_pair(index, 0, '\u{20AC}')
+        && has_pair(index, 59, '\u{BB}')
+        && has_pair(index, 63, '\u{BF}')
+        && has_pair(index, 127, '\u{FF}')
+        && index.code_point(1).is_none()
+}
+
+/// Whether the index has a pair, in both directions.
+fn has_pair(index: &Index, pointer: u32, code_point: char) -> bool {
+    let scalar = Scalar::from(code_point);
+    index.code_point(pointer) == Some(scalar) && index.pointer(scalar) == Some(pointer)
 }

@@ -2,11 +2,12 @@
 
 use crate::budget::all_but;
 use crate::cases::repeated;
-use crate::outcome::TrialOutcome;
+use crate::office::Office;
+use crate::outcome::{TrialOutcome, outcome_if};
+use crate::tried::{Known, known_under};
 use decoder_core::meter;
 use enc_names::{Bom, Encoding};
-use index_loader::Indexes;
-use state_memo::{AnyDecoder, AnyState, Outcome as Decoded, Piece, finish_of, start_of};
+use state_memo::{AnyDecoder, Outcome as Decoded, Piece, finish_of, start_of};
 use std::alloc::Global;
 
 /// How many bytes a piece has, at least.
@@ -22,28 +23,115 @@ fn bytes_of(alloc: Global) -> Option<Vec<u8>> {
     Some(bytes)
 }
 
+/// The bytes of a piece that is made.
+#[derive(Drop)]
+struct NewPiece {
+    alloc: Global,
+    bytes: Vec<u8>,
+}
+
+impl Known for NewPiece {
+    fn outcome(&self) -> TrialOutcome {
+        match Piece::new(self.alloc, &self.bytes) {
+            Ok(piece) => outcome_if(piece.bytes() == self.bytes.as_slice()),
+            Err(_) => TrialOutcome::Refused,
+        }
+    }
+}
+
 /// `Piece::new`.
 pub fn new(alloc: Global, budget: usize) -> Option<TrialOutcome> {
     let bytes = bytes_of(alloc)?;
-    let room = all_but(alloc, budget)?;
-    let first = Piece::new(alloc, &bytes);
-    drop(room);
-    let wanted = Piece::new(alloc, &bytes).ok()?;
-    Some(match first {
-        Ok(piece) if piece.bytes() == wanted.bytes() => TrialOutcome::Same,
-        Err(_) if wanted.bytes() == bytes.as_slice() => TrialOutcome::Refused,
-        _ => TrialOutcome::Wrong,
-    })
+    known_under(alloc, &NewPiece { alloc, bytes }, budget)
+}
+
+/// What makes pieces.
+pub trait Pieces {
+    /// A piece, with what decodes it.
+    type Decodable: Decodable;
+
+    /// A piece that has these bytes; `None` where memory is refused.
+    fn piece(&self, bytes: &[u8]) -> Option<Self::Decodable>;
+}
+
+/// A piece, by the calls that are tried on it.
+pub trait Decodable: Drop {
+    /// What it decodes to.
+    type Decoded: Alike;
+
+    /// `Piece::compute`; `None` where memory is refused.
+    fn computed(&self) -> Option<Self::Decoded>;
+
+    /// `finish_of`, in the state behind what was decoded; `None` where memory is refused.
+    fn finished(&self, decoded: &Self::Decoded) -> Option<Self::Decoded>;
+
+    /// Whether it has these bytes, and remembers nothing.
+    fn is_fresh(&self, bytes: &[u8]) -> bool;
+}
+
+/// What was decoded, beside what is decoded with memory.
+pub trait Alike: Drop {
+    /// Whether it is the same, with errors in it.
+    fn is_same(&self, wanted: &Self) -> bool;
+}
+
+/// A piece with its decoder.
+#[derive(Drop)]
+pub struct PieceOfDecoder<'i> {
+    alloc: Global,
+    decoder: AnyDecoder<'i>,
+    piece: Piece,
+}
+
+impl<'i> Pieces for Office<'i> {
+    type Decodable = PieceOfDecoder<'i>;
+
+    fn piece(&self, bytes: &[u8]) -> Option<PieceOfDecoder<'i>> {
+        let piece = Piece::new(self.alloc, bytes).ok()?;
+        let decoder = AnyDecoder::new(self.indexes, Encoding::Iso2022Jp, Bom::Sniff)?;
+        Some(PieceOfDecoder {
+            alloc: self.alloc,
+            decoder,
+            piece,
+        })
+    }
+}
+
+impl Decodable for PieceOfDecoder<'_> {
+    type Decoded = Decoded;
+
+    fn computed(&self) -> Option<Decoded> {
+        let start = start_of(&self.decoder);
+        self.piece.compute(&self.decoder, start, &mut meter()).ok()
+    }
+
+    fn finished(&self, decoded: &Decoded) -> Option<Decoded> {
+        finish_of(self.alloc, &self.decoder, decoded.exit).ok()
+    }
+
+    fn is_fresh(&self, bytes: &[u8]) -> bool {
+        let remembers = self.piece.peek(start_of(&self.decoder)).is_some();
+        self.piece.bytes() == bytes && !remembers
+    }
+}
+
+impl Alike for Decoded {
+    fn is_same(&self, wanted: &Decoded) -> bool {
+        self.text.as_str() == wanted.text.as_str()
+            && self.exit == wanted.exit
+            && self.items.runs().len() == wanted.items.runs().len()
+            && self.items.last() == wanted.items.last()
+            && self.sum.errors == wanted.sum.errors
+            && wanted.sum.errors > 0
+    }
 }
 
 /// `Piece::compute`: the piece has the same bytes behind it, and remembers nothing.
-pub fn compute(alloc: Global, indexes: &Indexes, budget: usize) -> Option<TrialOutcome> {
+pub fn compute<P: Pieces>(alloc: Global, pieces: &P, budget: usize) -> Option<TrialOutcome> {
     let bytes = bytes_of(alloc)?;
-    let piece = Piece::new(alloc, &bytes).ok()?;
-    let decoder = AnyDecoder::new(indexes, Encoding::Iso2022Jp, Bom::Sniff)?;
-    let outcome = computed_under(alloc, &decoder, &piece, budget)?;
-    let remembers = piece.peek(start_of(&decoder)).is_some();
-    Some(if piece.bytes() == bytes.as_slice() && !remembers {
+    let piece = pieces.piece(&bytes)?;
+    let outcome = computed_under(alloc, &piece, budget)?;
+    Some(if piece.is_fresh(&bytes) {
         outcome
     } else {
         TrialOutcome::Wrong
@@ -51,55 +139,29 @@ pub fn compute(alloc: Global, indexes: &Indexes, budget: usize) -> Option<TrialO
 }
 
 /// How decoding a piece comes out under a budget.
-fn computed_under(
-    alloc: Global,
-    decoder: &AnyDecoder<'_>,
-    piece: &Piece,
-    budget: usize,
-) -> Option<TrialOutcome> {
-    let start = start_of(decoder);
+fn computed_under<D: Decodable>(alloc: Global, piece: &D, budget: usize) -> Option<TrialOutcome> {
     let room = all_but(alloc, budget)?;
-    let first = piece.compute(decoder, start, &mut meter());
+    let first = piece.computed();
     drop(room);
-    let wanted = piece.compute(decoder, start, &mut meter()).ok()?;
-    Some(match first {
-        Ok(decoded) if is_same(&decoded, &wanted) => TrialOutcome::Same,
-        Err(_) => TrialOutcome::Refused,
-        _ => TrialOutcome::Wrong,
-    })
+    let wanted = piece.computed()?;
+    Some(outcome_of(first, &wanted))
 }
 
 /// `finish_of`, in the state behind the piece.
-pub fn finish(alloc: Global, indexes: &Indexes, budget: usize) -> Option<TrialOutcome> {
-    let bytes = bytes_of(alloc)?;
-    let decoder = AnyDecoder::new(indexes, Encoding::Iso2022Jp, Bom::Sniff)?;
-    let state = behind(alloc, &decoder, &bytes)?;
+pub fn finish<P: Pieces>(alloc: Global, pieces: &P, budget: usize) -> Option<TrialOutcome> {
+    let piece = pieces.piece(&bytes_of(alloc)?)?;
+    let decoded = piece.computed()?;
     let room = all_but(alloc, budget)?;
-    let first = finish_of(alloc, &decoder, state);
+    let first = piece.finished(&decoded);
     drop(room);
-    let wanted = finish_of(alloc, &decoder, state).ok()?;
-    Some(match first {
-        Ok(decoded) if is_same(&decoded, &wanted) => TrialOutcome::Same,
-        Err(_) => TrialOutcome::Refused,
-        _ => TrialOutcome::Wrong,
-    })
+    let wanted = piece.finished(&decoded)?;
+    Some(outcome_of(first, &wanted))
 }
 
-/// The state behind these bytes; `None` where memory is refused.
-fn behind(alloc: Global, decoder: &AnyDecoder<'_>, bytes: &[u8]) -> Option<AnyState> {
-    let piece = Piece::new(alloc, bytes).ok()?;
-    let decoded = piece
-        .compute(decoder, start_of(decoder), &mut meter())
-        .ok()?;
-    Some(decoded.exit)
-}
-
-/// Whether the same was decoded, with errors in it.
-fn is_same(decoded: &Decoded, wanted: &Decoded) -> bool {
-    decoded.text.as_str() == wanted.text.as_str()
-        && decoded.exit == wanted.exit
-        && decoded.items.runs().len() == wanted.items.runs().len()
-        && decoded.items.last() == wanted.items.last()
-        && decoded.sum.errors == wanted.sum.errors
-        && wanted.sum.errors > 0
+/// How it came out, beside what is decoded with memory.
+fn outcome_of<C: Alike>(first: Option<C>, wanted: &C) -> TrialOutcome {
+    match first {
+        Some(decoded) => outcome_if(decoded.is_same(wanted)),
+        None => TrialOutcome::Refused,
+    }
 }

@@ -1,11 +1,12 @@
 //! Traces.
 
+use crate::asked::EventTaker;
 use crate::budget::all_but;
+use crate::office::Office;
 use crate::outcome::TrialOutcome;
 use desk::Desk;
 use enc_names::{Bom, Encoding, Labels};
 use gateway::{Event, Gateway, MemFeed, MemOutlet, TraceFault, trace};
-use index_loader::Indexes;
 use std::alloc::Global;
 
 /// A trace of two questions, for a text and for bytes.
@@ -25,38 +26,58 @@ const REFUSED: [&[u8]; 3] = [
     b"1 {\"fault\":\"OutOfMemory\"}\n1 {\"fault\":\"OutOfMemory\"}\n",
 ];
 
-/// A gateway with a document; `None` where memory is refused.
-fn with_document<'i>(alloc: Global, indexes: &'i Indexes) -> Option<Gateway<'i>> {
-    let labels = Labels::names(alloc).ok()?;
-    let mut desk = Desk::new(alloc, indexes, labels).ok()?;
-    desk.adopt("d", Encoding::Utf8, Bom::Sniff, b"\xE2\x82A", 0)
-        .ok()?;
-    Some(Gateway::new(alloc, desk))
+/// What makes gateways that play the trace.
+pub trait Players {
+    /// The gateways.
+    type Gateway: Player;
+
+    /// A gateway with a document; `None` where memory is refused.
+    fn with_document(&self) -> Option<Self::Gateway>;
 }
 
-/// Plays the trace.
-fn played(
-    alloc: Global,
-    gateway: &mut Gateway<'_>,
-    output: &mut MemOutlet,
-) -> Result<(), TraceFault> {
-    trace(alloc, gateway, &mut MemFeed::new(TRACE), output)
+impl<'i> Players for Office<'i> {
+    type Gateway = Gateway<'i>;
+
+    fn with_document(&self) -> Option<Gateway<'i>> {
+        let labels = Labels::names(self.alloc).ok()?;
+        let mut desk = Desk::new(self.alloc, self.indexes, labels).ok()?;
+        desk.adopt("d", Encoding::Utf8, Bom::Sniff, b"\xE2\x82A", 0)
+            .ok()?;
+        Some(Gateway::new(self.alloc, desk))
+    }
+}
+
+/// A gateway that plays the trace.
+pub trait Player: EventTaker {
+    /// `trace`.
+    fn played(&mut self, alloc: Global, output: &mut MemOutlet) -> Result<(), TraceFault>;
+}
+
+impl Player for Gateway<'_> {
+    fn played(&mut self, alloc: Global, output: &mut MemOutlet) -> Result<(), TraceFault> {
+        trace(alloc, self, &mut MemFeed::new(TRACE), output)
+    }
 }
 
 /// `trace`: where it breaks off, or a question is refused, what was printed is right so far, and the
 /// same trace is played to its end with memory.
-pub fn play(alloc: Global, indexes: &Indexes, budget: usize) -> Option<TrialOutcome> {
-    let mut gateway = with_document(alloc, indexes)?;
+pub fn play<P: Players>(alloc: Global, players: &P, budget: usize) -> Option<TrialOutcome> {
+    let mut gateway = players.with_document()?;
+    played_under(alloc, &mut gateway, budget)
+}
+
+/// How the trace comes out under a budget.
+fn played_under<P: Player>(alloc: Global, gateway: &mut P, budget: usize) -> Option<TrialOutcome> {
     let mut output = MemOutlet::new(alloc);
     let room = all_but(alloc, budget)?;
-    let ended = played(alloc, &mut gateway, &mut output);
+    let ended = gateway.played(alloc, &mut output);
     drop(room);
     let printed = output.bytes();
     Some(match ended {
         Ok(()) if printed == OUTPUT => TrialOutcome::Same,
-        Ok(()) if REFUSED.contains(&printed) => played_later(alloc, &mut gateway),
+        Ok(()) if REFUSED.contains(&printed) => played_later(alloc, gateway),
         Err(TraceFault::OutOfMemory | TraceFault::Write) if begins_right(printed) => {
-            played_later(alloc, &mut gateway)
+            played_later(alloc, gateway)
         }
         _ => TrialOutcome::Wrong,
     })
@@ -73,10 +94,10 @@ fn begins_right(printed: &[u8]) -> bool {
 }
 
 /// How the trace comes out with memory, on a gateway where its connection may still be open.
-fn played_later(alloc: Global, gateway: &mut Gateway<'_>) -> TrialOutcome {
+fn played_later<P: Player>(alloc: Global, gateway: &mut P) -> TrialOutcome {
     let _ = gateway.event(Event::Close(1));
     let mut output = MemOutlet::new(alloc);
-    match played(alloc, gateway, &mut output) {
+    match gateway.played(alloc, &mut output) {
         Ok(()) if output.bytes() == OUTPUT => TrialOutcome::Refused,
         _ => TrialOutcome::Wrong,
     }
