@@ -154,7 +154,10 @@ impl<'i> Documents<'i> {
         ensures ok { OnOk result (self.new ≡ record { indexes = self.old.indexes; named = map.insert self.old.named (string_bytes name) (entry_of opened.entry) }) }
         ensures err { OnErr result (self.new ≡ self.old) }
     {
-        self.named.insert(name, opened)?;
+        // (no `?`: what the name had before, which is nothing, isn't passed on)
+        let Ok(_) = self.named.insert(name, opened) else {
+            return Err(AllocError);
+        };
         Ok(())
     }
 }
