@@ -8,6 +8,7 @@ pub mod Leads
 pub mod Lifted
 pub mod Marks
 pub mod Numbers
+pub mod Parting
 pub mod Places
 pub mod Prelude
 pub mod Splitting

@@ -13,6 +13,7 @@ mod known;
 mod laws;
 mod outcome;
 mod outputs;
+mod parts;
 mod piece;
 mod plain;
 mod run;
