@@ -2,6 +2,7 @@ pub mod AsciiBytes
 pub mod CodePoints
 pub mod Counted
 pub mod Fitting
+pub mod Fronts
 pub mod Gathered
 pub mod Joining
 pub mod Leads

@@ -2,6 +2,7 @@
 //! entered, and the sums of what pieces decode to.
 #![tactic(auto)]
 
+mod alike;
 mod axis;
 mod compute;
 mod counting;
