@@ -171,7 +171,3 @@ alike-count bytes len (suc n) wide alike =
 pub alike-counts : (bytes : List ℕ) (at len n m : ℕ) → 1 ≤ len → at ≡ n * len → at ≤ length bytes → AreAlike (take (length bytes - at) (drop at bytes)) 0 len m → n + m ≤ length bytes
 alike-counts bytes at len n m wide at_is within back =
     omega (arith, at_is, within, mul-le n 1 n len (omega arith) wide, alike-count (take (length bytes - at) (drop at bytes)) len m wide back, length-chunk at (length bytes - at) bytes (omega (arith, within)))
-
--- where another one of them would lie in the sixteen bytes no more than these, some are taken
-pub some-taken : (len n : ℕ) → 2 ≤ len → len ≤ 4 → 16 < (n + 1) * len → 0 < n * len
-some-taken len n wide short far = let more : (n + 1) * len ≡ n * len + len = omega arith in omega (arith, more, far, short)

@@ -107,9 +107,6 @@ module _ {stride : Stride} {text : List ℕ} {at len width : ℕ} (here : IsItem
   pub next-within : at + len ≤ length text
   next-within = omega (arith, long, fits text next.rest at next.code_point next.parts)
 
-  pub next-len : (1 ≤ len) × (len ≤ 4)
-  next-len = let b = len_utf8_bounds next.code_point in (omega (arith, long, b.0), omega (arith, long, b.1))
-
   next-spelt : IsUtf8 (drop (at + len) text)
   next-spelt = rw behind (IsUtf8-past_char (drop at text) next.rest next.code_point here.spelt next.parts)
 
