@@ -4,7 +4,6 @@ ghost use Rattle.std.specs.Str.{chars};
 ghost use Rattle.piece_rope.specs.Entry.{texts_of};
 
 use crate::pieces::Pieces;
-use crate::scalars::scalars_between;
 use state_memo::{Axis, OutOfMemory, Outcome};
 use std::alloc::Global;
 use sum_tree::visits;
@@ -17,10 +16,8 @@ fn push_part(text: &mut String, outcome: &Outcome, skip: u64, most: u64) -> Resu
     ensures part { IfOk result (λ count. chars (string_bytes text.new) ≡ chars (string_bytes text.old) ++ take count (drop skip outcome.now.text)) }
 {
     let count = most.min(outcome.sum.scalars - skip);
-    match scalars_between(outcome.text.as_str(), skip, skip + count) {
-        Some(part) => text.push_str(part)?,
-        None => unreachable!(),
-    }
+    let part = outcome.text.part(skip as usize, (skip + count) as usize);
+    text.push_str(part)?;
     Ok(count)
 }
 

@@ -2,12 +2,14 @@ pub mod AsciiBytes
 pub mod CodePoints
 pub mod Counted
 pub mod Fitting
+pub mod Fronts
 pub mod Gathered
 pub mod Joining
 pub mod Leads
 pub mod Lifted
 pub mod Marks
 pub mod Numbers
+pub mod Parting
 pub mod Places
 pub mod Prelude
 pub mod Splitting

@@ -6,7 +6,7 @@ use Rattle.state_memo.specs.SumLaws.{same_by}
 use Rattle.state_memo.proofs.Prelude.{chars, IsUtf8, encode_utf8_all, encode_utf8, encodes-chars, length-encode, Sum, marks, ends_cr, utf8_width}
 use Rattle.state_memo.proofs.Prelude.{utf16_width, total_width, Ended, errors_in, begins_lf}
 
-width-encodes : (cs : List ℕ) → length (encode_utf8_all cs) ≡ total_width utf8_width cs
+pub width-encodes : (cs : List ℕ) → length (encode_utf8_all cs) ≡ total_width utf8_width cs
 width-encodes [] = refl
 width-encodes (c ∷ cs) = omega (arith, length-append (encode_utf8 c) (encode_utf8_all cs), length-encode c, width-encodes cs)
 

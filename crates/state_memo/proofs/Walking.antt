@@ -2,7 +2,6 @@
 use Rattle.std.proofs.Common.{◌≡◌, Bool, refl, sym, ap, subst, ◌∙◌, ℕ, zero, suc, ◌+◌, ◌-◌, ◌*◌, ◌<◌, ◌≤◌, List, [], ◌∷◌, ◌++◌, append_assoc, append-nil, length, length-append, min, take, drop, get_or, arith, ℤ, pos, ◌+ℤ◌, ◌<ℤ◌, false, leb, map, nat_lt, not}
 use Rattle.std.proofs.lemmas.Grind.{flat_map-append}
 use Rattle.std.proofs.lemmas.List.Sums.{prefix_len-le-length, prefix_len_passes}
-use Rattle.std.proofs.lemmas.Nat.{mul-le}
 use Rattle.std.proofs.lemmas.Simd.{length-chunk, run_in_chunk_fails, run_in_chunk_le, trailing_mask_l}
 use Rattle.std.proofs.lemmas.Str.{chars_past_char, drop_past_char, length-encode, len_utf8_bounds, IsUtf8-past_char}
 use Rattle.std.proofs.Math.Utf8.{encode}
@@ -92,6 +91,9 @@ item-at {at = at} widths widths_are same some spelt len_is = record {
   wide = λ c e. ap (λ (n : ℕ). get_or widths (n - 1) 0) e ∙ widths_are c;
 }
 
+pub wide-of : (stride : Stride) {len : ℕ} (widths : List ℕ) → ((c : ℕ) → get_or widths (len_utf8 c - 1) 0 ≡ width_of stride c) → (c : ℕ) → len ≡ len_utf8 c → get_or widths (len - 1) 0 ≡ width_of stride c
+wide-of stride widths widths_are c e = ap (λ (n : ℕ). get_or widths (n - 1) 0) e ∙ widths_are c
+
 module _ {stride : Stride} {text : List ℕ} {at len width : ℕ} (here : IsItemAt stride text at len width) where
   next : IsNext (drop at text) (get_or text at 0)
   next = next-is (drop at text) (get_or text at 0) here.spelt (omega (arith, length-drop at text, here.some)) (ap (λ (n : ℕ). get_or text n 0) (omega arith) ∙ sym (get_or-drop at text 0 0))
@@ -104,9 +106,6 @@ module _ {stride : Stride} {text : List ℕ} {at len width : ℕ} (here : IsItem
 
   pub next-within : at + len ≤ length text
   next-within = omega (arith, long, fits text next.rest at next.code_point next.parts)
-
-  pub next-len : (1 ≤ len) × (len ≤ 4)
-  next-len = let b = len_utf8_bounds next.code_point in (omega (arith, long, b.0), omega (arith, long, b.1))
 
   next-spelt : IsUtf8 (drop (at + len) text)
   next-spelt = rw behind (IsUtf8-past_char (drop at text) next.rest next.code_point here.spelt next.parts)
@@ -237,6 +236,9 @@ front-alike bytes others room is some =
     low-alike bytes run (omega (arith, room, run_in_chunk_le (leb 128) bytes 0 16 run 0 room counted))
     (λ k lt. grind (arith, nat_tests, run_in_chunk_fails (leb 128) bytes 0 16 run 0 room counted k (omega arith) (omega (arith, lt))))
 
+pub alike-in : (bytes text : List ℕ) (at len n most m : ℕ) → bytes ≡ text → m ≡ min n most → AreAlike bytes at len n → AreAlike text at len m
+alike-in bytes text at len n most m same is alike = λ k lt. subst (λ (bs : List ℕ). AreAlike bs at len n) same alike k (omega (arith, lt, is))
+
 -- the same of a part that goes to the end, and fewer
 pub alike-part : (bytes text : List ℕ) (at len n most m : ℕ) → bytes ≡ text → AreAlike (take (length bytes - at) (drop at bytes)) 0 len n → m ≡ min n most → AreAlike text at len m
 alike-part bytes text at len n most m same alike is k lt =
@@ -266,30 +268,51 @@ module _ (stride : Stride) (kind : ItemKind) (output : OutputState) (text : List
       (walked-at stride kind output text from before capacity (at + len + n * len) (at + suc n * len) closed count ((last +ℤ pos width) +ℤ pos (n * width)) (last +ℤ pos (suc n * width)) (more + 1 + n) width (omega (arith, ints, all)) (omega arith)
       (walked-alike n (at + len) (more + 1) (last +ℤ pos width) (alike-behind text at len n alike) next))
 
--- a code point that goes on with the open run, and so many behind it that are alike
-pub walked-run : {stride : Stride} {text : List ℕ} {at len width : ℕ} → IsItemAt stride text at len width
+-- so many code points that are alike go on with the open run
+pub walked-run : {stride : Stride} {text : List ℕ} {at len width : ℕ} → ((c : ℕ) → len ≡ len_utf8 c → width ≡ width_of stride c)
     → {kind : ItemKind} {output : OutputState} {from last : ℤ} {before : List Ended} {capacity count more step : ℕ} {closed : List Run} → IsWalked stride kind output text from before capacity at closed count last more step
     → ((end : ℤ) → item_of_kind kind end ≡ record { scalars = 1; end = end; error = false; output = output })
-    → (n : ℕ) (mid end : ℤ) → mid ≡ last +ℤ pos width → (0 < more → step ≡ width) → AreAlike text (at + len) len n → end ≡ mid +ℤ pos (n * width)
-    → IsWalked stride kind output text from before capacity (at + len + n * len) closed count end (more + 1 + n) width
-walked-run {stride} {text} {at} {len} {width} here {kind} {output} {from} {last} {before} {capacity} {count} {more} {step} {closed} held one n mid end mid_is same alike end_is =
-    walked-at stride kind output text from before capacity (at + len + n * len) (at + len + n * len) closed count (mid +ℤ pos (n * width)) end (more + 1 + n) width end_is refl
-    (walked-alike stride kind output text from before capacity closed count width len one here.wide n (at + len) (more + 1) mid alike
-    (walked-on here held one mid mid_is (more + 1) width refl refl same))
+    → (n : ℕ) (end : ℤ) → end ≡ last +ℤ pos (n * width) → (0 < more → step ≡ width) → AreAlike text at len n
+    → IsWalked stride kind output text from before capacity (at + n * len) closed count end (more + n) width
+walked-run {stride} {text} {at} {len} {width} wide {kind} {output} {from} {last} {before} {capacity} {count} {more} {step} {closed} held one n end end_is same alike =
+    let stepped : IsWalked stride kind output text from before capacity at closed count last more width = record {
+      within = held.within;
+      spelt = held.spelt;
+      front = held.front;
+      parts = held.parts;
+      place = held.place;
+      items = ap (λ (is : List Ended). items_of_runs closed ++ is) (sym (until-step kind last more step width same)) ∙ held.items;
+      room = held.room;
+    } in
+    walked-at stride kind output text from before capacity (at + n * len) (at + n * len) closed count (last +ℤ pos (n * width)) end (more + n) width end_is refl
+    (walked-alike stride kind output text from before capacity closed count width len one wide n at more last alike stepped)
 
--- how many bytes those of a run can have
-pub few-bytes : (n len : ℕ) → n ≤ 65535 → len ≤ 4 → n * len ≤ 262140
-few-bytes n len few short = omega (arith, mul-le n len 65535 4 few short)
+-- the items end before a limit that those of the whole text end before
+pub walked-below : {stride : Stride} {text : List ℕ} {at : ℕ} {kind : ItemKind} {output : OutputState} {from last : ℤ} {before : List Ended} {capacity count more step : ℕ} {closed : List Run}
+    → IsWalked stride kind output text from before capacity at closed count last more step
+    → (limit start : ℤ) → from ≡ start → (start +ℤ pos (run_width stride (chars text))) <ℤ limit → last <ℤ limit
+walked-below {stride} {text} {at} held limit start from_is fits =
+    let whole = ap (run_width stride) held.parts ∙ run-append stride held.front (chars (drop at text)) in
+    omega (arith, ints, whole, held.place, from_is, fits)
 
--- its items end before a limit that the last one ends before
-pub run-fits : {stride : Stride} {text : List ℕ} {at len width : ℕ} → IsItemAt stride text at len width
-    → {kind : ItemKind} {output : OutputState} {from last : ℤ} {before : List Ended} {capacity count more step : ℕ} {closed : List Run} → IsWalked stride kind output text from before capacity at closed count last more step
+-- the same, as it is named behind a branch
+pub walked-joined : {stride : Stride} {text : List ℕ} {at : ℕ} {kind : ItemKind} {output : OutputState} {from last : ℤ} {before : List Ended} {capacity count more step : ℕ} {closed : List Run}
+    → IsWalked stride kind output text from before capacity at closed count last more step
+    → (then_at : ℕ) (then : ℤ) (then_more then_step : ℕ) → then_at ≡ at → then ≡ last → then_more ≡ more → then_step ≡ step
+    → IsWalked stride kind output text from before capacity then_at closed count then then_more then_step
+walked-joined {stride} {text} {at} {kind} {output} {from} {last} {before} {capacity} {count} {more} {step} {closed} held then_at then then_more then_step at_is last_is more_is step_is =
+    subst (λ (n : ℕ). IsWalked stride kind output text from before capacity then_at closed count then n then_step) (sym more_is)
+    (subst (λ (n : ℕ). IsWalked stride kind output text from before capacity then_at closed count then more n) (sym step_is)
+    (walked-at stride kind output text from before capacity at then_at closed count last then more step last_is at_is held))
+
+-- the same of a run that has one item, which goes on with any that are alike
+pub walked-from : {stride : Stride} {text : List ℕ} {at len width : ℕ} → ((c : ℕ) → len ≡ len_utf8 c → width ≡ width_of stride c)
+    → {kind : ItemKind} {output : OutputState} {from last : ℤ} {before : List Ended} {capacity count step : ℕ} {closed : List Run} → IsWalked stride kind output text from before capacity at closed count last 0 step
     → ((end : ℤ) → item_of_kind kind end ≡ record { scalars = 1; end = end; error = false; output = output })
-    → (n : ℕ) (mid limit start : ℤ) → mid ≡ last +ℤ pos width → (0 < more → step ≡ width) → AreAlike text (at + len) len n → from ≡ start → (start +ℤ pos (run_width stride (chars text))) <ℤ limit → (mid +ℤ pos (n * width)) <ℤ limit
-run-fits {stride} {text} {at} {len} {width} here {from = from} held one n mid limit start mid_is same alike from_is fits =
-    let walked = walked-run here held one n mid (mid +ℤ pos (n * width)) mid_is same alike refl in
-    let whole = ap (run_width stride) walked.parts ∙ run-append stride walked.front (chars (drop (at + len + n * len) text)) in
-    omega (arith, ints, whole, walked.place, from_is, fits)
+    → (n : ℕ) (end : ℤ) → end ≡ last +ℤ pos (n * width) → AreAlike text at len n
+    → IsWalked stride kind output text from before capacity (at + n * len) closed count end n width
+walked-from wide held one n end end_is alike =
+    walked-joined (walked-run wide held one n end end_is (λ lt. absurd (omega (arith, lt))) alike) _ _ _ _ refl refl (omega arith) refl
 
 -- all of the text
 pub walked-whole : (stride : Stride) (kind : ItemKind) (output : OutputState) (text : List ℕ) (from : ℤ) (before : List Ended) (capacity at : ℕ) (closed : List Run) (count : ℕ) (last : ℤ) (more step : ℕ)

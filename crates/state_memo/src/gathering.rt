@@ -104,7 +104,7 @@ impl Gathering {
         ensures ok { OnOk result (self.new ≡ with_more self.old (chars text.now) (plain_items_from stride from output (chars text.now))) }
         ensures err { OnErr result (self.new ≡ self.old) }
     {
-        self.items.reserve(count)?;
+        self.items.reserve_for(count)?;
         self.text.put_text(text)?;
         self.items.put_plain(text, from, stride, output);
         Ok(())

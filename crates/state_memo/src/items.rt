@@ -6,15 +6,19 @@ ghost use Rattle.state_memo.specs.Gathering.{plain_items_from};
 ghost use Rattle.state_memo.specs.Items.{all_scalars, errors_in, scalars_before, item_of};
 ghost use Rattle.state_memo.specs.Runs.{items_of_run, items_of_runs, items_under_way};
 
+use crate::alike::{alike_at, scalar_len};
 use crate::ended::Ended;
 use crate::kind::ItemKind;
-use crate::plain::{alike_front, scalar_len, widths_of};
+use crate::plain::widths_of;
 use crate::run::{Run, end_behind, end_behind_all, goes_on};
 use decoder_core::Stride;
 use iso2022jp::OutputState;
 use std::alloc::{AllocError, Global};
 use std::marker::Model;
 use std::rc::Rc;
+
+/// For how many runs there is room at first where a text has several, so that mostly none is moved.
+const PIECE: usize = 1024;
 
 /// Items under way: the last run may still go on.
 #[derive(Drop)]
@@ -42,6 +46,15 @@ impl OpenRuns {
         ensures room { OnOk result (vec_len self.new.closed + runs ≤ vec_capacity self.new.closed) }
     {
         self.closed.reserve(runs)
+    }
+
+    /// Makes room for the items of so many runs, and where there is none yet, for those of a piece.
+    pub(crate) fn reserve_for(&mut self, runs: usize) -> Result<(), AllocError>
+        ensures same { items_under_way self.new.closed.items self.new.last ≡ items_under_way self.old.closed.items self.old.last }
+        ensures room { OnOk result (vec_len self.new.closed + runs ≤ vec_capacity self.new.closed) }
+    {
+        let least = if self.closed.is_empty() { PIECE } else { 0 };
+        self.reserve(runs.max(least))
     }
 
     /// Puts a run behind the others, for which there is room, and returns the run that is the last
@@ -97,29 +110,32 @@ impl OpenRuns {
         // Variables of their own, so that each has a register.
         let mut more = first.more;
         let mut step = first.step;
+        // The run goes on with all that are alike, if it does with any of them.
+        let next = alike_at(bytes, at);
+        let width = widths[next.len - 1];
+        if goes_on(more, step, width) {
+            let run = next.count.min(u16::MAX - more);
+            last = end_behind_all(last, run, width);
+            at += usize::from(run) * next.len;
+            more += run;
+            step = width;
+        }
         'items: while at < bytes.len() {
-            let len = scalar_len(bytes[at]);
-            let width = widths[len - 1];
-            let ended = last;
-            last = end_behind(last, width);
-            at += len;
-            if goes_on(more, step, width) {
-                step = width;
-                more += 1;
-                // As long as they are alike, the run goes on with all of them.
-                let run = alike_front(&bytes[at..], len).min(usize::from(u16::MAX - more));
-                last = end_behind_all(last, run as u16, width);
-                at += run * len;
-                more += run as u16;
-                continue;
-            }
             self.closed.push_reserved(Run {
-                last: ended,
+                last,
                 more,
                 step,
                 kind,
             });
-            more = 0;
+            // Another begins with any, and goes on with all that are alike.
+            let len = scalar_len(bytes[at]);
+            last = end_behind(last, widths[len - 1]);
+            at += len;
+            let behind = alike_at(bytes, at);
+            step = widths[behind.len - 1];
+            last = end_behind_all(last, behind.count, step);
+            at += usize::from(behind.count) * behind.len;
+            more = behind.count;
         }
         self.last = Some(Run {
             last,

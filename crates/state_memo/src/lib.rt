@@ -2,6 +2,7 @@
 //! entered, and the sums of what pieces decode to.
 #![tactic(auto)]
 
+mod alike;
 mod axis;
 mod compute;
 mod counting;
@@ -13,6 +14,7 @@ mod known;
 mod laws;
 mod outcome;
 mod outputs;
+mod parts;
 mod piece;
 mod plain;
 mod run;

@@ -1,10 +1,11 @@
 //! What a piece decodes to.
-ghost use Rattle.std.specs.Prelude.{◌≡◌, [], string_bytes, IfOk};
+ghost use Rattle.std.specs.Prelude.{◌≡◌, ◌-◌, ◌≤◌, [], length, take, drop, string_bytes, IfOk};
 ghost use Rattle.std.specs.Str.{chars};
 ghost use Rattle.state_memo.specs.Facts.{IsSumOf, IsBounded};
 ghost use Rattle.state_memo.specs.Items.{scalars_before, item_of};
 
 use crate::items::ItemRuns;
+use crate::parts::part_of;
 use crate::sum::Sum;
 use codec::AnyState;
 use decoder_core::OutOfMemory;
@@ -52,6 +53,15 @@ impl Text {
             Some(text) => text.as_str(),
             None => "",
         }
+    }
+
+    /// The code points `from..to`.
+    pub fn part(&self, from: usize, to: usize) -> &str
+        requires order { from ≤ to }
+        requires within { to ≤ length self.now }
+        ensures { chars result.now ≡ take (to - from) (drop from self.now) }
+    {
+        part_of(self.as_str(), from, to)
     }
 }
 

@@ -1,24 +1,19 @@
 //! Texts whose code points are items without gaps.
 ghost use Rattle.std.specs.Prelude.{◌≡◌, ◌<◌, ◌≤◌, ◌+◌, ◌-◌, ◌*◌, ◌^◌, ℕ, nat_lt, if◌then◌else◌, slice_index, IfSome, length, map, take, pos, ◌-ℤ◌, ◌+ℤ◌, ◌<ℤ◌};
 ghost use Rattle.std.specs.Char.{len_utf8};
-ghost use Rattle.std.specs.Str.{chars, continuation_len};
+ghost use Rattle.std.specs.Str.{chars};
 ghost use Rattle.decoder_core.specs.declared.bulk.Stride.{Stride};
 ghost use Rattle.decoder_core.specs.declared.bulk.Stride.TheVariants.{Pairs};
 ghost use Rattle.decoder_core.specs.Bulk.{width_of, run_width};
 ghost use Rattle.lane_utf.specs.Widths.{total_width};
-ghost use Rattle.state_memo.specs.Alike.{AreAlike};
 ghost use Rattle.state_memo.specs.Gathering.{plain_items, IsEven};
 ghost use Rattle.state_memo.specs.Runs.{items_of_run};
-ghost use lib.Dec.{leb};
-ghost use lib.Lanes.{mask_l};
 
 use crate::kind::ItemKind;
 use crate::run::Run;
 use decoder_core::Stride;
 use iso2022jp::OutputState;
-use lane_ascii::ascii_run;
 use lane_utf::count_utf16;
-use std::simd::prelude::*;
 
 /// How many bytes are looked at together for ASCII.
 const BLOCK: usize = 128;
@@ -122,78 +117,6 @@ fn one_ascii(byte: u8) -> u8
     ensures { result ≡ (if nat_lt byte 0x80 then 1 else 0) }
 {
     if byte < 0x80 { 1 } else { 0 }
-}
-
-/// The length in UTF-8 of the code point that begins with this byte.
-// In the loop over the code points.
-#[inline(always)]
-pub(crate) fn scalar_len(lead: u8) -> usize
-    ensures { result ≡ continuation_len lead + 1 }
-{
-    match lead {
-        0..0x80 => 1,
-        0x80..0xE0 => 2,
-        0xE0..0xF0 => 3,
-        _ => 4,
-    }
-}
-
-/// How many code points at the front have so many bytes of UTF-8, one beside the other.
-// In the loop over the code points.
-#[inline(always)]
-pub(crate) fn alike_front(bytes: &[u8], len: usize) -> usize
-    requires { (1 ≤ len) × (len ≤ 4) }
-    ensures { AreAlike bytes.now 0 len result }
-{
-    if len == 1 {
-        return ascii_front(bytes);
-    }
-    let (low, high) = leads_of(len);
-    let mut at = 0;
-    let mut count = 0;
-    'alike: while at < bytes.len() && low <= bytes[at] && bytes[at] < high {
-        at += len;
-        count += 1;
-    }
-    count
-}
-
-/// How many ASCII bytes are at the front: mostly fewer than sixteen, which are seen at once.
-#[inline(always)]
-fn ascii_front(bytes: &[u8]) -> usize
-    ensures { AreAlike bytes.now 0 1 result }
-{
-    if bytes.len() >= 16 {
-        let others = others_in_16(bytes);
-        if others != 0 {
-            return others.trailing_zeros() as usize;
-        }
-    }
-    ascii_run(bytes)
-}
-
-/// A mask with a bit for each of the first sixteen bytes that isn't ASCII.
-#[inline(always)]
-fn others_in_16(bytes: &[u8]) -> u64
-    requires { 16 ≤ length bytes.now }
-    ensures { result ≡ mask_l (map (leb 0x80) (take 16 bytes.now)) }
-{
-    u8x16::from_slice(bytes)
-        .simd_ge(Simd::splat(0x80))
-        .to_bitmask()
-}
-
-/// The first bytes of code points of so many bytes of UTF-8: from the first of these on, below the second.
-#[inline(always)]
-fn leads_of(len: usize) -> (u8, u8)
-    requires { (2 ≤ len) × (len ≤ 4) }
-    ensures { (b : ℕ) → result.0 ≤ b → b < result.1 → len ≡ continuation_len b + 1 }
-{
-    match len {
-        2 => (0x80, 0xE0),
-        3 => (0xE0, 0xF0),
-        _ => (0xF0, 0xFF),
-    }
 }
 
 /// The lengths in bytes of the items that are code points of one to four bytes in UTF-8.

@@ -4,11 +4,7 @@ use Rattle.piece_rope.proofs.text.push_part.Goals as goal
 pub returns-clause-part : goal.returns-clause-part
 returns-clause-part c =
     let old = string_bytes c.args.text.now in
-    let count = c.min-count.result in
-    let added : string_bytes c.push_str.new.self ≡ old ++ c.in-Some.part.now = search rules in
-    let whole : chars c.as_str.result.now ≡ c.args.outcome.now.text = c.as_str.ensures in
-    let part : chars c.in-Some.part.now ≡ take count (drop c.args.skip c.args.outcome.now.text) =
-    c.in-Some.ensures.chars
-    ∙ ap (λ (n : ℕ). take n (drop c.args.skip (chars c.as_str.result.now))) (omega arith)
-    ∙ ap (λ (cs : List ℕ). take count (drop c.args.skip cs)) whole in
-    ap chars added ∙ chars-append old c.in-Some.part.now (IsUtf8-string_bytes c.args.text.now) ∙ ap (λ (cs : List ℕ). chars old ++ cs) part
+    let added : string_bytes c.push_str.new.self ≡ old ++ c.part-part.result.now = search rules in
+    let part : chars c.part-part.result.now ≡ take c.min-count.result (drop c.args.skip c.args.outcome.now.text) =
+    c.part-part.ensures ∙ ap (λ (n : ℕ). take n (drop c.args.skip c.args.outcome.now.text)) (omega arith) in
+    ap chars added ∙ chars-append old c.part-part.result.now (IsUtf8-string_bytes c.args.text.now) ∙ ap (λ (cs : List ℕ). chars old ++ cs) part

@@ -3,7 +3,7 @@ use Rattle.std.proofs.lemmas.List.{length-map}
 use Rattle.std.proofs.lemmas.Simd.{length-chunk, mask_l-mod, tops_compared, zip2_splat_left}
 use Rattle.std.specs.Prelude.{replicate}
 use lib.Lanes.{mask_l}
-use Rattle.state_memo.proofs.plain.others_in_16.Goals as goal
+use Rattle.state_memo.proofs.alike.others_in_16.Goals as goal
 
 pub returns : goal.returns
 returns c =

@@ -1,6 +1,6 @@
 use Rattle.std.proofs.Common.{◌-◌, ◌*◌, ◌≡◌, length}
 use Rattle.state_memo.specs.Alike.{AreAlike}
-use Rattle.state_memo.proofs.plain.alike_front.Given as goal
+use Rattle.state_memo.proofs.alike.wide_rest.Given as goal
 
 abbrev pub invariant-alike : goal.invariant-alike
 invariant-alike l = (l.at ≡ l.count * l.len) × AreAlike l.bytes 0 l.len l.count
