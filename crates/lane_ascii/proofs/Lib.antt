@@ -1,4 +1,5 @@
 pub mod Counting
+pub mod FirstFlags
 pub mod Flags
 pub mod MarkLanes
 pub mod Masks

@@ -22,6 +22,9 @@ pub(crate) fn nth_set(mask: u64, n: usize) -> usize
     ensures place { (flags : List Bool) → length flags ≤ 64 → mask ≡ mask_l flags
         → n < flags_set flags → IsNthFlag flags n result }
 {
+    if n == 0 {
+        return lowest_of(mask);
+    }
     let sought = Sought {
         bits: mask,
         left: n,
@@ -33,6 +36,17 @@ pub(crate) fn nth_set(mask: u64, n: usize) -> usize
     let sought = halve(sought, 4);
     let sought = halve(sought, 2);
     halve(sought, 1).at
+}
+
+/// The place of the lowest set bit, of a mask that has one: what is sought most often.
+#[inline(always)]
+fn lowest_of(mask: u64) -> usize
+    ensures bound { result < 64 }
+    ensures place { (flags : List Bool) → length flags ≤ 64 → mask ≡ mask_l flags
+        → 0 < flags_set flags → IsNthFlag flags 0 result }
+{
+    let at = lowest_set(mask, 63);
+    if at < 64 { at } else { 63 }
 }
 
 /// A set bit that is sought: the bits that it is among, how many of them are set below it, and the

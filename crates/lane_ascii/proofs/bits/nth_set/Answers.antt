@@ -1,5 +1,11 @@
+use Rattle.std.proofs.Common.{sym, subst, arith}
+use Rattle.lane_ascii.specs.Flags.{IsNthFlag}
 use Rattle.lane_ascii.proofs.Flags.{from_all, found}
 use Rattle.lane_ascii.proofs.bits.nth_set.Goals as goal
+
+pub returns-then-n-eq0-clause-place : goal.returns-then-n-eq0-clause-place
+returns-then-n-eq0-clause-place c flags few is less =
+    subst (λ k. IsNthFlag flags k c.lowest_of.result) (sym c.if-n-eq0.true) (c.lowest_of.ensures.place flags few is (omega (arith, less, c.if-n-eq0.true)))
 
 pub returns-clause-place : goal.returns-clause-place
 returns-clause-place c flags few is less =

@@ -1,0 +1,35 @@
+-- The first flag that is set, as the lowest bit of the mask.
+use Rattle.std.proofs.Common.{◌≡◌, ℕ, suc, ◌+◌, ◌<◌, ◌≤◌, ◌==◌, Bool, true, false, not, cond, List, [], ◌∷◌, length, map, refl, sym, ap, subst, ◌∙◌, arith}
+use Rattle.std.specs.List.{prefix_len}
+use Rattle.std.proofs.lemmas.Simd.{first_set_mask_l}
+use Rattle.lane_ascii.specs.Bits.{first_set}
+use Rattle.lane_ascii.specs.Flags.{flags_set, IsNthFlag}
+use lib.Count.{count_trailing_zeros}
+use lib.Lanes.{mask_l}
+
+same : (fs : List Bool) → map (λ (b : Bool). b) fs ≡ fs
+same [] = refl
+same (f ∷ fs) = ap (λ t. f ∷ t) (same fs)
+
+first : (fs : List Bool) → 0 < flags_set fs → IsNthFlag fs 0 (prefix_len (λ (b : Bool). not b) fs)
+first [] h = absurd (omega (arith, h))
+first (true ∷ fs) h = record { within = omega arith; before = refl; is = refl }
+first (false ∷ fs) h =
+    let r = first fs (omega (arith, h)) in
+    let next : 1 + prefix_len (λ (b : Bool). not b) fs ≡ suc (prefix_len (λ (b : Bool). not b) fs) = omega arith in
+    rw next (record { within = omega (arith, r.within); before = omega (arith, r.before); is = r.is })
+
+-- a mask with a set bit isn't 0
+pick : (b : Bool) (len t p k : ℕ) → cond b len t ≡ p → p < len → cond b k t ≡ p
+pick true len t p k e l = absurd (omega (arith, e, l))
+pick false len t p k e l = e
+
+pub first_flag : (fs : List Bool) (mask r : ℕ) → length fs ≤ 64 → mask ≡ mask_l fs → 0 < flags_set fs → r ≡ first_set mask 63 → IsNthFlag fs 0 r × (r < 64)
+first_flag fs mask r few is some e =
+    let f = first fs some in
+    let p : ℕ = prefix_len (λ (b : Bool). not b) fs in
+    let raw = first_set_mask_l (λ (b : Bool). b) fs (length fs) refl few in
+    let all : cond (mask_l fs == 0) (length fs) (count_trailing_zeros 64 (mask_l fs)) ≡ p = rw (same fs) at raw in
+    let here : first_set mask 63 ≡ p = ap (λ m. first_set m 63) is ∙ pick (mask_l fs == 0) (length fs) (count_trailing_zeros 64 (mask_l fs)) p 63 all f.within in
+    let at : r ≡ p = e ∙ here in
+    (subst (IsNthFlag fs 0) (sym at) f, omega (arith, at, f.within, few))
