@@ -9,6 +9,7 @@ use index_files::{EarlyEnd, indexes_in};
 use index_loader::Indexes;
 use oracle::megabytes_per_second;
 use std::alloc::AllocError;
+use std::io;
 use std::time::{Duration, Instant};
 
 /// How often each document is decoded, and its text encoded.
@@ -96,21 +97,41 @@ fn measure_one(
     (kind, text): Text,
 ) -> Result<(), EarlyEnd> {
     let bytes = document(rt.alloc(), text)?;
-    let back = match fastest_decoding(rt, indexes, encoding, &bytes)? {
-        Some(decoded) if decoded.errors == 0 => {
-            let back = fastest_encoding(rt, indexes, encoding, decoded.text.as_str())?;
-            Measured::Speeds(decoded.time, back)
-        }
-        Some(decoded) => Measured::Errors(decoded.errors),
-        None => Measured::NoIndex,
-    };
-    print_measured(rt, (encoding.name(), kind), bytes.len(), back)
+    let measured = speeds_of(rt, indexes, encoding, &bytes)?;
+    print_measured(rt, (encoding.name(), kind), bytes.len(), measured)
+}
+
+/// What is measured of a document.
+fn speeds_of(
+    rt: &HostRuntime,
+    indexes: &Indexes,
+    encoding: Encoding,
+    document: &[u8],
+) -> Result<Measured, EarlyEnd> {
+    match fastest_decoding(rt, indexes, encoding, document)? {
+        Some(decoded) => speeds_of_decoded(rt, indexes, encoding, &decoded),
+        None => Ok(Measured::NoIndex),
+    }
+}
+
+/// What is measured of a document that was decoded.
+fn speeds_of_decoded(
+    rt: &HostRuntime,
+    indexes: &Indexes,
+    encoding: Encoding,
+    decoded: &DecodedText,
+) -> Result<Measured, EarlyEnd> {
+    if decoded.errors > 0 {
+        return Ok(Measured::Errors(decoded.errors));
+    }
+    let back = fastest_encoding(rt, indexes, encoding, decoded.text.as_str())?;
+    Ok(Measured::Speeds(decoded.time, back))
 }
 
 /// Prints what was measured of a document of so many bytes.
 fn print_measured(
     rt: &HostRuntime,
-    (name, kind): (&str, &str),
+    names: (&str, &str),
     bytes: usize,
     measured: Measured,
 ) -> Result<(), EarlyEnd> {
@@ -118,12 +139,32 @@ fn print_measured(
         Measured::Speeds(time, back) => {
             let speed = megabytes_per_second(bytes, time);
             let back = back.map_or(0, |time| megabytes_per_second(bytes, time));
-            println!(rt; "{name:<13} {kind:<9} {speed:>6} {back:>6} MB/s decoded, encoded")?;
+            print_speeds(rt, names, speed, back)?;
         }
-        Measured::Errors(errors) => println!(rt; "{name:<13} {kind:<9} {errors} errors")?,
-        Measured::NoIndex => println!(rt; "{name:<13} {kind:<9} no index")?,
+        Measured::Errors(errors) => print_errors(rt, names, errors)?,
+        Measured::NoIndex => print_no_index(rt, names)?,
     }
     Ok(())
+}
+
+/// Prints how fast a document is decoded and its text encoded.
+fn print_speeds(
+    rt: &HostRuntime,
+    (name, kind): (&str, &str),
+    speed: u128,
+    back: u128,
+) -> io::Result<()> {
+    println!(rt; "{name:<13} {kind:<9} {speed:>6} {back:>6} MB/s decoded, encoded")
+}
+
+/// Prints how many errors a document has.
+fn print_errors(rt: &HostRuntime, (name, kind): (&str, &str), errors: usize) -> io::Result<()> {
+    println!(rt; "{name:<13} {kind:<9} {errors} errors")
+}
+
+/// Prints that an encoding lacks an index file.
+fn print_no_index(rt: &HostRuntime, (name, kind): (&str, &str)) -> io::Result<()> {
+    println!(rt; "{name:<13} {kind:<9} no index")
 }
 
 /// A document, decoded; `None` where the encoding lacks an index file.
