@@ -1,5 +1,5 @@
 -- Look-ups in rows that stand in the order of their pointers.
-use Rattle.std.proofs.Common.{◌≡◌, ◌≢◌, ℕ, zero, suc, ◌+◌, ◌-◌, ◌≤◌, ◌<◌, ◌⊎◌, ⊎_elim, true, false, [], ◌∷◌, length, get_or, leb, All, Option, Some, None, refl, sym, ap, arith, inl, inr, eq-eqb, ne_eqb, lt-ltb, le-ltb, leb-false, leb-true, SomeIff, option_and_then}
+use Rattle.std.proofs.Common.{◌≡◌, ◌≢◌, ℕ, zero, suc, ◌+◌, ◌-◌, ◌≤◌, ◌<◌, ◌⊎◌, ⊎_elim, true, false, [], ◌∷◌, length, get_or, leb, Option, Some, None, refl, sym, ap, arith, inl, inr, eq-eqb, ne_eqb, lt-ltb, le-ltb, leb-false, leb-true, SomeIff, option_and_then}
 use Rattle.std.proofs.lemmas.Bool.{cases_lt}
 use Rattle.std.specs.List.{insert}
 use Rattle.index_loader.proofs.Prelude.{IsScalar, IsNonDecreasingBy, IsPartitionPoint, Pairs, code_point_at, code_point_in_row, inserted, row_pointer, as_scalar, IsRising, IsLastRowUpTo}

@@ -1,6 +1,5 @@
-use Rattle.std.proofs.Common.{◌<◌, ◌≤◌, ℕ, arith, rules}
+use Rattle.std.proofs.Common.{◌<◌, ◌≤◌, ℕ, arith}
 use Rattle.std.proofs.lemmas.List.Elements.{All-weaker}
-use Rattle.std.proofs.lemmas.List.Sorted.{All-permutation}
 use Rattle.index_loader.proofs.CellLemmas.{first-none}
 use Rattle.index_loader.proofs.by_code_point.ByCodePoint.of_rows.Goals as goal
 

@@ -1,4 +1,4 @@
-use Rattle.std.proofs.Common.{◌∙◌, arith, rules}
+use Rattle.std.proofs.Common.{arith, rules}
 use Rattle.index_loader.proofs.IndexLemmas.{table_len-home, table_len-small, is_ranges-home}
 use Rattle.index_loader.proofs.index.Index.of_pairs.Goals as goal
 

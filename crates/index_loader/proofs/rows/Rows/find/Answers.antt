@@ -1,4 +1,4 @@
-use Rattle.std.proofs.Common.{sym, ◌∙◌, ap, Some}
+use Rattle.std.proofs.Common.{sym}
 use Rattle.index_loader.proofs.RowLemmas.{found-row, no-row, other-row}
 use Rattle.index_loader.proofs.rows.Rows.find.Goals as goal
 

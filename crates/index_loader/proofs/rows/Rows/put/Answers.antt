@@ -1,5 +1,4 @@
-use Rattle.std.proofs.Common.{◌≡◌, ◌∙◌, ap}
-use Rattle.std.specs.List.{insert}
+use Rattle.std.proofs.Common.{◌≡◌, ◌∙◌}
 use Rattle.index_loader.proofs.Prelude.{inserted}
 use Rattle.index_loader.proofs.RowLemmas.{inserted-rows, put-at}
 use Rattle.index_loader.proofs.rows.Rows.put.Goals as goal
