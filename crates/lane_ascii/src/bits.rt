@@ -1,5 +1,5 @@
 //! Bits of a mask.
-ghost use Rattle.std.specs.Prelude.{◌≡◌, ◌+◌, ◌%◌, ◌^◌, ◌<◌, ◌≤◌, ℕ, List, Bool, length};
+ghost use Rattle.std.specs.Prelude.{◌≡◌, ◌+◌, ◌%◌, ◌^◌, ◌<◌, ◌≤◌, ℕ, List, Bool, length, drop};
 ghost use Rattle.lane_ascii.specs.Bits.{first_set};
 ghost use Rattle.lane_ascii.specs.Flags.{flags_set, IsNthFlag, IsSought};
 ghost use lib.Lanes.{mask_l};
@@ -80,6 +80,16 @@ fn halve(sought: Sought, width: usize) -> Sought
         left: sought.left - below,
         at: sought.at + width,
     }
+}
+
+/// How many bits of a mask are set, those below one left out.
+// In the loop over the bytes of a text.
+#[inline(always)]
+pub fn ones_behind(mask: u64, skipped: usize) -> usize
+    requires { skipped < 64 }
+    ensures { (flags : List Bool) → mask ≡ mask_l flags → result ≡ flags_set (drop skipped flags) }
+{
+    (mask >> skipped).count_ones() as usize
 }
 
 #[inline(always)]

@@ -10,6 +10,7 @@ mod runs;
 mod swap;
 mod widening;
 
+pub use bits::ones_behind;
 pub use line_ends::{count_line_ends, nth_line_end};
 pub use room::NeedsRoom;
 pub use runs::{ascii_run, plain_run_iso};

@@ -1,5 +1,5 @@
 -- Weights of bytes, one by one and lane by lane.
-use Rattle.std.proofs.Common.{◌≡◌, refl, ap, ◌∙◌, ℕ, zero, suc, ◌+◌, ◌%◌, ◌^◌, ◌≤◌, Bool, cond, leb, ltb, List, [], ◌∷◌, length, map, arith, replicate, ◌-◌, ◌||◌, bit_or, IsAscii}
+use Rattle.std.proofs.Common.{◌≡◌, refl, ap, ◌∙◌, ℕ, zero, suc, ◌+◌, ◌%◌, ◌^◌, ◌≤◌, Bool, cond, leb, ltb, List, [], ◌∷◌, length, map, drop, arith, replicate, ◌-◌, ◌||◌, bit_or, IsAscii}
 use Rattle.std.proofs.lemmas.Bool.Decides.{nat_tests}
 use Rattle.std.proofs.lemmas.Bool.{cases_Bool}
 use Rattle.std.proofs.lemmas.Simd.{mask_l-mod, ones-mask_l_cons, map-map, tops_compared, zip2_splat_left}
@@ -9,6 +9,7 @@ use Rattle.std.specs.Int.RustNames.{count_ones}
 use lib.Lanes.{mask_l, top, zip2}
 use mir.Syntax.{Width}
 use mir.Val.{bits, hbits}
+use Rattle.lane_ascii.specs.Flags.{flags_set}
 use Rattle.lane_utf.specs.Widths.{total_width}
 
 -- a lane of a comparison
@@ -51,3 +52,18 @@ pub no_bit_set : (v : List ℕ) → mask_l (map (leb 128) v) ≡ 0 → IsAscii v
 no_bit_set [] e i = omega arith
 no_bit_set (b ∷ bs) e zero = grind (arith, nat_tests, e)
 no_bit_set (b ∷ bs) e (suc i) = no_bit_set bs (omega (arith, e)) i
+
+flags_total : (p : ℕ → Bool) (v : List ℕ) → flags_set (map p v) ≡ total_width (λ b. cond (p b) 1 0) v
+flags_total p [] = refl
+flags_total p (b ∷ bs) = ap (λ n. cond (p b) 1 0 + n) (flags_total p bs)
+
+-- those of a mask that are left behind some lanes
+pub ones_left : (p : ℕ → Bool) (k : ℕ) (v : List ℕ) → flags_set (drop k (map p v)) ≡ total_width (λ b. cond (p b) 1 0) (drop k v)
+ones_left p zero v = flags_total p v
+ones_left p (suc k) [] = refl
+ones_left p (suc k) (b ∷ bs) = ones_left p k bs
+
+-- as many as there are, at most
+pub ones-le : (p : ℕ → Bool) (v : List ℕ) → total_width (λ b. cond (p b) 1 0) v ≤ length v
+ones-le p [] = omega arith
+ones-le p (b ∷ bs) = grind (arith, cases_Bool (p b), ones-le p bs)

@@ -1,5 +1,5 @@
 //! How many code points, or units of UTF-16, a text takes.
-ghost use Rattle.std.specs.Prelude.{◌≡◌, ◌+◌, ◌≤◌, length, drop};
+ghost use Rattle.std.specs.Prelude.{◌≡◌, ◌+◌, ◌<◌, ◌≤◌, length, drop};
 ghost use Rattle.std.specs.Str.{chars};
 ghost use Rattle.lane_utf.specs.Weights.{scalar_weight, utf16_weight};
 ghost use Rattle.lane_utf.specs.Widths.{total_width, utf16_width};
@@ -85,7 +85,21 @@ fn total_from<M: Measure>(bytes: &[u8], from: usize) -> usize
         sum += M::of_16(u8x16::from_slice(&bytes[at..]));
         at += 16;
     }
-    sum + total_of_bytes::<M>(bytes, at)
+    sum + total_left::<M>(bytes, at)
+}
+
+/// The same, of fewer bytes than a block has: those of the last block, which begins in front of them.
+#[inline(always)]
+fn total_left<M: Measure>(bytes: &[u8], from: usize) -> usize
+    requires within { from ≤ length bytes.now }
+    requires few { length bytes.now < from + 16 }
+    ensures { result ≡ total_width M.weight (drop from bytes.now) }
+{
+    if bytes.len() < 16 {
+        return total_of_bytes::<M>(bytes, from);
+    }
+    let last = bytes.len() - 16;
+    M::behind(u8x16::from_slice(&bytes[last..]), from - last)
 }
 
 /// The same, byte by byte.

@@ -1,9 +1,10 @@
 //! Lengths of a text, by what each byte adds to them.
-ghost use Rattle.std.specs.Prelude.{◌≡◌, ◌≤◌, ℕ, map};
+ghost use Rattle.std.specs.Prelude.{◌≡◌, ◌≤◌, ℕ, map, drop};
 ghost use Rattle.lane_utf.specs.Weights.{begins_code_point, begins_four, scalar_weight, scalar-small, utf16_weight, utf16-small};
 ghost use Rattle.lane_utf.specs.Widths.{total_width};
 ghost use lib.Lanes.{mask_l};
 
+use lane_ascii::ones_behind;
 use std::simd::prelude::*;
 
 /// A length of a text as the sum of its bytes' weights.
@@ -18,6 +19,10 @@ pub(crate) trait Measure {
 
     fn of_16(lanes: u8x16) -> usize
         ensures { result ≡ total_width weight lanes };
+
+    fn behind(lanes: u8x16, skipped: usize) -> usize
+        requires { skipped ≤ 16 }
+        ensures { result ≡ total_width weight (drop skipped lanes) };
 
     ghost small: { (b : ℕ) → weight b ≤ 2 };
 }
@@ -77,6 +82,11 @@ impl Measure for Scalars {
         scalars_of(lanes)
     }
 
+    #[inline(always)]
+    fn behind(lanes: u8x16, skipped: usize) -> usize {
+        ones_behind(code_points(lanes), skipped)
+    }
+
     ghost small = { scalar-small };
 }
 
@@ -104,6 +114,11 @@ impl Measure for Utf16Units {
     #[inline(always)]
     fn of_16(lanes: u8x16) -> usize {
         units_of(lanes)
+    }
+
+    #[inline(always)]
+    fn behind(lanes: u8x16, skipped: usize) -> usize {
+        ones_behind(code_points(lanes), skipped) + ones_behind(fours(lanes), skipped)
     }
 
     ghost small = { utf16-small };

@@ -9,4 +9,4 @@ pub steps-preserved : goal.steps-preserved
 steps-preserved g c = block_summed c.steps.invariant 16 (omega arith) c.of_16-sum.ensures
 
 pub overflow_add-result : goal.overflow_add-result
-overflow_add-result g c = omega (arith, sum_bound c.steps.invariant 2 g.met.M.Measure.small, c.total_of_bytes.ensures)
+overflow_add-result g c = omega (arith, sum_bound c.steps.invariant 2 g.met.M.Measure.small, c.total_left.ensures)
