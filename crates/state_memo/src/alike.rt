@@ -95,13 +95,14 @@ fn wide_front(bytes: &[u8], len: usize) -> u16
     requires { (2 ≤ len) × (len ≤ 4) }
     ensures { AreAlike bytes.now 0 len result }
 {
-    if bytes.len() >= 16 {
-        let count = front_in_16(bytes, len);
-        if (count + 1) * len <= 16 {
-            return count as u16;
-        }
+    if bytes.len() < 16 {
+        return at_most_a_run(wide_run(bytes, len, 0));
     }
-    at_most_a_run(wide_run(bytes, len))
+    let seen = front_in_16(bytes, len);
+    if (seen + 1) * len <= 16 {
+        return seen as u16;
+    }
+    at_most_a_run(wide_run(bytes, len, seen))
 }
 
 /// How many code points at the front have so many bytes, of those that lie in the first sixteen.
@@ -155,15 +156,17 @@ fn leads_of(len: usize) -> (u8, u8)
     }
 }
 
-/// How many code points at the front have so many bytes, two or more.
+/// How many code points at the front have so many bytes, two or more, of which some were seen.
 // Once in a while: the loop over the runs has the registers to itself.
 #[inline(never)]
-fn wide_run(bytes: &[u8], len: usize) -> usize
-    requires { (2 ≤ len) × (len ≤ 4) }
+fn wide_run(bytes: &[u8], len: usize, seen: usize) -> usize
+    requires len { (2 ≤ len) × (len ≤ 4) }
+    requires within { seen * len ≤ length bytes.now }
+    requires seen { AreAlike bytes.now 0 len seen }
     ensures { AreAlike bytes.now 0 len result }
 {
-    let mut at = 0;
-    let mut count = 0;
+    let mut at = seen * len;
+    let mut count = seen;
     'windows: while bytes.len() - at >= 16 {
         let here = front_in_16(&bytes[at..], len);
         at += here * len;

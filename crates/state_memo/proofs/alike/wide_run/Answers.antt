@@ -17,7 +17,7 @@ windows-preserved c =
 pub overflow_add-result : goal.overflow_add-result
 overflow_add-result c =
     let few : length c.args.bytes.now < 2 ^ 63 = search rules in
-    omega (arith, few, alike-counts c.args.bytes.now c.windows.at c.args.len c.windows.count c.wide_rest.result (omega (arith, c.requires.0)) c.windows.invariant.0 c.windows.invariant.1 c.wide_rest.ensures)
+    omega (arith, few, alike-counts c.args.bytes.now c.windows.at c.args.len c.windows.count c.wide_rest.result (omega (arith, c.requires.len.0)) c.windows.invariant.0 c.windows.invariant.1 c.wide_rest.ensures)
 
 pub returns : goal.returns
 returns c =
