@@ -12,11 +12,24 @@ use memchr::memchr;
 use rand::rngs::SmallRng;
 use std::alloc::Global;
 
+/// What answers events. What compares it is proved over this alone: over all that a `Gateway` is it
+/// would take many times as long.
+pub trait Answerer: Drop {
+    /// `Gateway::event`, without what its contract says: no step here needs it.
+    fn answer(&mut self, event: Event<'_>) -> Result<Out, GateFault>;
+}
+
+impl Answerer for Gateway<'_> {
+    fn answer(&mut self, event: Event<'_>) -> Result<Out, GateFault> {
+        self.event(event)
+    }
+}
+
 /// A gateway that is compared, and one that is given whole lines alone, on one connection.
 #[derive(Drop)]
-pub struct GatewayPair<'i> {
-    compared: Gateway<'i>,
-    in_order: Gateway<'i>,
+pub struct GatewayPair<G> {
+    compared: G,
+    in_order: G,
     clients: Vec<Client>,
     /// What happened so far.
     pub tally: Tally,
@@ -28,11 +41,6 @@ pub fn new_gateway<'i>(alloc: Global, indexes: &'i Indexes) -> Result<Gateway<'i
     let labels = Labels::names(alloc).map_err(|_| PlayFailure::OutOfMemory)?;
     let desk = Desk::new(alloc, indexes, labels).map_err(|_| PlayFailure::OutOfMemory)?;
     Ok(Gateway::new(alloc, desk))
-}
-
-/// What a gateway answers to an event, without what its contract says of that: no step here needs it.
-fn answer(gateway: &mut Gateway<'_>, event: Event<'_>) -> Result<Out, GateFault> {
-    gateway.event(event)
 }
 
 /// Why a connection that is open or not, or isn't there, can't open or close, if it can't.
@@ -56,15 +64,14 @@ fn closed_clients(alloc: Global) -> Result<Vec<Client>, PlayFailure> {
     Ok(clients)
 }
 
-impl<'i> GatewayPair<'i> {
+impl<G: Answerer> GatewayPair<G> {
     /// No connection is open but the one of the lines in order.
-    pub fn new(alloc: Global, indexes: &'i Indexes) -> Result<GatewayPair<'i>, PlayFailure> {
-        let mut in_order = new_gateway(alloc, indexes)?;
-        if answer(&mut in_order, Event::Open(0)).is_err() {
+    pub fn new(alloc: Global, compared: G, mut in_order: G) -> Result<GatewayPair<G>, PlayFailure> {
+        if in_order.answer(Event::Open(0)).is_err() {
             return Err(PlayFailure::Different);
         }
         Ok(GatewayPair {
-            compared: new_gateway(alloc, indexes)?,
+            compared,
             in_order,
             clients: closed_clients(alloc)?,
             tally: Tally::new(),
@@ -102,7 +109,7 @@ impl<'i> GatewayPair<'i> {
 
     /// An event by which a connection is to open or close.
     fn switched(&mut self, c: u8, event: Event<'_>, open: bool) -> Result<(), PlayFailure> {
-        match answer(&mut self.compared, event) {
+        match self.compared.answer(event) {
             Ok(out) if out.taken == 0 && out.reply.is_none() => self.set_open(c, open),
             _ => Err(PlayFailure::Different),
         }
@@ -135,7 +142,7 @@ impl<'i> GatewayPair<'i> {
             return Err(PlayFailure::Different);
         };
         let bytes = client.next_bytes(self.alloc, rng, id)?;
-        match answer(&mut self.compared, Event::Bytes(c, &bytes)) {
+        match self.compared.answer(Event::Bytes(c, &bytes)) {
             Ok(out) => self.taken(c, &bytes, &out),
             Err(_) => Err(PlayFailure::Different),
         }
@@ -143,7 +150,7 @@ impl<'i> GatewayPair<'i> {
 
     /// An event that is to be refused.
     fn refused(&mut self, event: Event<'_>, fault: GateFault) -> Result<(), PlayFailure> {
-        match answer(&mut self.compared, event) {
+        match self.compared.answer(event) {
             Err(found) if found == fault => {
                 self.tally.count(EventKind::Refused as usize);
                 Ok(())
@@ -178,7 +185,7 @@ impl<'i> GatewayPair<'i> {
         let Some(client) = self.clients.get_mut(c as usize) else {
             return Err(PlayFailure::Different);
         };
-        let wanted = match answer(&mut self.in_order, Event::Bytes(0, &client.begun)) {
+        let wanted = match self.in_order.answer(Event::Bytes(0, &client.begun)) {
             Ok(out) => out.reply,
             Err(_) => None,
         };

@@ -14,12 +14,13 @@ mod replay;
 
 use failure::PlayFailure;
 use gateway::{FromRead, ToWrite};
-use gateway_pair::GatewayPair;
+use gateway_pair::{Answerer, GatewayPair, new_gateway};
 use index_loader::Indexes;
 use kind::is_telling;
 use rand::SeedableRng;
 use rand::rngs::SmallRng;
 use replay::replay;
+use std::alloc::Global;
 use std::io;
 use std::process::ExitCode;
 
@@ -32,12 +33,18 @@ fn compare(rt: &HostRuntime) -> Result<bool, PlayFailure> {
     let mut output = ToWrite::new(io::writer(rt));
     replay(rt.alloc(), &mut input, &mut output)?;
     let indexes = Indexes::new();
-    let mut play = GatewayPair::new(rt.alloc(), &indexes)?;
+    let compared = new_gateway(rt.alloc(), &indexes)?;
+    play(rt.alloc(), compared, new_gateway(rt.alloc(), &indexes)?)
+}
+
+/// Plays the events, and says whether they told something.
+fn play<G: Answerer>(alloc: Global, compared: G, in_order: G) -> Result<bool, PlayFailure> {
+    let mut pair = GatewayPair::new(alloc, compared, in_order)?;
     let mut rng = SmallRng::seed_from_u64(1);
     for id in 0..EVENTS {
-        play.step(&mut rng, id)?;
+        pair.step(&mut rng, id)?;
     }
-    Ok(is_telling(&play.tally))
+    Ok(is_telling(&pair.tally))
 }
 
 /// Prints why the comparison ended early.
