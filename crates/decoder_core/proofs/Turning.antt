@@ -1,10 +1,22 @@
 -- Turns in front of a queue: those that hold their bytes, and one that gives a code point; and runs of code points without gaps.
-use Rattle.std.proofs.Common.{◌≡◌, ℕ, suc, ◌+◌, ◌<◌, ◌≤◌, List, [], ◌∷◌, ◌++◌, Some, length, take, drop, pos, ℤ, ◌+ℤ◌, ◌-ℤ◌, sym, ap, ◌∙◌, arith, append-nil}
-use Rattle.decoder_core.proofs.Prelude.{ints, Ended, One, Gives, Stride, plain_from, width_of, IsFront, Turn, Falls, Fed, feed, fed_after, holds}
+use Rattle.std.proofs.Common.{◌≡◌, ℕ, suc, ◌+◌, ◌<◌, ◌≤◌, List, [], ◌∷◌, ◌++◌, Some, length, take, drop, get_or, Option, None, IfSome, refl, pos, ℤ, ◌+ℤ◌, ◌-ℤ◌, sym, ap, ◌∙◌, arith, append-nil}
+use Rattle.decoder_core.proofs.Prelude.{ints, Ended, One, Gives, Stride, plain_from, width_of, IsFront, Turn, Falls, Fed, feed, fed_after, further, holds}
 use Rattle.decoder_core.proofs.Prelude.{Shown, shown_at, shown_from}
+use Rattle.decoder_core.specs.Escapes.{IsEscape, IsHeldFront}
 use Rattle.decoder_core.specs.Queue.{Table}
 use Rattle.decoder_core.specs.Forms.{gives}
 use Rattle.decoder_core.proofs.Running.{feed-nil, feed-turn, feed-append}
+
+-- what holds of what is there
+pub if-some : {A : Type 0} {P Q : A → Type 0} → ((a : A) → P a → Q a) → (o : Option A) → IfSome o P → IfSome o Q
+if-some f None h = h
+if-some f (Some a) h = f a h
+
+three-front : (bytes : List ℕ) → 3 ≤ length bytes → take 3 bytes ≡ get_or bytes 0 0 ∷ get_or bytes 1 0 ∷ get_or bytes 2 0 ∷ []
+three-front [] h = absurd (omega (arith, h))
+three-front (a ∷ []) h = absurd (omega (arith, h))
+three-front (a ∷ b ∷ []) h = absurd (omega (arith, h))
+three-front (a ∷ b ∷ c ∷ bytes) h = refl
 
 module _ {S : Type 0} (table : Table S) (f : Falls table) where
   held-fed : (s next : S) (b : ℕ) → table s (Some b) ≡ holds next → feed table s (b ∷ []) ≡ record { state = next; items = [] }
@@ -12,6 +24,23 @@ module _ {S : Type 0} (table : Table S) (f : Falls table) where
       feed-turn table f s b []
       ∙ ap (λ (t : Turn S). fed_after t.answer (length (t.back ++ [])) t.state (feed table t.state (t.back ++ []))) turn
       ∙ feed-nil table f next
+
+  -- an escape
+  pub escape-fed : (s after : S) (bytes : List ℕ) → IsHeldFront table s bytes after → IsEscape table s bytes after
+  escape-fed s after bytes h =
+      let a = get_or bytes 0 0 in
+      let b = get_or bytes 1 0 in
+      let c = get_or bytes 2 0 in
+      let front : take 3 bytes ≡ a ∷ b ∷ c ∷ [] = three-front bytes h.within in
+      let more : (q next : S) (x : ℕ) (xs : List ℕ) → feed table q (x ∷ []) ≡ record { state = next; items = [] } → feed table q (x ∷ xs) ≡ feed table next xs =
+      λ q next x xs fed. feed-append table f q (x ∷ []) xs ∙ ap (λ (y : Fed S). record { state = (feed table y.state xs).state; items = further (length xs) y.items ++ (feed table y.state xs).items }) fed in
+      record {
+        within = h.within;
+        fed = ap (λ (xs : List ℕ). feed table s xs) front
+            ∙ more s h.one a (b ∷ c ∷ []) (held-fed s h.one a h.first)
+            ∙ more h.one h.two b (c ∷ []) (held-fed h.one h.two b h.second)
+            ∙ held-fed h.two after c h.third;
+      }
 
   given-fed : (s next : S) (b c : ℕ) → table s (Some b) ≡ gives next (One c) [] → feed table s (b ∷ []) ≡ record { state = next; items = record { item = One c; back = 0 } ∷ [] }
   given-fed s next b c turn =

@@ -16,6 +16,10 @@ TakesByte table s b c = table s (Some b) ≡ gives s (One c) []
 abbrev pub AreKnownBytes : {S : Type 0} → Table S → S → List (Option ℕ) → Type 0
 AreKnownBytes table s forms = (place : ℕ) → place < 128 → IfSome (get_or forms place None) (λ c. TakesByte table s (place + 0x80) c)
 
+-- a list has code points of all bytes, with the same
+abbrev pub AreTakenBytes : {S : Type 0} → Table S → S → List (Option ℕ) → Type 0
+AreTakenBytes table s forms = (byte : ℕ) → byte < 0x100 → IfSome (get_or forms byte None) (λ c. TakesByte table s byte c)
+
 -- in this state the first byte is held, and the second gives the code point and leads back to the state
 abbrev pub TakesPair : {S : Type 0} → Table S → S → ℕ → ℕ → ℕ → Type 0
 TakesPair table s lead trail c =

@@ -7,6 +7,7 @@ pub mod Counts
 pub mod EncoderOutput
 pub mod EncoderRuns
 pub mod EncoderSteps
+pub mod Escapes
 pub mod Forms
 pub mod Fronts
 pub mod Holding

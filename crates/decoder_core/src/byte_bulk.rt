@@ -4,11 +4,11 @@ ghost use Rattle.decoder_core.specs.declared.ascii_runs.AsciiRuns.TheVariants.{A
 ghost use Rattle.decoder_core.specs.declared.bulk.Stride.TheVariants.{Bytes};
 ghost use Rattle.decoder_core.specs.AsciiRuns.{TakesAscii};
 ghost use Rattle.decoder_core.specs.Bulk.{IsBulk};
-ghost use Rattle.decoder_core.specs.Fronts.{AreKnownBytes, IsFrontPut, TakesByte};
+ghost use Rattle.decoder_core.specs.Fronts.{AreTakenBytes, IsFrontPut, TakesByte};
 
 use crate::bulk::{Bulk, Stride};
 use crate::handler::Handler;
-use index_loader::Utf8Form;
+use index_loader::{Utf8Form, byte_forms};
 use lane_utf::put_scalar;
 
 /// How many bytes are taken at most: each is at most four bytes of UTF-8, so that the block has
@@ -27,7 +27,25 @@ pub(crate) fn take_bytes<H: Handler>(
     requires { TakesAscii (H.table handler.now) state All }
     ensures { IsBulk (H.table handler.now) state bytes.now result text.new }
 {
-    let forms = handler.known_bytes(state);
+    match handler.known_bytes(state) {
+        Some(high) => take_by(handler, state, Some(&byte_forms(high)), bytes, text),
+        None => take_by(handler, state, None, bytes, text),
+    }
+}
+
+/// The same, by the forms of all bytes where these are at hand.
+#[inline(always)]
+fn take_by<H: Handler>(
+    handler: &H,
+    state: H::State,
+    forms: Option<&[Utf8Form; 256]>,
+    bytes: &[u8],
+    text: &mut [u8; 1024],
+) -> Bulk
+    requires ascii { TakesAscii (H.table handler.now) state All }
+    requires forms { IfSome forms (λ all. AreTakenBytes (H.table handler.now) state all.now) }
+    ensures { IsBulk (H.table handler.now) state bytes.now result text.new }
+{
     let end = bytes.len().min(MOST);
     let mut taken = 0;
     let mut written = 0;
@@ -51,41 +69,42 @@ pub(crate) fn take_bytes<H: Handler>(
 fn put_byte<H: Handler>(
     handler: &H,
     state: H::State,
-    forms: Option<&[Utf8Form; 128]>,
+    forms: Option<&[Utf8Form; 256]>,
     bytes: &[u8],
     at: usize,
     text: &mut [u8; 1024],
     written: usize,
 ) -> Option<usize>
     requires ascii { TakesAscii (H.table handler.now) state All }
-    requires known { IfSome forms (λ known. AreKnownBytes (H.table handler.now) state known.now) }
+    requires forms { IfSome forms (λ all. AreTakenBytes (H.table handler.now) state all.now) }
     requires within { at < length bytes.now }
     requires room { written + 4 ≤ 1024 }
     ensures some { IfSome result (λ end. IsFrontPut (H.table handler.now) state Bytes 1 bytes.now at text.old text.new written end) }
     ensures none { IfNone result (text.new ≡ text.old) }
 {
     let byte = bytes[at];
+    if let Some(forms) = forms {
+        // ASCII bytes are among these, so that there is no branch on that.
+        let form = form_of(handler, state, forms, byte);
+        return form.put(text, written);
+    }
     if byte < 0x80 {
         return Some(put_scalar(text, written, u32::from(byte)));
     }
-    let form = known_form(handler, state, forms, byte);
+    let form = handler.known_byte(state, byte);
     form.put(text, written)
 }
 
-/// The form of a byte, in the list where it is there.
+/// The form of a byte.
 #[inline(always)]
-fn known_form<H: Handler>(
-    handler: &H,
-    state: H::State,
-    forms: Option<&[Utf8Form; 128]>,
+fn form_of<H: Handler>(
+    _handler: &H,
+    _state: H::State,
+    forms: &[Utf8Form; 256],
     byte: u8,
 ) -> Utf8Form
-    requires known { IfSome forms (λ known. AreKnownBytes (H.table handler.now) state known.now) }
-    requires high { 0x80 ≤ byte }
-    ensures { IfSome result (λ code_point. TakesByte (H.table handler.now) state byte code_point) }
+    requires { AreTakenBytes (H.table _handler.now) _state forms.now }
+    ensures { IfSome result (λ code_point. TakesByte (H.table _handler.now) _state byte code_point) }
 {
-    match forms {
-        Some(forms) => forms[usize::from(byte - 0x80)],
-        None => handler.known_byte(state, byte),
-    }
+    forms[usize::from(byte)]
 }

@@ -1,6 +1,7 @@
 //! Decoders, one byte at a time.
 ghost use Rattle.std.specs.Prelude.{◌≡◌, ℕ, Bool, true, List, [], ◌∷◌, Option, IfSome};
 ghost use Rattle.decoder_core.specs.Bulk.{IsBulk, IsOwnText};
+ghost use Rattle.decoder_core.specs.Escapes.{IsEscape};
 ghost use Rattle.decoder_core.specs.Steps.{alone};
 ghost use Rattle.decoder_core.specs.Queue.{Turn, Falls, run, feed};
 
@@ -25,6 +26,15 @@ pub struct Simple<S> {
     pub state: S,
     /// The item, if the step gives one.
     pub item: Option<Item>,
+}
+
+/// An escape: three bytes that give no item.
+#[derive(Clone, Copy, PartialEq, Eq, Debug)]
+pub struct Escape<S> {
+    /// The state behind it.
+    pub state: S,
+    /// How many of the bytes behind it are stepped over before others are tried in bulk.
+    pub behind: usize,
 }
 
 /// A decoder of the Encoding Standard whose bytes come one at a time: bytes that a handler puts
@@ -74,11 +84,13 @@ pub trait Decoder {
         NO_BULK
     }
 
-    /// How many of these bytes are stepped over before others are tried in bulk again, where the
-    /// decoder sees it by their first: an escape that ends one run and begins another.
+    /// The escape at the front, where there is one and the decoder knows it at once. `None` says
+    /// nothing of the bytes.
     #[inline(always)]
-    fn steps_ahead(&self, bytes: &[u8]) -> Option<usize> {
-        let _ = bytes.len();
+    fn escape(&self, state: Self::State, bytes: &[u8]) -> Option<Escape<Self::State>>
+        ensures { IfSome result (λ escape. IsEscape (table self.now) state bytes.now escape.state) }
+    {
+        let _ = (state, bytes.len());
         None
     }
 

@@ -2,6 +2,7 @@
 ghost use Rattle.std.specs.Prelude.{◌≡◌, ℕ, Bool, true, Option, IfSome};
 ghost use Rattle.decoder_core.specs.Bulk.{IsBulk};
 ghost use Rattle.decoder_core.specs.AsciiRuns.{TakesAscii};
+ghost use Rattle.decoder_core.specs.Escapes.{IsHeldFront};
 ghost use Rattle.decoder_core.specs.Fronts.{AreKnownBytes, TakesByte, TakesPair};
 ghost use Rattle.decoder_core.specs.Queue.{Turn, Falls};
 ghost use Rattle.decoder_core.specs.Counts.{Counts};
@@ -10,6 +11,7 @@ ghost use Rattle.decoder_core.specs.Steps.{bytes_of};
 use crate::ascii_runs::AsciiRuns;
 use crate::bulk::{Bulk, NO_BULK};
 use crate::characters::Characters;
+use crate::decoder::Escape;
 use crate::few::Few;
 use crate::item::Item;
 use index_loader::Utf8Form;
@@ -113,11 +115,12 @@ pub trait Handler {
         NO_BULK
     }
 
-    /// How many of these bytes are stepped over before others are tried in bulk again, as in
-    /// `Decoder::steps_ahead`.
+    /// The escape at the front, where there is one and the handler knows it at once.
     #[inline(always)]
-    fn steps_ahead(&self, bytes: &[u8]) -> Option<usize> {
-        let _ = bytes.len();
+    fn escape(&self, state: Self::State, bytes: &[u8]) -> Option<Escape<Self::State>>
+        ensures { IfSome result (λ escape. IsHeldFront (table self.now) state bytes.now escape.state) }
+    {
+        let _ = (state, bytes.len());
         None
     }
 

@@ -46,7 +46,7 @@ pub use ascii_runs::AsciiRuns;
 pub use bulk::{Bulk, NO_BULK, Stride};
 pub use characters::Characters;
 pub use counts::Meter;
-pub use decoder::{Decoder, Simple, Step};
+pub use decoder::{Decoder, Escape, Simple, Step};
 pub use driver::encode_by;
 pub use encoder::{Encoder, EncoderAnswer, EncoderTurn};
 pub use fault::{FromFault, Unencodable};

@@ -1,11 +1,12 @@
 //! Runs over a slice of bytes.
 ghost use Rattle.std.specs.Prelude.{◌≡◌, ℕ, ◌+◌, ◌-◌, ◌^◌, ◌<◌, ◌≤◌, min, length, take, [], ◌∷◌, fold, IfOk, OnOk, OnErr};
+ghost use Rattle.decoder_core.specs.Escapes.{IsEscape};
 ghost use Rattle.decoder_core.specs.Queue.{feed};
 ghost use Rattle.decoder_core.specs.Shown.{shown_at, shown_from, TookPrefix};
 
 use crate::bulk::{Bulk, Stride};
 use crate::counts::Meter;
-use crate::decoder::{Decoder, Simple, Step};
+use crate::decoder::{Decoder, Escape, Simple, Step};
 use crate::item::Ended;
 use crate::memory::OutOfMemory;
 use crate::sink::Sink;
@@ -21,6 +22,9 @@ const LONGEST: usize = 255;
 
 /// How many bytes are a run that pays.
 const RUN: usize = 16;
+
+/// How many bytes an escape has.
+const ESCAPE: usize = 3;
 
 /// Steps over the bytes from a state, gives the items to the sink, and answers the state behind
 /// the bytes. The meter counts the bytes.
@@ -70,8 +74,8 @@ struct Moved<S> {
     stretch: usize,
 }
 
-/// Steps over the bytes that the decoder says are ahead, or else takes what it takes in bulk, or a
-/// stretch of bytes.
+/// Takes the escape at the front, or else what the decoder takes in bulk, or steps over a stretch of
+/// bytes.
 #[inline(always)]
 fn advance<D: Decoder, K: Sink<D::State>>(
     decoder: &D,
@@ -91,26 +95,57 @@ fn advance<D: Decoder, K: Sink<D::State>>(
     ensures items { IfOk result (λ m. K.seen sink.new ≡ fold K.taken (K.seen sink.old) (shown_from (D.table decoder.now) read state (take m.taken rest.now))) }
     ensures err { OnErr result (TookPrefix K.taken (K.seen sink.old) (shown_from (D.table decoder.now) read state rest.now) (K.seen sink.new)) }
 {
-    let (steps, next) = match decoder.steps_ahead(rest) {
-        Some(steps) => (steps.max(1), SHORTEST),
-        None => {
-            let taken = bulk_into(decoder, state, rest, read, block, sink)?;
-            if taken > 0 {
-                return Ok(Moved {
-                    state,
-                    taken,
-                    stretch: if taken < RUN { stretch } else { SHORTEST },
-                });
-            }
-            (stretch, longer(stretch))
-        }
-    };
-    let taken = rest.len().min(steps);
+    if let Some(escape) = decoder.escape(state, rest) {
+        return step_past(decoder, state, escape, rest, read, sink);
+    }
+    let taken = bulk_into(decoder, state, rest, read, block, sink)?;
+    if taken > 0 {
+        return Ok(Moved {
+            state,
+            taken,
+            stretch: if taken < RUN { stretch } else { SHORTEST },
+        });
+    }
+    let taken = rest.len().min(stretch);
     let after = step_over(decoder, state, &rest[..taken], read, sink)?;
     Ok(Moved {
         state: after,
         taken,
-        stretch: next,
+        stretch: longer(stretch),
+    })
+}
+
+/// Takes the escape at the front, and steps over the bytes behind it that belong to it.
+#[inline(always)]
+fn step_past<D: Decoder, K: Sink<D::State>>(
+    decoder: &D,
+    _state: D::State,
+    escape: Escape<D::State>,
+    rest: &[u8],
+    read: usize,
+    sink: &mut K,
+) -> Result<Moved<D::State>, OutOfMemory>
+    requires bound { read + length rest.now < 2 ^ 63 }
+    requires escape { IsEscape (D.table decoder.now) _state rest.now escape.state }
+    ensures steps { IfOk result (λ m. 0 < m.stretch) }
+    ensures moved { IfOk result (λ m. (0 < m.taken) × (m.taken ≤ length rest.now)) }
+    ensures state { IfOk result (λ m. m.state ≡ (feed (D.table decoder.now) _state (take m.taken rest.now)).state) }
+    ensures items { IfOk result (λ m. K.seen sink.new ≡ fold K.taken (K.seen sink.old) (shown_from (D.table decoder.now) read _state (take m.taken rest.now))) }
+    ensures err { OnErr result (TookPrefix K.taken (K.seen sink.old) (shown_from (D.table decoder.now) read _state rest.now) (K.seen sink.new)) }
+{
+    let behind = escape.behind.min(rest.len() - ESCAPE);
+    let taken = ESCAPE + behind;
+    let after = step_over(
+        decoder,
+        escape.state,
+        &rest[ESCAPE..taken],
+        read + ESCAPE,
+        sink,
+    )?;
+    Ok(Moved {
+        state: after,
+        taken,
+        stretch: SHORTEST,
     })
 }
 

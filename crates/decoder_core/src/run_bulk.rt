@@ -86,7 +86,8 @@ fn is_worth_it(runs: AsciiRuns, bytes: &[u8]) -> bool {
             Some(front) => u32::from_le_bytes(*front) & 0x8080_8080 == 0,
             None => false,
         },
-        _ => begins_ascii(bytes),
+        AsciiRuns::All => begins_ascii(bytes),
+        AsciiRuns::None => false,
     }
 }
 

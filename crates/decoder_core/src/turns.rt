@@ -7,7 +7,7 @@ use crate::ascii_runs::AsciiRuns;
 use crate::bulk::Bulk;
 use crate::byte_bulk::take_bytes;
 use crate::characters::Characters;
-use crate::decoder::{Decoder, Simple, Step};
+use crate::decoder::{Decoder, Escape, Simple, Step};
 use crate::few::Few;
 use crate::handler::{Answer, Handled, Handler};
 use crate::items::Items;
@@ -57,8 +57,8 @@ impl<H: Handler> Decoder for H {
     }
 
     #[inline(always)]
-    fn steps_ahead(&self, bytes: &[u8]) -> Option<usize> {
-        Handler::steps_ahead(self, bytes)
+    fn escape(&self, state: H::State, bytes: &[u8]) -> Option<Escape<H::State>> {
+        Handler::escape(self, state, bytes)
     }
 
     fn finish(&self, state: H::State) -> Step<H::State> {

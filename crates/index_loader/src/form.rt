@@ -1,5 +1,5 @@
 //! UTF-8 forms of code points, made before they are written.
-ghost use Rattle.std.specs.Prelude.{◌≡◌, ◌+◌, ◌≤◌, IfNone, IfSome, None, Some, drop, length, slice_index_or};
+ghost use Rattle.std.specs.Prelude.{◌≡◌, ◌+◌, ◌<◌, ◌≤◌, IfNone, IfSome, None, Some, drop, length, slice_index_or};
 ghost use Rattle.std.specs.Char.{IsScalar};
 ghost use Rattle.index_loader.specs.Form.{AreFronts, IsFormPut, code_point_in, form_number, is_wide};
 
@@ -44,6 +44,17 @@ impl Utf8Form {
     {
         Utf8Form {
             number: form_number(code_point.get()),
+        }
+    }
+
+    /// The form of an ASCII byte.
+    #[inline(always)]
+    pub(crate) fn ascii(byte: u8) -> Utf8Form
+        requires { byte < 0x80 }
+        ensures { result ≡ Some byte }
+    {
+        Utf8Form {
+            number: 0x100_0000 + u32::from(byte),
         }
     }
 

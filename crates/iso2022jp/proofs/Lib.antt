@@ -1,3 +1,4 @@
+pub mod Escaping
+pub mod OutputStates
 pub mod PlainRuns
 pub mod Restoring
-pub mod OutputStates

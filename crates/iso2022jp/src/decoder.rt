@@ -12,7 +12,7 @@ use crate::items::{ascii_item, katakana_item, one_or_error, roman_item};
 use crate::output::{OutputState, escape_to};
 use crate::state::{DecoderState, Iso2022JpState};
 use decoder_core::forms::{finish, give, hold, restore};
-use decoder_core::{AsciiRuns, Characters, Few, Handled, Handler, Item};
+use decoder_core::{AsciiRuns, Characters, Escape, Few, Handled, Handler, Item};
 use enc_names::Scalar;
 use index_loader::{FormedIndex, Index, Utf8Form};
 use std::marker::Model;
@@ -174,16 +174,19 @@ impl<'i> Handler for Iso2022JpDecoder<'i> {
         }
     }
 
-    // An escape has three bytes, and the flag is set until the first character behind it is read.
+    // The flag is set until the first character behind the escape is read: a pair, or a byte.
     #[inline(always)]
-    fn steps_ahead(&self, bytes: &[u8]) -> Option<usize> {
-        if bytes.first() != Some(&0x1B) {
-            return None;
-        }
-        if bytes.get(1) == Some(&0x24) {
-            Some(5)
-        } else {
-            Some(4)
+    fn escape(&self, state: Iso2022JpState, bytes: &[u8]) -> Option<Escape<Iso2022JpState>> {
+        match (state.state, state.flag, bytes) {
+            (DecoderState::Ready(_), false, [0x1B, lead, byte, ..]) => {
+                let output = escape_to(*lead, *byte)?;
+                let is_paired = output == OutputState::Jis0208;
+                Some(Escape {
+                    state: Iso2022JpState::switched(output),
+                    behind: if is_paired { 2 } else { 1 },
+                })
+            }
+            _ => None,
         }
     }
 

@@ -14,4 +14,9 @@ returns-then-byte-lt128-clause-some g c =
 pub returns-clause-some : goal.returns-clause-some
 returns-clause-some g c =
     byte-put (g.H.Handler.table c.args.handler.now) (g.met.H.Handler.ends c.args.handler.now) c.args.state c.args.bytes.now c.args.text.now _ c.args.at
-    c.args.written c.known_form-form.result c.requires.within c.known_form-form.ensures c.put.result c.put.ensures.some
+    c.args.written c.known_byte-form.result c.requires.within c.known_byte-form.ensures c.put-2.result c.put-2.ensures.some
+
+pub returns-in-Some-clause-some : goal.returns-in-Some-clause-some
+returns-in-Some-clause-some g c =
+    byte-put (g.H.Handler.table c.args.handler.now) (g.met.H.Handler.ends c.args.handler.now) c.args.state c.args.bytes.now c.args.text.now _ c.args.at
+    c.args.written c.form_of-form.result c.requires.within c.form_of-form.ensures c.put.result c.put.ensures.some

@@ -1,21 +1,8 @@
-use Rattle.std.proofs.Common.{arith}
-use Rattle.decoder_core.specs.declared.bulk.Stride.TheVariants.{Bytes}
-use Rattle.decoder_core.proofs.Fronts.{none-taken, put-taken, small-byte}
+use Rattle.decoder_core.proofs.Fronts.{taken-bytes}
 use Rattle.decoder_core.proofs.byte_bulk.take_bytes.Goals as goal
 
-pub bytes-init : goal.bytes-init
-bytes-init g c = none-taken (g.H.Handler.table c.args.handler.now) (g.met.H.Handler.ends c.args.handler.now) c.args.state 4 Bytes c.args.bytes.now c.args.text.now
-
-pub put_byte-requires : goal.put_byte-requires
-put_byte-requires g c = record {
+pub take_by-requires : goal.take_by-requires
+take_by-requires g c = record {
   ascii = c.requires;
-  known = c.known_bytes-forms.ensures;
-  within = omega (arith, c.bytes-test.true, c.min-end.ensures);
-  room = omega (arith, c.bytes.invariant.few, c.bytes-test.true, c.min-end.ensures);
+  forms = taken-bytes (g.H.Handler.table c.args.handler.now) c.args.state _ _ c.requires c.byte_forms.ensures.ascii c.byte_forms.ensures.high c.in-Some.ensures;
 }
-
-pub bytes-preserved : goal.bytes-preserved
-bytes-preserved g c =
-    put-taken (g.H.Handler.table c.args.handler.now) (g.met.H.Handler.ends c.args.handler.now) c.args.state 4 Bytes 1 c.args.bytes.now c.bytes.text _
-    c.bytes.taken c.bytes.written _ small-byte c.bytes.invariant c.in-Some.ensures.some
-    (omega (arith, c.bytes.invariant.few, c.bytes-test.true, c.min-end.ensures))

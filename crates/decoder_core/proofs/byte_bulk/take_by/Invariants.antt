@@ -1,7 +1,7 @@
 use Rattle.std.proofs.Common.{◌-◌}
 use Rattle.decoder_core.specs.declared.bulk.Stride.TheVariants.{Bytes}
 use Rattle.decoder_core.proofs.Fronts.{IsTaken}
-use Rattle.decoder_core.proofs.byte_bulk.take_bytes.Given as goal
+use Rattle.decoder_core.proofs.byte_bulk.take_by.Given as goal
 
 abbrev pub invariant-bytes : goal.invariant-bytes
 invariant-bytes g l = IsTaken (g.H.Handler.table l.handler) (g.met.H.Handler.ends l.handler) l.state 4 Bytes l.bytes l.text l.taken l.written
