@@ -54,7 +54,6 @@ impl Out {
 
 /// A desk, and the connections over which lines come in. Contracts see the desk and, for each
 /// connection that is open, the line that is begun.
-#[derive(Drop)]
 pub struct Gateway<'i> {
     desk: Desk<'i>,
     connections: Connections,
@@ -70,6 +69,17 @@ impl<'i> Model for Gateway<'i> {
     ghost coded = { traffic_code };
 
     ghost view = { λ a. record { office = a.desk; lines = a.connections } };
+}
+
+// Written out: where it is derived, each crate above proves anew what becomes of all that is dropped.
+impl Drop for Gateway<'_> {
+    fn drop(self) {
+        let Gateway {
+            desk: _,
+            connections: _,
+            alloc: _,
+        } = self;
+    }
 }
 
 impl<'i> Gateway<'i> {

@@ -39,7 +39,6 @@ use sum_tree::Finder;
 /// opened with. Whatever is asked of it is answered as decoding its bytes from scratch answers it
 /// (Encoding Standard, "decode"), with a byte order mark looked for each time unless the setting
 /// keeps marks. Contracts see these three alone.
-#[derive(Drop)]
 pub struct Doc<'i> {
     indexes: &'i Indexes,
     setting: Setting,
@@ -59,6 +58,20 @@ impl<'i> Model for Doc<'i> {
     ghost view = { λ d. record { indexes = d.indexes.now; setting = d.setting; bytes = bytes_of d.pieces.items; earlier = earlier_of d.pieces.items d.log } };
 
     ghost invariant = { λ d. IsHeld d.indexes.now d.setting d.pieces d.tail d.log };
+}
+
+// Written out: where it is derived, each crate above proves anew what becomes of all that is dropped.
+impl Drop for Doc<'_> {
+    fn drop(self) {
+        let Doc {
+            indexes: _,
+            setting: _,
+            pieces: _,
+            tail: _,
+            log: _,
+            alloc: _,
+        } = self;
+    }
 }
 
 impl<'i> Doc<'i> {
