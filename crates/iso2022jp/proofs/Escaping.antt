@@ -1,5 +1,5 @@
 -- Escapes at the front, each byte of which is held.
-use Rattle.std.proofs.Common.{◌≡◌, ℕ, ◌≤◌, Bool, true, false, ◌||◌, ◌==◌, List, length, get_or, Option, Some, refl, arith}
+use Rattle.std.proofs.Common.{◌≡◌, ℕ, ◌≤◌, true, false, ◌||◌, ◌==◌, List, length, get_or, Option, Some, refl, arith}
 use Rattle.std.proofs.lemmas.Bool.Decides.{nat_tests}
 use Rattle.decoder_core.specs.Escapes.{IsHeldFront}
 use Rattle.iso2022jp.specs.declared.output.OutputState.{OutputState}

@@ -1,5 +1,5 @@
-use Rattle.std.proofs.Common.{◌≡◌, ℕ, ◌+◌, ◌-◌, [], ◌++◌, take, drop, fold, arith, refl, sym, ap, ◌∙◌}
-use Rattle.decoder_core.proofs.Prelude.{err_from_is_err_and, Fed, Shown, shown_from}
+use Rattle.std.proofs.Common.{◌≡◌, ◌+◌, ◌-◌, ◌++◌, take, drop, fold, arith, refl, sym, ap, ◌∙◌}
+use Rattle.decoder_core.proofs.Prelude.{err_from_is_err_and, Fed, shown_from}
 use Rattle.decoder_core.proofs.Moving.{part-state, part-shown, rest-shown, prefix-after, prefix-front}
 use Rattle.decoder_core.proofs.Showing.{none-shown}
 use Rattle.decoder_core.proofs.piece.step_past.Goals as goal

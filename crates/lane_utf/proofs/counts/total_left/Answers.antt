@@ -1,4 +1,4 @@
-use Rattle.std.proofs.Common.{◌≡◌, ◌+◌, ◌-◌, length, take, drop, ap, ◌∙◌, arith, take_all, drop-drop, length-drop}
+use Rattle.std.proofs.Common.{◌≡◌, ◌+◌, ◌-◌, length, drop, ap, ◌∙◌, arith, take_all, drop-drop, length-drop}
 use Rattle.lane_utf.specs.Widths.{total_width}
 use Rattle.lane_utf.proofs.counts.total_left.Goals as goal
 

@@ -1,4 +1,4 @@
-use Rattle.std.proofs.Common.{rules, ◌≡◌, get_or, false, sym, ◌∙◌, arith}
+use Rattle.std.proofs.Common.{rules, ◌≡◌, get_or, false, sym, ◌∙◌}
 use Rattle.index_loader.specs.Index.{code_point_of}
 use Rattle.iso2022jp.specs.declared.state.DecoderState.TheVariants.{Ready}
 use Rattle.iso2022jp.proofs.Escaping.{escape_held}
