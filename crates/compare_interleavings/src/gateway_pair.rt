@@ -12,8 +12,8 @@ use memchr::memchr;
 use rand::rngs::SmallRng;
 use std::alloc::Global;
 
-/// What answers events. What compares it is proved over this alone: over all that a `Gateway` is it
-/// would take many times as long.
+/// What answers events. What compares it is proved over this alone, and not over all that a
+/// `Gateway` is.
 pub trait Answerer: Drop {
     /// `Gateway::event`, without what its contract says: no step here needs it.
     fn answer(&mut self, event: Event<'_>) -> Result<Out, GateFault>;
