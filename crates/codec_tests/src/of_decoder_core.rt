@@ -70,6 +70,7 @@ impl<S: Copy> Sink<S> for Bounded {
     fn plain(
         &mut self,
         _text: &str,
+        _width: usize,
         end: i64,
         _stride: Stride,
         after: S,

@@ -1,12 +1,9 @@
 -- Runs of characters of a byte or two: each is one item more, and leaves the state as it is.
-use Rattle.std.proofs.Common.{◌≡◌, ℕ, ◌+◌, ◌-◌, ◌*◌, ◌<◌, ◌≤◌, List, [], ◌∷◌, ◌++◌, Option, Some, None, IfSome, length, take, drop, get_or, ℤ, pos, ◌+ℤ◌, refl, sym, ap, subst, ◌∙◌, arith, append-nil, true, inl, inr}
+use Rattle.std.proofs.Common.{◌≡◌, ℕ, ◌+◌, ◌*◌, ◌<◌, ◌≤◌, List, [], ◌∷◌, ◌++◌, Option, Some, None, IfSome, length, take, drop, get_or, ℤ, pos, ◌+ℤ◌, refl, sym, ap, subst, ◌∙◌, arith, append-nil, true}
 use Rattle.decoder_core.proofs.Prelude.{take-add, len_utf8, IsScalar, encode_utf8, chars, IsUtf8, le-ltb, leb-true, low_scalar, nat_tests, ints}
 use Rattle.decoder_core.proofs.Prelude.{length-take-le, drop_more, chars-append, chars_past_char, chars-nil, IsUtf8-append, IsUtf8-encode}
 use Rattle.decoder_core.proofs.Prelude.{length-encode, len_utf8_bounds, Stride, One, IsBulk, width_of, run_width, plain_from, TakesByte, TakesPair}
-use Rattle.decoder_core.proofs.Prelude.{IsFront, IsFrontPut, Falls, Fed, feed, Shown, shown_from, cases_lt}
-use Rattle.decoder_core.specs.AsciiRuns.{TakesAscii}
-use Rattle.decoder_core.specs.declared.ascii_runs.AsciiRuns.TheVariants.{All}
-use Rattle.decoder_core.specs.Fronts.{AreKnownBytes, AreTakenBytes}
+use Rattle.decoder_core.proofs.Prelude.{IsFront, IsFrontPut, Falls, Fed, feed, Shown, shown_from}
 use Rattle.std.specs.Simd.Lanes.{put_chunk}
 use Rattle.index_loader.specs.Form.{IsFormPut, is_wide}
 use Rattle.std.proofs.lemmas.Simd.{take_more_put_chunk}
@@ -52,19 +49,6 @@ small-pair c = grind (arith, nat_tests)
 
 pub small-byte : (c : ℕ) → len_utf8 c ≤ 4 * width_of Bytes c
 small-byte c = let most = len_utf8_bounds c in omega (arith, most)
-
--- ASCII bytes, and those that are known beside them, are all bytes
-pub taken-bytes : {S : Type 0} (table : Table S) (s : S) (forms high : List (Option ℕ)) → TakesAscii table s All → ((b : ℕ) → b < 0x80 → get_or forms b None ≡ Some b)
-    → ((p : ℕ) → p < 0x80 → get_or forms (p + 0x80) None ≡ get_or high p None) → AreKnownBytes table s high → AreTakenBytes table s forms
-taken-bytes table s forms highs takes low high known b h =
-    elim (cases_lt b 0x80) [
-      | inl less ↦ rw (low b less) (takes b less)
-      | inr more ↦
-          let place = b - 0x80 in
-          let is : place + 0x80 ≡ b = omega arith in
-          let within : place < 0x80 = omega arith in
-          subst (λ (x : ℕ). IfSome (get_or forms x None) (λ c. TakesByte table s x c)) is (rw (high place within) (known place within))
-    ]
 
 -- what holds of a code point that is there
 of-some : (P : ℕ → Type 0) (o : Option ℕ) (c : ℕ) → IfSome o P → o ≡ Some c → P c

@@ -12,11 +12,7 @@ use Rattle.decoder_core.specs.Shown.{shown_from}
 abbrev pub TakesByte : {S : Type 0} → Table S → S → ℕ → ℕ → Type 0
 TakesByte table s b c = table s (Some b) ≡ gives s (One c) []
 
--- a list has code points of the bytes from 80 on, each of which its byte gives in this state and then leads back to the state
-abbrev pub AreKnownBytes : {S : Type 0} → Table S → S → List (Option ℕ) → Type 0
-AreKnownBytes table s forms = (place : ℕ) → place < 128 → IfSome (get_or forms place None) (λ c. TakesByte table s (place + 0x80) c)
-
--- a list has code points of all bytes, with the same
+-- a list has code points of all bytes, each of which its byte gives in this state and then leads back to the state
 abbrev pub AreTakenBytes : {S : Type 0} → Table S → S → List (Option ℕ) → Type 0
 AreTakenBytes table s forms = (byte : ℕ) → byte < 0x100 → IfSome (get_or forms byte None) (λ c. TakesByte table s byte c)
 

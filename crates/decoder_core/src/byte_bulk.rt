@@ -1,14 +1,15 @@
 //! Runs of bytes that are characters, in bulk.
-ghost use Rattle.std.specs.Prelude.{◌≡◌, ◌+◌, ◌<◌, ◌≤◌, IfNone, IfSome, length};
+ghost use Rattle.std.specs.Prelude.{◌≡◌, ◌+◌, ◌<◌, ◌≤◌, IfNone, IfSome, None, length, slice_index_or, true};
 ghost use Rattle.decoder_core.specs.declared.ascii_runs.AsciiRuns.TheVariants.{All};
 ghost use Rattle.decoder_core.specs.declared.bulk.Stride.TheVariants.{Bytes};
 ghost use Rattle.decoder_core.specs.AsciiRuns.{TakesAscii};
 ghost use Rattle.decoder_core.specs.Bulk.{IsBulk};
 ghost use Rattle.decoder_core.specs.Fronts.{AreTakenBytes, IsFrontPut, TakesByte};
+ghost use Rattle.index_loader.specs.Form.{AreShort};
 
 use crate::bulk::{Bulk, Stride};
 use crate::handler::Handler;
-use index_loader::{Utf8Form, byte_forms};
+use index_loader::Utf8Form;
 use lane_utf::put_scalar;
 
 /// How many bytes are taken at most: each is at most four bytes of UTF-8, so that the block has
@@ -28,29 +29,37 @@ pub(crate) fn take_bytes<H: Handler>(
     ensures { IsBulk (H.table handler.now) state bytes.now result text.new }
 {
     match handler.known_bytes(state) {
-        Some(high) => take_by(handler, state, Some(&byte_forms(high)), bytes, text),
-        None => take_by(handler, state, None, bytes, text),
+        Some(forms) if forms.are_short() => {
+            take_by(handler, state, Some(forms.forms()), true, bytes, text)
+        }
+        Some(forms) => take_by(handler, state, Some(forms.forms()), false, bytes, text),
+        None => take_by(handler, state, None, false, bytes, text),
     }
 }
 
-/// The same, by the forms of all bytes where these are at hand.
+/// The same, by the forms of all bytes where these are at hand; it may be known that each has one, of
+/// three bytes at most.
+// Inlined, so that each way of knowing has a loop of its own.
 #[inline(always)]
 fn take_by<H: Handler>(
     handler: &H,
     state: H::State,
     forms: Option<&[Utf8Form; 256]>,
+    short: bool,
     bytes: &[u8],
     text: &mut [u8; 1024],
 ) -> Bulk
     requires ascii { TakesAscii (H.table handler.now) state All }
     requires forms { IfSome forms (λ all. AreTakenBytes (H.table handler.now) state all.now) }
+    requires short { short ≡ true → IfSome forms (λ all. AreShort all.now) }
     ensures { IsBulk (H.table handler.now) state bytes.now result text.new }
 {
     let end = bytes.len().min(MOST);
     let mut taken = 0;
     let mut written = 0;
     'bytes: while taken < end {
-        let Some(behind) = put_byte(handler, state, forms, bytes, taken, text, written) else {
+        let Some(behind) = put_byte(handler, state, forms, short, bytes, taken, text, written)
+        else {
             break;
         };
         written = behind;
@@ -70,6 +79,7 @@ fn put_byte<H: Handler>(
     handler: &H,
     state: H::State,
     forms: Option<&[Utf8Form; 256]>,
+    short: bool,
     bytes: &[u8],
     at: usize,
     text: &mut [u8; 1024],
@@ -77,6 +87,7 @@ fn put_byte<H: Handler>(
 ) -> Option<usize>
     requires ascii { TakesAscii (H.table handler.now) state All }
     requires forms { IfSome forms (λ all. AreTakenBytes (H.table handler.now) state all.now) }
+    requires short { short ≡ true → IfSome forms (λ all. AreShort all.now) }
     requires within { at < length bytes.now }
     requires room { written + 4 ≤ 1024 }
     ensures some { IfSome result (λ end. IsFrontPut (H.table handler.now) state Bytes 1 bytes.now at text.old text.new written end) }
@@ -86,6 +97,9 @@ fn put_byte<H: Handler>(
     if let Some(forms) = forms {
         // ASCII bytes are among these, so that there is no branch on that.
         let form = form_of(handler, state, forms, byte);
+        if short {
+            return Some(form.put_short(text, written));
+        }
         return form.put(text, written);
     }
     if byte < 0x80 {
@@ -104,7 +118,8 @@ fn form_of<H: Handler>(
     byte: u8,
 ) -> Utf8Form
     requires { AreTakenBytes (H.table _handler.now) _state forms.now }
-    ensures { IfSome result (λ code_point. TakesByte (H.table _handler.now) _state byte code_point) }
+    ensures value { result ≡ slice_index_or forms.now byte None }
+    ensures takes { IfSome result (λ code_point. TakesByte (H.table _handler.now) _state byte code_point) }
 {
     forms[usize::from(byte)]
 }

@@ -9,7 +9,7 @@ use crate::item::Item;
 use crate::memory::OutOfMemory;
 use crate::placed::Placed;
 use crate::sink::Sink;
-use crate::widths::{text_width, width_of};
+use crate::widths::width_of;
 use enc_names::Scalar;
 use std::alloc::AllocError;
 
@@ -56,11 +56,12 @@ impl<S: Copy> Sink<S> for Collector {
     fn plain(
         &mut self,
         text: &str,
+        width: usize,
         end: i64,
         stride: Stride,
         _after: S,
     ) -> Result<(), OutOfMemory> {
-        let mut left = text_width(stride, text);
+        let mut left = width;
         let mut rest = text.chars();
         'rest: while let Some(c) = rest.next() {
             left -= width_of(stride, c);

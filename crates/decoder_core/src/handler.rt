@@ -3,7 +3,7 @@ ghost use Rattle.std.specs.Prelude.{◌≡◌, ℕ, Bool, true, Option, IfSome};
 ghost use Rattle.decoder_core.specs.Bulk.{IsBulk};
 ghost use Rattle.decoder_core.specs.AsciiRuns.{TakesAscii};
 ghost use Rattle.decoder_core.specs.Escapes.{IsHeldFront};
-ghost use Rattle.decoder_core.specs.Fronts.{AreKnownBytes, TakesByte, TakesPair};
+ghost use Rattle.decoder_core.specs.Fronts.{AreTakenBytes, TakesByte, TakesPair};
 ghost use Rattle.decoder_core.specs.Queue.{Turn, Falls};
 ghost use Rattle.decoder_core.specs.Counts.{Counts};
 ghost use Rattle.decoder_core.specs.Steps.{bytes_of};
@@ -14,7 +14,7 @@ use crate::characters::Characters;
 use crate::decoder::Escape;
 use crate::few::Few;
 use crate::item::Item;
-use index_loader::Utf8Form;
+use index_loader::{ByteForms, Utf8Form};
 
 /// What a handler answers (Encoding Standard, "Encoders and decoders"): continue, an item, or finished.
 #[derive(Clone, Copy, PartialEq, Eq, Debug)]
@@ -75,11 +75,11 @@ pub trait Handler {
         Characters::Ascii
     }
 
-    /// The UTF-8 forms of the code points of the bytes from 0x80 on, as `known_byte` has them; where
-    /// they are there, the decoder looks for them here.
+    /// The UTF-8 forms of all bytes, each as `known_byte` has it; where they are there, the decoder
+    /// looks for them here, for ASCII too.
     #[inline(always)]
-    fn known_bytes(&self, state: Self::State) -> Option<&[Utf8Form; 128]>
-        ensures { IfSome result (λ forms. AreKnownBytes (table self.now) state forms.now) }
+    fn known_bytes(&self, state: Self::State) -> Option<&ByteForms>
+        ensures { IfSome result (λ forms. AreTakenBytes (table self.now) state forms.now) }
     {
         let _ = state;
         None

@@ -66,5 +66,4 @@ pub use single_byte::SingleByteDecoder;
 pub use sink::Sink;
 pub use utf8::{Utf8Decoder, Utf8State};
 pub use utf16::{ByteOrder, Utf16Decoder, Utf16State};
-pub use widths::text_width;
 pub use x_user_defined::XUserDefinedDecoder;

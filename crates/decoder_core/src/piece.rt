@@ -199,7 +199,7 @@ fn bulk_into<D: Decoder, K: Sink<D::State>>(
     let own = decoder.own_text(state, rest);
     if own > 0 {
         let text = unsafe { str::from_utf8_unchecked(&rest[..own]) };
-        sink.plain(text, (read + own) as i64, Stride::Utf8, state)?;
+        sink.plain(text, own, (read + own) as i64, Stride::Utf8, state)?;
         return Ok(own);
     }
     let Bulk {
@@ -209,7 +209,7 @@ fn bulk_into<D: Decoder, K: Sink<D::State>>(
     } = decoder.bulk(state, rest, block);
     if taken > 0 {
         let text = unsafe { str::from_utf8_unchecked(&block[..written]) };
-        sink.plain(text, (read + taken) as i64, stride, state)?;
+        sink.plain(text, taken, (read + taken) as i64, stride, state)?;
     }
     Ok(taken)
 }

@@ -13,7 +13,7 @@ use crate::forms::{finish, found, give, scalar};
 use crate::handler::{Handled, Handler};
 use crate::item::Item;
 use crate::one_byte::OneByteState;
-use index_loader::{FormedIndex, Index, Utf8Form};
+use index_loader::{ByteForms, FormedIndex, Index};
 use std::marker::Model;
 
 /// The decoder of the 28 single-byte encodings (Encoding Standard, "Legacy single-byte encodings",
@@ -75,9 +75,9 @@ impl<'i> Handler for SingleByteDecoder<'i> {
     }
 
     #[inline(always)]
-    fn known_bytes(&self, state: OneByteState) -> Option<&[Utf8Form; 128]> {
+    fn known_bytes(&self, state: OneByteState) -> Option<&ByteForms> {
         let _ = state;
-        self.index.front()
+        self.index.bytes()
     }
 
     // In the loop over the bytes.

@@ -1,7 +1,7 @@
 //! Where a run's items go.
 ghost use Rattle.std.specs.Prelude.{◌≡◌, OnOk, OnErr, fold};
 ghost use Rattle.std.specs.Str.{chars};
-ghost use Rattle.decoder_core.specs.Bulk.{plain_to};
+ghost use Rattle.decoder_core.specs.Bulk.{plain_to, run_width};
 ghost use Rattle.decoder_core.specs.Shown.{Shown, TookPrefix};
 
 use crate::bulk::Stride;
@@ -24,9 +24,17 @@ pub trait Sink<S> {
         ensures ok { OnOk result (seen self.new ≡ taken (seen self.old) (record { item = item; end = end; after = after })) }
         ensures err { OnErr result (seen self.new ≡ seen self.old) };
 
-    /// Takes the code points of a text, each of them an item, without gaps; `end` is the end of the
-    /// last, and `after` the decoder's state behind each.
-    fn plain(&mut self, text: &str, end: i64, stride: Stride, after: S) -> Result<(), OutOfMemory>
+    /// Takes the code points of a text, each of them an item, without gaps and of so many bytes
+    /// together; `end` is the end of the last, and `after` the decoder's state behind each.
+    fn plain(
+        &mut self,
+        text: &str,
+        width: usize,
+        end: i64,
+        stride: Stride,
+        after: S,
+    ) -> Result<(), OutOfMemory>
+        requires { width ≡ run_width stride (chars text.now) }
         ensures ok { OnOk result (seen self.new ≡ fold taken (seen self.old) (plain_to stride end after (chars text.now))) }
         ensures err { OnErr result (TookPrefix taken (seen self.old) (plain_to stride end after (chars text.now)) (seen self.new)) };
 }

@@ -29,6 +29,8 @@ impl<H: Handler> Decoder for H {
         step_by(self, state, byte)
     }
 
+    // In the loop over the bytes.
+    #[inline(always)]
     fn simple_step(&self, state: H::State, byte: u8) -> Option<Simple<H::State>> {
         simple_by(self, state, byte)
     }

@@ -12,8 +12,8 @@ use lane_ascii::swap_pairs;
 use lane_utf::{ToUtf8Fault, utf16_to_utf8};
 
 /// The most units that are taken at once: each is at most three bytes of UTF-8, so that the block
-/// has room for them.
-const MOST: usize = 341;
+/// has room for them. They are sixteens, since ASCII is taken by these.
+const MOST: usize = 336;
 
 /// Takes the units at the front up to the first lone surrogate, where nothing is pending. A lead
 /// surrogate that is the last unit at hand isn't taken.
@@ -21,7 +21,7 @@ pub(crate) fn utf16_bulk(order: ByteOrder, bytes: &[u8], text: &mut [u8; 1024]) 
     ensures { IsBulk (utf16 order) utf16_start bytes.now result text.new }
 {
     let count = (bytes.len() / 2).min(MOST);
-    let mut units = [0; 341];
+    let mut units = [0; 336];
     read_units(order, &bytes[..2 * count], count, &mut units);
     match utf16_to_utf8(&units[..count], text) {
         Ok(written) => unit_bulk(count, written),
@@ -38,7 +38,7 @@ pub(crate) fn utf16_bulk(order: ByteOrder, bytes: &[u8], text: &mut [u8; 1024]) 
 
 /// So many units were taken.
 fn unit_bulk(units: usize, written: usize) -> Bulk
-    requires { units ≤ 341 }
+    requires { units ≤ 336 }
     ensures { result ≡ record { taken = 2 * units; written = written; stride = Utf16 } }
 {
     Bulk {
@@ -49,15 +49,15 @@ fn unit_bulk(units: usize, written: usize) -> Bulk
 }
 
 /// The units of the bytes.
-fn read_units(order: ByteOrder, bytes: &[u8], count: usize, units: &mut [u16; 341])
+fn read_units(order: ByteOrder, bytes: &[u8], count: usize, units: &mut [u16; 336])
     requires even { length bytes.now ≡ 2 * count }
-    requires room { count ≤ 341 }
+    requires room { count ≤ 336 }
     ensures { take count units.new ≡ units_of order bytes.now }
 {
     match order {
         ByteOrder::LittleEndian => read_little(bytes, count, units),
         ByteOrder::BigEndian => {
-            let mut little = [0; 682];
+            let mut little = [0; 672];
             swap_into(bytes, &mut little);
             read_little(&little[..2 * count], count, units);
         }
@@ -65,8 +65,8 @@ fn read_units(order: ByteOrder, bytes: &[u8], count: usize, units: &mut [u16; 34
 }
 
 /// The bytes in the other byte order.
-fn swap_into(bytes: &[u8], other: &mut [u8; 682])
-    requires { length bytes.now ≤ 682 }
+fn swap_into(bytes: &[u8], other: &mut [u8; 672])
+    requires { length bytes.now ≤ 672 }
     ensures { take (length bytes.now) other.new ≡ swapped bytes.now }
 {
     other[..bytes.len()].copy_from_slice(bytes);
@@ -74,9 +74,9 @@ fn swap_into(bytes: &[u8], other: &mut [u8; 682])
 }
 
 /// The units of the bytes, the low byte of each first.
-fn read_little(bytes: &[u8], count: usize, units: &mut [u16; 341])
+fn read_little(bytes: &[u8], count: usize, units: &mut [u16; 336])
     requires even { length bytes.now ≡ 2 * count }
-    requires room { count ≤ 341 }
+    requires room { count ≤ 336 }
     ensures { take count units.new ≡ units_of LittleEndian bytes.now }
 {
     let mut at = 0;

@@ -1,7 +1,6 @@
 //! How long the items of a text are.
 ghost use Rattle.std.specs.Prelude.{◌≡◌};
-ghost use Rattle.std.specs.Str.{chars};
-ghost use Rattle.decoder_core.specs.Bulk.{width_of, run_width};
+ghost use Rattle.decoder_core.specs.Bulk.{width_of};
 
 use crate::bulk::Stride;
 
@@ -17,16 +16,4 @@ pub(crate) fn width_of(stride: Stride, c: char) -> usize
         Stride::Pairs => 2,
         Stride::Bytes => 1,
     }
-}
-
-/// The length in bytes of the items that are the code points of a text.
-pub fn text_width(stride: Stride, text: &str) -> usize
-    ensures { result ≡ run_width stride (chars text.now) }
-{
-    let mut width = 0;
-    let mut rest = text.chars();
-    'rest: while let Some(c) = rest.next() {
-        width += width_of(stride, c);
-    }
-    width
 }

@@ -1,11 +1,11 @@
 -- UTF-8 forms, each as one number.
-use Rattle.std.proofs.Common.{◌≡◌, refl, sym, ap, ◌∙◌, ℕ, ◌+◌, ◌*◌, ◌/◌, ◌%◌, ◌<◌, ◌≤◌, List, [], ◌∷◌, ◌++◌, length, take, drop, slice_set, Option, Some, None, IfSome, arith, append_assoc, inl, inr, ⊎_elim, nat_le}
+use Rattle.std.proofs.Common.{◌≡◌, refl, sym, ap, ◌∙◌, ℕ, ◌+◌, ◌*◌, ◌/◌, ◌%◌, ◌<◌, ◌≤◌, List, [], ◌∷◌, ◌++◌, length, take, drop, slice_set, Option, Some, None, IfSome, arith, append_assoc, inl, inr, ⊎_elim, nat_le, true, ltb-true}
 use Rattle.std.specs.Char.{IsScalar, len_utf8}
 use Rattle.std.proofs.Math.Utf8.{encode, scalar_cases}
-use Rattle.std.proofs.lemmas.Bool.{lt-ltb, le-ltb, lt-leb, le-leb, cases_lt}
+use Rattle.std.proofs.lemmas.Bool.{false≢true, lt-ltb, le-ltb, lt-leb, le-leb, cases_lt}
 use Rattle.std.proofs.lemmas.List.{drop-set-lt, take-set-le, take_more_set, length-set}
 use Rattle.std.proofs.lemmas.Str.{encode_ascii, len_utf8_ascii}
-use Rattle.index_loader.specs.Form.{form_number, number_of, code_point_in, is_wide, IsForm, AreFronts, IsFormPut}
+use Rattle.index_loader.specs.Form.{form_number, number_of, code_point_in, is_short, is_wide, IsForm, AreFronts, IsFormPut}
 
 -- ---- the number of a code point
 
@@ -155,3 +155,17 @@ put_some (Some c) n at before after s n_is some short fronts =
 pub form_put : (n at : ℕ) (before after : List ℕ) → IsForm n → 0 < n → n < 0x8000_0000 → AreFronts before after at n
     → IsFormPut (code_point_in n) before after at (at + n / 0x100_0000)
 form_put n at before after form some short fronts = put_some (code_point_in n) n at before after form.scalar form.number some short fronts
+
+short_some : (o : Option ℕ) (n : ℕ) → IfSome o (λ c. IsScalar c) → n ≡ number_of o → is_short o ≡ true → (0 < n) × (n < 0x8000_0000)
+short_some None n s n_is short = absurd (false≢true short)
+short_some (Some c) n s n_is short =
+    let low = ltb-true c 0x1_0000 short in
+    by_length c
+    (λ one. let e = n_is ∙ below_number c one in (omega (arith, e), omega (arith, e, one)))
+    (λ over two. let e = n_is ∙ two_number c over two in (omega (arith, e), omega (arith, e, two)))
+    (λ far three. let e = n_is ∙ three_number c far three in (omega (arith, e), omega (arith, e, three)))
+    (λ four. absurd (omega (arith, low, four)))
+
+-- the number of a form of three bytes at most is neither that of none nor has it the highest bit
+pub short-bounds : (n : ℕ) → IsForm n → is_short (code_point_in n) ≡ true → (0 < n) × (n < 0x8000_0000)
+short-bounds n form short = short_some (code_point_in n) n form.scalar form.number short

@@ -1,5 +1,5 @@
 -- UTF-8 forms, each as one number.
-use Rattle.std.specs.Prelude.{◌≡◌, ℕ, ◌+◌, ◌*◌, ◌/◌, ◌%◌, nat_lt, nat_le, Bool, false, List, [], ◌∷◌, ◌++◌, take, Option, Some, None, IfSome, if◌then◌else◌}
+use Rattle.std.specs.Prelude.{◌≡◌, ℕ, ◌+◌, ◌*◌, ◌/◌, ◌%◌, ◌<◌, nat_lt, nat_le, Bool, true, false, List, [], ◌∷◌, ◌++◌, take, slice_index_or, Option, Some, None, IfSome, if◌then◌else◌}
 use Rattle.std.specs.Char.{IsScalar, len_utf8, encode_utf8}
 
 -- The number of a code point. Its lowest three bytes are the first three of the form (Unicode, chapter 3, D92), the first one lowest; the highest is
@@ -34,6 +34,20 @@ pub record IsForm (n : ℕ) : Type 0 where
 abbrev pub is_wide : Option ℕ → Bool
 is_wide None = false
 is_wide (Some c) = nat_le 0x80 c
+
+-- there is a code point, and its form has three bytes at most
+abbrev pub is_short : Option ℕ → Bool
+is_short None = false
+is_short (Some c) = nat_lt c 0x1_0000
+
+-- each of 256 has such a form
+abbrev pub AreShort : List (Option ℕ) → Type 0
+AreShort forms = (byte : ℕ) → byte < 0x100 → is_short (slice_index_or forms byte None) ≡ true
+
+-- the code points of all bytes, where those from 80 on have these
+pub record IsByteTable (places forms : List (Option ℕ)) : Type 0 where
+  pub ascii : (byte : ℕ) → byte < 0x80 → slice_index_or forms byte None ≡ Some byte
+  pub high : (place : ℕ) → place < 0x80 → slice_index_or forms (place + 0x80) None ≡ slice_index_or places place None
 
 -- the lowest bytes of a number were written from an index on
 pub record AreFronts (before after : List ℕ) (at n : ℕ) : Type 0 where

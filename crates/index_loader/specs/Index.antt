@@ -1,5 +1,5 @@
 -- A loaded index and look-ups in it (Encoding Standard, "Indexes").
-use Rattle.std.specs.Prelude.{◌≡◌, ℕ, nat_le, Bool, true, false, List, filter, get_or, Option, None, if◌then◌else◌, option_to_list}
+use Rattle.std.specs.Prelude.{◌≡◌, ℕ, ◌+◌, ◌<◌, nat_le, Bool, true, false, List, filter, get_or, Option, None, Some, if◌then◌else◌, option_to_list}
 use Rattle.index_loader.specs.declared.kind.IndexKind.{IndexKind}
 use Rattle.index_loader.specs.declared.kind.IndexKind.TheVariants.{Gb18030Ranges}
 use Rattle.index_loader.specs.Pairs.{Pairs, code_point_at, pointers_with, least, greatest}
@@ -27,6 +27,11 @@ table_code_point_of index pointer = if is_ranges index.kind then None else code_
 -- a list with these at their pointers
 abbrev pub IsTableOf : Loaded → List (Option ℕ) → Type 0
 IsTableOf index table = (pointer : ℕ) → get_or table pointer None ≡ table_code_point_of index pointer
+
+-- the code points of all bytes: an ASCII byte's is the byte, and the others have those of the pointers from 0 on
+pub record AreFormsOfBytes (index : Loaded) (forms : List (Option ℕ)) : Type 0 where
+  pub ascii : (byte : ℕ) → byte < 0x80 → get_or forms byte None ≡ Some byte
+  pub high : (pointer : ℕ) → pointer < 0x80 → get_or forms (pointer + 0x80) None ≡ table_code_point_of index pointer
 
 -- all pointers of a code point; in the ranges it has at most one
 abbrev pub pointers_of : Loaded → ℕ → List ℕ

@@ -1,12 +1,14 @@
 //! The pairs of an index by pointer.
-ghost use Rattle.std.specs.Prelude.{◌≡◌, ◌<◌, ◌≤◌, All, IfOk, None, OnOk};
+ghost use Rattle.std.specs.Prelude.{◌≡◌, ◌<◌, ◌≤◌, All, IfOk, IfSome, None, OnOk};
 ghost use Rattle.std.specs.List.Sorted.{IsPermutation};
+ghost use Rattle.index_loader.specs.Form.{IsByteTable};
 ghost use Rattle.index_loader.specs.Index.{is_ranges};
-ghost use Rattle.index_loader.specs.Inside.{IsEmptyFor, keeps_rows, limit_of, pairs_by_pointer};
+ghost use Rattle.index_loader.specs.Inside.{IsEmptyFor, keeps_rows, limit_of, pairs_by_pointer, places_of};
 ghost use Rattle.index_loader.specs.Pairs.{code_point_at, inserted};
 
 use crate::by_code_point::ByCodePoint;
 use crate::kind::IndexKind;
+use crate::of_bytes::ByteForms;
 use crate::rows::Rows;
 use crate::table::PointerTable;
 use enc_names::Scalar;
@@ -67,6 +69,16 @@ impl ByPointer {
         match self {
             ByPointer::Table(table) => ByCodePoint::of_table(alloc, table),
             ByPointer::Ranges(rows) => ByCodePoint::of_rows(alloc, rows),
+        }
+    }
+
+    /// The UTF-8 forms of all bytes, at a table of 128 places.
+    pub(crate) fn bytes(&self, alloc: Global) -> Result<Option<ByteForms>, AllocError>
+        ensures { IfOk result (λ bytes. IfSome bytes (λ forms. IsByteTable (places_of self.now) forms)) }
+    {
+        match self {
+            ByPointer::Table(table) => table.bytes(alloc),
+            ByPointer::Ranges(_) => Ok(None),
         }
     }
 }

@@ -1,7 +1,7 @@
 //! UTF-8 forms of code points, made before they are written.
-ghost use Rattle.std.specs.Prelude.{◌≡◌, ◌+◌, ◌<◌, ◌≤◌, IfNone, IfSome, None, Some, drop, length, slice_index_or};
+ghost use Rattle.std.specs.Prelude.{◌≡◌, ◌+◌, ◌<◌, ◌≤◌, true, IfNone, IfSome, None, Some, drop, length, slice_index_or};
 ghost use Rattle.std.specs.Char.{IsScalar};
-ghost use Rattle.index_loader.specs.Form.{AreFronts, IsFormPut, code_point_in, form_number, is_wide};
+ghost use Rattle.index_loader.specs.Form.{AreFronts, IsFormPut, code_point_in, form_number, is_short, is_wide};
 
 use enc_names::Scalar;
 use std::marker::Model;
@@ -84,8 +84,32 @@ impl Utf8Form {
         self.number >= 0x200_0000
     }
 
+    /// Whether there is a form, and it has three bytes at most.
+    // In the loop over the characters of a text.
+    #[inline(always)]
+    pub(crate) fn is_short(self) -> bool
+        ensures { result ≡ is_short self }
+    {
+        // None is 0, and a form of four bytes has the highest bit: one comparison refuses both.
+        self.number.wrapping_sub(1) < 0x7FFF_FFFF
+    }
+
     /// Writes a form of one to three bytes from an index on, and returns where it ends. Four bytes are
-    /// written over, and none behind them. No form and one of four bytes are not written.
+    /// written over, and none behind them.
+    // In the loop over the characters of a text.
+    #[inline(always)]
+    pub fn put_short(self, text: &mut [u8], at: usize) -> usize
+        requires short { is_short self ≡ true }
+        requires room { at + 4 ≤ length text.old }
+        ensures len { length text.new ≡ length text.old }
+        ensures put { IsFormPut self text.old text.new at result }
+        ensures behind { drop (at + 4) text.new ≡ drop (at + 4) text.old }
+    {
+        put_four(text, at, self.number);
+        at + (self.number / 0x100_0000) as usize
+    }
+
+    /// The same of any form. No form and one of four bytes are not written.
     // In the loop over the characters of a text.
     #[inline(always)]
     pub fn put(self, text: &mut [u8], at: usize) -> Option<usize>
@@ -96,12 +120,11 @@ impl Utf8Form {
         ensures none { IfNone result (text.new ≡ text.old) }
         ensures left { IfNone result (IfSome self (λ code_point. 0x1_0000 ≤ code_point)) }
     {
-        // None is 0, and a form of four bytes has the highest bit: one comparison refuses both.
-        if self.number.wrapping_sub(1) >= 0x7FFF_FFFF {
-            return None;
+        if self.is_short() {
+            Some(self.put_short(text, at))
+        } else {
+            None
         }
-        put_four(text, at, self.number);
-        Some(at + (self.number / 0x100_0000) as usize)
     }
 }
 

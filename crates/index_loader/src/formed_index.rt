@@ -1,9 +1,10 @@
 //! An index with its UTF-8 forms at hand.
-ghost use Rattle.std.specs.Prelude.{◌≡◌, ℕ, ◌<◌, IfSome, None, Some, slice_index_or};
-ghost use Rattle.index_loader.specs.Index.{code_point_of, table_code_point_of};
+ghost use Rattle.std.specs.Prelude.{◌≡◌, IfSome, Some};
+ghost use Rattle.index_loader.specs.Index.{AreFormsOfBytes, code_point_of, table_code_point_of};
 
 use crate::form::{Utf8Form, form_at};
 use crate::index::Index;
+use crate::of_bytes::ByteForms;
 use enc_names::Scalar;
 use std::marker::Model;
 
@@ -53,11 +54,10 @@ impl<'i> FormedIndex<'i> {
         form_at(self.forms, pointer)
     }
 
-    /// The forms of the pointers below 128, where there are so many.
-    pub fn front(&self) -> Option<&'i [Utf8Form; 128]>
-        ensures { IfSome result (λ forms. (pointer : ℕ) → pointer < 128 → slice_index_or forms.now pointer None ≡ table_code_point_of self.now pointer) }
+    /// The UTF-8 forms of all bytes, where the index is that of an encoding of single bytes.
+    pub fn bytes(&self) -> Option<&'i ByteForms>
+        ensures { IfSome result (λ forms. AreFormsOfBytes self.now forms.now) }
     {
-        let front = self.forms.first_chunk::<128>()?;
-        Some(front)
+        self.index.bytes()
     }
 }

@@ -34,4 +34,4 @@ pub use index::Index;
 pub use indexes::Indexes;
 pub use kind::IndexKind;
 pub use laws::law_pointer_exclusion;
-pub use of_bytes::byte_forms;
+pub use of_bytes::ByteForms;

@@ -1,7 +1,9 @@
 //! A table of code points by pointer.
-ghost use Rattle.std.specs.Prelude.{◌≡◌, ◌<◌, IfOk, None, Some, length, replicate, set, slice_index_or};
+ghost use Rattle.std.specs.Prelude.{◌≡◌, ◌<◌, IfOk, IfSome, None, Some, length, replicate, set, slice_index_or};
+ghost use Rattle.index_loader.specs.Form.{IsByteTable};
 
 use crate::form::{Utf8Form, form_at};
+use crate::of_bytes::ByteForms;
 use enc_names::Scalar;
 use std::alloc::{AllocError, Global};
 use std::marker::Model;
@@ -66,5 +68,15 @@ impl PointerTable {
         ensures { result.now ≡ self.now }
     {
         self.forms.as_slice()
+    }
+
+    /// The UTF-8 forms of all bytes, where there are 128 places.
+    pub(crate) fn bytes(&self, alloc: Global) -> Result<Option<ByteForms>, AllocError>
+        ensures { IfOk result (λ bytes. IfSome bytes (λ forms. IsByteTable self.now forms)) }
+    {
+        match self.forms.as_array::<128>() {
+            Some(high) => Ok(Some(ByteForms::new(alloc, high)?)),
+            None => Ok(None),
+        }
     }
 }

@@ -25,13 +25,17 @@ module _ {f : Bool} {bytes : List ℕ} {at count : ℕ} (c : IsCounted f bytes a
   pub counted-le : count ≤ length bytes
   counted-le = omega (arith, c.counted, set-rest flags at, set-le flags, length-flags f bytes)
 
-  pub counted_more : (n : ℕ) {mask : ℕ} → at + n ≤ length bytes → mask ≡ mask_l (take n (drop at flags))
-      → IsCounted f bytes (at + n) (count + count_ones mask)
-  counted_more n room is = record {
+  pub counted_on : (n : ℕ) {more : ℕ} → at + n ≤ length bytes → more ≡ flags_set (take n (drop at flags))
+      → IsCounted f bytes (at + n) (count + more)
+  counted_on n room is = record {
     some = omega (arith, c.some);
     within = room;
-    counted = omega (arith, c.counted, ones_of (take n (drop at flags)) is, set-more flags at n);
+    counted = omega (arith, c.counted, is, set-more flags at n);
   }
+
+  pub counted_more : (n : ℕ) {mask : ℕ} → at + n ≤ length bytes → mask ≡ mask_l (take n (drop at flags))
+      → IsCounted f bytes (at + n) (count + count_ones mask)
+  counted_more n room is = counted_on n room (ones_of (take n (drop at flags)) is)
 
   pub counted_all : {mask : ℕ} → mask ≡ mask_l (drop at flags) → count + count_ones mask ≡ marks f bytes
   counted_all is = omega (arith, c.counted, ones_of (drop at flags) is, set-rest flags at, marks-flags f bytes)

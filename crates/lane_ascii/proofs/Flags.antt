@@ -25,7 +25,7 @@ pub mask-drop : (k : ℕ) (fs : List Bool) → mask_l fs / 2 ^ k ≡ mask_l (dro
 mask-drop k fs = ap (λ m. m / 2 ^ k) (mask-split k fs) ∙ shr_high (mask_l (drop k fs)) k (mask_l (take k fs)) (low-lt k fs)
 
 -- the bits below k
-mask-take : (k : ℕ) (fs : List Bool) → mask_l fs % 2 ^ k ≡ mask_l (take k fs)
+pub mask-take : (k : ℕ) (fs : List Bool) → mask_l fs % 2 ^ k ≡ mask_l (take k fs)
 mask-take k fs = ap (λ m. m % 2 ^ k) (mask-split k fs) ∙ mod_low (mask_l (drop k fs)) k (mask_l (take k fs)) (low-lt k fs)
 
 ones-mask : (fs : List Bool) → count_ones (mask_l fs) ≡ flags_set fs

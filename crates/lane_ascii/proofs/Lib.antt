@@ -1,5 +1,6 @@
 pub mod Counting
 pub mod FirstFlags
+pub mod FirstLines
 pub mod Flags
 pub mod MarkLanes
 pub mod Masks

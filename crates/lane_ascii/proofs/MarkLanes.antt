@@ -1,13 +1,13 @@
 -- Line marks, as flags and lane by lane.
-use Rattle.std.proofs.Common.{◌≡◌, ℕ, zero, suc, ◌+◌, ◌-◌, ◌%◌, ◌^◌, ◌<◌, ◌≤◌, eqb, Bool, not, cond, ◌&&◌, ◌||◌, ◌==◌, List, [], ◌∷◌, length, take, drop, get_or, map, replicate, bit_and, bit_or, Some, refl, sym, ap, ap₂, ◌∙◌, arith, ◌++◌, slice_get}
+use Rattle.std.proofs.Common.{◌≡◌, ℕ, zero, suc, ◌+◌, ◌-◌, ◌<◌, ◌≤◌, eqb, Bool, not, cond, ◌&&◌, ◌||◌, ◌==◌, List, [], ◌∷◌, length, take, drop, get_or, map, replicate, bit_and, bit_or, Some, refl, sym, ap, ap₂, ◌∙◌, arith, ◌++◌, slice_get}
 use Rattle.std.proofs.lemmas.Bool.{cases_Bool}
 use Rattle.std.proofs.lemmas.List.{take_more}
-use Rattle.std.proofs.lemmas.Simd.{zip2_splat, length-chunk, mask_l-mod, length-zip2}
+use Rattle.std.proofs.lemmas.Simd.{zip2_splat, length-chunk, length-zip2}
 use Rattle.lane_ascii.specs.Flags.{flags_set, IsNthFlag}
 use Rattle.lane_ascii.specs.Marks.{cr, is_mark, one_if, marks, ends_cr, mark_flags, IsNthMark}
 use Rattle.lane_ascii.proofs.Flags.{set-le}
 use Rattle.lane_ascii.proofs.Masks.{equal}
-use lib.Lanes.{zip2, mask_l, top}
+use lib.Lanes.{sel_l, sum_l, top, zip2}
 use mir.Val.{bool_byte}
 
 abbrev pub differs : ℕ → ℕ → ℕ
@@ -15,6 +15,12 @@ differs a b = cond (not (eqb a b)) 255 0
 
 abbrev pub mark_behind : ℕ → ℕ → Bool
 mark_behind before b = is_mark (before == cr) b
+
+-- 1 where a flag is set, and 0 where it isn't
+ones-selected : (flags : List Bool) (n : ℕ) → length flags ≤ n → sel_l flags (replicate n 1) (replicate n 0) ≡ map one_if flags
+ones-selected [] n few = refl
+ones-selected (f ∷ flags) zero few = absurd (omega arith)
+ones-selected (f ∷ flags) (suc n) few = ap (λ ones. one_if f ∷ ones) (ones-selected flags n (omega arith))
 
 lane : (p q r : Bool) → top 7 (bit_or (cond p 255 0) (bit_and (cond q 255 0) (cond (not r) 255 0))) ≡ p || (q && not r)
 lane p q r = grind (arith, cases_Bool p, cases_Bool q, cases_Bool r)
@@ -38,22 +44,22 @@ pairs f (a ∷ bytes) zero zero = refl
 pairs f (a ∷ []) zero (suc n) = refl
 pairs f (a ∷ b ∷ bytes) zero (suc n) = ap (λ r. is_mark (a == cr) b ∷ r) (pairs (a == cr) (b ∷ bytes) zero n)
 
--- a block's mask has its marks' flags, where the second load stands one byte earlier
-pub block_flags : (f : Bool) (bytes : List ℕ) (at n : ℕ) → n ≤ 64 → 0 < at → at + n ≤ length bytes
-    → mask_l (map (top 7) (zip2 bit_or (zip2 equal (take n (drop at bytes)) (replicate n 13)) (zip2 bit_and (zip2 equal (take n (drop at bytes)) (replicate n 10)) (zip2 differs (take n (drop (at - 1) bytes)) (replicate n 13))))) % 2 ^ 64
-    ≡ mask_l (take n (drop at (mark_flags f bytes)))
-block_flags f bytes zero n few some room = absurd (omega arith)
-block_flags f bytes (suc at) n few some room =
+-- a block has 1 where its marks are, where the second load stands one byte earlier
+pub block_ones : (f : Bool) (bytes : List ℕ) (at n : ℕ) → 0 < at → at + n ≤ length bytes
+    → sel_l (map (top 7) (zip2 bit_or (zip2 equal (take n (drop at bytes)) (replicate n 13)) (zip2 bit_and (zip2 equal (take n (drop at bytes)) (replicate n 10)) (zip2 differs (take n (drop (at - 1) bytes)) (replicate n 13))))) (replicate n 1) (replicate n 0)
+    ≡ map one_if (take n (drop at (mark_flags f bytes)))
+block_ones f bytes zero n some room = absurd (omega arith)
+block_ones f bytes (suc at) n some room =
     let here = take n (drop (suc at) bytes) in
     let e : suc at - 1 ≡ at = omega arith in
     let before = take n (drop at bytes) in
     let long : length here ≡ n = length-chunk (suc at) n bytes room in
     let front : length before ≡ n = length-chunk at n bytes (omega arith) in
-    let size : length (zip2 mark_behind before here) ≤ 64 = omega (arith, length-zip2 mark_behind before here (front ∙ sym long)) in
+    let size : length (zip2 mark_behind before here) ≤ n = omega (arith, length-zip2 mark_behind before here (front ∙ sym long)) in
     let cr_here = zip2_splat equal here n 13 long in
     let lf_here = zip2_splat equal here n 10 long in
     let cr_before = zip2_splat differs before n 13 front in
-    rw (e, cr_here, lf_here, cr_before, lanes before here, mask_l-mod (zip2 mark_behind before here) 64 size, pairs f bytes at n) refl
+    rw (e, cr_here, lf_here, cr_before, lanes before here, ones-selected (zip2 mark_behind before here) n size, pairs f bytes at n) refl
 
 pub marks-flags : (f : Bool) (bs : List ℕ) → marks f bs ≡ flags_set (mark_flags f bs)
 marks-flags f [] = refl
@@ -107,3 +113,12 @@ byte_is b = grind (arith, cases_Bool b)
 
 pub byte-le : (b : Bool) → bool_byte b ≤ 1
 byte-le b = grind (arith, cases_Bool b)
+
+-- a flag is set where its one isn't 0, and the ones are as many as the flags that are set
+pub ones-set : (flags : List Bool) → map (λ n. not (eqb n 0)) (map one_if flags) ≡ flags
+ones-set [] = refl
+ones-set (f ∷ flags) = ap₂ (λ x xs. x ∷ xs) (grind (arith, cases_Bool f)) (ones-set flags)
+
+pub ones-sum : (flags : List Bool) → sum_l (map one_if flags) ≡ flags_set flags
+ones-sum [] = refl
+ones-sum (f ∷ flags) = ap (λ n. one_if f + n) (ones-sum flags)

@@ -1,5 +1,5 @@
 //! Bits of a mask.
-ghost use Rattle.std.specs.Prelude.{◌≡◌, ◌+◌, ◌%◌, ◌^◌, ◌<◌, ◌≤◌, ℕ, List, Bool, length, drop};
+ghost use Rattle.std.specs.Prelude.{◌≡◌, ◌+◌, ◌%◌, ◌^◌, ◌<◌, ◌≤◌, ℕ, List, Bool, length, drop, take};
 ghost use Rattle.lane_ascii.specs.Bits.{first_set};
 ghost use Rattle.lane_ascii.specs.Flags.{flags_set, IsNthFlag, IsSought};
 ghost use lib.Lanes.{mask_l};
@@ -90,6 +90,16 @@ pub fn ones_behind(mask: u64, skipped: usize) -> usize
     ensures { (flags : List Bool) → mask ≡ mask_l flags → result ≡ flags_set (drop skipped flags) }
 {
     (mask >> skipped).count_ones() as usize
+}
+
+/// How many of the bits of a mask below one are set.
+// In the loop over the bytes of a text.
+#[inline(always)]
+pub(crate) fn ones_before(mask: u64, count: usize) -> usize
+    requires { count < 64 }
+    ensures { (flags : List Bool) → mask ≡ mask_l flags → result ≡ flags_set (take count flags) }
+{
+    low_bits(mask, count).count_ones() as usize
 }
 
 #[inline(always)]

@@ -4,6 +4,8 @@
 
 mod bits;
 mod class;
+mod first_line;
+mod lane_sum;
 mod line_ends;
 mod room;
 mod runs;
@@ -11,6 +13,8 @@ mod swap;
 mod widening;
 
 pub use bits::ones_behind;
+pub use first_line::{LineFront, first_line_end};
+pub use lane_sum::sum_of_lanes;
 pub use line_ends::{count_line_ends, nth_line_end};
 pub use room::NeedsRoom;
 pub use runs::{ascii_run, plain_run_iso};

@@ -1,10 +1,12 @@
 //! Line marks: how many there are, and where.
-ghost use Rattle.std.specs.Prelude.{◌≡◌, ◌+◌, ◌<◌, ◌≤◌, Bool, length, take, drop, MatchOption};
+ghost use Rattle.std.specs.Prelude.{◌≡◌, ◌+◌, ◌<◌, ◌≤◌, Bool, length, map, take, drop, MatchOption};
 ghost use Rattle.std.specs.Int.RustNames.{count_ones};
-ghost use Rattle.lane_ascii.specs.Marks.{is_mark, marks, mark_flags, IsNthMark};
+ghost use Rattle.lane_ascii.specs.Flags.{flags_set};
+ghost use Rattle.lane_ascii.specs.Marks.{is_mark, marks, mark_flags, one_if, IsNthMark};
 ghost use lib.Lanes.{mask_l};
 
 use crate::bits::nth_set;
+use crate::lane_sum::sum_of_lanes;
 use std::simd::prelude::*;
 
 /// How many line marks there are. A mark is a CR, or an LF that doesn't stand behind a CR; with
@@ -40,8 +42,24 @@ fn marks_line(byte: u8, after_cr: bool) -> bool
     byte == b'\r' || (byte == b'\n' && !after_cr)
 }
 
-/// The marks of a block, a bit each. It begins behind the first byte: which bytes stand behind a
-/// CR is seen by a second load, one byte earlier.
+/// 1 for each mark of a block, and 0 for each other byte. The block begins behind the first byte:
+/// which bytes stand behind a CR is seen by a second load, one byte earlier.
+#[inline(always)]
+fn marks_at<const N: usize>(bytes: &[u8], at: usize) -> Simd<u8, N>
+    requires some { 0 < at }
+    requires room { at + N ≤ length bytes.now }
+    ensures { (after_cr : Bool)
+        → result ≡ map one_if (take N (drop at (mark_flags after_cr bytes.now))) }
+{
+    let here = Simd::<u8, N>::from_slice(&bytes[at..]);
+    let before = Simd::<u8, N>::from_slice(&bytes[at - 1..]);
+    let cr = Simd::splat(b'\r');
+    let line_feeds = here.simd_eq(Simd::splat(b'\n')) & before.simd_ne(cr);
+    let marks = here.simd_eq(cr) | line_feeds;
+    marks.select(Simd::splat(1), Simd::splat(0))
+}
+
+/// The same, a bit each.
 #[inline(always)]
 fn marks_in<const N: usize>(bytes: &[u8], at: usize) -> u64
     requires few { N ≤ 64 }
@@ -50,11 +68,8 @@ fn marks_in<const N: usize>(bytes: &[u8], at: usize) -> u64
     ensures { (after_cr : Bool)
         → result ≡ mask_l (take N (drop at (mark_flags after_cr bytes.now))) }
 {
-    let here = Simd::<u8, N>::from_slice(&bytes[at..]);
-    let before = Simd::<u8, N>::from_slice(&bytes[at - 1..]);
-    let cr = Simd::splat(b'\r');
-    let line_feeds = here.simd_eq(Simd::splat(b'\n')) & before.simd_ne(cr);
-    (here.simd_eq(cr) | line_feeds).to_bitmask()
+    let marks = marks_at::<N>(bytes, at);
+    marks.simd_ne(Simd::splat(0)).to_bitmask()
 }
 
 /// The marks from `at` on, of which fewer than N bytes are left: those of the last block, which
@@ -71,7 +86,18 @@ fn marks_left<const N: usize>(bytes: &[u8], at: usize) -> u64
     marks_in::<N>(bytes, last) >> (at - last)
 }
 
-/// Counts N bytes at a time.
+/// How many marks a block of 128 bytes has, which begins behind the first byte.
+#[inline(always)]
+fn marks_in_128(bytes: &[u8], at: usize) -> usize
+    requires some { 0 < at }
+    requires room { at + 128 ≤ length bytes.now }
+    ensures { (after_cr : Bool)
+        → result ≡ flags_set (take 128 (drop at (mark_flags after_cr bytes.now))) }
+{
+    sum_of_lanes(marks_at::<64>(bytes, at), marks_at::<64>(bytes, at + 64))
+}
+
+/// Counts 128 bytes at a time, and those behind them N at a time.
 #[inline(always)]
 fn count_by<const N: usize>(bytes: &[u8], after_cr: bool) -> usize
     requires some { 0 < N }
@@ -81,6 +107,10 @@ fn count_by<const N: usize>(bytes: &[u8], after_cr: bool) -> usize
 {
     let mut count = usize::from(marks_line(bytes[0], after_cr));
     let mut at = 1;
+    'parts: while bytes.len() - at >= 128 {
+        count += marks_in_128(bytes, at);
+        at += 128;
+    }
     'steps: while bytes.len() - at >= N {
         count += marks_in::<N>(bytes, at).count_ones() as usize;
         at += N;

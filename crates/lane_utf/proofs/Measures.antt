@@ -1,15 +1,17 @@
 -- Weights of bytes, one by one and lane by lane.
-use Rattle.std.proofs.Common.{◌≡◌, refl, ap, ◌∙◌, ℕ, zero, suc, ◌+◌, ◌%◌, ◌^◌, ◌≤◌, Bool, cond, leb, ltb, List, [], ◌∷◌, length, map, drop, arith, replicate, ◌-◌, ◌||◌, bit_or, IsAscii}
+use Rattle.std.proofs.Common.{◌≡◌, refl, ap, ap₂, ◌∙◌, ℕ, ◌*◌, eqb, not, true, false, get_or, nat_lt, ltb-true, ltb-false, zero, suc, ◌+◌, ◌%◌, ◌^◌, ◌≤◌, Bool, cond, leb, ltb, List, [], ◌∷◌, length, map, drop, arith, replicate, ◌-◌, ◌||◌, bit_or, IsAscii}
 use Rattle.std.proofs.lemmas.Bool.Decides.{nat_tests}
 use Rattle.std.proofs.lemmas.Bool.{cases_Bool}
 use Rattle.std.proofs.lemmas.Simd.{mask_l-mod, ones-mask_l_cons, map-map, tops_compared, zip2_splat_left}
 use mathlib.Core.Path.{fun_ext}
-use Rattle.std.proofs.lemmas.List.{length-map}
+use Rattle.std.proofs.lemmas.List.{get_or_past, length-map}
 use Rattle.std.specs.Int.RustNames.{count_ones}
-use lib.Lanes.{mask_l, top, zip2}
+use Rattle.lane_utf.proofs.UnitSums.{by_test}
+use lib.Lanes.{mask_l, sel_l, sum_l, top, zip2}
 use mir.Syntax.{Width}
 use mir.Val.{bits, hbits}
 use Rattle.lane_ascii.specs.Flags.{flags_set}
+use Rattle.lane_utf.specs.Weights.{AreBelowFour, begins_code_point, begins_four, scalar_weight, utf16_weight}
 use Rattle.lane_utf.specs.Widths.{total_width}
 
 -- a lane of a comparison
@@ -19,12 +21,18 @@ at_most a b = cond (leb a b) 255 0
 abbrev pub below : ℕ → ℕ → ℕ
 below a b = cond (ltb a b) 255 0
 
+-- flags that are computed lane by lane
+pub flags_of_lanes : (h : ℕ) (f : ℕ → ℕ) (p : ℕ → Bool) (v : List ℕ) {z : List ℕ} → z ≡ map f v
+    → ((u : ℕ) → top h (f u) ≡ p u)
+    → map (top h) z ≡ map p v
+flags_of_lanes h f p v lanes same = ap (map (top h)) lanes ∙ map-map (top h) f v ∙ ap (λ q. map q v) (fun_ext same)
+
 -- a mask that is computed lane by lane
 pub mask_of_lanes : (h : ℕ) (f : ℕ → ℕ) (p : ℕ → Bool) (v : List ℕ) (n : ℕ) {z : List ℕ} → length v ≡ n → n ≤ 64 → z ≡ map f v
     → ((u : ℕ) → top h (f u) ≡ p u)
     → mask_l (map (top h) z) % 2 ^ 64 ≡ mask_l (map p v)
 mask_of_lanes h f p v n long few lanes same =
-    ap (λ xs. mask_l xs % 2 ^ 64) (ap (map (top h)) lanes ∙ map-map (top h) f v ∙ ap (λ q. map q v) (fun_ext same))
+    ap (λ xs. mask_l xs % 2 ^ 64) (flags_of_lanes h f p v lanes same)
     ∙ mask_l-mod (map p v) 64 (omega (arith, length-map v p))
 
 -- lanes that are not below a bound
@@ -67,3 +75,53 @@ ones_left p (suc k) (b ∷ bs) = ones_left p k bs
 pub ones-le : (p : ℕ → Bool) (v : List ℕ) → total_width (λ b. cond (p b) 1 0) v ≤ length v
 ones-le p [] = omega arith
 ones-le p (b ∷ bs) = grind (arith, cases_Bool (p b), ones-le p bs)
+
+-- a byte begins a code point where it weighs one
+pub weighing : (v : List ℕ) → map (λ n. not (eqb n 0)) (map scalar_weight v) ≡ map begins_code_point v
+weighing [] = refl
+weighing (b ∷ bs) = ap₂ (λ x xs. x ∷ xs) (grind (arith, cases_Bool (begins_code_point b))) (weighing bs)
+
+-- the greater lanes of two vectors
+abbrev greater : List ℕ → List ℕ → List ℕ
+greater xs ys = sel_l (map (top 7) (zip2 below xs ys)) ys xs
+
+of_greater : (x y : ℕ) → begins_four (cond (top 7 (below x y)) y x) ≡ false → (begins_four x ≡ false) × (begins_four y ≡ false)
+of_greater x y e =
+    let is : top 7 (below x y) ≡ ltb x y = grind (arith, cases_Bool (ltb x y)) in
+    (grind (arith, nat_tests, is, e), grind (arith, nat_tests, is, e))
+
+lowest_clear : (b : Bool) (n : ℕ) → cond b 1 0 + 2 * n ≡ 0 → (b ≡ false) × (n ≡ 0)
+lowest_clear true n e = absurd (omega arith)
+lowest_clear false n e = (refl, omega arith)
+
+-- where none of these begins four bytes, none of both does
+pub below_greater : (xs ys : List ℕ) → length xs ≡ length ys → mask_l (map begins_four (greater xs ys)) ≡ 0
+    → (k : ℕ) → (begins_four (get_or xs k 0) ≡ false) × (begins_four (get_or ys k 0) ≡ false)
+below_greater [] [] long e k = (refl, refl)
+below_greater [] (y ∷ ys) long e k = absurd (omega arith)
+below_greater (x ∷ xs) [] long e k = absurd (omega arith)
+below_greater (x ∷ xs) (y ∷ ys) long e zero = of_greater x y (lowest_clear _ _ e).0
+below_greater (x ∷ xs) (y ∷ ys) long e (suc k) = below_greater xs ys (omega arith) (lowest_clear _ _ e).1 k
+
+-- a block that ends with the bytes and begins among those in front goes on to their end
+pub below_joined : (bs : List ℕ) (at last : ℕ) → AreBelowFour bs 0 at → AreBelowFour bs last (last + 128) → last ≤ at → length bs ≤ last + 128
+    → (k : ℕ) → begins_four (get_or bs k 0) ≡ false
+below_joined bs at last front behind from to k =
+    by_test (nat_lt k at) (λ t. front k (omega arith) (ltb-true k at t)) (λ t.
+    by_test (nat_lt k (last + 128)) (λ u. behind k (omega (arith, ltb-false k at t)) (ltb-true k (last + 128) u))
+    (λ u. ap begins_four (get_or_past bs k 0 (omega (arith, ltb-false k (last + 128) u)))))
+
+-- then units are as many as code points
+pub units-scalars : (bs : List ℕ) → ((k : ℕ) → begins_four (get_or bs k 0) ≡ false) → total_width utf16_weight bs ≡ total_width scalar_weight bs
+units-scalars [] below = refl
+units-scalars (b ∷ bs) below = grind (arith, below 0, units-scalars bs (λ k. below (suc k)))
+
+pub sum-total : (f : ℕ → ℕ) (v : List ℕ) → sum_l (map f v) ≡ total_width f v
+sum-total f [] = refl
+sum-total f (b ∷ bs) = ap (λ n. f b + n) (sum-total f bs)
+
+-- 1 where a test passes, and 0 elsewhere
+pub ones-selected : (p : ℕ → Bool) (v : List ℕ) (n : ℕ) → length v ≤ n → sel_l {A = ℕ} (map p v) (replicate n 1) (replicate n 0) ≡ map (λ b. cond (p b) 1 0) v
+ones-selected p [] n few = refl
+ones-selected p (b ∷ bs) zero few = absurd (omega arith)
+ones-selected p (b ∷ bs) (suc n) few = ap (λ ones. cond (p b) 1 0 ∷ ones) (ones-selected p bs n (omega arith))

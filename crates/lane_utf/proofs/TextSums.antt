@@ -4,6 +4,7 @@ use Rattle.std.proofs.Math.Utf8.{encode, encodes}
 use Rattle.std.proofs.lemmas.Bool.Decides.{nat_tests}
 use Rattle.std.proofs.lemmas.Str.{encodes-chars, length-encode}
 use Rattle.std.specs.Option.{option_map}
+use Rattle.lane_ascii.specs.Leads.{leads}
 use Rattle.lane_utf.specs.Selected.{moved, selected, scalar_place, place_index}
 use Rattle.lane_utf.specs.Weights.{place_in, scalar_weight, utf16_weight}
 use Rattle.lane_utf.specs.Widths.{total_width, utf8_width, utf16_width, utf32_width}
@@ -121,6 +122,10 @@ utf16_led =
 ones-length : (cs : List ℕ) → total_width utf32_width cs ≡ length cs
 ones-length [] = refl
 ones-length (c ∷ cs) = omega (arith, ones-length cs)
+
+pub leads-weigh : (bytes : List ℕ) → leads bytes ≡ total_width scalar_weight bytes
+leads-weigh [] = refl
+leads-weigh (b ∷ bs) = ap (λ n. scalar_weight b + n) (leads-weigh bs)
 
 pub scalars_of_text : (bytes text : List ℕ) → IsUtf8 text → bytes ≡ text → total_width scalar_weight bytes ≡ length (chars text)
 scalars_of_text bytes text u e = total-of scalar_weight utf32_width scalar_led bytes text u e ∙ ones-length (chars text)

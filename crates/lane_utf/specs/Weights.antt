@@ -1,5 +1,5 @@
 -- How a byte or a unit counts, so that the sums over a text are those over its code points.
-use Rattle.std.specs.Prelude.{ℕ, ◌+◌, ◌-◌, ◌≤◌, Bool, ◌&&◌, ◌||◌, ◌==◌, nat_lt, nat_le, List, [], ◌∷◌, if◌then◌else◌}
+use Rattle.std.specs.Prelude.{◌≡◌, ℕ, ◌+◌, ◌-◌, ◌<◌, ◌≤◌, Bool, false, ◌&&◌, ◌||◌, ◌==◌, nat_lt, nat_le, List, [], ◌∷◌, slice_index_or, if◌then◌else◌}
 use Rattle.std.proofs.Common.{arith}
 use Rattle.std.proofs.lemmas.Bool.Decides.{nat_tests}
 use Rattle.lane_utf.specs.Selected.{moved}
@@ -13,6 +13,10 @@ begins_code_point b = nat_lt b 0x80 || nat_le 0xC0 b
 -- a byte that begins a code point of four bytes
 abbrev pub begins_four : ℕ → Bool
 begins_four b = nat_le 0xF0 b
+
+-- none of the bytes from one index to another does
+abbrev pub AreBelowFour : List ℕ → ℕ → ℕ → Type 0
+AreBelowFour bytes from to = (k : ℕ) → from ≤ k → k < to → begins_four (slice_index_or bytes k 0) ≡ false
 
 abbrev pub scalar_weight : ℕ → ℕ
 scalar_weight b = if begins_code_point b then 1 else 0

@@ -1,71 +1,104 @@
 //! How many code points, or units of UTF-16, a text takes.
-ghost use Rattle.std.specs.Prelude.{◌≡◌, ◌+◌, ◌<◌, ◌≤◌, length, drop};
+ghost use Rattle.std.specs.Prelude.{◌≡◌, ◌+◌, ◌<◌, ◌≤◌, true, length, take, drop};
 ghost use Rattle.std.specs.Str.{chars};
-ghost use Rattle.lane_utf.specs.Weights.{scalar_weight, utf16_weight};
+ghost use Rattle.lane_utf.specs.Weights.{AreBelowFour, scalar_weight, utf16_weight};
 ghost use Rattle.lane_utf.specs.Widths.{total_width, utf16_width};
 
-use crate::measure::{Measure, Scalars, Utf16Units};
+use crate::measure::{Measure, Scalars, Utf16Units, fours, scalar_ones};
+use lane_ascii::sum_of_lanes;
 use std::simd::prelude::*;
 
 /// The number of code points.
 pub fn count_scalars(text: &str) -> usize
     ensures { result ≡ length (chars text.now) }
 {
-    total::<Scalars>(text.as_bytes())
+    total_scalars(text.as_bytes())
 }
 
 /// The number of units of its UTF-16 form (Unicode, chapter 3, D91).
 pub fn count_utf16(text: &str) -> usize
     ensures { result ≡ total_width utf16_width (chars text.now) }
 {
-    total::<Utf16Units>(text.as_bytes())
+    total::<Utf16Units>(text.as_bytes(), 0)
 }
 
-/// How many code points a text has, and how many units of UTF-16 they take.
-#[derive(Clone, Copy, PartialEq, Eq, Debug)]
-pub struct TextCounts {
-    /// The number of code points.
-    pub scalars: usize,
-    /// The number of units of the UTF-16 form (Unicode, chapter 3, D91).
-    pub utf16: usize,
-}
-
-/// The two numbers of the calls above, by one pass over the text.
-pub fn count_both(text: &str) -> TextCounts
-    ensures scalars { result.scalars ≡ length (chars text.now) }
-    ensures utf16 { result.utf16 ≡ total_width utf16_width (chars text.now) }
+/// The number of units of UTF-16 of a text that has so many code points: mostly none has four bytes,
+/// and there are as many units.
+pub fn count_utf16_of(text: &str, scalars: usize) -> usize
+    requires { scalars ≡ length (chars text.now) }
+    ensures { result ≡ total_width utf16_width (chars text.now) }
 {
-    totals(text.as_bytes())
+    if lacks_fours(text.as_bytes()) {
+        scalars
+    } else {
+        count_utf16(text)
+    }
 }
 
-/// The sums of both weights.
+/// Whether no code point has four bytes, as far as that is seen at once: of a text of few bytes it
+/// isn't said.
 #[inline(always)]
-fn totals(bytes: &[u8]) -> TextCounts
-    ensures scalars { result.scalars ≡ total_width scalar_weight bytes.now }
-    ensures utf16 { result.utf16 ≡ total_width utf16_weight bytes.now }
+fn lacks_fours(bytes: &[u8]) -> bool
+    ensures { result ≡ true → total_width utf16_weight bytes.now ≡ total_width scalar_weight bytes.now }
 {
-    let mut scalars = 0;
-    let mut utf16 = 0;
+    if bytes.len() < 128 {
+        return false;
+    }
     let mut at = 0;
-    'whole: while bytes.len() - at >= 64 {
-        let lanes = u8x64::from_slice(&bytes[at..]);
-        scalars += Scalars::of_64(lanes);
-        utf16 += Utf16Units::of_64(lanes);
-        at += 64;
+    'parts: while bytes.len() - at >= 128 {
+        if !are_below_four(bytes, at) {
+            return false;
+        }
+        at += 128;
     }
-    TextCounts {
-        scalars: scalars + total_from::<Scalars>(bytes, at),
-        utf16: utf16 + total_from::<Utf16Units>(bytes, at),
-    }
+    // The last block begins among those before it.
+    are_below_four(bytes, bytes.len() - 128)
 }
 
-/// The sum of all weights.
+/// Whether none of 128 bytes begins a code point of four bytes.
 #[inline(always)]
-fn total<M: Measure>(bytes: &[u8]) -> usize
-    ensures { result ≡ total_width M.weight bytes.now }
+fn are_below_four(bytes: &[u8], at: usize) -> bool
+    requires { at + 128 ≤ length bytes.now }
+    ensures { result ≡ true → AreBelowFour bytes.now at (at + 128) }
+{
+    let first = u8x64::from_slice(&bytes[at..]);
+    let second = u8x64::from_slice(&bytes[at + 64..]);
+    fours(first.simd_max(second)) == 0
+}
+
+/// How many code points begin in all bytes.
+#[inline(always)]
+fn total_scalars(bytes: &[u8]) -> usize
+    ensures { result ≡ total_width scalar_weight bytes.now }
 {
     let mut sum = 0;
     let mut at = 0;
+    'parts: while bytes.len() - at >= 128 {
+        sum += scalars_in_128(bytes, at);
+        at += 128;
+    }
+    sum + total::<Scalars>(bytes, at)
+}
+
+/// How many code points begin in 128 bytes.
+#[inline(always)]
+fn scalars_in_128(bytes: &[u8], at: usize) -> usize
+    requires { at + 128 ≤ length bytes.now }
+    ensures { result ≡ total_width scalar_weight (take 128 (drop at bytes.now)) }
+{
+    let first = u8x64::from_slice(&bytes[at..]);
+    let second = u8x64::from_slice(&bytes[at + 64..]);
+    sum_of_lanes(scalar_ones(first), scalar_ones(second))
+}
+
+/// The sum of the weights from a byte on.
+#[inline(always)]
+fn total<M: Measure>(bytes: &[u8], from: usize) -> usize
+    requires { from ≤ length bytes.now }
+    ensures { result ≡ total_width M.weight (drop from bytes.now) }
+{
+    let mut sum = 0;
+    let mut at = from;
     'whole: while bytes.len() - at >= 64 {
         sum += M::of_64(u8x64::from_slice(&bytes[at..]));
         at += 64;
@@ -73,7 +106,7 @@ fn total<M: Measure>(bytes: &[u8]) -> usize
     sum + total_from::<M>(bytes, at)
 }
 
-/// The sum of the weights from a byte on.
+/// The same, by blocks of sixteen bytes.
 #[inline(always)]
 fn total_from<M: Measure>(bytes: &[u8], from: usize) -> usize
     requires { from ≤ length bytes.now }

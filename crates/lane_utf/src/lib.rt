@@ -4,6 +4,7 @@
 
 mod counts;
 mod faults;
+mod laws;
 mod measure;
 mod places;
 mod select;
@@ -14,9 +15,10 @@ mod unit_runs;
 mod utf8_length;
 mod valid;
 
-pub use counts::{TextCounts, count_both, count_scalars, count_utf16};
+pub use counts::{count_scalars, count_utf16, count_utf16_of};
 pub use faults::ToUtf8Fault;
 pub use lane_ascii::NeedsRoom;
+pub use laws::law_leads;
 pub use places::{nth_scalar, nth_utf16};
 pub use select::Select;
 pub use surrogates::first_lone_surrogate;

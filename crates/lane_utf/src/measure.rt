@@ -27,18 +27,28 @@ pub(crate) trait Measure {
     ghost small: { (b : ℕ) → weight b ≤ 2 };
 }
 
+/// 1 in each lane that begins a code point, and 0 in each other one.
+#[inline(always)]
+pub(crate) fn scalar_ones<const N: usize>(lanes: Simd<u8, N>) -> Simd<u8, N>
+    ensures { result ≡ map scalar_weight lanes.entry }
+{
+    let begins = lanes.simd_lt(Simd::splat(0x80)) | lanes.simd_ge(Simd::splat(0xC0));
+    begins.select(Simd::splat(1), Simd::splat(0))
+}
+
 /// The lanes that begin a code point.
 #[inline(always)]
 fn code_points<const N: usize>(lanes: Simd<u8, N>) -> u64
     requires { N ≤ 64 }
     ensures { result ≡ mask_l (map begins_code_point lanes.entry) }
 {
-    (lanes.simd_lt(Simd::splat(0x80)) | lanes.simd_ge(Simd::splat(0xC0))).to_bitmask()
+    let ones = scalar_ones(lanes);
+    ones.simd_ne(Simd::splat(0)).to_bitmask()
 }
 
 /// The lanes that begin a code point of four bytes.
 #[inline(always)]
-fn fours<const N: usize>(lanes: Simd<u8, N>) -> u64
+pub(crate) fn fours<const N: usize>(lanes: Simd<u8, N>) -> u64
     requires { N ≤ 64 }
     ensures { result ≡ mask_l (map begins_four lanes.entry) }
 {

@@ -96,18 +96,19 @@ fn put_run(units: &[u16], from: Reached, bytes: &mut [u8]) -> Reached
 {
     let Reached { read, written } = from;
     let lanes = u16x8::from_slice(&units[read..]);
-    let count = ones_front(lanes);
-    if count == 8 && is_ascii_block::<16>(units, read) {
-        return put_ascii_block::<16>(units, from, bytes);
-    }
-    if count > 0 {
-        put_ones(lanes, bytes, written);
-        return Reached {
-            read: read + count,
-            written: written + count,
-        };
-    }
-    if units[read] < 0x800 {
+    if units[read] < 0x80 {
+        if is_ascii_block::<16>(units, read) {
+            return put_ascii_block::<16>(units, from, bytes);
+        }
+        let count = ones_front(lanes);
+        if count > 0 {
+            put_ones(lanes, bytes, written);
+            return Reached {
+                read: read + count,
+                written: written + count,
+            };
+        }
+    } else if units[read] < 0x800 {
         let count = twos_front(lanes);
         if count > 0 {
             put_twos(lanes, bytes, written);

@@ -1,5 +1,5 @@
 //! Texts in two parts.
-ghost use Rattle.std.specs.Prelude.{◌≡◌, ℕ, ◌<◌, ◌≤◌, ◌&&◌, length, MatchOption};
+ghost use Rattle.std.specs.Prelude.{◌≡◌, ℕ, ◌<◌, ◌≤◌, ◌&&◌, false, length, MatchOption};
 ghost use Rattle.std.specs.Str.{chars};
 ghost use Rattle.lane_ascii.specs.Marks.{marks, ends_cr};
 ghost use Rattle.lane_utf.specs.Selected.{scalar_place};
@@ -9,8 +9,8 @@ ghost use Rattle.position_map.specs.Marked.{IsMarkCut};
 ghost use Rattle.position_map.specs.Cuts.{IsScalarCut};
 
 use crate::ending::Ending;
-use lane_ascii::nth_line_end;
-use lane_utf::nth_scalar;
+use lane_ascii::{LineFront, first_line_end, nth_line_end};
+use lane_utf::{law_leads, nth_scalar};
 use piece_rope::{begins_lf, ends_cr, law_marks};
 
 // The text before line mark `n` and from it on, where there are so many.
@@ -22,6 +22,23 @@ pub(crate) fn split_at_mark(text: &str, after_cr: bool, n: usize) -> Option<(&st
     match nth_line_end(text.as_bytes(), after_cr, n) {
         None => None,
         Some(at) => Some(text.split_at(at)),
+    }
+}
+
+// The text before its first line mark and from it on, where there is one, and how many code points
+// stand before it, by one walk.
+pub(crate) fn split_at_first_mark(text: &str) -> Option<(&str, &str, usize)>
+    ensures { MatchOption result (marks false (chars text.now) ≤ 0)
+        (λ x. IsMarkCut false (chars text.now) 0 (chars x.0.now) (chars x.1.now) × (x.2 ≡ length (chars x.0.now))) }
+{
+    law_marks();
+    law_leads();
+    match first_line_end(text.as_bytes()) {
+        None => None,
+        Some(LineFront { at, leads }) => {
+            let (front, rest) = text.split_at(at);
+            Some((front, rest, leads))
+        }
     }
 }
 

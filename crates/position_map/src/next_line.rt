@@ -8,11 +8,11 @@ ghost use Rattle.position_map.specs.Cuts.{IsRestBehind};
 ghost use Rattle.position_map.specs.Marked.{IsMarkAt};
 ghost use Rattle.position_map.specs.NextLines.{IsNextLine, IsAhead};
 
-use crate::cuts::{split_at_mark, split_at_scalar};
+use crate::cuts::{split_at_first_mark, split_at_scalar};
 use crate::mark::LineMark;
 use crate::marks::{line_behind, mark};
 use crate::parts::Parts;
-use crate::point::{Point, point_behind};
+use crate::point::{Point, units_in};
 use crate::unit::Unit;
 use piece_rope::Visits;
 
@@ -62,10 +62,13 @@ pub(crate) fn next_mark<'d>(
 {
     let _end = parts.end(Unit::Utf8);
     let (scalars, units) = (at.start.scalars, at.start.units);
-    match split_at_mark(at.rest, false, 0) {
+    match split_at_first_mark(at.rest) {
         None => mark(parts, Unit::Utf8, n, visits),
-        Some((front, rest)) => {
-            let at = point_behind(scalars, units, front, Unit::Utf8);
+        Some((front, rest, count)) => {
+            let at = Point {
+                scalars: scalars + count as u64,
+                units: units + units_in(front, Unit::Utf8),
+            };
             Some(LineMark { at, rest })
         }
     }

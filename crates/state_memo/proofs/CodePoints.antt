@@ -2,7 +2,7 @@
 use Rattle.std.proofs.Common.{◌≡◌, refl, sym, ap, subst, ◌∙◌, ℕ, suc, ◌+◌, ◌*◌, ◌≤◌, List, [], ◌∷◌, ◌++◌, append_assoc, length, fold, arith, ℤ, pos, ◌+ℤ◌, ◌-ℤ◌, false, nat_lt}
 use Rattle.decoder_core.specs.Bulk.{width_of, run_width, plain_from}
 use Rattle.state_memo.specs.Gathering.{Gathered, with_item, with_shown, with_more, plain_items_from, plain_items, IsEven}
-use Rattle.state_memo.proofs.Prelude.{nat_tests, ints, len_utf8_bounds, len_utf8, utf8_width, utf16_width, total_width, Stride, One, OutputState}
+use Rattle.state_memo.proofs.Prelude.{ints, len_utf8_bounds, len_utf8, utf8_width, utf16_width, total_width, Stride, One, OutputState}
 use Rattle.state_memo.proofs.Prelude.{Ended, ItemKind, errors_in, kept_item, item_of_kind, items_until, cond_both, Utf8, Utf16, Pairs, Bytes}
 use Rattle.state_memo.proofs.Gathered.{more-nil}
 use Rattle.state_memo.proofs.Splitting.{first-until}
@@ -16,12 +16,6 @@ utf8-run (c ∷ cs) = ap (λ (n : ℕ). len_utf8 c + n) (utf8-run cs)
 pub utf16-run : (cs : List ℕ) → run_width Utf16 cs ≡ 2 * total_width utf16_width cs
 utf16-run [] = refl
 utf16-run (c ∷ cs) = let rest = utf16-run cs in omega (arith, rest)
-
-pub utf8-width : (stride : Stride) (text cs : List ℕ) → stride ≡ Utf8 → length text ≡ total_width utf8_width cs → length text ≡ run_width stride cs
-utf8-width stride text cs e width = width ∙ sym (utf8-run cs) ∙ ap (λ (t : Stride). run_width t cs) (sym e)
-
-pub utf16-width : (stride : Stride) (cs : List ℕ) (units width : ℕ) → stride ≡ Utf16 → units ≡ total_width utf16_width cs → width ≡ units * 2 → width ≡ run_width stride cs
-utf16-width stride cs units width e units_is width_is = omega (arith, units_is, width_is, utf16-run cs) ∙ ap (λ (t : Stride). run_width t cs) (sym e)
 
 -- ---- as they are shown one by one
 
@@ -90,31 +84,26 @@ module _ (stride : Stride) (width : ℕ) (kind : ItemKind) (output : OutputState
       ap (λ (l : ℤ). items_until kind width l (length cs)) (omega (arith, ints, even-run stride width cs e))
       ∙ sym (even-from (end -ℤ pos (run_width stride cs)) cs e)
 
--- as many bytes of UTF-8 as code points
-ascii-bytes : (cs : List ℕ) → run_width Utf8 cs ≡ 1 * length cs → IsEven Utf8 1 cs
-ascii-bytes cs e = even-least Utf8 1 (λ c. (len_utf8_bounds c).0) cs e
+least-width : (stride : Stride) (c : ℕ) → 1 ≤ width_of stride c
+least-width Utf8 c = (len_utf8_bounds c).0
+least-width Utf16 c = cond_both (nat_lt c 0x10000) 1 2 (λ n. 1 ≤ 2 * n) (λ _. omega arith) (λ _. omega arith)
+least-width Pairs c = cond_both (nat_lt c 0x80) 1 2 (λ n. 1 ≤ n) (λ _. omega arith) (λ _. omega arith)
+least-width Bytes c = omega arith
 
-pub utf8-even : (stride : Stride) (text cs : List ℕ) (n : ℕ) → stride ≡ Utf8 → length text ≡ total_width utf8_width cs → length text ≡ n → n ≡ length cs → IsEven stride 1 cs
-utf8-even stride text cs n e width same count =
-    subst (λ (t : Stride). IsEven t 1 cs) (sym e) (ascii-bytes cs (omega (arith, utf8-run cs, width, same, count)))
+-- as many bytes as code points
+pub ones-even : (stride : Stride) (n width : ℕ) (cs : List ℕ) → n ≡ length cs → width ≡ run_width stride cs → width ≡ n → IsEven stride 1 cs
+ones-even stride n width cs count all same = even-least stride 1 (least-width stride) cs (omega (arith, count, all, same))
 
-pub utf16-even : (stride : Stride) (cs : List ℕ) (n units : ℕ) → stride ≡ Utf16 → units ≡ total_width utf16_width cs → units ≡ n → n ≡ length cs → IsEven stride 2 cs
-utf16-even stride cs n units e units_is same count =
-    subst (λ (t : Stride). IsEven t 2 cs) (sym e) (even-least Utf16 2 (λ c. cond_both (nat_lt c 0x10000) 1 2 (λ n. 2 ≤ 2 * n) (λ _. omega arith) (λ _. omega arith)) cs (omega (arith, utf16-run cs, units_is, same, count)))
+-- twice as many
+pub units-even : (stride : Stride) (n width : ℕ) (cs : List ℕ) → stride ≡ Utf16 → n ≡ length cs → width ≡ run_width stride cs → width ≡ 2 * n → IsEven stride 2 cs
+units-even stride n width cs is count all same = subst (λ (t : Stride). IsEven t 2 cs) (sym is) (
+    even-least Utf16 2 (λ c. cond_both (nat_lt c 0x10000) 1 2 (λ n. 2 ≤ 2 * n) (λ _. omega arith) (λ _. omega arith)) cs
+    (omega (arith, count, all ∙ ap (λ (t : Stride). run_width t cs) is, same)))
 
-one-pair : (c : ℕ) → width_of Utf8 c ≡ 1 → width_of Pairs c ≡ 1
-one-pair c e = grind (arith, nat_tests, e)
-
-ascii-pairs : (cs : List ℕ) → IsEven Utf8 1 cs → IsEven Pairs 1 cs
-ascii-pairs [] e = tt
-ascii-pairs (c ∷ cs) e = (one-pair c e.0, ascii-pairs cs e.1)
-
-pub ascii-even : (stride : Stride) (text cs : List ℕ) (n : ℕ) → stride ≡ Pairs → length text ≡ total_width utf8_width cs → length text ≡ n → n ≡ length cs → IsEven stride 1 cs
-ascii-even stride text cs n e width same count =
-    subst (λ (t : Stride). IsEven t 1 cs) (sym e) (ascii-pairs cs (ascii-bytes cs (omega (arith, utf8-run cs, width, same, count))))
-
-pub pairs-even : (stride : Stride) (cs : List ℕ) (n : ℕ) → stride ≡ Pairs → run_width Pairs cs + n ≡ 2 * length cs → n ≡ 0 → IsEven stride 2 cs
-pairs-even stride cs n e all none = subst (λ (t : Stride). IsEven t 2 cs) (sym e) (even-most Pairs 2 (λ c. cond_both (nat_lt c 0x80) 1 2 (λ n. n ≤ 2) (λ _. omega arith) (λ _. omega arith)) cs (omega (arith, all, none)))
+pub pairs-even : (stride : Stride) (n width : ℕ) (cs : List ℕ) → stride ≡ Pairs → n ≡ length cs → width ≡ run_width stride cs → width ≡ 2 * n → IsEven stride 2 cs
+pairs-even stride n width cs is count all same = subst (λ (t : Stride). IsEven t 2 cs) (sym is) (
+    even-most Pairs 2 (λ c. cond_both (nat_lt c 0x80) 1 2 (λ n. n ≤ 2) (λ _. omega arith) (λ _. omega arith)) cs
+    (omega (arith, count, all ∙ ap (λ (t : Stride). run_width t cs) is, same)))
 
 bytes-by : (cs : List ℕ) → IsEven Bytes 1 cs
 bytes-by [] = tt
@@ -127,8 +116,8 @@ bytes-run : (cs : List ℕ) → length cs ≡ run_width Bytes cs
 bytes-run [] = refl
 bytes-run (c ∷ cs) = let rest = bytes-run cs in omega (arith, rest)
 
-pub bytes-width : (stride : Stride) (cs : List ℕ) (n : ℕ) → stride ≡ Bytes → n ≡ length cs → n ≡ run_width stride cs
-bytes-width stride cs n e count = count ∙ bytes-run cs ∙ ap (λ (t : Stride). run_width t cs) (sym e)
+pub bytes-counted : (stride : Stride) (cs : List ℕ) (width : ℕ) → stride ≡ Bytes → width ≡ run_width stride cs → width ≡ length cs
+bytes-counted stride cs width is all = all ∙ ap (λ (t : Stride). run_width t cs) is ∙ sym (bytes-run cs)
 
 pub even-is : (stride : Stride) (kind : ItemKind) (output : OutputState) → ((end : ℤ) → item_of_kind kind end ≡ record { scalars = 1; end = end; error = false; output = output })
     → (end last : ℤ) (step more : ℕ) (cs : List ℕ) → IsEven stride step cs → last ≡ end → suc more ≡ length cs

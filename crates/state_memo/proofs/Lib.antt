@@ -1,4 +1,3 @@
-pub mod AsciiBytes
 pub mod CodePoints
 pub mod Counted
 pub mod Fitting

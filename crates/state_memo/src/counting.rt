@@ -9,20 +9,26 @@ ghost use Rattle.state_memo.specs.Sums.{sum_of};
 use crate::items::ItemRuns;
 use crate::sum::Sum;
 use lane_ascii::count_line_ends;
-use lane_utf::count_both;
+use lane_utf::count_utf16_of;
 
-/// The numbers of a part of a document of so many bytes, by two passes over the text; `erring` says
-/// whether one of the items may be an error.
-pub(crate) fn sum_of(bytes: usize, text: &str, items: &ItemRuns, erring: bool) -> Sum
+/// The numbers of a part of a document of so many bytes, whose text has so many code points, by two
+/// passes over the text; `erring` says whether one of the items may be an error.
+pub(crate) fn sum_of(
+    bytes: usize,
+    text: &str,
+    scalars: usize,
+    items: &ItemRuns,
+    erring: bool,
+) -> Sum
+    requires scalars { scalars ≡ length (chars text.now) }
     requires counted { length (chars text.now) ≡ all_scalars items.now }
     requires none { erring ≡ false → errors_in items.now ≡ 0 }
     ensures { result ≡ sum_of bytes (chars text.now) items.now }
 {
-    let counts = count_both(text);
     Sum {
         bytes: bytes as u64,
-        scalars: counts.scalars as u64,
-        utf16: counts.utf16 as u64,
+        scalars: scalars as u64,
+        utf16: count_utf16_of(text, scalars) as u64,
         utf8: text.len() as u64,
         errors: count_errors(items, erring),
         marks: count_marks(text, false),

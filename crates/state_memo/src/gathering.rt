@@ -14,25 +14,26 @@ use crate::items::OpenRuns;
 use crate::kind::ItemKind;
 use crate::outcome::{Outcome, Text};
 use crate::outputs::Outputs;
-use crate::plain::{even_run, first_place};
+use crate::plain::{count_of, even_run, first_place};
 use crate::run::Run;
 use codec::{AnyState, TextBlocks};
 use decoder_core::{Ended, Item, OutOfMemory, Sink, Stride};
 use iso2022jp::OutputState;
-use lane_utf::count_scalars;
 use std::alloc::{AllocError, Global};
 use std::marker::Model;
 
-/// The text and the items so far, and whether one of these may be an error.
+/// The text and the items so far, how many code points there are, and whether one of the items may be
+/// an error.
 #[derive(Drop)]
 pub(crate) struct Gathering {
     text: TextBlocks,
     items: OpenRuns,
+    scalars: usize,
     erring: bool,
 }
 
 impl Model for Gathering {
-    ghost use Rattle.std.specs.Prelude.{◌≡◌, false};
+    ghost use Rattle.std.specs.Prelude.{◌≡◌, false, length};
     ghost use Rattle.std.specs.Str.{chars};
     ghost use Rattle.state_memo.specs.Gathering.{Gathered};
     ghost use Rattle.state_memo.specs.Items.{errors_in};
@@ -42,7 +43,10 @@ impl Model for Gathering {
 
     ghost view = { λ s. record { text = chars s.text.bytes; items = items_under_way s.items.closed.items s.items.last } };
 
-    ghost invariant = { λ s. s.erring ≡ false → errors_in (items_under_way s.items.closed.items s.items.last) ≡ 0 };
+    ghost invariant = { λ s. record {
+      counted : s.scalars ≡ length (chars s.text.bytes);
+      none : s.erring ≡ false → errors_in (items_under_way s.items.closed.items s.items.last) ≡ 0;
+    } };
 }
 
 impl Gathering {
@@ -53,6 +57,7 @@ impl Gathering {
         Gathering {
             text: TextBlocks::new(alloc),
             items: OpenRuns::new(alloc),
+            scalars: 0,
             erring: false,
         }
     }
@@ -67,23 +72,32 @@ impl Gathering {
         let Ok(last) = i32::try_from(end) else {
             return Err(AllocError);
         };
+        let (counted, kept, written) = (item, item, item);
+        let Some(scalars) = self.scalars.checked_add(scalars_of(counted)) else {
+            return Err(AllocError);
+        };
         self.text.reserve()?;
         self.items.reserve(1)?;
-        let (kept, written) = (item, item);
         put_item(&mut self.text, written);
         let kind = ItemKind::of(kept, output);
+        self.scalars = scalars;
         self.erring = may_err(self.erring, kind);
         self.items.put(Run::one(kind, last));
         Ok(())
     }
 
-    /// Takes a text whose items are one run.
-    fn take_run(&mut self, text: &str, run: Run) -> Result<(), OutOfMemory>
+    /// Takes a text of so many code points whose items are one run.
+    fn take_run(&mut self, text: &str, count: usize, run: Run) -> Result<(), OutOfMemory>
+        requires { count ≡ length (chars text.now) }
         ensures ok { OnOk result (self.new ≡ with_more self.old (chars text.now) (items_of_run run)) }
         ensures err { OnErr result (self.new ≡ self.old) }
     {
+        let Some(scalars) = self.scalars.checked_add(count) else {
+            return Err(AllocError);
+        };
         self.items.reserve(1)?;
         self.text.put_text(text)?;
+        self.scalars = scalars;
         self.erring = may_err(self.erring, run.kind);
         self.items.put(run);
         Ok(())
@@ -104,8 +118,12 @@ impl Gathering {
         ensures ok { OnOk result (self.new ≡ with_more self.old (chars text.now) (plain_items_from stride from output (chars text.now))) }
         ensures err { OnErr result (self.new ≡ self.old) }
     {
+        let Some(scalars) = self.scalars.checked_add(count) else {
+            return Err(AllocError);
+        };
         self.items.reserve_for(count)?;
         self.text.put_text(text)?;
+        self.scalars = scalars;
         self.items.put_plain(text, from, stride, output);
         Ok(())
     }
@@ -132,13 +150,14 @@ impl Gathering {
         let Gathering {
             text,
             items,
+            scalars,
             erring,
         } = self;
         let mut written = text.finish()?;
         written.shrink_to_fit();
         let text = Text::new(*written.allocator(), written)?;
         let items = items.finish()?;
-        let sum = sum_of(bytes, text.as_str(), &items, erring);
+        let sum = sum_of(bytes, text.as_str(), scalars, &items, erring);
         Ok(Outcome {
             text,
             items,
@@ -161,14 +180,21 @@ impl<S: Outputs> Sink<S> for Gathering {
         self.take(item, end, after.output_state())
     }
 
-    fn plain(&mut self, text: &str, end: i64, stride: Stride, after: S) -> Result<(), OutOfMemory> {
+    fn plain(
+        &mut self,
+        text: &str,
+        width: usize,
+        end: i64,
+        stride: Stride,
+        after: S,
+    ) -> Result<(), OutOfMemory> {
         let output = after.output_state();
-        let count = count_scalars(text);
-        if let Some(run) = even_run(text, count, end, stride, output) {
-            self.take_run(text, run)?;
+        let count = count_of(text, width, stride);
+        if let Some(run) = even_run(count, width, end, stride, output) {
+            self.take_run(text, count, run)?;
             return Ok(());
         }
-        let Some(from) = first_place(text, count, end, stride) else {
+        let Some(from) = first_place(width, end) else {
             return Err(AllocError);
         };
         self.take_runs(text, count, from, stride, output)?;
@@ -184,6 +210,18 @@ fn may_err(erring: bool, kind: ItemKind) -> bool
     ensures kind { result ≡ false → error_of kind ≡ false }
 {
     erring || kind.is_error()
+}
+
+/// How many code points an item has, one for an error.
+// In the loop over the bytes.
+#[inline(always)]
+fn scalars_of(item: Item) -> usize
+    ensures { result ≡ length (item_code_points item) }
+{
+    match item {
+        Item::Two(_, _) => 2,
+        _ => 1,
+    }
 }
 
 /// Writes the code points of an item, an error as U+FFFD.

@@ -48,6 +48,7 @@ impl<S: Copy> Sink<S> for Ends {
     fn plain(
         &mut self,
         _text: &str,
+        _width: usize,
         end: i64,
         _stride: Stride,
         _after: S,

@@ -1,4 +1,4 @@
-use Rattle.std.proofs.Common.{rules, arith, refl, ◌≡◌, ◌<◌, length}
+use Rattle.std.proofs.Common.{Some, rules, arith, refl, ◌≡◌, ◌<◌, length}
 use Rattle.decoder_core.proofs.Fronts.{ascii-put, byte-put}
 use Rattle.decoder_core.specs.declared.bulk.Stride.TheVariants.{Bytes}
 use Rattle.decoder_core.proofs.byte_bulk.put_byte.Goals as goal
@@ -19,4 +19,10 @@ returns-clause-some g c =
 pub returns-in-Some-clause-some : goal.returns-in-Some-clause-some
 returns-in-Some-clause-some g c =
     byte-put (g.H.Handler.table c.args.handler.now) (g.met.H.Handler.ends c.args.handler.now) c.args.state c.args.bytes.now c.args.text.now _ c.args.at
-    c.args.written c.form_of-form.result c.requires.within c.form_of-form.ensures c.put.result c.put.ensures.some
+    c.args.written c.form_of-form.result c.requires.within c.form_of-form.ensures.takes c.put.result c.put.ensures.some
+
+-- what is put is the form of the byte, which is short
+pub returns-then-short-clause-some : goal.returns-then-short-clause-some
+returns-then-short-clause-some g c =
+    byte-put (g.H.Handler.table c.args.handler.now) (g.met.H.Handler.ends c.args.handler.now) c.args.state c.args.bytes.now c.args.text.now _ c.args.at
+    c.args.written c.form_of-form.result c.requires.within c.form_of-form.ensures.takes (Some c.put_short.result) c.put_short.ensures.put

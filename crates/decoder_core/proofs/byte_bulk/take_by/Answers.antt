@@ -10,6 +10,7 @@ pub put_byte-requires : goal.put_byte-requires
 put_byte-requires g c = record {
   ascii = c.requires.ascii;
   forms = c.requires.forms;
+  short = c.requires.short;
   within = omega (arith, c.bytes-test.true, c.min-end.ensures);
   room = omega (arith, c.bytes.invariant.few, c.bytes-test.true, c.min-end.ensures);
 }

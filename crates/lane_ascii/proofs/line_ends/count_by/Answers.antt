@@ -1,10 +1,16 @@
 use Rattle.std.proofs.Common.{arith}
-use Rattle.lane_ascii.proofs.Counting.{counted-le, counted_more, counted_all}
+use Rattle.lane_ascii.proofs.Counting.{counted-le, counted_more, counted_all, counted_on}
 use Rattle.lane_ascii.proofs.MarkLanes.{marks-le}
 use Rattle.lane_ascii.proofs.line_ends.count_by.Goals as goal
 
 pub overflow_add-count : goal.overflow_add-count
-overflow_add-count g c = omega (arith, counted-le (counted_more c.steps.invariant g.row.N (omega arith) (c.marks_in.ensures c.args.after_cr)))
+overflow_add-count g c = omega (arith, counted-le (counted_on c.parts.invariant 128 (omega arith) (c.marks_in_128-count.ensures c.args.after_cr)))
+
+pub parts-preserved : goal.parts-preserved
+parts-preserved g c = counted_on c.parts.invariant 128 (omega arith) (c.marks_in_128-count.ensures c.args.after_cr)
+
+pub overflow_add-count-in-steps : goal.overflow_add-count-in-steps
+overflow_add-count-in-steps g c = omega (arith, counted-le (counted_more c.steps.invariant g.row.N (omega arith) (c.marks_in.ensures c.args.after_cr)))
 
 pub steps-preserved : goal.steps-preserved
 steps-preserved g c = counted_more c.steps.invariant g.row.N (omega arith) (c.marks_in.ensures c.args.after_cr)

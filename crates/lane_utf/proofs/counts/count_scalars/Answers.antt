@@ -3,4 +3,4 @@ use Rattle.lane_utf.proofs.TextSums.{scalars_of_text}
 use Rattle.lane_utf.proofs.counts.count_scalars.Goals as goal
 
 pub returns : goal.returns
-returns c = c.total.ensures ∙ scalars_of_text c.as_bytes.result.now c.args.text.now c.utf8.text c.as_bytes.ensures.value
+returns c = c.total_scalars.ensures ∙ scalars_of_text c.as_bytes.result.now c.args.text.now c.utf8.text c.as_bytes.ensures.value

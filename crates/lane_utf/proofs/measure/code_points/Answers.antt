@@ -1,14 +1,15 @@
-use Rattle.std.proofs.Common.{arith, bit_or, nat_lt, nat_le}
-use Rattle.std.proofs.lemmas.Simd.{zip2_splat, zip2_splat_left, zip2_of_maps}
-use Rattle.lane_utf.specs.Weights.{begins_code_point}
-use Rattle.lane_utf.proofs.Measures.{at_most, below, mask_of_lanes, top_or}
+use Rattle.std.proofs.Common.{◌≡◌, ◌∙◌, ap, eqb, length, map, not, w8}
+use Rattle.std.proofs.lemmas.List.{length-map}
+use Rattle.std.proofs.lemmas.Simd.{bitmask_splat}
+use Rattle.lane_utf.specs.Weights.{scalar_weight}
+use Rattle.lane_utf.proofs.Measures.{weighing}
 use Rattle.lane_utf.proofs.measure.code_points.Goals as goal
+use lib.Lanes.{mask_l}
 
 pub returns : goal.returns
 returns g c =
     let v = c.args.lanes in
-    let n = g.row.N in
-    let long = c.fits-lanes.0 in
-    mask_of_lanes 7 _ begins_code_point v n long (omega arith)
-    (zip2_of_maps bit_or _ _ v (zip2_splat below v n 128 long) (zip2_splat_left at_most 192 n v long))
-    (λ b. top_or (nat_lt b 128) (nat_le 192 b))
+    let long : length c.scalar_ones-ones.result ≡ g.row.N = ap length c.scalar_ones-ones.ensures ∙ length-map v scalar_weight ∙ c.fits-lanes.0 in
+    bitmask_splat w8 (λ a b. not (eqb a b)) c.scalar_ones-ones.result g.row.N 0 long c.requires
+    ∙ ap (λ ones. mask_l (map (λ n. not (eqb n 0)) ones)) c.scalar_ones-ones.ensures
+    ∙ ap mask_l (weighing v)

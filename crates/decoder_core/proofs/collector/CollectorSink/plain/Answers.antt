@@ -8,7 +8,7 @@ use Rattle.decoder_core.proofs.collector.CollectorSink.plain.Goals as goal
 pub rest-init : goal.rest-init
 rest-init g c =
     let whole = c.chars-rest.ensures.rest in
-    rw whole ([], c.utf8.text, c.text_width-left.ensures, refl, refl)
+    rw whole ([], c.utf8.text, c.requires, refl, refl)
 
 pub overflow_sub-left : goal.overflow_sub-left
 overflow_sub-left g c =

@@ -1,8 +1,14 @@
-use Rattle.std.proofs.Common.{ap, ◌∙◌, ℕ, List, []}
-use Rattle.state_memo.proofs.Prelude.{chars, chars-nil, Ended, items_under_way}
+use Rattle.std.proofs.Common.{ap, sym, length, ◌∙◌, ℕ, List, []}
+use Rattle.state_memo.proofs.Prelude.{chars, chars-nil, Ended, errors_in, items_under_way}
 use Rattle.state_memo.proofs.gathering.Gathering.new.Goals as goal
 
 pub returns : goal.returns
 returns c =
     ap (λ (t : List ℕ). record { text = t; items = items_under_way c.new-2.result.closed.items c.new-2.result.last }) (ap chars c.new.ensures ∙ chars-nil)
     ∙ ap (λ (t : List Ended). record { text = []; items = t }) c.new-2.ensures
+
+pub invariant_of-result : goal.invariant_of-result
+invariant_of-result c = record {
+  counted = sym (ap length (ap chars c.new.ensures ∙ chars-nil));
+  none = λ _. ap errors_in c.new-2.ensures;
+}

@@ -1,4 +1,4 @@
-use Rattle.std.proofs.Common.{ap, sym, ◌∙◌, List, ◌++◌}
+use Rattle.std.proofs.Common.{◌≡◌, arith, length, length-append, ap, sym, ◌∙◌, List, ◌++◌}
 use Rattle.state_memo.proofs.Prelude.{chars, chars-append, Ended, errors_in, items_of_run, items_under_way}
 use Rattle.state_memo.proofs.Gathered.{taken-is}
 use Rattle.state_memo.proofs.Walks.{no-errors-more, run-no-errors}
@@ -12,5 +12,11 @@ returns-clause-ok c =
     (c.put.ensures ∙ ap (λ (is : List Ended). is ++ items_of_run c.args.run) c.in_ok-reserve.ensures.same)
 
 pub invariant_of-self-2 : goal.invariant_of-self-2
-invariant_of-self-2 c = λ e.
-    no-errors-more _ _ _ c.put.ensures (ap errors_in c.in_ok-reserve.ensures.same ∙ c.self.invariant (c.may_err-self-inside.ensures.before e)) (sym (run-no-errors c.args.run (c.may_err-self-inside.ensures.kind e)))
+invariant_of-self-2 c =
+    let old = chars c.self.inside.text.bytes in
+    let more = chars c.args.text.now in
+    let text : chars c.put_text.new.self.bytes ≡ old ++ more = ap chars c.in_ok-put_text.ensures.ok ∙ chars-append c.self.inside.text.bytes c.args.text.now c.in_ok-put_text.ensures.utf8 in
+    record {
+      counted = omega (arith, c.in-Some.ensures, c.self.invariant.counted, c.requires, ap length text, length-append old more);
+      none = λ e. no-errors-more _ _ _ c.put.ensures (ap errors_in c.in_ok-reserve.ensures.same ∙ c.self.invariant.none (c.may_err-self-inside.ensures.before e)) (sym (run-no-errors c.args.run (c.may_err-self-inside.ensures.kind e)));
+    }

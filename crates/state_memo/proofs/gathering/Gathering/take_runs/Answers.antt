@@ -1,4 +1,4 @@
-use Rattle.std.proofs.Common.{◌≡◌, ap, ◌∙◌, ℤ, List, ◌++◌, to_z, of_z, w32}
+use Rattle.std.proofs.Common.{arith, length, length-append, ◌≡◌, ap, ◌∙◌, ℤ, List, ◌++◌, to_z, of_z, w32}
 use Rattle.state_memo.proofs.Prelude.{chars, to_z-of_z, chars-append, Ended, plain_items_from, errors_in, items_under_way}
 use Rattle.state_memo.proofs.CodePoints.{plain-no-errors}
 use Rattle.state_memo.proofs.Gathered.{taken-is}
@@ -17,5 +17,11 @@ returns-clause-ok c =
     ∙ ap (λ (z : ℤ). old ++ plain_items_from c.args.stride z c.args.output text) from)
 
 pub invariant_of-self-2 : goal.invariant_of-self-2
-invariant_of-self-2 c = λ e.
-    no-errors-more _ _ _ c.put_plain.ensures (ap errors_in c.in_ok-reserve_for.ensures.same ∙ c.self.invariant e) (plain-no-errors c.args.stride _ c.args.output (chars c.args.text.now))
+invariant_of-self-2 c =
+    let old = chars c.self.inside.text.bytes in
+    let more = chars c.args.text.now in
+    let text : chars c.put_text.new.self.bytes ≡ old ++ more = ap chars c.in_ok-put_text.ensures.ok ∙ chars-append c.self.inside.text.bytes c.args.text.now c.in_ok-put_text.ensures.utf8 in
+    record {
+      counted = omega (arith, c.in-Some.ensures, c.self.invariant.counted, c.requires.count, ap length text, length-append old more);
+      none = λ e. no-errors-more _ _ _ c.put_plain.ensures (ap errors_in c.in_ok-reserve_for.ensures.same ∙ c.self.invariant.none e) (plain-no-errors c.args.stride _ c.args.output (chars c.args.text.now));
+    }

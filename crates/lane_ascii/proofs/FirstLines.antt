@@ -1,0 +1,128 @@
+-- The first line mark, and the bytes in front of it.
+use Rattle.std.proofs.Common.{◌≡◌, ℕ, zero, suc, ◌+◌, ◌<◌, ◌≤◌, ◌==◌, not, Bool, true, false, cond, List, [], ◌∷◌, ◌++◌, length, take, drop, get_or, map, refl, sym, ap, ◌∙◌, arith, take-add, take-take, ltb, subst, length-take}
+use Rattle.std.proofs.lemmas.Bool.{cases_Bool}
+use Rattle.std.specs.Int.RustNames.{count_ones}
+use Rattle.std.specs.List.{prefix_len}
+use Rattle.std.proofs.lemmas.List.{drop_more}
+use Rattle.std.proofs.lemmas.List.Sums.{prefix_len-le-length}
+use Rattle.lane_ascii.specs.Bits.{first_set}
+use Rattle.lane_ascii.specs.Flags.{flags_set}
+use Rattle.lane_ascii.specs.Leads.{in_line, is_lead, leads, one_lead}
+use Rattle.lane_ascii.specs.Marks.{cr, lf, is_mark, marks, one_if, ends_cr, IsNthMark}
+use Rattle.lane_ascii.proofs.Flags.{ones_of}
+use Rattle.lane_ascii.proofs.Prefixes.{ends_in, goes_on, run_of_block}
+use lib.Lanes.{mask_l}
+
+-- a lane of a comparison
+abbrev pub below : ℕ → ℕ → ℕ
+below a b = cond (ltb a b) 255 0
+
+-- ---- counts
+
+leads-append : (xs ys : List ℕ) → leads (xs ++ ys) ≡ leads xs + leads ys
+leads-append [] ys = omega arith
+leads-append (x ∷ xs) ys = omega (arith, leads-append xs ys)
+
+pub leads-flags : (v : List ℕ) → flags_set (map is_lead v) ≡ leads v
+leads-flags [] = refl
+leads-flags (b ∷ bs) = ap (λ n. one_lead b + n) (leads-flags bs)
+
+pub leads-taken : (k : ℕ) (v : List ℕ) → flags_set (take k (map is_lead v)) ≡ leads (take k v)
+leads-taken zero v = refl
+leads-taken (suc k) [] = refl
+leads-taken (suc k) (b ∷ bs) = ap (λ n. one_lead b + n) (leads-taken k bs)
+
+pub leads-more : (at n : ℕ) (bs : List ℕ) → leads (take (at + n) bs) ≡ leads (take at bs) + leads (take n (drop at bs))
+leads-more at n bs = ap leads (take-add at n bs) ∙ leads-append (take at bs) (take n (drop at bs))
+
+pub leads-le : (bs : List ℕ) → leads bs ≤ length bs
+leads-le [] = omega arith
+leads-le (b ∷ bs) = grind (arith, cases_Bool (is_lead b), leads-le bs)
+
+-- ---- the first mark
+
+-- a mark is CR or LF, where no CR stands in front
+ending : (b : ℕ) → in_line b ≡ false → is_mark false b ≡ true
+ending b e = grind (arith, cases_Bool (b == cr), cases_Bool (b == lf), e)
+
+within_line : (b : ℕ) → in_line b ≡ true → (is_mark false b ≡ false) × ((b == cr) ≡ false)
+within_line b e = (grind (arith, cases_Bool (b == cr), cases_Bool (b == lf), e), grind (arith, cases_Bool (b == cr), e))
+
+mark_behind : (b : ℕ) (bs : List ℕ) (at : ℕ) → in_line b ≡ true → IsNthMark false bs 0 at → IsNthMark false (b ∷ bs) 0 (suc at)
+mark_behind b bs at e m =
+    let w = within_line b e in
+    record {
+      within = omega (arith, m.within);
+      before = omega (arith, ap one_if w.0, ap (λ f. marks f (take at bs)) w.1, m.before);
+      is = ap (λ f. is_mark (ends_cr f (take at bs)) (get_or bs at 0)) w.1 ∙ m.is;
+    }
+
+by_test : {A : Type 0} (b : Bool) → (b ≡ true → A) → (b ≡ false → A) → A
+by_test true p q = p refl
+by_test false p q = q refl
+
+pub first_mark : (bs : List ℕ) → prefix_len in_line bs < length bs → IsNthMark false bs 0 (prefix_len in_line bs)
+first_mark [] h = absurd (omega arith)
+first_mark (b ∷ bs) h =
+    by_test (in_line b)
+    (λ e. let more : prefix_len in_line (b ∷ bs) ≡ suc (prefix_len in_line bs) = rw e (omega arith) in
+    subst (λ at. IsNthMark false (b ∷ bs) 0 at) (sym more) (mark_behind b bs (prefix_len in_line bs) e (first_mark bs (omega (arith, h, more)))))
+    (λ e. let here : prefix_len in_line (b ∷ bs) ≡ 0 = rw e refl in
+    subst (λ at. IsNthMark false (b ∷ bs) 0 at) (sym here) (record { within = omega arith; before = refl; is = ending b e }))
+
+pub no_mark : (bs : List ℕ) → length bs ≤ prefix_len in_line bs → marks false bs ≡ 0
+no_mark [] h = refl
+no_mark (b ∷ bs) h =
+    by_test (in_line b)
+    (λ e. let more : prefix_len in_line (b ∷ bs) ≡ suc (prefix_len in_line bs) = rw e (omega arith) in
+    let w = within_line b e in
+    omega (arith, ap one_if w.0, ap (λ f. marks f bs) w.1, no_mark bs (omega (arith, h, more))))
+    (λ e. let here : prefix_len in_line (b ∷ bs) ≡ 0 = rw e refl in absurd (omega (arith, h, here)))
+
+-- ---- what was walked over
+
+-- so many bytes at the front are no mark, and so many of them begin a code point
+pub record IsWalked (bs : List ℕ) (at n : ℕ) : Type 0 where
+  pub within : at ≤ prefix_len in_line bs
+  pub counted : n ≡ leads (take at bs)
+
+module _ {bs : List ℕ} {at n : ℕ} (w : IsWalked bs at n) where
+  pub walked-within : at ≤ length bs
+  walked-within = omega (arith, w.within, prefix_len-le-length in_line bs)
+
+  pub walked-le : n ≤ length bs
+  walked-le = omega (arith, w.counted, leads-le (take at bs), length-take at bs)
+
+  pub walked-on : (k : ℕ) {r : ℕ} → at + k ≤ prefix_len in_line bs → r ≡ leads (take k (drop at bs)) → IsWalked bs (at + k) (n + r)
+  walked-on k within is = record { within = within; counted = omega (arith, w.counted, is, leads-more at k bs) }
+
+  -- a block of 32 bytes
+  module _ {ends begins front : ℕ} (room : at + 32 ≤ length bs) (e : ends ≡ mask_l (map (λ b. not (in_line b)) (take 32 (drop at bs))))
+      (l : begins ≡ mask_l (map is_lead (take 32 (drop at bs)))) (f : front ≡ first_set ends 32) where
+    run : front ≡ prefix_len in_line (take 32 (drop at bs))
+    run = run_of_block in_line bs at 32 ends front room (omega arith) e f
+
+    pub block_ends : front < 32 → at + front ≡ prefix_len in_line bs
+    block_ends h = ends_in in_line bs at 32 front w.within room run h
+
+    pub block_goes_on : 32 ≤ front → IsWalked bs (at + 32) (n + count_ones begins)
+    block_goes_on h =
+        walked-on 32 (goes_on in_line bs at 32 front w.within run h) (ones_of (map is_lead (take 32 (drop at bs))) l ∙ leads-flags (take 32 (drop at bs)))
+
+    pub block_front : {r : ℕ} → front < 32 → r ≡ flags_set (take front (map is_lead (take 32 (drop at bs)))) → IsWalked bs (at + front) (n + r)
+    block_front h is =
+        walked-on front (omega (arith, block_ends h)) (is ∙ leads-taken front (take 32 (drop at bs)) ∙ ap leads (take-take front 32 (drop at bs) (omega (arith, h))))
+
+  -- a byte
+  one : at < length bs → take 1 (drop at bs) ≡ get_or bs at 0 ∷ []
+  one h = ap (take 1) (drop_more bs at 0 h)
+
+  pub byte_goes_on : {r : ℕ} → at < length bs → true ≡ in_line (get_or bs at 0) → r ≡ one_lead (get_or bs at 0) → IsWalked bs (at + 1) (n + r)
+  byte_goes_on h e is =
+      let alone : 1 ≡ prefix_len in_line (take 1 (drop at bs)) = rw (one h, ← e) refl in
+      walked-on 1 (goes_on in_line bs at 1 1 w.within alone (omega arith)) (rw (one h) (omega (arith, is)))
+
+  pub byte_ends : at < length bs → false ≡ in_line (get_or bs at 0) → at ≡ prefix_len in_line bs
+  byte_ends h e =
+      let none : 0 ≡ prefix_len in_line (take 1 (drop at bs)) = rw (one h, ← e) refl in
+      omega (arith, ends_in in_line bs at 1 0 w.within (omega (arith, h)) none (omega arith))

@@ -1,0 +1,19 @@
+-- Bytes that begin a code point, and bytes within a line.
+use Rattle.std.specs.Prelude.{ℕ, ◌+◌, Bool, not, ◌&&◌, ◌||◌, ◌==◌, nat_lt, nat_le, List, [], ◌∷◌, if◌then◌else◌}
+use Rattle.lane_ascii.specs.Marks.{cr, lf}
+
+-- no trailing byte of UTF-8 (Unicode, table 3-7)
+abbrev pub is_lead : ℕ → Bool
+is_lead b = nat_lt b 0x80 || nat_le 0xC0 b
+
+abbrev pub one_lead : ℕ → ℕ
+one_lead b = if is_lead b then 1 else 0
+
+-- how many there are
+abbrev pub leads : List ℕ → ℕ
+leads [] = 0
+leads (b ∷ bs) = one_lead b + leads bs
+
+-- neither CR nor LF
+abbrev pub in_line : ℕ → Bool
+in_line b = not (b == cr) && not (b == lf)

@@ -1,0 +1,96 @@
+//! The first line mark, and what stands in front of it.
+ghost use Rattle.std.specs.Prelude.{◌≡◌, ◌≤◌, false, map, take, not, MatchOption};
+ghost use Rattle.std.specs.List.{prefix_len};
+ghost use Rattle.lane_ascii.specs.Leads.{in_line, is_lead, leads, one_lead};
+ghost use Rattle.lane_ascii.specs.Marks.{marks, IsNthMark};
+ghost use lib.Lanes.{mask_l};
+
+use crate::bits::{lowest_set, ones_before};
+use std::simd::prelude::*;
+
+/// A place in a text in UTF-8, and the code points in front of it.
+#[derive(Clone, Copy, PartialEq, Eq, Debug)]
+pub struct LineFront {
+    /// The index of a byte.
+    pub at: usize,
+    /// How many bytes in front of it begin a code point.
+    pub leads: usize,
+}
+
+/// Where the first line mark stands, a CR or an LF, with how many code points of a text in UTF-8
+/// begin in front of it, by one walk; none where there is no mark.
+pub fn first_line_end(bytes: &[u8]) -> Option<LineFront>
+    ensures { MatchOption result (marks false bytes.now ≤ 0)
+        (λ front. IsNthMark false bytes.now 0 front.at × (front.leads ≡ leads (take front.at bytes.now))) }
+{
+    let front = line_front(bytes);
+    if front.at < bytes.len() {
+        Some(front)
+    } else {
+        None
+    }
+}
+
+/// How many bytes at the front are no mark, and how many of these begin a code point.
+#[inline(always)]
+fn line_front(bytes: &[u8]) -> LineFront
+    ensures at { result.at ≡ prefix_len in_line bytes.now }
+    ensures leads { result.leads ≡ leads (take result.at bytes.now) }
+{
+    let mut at = 0;
+    let mut leads = 0;
+    'parts: while bytes.len() - at >= 32 {
+        let lanes = u8x32::from_slice(&bytes[at..]);
+        let begins = leads_in(lanes);
+        let front = lowest_set(ends_in(lanes), 32);
+        if front < 32 {
+            return LineFront {
+                at: at + front,
+                leads: leads + ones_before(begins, front),
+            };
+        }
+        leads += begins.count_ones() as usize;
+        at += 32;
+    }
+    'bytes: while at < bytes.len() && in_line(bytes[at]) {
+        leads += lead_of(bytes[at]);
+        at += 1;
+    }
+    LineFront { at, leads }
+}
+
+/// The lanes that are CR or LF.
+#[inline(always)]
+fn ends_in<const N: usize>(lanes: Simd<u8, N>) -> u64
+    requires { N ≤ 64 }
+    ensures { result ≡ mask_l (map (λ b. not (in_line b)) lanes.entry) }
+{
+    let ends = lanes.simd_eq(Simd::splat(b'\r')) | lanes.simd_eq(Simd::splat(b'\n'));
+    ends.to_bitmask()
+}
+
+/// The lanes that begin a code point.
+#[inline(always)]
+fn leads_in<const N: usize>(lanes: Simd<u8, N>) -> u64
+    requires { N ≤ 64 }
+    ensures { result ≡ mask_l (map is_lead lanes.entry) }
+{
+    let begins = lanes.simd_lt(Simd::splat(0x80)) | lanes.simd_ge(Simd::splat(0xC0));
+    begins.to_bitmask()
+}
+
+/// Whether a byte is neither CR nor LF.
+#[inline(always)]
+fn in_line(byte: u8) -> bool
+    ensures { result ≡ in_line byte }
+{
+    byte != b'\r' && byte != b'\n'
+}
+
+/// 1 where a byte begins a code point, and 0 elsewhere.
+#[inline(always)]
+fn lead_of(byte: u8) -> usize
+    ensures { result ≡ one_lead byte }
+{
+    if byte < 0x80 || byte >= 0xC0 { 1 } else { 0 }
+}

@@ -1,0 +1,34 @@
+use Rattle.std.proofs.Common.{◌+◌, ◌∙◌, ap, ap₂, arith, drop, drop-drop, length-take, sym, take, take-add, ◌++◌}
+use Rattle.lane_utf.specs.Weights.{begins_code_point, scalar_weight}
+use Rattle.lane_utf.specs.Widths.{total_width}
+use Rattle.lane_utf.proofs.Measures.{ones-le, sum-total}
+use Rattle.lane_utf.proofs.UnitSums.{total-append}
+use Rattle.lane_utf.proofs.counts.scalars_in_128.Goals as goal
+use lib.Lanes.{sum_l}
+
+-- in each of 64 bytes one begins at most
+pub sum_of_lanes-requires : goal.sum_of_lanes-requires
+sum_of_lanes-requires c =
+    let bytes = c.args.bytes.now in
+    let low = take 64 (drop c.args.at bytes) in
+    let high = take 64 (drop (c.args.at + 64) bytes) in
+    omega (
+      arith,
+      ap sum_l c.scalar_ones.ensures ∙ sum-total scalar_weight low,
+      ap sum_l c.scalar_ones-2.ensures ∙ sum-total scalar_weight high,
+      ones-le begins_code_point low,
+      ones-le begins_code_point high,
+      length-take 64 (drop c.args.at bytes),
+      length-take 64 (drop (c.args.at + 64) bytes),
+    )
+
+pub returns : goal.returns
+returns c =
+    let bytes = c.args.bytes.now in
+    let behind = drop c.args.at bytes in
+    let low = take 64 behind in
+    let high = take 64 (drop (c.args.at + 64) bytes) in
+    c.sum_of_lanes.ensures
+    ∙ ap₂ (λ a b. a + b) (ap sum_l c.scalar_ones.ensures ∙ sum-total scalar_weight low) (ap sum_l c.scalar_ones-2.ensures ∙ sum-total scalar_weight high)
+    ∙ sym (total-append scalar_weight low high)
+    ∙ ap (total_width scalar_weight) (ap (λ xs. low ++ take 64 xs) (sym (drop-drop 64 c.args.at bytes)) ∙ sym (take-add 64 64 behind))
