@@ -1,11 +1,16 @@
 """The program as it was built, crates/gate/out/gate, or the one that the variable GATE names; and how the tests here play commands on it."""
 import os
 import pathlib
+import resource
 import subprocess
 import unittest
 
 TOP = pathlib.Path(__file__).resolve().parent.parent
 PROGRAM = os.environ.get("GATE", str(TOP / "crates" / "gate" / "out" / "gate"))
+
+# How many bytes of stack Linux gives a process at its start. It may refuse more where memory has run out, which ends the
+# process by a signal; so the program has to do with these.
+STACK = 128 * 1024
 
 # The words by which the program serves the standard streams over small index files.
 SMALL = ("stdio", "--indexes", str(TOP / "examples" / "indexes"))
@@ -18,14 +23,25 @@ def cut(line):
     return line if len(line) <= 400 else f"{line[:200]} .. {line[-200:]}"
 
 
+def with_first_stack():
+    """What a process does before it becomes the program, so that its stack doesn't grow."""
+    resource.setrlimit(resource.RLIMIT_STACK, (STACK, STACK))
+
+
 class Played(unittest.TestCase):
     """Tests by what the program replies."""
 
     def plays(self, rows, *words):
-        """The program, started anew, answers the commands as listed, to the byte. A row is a command and its reply,
-        neither with its LF."""
+        """The program, started anew, answers the commands as listed, to the byte, on the stack that it has at its start. A
+        row is a command and its reply, neither with its LF."""
         lines = "".join(command + "\n" for command, _ in rows)
-        ran = subprocess.run([PROGRAM, *(words or SMALL)], input=lines.encode(), stdout=subprocess.PIPE, stderr=subprocess.PIPE)
+        ran = subprocess.run(
+            [PROGRAM, *(words or SMALL)],
+            input=lines.encode(),
+            stdout=subprocess.PIPE,
+            stderr=subprocess.PIPE,
+            preexec_fn=with_first_stack,
+        )
         self.assertEqual((ran.returncode, ran.stderr), (0, b""))
         *replies, rest = ran.stdout.decode().split("\n")
         for (command, wanted), reply in zip(rows, replies):

@@ -8,7 +8,7 @@ import subprocess
 import tempfile
 import unittest
 
-from program import PROGRAM, built
+from program import PROGRAM, Played, built
 
 # By how many bytes of addresses each limit is greater than the one before.
 STEP = 16 * 1024
@@ -50,7 +50,7 @@ def limited(limit):
 
 
 @built
-class Memory(unittest.TestCase):
+class Memory(Played):
     def setUp(self):
         folder = tempfile.TemporaryDirectory()
         self.addCleanup(folder.cleanup)
@@ -59,6 +59,7 @@ class Memory(unittest.TestCase):
             (self.folder / f"index-{name}.txt").write_text(rows)
         (self.folder / "gb18030-exceptions.txt").write_text(EXCEPTIONS)
         (self.folder / "labels.json").write_text(json.dumps(LABELS))
+        self.words = ["stdio", "--indexes", str(self.folder), "--labels", str(self.folder / "labels.json")]
 
     def ends(self, limit, *words, lines=""):
         """How the program ends under a limit: its status and texts."""
@@ -74,13 +75,15 @@ class Memory(unittest.TestCase):
                 return number * STEP
         self.fail("the program doesn't start")
 
+    def test_files_loaded_on_the_first_stack(self):
+        self.plays(SESSION, *self.words)
+
     def test_files_that_cannot_be_loaded(self):
-        words = ["stdio", "--indexes", str(self.folder), "--labels", str(self.folder / "labels.json")]
         lines = "".join(command + "\n" for command, _ in SESSION)
         replies = [reply for _, reply in SESSION]
         refused, served, least = 0, 0, self.least()
         for number in range(LIMITS):
-            ended = self.ends(least + number * STEP, *words, lines=lines)
+            ended = self.ends(least + number * STEP, *self.words, lines=lines)
             if ended == OUT_OF_MEMORY:
                 refused += 1
                 continue

@@ -42,28 +42,81 @@ fn attempt<'a, T: Files + Net<Listener = TcpListener, Stream = TcpStream>, R: Fe
     input: &mut R,
     output: &mut W,
 ) -> Result<(), Failure<'a>> {
-    match job_of(alloc, words) {
-        Ok(Job::Plain) => {
-            let labels = names(alloc)?;
-            serve_stdio(alloc, &Indexes::new(), labels, input, output)
-        }
-        Ok(Job::Stdio(sources)) => {
-            let (indexes, labels) = files_of(rt, alloc, sources)?;
-            serve_stdio(alloc, &indexes, labels, input, output)
-        }
-        Ok(Job::Trace(sources)) => {
-            let (indexes, labels) = files_of(rt, alloc, sources)?;
-            replay(alloc, &indexes, labels, input, output)
-        }
-        Ok(Job::Tcp(sources, listening)) => {
-            let (indexes, labels) = files_of(rt, alloc, sources)?;
-            listen(rt, alloc, &indexes, labels, listening)
-        }
-        Err(error) => refused(error, output),
+    let job = match job_of(alloc, words) {
+        Ok(job) => job,
+        Err(error) => return refused(error, output),
+    };
+    match job {
+        Job::Plain => serve_plain(alloc, input, output)?,
+        Job::Stdio(sources) => serve_input(rt, alloc, sources, input, output)?,
+        Job::Trace(sources) => replay_input(rt, alloc, sources, input, output)?,
+        Job::Tcp(sources, listening) => listen(rt, alloc, sources, listening)?,
+    }
+    Ok(())
+}
+
+// What holds index files has a frame of its own. One for all of them, with those of the calls in it, would be more than the
+// 128 KiB of stack that a process is given at its start; more may be refused where memory has run out.
+
+/// Serves the standard streams with the names as labels and without index files.
+#[inline(never)]
+fn serve_plain<'a, R: Feed, W: Outlet>(
+    alloc: Global,
+    input: &mut R,
+    output: &mut W,
+) -> Result<(), Failure<'a>> {
+    let labels = names(alloc)?;
+    serve_stdio(alloc, &Indexes::new(), labels, input, output)
+}
+
+/// Serves the standard streams over the files that are named.
+#[inline(never)]
+fn serve_input<'a, T: Files, R: Feed, W: Outlet>(
+    rt: &T,
+    alloc: Global,
+    sources: Sources<'a>,
+    input: &mut R,
+    output: &mut W,
+) -> Result<(), Failure<'a>> {
+    let (indexes, labels) = files_of(rt, alloc, sources)?;
+    serve_stdio(alloc, &indexes, labels, input, output)
+}
+
+/// Plays a trace over the files that are named.
+#[inline(never)]
+fn replay_input<'a, T: Files, R: Feed, W: Outlet>(
+    rt: &T,
+    alloc: Global,
+    sources: Sources<'a>,
+    input: &mut R,
+    output: &mut W,
+) -> Result<(), Failure<'a>> {
+    let (indexes, labels) = files_of(rt, alloc, sources)?;
+    replay(alloc, &indexes, labels, input, output)
+}
+
+/// Listens on a port of 127.0.0.1, and serves connections over the files that are named, from no
+/// document on.
+#[inline(never)]
+fn listen<'a, T: Files + Net<Listener = TcpListener, Stream = TcpStream>>(
+    rt: &T,
+    alloc: Global,
+    sources: Sources<'a>,
+    listening: Listening,
+) -> Result<(), Failure<'a>> {
+    let (indexes, labels) = files_of(rt, alloc, sources)?;
+    let mut gateway = beginning(alloc, &indexes, labels);
+    let Ok(listener) = TcpListener::bind(rt, ("127.0.0.1", listening.port)) else {
+        return Err(Failure::CannotListen(listening.port));
+    };
+    match serve(&listener, &mut gateway, listening.connections) {
+        Ok(()) => Ok(()),
+        Err(ServeFault::Accept) => Err(Failure::Accept),
     }
 }
 
 /// The index files, and then the labels of the label file, or the names where there is none.
+#[inline(never)]
 fn files_of<'a, T: Files>(
     rt: &T,
     alloc: Global,
@@ -75,24 +128,6 @@ fn files_of<'a, T: Files>(
         None => names(alloc)?,
     };
     Ok((indexes, labels))
-}
-
-/// Listens on a port of 127.0.0.1, and serves connections, from no document on.
-fn listen<'a, T: Net<Listener = TcpListener, Stream = TcpStream>>(
-    rt: &T,
-    alloc: Global,
-    indexes: &Indexes,
-    labels: Labels,
-    listening: Listening,
-) -> Result<(), Failure<'a>> {
-    let mut gateway = beginning(alloc, indexes, labels);
-    let Ok(listener) = TcpListener::bind(rt, ("127.0.0.1", listening.port)) else {
-        return Err(Failure::CannotListen(listening.port));
-    };
-    match serve(&listener, &mut gateway, listening.connections) {
-        Ok(()) => Ok(()),
-        Err(ServeFault::Accept) => Err(Failure::Accept),
-    }
 }
 
 /// Help is printed to the output; every other error of the command line is a failure.
