@@ -1,5 +1,5 @@
 -- Walks over runs.
-use Rattle.std.proofs.Common.{◌≡◌, refl, sym, ap, subst, ◌∙◌, ℕ, zero, suc, ◌+◌, ◌-◌, ◌*◌, ◌/◌, ◌<◌, ◌≤◌, List, [], ◌∷◌, ◌++◌, length, length-append, arith, ℤ, pos, ◌+ℤ◌, ◌-ℤ◌, Bool, true, false, cond, Option, Some, None, nat_lt, drop, inl, inr, get_or, slice_get, append-nil, option_map}
+use Rattle.std.proofs.Common.{◌≡◌, refl, sym, ap, ◌∙◌, ℕ, zero, suc, ◌+◌, ◌-◌, ◌*◌, ◌/◌, ◌<◌, ◌≤◌, List, [], ◌∷◌, ◌++◌, length, length-append, arith, ℤ, pos, ◌+ℤ◌, ◌-ℤ◌, Bool, true, false, cond, Option, Some, None, nat_lt, drop, inl, inr, get_or, slice_get, append-nil, option_map}
 use Rattle.std.proofs.lemmas.List.{at_drop_more}
 use Rattle.std.proofs.lemmas.Nat.{mul-le}
 use Rattle.std.proofs.Math.Nat.{div-mul-le_self, mod-add-div', mod-lt}
@@ -68,12 +68,16 @@ before-past kind step limit last (suc n) (suc p) h =
     } in
     omega (arith, before-append limit (items_until kind step (last -ℤ pos step) n) (item_of_kind kind last ∷ []), before-past kind step limit (last -ℤ pos step) n p next, cond-false (le_z last limit) (scalars_of kind) 0 last_far, ap (λ (k : ℕ). k * (scalars_of kind)) rest)
 
--- all end behind the limit, where they end at one place
-pub before-none : (kind : ItemKind) (step : ℕ) (limit last : ℤ) (n : ℕ) → step ≡ 0 → le_z last limit ≡ false → scalars_before limit (items_until kind step last n) ≡ 0
-before-none kind step limit last zero z e = refl
-before-none kind step limit last (suc n) z e =
-    let same : last -ℤ pos step ≡ last = omega (arith, ints, z) in
-    omega (arith, before-append limit (items_until kind step (last -ℤ pos step) n) (item_of_kind kind last ∷ []), ap (λ (l : ℤ). scalars_before limit (items_until kind step l n)) same ∙ before-none kind step limit last n z e, cond-false (le_z last limit) (scalars_of kind) 0 e)
+-- all end behind the limit, as the first of them does
+pub before-far : (kind : ItemKind) (step : ℕ) (limit last : ℤ) (rest gap : ℕ) → last ≡ limit +ℤ pos gap → rest * step < gap → scalars_before limit (items_until kind step last (suc rest)) ≡ 0
+before-far kind step limit last zero gap e h =
+    let behind : le_z last limit ≡ false = grind (arith, ints, e, h) in
+    omega (arith, cond-false (le_z last limit) (scalars_of kind) 0 behind)
+before-far kind step limit last (suc rest) gap e h =
+    let behind : le_z last limit ≡ false = grind (arith, ints, e, h) in
+    let m : suc rest * step ≡ rest * step + step = more rest step in
+    let near : last -ℤ pos step ≡ limit +ℤ pos (gap - step) = omega (arith, ints, e, h, m) in
+    omega (arith, before-append limit (items_until kind step (last -ℤ pos step) (suc rest)) (item_of_kind kind last ∷ []), before-far kind step limit (last -ℤ pos step) rest (gap - step) near (omega (arith, h, m)), cond-false (le_z last limit) (scalars_of kind) 0 behind)
 
 pub before-gap : (kind : ItemKind) (step : ℕ) (limit last : ℤ) (n gap p : ℕ) → last ≡ limit +ℤ pos gap → gap ≤ p * step → ((q : ℕ) → p ≡ suc q → q * step < gap) → scalars_before limit (items_until kind step last n) ≡ (n - p) * (scalars_of kind)
 before-gap kind step limit last n gap p e near far =
@@ -158,17 +162,15 @@ run-no-errors r e = let none : suc r.more * one_if (error_of r.kind) ≡ 0 = rw 
 some-scalars : (kind : ItemKind) → 0 < scalars_of kind
 some-scalars kind = grind arith
 
-pub found-in : (r : Run) (n s : ℕ) → s ≡ scalars_of r.kind → n / s ≤ r.more → item_of (items_of_run r) n ≡ Some (n / s)
+pub found-in : (r : Run) (n s : ℕ) → s ≡ scalars_of r.kind → n < all_scalars (items_of_run r) → item_of (items_of_run r) n ≡ Some (n / s)
 found-in r n s e h =
-    let h2 : n / scalars_of r.kind ≤ r.more = subst (λ (k : ℕ). n / k ≤ r.more) e h in
-    let q = quotient n (scalars_of r.kind) (some-scalars r.kind) in
-    run-item r.kind r.step r.last (suc r.more) n (n / scalars_of r.kind) (omega (arith, h2)) q.0 q.1 ∙ ap (λ (k : ℕ). Some (n / k)) (sym e)
-
-pub not-in : (r : Run) (n s : ℕ) → s ≡ scalars_of r.kind → r.more < n / s → all_scalars (items_of_run r) ≤ n
-not-in r n s e h =
-    let q = quotient n (scalars_of r.kind) (some-scalars r.kind) in
-    let h2 : r.more < n / scalars_of r.kind = subst (λ (k : ℕ). r.more < n / k) e h in
-    omega (arith, scalars-until r.kind r.step r.last (suc r.more), mul-le (suc r.more) (scalars_of r.kind) (n / scalars_of r.kind) (scalars_of r.kind) (omega (arith, h2)) (omega arith), q.0)
+    let width = scalars_of r.kind in
+    let q = quotient n width (some-scalars r.kind) in
+    let within : n / width < suc r.more = elim (cases_lt (n / width) (suc r.more)) [
+      | inl l ↦ l
+      | inr g ↦ absurd (omega (arith, h, scalars-until r.kind r.step r.last (suc r.more), mul-le (suc r.more) width (n / width) width g (omega arith), q.0))
+    ] in
+    run-item r.kind r.step r.last (suc r.more) n (n / width) within q.0 q.1 ∙ ap (λ (k : ℕ). Some (n / k)) (sym e)
 
 -- ---- over all runs
 

@@ -62,14 +62,14 @@ impl Gathering {
         }
     }
 
-    /// Takes an item. Its end is kept in 32 bits: one that no piece comes to is refused.
+    /// Takes an item. Its end is kept in 16 bits: one that no piece comes to is refused.
     // In the loop over the bytes.
     #[inline(always)]
     fn take(&mut self, item: Item, end: i64, output: OutputState) -> Result<(), OutOfMemory>
         ensures ok { OnOk result (self.new ≡ with_item self.old item end output) }
         ensures err { OnErr result (self.new ≡ self.old) }
     {
-        let Ok(last) = i32::try_from(end) else {
+        let Ok(last) = i16::try_from(end) else {
             return Err(AllocError);
         };
         let (counted, kept, written) = (item, item, item);
@@ -109,12 +109,12 @@ impl Gathering {
         &mut self,
         text: &str,
         count: usize,
-        from: i32,
+        from: i16,
         stride: Stride,
         output: OutputState,
     ) -> Result<(), OutOfMemory>
         requires count { count ≡ length (chars text.now) }
-        requires fits { (from +ℤ pos (run_width stride (chars text.now))) <ℤ pos (2 ^ 31) }
+        requires fits { (from +ℤ pos (run_width stride (chars text.now))) <ℤ pos (2 ^ 15) }
         ensures ok { OnOk result (self.new ≡ with_more self.old (chars text.now) (plain_items_from stride from output (chars text.now))) }
         ensures err { OnErr result (self.new ≡ self.old) }
     {

@@ -93,9 +93,9 @@ impl OpenRuns {
 
     /// Takes the items that are the code points of a text, for which there is room, in one walk
     /// over it.
-    pub(crate) fn put_plain(&mut self, text: &str, from: i32, stride: Stride, output: OutputState)
+    pub(crate) fn put_plain(&mut self, text: &str, from: i16, stride: Stride, output: OutputState)
         requires room { vec_len self.old.closed + length (chars text.now) ≤ vec_capacity self.old.closed }
-        requires fits { (from +ℤ pos (run_width stride (chars text.now))) <ℤ pos (2 ^ 31) }
+        requires fits { (from +ℤ pos (run_width stride (chars text.now))) <ℤ pos (2 ^ 15) }
         ensures { items_under_way self.new.closed.items self.new.last ≡ items_under_way self.old.closed.items self.old.last ++ plain_items_from stride from output (chars text.now) }
     {
         let bytes = text.as_bytes();

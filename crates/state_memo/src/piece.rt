@@ -107,7 +107,8 @@ impl Piece {
         }
     }
 
-    /// What the piece decodes to from a state. The meter counts the piece's bytes.
+    /// What the piece decodes to from a state. The meter counts the piece's bytes. Ends of items are kept in 16 bits: one past
+    /// 32,767, which no piece of a rope comes to, is refused as memory that runs out is.
     pub fn compute(
         &self,
         decoder: &AnyDecoder<'_>,

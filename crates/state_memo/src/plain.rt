@@ -36,7 +36,7 @@ pub(crate) fn even_run(
         → IfSome result (λ run. items_of_run run ≡ plain_items stride end output cs) }
 {
     let step = even_width(count, width, stride)?;
-    let last = i32::try_from(end).ok()?;
+    let last = i16::try_from(end).ok()?;
     let more = u16::try_from(count.checked_sub(1)?).ok()?;
     Some(Run {
         last,
@@ -72,12 +72,12 @@ fn is_twice(number: usize, half: usize) -> bool
 }
 
 /// Where the first of the items begins that have so many bytes together.
-pub(crate) fn first_place(width: usize, end: i64) -> Option<i32>
+pub(crate) fn first_place(width: usize, end: i64) -> Option<i16>
     ensures from { IfSome result (λ from. from ≡ end -ℤ pos width) }
-    ensures fits { IfSome result (λ from. (from +ℤ pos width) <ℤ pos (2 ^ 31)) }
+    ensures fits { IfSome result (λ from. (from +ℤ pos width) <ℤ pos (2 ^ 15)) }
 {
-    let last = i32::try_from(end).ok()?;
-    let width = i32::try_from(width).ok()?;
+    let last = i16::try_from(end).ok()?;
+    let width = i16::try_from(width).ok()?;
     last.checked_sub(width)
 }
 

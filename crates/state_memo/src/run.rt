@@ -10,7 +10,7 @@ use crate::kind::ItemKind;
 #[derive(Clone, Copy, PartialEq, Eq, Debug)]
 pub struct Run {
     /// The end of the last one.
-    pub last: i32,
+    pub last: i16,
     /// How many stand before the last one.
     pub more: u16,
     /// How many bytes lie between two ends.
@@ -22,21 +22,21 @@ pub struct Run {
 /// The end of an item so long behind one that ends there.
 // In the loop over the bytes.
 #[inline(always)]
-pub(crate) fn end_behind(last: i32, width: u8) -> i32
-    requires { (last +ℤ pos width) <ℤ pos (2 ^ 31) }
+pub(crate) fn end_behind(last: i16, width: u8) -> i16
+    requires { (last +ℤ pos width) <ℤ pos (2 ^ 15) }
     ensures { result ≡ last +ℤ pos width }
 {
-    last + i32::from(width)
+    last + i16::from(width)
 }
 
 /// The end of the last of so many items so long each, behind one that ends there.
 // In the loop over the bytes.
 #[inline(always)]
-pub(crate) fn end_behind_all(last: i32, count: u16, width: u8) -> i32
-    requires { (last +ℤ pos (count * width)) <ℤ pos (2 ^ 31) }
+pub(crate) fn end_behind_all(last: i16, count: u16, width: u8) -> i16
+    requires { (last +ℤ pos (count * width)) <ℤ pos (2 ^ 15) }
     ensures { result ≡ last +ℤ pos (count * width) }
 {
-    last + i32::from(count) * i32::from(width)
+    (i32::from(last) + i32::from(count) * i32::from(width)) as i16
 }
 
 /// Whether an item so long goes on with a run: with any where one item stands, since the next says
@@ -54,7 +54,7 @@ impl Run {
     /// One item.
     // In the loop over the bytes.
     #[inline(always)]
-    pub(crate) fn one(kind: ItemKind, last: i32) -> Run
+    pub(crate) fn one(kind: ItemKind, last: i16) -> Run
         ensures items { items_of_run result ≡ item_of_kind kind last ∷ [] }
         ensures last { result.last ≡ last }
         ensures kind { result.kind ≡ kind }
@@ -185,10 +185,13 @@ impl Run {
         if last <= limit {
             return 0;
         }
-        if self.step == 0 {
-            return u64::from(self.more) + 1;
+        let gap = last.abs_diff(limit);
+        let (more, step) = (u64::from(self.more), u64::from(self.step));
+        // Mostly all do, and a division is slow.
+        if more * step < gap {
+            return more + 1;
         }
-        (last.abs_diff(limit) - 1) / u64::from(self.step) + 1
+        (gap - 1) / step + 1
     }
 
     /// How many code points stand in items that end at or before a place.
@@ -204,11 +207,11 @@ impl Run {
         ensures some { IfSome result (λ k. item_of (items_of_run self) n ≡ Some k) }
         ensures none { IfNone result (all_scalars (items_of_run self) ≤ n) }
     {
-        let k = n / u64::from(self.kind.scalars());
-        if k <= u64::from(self.more) {
-            Some(k)
-        } else {
-            None
+        let (run, kind) = (self, self.kind);
+        // Mostly there aren't, and a division is slow.
+        if run.scalars() <= n {
+            return None;
         }
+        Some(n / u64::from(kind.scalars()))
     }
 }

@@ -1,4 +1,4 @@
-use Rattle.std.proofs.Common.{◌≡◌, ◌∙◌, ap, sym, ℕ, ℤ, List, pos, ◌-ℤ◌, rules, to_z, of_z, w32, w64}
+use Rattle.std.proofs.Common.{◌≡◌, ◌∙◌, ap, sym, ℕ, ℤ, List, pos, ◌-ℤ◌, rules, to_z, of_z, w16, w64}
 use Rattle.state_memo.proofs.Prelude.{chars, to_z-of_z, run_width, OutputState, Ended, with_more, plain_items, plain_items_from}
 use Rattle.state_memo.proofs.CodePoints.{fold-plain}
 use Rattle.state_memo.proofs.gathering.GatheringSink.plain.Goals as goal
@@ -16,7 +16,7 @@ pub returns-clause-ok : goal.returns-clause-ok
 returns-clause-ok g c =
     let text = chars c.args.text.now in
     let end : to_z w64 (of_z w64 c.args.end) ≡ c.args.end = to_z-of_z {w = w64} c.ranges.end in
-    let fits : to_z w32 (of_z w32 c.in-Some-first_place.from) ≡ c.in-Some-first_place.from = search rules in
+    let fits : to_z w16 (of_z w16 c.in-Some-first_place.from) ≡ c.in-Some-first_place.from = search rules in
     let from : c.in-Some-first_place.from ≡ c.args.end -ℤ pos (run_width c.args.stride text) = c.in-Some-first_place.ensures.from ∙ ap (λ (l : ℤ). l -ℤ pos c.args.width) end ∙ ap (λ (n : ℕ). c.args.end -ℤ pos n) c.requires in
     c.in_ok-take_runs.ensures.ok
     ∙ ap (λ (z : ℤ). with_more c.args.self.now text (plain_items_from c.args.stride z c.output_state-output.result text)) (fits ∙ from)
