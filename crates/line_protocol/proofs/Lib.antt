@@ -1,5 +1,6 @@
 pub mod ChangeLists
 mod DroppedLines
+mod Listing
 mod MemoryReplies
 pub mod Merging
 mod PlainText

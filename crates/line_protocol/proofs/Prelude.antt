@@ -13,12 +13,11 @@ pub use Rattle.desk.specs.declared.ops.Reply.TheVariants.{Edited, Change, Change
 pub use Rattle.json.specs.Print.{escape, quoted}
 unfoldable pub use Rattle.json.specs.Print.{escape_byte}
 pub use Rattle.serde_json.specs.Data.{Members, no_members, member, Data}
-pub use Rattle.serde_json.specs.Events.{items_len, SendsValue, SendsItems}
+pub use Rattle.serde_json.specs.Events.{items_len, SendsValue}
 pub use Rattle.serde_json.specs.View.{view, items_view}
-pub use Rattle.serde_json.specs.Written.{has_float, items_have_float}
+pub use Rattle.serde_json.specs.Written.{has_float}
 pub use Rattle.serde_json.specs.declared.value.Value.{Value}
-pub use Rattle.line_protocol.specs.Replies.{memory_text, reply_text, merged, line_of, items_of, refusal_text, base64_data, diagnostics_data}
-pub use Rattle.line_protocol.specs.Replies.{diagnostic_data, errors_data, place_data, lines_data, line_data, plan_texts, text_data}
+pub use Rattle.line_protocol.specs.Replies.{memory_text, reply_text, merged, line_of, items_of, refusal_text, base64_data, plan_texts, text_data}
 pub use Rattle.line_protocol.specs.Request.{◌>>=◌, as_change, as_changes, request_of_line, json_of_line, request_of, IsJsonOfLine, IsRequest}
 pub use Rattle.line_protocol.specs.Step.{ran_out, line_limit, too_long_text, LineStep, IsStep, taken, step_by, step_of, answered}
 unfoldable pub use Rattle.line_protocol.specs.Step.{Replies}

@@ -1,7 +1,9 @@
 -- How the code writes a reply line. Nothing here has to be believed.
-use Rattle.std.specs.Prelude.{ℕ, suc, ◌&&◌, ◌||◌, ◌==◌, Bool, true, not, nat_lt, List, [], ◌∷◌, ◌+◌, length, ◌≡◌, ◌++◌, Some}
+use Rattle.std.specs.Prelude.{ℕ, suc, ◌&&◌, ◌||◌, ◌==◌, Bool, true, not, nat_lt, List, [], ◌∷◌, ◌+◌, ◌*◌, length, ◌≡◌, ◌++◌, Some}
 use denote.Ref.{Bor}
+use Rattle.json.specs.Print.{quoted}
 use Rattle.serde_json.specs.Data.{Data, null, string, Members, no_members, member}
+use Rattle.serde_json.specs.Written.{comma_if, compact_text}
 use Rattle.line_protocol.specs.Replies.{whole, place_data, merged, Reason}
 use Rattle.line_protocol.specs.declared.reply_line.reasons.Reason.{Reason as WrittenReason}
 use Rattle.line_protocol.specs.declared.reply_line.reasons.More.{More}
@@ -51,8 +53,23 @@ abbrev pub are_plain : MemberList → Bool
 are_plain [] = true
 are_plain (m ∷ ms) = all_plain m.0.now && content_is_plain m.1 && are_plain ms
 
--- the most bytes of the name of a field and of that of an encoding; of a number of 64 bits and of 32, of a place, which is two numbers in
--- brackets, and of `null`
+-- members in front of others
+abbrev pub followed : MemberList → Members → Members
+followed [] more = more
+followed (m ∷ ms) more = member m.0.now (content_data m.1) (followed ms more)
+
+-- the text of members in front of others, with a comma before each, but before the first where nothing stands before it
+abbrev pub front_text : Bool → MemberList → List ℕ
+front_text later [] = []
+front_text later (m ∷ ms) = (comma_if later ++ (quoted m.0.now ++ 58 ∷ compact_text (content_data m.1))) ++ front_text true ms
+
+-- whether something stands before what follows them
+abbrev pub is_later : Bool → MemberList → Bool
+is_later later [] = later
+is_later later (m ∷ ms) = true
+
+-- the most bytes of the name of a field and of that of an encoding; of a number of 64 bits and of 32, of a list of numbers, of a place, which
+-- is two of them, and of `null`
 abbrev pub name_room : ℕ
 name_room = 20
 
@@ -65,8 +82,15 @@ number_room = 20
 abbrev pub small_room : ℕ
 small_room = 10
 
+abbrev pub numbers_room : List ℕ → ℕ
+numbers_room ns = 2 + 21 * length ns
+
 abbrev pub place_room : ℕ
-place_room = 43
+place_room = 44
+
+-- of an entry of a list, which is six numbers at most
+abbrev pub entry_room : ℕ
+entry_room = 128
 
 abbrev pub null_room : ℕ
 null_room = 4

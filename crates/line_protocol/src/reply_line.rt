@@ -1,6 +1,6 @@
 //! Reply lines: an object of JSON and a line end.
 
-mod entries;
+mod lists;
 mod long;
 mod members;
 mod reasons;

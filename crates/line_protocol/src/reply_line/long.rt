@@ -1,14 +1,14 @@
-//! The replies that hold a text or a list. They are written straight from what they hold.
+//! The replies that hold a text, and which those are that hold a list. Texts are written straight from what holds them.
 ghost use Rattle.std.specs.Prelude.{◌≡◌, false, IfOk};
 ghost use Rattle.serde_json.specs.Events.{SendsValue};
 ghost use Rattle.line_protocol.specs.Writing.{IsLineOf};
 ghost use Rattle.line_protocol.specs.Inline.{is_short};
-ghost use Rattle.line_protocol.specs.Replies.{line_of, reply_text, text_data, base64_data, bytes_data, plan_data, plan_texts, errors_data, diagnostics_data, lines_data};
+ghost use Rattle.line_protocol.specs.Replies.{line_of, reply_text, text_data, base64_data, bytes_data, plan_data, plan_texts};
 
-use crate::reply_line::entries::send_list;
+use crate::reply_line::lists::{diagnostics, errors, lines};
 use crate::reply_line::sent_members::{send_number, send_text};
 use base64::engine::general_purpose::STANDARD;
-use desk::ops::{DiagnosticsReply, ErrorsReply, LinesReply, PlanReply, TextReply};
+use desk::ops::{PlanReply, TextReply};
 use desk::{BytesReply, Reply};
 use serde::{Described, Serialize, Serializer};
 use std::alloc::{AllocError, Global};
@@ -33,7 +33,7 @@ pub(super) fn line_of(alloc: Global, id: u64, reply: &Reply) -> Result<Vec<u8>, 
 fn text(alloc: Global, id: u64, reply: &TextReply) -> Result<Vec<u8>, AllocError>
     ensures { IfOk result (λ line. line.items ≡ line_of (text_data id reply.now)) }
 {
-    line(alloc, &WithId { id, reply })
+    line(alloc, &NumberedText { id, reply })
 }
 
 /// The line with the bytes that were asked for, in base64.
@@ -61,27 +61,6 @@ fn plan(alloc: Global, id: u64, reply: &PlanReply) -> Result<Vec<u8>, AllocError
     line(alloc, &texts)
 }
 
-/// The line with a page of error places.
-fn errors(alloc: Global, id: u64, reply: &ErrorsReply) -> Result<Vec<u8>, AllocError>
-    ensures { IfOk result (λ line. line.items ≡ line_of (errors_data id reply.now)) }
-{
-    line(alloc, &WithId { id, reply })
-}
-
-/// The line with a page of errors with their positions.
-fn diagnostics(alloc: Global, id: u64, reply: &DiagnosticsReply) -> Result<Vec<u8>, AllocError>
-    ensures { IfOk result (λ line. line.items ≡ line_of (diagnostics_data id reply.now)) }
-{
-    line(alloc, &WithId { id, reply })
-}
-
-/// The line with a page of lines.
-fn lines(alloc: Global, id: u64, reply: &LinesReply) -> Result<Vec<u8>, AllocError>
-    ensures { IfOk result (λ line. line.items ≡ line_of (lines_data id reply.now)) }
-{
-    line(alloc, &WithId { id, reply })
-}
-
 /// Writes a reply on a line of its own. It fails only where memory runs out: no key, number or text
 /// is refused.
 fn line<T: Serialize>(alloc: Global, reply: &T) -> Result<Vec<u8>, AllocError>
@@ -94,18 +73,18 @@ fn line<T: Serialize>(alloc: Global, reply: &T) -> Result<Vec<u8>, AllocError>
     Ok(line)
 }
 
-/// A reply, with the number of its request.
+/// The reply to `text`.
 #[derive(Clone, Copy)]
-struct WithId<'a, T> {
+struct NumberedText<'a> {
     id: u64,
-    reply: &'a T,
+    reply: &'a TextReply,
 }
 
-impl Described for WithId<'_, TextReply> {
+impl Described for NumberedText<'_> {
     ghost writes = { λ n. SendsValue (text_data n.id n.reply.now) };
 }
 
-impl Serialize for WithId<'_, TextReply> {
+impl Serialize for NumberedText<'_> {
     fn serialize<S: Serializer>(&self, out: &mut S) -> Result<(), S::Error> {
         out.begin_map(Some(3))?;
         send_number(out, "id", self.id)?;
@@ -163,54 +142,6 @@ impl Serialize for PlanTexts<'_> {
         out.key("kept")?;
         out.bool(self.reply.kept)?;
         send_text(out, "old", self.old)?;
-        send_number(out, "rev", self.reply.rev)?;
-        out.end_map()
-    }
-}
-
-impl Described for WithId<'_, ErrorsReply> {
-    ghost writes = { λ n. SendsValue (errors_data n.id n.reply.now) };
-}
-
-impl Serialize for WithId<'_, ErrorsReply> {
-    fn serialize<S: Serializer>(&self, out: &mut S) -> Result<(), S::Error> {
-        out.begin_map(Some(4))?;
-        out.key("errors")?;
-        send_list(self.reply.places.as_slice(), out)?;
-        send_number(out, "id", self.id)?;
-        send_number(out, "rev", self.reply.rev)?;
-        send_number(out, "total", self.reply.total)?;
-        out.end_map()
-    }
-}
-
-impl Described for WithId<'_, DiagnosticsReply> {
-    ghost writes = { λ n. SendsValue (diagnostics_data n.id n.reply.now) };
-}
-
-impl Serialize for WithId<'_, DiagnosticsReply> {
-    fn serialize<S: Serializer>(&self, out: &mut S) -> Result<(), S::Error> {
-        out.begin_map(Some(4))?;
-        out.key("diagnostics")?;
-        send_list(self.reply.diagnostics.as_slice(), out)?;
-        send_number(out, "id", self.id)?;
-        send_number(out, "rev", self.reply.rev)?;
-        send_number(out, "total", self.reply.total)?;
-        out.end_map()
-    }
-}
-
-impl Described for WithId<'_, LinesReply> {
-    ghost writes = { λ n. SendsValue (lines_data n.id n.reply.now) };
-}
-
-impl Serialize for WithId<'_, LinesReply> {
-    fn serialize<S: Serializer>(&self, out: &mut S) -> Result<(), S::Error> {
-        out.begin_map(Some(4))?;
-        send_number(out, "count", self.reply.count)?;
-        send_number(out, "id", self.id)?;
-        out.key("lines")?;
-        send_list(self.reply.lines.as_slice(), out)?;
         send_number(out, "rev", self.reply.rev)?;
         out.end_map()
     }

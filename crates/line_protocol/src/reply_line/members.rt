@@ -3,9 +3,9 @@ ghost use Rattle.std.specs.Prelude.{◌≡◌, ◌≤◌, ◌+◌, ◌++◌, ◌
 ghost use Rattle.serde_json.specs.Data.{object};
 ghost use Rattle.serde_json.specs.Written.{compact_text, comma_if, members_text};
 ghost use Rattle.json.specs.Print.{quoted};
-ghost use Rattle.line_protocol.specs.Writing.{all_plain, members_of, are_plain, room_of, content_data, content_is_plain, content_room, number_room, place_room, small_room, IsNext};
+ghost use Rattle.line_protocol.specs.Writing.{all_plain, members_of, are_plain, room_of, content_data, content_is_plain, content_room, front_text, is_later, number_room, numbers_room, place_room, small_room, IsNext};
 ghost use Rattle.line_protocol.specs.Inline.{IsShortLine};
-ghost use Rattle.line_protocol.specs.Replies.{whole, place_data, merged};
+ghost use Rattle.line_protocol.specs.Replies.{whole, numbers_data, place_data, merged};
 
 use crate::reply_line::short_text::{CAPACITY, ShortText};
 use enc_names::Place;
@@ -54,7 +54,12 @@ pub(super) fn merged_line<'a>(first: &'a [Member<'a>], second: &'a [Member<'a>])
 
 /// Appends the members of both lists, in the order of the keys, with a comma between them, and in front if these
 /// are later ones.
-fn put_all<'a>(line: &mut ShortText, later: bool, first: &'a [Member<'a>], second: &'a [Member<'a>])
+pub(super) fn put_all<'a>(
+    line: &mut ShortText,
+    later: bool,
+    first: &'a [Member<'a>],
+    second: &'a [Member<'a>],
+)
     requires plain { IsTrue (are_plain first.now && are_plain second.now) }
     requires room { length line.old + room_of first.now + room_of second.now ≤ CAPACITY }
     ensures text { line.new ≡ line.old ++ members_text later (merged (members_of first.now) (members_of second.now)) }
@@ -91,6 +96,38 @@ fn next<'a>(
     }
 }
 
+/// Appends members, with a comma between them, and in front if these are later ones. Returns whether what comes next is
+/// a later one.
+pub(super) fn put_front(line: &mut ShortText, later: bool, members: &[Member<'_>]) -> bool
+    requires plain { IsTrue (are_plain members.now) }
+    requires room { length line.old + room_of members.now ≤ CAPACITY }
+    ensures text { line.new ≡ line.old ++ front_text later members.now }
+    ensures later { result ≡ is_later later members.now }
+    ensures room { length line.new + 1 ≤ length line.old + room_of members.now }
+{
+    match members.split_first() {
+        Some((member, rest)) => {
+            put(line, later, member.0, member.1);
+            put_front(line, true, rest)
+        }
+        None => later,
+    }
+}
+
+/// Appends a key, with a comma in front if its member is a later one, and a colon behind it.
+pub(super) fn put_key(line: &mut ShortText, later: bool, key: &str)
+    requires plain { IsTrue (all_plain key.now) }
+    requires room { length line.old + length key.now + 4 ≤ CAPACITY }
+    ensures text { line.new ≡ line.old ++ (comma_if later ++ (quoted key.now ++ 58 ∷ [])) }
+    ensures room { length line.new ≤ length line.old + length key.now + 4 }
+{
+    if later {
+        line.push(b',');
+    }
+    line.quote(key);
+    line.push(b':');
+}
+
 /// Appends a member, with a comma in front if it is a later one.
 fn put(line: &mut ShortText, later: bool, key: &str, content: Content<'_>)
     requires plain { IsTrue (all_plain key.now) }
@@ -101,11 +138,7 @@ fn put(line: &mut ShortText, later: bool, key: &str, content: Content<'_>)
     ensures room { length line.new ≤ length line.old + length key.now + 4
         + content_room content.entry }
 {
-    if later {
-        line.push(b',');
-    }
-    line.quote(key);
-    line.push(b':');
+    put_key(line, later, key);
     match content {
         Content::Number(number) => put_number(line, number),
         Content::Small(number) => put_small(line, number),
@@ -139,9 +172,25 @@ fn put_place(line: &mut ShortText, place: Place)
     ensures text { line.new ≡ line.old ++ compact_text (place_data place) }
     ensures room { length line.new ≤ length line.old + place_room }
 {
+    put_numbers(line, &[place.from, place.to])
+}
+
+/// Appends a list of numbers.
+// In the loop over the entries of a list.
+#[inline(always)]
+pub(super) fn put_numbers(line: &mut ShortText, numbers: &[u64])
+    requires { length line.old + numbers_room numbers.now ≤ CAPACITY }
+    ensures text { line.new ≡ line.old ++ compact_text (numbers_data numbers.now) }
+    ensures room { length line.new ≤ length line.old + numbers_room numbers.now }
+{
     line.push(b'[');
-    put_number(line, place.from);
-    line.push(b',');
-    put_number(line, place.to);
+    let mut later = false;
+    'numbers: for number in numbers {
+        if later {
+            line.push(b',');
+        }
+        put_number(line, *number);
+        later = true;
+    }
     line.push(b']');
 }

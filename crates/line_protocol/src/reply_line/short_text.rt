@@ -46,6 +46,13 @@ impl ShortText {
         &self.bytes[..self.len]
     }
 
+    /// Drops the bytes.
+    pub fn clear(&mut self)
+        ensures { self.new ≡ [] }
+    {
+        self.len = 0;
+    }
+
     /// Appends a byte.
     pub fn push(&mut self, byte: u8)
         requires { length self.old + 1 ≤ CAPACITY }

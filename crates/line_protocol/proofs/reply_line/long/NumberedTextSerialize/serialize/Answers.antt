@@ -1,5 +1,5 @@
 use Rattle.line_protocol.proofs.Prelude.{IfOk-weaker}
-use Rattle.line_protocol.proofs.reply_line.long.WithIdTextReplySerialize.serialize.Goals as goal
+use Rattle.line_protocol.proofs.reply_line.long.NumberedTextSerialize.serialize.Goals as goal
 
 -- the members one in another, each with the events so far behind its key and behind its value
 pub returns : goal.returns

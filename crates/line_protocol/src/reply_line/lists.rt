@@ -1,0 +1,181 @@
+//! The replies that hold a list, each entry of which is a list of numbers. Their text is put together here: that takes half
+//! the instructions that a serializer takes.
+ghost use Rattle.std.specs.Prelude.{◌≡◌, ◌≤◌, ◌+◌, ◌++◌, ◌&&◌, [], length, IfOk, IsTrue, OnOk};
+ghost use Rattle.serde_json.specs.Data.{Data, array, member, object};
+ghost use Rattle.serde_json.specs.Written.{compact_text};
+ghost use Rattle.line_protocol.specs.Replies.{place_data, line_data, diagnostic_data, items_of, line_of, errors_data, diagnostics_data, lines_data};
+ghost use Rattle.line_protocol.specs.Writing.{all_plain, are_plain, entry_room, followed, members_of, room_of};
+
+use crate::reply_line::members::{Content, Member, put_all, put_front, put_key, put_numbers};
+use crate::reply_line::short_text::{CAPACITY, ShortText};
+use desk::Line;
+use desk::ops::{DiagnosticsReply, ErrorsReply, LinesReply};
+use enc_names::Place;
+use position_map::Diagnostic;
+use std::alloc::{AllocError, Global};
+
+/// The line with a page of error places.
+pub(super) fn errors(alloc: Global, id: u64, reply: &ErrorsReply) -> Result<Vec<u8>, AllocError>
+    ensures { IfOk result (λ line. line.items ≡ line_of (errors_data id reply.now)) }
+{
+    let back = [
+        ("id", Content::Number(id)),
+        ("rev", Content::Number(reply.rev)),
+        ("total", Content::Number(reply.total)),
+    ];
+    list_line(alloc, &[], "errors", reply.places.as_slice(), &back)
+}
+
+/// The line with a page of errors with their positions.
+pub(super) fn diagnostics(
+    alloc: Global,
+    id: u64,
+    reply: &DiagnosticsReply,
+) -> Result<Vec<u8>, AllocError>
+    ensures { IfOk result (λ line. line.items ≡ line_of (diagnostics_data id reply.now)) }
+{
+    let back = [
+        ("id", Content::Number(id)),
+        ("rev", Content::Number(reply.rev)),
+        ("total", Content::Number(reply.total)),
+    ];
+    list_line(
+        alloc,
+        &[],
+        "diagnostics",
+        reply.diagnostics.as_slice(),
+        &back,
+    )
+}
+
+/// The line with a page of lines.
+pub(super) fn lines(alloc: Global, id: u64, reply: &LinesReply) -> Result<Vec<u8>, AllocError>
+    ensures { IfOk result (λ line. line.items ≡ line_of (lines_data id reply.now)) }
+{
+    let front = [
+        ("count", Content::Number(reply.count)),
+        ("id", Content::Number(id)),
+    ];
+    let back = [("rev", Content::Number(reply.rev))];
+    list_line(alloc, &front, "lines", reply.lines.as_slice(), &back)
+}
+
+/// The line of an object with a list under this key, behind some members and in front of others.
+fn list_line<'a, T: Entry>(
+    alloc: Global,
+    front: &'a [Member<'a>],
+    key: &str,
+    entries: &[T],
+    back: &'a [Member<'a>],
+) -> Result<Vec<u8>, AllocError>
+    requires plain { IsTrue (are_plain front.now && (all_plain key.now && are_plain back.now)) }
+    requires front { room_of front.now + length key.now + 5 ≤ CAPACITY }
+    requires back { room_of back.now + 1 ≤ entry_room }
+    ensures { IfOk result (λ line. line.items ≡ line_of (object (followed front.now (member key.now (array (items_of T.json entries.now)) (members_of back.now))))) }
+{
+    let mut line = Vec::new(alloc);
+    let mut text = ShortText::new();
+    text.push(b'{');
+    let later = put_front(&mut text, false, front);
+    put_key(&mut text, later, key);
+    put_list(&mut line, &mut text, entries)?;
+    put_all(&mut text, true, back, &[]);
+    text.push(b'\n');
+    move_on(&mut line, &mut text)?;
+    Ok(line)
+}
+
+/// The most bytes of an entry, which is six numbers at most, and of the comma before it.
+const ENTRY_ROOM: usize = 129;
+
+/// An entry of a list. Contracts see its data.
+pub(super) trait Entry {
+    ghost json: { Self → Data };
+
+    /// Appends the entry.
+    fn put(&self, text: &mut ShortText)
+        requires { length text.old + entry_room ≤ CAPACITY }
+        ensures text { text.new ≡ text.old ++ compact_text (json self.now) }
+        ensures room { length text.new ≤ length text.old + entry_room };
+}
+
+impl Entry for Place {
+    ghost json = { place_data };
+
+    fn put(&self, text: &mut ShortText) {
+        put_numbers(text, &[self.from, self.to])
+    }
+}
+
+impl Entry for Line {
+    ghost json = { line_data };
+
+    fn put(&self, text: &mut ShortText) {
+        put_numbers(text, &[self.start, self.end])
+    }
+}
+
+impl Entry for Diagnostic {
+    ghost json = { diagnostic_data };
+
+    fn put(&self, text: &mut ShortText) {
+        let (place, start, end) = (self.place, self.range.start, self.range.end);
+        put_numbers(
+            text,
+            &[
+                place.from,
+                place.to,
+                start.line,
+                start.character,
+                end.line,
+                end.character,
+            ],
+        )
+    }
+}
+
+/// Moves a text behind a line.
+fn move_on(line: &mut Vec<u8>, text: &mut ShortText) -> Result<(), AllocError>
+    ensures line { OnOk result (line.new.items ≡ line.old.items ++ text.old) }
+    ensures empty { OnOk result (text.new ≡ []) }
+{
+    line.extend_from_slice(text.as_slice())?;
+    text.clear();
+    Ok(())
+}
+
+/// Moves a text behind a line, unless it has room for one entry more.
+fn make_room(line: &mut Vec<u8>, text: &mut ShortText) -> Result<(), AllocError>
+    ensures same { OnOk result (line.new.items ++ text.new ≡ line.old.items ++ text.old) }
+    ensures room { OnOk result (length text.new + entry_room + 1 ≤ CAPACITY) }
+{
+    if text.as_slice().len() + ENTRY_ROOM <= CAPACITY {
+        return Ok(());
+    }
+    move_on(line, text)
+}
+
+/// Appends a list to a text behind a line, into which the text is moved as it fills.
+fn put_list<T: Entry>(
+    line: &mut Vec<u8>,
+    text: &mut ShortText,
+    entries: &[T],
+) -> Result<(), AllocError>
+    requires { length text.old + 1 ≤ CAPACITY }
+    ensures text { OnOk result (line.new.items ++ text.new ≡ (line.old.items ++ text.old) ++ compact_text (array (items_of T.json entries.now))) }
+    ensures room { OnOk result (length text.new + entry_room ≤ CAPACITY) }
+{
+    text.push(b'[');
+    let mut later = false;
+    'entries: for entry in entries {
+        make_room(line, text)?;
+        if later {
+            text.push(b',');
+        }
+        entry.put(text);
+        later = true;
+    }
+    make_room(line, text)?;
+    text.push(b']');
+    Ok(())
+}
