@@ -10,24 +10,6 @@ use Rattle.line_protocol.proofs.Merging.{merged_none}
 abbrev pub IsListed : {A : Type 0} → (A → Data) → List A → List A → Bool → List ℕ → List ℕ → Type 0
 IsListed json all rest later before now = now ++ items_text later (items_of json rest) ≡ before ++ compact_text (array (items_of json all))
 
-three : (a b c : List ℕ) → (a ++ b) ++ c ≡ a ++ (b ++ c)
-three a b c = simp append_assoc
-
-four : (a b c d : List ℕ) → ((a ++ b) ++ c) ++ d ≡ a ++ (b ++ (c ++ d))
-four a b c d = simp append_assoc
-
-pub listed-begun : {A : Type 0} (json : A → Data) (all : List A) (before now : List ℕ) → now ≡ before ++ 91 ∷ [] → IsListed json all all false before now
-listed-begun json all before now e = rw e (three before (91 ∷ []) (items_text false (items_of json all)))
-
-pub listed-next : {A : Type 0} (json : A → Data) (all rest : List A) (x : A) (later : Bool) (before now then : List ℕ) → IsListed json all (x ∷ rest) later before now
-    → then ≡ (now ++ comma_if later) ++ compact_text (json x) → IsListed json all rest true before then
-listed-next json all rest x later before now then held e =
-    rw e (four now (comma_if later) (compact_text (json x)) (items_text true (items_of json rest)) ∙ held)
-
-pub listed-ended : {A : Type 0} (json : A → Data) (all : List A) (later : Bool) (before now then : List ℕ) → IsListed json all [] later before now → then ≡ now ++ 93 ∷ []
-    → then ≡ before ++ compact_text (array (items_of json all))
-listed-ended json all later before now then held e = e ∙ held
-
 -- ---- members in front of others
 
 later-true : (ms : MemberList) → is_later true ms ≡ true
