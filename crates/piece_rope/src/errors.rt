@@ -25,6 +25,10 @@ impl Dimension<Sum> for ErrorCount {
         sum.errors
     }
 
+    fn of_join(&self, sum: &Sum, other: &Sum) -> u64 {
+        sum.errors + other.errors
+    }
+
     ghost zero = { errors-zero };
 
     ghost monotone = { errors-more };

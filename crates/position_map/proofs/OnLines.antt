@@ -60,8 +60,9 @@ on_split u text a b offset split at flag =
     )
 
 -- the piece of an offset, cut there
-pub cut_found : (text : List ℕ) (offset : ℕ) (x : TextCut) (here : List ℕ) → IsLocated Scalar offset text x.before here → IsScalarCut here (offset - x.before.scalars) (chars x.front.now) (chars x.rest.now) → IsCutAt text offset x
-cut_found text offset x here l k = record {
+pub cut_found : (text : List ℕ) (offset : ℕ) (x : TextCut) (here : List ℕ) → IsLocated Scalar offset text x.before here → IsScalarCut here (offset - x.before.scalars) (chars x.front.now) (chars x.rest.now)
+    → x.scalars ≡ offset - x.before.scalars → IsCutAt text offset x
+cut_found text offset x here l k n = record {
   is = record {
     front = l.front;
     items = l.items;
@@ -70,6 +71,7 @@ cut_found text offset x here l k = record {
     sum = l.sum;
   };
   at = omega (arith, l.low, k.count);
+  scalars = n ∙ sym k.count;
   next = line_feed text offset x.before here (chars x.front.now) (chars x.rest.now) l k;
 }
 

@@ -26,6 +26,7 @@ pub record IsFrontOf (unit : TextUnit) (text : List ℕ) (n : ℕ) (before : Sum
 pub record IsCutAt (text : List ℕ) (offset : ℕ) (x : TextCut) : Type 0 where
   pub is : IsTextFront text x.before (chars x.front.now)
   pub at : offset ≡ x.before.scalars + length (chars x.front.now)
+  pub scalars : x.scalars ≡ length (chars x.front.now)
   pub next : begins_lf (chars x.rest.now) ≡ begins_lf (drop offset text)
 
 -- the line of an offset, and the units before the offset or the line's end, whichever comes first

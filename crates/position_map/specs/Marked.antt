@@ -34,6 +34,7 @@ pub record IsCutAtMark (text : List ℕ) (n : ℕ) (m : TextCut) : Type 0 where
   pub here : List ℕ
   pub place : IsLocated Mark n text m.before here
   pub cut : IsMarkCut m.before.cr_last here (n - m.before.marks) (chars m.front.now) (chars m.rest.now)
+  pub scalars : m.scalars ≡ length (chars m.front.now)
 
 -- where mark `n` stands; `near` is what is behind it in its piece
 pub record IsMarkAt (unit : TextUnit) (text : List ℕ) (n : ℕ) (m : LineMark) : Type 0 where

@@ -10,23 +10,29 @@ ghost use Rattle.position_map.specs.Cuts.{IsScalarCut};
 
 use crate::ending::Ending;
 use lane_ascii::{LineFront, first_line_end, nth_line_end};
-use lane_utf::{law_leads, nth_scalar};
+use lane_utf::{count_scalars, law_leads, nth_scalar};
 use piece_rope::{begins_lf, ends_cr, law_marks};
 
-// The text before line mark `n` and from it on, where there are so many.
-pub(crate) fn split_at_mark(text: &str, after_cr: bool, n: usize) -> Option<(&str, &str)>
+// The text before line mark `n` and from it on, where there are so many, and how many code points
+// stand before it.
+pub(crate) fn split_at_mark(text: &str, after_cr: bool, n: usize) -> Option<(&str, &str, usize)>
     ensures { MatchOption result (marks after_cr (chars text.now) ≤ n)
-        (λ x. IsMarkCut after_cr (chars text.now) n (chars x.0.now) (chars x.1.now)) }
+        (λ x. IsMarkCut after_cr (chars text.now) n (chars x.0.now) (chars x.1.now) × (x.2 ≡ length (chars x.0.now))) }
 {
+    if n == 0 && !after_cr {
+        return split_at_first_mark(text);
+    }
     law_marks();
     match nth_line_end(text.as_bytes(), after_cr, n) {
         None => None,
-        Some(at) => Some(text.split_at(at)),
+        Some(at) => {
+            let (front, rest) = text.split_at(at);
+            Some((front, rest, count_scalars(front)))
+        }
     }
 }
 
-// The text before its first line mark and from it on, where there is one, and how many code points
-// stand before it, by one walk.
+// The same for its first line mark, by one walk.
 pub(crate) fn split_at_first_mark(text: &str) -> Option<(&str, &str, usize)>
     ensures { MatchOption result (marks false (chars text.now) ≤ 0)
         (λ x. IsMarkCut false (chars text.now) 0 (chars x.0.now) (chars x.1.now) × (x.2 ≡ length (chars x.0.now))) }

@@ -12,7 +12,7 @@ use crate::ending::Ending;
 use crate::locate::{locate, sum_in};
 use crate::mark::LineMark;
 use crate::parts::Parts;
-use crate::point::{Point, point_behind};
+use crate::point::{Point, units_in};
 use crate::text_cut::TextCut;
 use crate::unit::Unit;
 use piece_rope::{Axis, Visits, begins_lf};
@@ -47,9 +47,10 @@ pub(crate) fn mark_cut<'d>(
     let (before, here) = locate(parts, Axis::Mark, n, visits);
     match split_at_mark(here, before.cr_last, (n - before.marks) as usize) {
         None => None,
-        Some((front, rest)) => Some(TextCut {
+        Some((front, rest, scalars)) => Some(TextCut {
             before,
             front,
+            scalars: scalars as u64,
             rest,
         }),
     }
@@ -66,8 +67,10 @@ pub(crate) fn mark_at<'d>(
     ensures { IsMarkAt unit (text_of parts.now.doc) n result }
 {
     let _end = parts.end(unit);
-    let units = sum_in(cut.before, unit);
-    let at = point_behind(cut.before.scalars, units, cut.front, unit);
+    let at = Point {
+        scalars: cut.before.scalars + cut.scalars,
+        units: sum_in(cut.before, unit) + units_in(cut.front, unit),
+    };
     LineMark { at, rest: cut.rest }
 }
 

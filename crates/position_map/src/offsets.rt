@@ -99,7 +99,7 @@ fn offset_behind(
         return Ok(next.start.scalars);
     }
     match split_at_mark(next.rest, false, 0) {
-        Some((line, _)) => offset_in(next.start.scalars, line, unit, position.character),
+        Some((line, _, _)) => offset_in(next.start.scalars, line, unit, position.character),
         None => {
             let start = start_in(parts, unit, n, cut, next.start);
             offset_from(parts, unit, position, start, visits)

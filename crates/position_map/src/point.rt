@@ -1,7 +1,6 @@
 //! Points of a text.
-ghost use Rattle.std.specs.Prelude.{◌≡◌, ℕ, ◌+◌, ◌^◌, ◌<◌, length};
+ghost use Rattle.std.specs.Prelude.{◌≡◌};
 ghost use Rattle.std.specs.Str.{chars};
-ghost use Rattle.position_map.specs.Points.{IsBehind};
 ghost use Rattle.position_map.specs.Widths.{width};
 
 use crate::unit::Unit;
@@ -24,17 +23,5 @@ pub(crate) fn units_in(text: &str, unit: Unit) -> u64
         Unit::Utf8 => text.len() as u64,
         Unit::Utf16 => count_utf16(text) as u64,
         Unit::Utf32 => count_scalars(text) as u64,
-    }
-}
-
-// The point behind a text in front of which so many code points and units stand.
-pub(crate) fn point_behind(scalars: u64, units: u64, front: &str, unit: Unit) -> Point
-    requires scalars { scalars + length (chars front.now) < 2 ^ 64 }
-    requires units { units + width unit (chars front.now) < 2 ^ 64 }
-    ensures { IsBehind unit scalars units (chars front.now) result }
-{
-    Point {
-        scalars: scalars + count_scalars(front) as u64,
-        units: units + units_in(front, unit),
     }
 }

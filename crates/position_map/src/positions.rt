@@ -76,10 +76,12 @@ fn cut_at<'d>(parts: &Parts<'d, '_>, offset: u64, visits: &mut Visits) -> TextCu
     ensures kept { visits.old ≤ visits.new }
 {
     let (before, here) = locate(parts, Axis::Scalar, offset, visits);
-    match split_at_scalar(here, (offset - before.scalars) as usize) {
+    let scalars = offset - before.scalars;
+    match split_at_scalar(here, scalars as usize) {
         Some((front, rest)) => TextCut {
             before,
             front,
+            scalars,
             rest,
         },
         None => unreachable!(),

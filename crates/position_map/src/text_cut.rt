@@ -9,6 +9,8 @@ pub struct TextCut<'a> {
     pub before: Sum,
     /// The piece's text before the cut.
     pub front: &'a str,
+    /// How many code points that has.
+    pub scalars: u64,
     /// The piece's text behind it.
     pub rest: &'a str,
 }

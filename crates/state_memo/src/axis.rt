@@ -1,4 +1,5 @@
 //! Sums of parts of a document as sums of a tree.
+ghost use Rattle.std.specs.Prelude.{◌≡◌, ◌+◌, ◌<◌, ◌^◌};
 ghost use Rattle.state_memo.specs.Sums.{joined, no_sum, Fits, measure};
 ghost use Rattle.state_memo.specs.SumLaws.{law_sums, no_sum-fits, fits-left, fits-right, measure-more, measure-zero};
 
@@ -18,6 +19,16 @@ pub enum Axis {
     Utf8,
     /// Line marks.
     Mark,
+}
+
+/// The line marks of two parts in a row: CR and LF that meet are one.
+// On each level of a search.
+#[inline(always)]
+fn marks_of_both(sum: &Sum, other: &Sum) -> u64
+    requires { sum.now.marks + other.now.marks < 2 ^ 64 }
+    ensures { result ≡ (joined sum.now other.now).marks }
+{
+    sum.marks + other.marks - u64::from(sum.cr_last && other.lf_first)
 }
 
 impl Summary for Sum {
@@ -41,14 +52,13 @@ impl Summary for Sum {
     }
 
     fn join(self, other: Sum) -> Sum {
-        let meet = self.cr_last && other.lf_first;
         Sum {
             bytes: self.bytes + other.bytes,
             scalars: self.scalars + other.scalars,
             utf16: self.utf16 + other.utf16,
             utf8: self.utf8 + other.utf8,
             errors: self.errors + other.errors,
-            marks: self.marks + other.marks - u64::from(meet),
+            marks: marks_of_both(&self, &other),
             lf_first: if self.scalars == 0 {
                 other.lf_first
             } else {
@@ -81,6 +91,13 @@ impl Dimension<Sum> for Axis {
             Axis::Utf16 => sum.utf16,
             Axis::Utf8 => sum.utf8,
             Axis::Mark => sum.marks,
+        }
+    }
+
+    fn of_join(&self, sum: &Sum, other: &Sum) -> u64 {
+        match *self {
+            Axis::Mark => marks_of_both(sum, other),
+            axis => axis.of(sum) + axis.of(other),
         }
     }
 

@@ -117,13 +117,15 @@ module _ {T S : Type 0} {unit : S} {op : S → S → S} (laws : MonoidLaws unit 
           record { front = a; back = []; split = e ∙ ap (λ l. a ++ l) (sym (append-nil b)); place = n; sum = p; fit = fit; sought = sought }
 
       -- into a first part that the target is in front of the end of, and into a last part that it is behind the start of
-      pub into_first : ((a b : S) → fits (op a b) → fits a) → (before : S) (r a b : List T) (m : S) (n : ℕ) → r ≡ a ++ b → m ≡ op before (total unit op sum_of a) → n ≡ measure m → target < n → IsReachable fits unit op sum_of before r → measure before ≤ target
-          → IsWayTo fits measure target unit op sum_of before r 0 before a
-      into_first left before r a b m n e p q h fit low = way_first before r a b e (reach_front left before r a b e fit) (sought_front before a m n p q h low)
+      pub into_first : ((a b : S) → fits (op a b) → fits a) → (before : S) (r a b : List T) (n : ℕ) → r ≡ a ++ b → n ≡ measure (op before (total unit op sum_of a)) → target < n
+          → IsReachable fits unit op sum_of before r → measure before ≤ target → IsWayTo fits measure target unit op sum_of before r 0 before a
+      into_first left before r a b n e q h fit low = way_first before r a b e (reach_front left before r a b e fit) (sought_front before a _ n refl q h low)
 
-      pub into_last : (before : S) (r a b : List T) (m : S) (n k : ℕ) → r ≡ a ++ b → m ≡ op before (total unit op sum_of a) → n ≡ measure m → n ≤ target → k ≡ length a → IsReachable fits unit op sum_of before r → IsTargetAmong measure target unit op sum_of before r
-          → IsWayTo fits measure target unit op sum_of before r k m b
-      into_last before r a b m n k e p q h l fit sought = way_last before r a b m k e p l (reach_back before r a b m e p fit) (sought_back before r a b m n e p q h sought)
+      pub into_last : (before : S) (r a b : List T) (m : S) (n k : ℕ) → r ≡ a ++ b → m ≡ op before (total unit op sum_of a)
+          → n ≡ measure (op before (total unit op sum_of a)) → n ≤ target → k ≡ length a → IsReachable fits unit op sum_of before r
+          → IsTargetAmong measure target unit op sum_of before r → IsWayTo fits measure target unit op sum_of before r k m b
+      into_last before r a b m n k e p q h l fit sought =
+          way_last before r a b m k e p l (reach_back before r a b m e p fit) (sought_back before r a b m n e p (q ∙ ap measure (sym p)) h sought)
 
       pub way_on : (before s t : S) (xs ys zs : List T) (k j n : ℕ) → IsWayTo fits measure target unit op sum_of before xs k s ys → IsWayTo fits measure target unit op sum_of s ys j t zs → n ≡ k + j
           → IsWayTo fits measure target unit op sum_of before xs n t zs
@@ -139,15 +141,17 @@ module _ {T S : Type 0} {unit : S} {op : S → S → S} (laws : MonoidLaws unit 
       }
 
       -- into the second and into the third of three parts
-      pub into_middle : ((a b : S) → fits (op a b) → fits a) → (before : S) (r a b d : List T) (m s : S) (n o k : ℕ) → r ≡ a ++ (b ++ d)
-          → m ≡ op before (total unit op sum_of a) → n ≡ measure m → n ≤ target → k ≡ length a → s ≡ op m (total unit op sum_of b) → o ≡ measure s → target < o
+      pub into_middle : ((a b : S) → fits (op a b) → fits a) → (before : S) (r a b d : List T) (m : S) (n o k : ℕ) → r ≡ a ++ (b ++ d)
+          → m ≡ op before (total unit op sum_of a) → n ≡ measure (op before (total unit op sum_of a)) → n ≤ target → k ≡ length a
+          → o ≡ measure (op m (total unit op sum_of b)) → target < o
           → IsReachable fits unit op sum_of before r → IsTargetAmong measure target unit op sum_of before r → IsWayTo fits measure target unit op sum_of before r k m b
-      into_middle left before r a b d m s n o k e p q h l t u i fit sought =
+      into_middle left before r a b d m n o k e p q h l u i fit sought =
           let over = into_last before r a (b ++ d) m n k e p q h l fit sought in
-          way_on before m m r (b ++ d) b k 0 k over (into_first left m (b ++ d) b d s o refl t u i over.fit over.sought.low) (omega arith)
+          way_on before m m r (b ++ d) b k 0 k over (into_first left m (b ++ d) b d o refl u i over.fit over.sought.low) (omega arith)
 
       pub into_third : (before : S) (r a b d : List T) (m s : S) (n o k j : ℕ) → r ≡ a ++ (b ++ d)
-          → m ≡ op before (total unit op sum_of a) → n ≡ measure m → n ≤ target → k ≡ length a → s ≡ op m (total unit op sum_of b) → o ≡ measure s → o ≤ target → j ≡ length b
+          → m ≡ op before (total unit op sum_of a) → n ≡ measure (op before (total unit op sum_of a)) → n ≤ target → k ≡ length a
+          → s ≡ op m (total unit op sum_of b) → o ≡ measure (op m (total unit op sum_of b)) → o ≤ target → j ≡ length b
           → IsReachable fits unit op sum_of before r → IsTargetAmong measure target unit op sum_of before r → IsWayTo fits measure target unit op sum_of before r (k + j) s d
       into_third before r a b d m s n o k j e p q h l t u i w fit sought =
           let over = into_last before r a (b ++ d) m n k e p q h l fit sought in

@@ -45,6 +45,16 @@ impl<T: Summed<S> + Drop, S: Summary> Child<T, S> {
         before.join(self.total())
     }
 
+    /// The number of the sum behind the node's elements, where this one is the sum in front of them.
+    // On each level of a search.
+    #[inline(always)]
+    fn reach<D: Dimension<S>>(&self, before: &S, dimension: &D) -> u64
+        requires { IsReachable S.fits S.empty S.op T.sum_of before.now self.now.items }
+        ensures { result ≡ D.measure dimension.now (S.op before.now (total S.empty S.op T.sum_of self.now.items)) }
+    {
+        dimension.of_join(before, &self.total())
+    }
+
     /// The sum in front of element number `i`, where this one is the sum in front of the node.
     pub(crate) fn prefix(&self, before: S, i: usize, visits: &mut Visits) -> S
         requires place { i < length self.now.items }
@@ -131,24 +141,22 @@ impl<T: Summed<S> + Drop, S: Summary> Child<T, S> {
             NodeParts::Leaf(x) => Below::Element(x),
             NodeParts::Two(a, b) => {
                 visits.count();
-                let middle = a.behind(before);
-                if target < dimension.of(&middle) {
+                if target < a.reach(&before, dimension) {
                     Below::Child(0, before, a)
                 } else {
-                    Below::Child(a.count(), middle, b)
+                    Below::Child(a.count(), a.behind(before), b)
                 }
             }
             NodeParts::Three(a, b, c) => {
                 visits.count();
-                let first = a.behind(before);
-                if target < dimension.of(&first) {
+                if target < a.reach(&before, dimension) {
                     return Below::Child(0, before, a);
                 }
-                let second = b.behind(first);
-                if target < dimension.of(&second) {
+                let first = a.behind(before);
+                if target < b.reach(&first, dimension) {
                     Below::Child(a.count(), first, b)
                 } else {
-                    Below::Child(a.count() + b.count(), second, c)
+                    Below::Child(a.count() + b.count(), b.behind(first), c)
                 }
             }
         }

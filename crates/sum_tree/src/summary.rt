@@ -56,6 +56,12 @@ pub trait Dimension<S: Summary> {
     fn of(&self, sum: &S) -> u64
         ensures { result ≡ measure self.now sum.now };
 
+    /// The number of what a sum and another one behind it join to, without joining them: a search
+    /// needs no more of those that it stays in front of.
+    fn of_join(&self, sum: &S, other: &S) -> u64
+        requires { S.fits (S.op sum.now other.now) }
+        ensures { result ≡ measure self.now (S.op sum.now other.now) };
+
     ghost zero: { (d : Self) → measure d S.empty ≡ 0 };
 
     ghost monotone: { (d : Self) (a b : S) → measure d a ≤ measure d (S.op a b) };

@@ -81,6 +81,10 @@ impl Dimension<Load> for LoadAxis {
         }
     }
 
+    fn of_join(&self, sum: &Load, other: &Load) -> u64 {
+        self.of(sum) + self.of(other)
+    }
+
     ghost zero = { number_none };
 
     ghost monotone = { number_rises };

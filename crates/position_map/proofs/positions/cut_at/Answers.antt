@@ -1,3 +1,4 @@
+use Rattle.std.proofs.Common.{refl}
 use Rattle.position_map.proofs.OnLines.{cut_found, none_past}
 use Rattle.position_map.proofs.positions.cut_at.Goals as goal
 
@@ -5,4 +6,4 @@ pub unreachable-requires : goal.unreachable-requires
 unreachable-requires c = none_past _ _ _ _ c.locate.ensures.place c.in-None.ensures c.requires
 
 pub returns-clause-cut : goal.returns-clause-cut
-returns-clause-cut c = cut_found _ _ _ _ c.locate.ensures.place c.in-Some.ensures
+returns-clause-cut c = cut_found _ _ _ _ c.locate.ensures.place c.in-Some.ensures refl
