@@ -1,8 +1,10 @@
 //! What no clause says: worked rows, and each kernel as it is built beside a plain loop, at every
 //! length up to 257, with the byte that matters at each place, at each of 64 alignments.
+ghost use Rattle.std.specs.Prelude.{◌<◌, ◌≤◌};
 
 use lane_ascii::{
-    NeedsRoom, ascii_run, count_line_ends, nth_line_end, plain_run_iso, swap_pairs, widen,
+    NeedsRoom, ascii_run, count_line_ends, narrow_ascii, nth_line_end, plain_run_iso, swap_pairs,
+    widen,
 };
 use oracle::byte_loops;
 use std::ops::Fn;
@@ -99,6 +101,43 @@ fn widens(bytes: &[u8]) -> bool {
     widen(bytes, &mut units) == Ok(bytes.len()) && units == plain
 }
 
+/// Whether a pair is an ASCII byte and a zero.
+fn is_ascii_pair(pair: &[u8]) -> bool {
+    match pair {
+        [low, high] => *low < 0x80 && *high == 0,
+        _ => false,
+    }
+}
+
+/// Writes the low bytes of the blocks of 32 pairs at the front that are ASCII, and returns how many
+/// these are.
+fn plain_narrow(pairs: &[u8], text: &mut [u8]) -> usize {
+    let mut count: usize = 0;
+    for (block, place) in pairs.chunks_exact(64).zip(text.chunks_exact_mut(32)) {
+        if !block.chunks_exact(2).all(is_ascii_pair) {
+            break;
+        }
+        for (byte, low) in place.iter_mut().zip(block.iter().step_by(2)) {
+            *byte = *low;
+        }
+        count = count.wrapping_add(32);
+    }
+    count
+}
+
+/// Whether the same is written as by the plain loop, where there is room for all pairs and where
+/// there is room for a block less.
+fn narrows(pairs: &[u8]) -> bool {
+    for room in [LONGEST / 2, LONGEST / 2 - 32] {
+        let (mut text, mut plain) = ([0xFF; LONGEST], [0xFF; LONGEST]);
+        let count = plain_narrow(pairs, &mut plain[..room]);
+        if narrow_ascii(pairs, &mut text[..room]) != count || text != plain {
+            return false;
+        }
+    }
+    true
+}
+
 #[test]
 fn ascii_runs(rt: HostRuntime) {
     assert!(rt;
@@ -153,6 +192,44 @@ fn pairs_swapped(rt: HostRuntime) {
 #[test]
 fn bytes_widened(rt: HostRuntime) {
     assert!(rt; agrees_everywhere(0xFF, 0x01, widens));
+}
+
+#[test]
+fn ascii_narrowed(rt: HostRuntime) {
+    assert!(rt; agrees_everywhere(0x01, 0x00, narrows));
+    assert!(rt; agrees_everywhere(0x80, 0x00, narrows));
+}
+
+/// How many of 64 letters in UTF-16LE are narrowed where there is room for so many, and another byte
+/// stands at a place.
+fn letters_narrowed(room: usize, place: usize, byte: u8) -> usize
+    requires room { room ≤ 64 }
+    requires place { place < 128 }
+{
+    let mut pairs = [0; 128];
+    for low in pairs.iter_mut().step_by(2) {
+        *low = b'a';
+    }
+    pairs[place] = byte;
+    let mut text = [0; 64];
+    let count = narrow_ascii(&pairs, &mut text[..room]);
+    if text.iter().filter(|byte| **byte == b'a').count() == count {
+        count
+    } else {
+        usize::MAX
+    }
+}
+
+#[test]
+fn blocks_of_letters_narrowed(rt: HostRuntime) {
+    assert!(rt; letters_narrowed(64, 0, b'a') == 64);
+    // The low byte of the first and of the last pair of each block, and the high one.
+    for (place, count) in [(0, 0), (62, 0), (64, 32), (126, 32)] {
+        assert!(rt; letters_narrowed(64, place, 0x80) == count);
+        assert!(rt; letters_narrowed(64, place + 1, 0x01) == count);
+    }
+    // Less room than for both blocks, and than for one.
+    assert!(rt; letters_narrowed(63, 0, b'a') == 32 && letters_narrowed(31, 0, b'a') == 0);
 }
 
 #[test]

@@ -10,6 +10,7 @@ pub mod PlainRuns
 pub mod Turning
 pub mod Utf8Runs
 pub mod ItemWidths
+pub mod Utf16Ascii
 pub mod Utf16Runs
 pub mod Encoding
 pub mod Filling

@@ -98,8 +98,9 @@ fn put_run<'t, E: Encoder>(
 ) -> Result<&'t str, AllocError>
     ensures { IfOk result (λ rest. IsRun (E.table encoder.now) state text.now rest.now out.old.bytes out.new.bytes) }
 {
-    // Most encoders look at whole lanes, which would be in vain at each code point of a dense text.
-    if !matches!(text.as_bytes().first(), Some(0..0x80)) {
+    // Most encoders look at whole lanes, which would be in vain at each code point of a dense text
+    // and at each space between its words.
+    if !matches!(text.as_bytes(), [0..0x80, 0..0x80, ..]) {
         return Ok(text);
     }
     let (run, rest) = text.split_at(encoder.plain_run(state, text.as_bytes()));

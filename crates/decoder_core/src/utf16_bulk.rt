@@ -8,16 +8,37 @@ ghost use Rattle.decoder_core.specs.declared.utf16.ByteOrder.TheVariants.{Little
 
 use crate::bulk::{Bulk, NO_BULK, Stride};
 use crate::utf16::ByteOrder;
-use lane_ascii::swap_pairs;
+use lane_ascii::{narrow_ascii, swap_pairs};
 use lane_utf::{ToUtf8Fault, utf16_to_utf8};
 
-/// The most units that are taken at once: each is at most three bytes of UTF-8, so that the block
-/// has room for them. They are sixteens, since ASCII is taken by these.
+/// The most units that are converted at once: each is at most three bytes of UTF-8, so that the
+/// block has room for them. They are sixteens, since ASCII is taken by these.
 const MOST: usize = 336;
 
 /// Takes the units at the front up to the first lone surrogate, where nothing is pending. A lead
 /// surrogate that is the last unit at hand isn't taken.
 pub(crate) fn utf16_bulk(order: ByteOrder, bytes: &[u8], text: &mut [u8; 1024]) -> Bulk
+    ensures { IsBulk (utf16 order) utf16_start bytes.now result text.new }
+{
+    if let ByteOrder::LittleEndian = order {
+        let ascii = ascii_bulk(bytes, text);
+        if ascii.taken > 0 {
+            return ascii;
+        }
+    }
+    converted_bulk(order, bytes, text)
+}
+
+/// Takes ASCII alone, which needs no unit to be read.
+fn ascii_bulk(bytes: &[u8], text: &mut [u8; 1024]) -> Bulk
+    ensures { IsBulk (utf16 LittleEndian) utf16_start bytes.now result text.new }
+{
+    let count = narrow_ascii(bytes, text);
+    unit_bulk(count, count)
+}
+
+/// Takes units by what converts them to UTF-8.
+fn converted_bulk(order: ByteOrder, bytes: &[u8], text: &mut [u8; 1024]) -> Bulk
     ensures { IsBulk (utf16 order) utf16_start bytes.now result text.new }
 {
     let count = (bytes.len() / 2).min(MOST);
@@ -38,7 +59,7 @@ pub(crate) fn utf16_bulk(order: ByteOrder, bytes: &[u8], text: &mut [u8; 1024]) 
 
 /// So many units were taken.
 fn unit_bulk(units: usize, written: usize) -> Bulk
-    requires { units ≤ 336 }
+    requires { units ≤ 1024 }
     ensures { result ≡ record { taken = 2 * units; written = written; stride = Utf16 } }
 {
     Bulk {

@@ -4,6 +4,7 @@ pub mod FirstLines
 pub mod Flags
 pub mod MarkLanes
 pub mod Masks
+pub mod Narrows
 pub mod Prefixes
 pub mod Swaps
 pub mod Widens

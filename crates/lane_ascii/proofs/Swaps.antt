@@ -13,7 +13,7 @@ abbrev pub crossed : ℕ → ℕ → List ℕ
 crossed a zero = []
 crossed a (suc k) = suc a ∷ a ∷ crossed (suc (suc a)) k
 
-pair_at : (xs : List ℕ) (a : ℕ) → a + 2 ≤ length xs → drop a xs ≡ get_or xs a 0 ∷ get_or xs (suc a) 0 ∷ drop (suc (suc a)) xs
+pub pair_at : (xs : List ℕ) (a : ℕ) → a + 2 ≤ length xs → drop a xs ≡ get_or xs a 0 ∷ get_or xs (suc a) 0 ∷ drop (suc (suc a)) xs
 pair_at xs a h = drop-cons xs a 0 (omega arith) ∙ ap (λ r. get_or xs a 0 ∷ r) (drop-cons xs (suc a) 0 (omega arith))
 
 picked : (xs : List ℕ) (k a : ℕ) → a + 2 * k ≡ length xs → pick_l 0 xs (crossed a k) ≡ swapped (drop a xs)

@@ -1,5 +1,5 @@
 -- Pairs of neighbours.
-use Rattle.std.specs.Prelude.{ℕ, List, ◌∷◌, ◌++◌, take, drop}
+use Rattle.std.specs.Prelude.{ℕ, List, [], ◌∷◌, ◌++◌, take, drop}
 
 -- neighbours swapped; an odd last one stays
 abbrev pub swapped : List ℕ → List ℕ
@@ -9,3 +9,13 @@ swapped rest = rest
 -- the same, behind the first n
 abbrev pub swapped_from : ℕ → List ℕ → List ℕ
 swapped_from n bytes = take n bytes ++ swapped (drop n bytes)
+
+-- each with a zero behind it, which makes UTF-16LE of ASCII bytes
+abbrev pub spread : List ℕ → List ℕ
+spread [] = []
+spread (b ∷ bs) = b ∷ 0 ∷ spread bs
+
+-- the first of each pair
+abbrev pub evens : List ℕ → List ℕ
+evens (a ∷ b ∷ rest) = a ∷ evens rest
+evens rest = []

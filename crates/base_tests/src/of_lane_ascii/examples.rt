@@ -1,7 +1,7 @@
 //! Worked examples of the definitions, which the check computes.
 ghost use Rattle.std.specs.Prelude.{◌≡◌, ◌∷◌, ◌++◌, [], true, false, replicate};
 ghost use Rattle.lane_ascii.specs.Marks.{marks, IsNthMark};
-ghost use Rattle.lane_ascii.specs.Pairs.{swapped};
+ghost use Rattle.lane_ascii.specs.Pairs.{evens, spread, swapped};
 ghost use Rattle.lane_ascii.specs.Runs.{ascii_len, plain_len};
 
 /// A run ends at the first byte above ASCII.
@@ -20,6 +20,12 @@ fn shifts_and_escapes_end_a_plain_run()
 /// An odd last byte stays.
 fn three_bytes_swapped()
     ensures { swapped (0x01 ∷ 0x02 ∷ 0x03 ∷ []) ≡ 0x02 ∷ 0x01 ∷ 0x03 ∷ [] }
+{}
+
+/// Two letters in UTF-16LE, and the low bytes of three pairs and an odd last byte.
+fn letters_in_pairs()
+    ensures spread { spread (0x41 ∷ 0x42 ∷ []) ≡ 0x41 ∷ 0x00 ∷ 0x42 ∷ 0x00 ∷ [] }
+    ensures evens { evens (0x01 ∷ 0x02 ∷ 0x03 ∷ 0x04 ∷ 0x05 ∷ 0x06 ∷ 0x07 ∷ []) ≡ 0x01 ∷ 0x03 ∷ 0x05 ∷ [] }
 {}
 
 /// LF CR LF CR behind a CR: the first LF belongs to it, and the second to the CR in front.

@@ -1,4 +1,6 @@
 //! What decoders take in bulk: no clause asks them to take any byte.
+ghost use Rattle.std.specs.Prelude.{◌≤◌};
+
 use crate::in_turn::is_in_turn;
 use crate::indexes::WINDOWS_1252;
 use decoder_core::{
@@ -130,6 +132,55 @@ fn utf16_where_nothing_is_pending(rt: HostRuntime) {
     assert!(rt; cut.taken == 4);
     let pending = little.step(little.start(), 0x61).state;
     assert!(rt; taken(&little, pending, LITTLE) == NO_BULK);
+}
+
+/// Letters in UTF-16LE, more than a block has room for.
+fn letters_in_pairs() -> [u8; 2200] {
+    let mut bytes = [0; 2200];
+    for at in 0..1100 {
+        bytes[2 * at] = b'a';
+    }
+    bytes
+}
+
+/// Whether the decoder takes so many letters in its first state, and writes them.
+fn takes_letters(decoder: &Utf16Decoder, bytes: &[u8], count: usize) -> bool
+    requires { count ≤ 1024 }
+{
+    let mut block = [0; 1024];
+    let letters = Bulk {
+        taken: 2 * count,
+        written: count,
+        stride: Stride::Utf16,
+    };
+    let found = decoder.bulk(decoder.start(), bytes, &mut block);
+    found == letters && block[..count] == [b'a'; 1024][..count]
+}
+
+#[test]
+fn utf16_of_letters(rt: HostRuntime) {
+    let little = Utf16Decoder {
+        order: ByteOrder::LittleEndian,
+    };
+    let big = Utf16Decoder {
+        order: ByteOrder::BigEndian,
+    };
+    let mut bytes = letters_in_pairs();
+    // Whole blocks of 32, as many as there is room for.
+    let (some, few) = (&bytes[..200], &bytes[..62]);
+    assert!(rt; takes_letters(&little, &bytes, 1024));
+    assert!(rt; takes_letters(&little, some, 96) && takes_letters(&little, few, 31));
+    assert!(rt; takes_letters(&big, &bytes[1..], 336));
+    // In the other byte order each is of three bytes.
+    let mut block = [0; 1024];
+    let found = big.bulk(big.start(), &bytes, &mut block);
+    assert!(rt; found.taken == 672 && found.written == 1008);
+    assert!(rt; block.starts_with("\u{6100}\u{6100}".as_bytes()));
+    // A character that isn't ASCII is left for the next time, and then taken with those behind it.
+    bytes[127] = 0x01;
+    assert!(rt; takes_letters(&little, &bytes, 32));
+    let found = taken(&little, little.start(), &bytes[64..]);
+    assert!(rt; found.taken == 672 && found.written == 337);
 }
 
 #[test]
