@@ -27,7 +27,7 @@ pub const FAMILIES: [Encoding; 13] = [
 ];
 
 /// How many splices each encoding has.
-pub const SPLICES: u64 = 800;
+pub const SPLICES: u64 = 300;
 
 /// The document behind the splice agrees with decoding the bytes behind it from scratch; `None`
 /// where a call is refused.
