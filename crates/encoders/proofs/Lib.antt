@@ -1,3 +1,4 @@
 pub mod AsciiRuns
+pub mod Bytewise
 pub mod Choosing
 pub mod Utf16Forms

@@ -1,4 +1,5 @@
 pub mod Big5
+pub mod Bytewise
 pub mod Encode
 pub mod EucJp
 pub mod EucKr

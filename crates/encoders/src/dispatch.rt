@@ -8,6 +8,7 @@ ghost use Rattle.index_loader.specs.Table.{pointer_limit};
 ghost use Rattle.iso2022jp.specs.declared.output.OutputState.TheVariants.{Ascii};
 ghost use Rattle.encoders.specs.Encode.{IsEncoded, bytes_only, encoded, encoded_over, is_html};
 ghost use Rattle.encoders.specs.Fit.{IsFit};
+ghost use Rattle.encoders.specs.SingleByte.{single_byte_bytes};
 ghost use Rattle.encoders.specs.Stateless.{stateless};
 ghost use Rattle.encoders.specs.Steps.{encoded_from, encoded_iso};
 
@@ -19,7 +20,7 @@ use crate::gb18030::{Gb18030Encoder, is_gbk};
 use crate::mode::EncodeMode;
 use crate::over_index::{IndexEncoder, IndexRules};
 use crate::shift_jis::ShiftJis;
-use crate::single_byte::SingleByte;
+use crate::single_byte::{SingleByte, front_of};
 use crate::stateless::{ByBytes, Stateless};
 use crate::utf16::encode_utf16;
 use crate::x_user_defined::XUserDefinedEncoder;
@@ -71,7 +72,7 @@ fn encode_over(
         Family::EucJp { jis0208, .. } => encode_indexed::<EucJp>(alloc, jis0208, mode, text),
         Family::EucKr(index) => encode_indexed::<EucKr>(alloc, index, mode, text),
         Family::Big5(index) => encode_indexed::<Big5>(alloc, index, mode, text),
-        Family::SingleByte(index) => encode_indexed::<SingleByte>(alloc, index, mode, text),
+        Family::SingleByte(index) => encode_single_byte(alloc, index, mode, text),
         Family::Gb18030 { index, ranges } => {
             encode_bytes(
                 alloc,
@@ -103,6 +104,30 @@ fn encode_iso(
     ) {
         Ok((bytes, _)) => Ok(bytes),
         Err(fault) => Err(EncodeFault::from(fault)),
+    }
+}
+
+/// A text by a byte for each code point, and from the first one on that has none by its encoder.
+fn encode_single_byte(
+    alloc: Global,
+    index: &Index,
+    mode: EncodeMode,
+    text: &str,
+) -> Result<Vec<u8>, EncodeFault>
+    requires { pointer_limit index.now.kind ≡ 127 }
+    ensures { IsEncoded (bytes_only (encoded_from (stateless (single_byte_bytes index.now)) (is_html mode) 0 tt (chars text.now))) result }
+{
+    let (mut bytes, rest) = front_of(alloc, index, text)?;
+    if rest.is_empty() {
+        return Ok(bytes);
+    }
+    match encode_indexed::<SingleByte>(alloc, index, mode, rest) {
+        Ok(others) => {
+            bytes.extend_from_slice(&others)?;
+            Ok(bytes)
+        }
+        // A fault tells its place in the whole text.
+        Err(_) => encode_indexed::<SingleByte>(alloc, index, mode, text),
     }
 }
 

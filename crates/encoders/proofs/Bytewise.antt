@@ -1,0 +1,136 @@
+-- Code points in front of a text that have one byte each, and what is put for a text that begins with them.
+use Rattle.std.proofs.Common.{◌≡◌, ℕ, zero, suc, ◌+◌, ◌<◌, ◌≤◌, Bool, true, List, [], ◌∷◌, ◌++◌, Option, Some, Result, Ok, Err, map, length, take, drop, set, refl, sym, ap, ◌∙◌, arith, append_assoc, append-nil, take-append-drop, ltb-true}
+use Rattle.std.specs.Prelude.{⊤}
+use Rattle.std.specs.Str.{chars, IsAscii, IsCharBoundary, IsUtf8}
+use Rattle.std.proofs.lemmas.Bool.Decides.{nat_tests}
+use Rattle.std.proofs.lemmas.List.{map-append, take_more_set}
+use Rattle.std.proofs.lemmas.Str.{chars-IsAscii, chars-append, IsCharBoundary-from_take, IsUtf8-from_ascii}
+use Rattle.std.proofs.lemmas.Str.Ascii.{IsAscii-nil, IsAscii-cons}
+use Rattle.decoder_core.specs.declared.ascii_runs.AsciiRuns.TheVariants.{All}
+use Rattle.decoder_core.specs.Forms.{is_ascii}
+use Rattle.decoder_core.proofs.PlainRuns.{run-first}
+use Rattle.index_loader.specs.Index.{Loaded}
+use Rattle.lane_ascii.specs.Runs.{ascii_len}
+use Rattle.encoders.specs.Encode.{bytes_only}
+use Rattle.encoders.specs.Bytewise.{IsBytewise}
+use Rattle.encoders.specs.SingleByte.{single_byte_bytes}
+use Rattle.encoders.specs.Stateless.{one, stateless}
+use Rattle.encoders.specs.StatelessLaws.{by_ascii_or}
+use Rattle.encoders.specs.Steps.{Put, Table, Unencodable, behind, encoded_from, onward, taken}
+use Rattle.encoders.proofs.AsciiRuns.{ascii_within}
+
+-- ---- the ASCII in front of a text
+
+ascii-upto : (n : ℕ) (text : List ℕ) → n ≤ ascii_len text → IsAscii (take n text)
+ascii-upto zero text h = IsAscii-nil
+ascii-upto (suc n) [] h = absurd (Prim.omega arith)
+ascii-upto (suc n) (b ∷ text) h =
+    let first = run-first All n b text h in
+    IsAscii-cons b (take n text) (ltb-true b 0x80 first.0) (ascii-upto n text first.1)
+
+ascii-first : (text : List ℕ) → IsAscii (take (ascii_len text) text)
+ascii-first text = ascii-upto (ascii_len text) text (Prim.omega arith)
+
+pub ascii-boundary : (text : List ℕ) → IsUtf8 text → IsCharBoundary text (ascii_len text)
+ascii-boundary text u = IsCharBoundary-from_take text (ascii_len text) u (ascii_within text) (IsUtf8-from_ascii (take (ascii_len text) text) (ascii-first text))
+
+ascii-chars : (text : List ℕ) → chars text ≡ take (ascii_len text) text ++ chars (drop (ascii_len text) text)
+ascii-chars text =
+    let run = take (ascii_len text) text in
+    let low = ascii-first text in
+    ap chars (sym (take-append-drop (ascii_len text) text))
+    ∙ chars-append run (drop (ascii_len text) text) (IsUtf8-from_ascii run low)
+    ∙ ap (λ (cs : List ℕ). cs ++ chars (drop (ascii_len text) text)) (chars-IsAscii run low)
+
+-- ---- fronts
+
+module _ (index : Loaded) where
+  abbrev own : ℕ → Option (List ℕ)
+  own = single_byte_bytes index
+
+  abbrev each : ℕ → Option (List ℕ)
+  each b = Some (one b)
+
+  ascii-each : (run : List ℕ) → IsAscii run → map own run ≡ map each run
+  ascii-each [] low = refl
+  ascii-each (b ∷ run) low =
+      let is : is_ascii b ≡ true = Prim.grind (arith, nat_tests, low 0) in
+      ap (λ x. x ∷ map own run) (by_ascii_or _ b is) ∙ ap (λ xs. each b ∷ xs) (ascii-each run (λ i. low (suc i)))
+
+  pub front-none : (all : List ℕ) → IsBytewise index all [] all
+  front-none all = record { front = []; parts = refl; each = refl }
+
+  pub front-ascii : (text : List ℕ) → IsBytewise index (chars text) (take (ascii_len text) text) (chars (drop (ascii_len text) text))
+  front-ascii text = record {
+    front = take (ascii_len text) text;
+    parts = ascii-chars text;
+    each = ascii-each (take (ascii_len text) text) (ascii-first text);
+  }
+
+  front-one : (c b : ℕ) (rest : List ℕ) → Some (one b) ≡ own c → IsBytewise index (c ∷ rest) (one b) rest
+  front-one c b rest is = record { front = one c; parts = refl; each = ap (λ x. x ∷ []) (sym is) }
+
+  pub front-joined : (all bytes cs more rest : List ℕ) → IsBytewise index all bytes cs → IsBytewise index cs more rest → IsBytewise index all (bytes ++ more) rest
+  front-joined all bytes cs more rest a b = record {
+    front = a.front ++ b.front;
+    parts = a.parts ∙ ap (λ (xs : List ℕ). a.front ++ xs) b.parts ∙ sym (append_assoc a.front b.front rest);
+    each = map-append own a.front b.front ∙ ap (λ xs. xs ++ map own b.front) a.each ∙ ap (λ xs. map each bytes ++ xs) b.each ∙ sym (map-append each bytes more);
+  }
+
+  pub front-more : (all block rest : List ℕ) (n c b : ℕ) → IsBytewise index all (take n block) (c ∷ rest) → Some (one b) ≡ own c → n < length block
+      → IsBytewise index all (take (n + 1) (set block n b)) rest
+  front-more all block rest n c b so_far is room =
+      rw (take_more_set block n b room) (front-joined all (take n block) (c ∷ rest) (one b) rest so_far (front-one c b rest is))
+
+  -- the ASCII in front of a text, behind others
+  pub past-run : (all bytes text run others now : List ℕ) (n : ℕ) → IsBytewise index all bytes (chars text)
+      → n ≡ ascii_len text → run ≡ take n text → others ≡ drop n text → now ≡ bytes ++ run → IsBytewise index all now (chars others)
+  past-run all bytes text run others now n so_far long is behind put =
+      rw (put, is, behind, long) (front-joined all bytes (chars text) (take (ascii_len text) text) (chars (drop (ascii_len text) text)) so_far (front-ascii text))
+
+-- ---- what is put
+
+behind-alike : {S : Type 0} (bs : List ℕ) (r t : Result (Put S) Unencodable) (p : Put S)
+    → ((q : Put S) → r ≡ Ok q → t ≡ Ok q) → behind bs r ≡ Ok p → behind bs t ≡ Ok p
+behind-alike bs (Err e) t p alike h = absurd (Prim.cc)
+behind-alike bs (Ok q) t p alike h = ap (behind bs) (alike q refl) ∙ h
+
+onward-alike : {S : Type 0} (i j : ℕ) (r : Result (Put S) ℕ) (f g : S → Result (Put S) Unencodable) (p : Put S)
+    → ((s : S) (q : Put S) → f s ≡ Ok q → g s ≡ Ok q) → onward i r f ≡ Ok p → onward j r g ≡ Ok p
+onward-alike i j (Err c) f g p alike e = absurd (Prim.cc)
+onward-alike i j (Ok put) f g p alike e = behind-alike put.bytes (f put.state) (g put.state) p (alike put.state) e
+
+-- a text that is put is put alike whatever its first number is
+put-alike : {S : Type 0} (table : Table S) (html : Bool) (i j : ℕ) (s : S) (cs : List ℕ) (p : Put S)
+    → encoded_from table html i s cs ≡ Ok p → encoded_from table html j s cs ≡ Ok p
+put-alike table html i j s [] p e = e
+put-alike table html i j s (c ∷ cs) p e =
+    onward-alike i j (taken table html 2 s c) (λ next. encoded_from table html (i + 1) next cs) (λ next. encoded_from table html (j + 1) next cs) p
+    (λ next q. put-alike table html (i + 1) (j + 1) next cs q) e
+
+only-ok : (r : Result (Put ⊤) Unencodable) (bs : List ℕ) → bytes_only r ≡ Ok bs → r ≡ Ok (record { bytes = bs; state = tt })
+only-ok (Ok put) bs e = ap (λ (xs : List ℕ). Ok (record { bytes = xs; state = tt })) (Prim.cc)
+only-ok (Err d) bs e = absurd (Prim.cc)
+
+module _ (index : Loaded) (html : Bool) where
+  abbrev put_from : ℕ → List ℕ → Result (Put ⊤) Unencodable
+  put_from i cs = encoded_from (stateless (single_byte_bytes index)) html i tt cs
+
+  front-put : (i : ℕ) (front bytes cs others : List ℕ) → map (single_byte_bytes index) front ≡ map (λ b. Some (one b)) bytes
+      → put_from 0 cs ≡ Ok (record { bytes = others; state = tt }) → put_from i (front ++ cs) ≡ Ok (record { bytes = bytes ++ others; state = tt })
+  front-put i [] [] cs others each is = put-alike (stateless (single_byte_bytes index)) html 0 i tt cs _ is
+  front-put i [] (b ∷ bytes) cs others each is = absurd (Prim.cc)
+  front-put i (c ∷ front) [] cs others each is = absurd (Prim.cc)
+  front-put i (c ∷ front) (b ∷ bytes) cs others each is =
+      let head : single_byte_bytes index c ≡ Some (one b) = Prim.cc in
+      let tail : map (single_byte_bytes index) front ≡ map (λ b. Some (one b)) bytes = Prim.cc in
+      rw head (ap (behind (one b)) (front-put (i + 1) front bytes cs others tail is))
+
+  pub front-encoded : (all bytes rest others : List ℕ) → IsBytewise index all bytes rest → bytes_only (put_from 0 rest) ≡ Ok others → bytes_only (put_from 0 all) ≡ Ok (bytes ++ others)
+  front-encoded all bytes rest others x is =
+      ap (λ (cs : List ℕ). bytes_only (put_from 0 cs)) x.parts
+      ∙ ap bytes_only (front-put 0 x.front bytes rest others x.each (only-ok (put_from 0 rest) others is))
+
+  pub whole-encoded : (all bytes rest : List ℕ) → IsBytewise index all bytes rest → rest ≡ [] → bytes_only (put_from 0 all) ≡ Ok bytes
+  whole-encoded all bytes rest x none =
+      front-encoded all bytes rest [] x (ap (λ (cs : List ℕ). bytes_only (put_from 0 cs)) none) ∙ ap Ok (append-nil bytes)
