@@ -58,6 +58,8 @@ fn begins_run(text: &[u8]) -> bool {
 /// Writes the bytes of code points in front of a text, one each: how many there are, and the text
 /// behind them. It ends where the block is full, at a code point without a byte and at a run of
 /// ASCII.
+// A function of its own, lest its loop share the registers of whatever calls it.
+#[inline(never)]
 fn write_front<'t>(index: &Index, text: &'t str, block: &mut [u8; 64]) -> (usize, &'t str)
     requires { pointer_limit index.now.kind ≡ 127 }
     ensures front { IsBytewise index.now (chars text.now) (take result.0 block.new) (chars result.1.now) }
@@ -84,8 +86,8 @@ fn write_front<'t>(index: &Index, text: &'t str, block: &mut [u8; 64]) -> (usize
     (count, rest.as_str())
 }
 
-/// The bytes of the code points in front of a text that have one each, and the text behind them,
-/// which begins with one that has none.
+/// The bytes of the code points in front of a text that have one each, and the text behind them: none,
+/// or one that begins with a code point without a byte.
 pub(crate) fn front_of<'t>(
     alloc: Global,
     index: &Index,
