@@ -27,7 +27,7 @@ const CHANGES: usize = 100;
 const FULL_CHANGES: usize = 60;
 
 /// How many bytes a full document lacks to the most that there may be.
-pub const SPARE: usize = 3;
+pub const SPARE: usize = 1;
 
 /// The position of each code point and of the end, and of each also one a unit further on; `None`
 /// where memory is refused.
