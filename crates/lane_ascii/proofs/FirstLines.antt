@@ -1,17 +1,19 @@
 -- The first line mark, and the bytes in front of it.
-use Rattle.std.proofs.Common.{◌≡◌, ℕ, zero, suc, ◌+◌, ◌<◌, ◌≤◌, ◌==◌, not, Bool, true, false, cond, List, [], ◌∷◌, ◌++◌, length, take, drop, get_or, map, refl, sym, ap, ◌∙◌, arith, take-add, take-take, ltb, subst, length-take}
+use Rattle.std.proofs.Common.{◌≡◌, ℕ, zero, suc, ◌+◌, ◌*◌, ◌<◌, ◌≤◌, ◌==◌, not, Bool, true, false, cond, List, [], ◌∷◌, ◌++◌, length, take, drop, get_or, map, refl, sym, ap, ◌∙◌, arith, take-add, take-take, ltb, subst, length-take}
 use Rattle.std.proofs.lemmas.Bool.{cases_Bool}
+use Rattle.std.proofs.lemmas.Bool.Decides.{nat_tests}
+use Rattle.std.proofs.lemmas.Simd.{length-chunk}
 use Rattle.std.specs.Int.RustNames.{count_ones}
 use Rattle.std.specs.List.{prefix_len}
 use Rattle.std.proofs.lemmas.List.{drop_more}
 use Rattle.std.proofs.lemmas.List.Sums.{prefix_len-le-length}
 use Rattle.lane_ascii.specs.Bits.{first_set}
 use Rattle.lane_ascii.specs.Flags.{flags_set}
-use Rattle.lane_ascii.specs.Leads.{in_line, is_lead, leads, one_lead}
+use Rattle.lane_ascii.specs.Leads.{in_line, is_lead, is_low, leads, one_lead, AreHigh}
 use Rattle.lane_ascii.specs.Marks.{cr, lf, is_mark, marks, one_if, ends_cr, IsNthMark}
 use Rattle.lane_ascii.proofs.Flags.{ones_of}
 use Rattle.lane_ascii.proofs.Prefixes.{ends_in, goes_on, run_of_block}
-use lib.Lanes.{mask_l}
+use lib.Lanes.{mask_l, sel_l, top, zip2}
 
 -- a lane of a comparison
 abbrev pub below : ℕ → ℕ → ℕ
@@ -96,22 +98,14 @@ module _ {bs : List ℕ} {at n : ℕ} (w : IsWalked bs at n) where
   pub walked-on : (k : ℕ) {r : ℕ} → at + k ≤ prefix_len in_line bs → r ≡ leads (take k (drop at bs)) → IsWalked bs (at + k) (n + r)
   walked-on k within is = record { within = within; counted = omega (arith, w.counted, is, leads-more at k bs) }
 
-  -- a block of 32 bytes
-  module _ {ends begins front : ℕ} (room : at + 32 ≤ length bs) (e : ends ≡ mask_l (map (λ b. not (in_line b)) (take 32 (drop at bs))))
-      (l : begins ≡ mask_l (map is_lead (take 32 (drop at bs)))) (f : front ≡ first_set ends 32) where
-    run : front ≡ prefix_len in_line (take 32 (drop at bs))
-    run = run_of_block in_line bs at 32 ends front room (omega arith) e f
+  -- a block of 64 bytes
+  module _ {begins : ℕ} (l : begins ≡ mask_l (map is_lead (take 64 (drop at bs)))) where
+    pub block_goes_on : at + 64 ≤ prefix_len in_line bs → IsWalked bs (at + 64) (n + count_ones begins)
+    block_goes_on h = walked-on 64 h (ones_of (map is_lead (take 64 (drop at bs))) l ∙ leads-flags (take 64 (drop at bs)))
 
-    pub block_ends : front < 32 → at + front ≡ prefix_len in_line bs
-    block_ends h = ends_in in_line bs at 32 front w.within room run h
-
-    pub block_goes_on : 32 ≤ front → IsWalked bs (at + 32) (n + count_ones begins)
-    block_goes_on h =
-        walked-on 32 (goes_on in_line bs at 32 front w.within run h) (ones_of (map is_lead (take 32 (drop at bs))) l ∙ leads-flags (take 32 (drop at bs)))
-
-    pub block_front : {r : ℕ} → front < 32 → r ≡ flags_set (take front (map is_lead (take 32 (drop at bs)))) → IsWalked bs (at + front) (n + r)
-    block_front h is =
-        walked-on front (omega (arith, block_ends h)) (is ∙ leads-taken front (take 32 (drop at bs)) ∙ ap leads (take-take front 32 (drop at bs) (omega (arith, h))))
+    pub block_front : {front r : ℕ} → front < 64 → at + front ≡ prefix_len in_line bs → r ≡ flags_set (take front (map is_lead (take 64 (drop at bs)))) → IsWalked bs (at + front) (n + r)
+    block_front {front} h end is =
+        walked-on front (omega (arith, end)) (is ∙ leads-taken front (take 64 (drop at bs)) ∙ ap leads (take-take front 64 (drop at bs) (omega (arith, h))))
 
   -- a byte
   one : at < length bs → take 1 (drop at bs) ≡ get_or bs at 0 ∷ []
@@ -126,3 +120,57 @@ module _ {bs : List ℕ} {at n : ℕ} (w : IsWalked bs at n) where
   byte_ends h e =
       let none : 0 ≡ prefix_len in_line (take 1 (drop at bs)) = rw (one h, ← e) refl in
       omega (arith, ends_in in_line bs at 1 0 w.within (omega (arith, h)) none (omega arith))
+
+-- ---- a block of 64 bytes
+
+module _ (bs : List ℕ) (at mask end : ℕ) (front : at ≤ prefix_len in_line bs) (room : at + 64 ≤ length bs)
+    (e : mask ≡ mask_l (map (λ b. not (in_line b)) (take 64 (drop at bs)))) (f : end ≡ first_set mask 64) where
+  run : end ≡ prefix_len in_line (take 64 (drop at bs))
+  run = run_of_block in_line bs at 64 mask end room (omega arith) e f
+
+  pub block_ends : end < 64 → at + end ≡ prefix_len in_line bs
+  block_ends h = ends_in in_line bs at 64 end front room run h
+
+  pub block_full : 64 ≤ end → at + 64 ≤ prefix_len in_line bs
+  block_full h = goes_on in_line bs at 64 end front run h
+
+-- ---- bytes above all marks
+
+-- the lower lanes of two vectors
+abbrev lower : List ℕ → List ℕ → List ℕ
+lower xs ys = sel_l (map (top 7) (zip2 below xs ys)) xs ys
+
+of_lower : (x y : ℕ) → is_low (cond (top 7 (below x y)) x y) ≡ false → (is_low x ≡ false) × (is_low y ≡ false)
+of_lower x y h =
+    let is : top 7 (below x y) ≡ ltb x y = grind (arith, cases_Bool (ltb x y)) in
+    (grind (arith, nat_tests, is, h), grind (arith, nat_tests, is, h))
+
+pub high-lower : (xs ys : List ℕ) → length xs ≡ length ys → AreHigh (lower xs ys) → AreHigh xs × AreHigh ys
+high-lower [] [] long h = (tt, tt)
+high-lower [] (y ∷ ys) long h = absurd (omega arith)
+high-lower (x ∷ xs) [] long h = absurd (omega arith)
+high-lower (x ∷ xs) (y ∷ ys) long h =
+    let first = of_lower x y h.0 in
+    let rest = high-lower xs ys (omega arith) h.1 in
+    ((first.0, rest.0), (first.1, rest.1))
+
+lowest_clear : (b : Bool) (n : ℕ) → cond b 1 0 + 2 * n ≡ 0 → (b ≡ false) × (n ≡ 0)
+lowest_clear true n e = absurd (omega arith)
+lowest_clear false n e = (refl, omega arith)
+
+pub high-mask : (v : List ℕ) → mask_l (map is_low v) ≡ 0 → AreHigh v
+high-mask [] e = tt
+high-mask (b ∷ bs) e = let clear = lowest_clear (is_low b) _ e in (clear.0, high-mask bs clear.1)
+
+high-run : (v : List ℕ) → AreHigh v → prefix_len in_line v ≡ length v
+high-run [] h = refl
+high-run (b ∷ bs) h =
+    let in_it : in_line b ≡ true = grind (arith, nat_tests, h.0) in
+    let rest = high-run bs h.1 in
+    rw in_it (omega (arith, rest))
+
+-- a block of 16 bytes
+pub high-goes-on : (bs : List ℕ) (at : ℕ) → at + 16 ≤ length bs → AreHigh (take 16 (drop at bs)) → at ≤ prefix_len in_line bs → at + 16 ≤ prefix_len in_line bs
+high-goes-on bs at room high front =
+    let run = high-run (take 16 (drop at bs)) high in
+    goes_on in_line bs at 16 _ front refl (omega (arith, run, length-chunk at 16 bs room))

@@ -1,7 +1,7 @@
 //! The first line mark, and what stands in front of it.
-ghost use Rattle.std.specs.Prelude.{◌≡◌, ◌≤◌, false, map, take, not, MatchOption};
+ghost use Rattle.std.specs.Prelude.{◌≡◌, ◌+◌, ◌<◌, ◌≤◌, false, length, map, take, not, MatchOption};
 ghost use Rattle.std.specs.List.{prefix_len};
-ghost use Rattle.lane_ascii.specs.Leads.{in_line, is_lead, leads, one_lead};
+ghost use Rattle.lane_ascii.specs.Leads.{in_line, is_lead, is_low, leads, one_lead, AreHigh};
 ghost use Rattle.lane_ascii.specs.Marks.{marks, IsNthMark};
 ghost use lib.Lanes.{mask_l};
 
@@ -39,24 +39,70 @@ fn line_front(bytes: &[u8]) -> LineFront
 {
     let mut at = 0;
     let mut leads = 0;
-    'parts: while bytes.len() - at >= 32 {
-        let lanes = u8x32::from_slice(&bytes[at..]);
-        let begins = leads_in(lanes);
-        let front = lowest_set(ends_in(lanes), 32);
-        if front < 32 {
+    'parts: while bytes.len() - at >= 64 {
+        let begins = leads_in(u8x64::from_slice(&bytes[at..]));
+        let front = end_in_64(bytes, at);
+        if front < 64 {
             return LineFront {
                 at: at + front,
                 leads: leads + ones_before(begins, front),
             };
         }
         leads += begins.count_ones() as usize;
-        at += 32;
+        at += 64;
     }
     'bytes: while at < bytes.len() && in_line(bytes[at]) {
         leads += lead_of(bytes[at]);
         at += 1;
     }
     LineFront { at, leads }
+}
+
+/// Where the first of 64 bytes stands that is CR or LF, or 64 where none is.
+#[inline(always)]
+fn end_in_64(bytes: &[u8], at: usize) -> usize
+    requires front { at ≤ prefix_len in_line bytes.now }
+    requires room { at + 64 ≤ length bytes.now }
+    ensures end { result < 64 → at + result ≡ prefix_len in_line bytes.now }
+    ensures none { 64 ≤ result → at + 64 ≤ prefix_len in_line bytes.now }
+{
+    if may_end(bytes, at) {
+        lowest_set(ends_in(u8x64::from_slice(&bytes[at..])), 64)
+    } else {
+        64
+    }
+}
+
+/// Whether one of 64 bytes may be CR or LF: in most blocks of a long line no byte is so low, which the
+/// least of each four tells.
+#[inline(always)]
+fn may_end(bytes: &[u8], at: usize) -> bool
+    requires front { at ≤ prefix_len in_line bytes.now }
+    requires room { at + 64 ≤ length bytes.now }
+    ensures { result ≡ false → at + 64 ≤ prefix_len in_line bytes.now }
+{
+    let first = u8x16::from_slice(&bytes[at..]);
+    let second = u8x16::from_slice(&bytes[at + 16..]);
+    let third = u8x16::from_slice(&bytes[at + 32..]);
+    let fourth = u8x16::from_slice(&bytes[at + 48..]);
+    low_in(lower(lower(first, second), lower(third, fourth))) != 0
+}
+
+/// The lanes that are as low as CR and LF are.
+#[inline(always)]
+fn low_in<const N: usize>(lanes: Simd<u8, N>) -> u64
+    requires { N ≤ 64 }
+    ensures { result ≡ mask_l (map is_low lanes.entry) }
+{
+    lanes.simd_lt(Simd::splat(14)).to_bitmask()
+}
+
+/// The lower lane of each two.
+#[inline(always)]
+fn lower(first: u8x16, second: u8x16) -> u8x16
+    ensures { AreHigh result → AreHigh first × AreHigh second }
+{
+    first.simd_min(second)
 }
 
 /// The lanes that are CR or LF.
