@@ -1,5 +1,9 @@
 -- The errors of pieces in a row are those of the document.
-use Rattle.std.proofs.Common.{◌≡◌, refl, sym, ap, ◌∙◌, subst, ℕ, zero, suc, ◌+◌, ◌-◌, ◌<◌, ◌≤◌, Bool, true, false, List, [], ◌∷◌, ◌++◌, take, drop, get_or, length, map, slice_get, Some, None, arith, append_assoc, append-nil, length-append, take-append-drop, add-one, Option}
+use Rattle.std.proofs.Common.{◌≡◌, refl, sym, ap, ◌∙◌, subst, ℕ, zero, suc, ◌+◌, ◌-◌, ◌<◌, ◌≤◌, Bool, true, false, List, [], ◌∷◌, ◌++◌, take, drop, get_or, length, map, slice_get, Some, None, MatchOption, arith, append_assoc, append-nil, length-append, length-drop, take-append-drop, add-one, Option}
+use Rattle.std.proofs.Math.Seq.{drop-append-add}
+use Rattle.std.proofs.Math.ListN.{drop_of_length-le}
+use Rattle.std.proofs.lemmas.List.{drop-append-le}
+use Rattle.piece_rope.specs.Errors.{AreFirstOf}
 use Rattle.state_memo.specs.declared.kind.ItemKind.{ItemKind}
 use Rattle.state_memo.specs.declared.kind.ItemKind.TheVariants.{AsciiOne}
 use Rattle.state_memo.specs.declared.run.Run.{Run}
@@ -13,7 +17,7 @@ use Rattle.piece_rope.proofs.Prelude.{ends_at, take_all, slice_get_within, slice
 use Rattle.piece_rope.proofs.Prelude.{IsKept}
 use Rattle.piece_rope.proofs.Answering.{error_places-append, errors-append}
 use Rattle.piece_rope.proofs.Bounding.{one_few}
-use Rattle.piece_rope.proofs.Lists.{element, take-next, drop-next, get-front, get-back}
+use Rattle.piece_rope.proofs.Lists.{element, first-behind, take-next, drop-next, get-front}
 use Rattle.piece_rope.proofs.Counting.{found-low, sums-bytes}
 
 -- each item begins where the one before ends
@@ -149,20 +153,25 @@ error-later base from zero (x ∷ es) before e h at next = cc (h.0, error-first 
 error-later base from (suc n) (x ∷ es) before e h at next = cc (h.0, error-later base (ends_at base x.end) n es before e h.1 at next)
 
 -- one more run gone past
-pub run-passed : (base from left : ℕ) (r : Run) (rs : List Run) → errors_in (items_of_run r) ≤ left
-    → slice_get (errors_at base from (items_of_runs (r ∷ rs))) left ≡ slice_get (errors_at base (ends_at base r.last) (items_of_runs rs)) (left - errors_in (items_of_run r))
-run-passed base from left r rs l =
-    let here = items_of_run r in
-    let size = errors_at-length base from here in
-    let back = get-back (errors_at base from here) (errors_at base (last_at base from here) (items_of_runs rs)) left (omega (arith, size, l)) in
-    cc ((errors_at-append base from here (items_of_runs rs)).0, back, size, run-last base from r)
-
-pub run-holds : (base from left : ℕ) (r : Run) (rs : List Run) → left < errors_in (items_of_run r)
-    → slice_get (errors_at base from (items_of_run r)) left ≡ slice_get (errors_at base from (items_of_runs (r ∷ rs))) left
-run-holds base from left r rs l =
+run-passed : (base from passed : ℕ) (r : Run) (rs : List Run) → errors_in (items_of_run r) ≤ passed
+    → drop passed (errors_at base from (items_of_runs (r ∷ rs))) ≡ drop (passed - errors_in (items_of_run r)) (errors_at base (ends_at base r.last) (items_of_runs rs))
+run-passed base from passed r rs l =
     let here = items_of_run r in
     let later = errors_at base (last_at base from here) (items_of_runs rs) in
-    cc ((errors_at-append base from here (items_of_runs rs)).0, get-front (errors_at base from here) later left (omega (arith, errors_at-length base from here, l)))
+    let size = errors_at-length base from here in
+    let sum : length (errors_at base from here) + (passed - errors_in here) ≡ passed = omega (arith, size, l) in
+    cc ((errors_at-append base from here (items_of_runs rs)).0, drop-append-add (errors_at base from here) later (passed - errors_in here), sum, run-last base from r)
+
+-- the error that comes next, and those behind it
+run-holds : (base from passed : ℕ) (r : Run) (rs : List Run) (place : Place) → slice_get (errors_at base from (items_of_run r)) passed ≡ Some place
+    → drop passed (errors_at base from (items_of_runs (r ∷ rs))) ≡ place ∷ drop (suc passed) (errors_at base from (items_of_runs (r ∷ rs)))
+run-holds base from passed r rs place at =
+    let here = items_of_run r in
+    let own = errors_at base from here in
+    let later = errors_at base (last_at base from here) (items_of_runs rs) in
+    let there : slice_get (errors_at base from (items_of_runs (r ∷ rs))) passed ≡ Some place =
+    cc ((errors_at-append base from here (items_of_runs rs)).0, get-front own later passed (slice_get_within own passed place at), at) in
+    drop-next (errors_at base from (items_of_runs (r ∷ rs))) passed place there
 
 -- ---- over pieces
 
@@ -219,27 +228,31 @@ module _ (count : ErrorCount) (bom n k : ℕ) (ps : List Entry) (s : Sum) (found
   low : s.errors ≤ n
   low = found-low (errors_of_sum count) ps n k s refl found
 
-  pub error-in-piece : (p : Entry) (tail : Outcome) → slice_get ps k ≡ Some p
-      → slice_get (errors_at s.bytes (last_from 0 bom (take k ps)) (here_of p).items) (n - s.errors) ≡ slice_get (all_errors bom ps tail) n
-  error-in-piece p tail at =
+  pub next-in-piece : (p : Entry) (tail : Outcome) → slice_get ps k ≡ Some p → let next = drop (n - s.errors) (errors_at s.bytes (last_from 0 bom (take k ps)) (here_of p).items) in
+      AreFirstOf next (drop n (all_errors bom ps tail)) × (0 < length next)
+  next-in-piece p tail at =
       let front = errors_from 0 bom (take k ps) in
       let o = here_of p in
-      let here = errors_at (sums_of (take k ps)).bytes (last_from 0 bom (take k ps)) o.items in
+      let here = errors_at s.bytes (last_from 0 bom (take k ps)) o.items in
       let cut = piece-cut bom k ps p tail at in
       let size : length front ≡ s.errors = cc (errors_from-length 0 bom (take k ps), found.sum) in
       let next = sums-next (λ (t : Sum). t.errors) (λ a b. refl) ps k p at in
       let next_is : (sums_of (take (k + 1) ps)).errors ≡ s.errors + o.sum.errors = cc (add-one k, next, found.sum) in
       let long : length here ≡ o.sum.errors = errors_at-length _ _ o.items ∙ sym o.summed.errors in
-      let inside = get-front here cut.0 (n - s.errors) (omega (arith, found.behind (slice_get_within ps k p at), next_is, long, low)) in
-      cc (inside, size, get-back front (here ++ cut.0) n (omega (arith, size, low)), cut.1, found.sum)
+      let within : n - s.errors < length here = omega (arith, found.behind (slice_get_within ps k p at), next_is, long, low) in
+      let sum : length front + (n - s.errors) ≡ n = omega (arith, size, low) in
+      let all : all_errors bom ps tail ≡ front ++ (here ++ cut.0) = cc (cut.1, found.sum) in
+      let inside = drop-append-le (n - s.errors) here cut.0 (omega (arith, within)) in
+      (record { others = cut.0; parts = cc (all, sum, drop-append-add front (here ++ cut.0) (n - s.errors), inside) }, omega (arith, length-drop (n - s.errors) here, within))
 
-  pub error-in-tail : (tail : Outcome) → length ps ≤ k
-      → slice_get (errors_at s.bytes (last_from 0 bom (take k ps)) tail.items) (n - s.errors) ≡ slice_get (all_errors bom ps tail) n
-  error-in-tail tail l =
+  pub next-in-tail : (tail : Outcome) → length ps ≤ k
+      → drop n (all_errors bom ps tail) ≡ drop (n - s.errors) (errors_at s.bytes (last_from 0 bom (take k ps)) tail.items)
+  next-in-tail tail l =
       let all : take k ps ≡ ps = take_all k ps l in
       let size : length (errors_from 0 bom ps) ≡ s.errors = cc (all, errors_from-length 0 bom ps, found.sum) in
       let end = errors_at (sums_of ps).bytes (last_from 0 bom ps) tail.items in
-      cc (all, size, found.sum, get-back (errors_from 0 bom ps) end n (omega (arith, size, low)))
+      let sum : length (errors_from 0 bom ps) + (n - s.errors) ≡ n = omega (arith, size, low) in
+      cc (all, found.sum, sum, drop-append-add (errors_from 0 bom ps) end (n - s.errors))
 
 -- one piece back
 pub last-back : (bom k : ℕ) (ps : List Entry) (p : Entry) → slice_get ps k ≡ Some p → last_from 0 bom (take (suc k) ps) ≡ last_at (sums_of (take k ps)).bytes (last_from 0 bom (take k ps)) (here_of p).items
@@ -255,19 +268,35 @@ runs-last base from (x ∷ y ∷ rs) r at =
     let later = runs-last base (last_at base from (items_of_run x)) (y ∷ rs) r (ap (λ (n : ℕ). slice_get (x ∷ y ∷ rs) n) k ∙ at) in
     (errors_at-append base from (items_of_run x) (items_of_runs (y ∷ rs))).1 ∙ later
 
-module _ (base from left k : ℕ) (rs : List Run) (d : Run) (l : k < length rs) where
+-- behind all runs there is no error
+pub no-more : (base from passed k : ℕ) (rs : List Run) → length rs ≤ k → drop passed (errors_at base from (items_of_runs (drop k rs))) ≡ []
+no-more base from passed k rs h =
+    ap (λ (xs : List Run). drop passed (errors_at base from (items_of_runs xs))) (drop_of_length-le rs h) ∙ drop_of_length-le [] (omega arith)
+
+module _ (base from passed k : ℕ) (rs : List Run) (d : Run) (l : k < length rs) where
   abbrev r : Run
   r = get_or rs k d
 
   next : drop k rs ≡ r ∷ drop (suc k) rs
   next = drop-next rs k r (slice_get-get_or rs k d l)
 
-  pub run-holds-at : left < errors_in (items_of_run r) → slice_get (errors_at base from (items_of_run r)) left ≡ slice_get (errors_at base from (items_of_runs (drop k rs))) left
-  run-holds-at m = cc (run-holds base from left r (drop (suc k) rs) m, next)
+  pub run-holds-at : (place : Place) → slice_get (errors_at base from (items_of_run r)) passed ≡ Some place
+      → drop passed (errors_at base from (items_of_runs (drop k rs))) ≡ place ∷ drop (suc passed) (errors_at base from (items_of_runs (drop k rs)))
+  run-holds-at place m = cc (run-holds base from passed r (drop (suc k) rs) place m, next)
 
-  pub run-passed-at : (to rest : ℕ) → rest ≡ left - errors_in (items_of_run r) → errors_in (items_of_run r) ≤ left → to ≡ ends_at base r.last
-      → slice_get (errors_at base to (items_of_runs (drop (k + 1) rs))) rest ≡ slice_get (errors_at base from (items_of_runs (drop k rs))) left
-  run-passed-at to rest rest_is m to_is = cc (run-passed base from left r (drop (suc k) rs) m, next, add-one k)
+  pub next-found : (found : Option Place) (left : List Place) → passed < errors_in (items_of_run r) → found ≡ slice_get (errors_at base from (items_of_run r)) passed
+      → drop passed (errors_at base from (items_of_runs (drop k rs))) ≡ left
+      → MatchOption found (left ≡ []) (λ place. left ≡ place ∷ drop (passed + 1) (errors_at base from (items_of_runs (drop k rs))))
+  next-found None left m found_is left_is =
+      let p = element (errors_at base from (items_of_run r)) passed (omega (arith, m, errors_at-length base from (items_of_run r))) in
+      absurd (cc (p.1, found_is))
+  next-found (Some place) left m found_is left_is =
+      let more : suc passed ≡ passed + 1 = omega arith in
+      sym left_is ∙ run-holds-at place (sym found_is) ∙ ap (λ (n : ℕ). place ∷ drop n (errors_at base from (items_of_runs (drop k rs)))) more
+
+  pub run-passed-at : (to rest : ℕ) → rest ≡ passed - errors_in (items_of_run r) → errors_in (items_of_run r) ≤ passed → to ≡ ends_at base r.last
+      → drop rest (errors_at base to (items_of_runs (drop (k + 1) rs))) ≡ drop passed (errors_at base from (items_of_runs (drop k rs)))
+  run-passed-at to rest rest_is m to_is = cc (run-passed base from passed r (drop (suc k) rs) m, next, add-one k)
 
 module _ (bom next : ℕ) (ps : List Entry) (p : Entry) (at : slice_get ps next ≡ Some p) where
   pub end-back : (k base here : ℕ) → k ≡ suc next → base ≡ (sums_of (take k ps)).bytes → here ≡ (here_of p).sum.bytes → base - here ≡ (sums_of (take next ps)).bytes
@@ -285,3 +314,25 @@ module _ (bom next : ℕ) (ps : List Entry) (p : Entry) (at : slice_get ps next 
   pub last-some : (rs : List Run) (r : Run) (base : ℕ) → items_of_runs rs ≡ (here_of p).items → slice_get rs (length rs - 1) ≡ Some r
       → base ≡ (sums_of (take next ps)).bytes → ends_at base r.last ≡ last_from 0 bom (take (suc next) ps)
   last-some rs r base own some base_is = cc (last-back bom next ps p at, runs-last base (last_from 0 bom (take next ps)) rs r some)
+
+-- ---- from one error to the next
+
+-- 1 where a cursor has no error left
+abbrev pub ended : List Place → ℕ
+ended [] = 1
+ended (p ∷ ps) = 0
+
+pub ended-le : (next : List Place) → ended next ≤ 1
+ended-le [] = omega arith
+ended-le (p ∷ ps) = omega arith
+
+pub not-ended : (next all : List Place) (n : ℕ) → (next ≡ [] → drop n all ≡ []) → n < length all → ended next ≡ 0
+not-ended [] all n some l = absurd (omega (arith, ap length (some refl), length-drop n all, l))
+not-ended (p ∷ ps) all n some l = refl
+
+-- the error that comes next of all, and what is behind it
+pub next-of-all : (all next left : List Place) (n : ℕ) (place : Place) → AreFirstOf left (drop n all) → left ≡ place ∷ next
+    → (slice_get all n ≡ Some place) × AreFirstOf next (drop (n + 1) all)
+next-of-all all next left n place first is =
+    let behind = first-behind all (next ++ first.others) n place (first.parts ∙ ap (λ (ps : List Place). ps ++ first.others) is) in
+    (behind.0, record { others = first.others; parts = behind.1 })

@@ -13,6 +13,16 @@ take-next xs n x at = take-suc xs n x (slice_get_within xs n x at) ∙ ap (λ (y
 pub drop-next : {X : Type 0} (xs : List X) (n : ℕ) (x : X) → slice_get xs n ≡ Some x → drop n xs ≡ x ∷ drop (suc n) xs
 drop-next xs n x at = drop-cons xs n x (slice_get_within xs n x at) ∙ ap (λ (y : _). y ∷ drop (suc n) xs) (get_or_from_slice_get xs n x x at)
 
+-- the first of those from a place on, and the rest
+pub first-behind : {X : Type 0} (xs ys : List X) (n : ℕ) (x : X) → drop n xs ≡ x ∷ ys → (slice_get xs n ≡ Some x) × (drop (n + 1) xs ≡ ys)
+first-behind [] ys zero x e = absurd cc
+first-behind [] ys (suc n) x e = absurd cc
+first-behind (z ∷ xs) ys zero x e = (cc, cc)
+first-behind (z ∷ xs) ys (suc n) x e =
+    let rest = first-behind xs ys n x e in
+    let k : suc n + 1 ≡ suc (n + 1) = omega arith in
+    (rest.0, ap (λ (m : ℕ). drop m (z ∷ xs)) k ∙ rest.1)
+
 -- an element, counted from a place on
 pub at-behind : {X : Type 0} (xs : List X) (first n index : ℕ) (x : X) → index ≡ first + n → slice_get xs index ≡ Some x → slice_get (drop first xs) n ≡ Some x
 at-behind xs first n index x e at =

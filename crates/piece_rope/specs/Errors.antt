@@ -1,5 +1,5 @@
 -- The errors of a document, read off what its pieces remember.
-use Rattle.std.specs.Prelude.{ℕ, ◌+◌, Bool, true, false, List, [], ◌∷◌, ◌++◌}
+use Rattle.std.specs.Prelude.{◌≡◌, ℕ, ◌+◌, Bool, true, false, List, [], ◌∷◌, ◌++◌}
 use Rattle.enc_names.specs.declared.place.Place.{Place}
 use Rattle.state_memo.specs.declared.ended.Ended.{Ended}
 use Rattle.state_memo.specs.declared.outcome.Outcome.{Outcome}
@@ -32,3 +32,8 @@ last_from base from (p ∷ ps) = last_from (base + (here_of p).sum.bytes) (last_
 -- the errors of all pieces and of the end behind them, behind a byte order mark of so many bytes
 abbrev pub all_errors : ℕ → List Entry → Outcome → List Place
 all_errors bom ps tail = errors_from 0 bom ps ++ errors_at (sums_of ps).bytes (last_from 0 bom ps) tail.items
+
+-- these places are the first of all
+pub record AreFirstOf (first all : List Place) : Type 0 where
+  pub others : List Place
+  pub parts : all ≡ first ++ others

@@ -15,7 +15,7 @@ mod several;
 
 use crate::bytes::push_bytes;
 use crate::entered::Entered;
-use crate::errors::{errors_between, nth_error};
+use crate::errors::{errors_between, first_place};
 use crate::fault::DocFault;
 use crate::fresh::{Fresh, fresh_pieces};
 use crate::install::install_edit;
@@ -223,7 +223,7 @@ impl<'i> Doc<'i> {
     pub fn fatal(&self) -> Option<Place>
         ensures { result ≡ first_error self.now }
     {
-        nth_error(&self.pieces, &self.tail, self.bom_len(), 0)
+        first_place(&self.pieces, &self.tail, self.bom_len())
     }
 
     /// The encoding given at the open.

@@ -9,6 +9,7 @@ mod doc;
 mod edit;
 mod edited;
 mod entered;
+mod error_cursor;
 mod errors;
 mod examples;
 mod fault;

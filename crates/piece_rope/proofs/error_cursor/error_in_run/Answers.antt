@@ -1,6 +1,6 @@
 use Rattle.piece_rope.proofs.Prelude.{◌≡◌, sym, suc, arith, ◌-◌, rules, items_of_run, ends_at}
 use Rattle.piece_rope.proofs.Erring.{none-left, run-errors, error-first, error-later}
-use Rattle.piece_rope.proofs.errors.error_in_run.Goals as goal
+use Rattle.piece_rope.proofs.error_cursor.error_in_run.Goals as goal
 
 pub returns-in_default : goal.returns-in_default
 returns-in_default c = absurd (none-left (items_of_run c.args.run) c.args.n c.args.n c.requires (omega arith) (sym c.in_default.ensures))

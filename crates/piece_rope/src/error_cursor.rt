@@ -1,0 +1,91 @@
+//! The errors of a piece, one after the other.
+ghost use Rattle.std.specs.Prelude.{◌≡◌, ◌<◌, [], ◌∷◌, drop, slice_get, MatchOption};
+ghost use Rattle.state_memo.specs.Items.{errors_in};
+ghost use Rattle.state_memo.specs.Runs.{items_of_run};
+ghost use Rattle.piece_rope.specs.Errors.{errors_at};
+
+use enc_names::Place;
+use state_memo::{Outcome, Run};
+use std::marker::Model;
+
+/// The errors of a piece from one on, each found from the one before. Contracts see their places.
+#[derive(Drop)]
+pub(crate) struct ErrorCursor<'r> {
+    runs: &'r [Run],
+    /// The byte at which the piece begins.
+    base: u64,
+    /// The number of the run that the cursor is at.
+    at: usize,
+    /// Where this run begins.
+    from: u64,
+    /// How many errors of it are behind the cursor.
+    passed: u64,
+}
+
+impl<'r> Model for ErrorCursor<'r> {
+    ghost use Rattle.std.specs.Prelude.{List, drop};
+    ghost use Rattle.enc_names.specs.declared.place.Place.{Place};
+    ghost use Rattle.state_memo.specs.Runs.{items_of_runs};
+    ghost use Rattle.piece_rope.specs.Errors.{errors_at};
+
+    ghost Value = { List Place };
+
+    ghost view = { λ c. drop c.passed (errors_at c.base c.from (items_of_runs (drop c.at c.runs.now))) };
+}
+
+impl<'r> ErrorCursor<'r> {
+    /// The errors from number `n` on of an outcome whose piece begins at byte `base`, and its first
+    /// item at `from`.
+    pub(crate) fn at(outcome: &'r Outcome, base: u64, from: u64, n: u64) -> ErrorCursor<'r>
+        ensures { result ≡ drop n (errors_at base from outcome.now.items) }
+    {
+        ErrorCursor {
+            runs: outcome.items.runs(),
+            base,
+            at: 0,
+            from,
+            passed: n,
+        }
+    }
+
+    /// Where the error that comes next stands.
+    pub(crate) fn next(&mut self) -> Option<Place>
+        ensures { MatchOption result (self.old ≡ []) (λ place. self.old ≡ place ∷ self.new) }
+    {
+        let (runs, base) = (self.runs, self.base);
+        let (mut at, mut from, mut passed) = (self.at, self.from, self.passed);
+        'runs: while at < runs.len() && runs[at].errors() <= passed {
+            passed -= runs[at].errors();
+            from = base.saturating_add_signed(i64::from(runs[at].last));
+            at += 1;
+        }
+        if at >= runs.len() {
+            return None;
+        }
+        self.at = at;
+        self.from = from;
+        self.passed = passed + 1;
+        error_in_run(runs[at], base, from, passed)
+    }
+}
+
+/// Where the item of a run that is error number `n` of it stands, in a piece that begins at byte
+/// `base`. The run begins at `from`.
+fn error_in_run(run: Run, base: u64, from: u64, n: u64) -> Option<Place>
+    requires { n < errors_in (items_of_run run) }
+    ensures { result ≡ slice_get (errors_at base from (items_of_run run)) n }
+{
+    let (first, second) = (run, run);
+    let Some(item) = first.item(n) else {
+        return None;
+    };
+    let to = base.saturating_add_signed(item.end);
+    if n == 0 {
+        return Some(Place { from, to });
+    }
+    let Some(before) = second.item(n - 1) else {
+        return None;
+    };
+    let begun = base.saturating_add_signed(before.end);
+    Some(Place { from: begun, to })
+}
