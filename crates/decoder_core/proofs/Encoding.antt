@@ -1,7 +1,7 @@
 -- Code points one after another.
-use Rattle.std.proofs.Common.{◌≡◌, ℕ, ◌+◌, ◌-◌, ◌≤◌, Bool, List, [], ◌∷◌, ◌++◌, All, Result, Ok, Err, length, take, drop, refl, sym, ap, ◌∙◌, subst, arith, append_assoc, length-append}
+use Rattle.std.proofs.Common.{◌≡◌, ℕ, ◌+◌, ◌-◌, ◌≤◌, Bool, List, [], ◌∷◌, ◌++◌, All, Result, Ok, Err, length, take, drop, refl, sym, ap, ◌∙◌, subst, arith, append_assoc, length-append, length-take, take-take}
 use Rattle.decoder_core.proofs.Prelude.{chars, IsUtf8, IsCharBoundary, encode_utf8, len_utf8, nil_from_length, take-append-drop}
-use Rattle.decoder_core.proofs.Prelude.{IsCharBoundary-from_drop, IsCharBoundary-past_char, IsUtf8-past_char, chars-nil, chars_past_char}
+use Rattle.decoder_core.proofs.Prelude.{IsCharBoundary-from_drop, IsUtf8-past_char, chars-nil, chars_past_char}
 use Rattle.decoder_core.proofs.Prelude.{encode_ascii, len_utf8_bounds, length-encode, PutOne, PutAll, fault_at, Put, PutsItself, onward, taken}
 use Rattle.decoder_core.proofs.Prelude.{encoded_from}
 use Rattle.std.proofs.lemmas.List.Elements.{All-head, All-tail}
@@ -119,11 +119,15 @@ module _ {S : Type 0} (table : Table S) (html : Bool) where
   run-boundary s text n is le plain =
       IsCharBoundary-from_drop text n le (run-goes 0 s (take n text) (drop n text) text (sym (take-append-drop n text)) is plain).0
 
+  -- a run that was looked for in the first k bytes
+  pub near-run : (s : S) (k n : ℕ) (near text : List ℕ) → near ≡ take k text → n ≤ length near → All (PutsItself table s) (take n near)
+      → (n ≤ length text) × All (PutsItself table s) (take n text)
+  near-run s k n near text near_is le plain =
+      let long : length near ≡ length (take k text) = ap length near_is in
+      let short = length-take k text in (
+        omega (arith, short, long, le),
+        subst (All (PutsItself table s)) (ap (take n) near_is ∙ take-take n k text (omega (arith, short, long, le))) plain,
+      )
+
 pub chars_of_empty : (text : List ℕ) → length text ≡ 0 → chars text ≡ []
 chars_of_empty text none = ap chars (nil_from_length text none) ∙ chars-nil
-
--- the text behind its first code point
-pub char-boundary : (text rest : List ℕ) (c : ℕ) → IsUtf8 text → text ≡ encode_utf8 c ++ rest → IsCharBoundary text (len_utf8 c)
-char-boundary text rest c is parts =
-    let same : 0 + len_utf8 c ≡ len_utf8 c = omega arith in
-    subst (IsCharBoundary text) same (IsCharBoundary-past_char text rest 0 c (omega arith) is parts)

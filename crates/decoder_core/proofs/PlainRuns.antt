@@ -66,7 +66,7 @@ of-ascii WithoutEscapes b h = h.0
 first-ascii : (runs : AsciiRuns) (b : ℕ) → is_of runs b ≡ true → b < 128
 first-ascii runs b e = of-ascii runs b (of-class runs b e)
 
-run-ascii : (runs : AsciiRuns) (n : ℕ) (xs : List ℕ) → n ≤ run_len runs xs → IsAscii (take n xs)
+pub run-ascii : (runs : AsciiRuns) (n : ℕ) (xs : List ℕ) → n ≤ run_len runs xs → IsAscii (take n xs)
 run-ascii runs zero xs h = IsAscii-nil
 run-ascii runs (suc n) [] h = absurd (omega arith)
 run-ascii runs (suc n) (b ∷ xs) h =

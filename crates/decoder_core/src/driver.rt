@@ -9,6 +9,7 @@ ghost use Rattle.decoder_core.specs.EncoderRuns.{IsRun};
 use crate::byte_blocks::ByteBlocks;
 use crate::encoder::{Encoder, EncoderAnswer, EncoderTurn};
 use crate::fault::{FromFault, PutFault};
+use crate::run_bulk::LONGEST_RUN;
 use itoa::Buffer;
 use std::alloc::{AllocError, Global};
 
@@ -83,11 +84,12 @@ fn put_code_point<E: Encoder>(
 fn split_first(text: &str) -> Option<(char, &str)>
     ensures { MatchOption result (length text.now ≡ 0) (λ parts. text.now ≡ encode_utf8 parts.0 ++ parts.1.now) }
 {
-    let code_point = text.chars().next()?;
-    Some((code_point, &text[code_point.len_utf8()..]))
+    let mut code_points = text.chars();
+    let first = code_points.next()?;
+    Some((first, code_points.as_str()))
 }
 
-/// Puts the run of ASCII in front of a text that the encoder puts as it is: the text behind it.
+/// Puts ASCII in front of a text that the encoder puts as it is: the text behind it.
 // In the loop over the code points.
 #[inline(always)]
 fn put_run<'t, E: Encoder>(
@@ -98,12 +100,14 @@ fn put_run<'t, E: Encoder>(
 ) -> Result<&'t str, AllocError>
     ensures { IfOk result (λ rest. IsRun (E.table encoder.now) state text.now rest.now out.old.bytes out.new.bytes) }
 {
+    let bytes = text.as_bytes();
     // Most encoders look at whole lanes, which would be in vain at each code point of a dense text
     // and at each space between its words.
-    if !matches!(text.as_bytes(), [0..0x80, 0..0x80, ..]) {
+    if !matches!(bytes, [0..0x80, 0..0x80, ..]) {
         return Ok(text);
     }
-    let (run, rest) = text.split_at(encoder.plain_run(state, text.as_bytes()));
+    let near = &bytes[..bytes.len().min(LONGEST_RUN)];
+    let (run, rest) = text.split_at(encoder.plain_run(state, near));
     out.put_slice(run.as_bytes())?;
     Ok(rest)
 }

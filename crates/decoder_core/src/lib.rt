@@ -62,6 +62,7 @@ pub use parts::decode_parts;
 pub use piece::run_piece;
 pub use placed::Placed;
 pub use replacement::{ReplacementDecoder, ReplacementState};
+pub use run_bulk::LONGEST_RUN;
 pub use single_byte::SingleByteDecoder;
 pub use sink::Sink;
 pub use utf8::{Utf8Decoder, Utf8State};

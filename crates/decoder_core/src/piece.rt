@@ -180,8 +180,8 @@ fn step_over<D: Decoder, K: Sink<D::State>>(
 }
 
 /// Gives the sink what the decoder takes in bulk, and returns the number of bytes taken.
-// Once in a stretch: the loop over the bytes has the registers to itself.
-#[inline(never)]
+// A state that is lent to a call is read from memory again, which waits for its parts to be written.
+#[inline(always)]
 fn bulk_into<D: Decoder, K: Sink<D::State>>(
     decoder: &D,
     state: D::State,

@@ -11,9 +11,9 @@ use lane_ascii::{ascii_run, plain_run_iso};
 /// How many bytes the block takes.
 const BLOCK: usize = 1024;
 
-/// How many bytes of a run are taken at a time where they aren't copied into the block: few enough
-/// that they are still at hand when they are copied into the text.
-const LONGEST: usize = 8192;
+/// How many bytes of a run are looked at before they are copied, where a block's room doesn't bound
+/// them: few enough that they are still at hand when they are copied.
+pub const LONGEST_RUN: usize = 16_384;
 
 /// How many bytes of the class there are at the front, each of which is its own code point in this
 /// state, where they may be enough to be worth it.
@@ -37,7 +37,7 @@ fn long_run(runs: AsciiRuns, bytes: &[u8]) -> usize
     ensures { result ≤ run_len runs bytes.now }
 {
     if is_worth_it(runs, bytes) {
-        front_run(runs, bytes, LONGEST)
+        front_run(runs, bytes, LONGEST_RUN)
     } else {
         0
     }

@@ -8,7 +8,7 @@ use Rattle.std.proofs.lemmas.Str.{chars-IsAscii, chars-append, IsCharBoundary-fr
 use Rattle.std.proofs.lemmas.Str.Ascii.{IsAscii-nil, IsAscii-cons}
 use Rattle.decoder_core.specs.declared.ascii_runs.AsciiRuns.TheVariants.{All}
 use Rattle.decoder_core.specs.Forms.{is_ascii}
-use Rattle.decoder_core.proofs.PlainRuns.{run-first}
+use Rattle.decoder_core.proofs.PlainRuns.{run-ascii, run-part}
 use Rattle.index_loader.specs.Index.{Loaded}
 use Rattle.lane_ascii.specs.Runs.{ascii_len}
 use Rattle.encoders.specs.Encode.{bytes_only}
@@ -21,26 +21,25 @@ use Rattle.encoders.proofs.AsciiRuns.{ascii_within}
 
 -- ---- the ASCII in front of a text
 
-ascii-upto : (n : ℕ) (text : List ℕ) → n ≤ ascii_len text → IsAscii (take n text)
-ascii-upto zero text h = IsAscii-nil
-ascii-upto (suc n) [] h = absurd (Prim.omega arith)
-ascii-upto (suc n) (b ∷ text) h =
-    let first = run-first All n b text h in
-    IsAscii-cons b (take n text) (ltb-true b 0x80 first.0) (ascii-upto n text first.1)
+module _ (text : List ℕ) (n : ℕ) (low : n ≤ ascii_len text) where
+  abbrev run : List ℕ
+  run = take n text
 
-ascii-first : (text : List ℕ) → IsAscii (take (ascii_len text) text)
-ascii-first text = ascii-upto (ascii_len text) text (Prim.omega arith)
+  ascii : IsAscii run
+  ascii = run-ascii All n text low
 
-pub ascii-boundary : (text : List ℕ) → IsUtf8 text → IsCharBoundary text (ascii_len text)
-ascii-boundary text u = IsCharBoundary-from_take text (ascii_len text) u (ascii_within text) (IsUtf8-from_ascii (take (ascii_len text) text) (ascii-first text))
+  pub ascii-boundary : IsUtf8 text → IsCharBoundary text n
+  ascii-boundary u = IsCharBoundary-from_take text n u (Prim.omega (arith, low, ascii_within text)) (IsUtf8-from_ascii run ascii)
 
-ascii-chars : (text : List ℕ) → chars text ≡ take (ascii_len text) text ++ chars (drop (ascii_len text) text)
-ascii-chars text =
-    let run = take (ascii_len text) text in
-    let low = ascii-first text in
-    ap chars (sym (take-append-drop (ascii_len text) text))
-    ∙ chars-append run (drop (ascii_len text) text) (IsUtf8-from_ascii run low)
-    ∙ ap (λ (cs : List ℕ). cs ++ chars (drop (ascii_len text) text)) (chars-IsAscii run low)
+  ascii-chars : chars text ≡ run ++ chars (drop n text)
+  ascii-chars =
+      ap chars (sym (take-append-drop n text))
+      ∙ chars-append run (drop n text) (IsUtf8-from_ascii run ascii)
+      ∙ ap (λ (cs : List ℕ). cs ++ chars (drop n text)) (chars-IsAscii run ascii)
+
+-- bytes that were looked for in the first k bytes
+pub near-ascii : (k n : ℕ) (near text : List ℕ) → near ≡ take k text → n ≡ ascii_len near → n ≤ ascii_len text
+near-ascii k n near text near_is long = rw (long, near_is) (run-part All k text)
 
 -- ---- fronts
 
@@ -60,12 +59,8 @@ module _ (index : Loaded) where
   pub front-none : (all : List ℕ) → IsBytewise index all [] all
   front-none all = record { front = []; parts = refl; each = refl }
 
-  pub front-ascii : (text : List ℕ) → IsBytewise index (chars text) (take (ascii_len text) text) (chars (drop (ascii_len text) text))
-  front-ascii text = record {
-    front = take (ascii_len text) text;
-    parts = ascii-chars text;
-    each = ascii-each (take (ascii_len text) text) (ascii-first text);
-  }
+  front-ascii : (text : List ℕ) (n : ℕ) → n ≤ ascii_len text → IsBytewise index (chars text) (take n text) (chars (drop n text))
+  front-ascii text n low = record { front = take n text; parts = ascii-chars text n low; each = ascii-each (take n text) (ascii text n low) }
 
   front-one : (c b : ℕ) (rest : List ℕ) → Some (one b) ≡ own c → IsBytewise index (c ∷ rest) (one b) rest
   front-one c b rest is = record { front = one c; parts = refl; each = ap (λ x. x ∷ []) (sym is) }
@@ -82,11 +77,11 @@ module _ (index : Loaded) where
   front-more all block rest n c b so_far is room =
       rw (take_more_set block n b room) (front-joined all (take n block) (c ∷ rest) (one b) rest so_far (front-one c b rest is))
 
-  -- the ASCII in front of a text, behind others
+  -- ASCII in front of a text, behind others
   pub past-run : (all bytes text run others now : List ℕ) (n : ℕ) → IsBytewise index all bytes (chars text)
-      → n ≡ ascii_len text → run ≡ take n text → others ≡ drop n text → now ≡ bytes ++ run → IsBytewise index all now (chars others)
-  past-run all bytes text run others now n so_far long is behind put =
-      rw (put, is, behind, long) (front-joined all bytes (chars text) (take (ascii_len text) text) (chars (drop (ascii_len text) text)) so_far (front-ascii text))
+      → n ≤ ascii_len text → run ≡ take n text → others ≡ drop n text → now ≡ bytes ++ run → IsBytewise index all now (chars others)
+  past-run all bytes text run others now n so_far low is behind put =
+      rw (put, is, behind) (front-joined all bytes (chars text) (take n text) (chars (drop n text)) so_far (front-ascii text n low))
 
 -- ---- what is put
 

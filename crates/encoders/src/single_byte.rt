@@ -7,7 +7,7 @@ ghost use Rattle.encoders.specs.SingleByte.{single_byte_bytes};
 ghost use Rattle.encoders.specs.Stateless.{one};
 
 use crate::over_index::IndexRules;
-use decoder_core::Few;
+use decoder_core::{Few, LONGEST_RUN};
 use enc_names::Scalar;
 use index_loader::Index;
 use lane_ascii::ascii_run;
@@ -100,10 +100,11 @@ pub(crate) fn front_of<'t>(
     let mut block = [0; 64];
     let mut rest = text;
     'parts: loop {
-        let (run, others) = rest.split_at(ascii_run(rest.as_bytes()));
+        let near = &rest.as_bytes()[..rest.len().min(LONGEST_RUN)];
+        let (run, others) = rest.split_at(ascii_run(near));
         bytes.extend_from_slice(run.as_bytes())?;
         let (count, behind) = write_front(index, others, &mut block);
-        if count == 0 {
+        if run.is_empty() && count == 0 {
             return Ok((bytes, others));
         }
         bytes.extend_from_slice(&block[..count])?;

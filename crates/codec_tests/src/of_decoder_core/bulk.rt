@@ -4,8 +4,8 @@ ghost use Rattle.std.specs.Prelude.{◌≤◌};
 use crate::in_turn::is_in_turn;
 use crate::indexes::WINDOWS_1252;
 use decoder_core::{
-    Bulk, ByteOrder, Decoder, Item, NO_BULK, Placed, ReplacementDecoder, SingleByteDecoder, Stride,
-    Utf8Decoder, Utf16Decoder, XUserDefinedDecoder, decode_parts, meter,
+    Bulk, ByteOrder, Decoder, Item, LONGEST_RUN, NO_BULK, Placed, ReplacementDecoder,
+    SingleByteDecoder, Stride, Utf8Decoder, Utf16Decoder, XUserDefinedDecoder, decode_parts, meter,
 };
 use enc_names::{Encoding, Scalar};
 use index_loader::{Index, IndexKind};
@@ -61,8 +61,8 @@ fn ascii_is_its_own_text(rt: HostRuntime) -> Result<(), Fail> {
     let decoder = SingleByteDecoder::new(&index);
     assert!(rt; own_text(&decoder, &LETTERS) == 64);
     // A run that a byte above ASCII ends, one too short to pay, and one longer than is taken.
-    let mut bytes = [b'a'; 8200];
-    assert!(rt; own_text(&decoder, &bytes) == 8192);
+    let mut bytes = [b'a'; LONGEST_RUN + 1];
+    assert!(rt; own_text(&decoder, &bytes) == LONGEST_RUN);
     assert!(rt; own_text(&decoder, &bytes[..15]) == 0);
     bytes[63] = 0x80;
     assert!(rt; own_text(&decoder, &bytes) == 63);
