@@ -1,9 +1,8 @@
 -- The first line mark, and the bytes in front of it.
-use Rattle.std.proofs.Common.{◌≡◌, ℕ, zero, suc, ◌+◌, ◌*◌, ◌<◌, ◌≤◌, ◌==◌, not, Bool, true, false, cond, List, [], ◌∷◌, ◌++◌, length, take, drop, get_or, map, refl, sym, ap, ◌∙◌, arith, take-add, take-take, ltb, subst, length-take}
+use Rattle.std.proofs.Common.{◌≡◌, ℕ, zero, suc, ◌+◌, ◌*◌, ◌<◌, ◌≤◌, ◌==◌, not, Bool, true, false, cond, List, [], ◌∷◌, ◌++◌, length, take, drop, get_or, map, refl, sym, ap, ◌∙◌, arith, take-add, take-take, ltb, ltb-true, ltb-false, subst, ◌-◌, take_all, length-take, length-drop}
 use Rattle.std.proofs.lemmas.Bool.{cases_Bool}
 use Rattle.std.proofs.lemmas.Bool.Decides.{nat_tests}
 use Rattle.std.proofs.lemmas.Simd.{length-chunk}
-use Rattle.std.specs.Int.RustNames.{count_ones}
 use Rattle.std.specs.List.{prefix_len}
 use Rattle.std.proofs.lemmas.List.{drop_more}
 use Rattle.std.proofs.lemmas.List.Sums.{prefix_len-le-length}
@@ -11,9 +10,8 @@ use Rattle.lane_ascii.specs.Bits.{first_set}
 use Rattle.lane_ascii.specs.Flags.{flags_set}
 use Rattle.lane_ascii.specs.Leads.{in_line, is_lead, is_low, leads, one_lead, AreHigh}
 use Rattle.lane_ascii.specs.Marks.{cr, lf, is_mark, marks, one_if, ends_cr, IsNthMark}
-use Rattle.lane_ascii.proofs.Flags.{ones_of}
-use Rattle.lane_ascii.proofs.Prefixes.{ends_in, goes_on, run_of_block}
-use lib.Lanes.{mask_l, sel_l, top, zip2}
+use Rattle.lane_ascii.proofs.Prefixes.{behind, ends_in, goes_on, run_of_block}
+use lib.Lanes.{mask_l, sel_l, sum_l, top, zip2}
 
 -- a lane of a comparison
 abbrev pub below : ℕ → ℕ → ℕ
@@ -25,21 +23,28 @@ leads-append : (xs ys : List ℕ) → leads (xs ++ ys) ≡ leads xs + leads ys
 leads-append [] ys = omega arith
 leads-append (x ∷ xs) ys = omega (arith, leads-append xs ys)
 
-pub leads-flags : (v : List ℕ) → flags_set (map is_lead v) ≡ leads v
-leads-flags [] = refl
-leads-flags (b ∷ bs) = ap (λ n. one_lead b + n) (leads-flags bs)
+pub leads-le : (bs : List ℕ) → leads bs ≤ length bs
+leads-le [] = omega arith
+leads-le (b ∷ bs) = grind (arith, cases_Bool (is_lead b), leads-le bs)
 
-pub leads-taken : (k : ℕ) (v : List ℕ) → flags_set (take k (map is_lead v)) ≡ leads (take k v)
+-- the ones of a block are as many
+pub leads-sum : (v : List ℕ) → sum_l (map one_lead v) ≡ leads v
+leads-sum [] = refl
+leads-sum (b ∷ bs) = ap (λ n. one_lead b + n) (leads-sum bs)
+
+pub leads-block : (at n : ℕ) (bs : List ℕ) → leads (take n (drop at bs)) ≤ n
+leads-block at n bs = omega (arith, leads-le (take n (drop at bs)), length-take n (drop at bs))
+
+leads-taken : (k : ℕ) (v : List ℕ) → flags_set (take k (map is_lead v)) ≡ leads (take k v)
 leads-taken zero v = refl
 leads-taken (suc k) [] = refl
 leads-taken (suc k) (b ∷ bs) = ap (λ n. one_lead b + n) (leads-taken k bs)
 
+pub leads_in_front : (front k : ℕ) (v : List ℕ) → front ≤ k → flags_set (take front (map is_lead (take k v))) ≡ leads (take front v)
+leads_in_front front k v h = leads-taken front (take k v) ∙ ap leads (take-take front k v h)
+
 pub leads-more : (at n : ℕ) (bs : List ℕ) → leads (take (at + n) bs) ≡ leads (take at bs) + leads (take n (drop at bs))
 leads-more at n bs = ap leads (take-add at n bs) ∙ leads-append (take at bs) (take n (drop at bs))
-
-pub leads-le : (bs : List ℕ) → leads bs ≤ length bs
-leads-le [] = omega arith
-leads-le (b ∷ bs) = grind (arith, cases_Bool (is_lead b), leads-le bs)
 
 -- ---- the first mark
 
@@ -98,15 +103,6 @@ module _ {bs : List ℕ} {at n : ℕ} (w : IsWalked bs at n) where
   pub walked-on : (k : ℕ) {r : ℕ} → at + k ≤ prefix_len in_line bs → r ≡ leads (take k (drop at bs)) → IsWalked bs (at + k) (n + r)
   walked-on k within is = record { within = within; counted = omega (arith, w.counted, is, leads-more at k bs) }
 
-  -- a block of 64 bytes
-  module _ {begins : ℕ} (l : begins ≡ mask_l (map is_lead (take 64 (drop at bs)))) where
-    pub block_goes_on : at + 64 ≤ prefix_len in_line bs → IsWalked bs (at + 64) (n + count_ones begins)
-    block_goes_on h = walked-on 64 h (ones_of (map is_lead (take 64 (drop at bs))) l ∙ leads-flags (take 64 (drop at bs)))
-
-    pub block_front : {front r : ℕ} → front < 64 → at + front ≡ prefix_len in_line bs → r ≡ flags_set (take front (map is_lead (take 64 (drop at bs)))) → IsWalked bs (at + front) (n + r)
-    block_front {front} h end is =
-        walked-on front (omega (arith, end)) (is ∙ leads-taken front (take 64 (drop at bs)) ∙ ap leads (take-take front 64 (drop at bs) (omega (arith, h))))
-
   -- a byte
   one : at < length bs → take 1 (drop at bs) ≡ get_or bs at 0 ∷ []
   one h = ap (take 1) (drop_more bs at 0 h)
@@ -121,18 +117,44 @@ module _ {bs : List ℕ} {at n : ℕ} (w : IsWalked bs at n) where
       let none : 0 ≡ prefix_len in_line (take 1 (drop at bs)) = rw (one h, ← e) refl in
       omega (arith, ends_in in_line bs at 1 0 w.within (omega (arith, h)) none (omega arith))
 
--- ---- a block of 64 bytes
+-- ---- the rest, in a slice of its own
 
-module _ (bs : List ℕ) (at mask end : ℕ) (front : at ≤ prefix_len in_line bs) (room : at + 64 ≤ length bs)
-    (e : mask ≡ mask_l (map (λ b. not (in_line b)) (take 64 (drop at bs)))) (f : end ≡ first_set mask 64) where
-  run : end ≡ prefix_len in_line (take 64 (drop at bs))
-  run = run_of_block in_line bs at 64 mask end room (omega arith) e f
+module _ {bs : List ℕ} {at n : ℕ} (w : IsWalked bs at n) (rest : List ℕ) (front count : ℕ) (rest_is : rest ≡ take (length bs - at) (drop at bs))
+    (is : front ≡ prefix_len in_line rest) (counted : count ≡ leads (take front rest)) where
+  whole : rest ≡ drop at bs
+  whole = rest_is ∙ take_all (length bs - at) (drop at bs) (omega (arith, length-drop at bs))
 
-  pub block_ends : end < 64 → at + end ≡ prefix_len in_line bs
-  block_ends h = ends_in in_line bs at 64 end front room run h
+  pub rest_ends : at + front ≡ prefix_len in_line bs
+  rest_ends = omega (arith, behind in_line at bs w.within, is, ap (prefix_len in_line) whole)
 
-  pub block_full : 64 ≤ end → at + 64 ≤ prefix_len in_line bs
-  block_full h = goes_on in_line bs at 64 end front run h
+  pub rest_walked : IsWalked bs (at + front) (n + count)
+  rest_walked = walked-on w front (omega (arith, rest_ends)) (counted ∙ ap (λ xs. leads (take front xs)) whole)
+
+-- ---- a block, by the mask of its marks
+
+module _ (bs : List ℕ) (at k mask end : ℕ) (front : at ≤ prefix_len in_line bs) (room : at + k ≤ length bs) (few : k ≤ 64)
+    (e : mask ≡ mask_l (map (λ b. not (in_line b)) (take k (drop at bs)))) (f : end ≡ first_set mask k) where
+  run : end ≡ prefix_len in_line (take k (drop at bs))
+  run = run_of_block in_line bs at k mask end room few e f
+
+  pub block-le : end ≤ k
+  block-le = omega (arith, run, prefix_len-le-length in_line (take k (drop at bs)), length-take k (drop at bs))
+
+  pub block_ends : end < k → at + end ≡ prefix_len in_line bs
+  block_ends h = ends_in in_line bs at k end front room run h
+
+  pub block_full : k ≤ end → at + k ≤ prefix_len in_line bs
+  block_full h = goes_on in_line bs at k end front run h
+
+  pub block_within : at + end ≤ prefix_len in_line bs
+  block_within = by_test (ltb end k) (λ h. omega (arith, block_ends (ltb-true end k h))) (λ h. omega (arith, block-le, block_full (ltb-false end k h)))
+
+-- the bytes of a block in front of its first mark
+pub block_walked : {bs : List ℕ} {at n : ℕ} (w : IsWalked bs at n) (k mask end : ℕ) {r : ℕ} → at + k ≤ length bs → k ≤ 64 → mask ≡ mask_l (map (λ b. not (in_line b)) (take k (drop at bs)))
+    → end ≡ first_set mask k → r ≡ flags_set (take end (map is_lead (take k (drop at bs)))) → IsWalked bs (at + end) (n + r)
+block_walked {bs} {at} w k mask end room few e f is =
+    let within = block_within bs at k mask end w.within room few e f in
+    walked-on w end within (is ∙ leads_in_front end k (drop at bs) (block-le bs at k mask end w.within room few e f))
 
 -- ---- bytes above all marks
 

@@ -17,7 +17,7 @@ abbrev pub mark_behind : ℕ → ℕ → Bool
 mark_behind before b = is_mark (before == cr) b
 
 -- 1 where a flag is set, and 0 where it isn't
-ones-selected : (flags : List Bool) (n : ℕ) → length flags ≤ n → sel_l flags (replicate n 1) (replicate n 0) ≡ map one_if flags
+pub ones-selected : (flags : List Bool) (n : ℕ) → length flags ≤ n → sel_l flags (replicate n 1) (replicate n 0) ≡ map one_if flags
 ones-selected [] n few = refl
 ones-selected (f ∷ flags) zero few = absurd (omega arith)
 ones-selected (f ∷ flags) (suc n) few = ap (λ ones. one_if f ∷ ones) (ones-selected flags n (omega arith))

@@ -12,7 +12,8 @@ at_most a b = cond (leb a b) 255 0
 abbrev pub equal : ℕ → ℕ → ℕ
 equal a b = cond (eqb a b) 255 0
 
-each_byte : (f : ℕ → ℕ) (p : ℕ → Bool) → agree_below (λ b. top 7 (f b)) p 256 ≡ true → (v : List ℕ) → Each1 (Fits w8) v → map (top 7) (map f v) ≡ map p v
+-- the flags of a class
+pub each_byte : (f : ℕ → ℕ) (p : ℕ → Bool) → agree_below (λ b. top 7 (f b)) p 256 ≡ true → (v : List ℕ) → Each1 (Fits w8) v → map (top 7) (map f v) ≡ map p v
 each_byte f p all [] fits = refl
 each_byte f p all (b ∷ bs) fits = ap₂ (λ x xs. x ∷ xs) (agree_below_at (λ x. top 7 (f x)) p 256 b all fits.0.fits) (each_byte f p all bs fits.1)
 

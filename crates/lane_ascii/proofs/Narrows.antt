@@ -88,9 +88,6 @@ pub record IsNarrowed (pairs text : List ℕ) (at : ℕ) : Type 0 where
   pub narrow : take (2 * at) pairs ≡ spread (take at text)
   pub ascii : IsAscii (take at text)
 
-pub none_narrowed : (pairs text : List ℕ) → IsNarrowed pairs text 0
-none_narrowed pairs text = record { within = omega arith; room = omega arith; narrow = refl; ascii = IsAscii-nil }
-
 -- one block more
 pub block_narrowed : (pairs text : List ℕ) (at : ℕ) → IsNarrowed pairs text at → 2 * at + 64 ≤ length pairs → at + 32 ≤ length text
     → (let v = take 64 (drop (2 * at) pairs) in v ≡ spread (evens v) → IsAscii (evens v) → IsNarrowed pairs (put_chunk at text (evens v)) (at + 32))

@@ -22,7 +22,7 @@ module _ (p : ℕ → Bool) where
       ap (prefix_len p) (sym (take-append-drop n xs)) ∙ (rw (length-take-le n xs h) at cut)
 
   -- behind bytes of the run comes the rest of it
-  behind : (k : ℕ) (xs : List ℕ) → k ≤ prefix_len p xs → k + prefix_len p (drop k xs) ≡ prefix_len p xs
+  pub behind : (k : ℕ) (xs : List ℕ) → k ≤ prefix_len p xs → k + prefix_len p (drop k xs) ≡ prefix_len p xs
   behind k xs h =
       let within : k ≤ length xs = omega (arith, prefix_len-le-length p xs) in
       grind (arith, nat_tests, split k xs within, prefix_len-le-length p (take k xs), length-take-le k xs within)

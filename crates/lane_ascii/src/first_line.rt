@@ -1,11 +1,13 @@
 //! The first line mark, and what stands in front of it.
-ghost use Rattle.std.specs.Prelude.{◌≡◌, ◌+◌, ◌<◌, ◌≤◌, false, length, map, take, not, MatchOption};
+ghost use Rattle.std.specs.Prelude.{◌≡◌, ◌+◌, ◌<◌, ◌≤◌, false, length, map, take, drop, not, MatchOption};
 ghost use Rattle.std.specs.List.{prefix_len};
-ghost use Rattle.lane_ascii.specs.Leads.{in_line, is_lead, is_low, leads, one_lead, AreHigh};
+ghost use Rattle.lane_ascii.specs.Leads.{in_line, is_low, leads, AreHigh};
 ghost use Rattle.lane_ascii.specs.Marks.{marks, IsNthMark};
 ghost use lib.Lanes.{mask_l};
 
 use crate::bits::{lowest_set, ones_before};
+use crate::lane_sum::sum_of_lanes;
+use crate::leads::{lead_of, lead_ones, leads_in};
 use std::simd::prelude::*;
 
 /// A place in a text in UTF-8, and the code points in front of it.
@@ -40,22 +42,66 @@ fn line_front(bytes: &[u8]) -> LineFront
     let mut at = 0;
     let mut leads = 0;
     'parts: while bytes.len() - at >= 64 {
-        let begins = leads_in(u8x64::from_slice(&bytes[at..]));
         let front = end_in_64(bytes, at);
         if front < 64 {
             return LineFront {
                 at: at + front,
-                leads: leads + ones_before(begins, front),
+                leads: leads + leads_before(bytes, at, front),
             };
         }
-        leads += begins.count_ones() as usize;
+        leads += leads_of_64(bytes, at);
         at += 64;
+    }
+    let rest = line_front_by_16(&bytes[at..]);
+    LineFront {
+        at: at + rest.at,
+        leads: leads + rest.leads,
+    }
+}
+
+/// The same of a few bytes, by shorter blocks.
+#[inline(always)]
+fn line_front_by_16(bytes: &[u8]) -> LineFront
+    ensures at { result.at ≡ prefix_len in_line bytes.now }
+    ensures leads { result.leads ≡ leads (take result.at bytes.now) }
+{
+    let mut at = 0;
+    let mut leads = 0;
+    'steps: while bytes.len() - at >= 16 {
+        let lanes = u8x16::from_slice(&bytes[at..]);
+        let front = lowest_set(ends_in(lanes), 16);
+        leads += ones_before(leads_in(lanes), front);
+        at += front;
+        if front < 16 {
+            return LineFront { at, leads };
+        }
     }
     'bytes: while at < bytes.len() && in_line(bytes[at]) {
         leads += lead_of(bytes[at]);
         at += 1;
     }
     LineFront { at, leads }
+}
+
+/// How many of the first bytes of a block of 64 begin a code point.
+#[inline(always)]
+fn leads_before(bytes: &[u8], at: usize, front: usize) -> usize
+    requires room { at + 64 ≤ length bytes.now }
+    requires front { front < 64 }
+    ensures { result ≡ leads (take front (drop at bytes.now)) }
+{
+    ones_before(leads_in(u8x64::from_slice(&bytes[at..])), front)
+}
+
+/// How many of 64 bytes begin a code point.
+#[inline(always)]
+fn leads_of_64(bytes: &[u8], at: usize) -> usize
+    requires { at + 64 ≤ length bytes.now }
+    ensures { result ≡ leads (take 64 (drop at bytes.now)) }
+{
+    let first = u8x32::from_slice(&bytes[at..]);
+    let second = u8x32::from_slice(&bytes[at + 32..]);
+    sum_of_lanes(lead_ones(first), lead_ones(second))
 }
 
 /// Where the first of 64 bytes stands that is CR or LF, or 64 where none is.
@@ -115,28 +161,10 @@ fn ends_in<const N: usize>(lanes: Simd<u8, N>) -> u64
     ends.to_bitmask()
 }
 
-/// The lanes that begin a code point.
-#[inline(always)]
-fn leads_in<const N: usize>(lanes: Simd<u8, N>) -> u64
-    requires { N ≤ 64 }
-    ensures { result ≡ mask_l (map is_lead lanes.entry) }
-{
-    let begins = lanes.simd_lt(Simd::splat(0x80)) | lanes.simd_ge(Simd::splat(0xC0));
-    begins.to_bitmask()
-}
-
 /// Whether a byte is neither CR nor LF.
 #[inline(always)]
 fn in_line(byte: u8) -> bool
     ensures { result ≡ in_line byte }
 {
     byte != b'\r' && byte != b'\n'
-}
-
-/// 1 where a byte begins a code point, and 0 elsewhere.
-#[inline(always)]
-fn lead_of(byte: u8) -> usize
-    ensures { result ≡ one_lead byte }
-{
-    if byte < 0x80 || byte >= 0xC0 { 1 } else { 0 }
 }

@@ -1,5 +1,5 @@
 -- Weights of bytes, one by one and lane by lane.
-use Rattle.std.proofs.Common.{◌≡◌, refl, ap, ap₂, ◌∙◌, ℕ, ◌*◌, eqb, not, true, false, get_or, nat_lt, ltb-true, ltb-false, zero, suc, ◌+◌, ◌%◌, ◌^◌, ◌≤◌, Bool, cond, leb, ltb, List, [], ◌∷◌, length, map, drop, arith, replicate, ◌-◌, ◌||◌, bit_or, IsAscii}
+use Rattle.std.proofs.Common.{◌≡◌, refl, ap, ◌∙◌, ℕ, ◌*◌, true, false, get_or, nat_lt, ltb-true, ltb-false, zero, suc, ◌+◌, ◌%◌, ◌^◌, ◌≤◌, Bool, cond, leb, ltb, List, [], ◌∷◌, length, map, drop, arith, replicate, ◌-◌, IsAscii}
 use Rattle.std.proofs.lemmas.Bool.Decides.{nat_tests}
 use Rattle.std.proofs.lemmas.Bool.{cases_Bool}
 use Rattle.std.proofs.lemmas.Simd.{mask_l-mod, ones-mask_l_cons, map-map, tops_compared, zip2_splat_left}
@@ -11,7 +11,8 @@ use lib.Lanes.{mask_l, sel_l, sum_l, top, zip2}
 use mir.Syntax.{Width}
 use mir.Val.{bits, hbits}
 use Rattle.lane_ascii.specs.Flags.{flags_set}
-use Rattle.lane_utf.specs.Weights.{AreBelowFour, begins_code_point, begins_four, scalar_weight, utf16_weight}
+use Rattle.lane_ascii.specs.Leads.{one_lead}
+use Rattle.lane_utf.specs.Weights.{AreBelowFour, begins_four, utf16_weight}
 use Rattle.lane_utf.specs.Widths.{total_width}
 
 -- a lane of a comparison
@@ -22,7 +23,7 @@ abbrev pub below : ℕ → ℕ → ℕ
 below a b = cond (ltb a b) 255 0
 
 -- flags that are computed lane by lane
-pub flags_of_lanes : (h : ℕ) (f : ℕ → ℕ) (p : ℕ → Bool) (v : List ℕ) {z : List ℕ} → z ≡ map f v
+flags_of_lanes : (h : ℕ) (f : ℕ → ℕ) (p : ℕ → Bool) (v : List ℕ) {z : List ℕ} → z ≡ map f v
     → ((u : ℕ) → top h (f u) ≡ p u)
     → map (top h) z ≡ map p v
 flags_of_lanes h f p v lanes same = ap (map (top h)) lanes ∙ map-map (top h) f v ∙ ap (λ q. map q v) (fun_ext same)
@@ -41,9 +42,6 @@ pub mask_least : (w : Width) (n from : ℕ) (v : List ℕ) → length v ≡ n �
 mask_least w n from v long few =
     ap (λ xs. mask_l xs % 2 ^ 64) (tops_compared w leb (replicate n from) v ∙ zip2_splat_left leb from n v long)
     ∙ mask_l-mod (map (leb from) v) 64 (omega (arith, length-map v (leb from)))
-
-pub top_or : (a b : Bool) → top 7 (bit_or (cond a 255 0) (cond b 255 0)) ≡ a || b
-top_or a b = grind (arith, cases_Bool a, cases_Bool b)
 
 -- the bits that are set are the lanes that pass
 pub ones_counted : (p : ℕ → Bool) (v : List ℕ) → count_ones (mask_l (map p v)) ≡ total_width (λ b. cond (p b) 1 0) v
@@ -76,11 +74,6 @@ pub ones-le : (p : ℕ → Bool) (v : List ℕ) → total_width (λ b. cond (p b
 ones-le p [] = omega arith
 ones-le p (b ∷ bs) = grind (arith, cases_Bool (p b), ones-le p bs)
 
--- a byte begins a code point where it weighs one
-pub weighing : (v : List ℕ) → map (λ n. not (eqb n 0)) (map scalar_weight v) ≡ map begins_code_point v
-weighing [] = refl
-weighing (b ∷ bs) = ap₂ (λ x xs. x ∷ xs) (grind (arith, cases_Bool (begins_code_point b))) (weighing bs)
-
 -- the greater lanes of two vectors
 abbrev greater : List ℕ → List ℕ → List ℕ
 greater xs ys = sel_l (map (top 7) (zip2 below xs ys)) ys xs
@@ -112,16 +105,10 @@ below_joined bs at last front behind from to k =
     (λ u. ap begins_four (get_or_past bs k 0 (omega (arith, ltb-false k (last + 128) u)))))
 
 -- then units are as many as code points
-pub units-scalars : (bs : List ℕ) → ((k : ℕ) → begins_four (get_or bs k 0) ≡ false) → total_width utf16_weight bs ≡ total_width scalar_weight bs
+pub units-scalars : (bs : List ℕ) → ((k : ℕ) → begins_four (get_or bs k 0) ≡ false) → total_width utf16_weight bs ≡ total_width one_lead bs
 units-scalars [] below = refl
 units-scalars (b ∷ bs) below = grind (arith, below 0, units-scalars bs (λ k. below (suc k)))
 
 pub sum-total : (f : ℕ → ℕ) (v : List ℕ) → sum_l (map f v) ≡ total_width f v
 sum-total f [] = refl
 sum-total f (b ∷ bs) = ap (λ n. f b + n) (sum-total f bs)
-
--- 1 where a test passes, and 0 elsewhere
-pub ones-selected : (p : ℕ → Bool) (v : List ℕ) (n : ℕ) → length v ≤ n → sel_l {A = ℕ} (map p v) (replicate n 1) (replicate n 0) ≡ map (λ b. cond (p b) 1 0) v
-ones-selected p [] n few = refl
-ones-selected p (b ∷ bs) zero few = absurd (omega arith)
-ones-selected p (b ∷ bs) (suc n) few = ap (λ ones. cond (p b) 1 0 ∷ ones) (ones-selected p bs n (omega arith))

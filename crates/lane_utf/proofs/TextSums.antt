@@ -4,9 +4,9 @@ use Rattle.std.proofs.Math.Utf8.{encode, encodes}
 use Rattle.std.proofs.lemmas.Bool.Decides.{nat_tests}
 use Rattle.std.proofs.lemmas.Str.{encodes-chars, length-encode}
 use Rattle.std.specs.Option.{option_map}
-use Rattle.lane_ascii.specs.Leads.{leads}
 use Rattle.lane_utf.specs.Selected.{moved, selected, scalar_place, place_index}
-use Rattle.lane_utf.specs.Weights.{place_in, scalar_weight, utf16_weight}
+use Rattle.lane_ascii.specs.Leads.{leads, one_lead}
+use Rattle.lane_utf.specs.Weights.{place_in, utf16_weight}
 use Rattle.lane_utf.specs.Widths.{total_width, utf8_width, utf16_width, utf32_width}
 use Rattle.lane_utf.specs.declared.select.Select.{Select}
 use Rattle.lane_utf.specs.declared.select.Select.TheVariants.{At, Inside, Past}
@@ -108,9 +108,9 @@ module _ (weight width : ℕ → ℕ)
       (λ t. by_test (nat_lt c 2048) (λ u. led_two c (ltb-false c 128 t) (ltb-true c 2048 u))
       (λ u. by_test (nat_lt c 65536) (λ v. led_three c (ltb-false c 2048 u) (ltb-true c 65536 v)) (λ v. led_four c (ltb-false c 65536 v))))
 
-scalar_led : (c : ℕ) → IsLed scalar_weight utf32_width c
+scalar_led : (c : ℕ) → IsLed one_lead utf32_width c
 scalar_led =
-    led_by_ranges scalar_weight utf32_width (λ c h. grind (arith, nat_tests)) (λ b c l h k. grind (arith, nat_tests))
+    led_by_ranges one_lead utf32_width (λ c h. grind (arith, nat_tests)) (λ b c l h k. grind (arith, nat_tests))
     (λ b c l h. grind (arith, nat_tests)) (λ b. grind (arith, nat_tests)) (λ c. omega arith)
 
 utf16_led : (c : ℕ) → IsLed utf16_weight utf16_width c
@@ -123,12 +123,12 @@ ones-length : (cs : List ℕ) → total_width utf32_width cs ≡ length cs
 ones-length [] = refl
 ones-length (c ∷ cs) = omega (arith, ones-length cs)
 
-pub leads-weigh : (bytes : List ℕ) → leads bytes ≡ total_width scalar_weight bytes
+pub leads-weigh : (bytes : List ℕ) → leads bytes ≡ total_width one_lead bytes
 leads-weigh [] = refl
-leads-weigh (b ∷ bs) = ap (λ n. scalar_weight b + n) (leads-weigh bs)
+leads-weigh (b ∷ bs) = ap (λ n. one_lead b + n) (leads-weigh bs)
 
-pub scalars_of_text : (bytes text : List ℕ) → IsUtf8 text → bytes ≡ text → total_width scalar_weight bytes ≡ length (chars text)
-scalars_of_text bytes text u e = total-of scalar_weight utf32_width scalar_led bytes text u e ∙ ones-length (chars text)
+pub scalars_of_text : (bytes text : List ℕ) → IsUtf8 text → bytes ≡ text → total_width one_lead bytes ≡ length (chars text)
+scalars_of_text bytes text u e = total-of one_lead utf32_width scalar_led bytes text u e ∙ ones-length (chars text)
 
 pub units_of_text : (bytes text : List ℕ) → IsUtf8 text → bytes ≡ text → total_width utf16_weight bytes ≡ total_width utf16_width (chars text)
 units_of_text = total-of utf16_weight utf16_width utf16_led
@@ -152,5 +152,5 @@ scalar-index (c ∷ cs) zero = grind (arith, nat_tests)
 scalar-index (c ∷ cs) (suc m) = grind (arith, nat_tests, moved-index, map-if, scalar-index cs m)
 
 pub scalar_place_of : (bytes text : List ℕ) (n : ℕ) → IsUtf8 text → bytes ≡ text
-    → place_index (place_in scalar_weight bytes n) ≡ scalar_place (chars text) n
-scalar_place_of bytes text n u e = ap place_index (place-of scalar_weight utf32_width scalar_led bytes text n u e) ∙ scalar-index (chars text) n
+    → place_index (place_in one_lead bytes n) ≡ scalar_place (chars text) n
+scalar_place_of bytes text n u e = ap place_index (place-of one_lead utf32_width scalar_led bytes text n u e) ∙ scalar-index (chars text) n

@@ -2,13 +2,10 @@
 use Rattle.std.specs.Prelude.{◌≡◌, ℕ, ◌+◌, ◌-◌, ◌<◌, ◌≤◌, Bool, false, ◌&&◌, ◌||◌, ◌==◌, nat_lt, nat_le, List, [], ◌∷◌, slice_index_or, if◌then◌else◌}
 use Rattle.std.proofs.Common.{arith}
 use Rattle.std.proofs.lemmas.Bool.Decides.{nat_tests}
+use Rattle.lane_ascii.specs.Leads.{is_lead, one_lead}
 use Rattle.lane_utf.specs.Selected.{moved}
 use Rattle.lane_utf.specs.declared.select.Select.{Select}
 use Rattle.lane_utf.specs.declared.select.Select.TheVariants.{At, Inside, Past}
-
--- a byte that begins a code point: no trailing byte (Unicode, table 3-7)
-abbrev pub begins_code_point : ℕ → Bool
-begins_code_point b = nat_lt b 0x80 || nat_le 0xC0 b
 
 -- a byte that begins a code point of four bytes
 abbrev pub begins_four : ℕ → Bool
@@ -18,15 +15,12 @@ begins_four b = nat_le 0xF0 b
 abbrev pub AreBelowFour : List ℕ → ℕ → ℕ → Type 0
 AreBelowFour bytes from to = (k : ℕ) → from ≤ k → k < to → begins_four (slice_index_or bytes k 0) ≡ false
 
-abbrev pub scalar_weight : ℕ → ℕ
-scalar_weight b = if begins_code_point b then 1 else 0
-
 -- the units of UTF-16: two for a code point of four bytes
 abbrev pub utf16_weight : ℕ → ℕ
-utf16_weight b = (if begins_code_point b then 1 else 0) + (if begins_four b then 1 else 0)
+utf16_weight b = (if is_lead b then 1 else 0) + (if begins_four b then 1 else 0)
 
 -- none weighs more than two
-pub scalar-small : (b : ℕ) → scalar_weight b ≤ 2
+pub scalar-small : (b : ℕ) → one_lead b ≤ 2
 scalar-small b = grind (arith, nat_tests)
 
 pub utf16-small : (b : ℕ) → utf16_weight b ≤ 2

@@ -1,11 +1,12 @@
 //! How many code points, or units of UTF-16, a text takes.
 ghost use Rattle.std.specs.Prelude.{◌≡◌, ◌+◌, ◌<◌, ◌≤◌, true, length, take, drop};
 ghost use Rattle.std.specs.Str.{chars};
-ghost use Rattle.lane_utf.specs.Weights.{AreBelowFour, scalar_weight, utf16_weight};
+ghost use Rattle.lane_ascii.specs.Leads.{one_lead};
+ghost use Rattle.lane_utf.specs.Weights.{AreBelowFour, utf16_weight};
 ghost use Rattle.lane_utf.specs.Widths.{total_width, utf16_width};
 
-use crate::measure::{Measure, Scalars, Utf16Units, fours, scalar_ones};
-use lane_ascii::sum_of_lanes;
+use crate::measure::{Measure, Scalars, Utf16Units, fours};
+use lane_ascii::{lead_ones, sum_of_lanes};
 use std::simd::prelude::*;
 
 /// The number of code points.
@@ -39,7 +40,7 @@ pub fn count_utf16_of(text: &str, scalars: usize) -> usize
 /// isn't said.
 #[inline(always)]
 fn lacks_fours(bytes: &[u8]) -> bool
-    ensures { result ≡ true → total_width utf16_weight bytes.now ≡ total_width scalar_weight bytes.now }
+    ensures { result ≡ true → total_width utf16_weight bytes.now ≡ total_width one_lead bytes.now }
 {
     if bytes.len() < 128 {
         return false;
@@ -69,7 +70,7 @@ fn are_below_four(bytes: &[u8], at: usize) -> bool
 /// How many code points begin in all bytes.
 #[inline(always)]
 fn total_scalars(bytes: &[u8]) -> usize
-    ensures { result ≡ total_width scalar_weight bytes.now }
+    ensures { result ≡ total_width one_lead bytes.now }
 {
     let mut sum = 0;
     let mut at = 0;
@@ -84,11 +85,11 @@ fn total_scalars(bytes: &[u8]) -> usize
 #[inline(always)]
 fn scalars_in_128(bytes: &[u8], at: usize) -> usize
     requires { at + 128 ≤ length bytes.now }
-    ensures { result ≡ total_width scalar_weight (take 128 (drop at bytes.now)) }
+    ensures { result ≡ total_width one_lead (take 128 (drop at bytes.now)) }
 {
     let first = u8x64::from_slice(&bytes[at..]);
     let second = u8x64::from_slice(&bytes[at + 64..]);
-    sum_of_lanes(scalar_ones(first), scalar_ones(second))
+    sum_of_lanes(lead_ones(first), lead_ones(second))
 }
 
 /// The sum of the weights from a byte on.

@@ -1,10 +1,11 @@
 //! Lengths of a text, by what each byte adds to them.
 ghost use Rattle.std.specs.Prelude.{◌≡◌, ◌≤◌, ℕ, map, drop};
-ghost use Rattle.lane_utf.specs.Weights.{begins_code_point, begins_four, scalar_weight, scalar-small, utf16_weight, utf16-small};
+ghost use Rattle.lane_ascii.specs.Leads.{is_lead, one_lead};
+ghost use Rattle.lane_utf.specs.Weights.{begins_four, scalar-small, utf16_weight, utf16-small};
 ghost use Rattle.lane_utf.specs.Widths.{total_width};
 ghost use lib.Lanes.{mask_l};
 
-use lane_ascii::ones_behind;
+use lane_ascii::{lead_of, leads_in, ones_behind};
 use std::simd::prelude::*;
 
 /// A length of a text as the sum of its bytes' weights.
@@ -27,25 +28,6 @@ pub(crate) trait Measure {
     ghost small: { (b : ℕ) → weight b ≤ 2 };
 }
 
-/// 1 in each lane that begins a code point, and 0 in each other one.
-#[inline(always)]
-pub(crate) fn scalar_ones<const N: usize>(lanes: Simd<u8, N>) -> Simd<u8, N>
-    ensures { result ≡ map scalar_weight lanes.entry }
-{
-    let begins = lanes.simd_lt(Simd::splat(0x80)) | lanes.simd_ge(Simd::splat(0xC0));
-    begins.select(Simd::splat(1), Simd::splat(0))
-}
-
-/// The lanes that begin a code point.
-#[inline(always)]
-fn code_points<const N: usize>(lanes: Simd<u8, N>) -> u64
-    requires { N ≤ 64 }
-    ensures { result ≡ mask_l (map begins_code_point lanes.entry) }
-{
-    let ones = scalar_ones(lanes);
-    ones.simd_ne(Simd::splat(0)).to_bitmask()
-}
-
 /// The lanes that begin a code point of four bytes.
 #[inline(always)]
 pub(crate) fn fours<const N: usize>(lanes: Simd<u8, N>) -> u64
@@ -58,9 +40,9 @@ pub(crate) fn fours<const N: usize>(lanes: Simd<u8, N>) -> u64
 #[inline(always)]
 fn scalars_of<const N: usize>(lanes: Simd<u8, N>) -> usize
     requires { N ≤ 64 }
-    ensures { result ≡ total_width scalar_weight lanes.entry }
+    ensures { result ≡ total_width one_lead lanes.entry }
 {
-    code_points(lanes).count_ones() as usize
+    leads_in(lanes).count_ones() as usize
 }
 
 #[inline(always)]
@@ -68,18 +50,18 @@ fn units_of<const N: usize>(lanes: Simd<u8, N>) -> usize
     requires { N ≤ 64 }
     ensures { result ≡ total_width utf16_weight lanes.entry }
 {
-    code_points(lanes).count_ones() as usize + fours(lanes).count_ones() as usize
+    leads_in(lanes).count_ones() as usize + fours(lanes).count_ones() as usize
 }
 
 /// Code points.
 pub(crate) struct Scalars;
 
 impl Measure for Scalars {
-    ghost weight = { scalar_weight };
+    ghost weight = { one_lead };
 
     #[inline(always)]
     fn of_byte(byte: u8) -> usize {
-        if byte < 0x80 || byte >= 0xC0 { 1 } else { 0 }
+        lead_of(byte)
     }
 
     #[inline(always)]
@@ -94,7 +76,7 @@ impl Measure for Scalars {
 
     #[inline(always)]
     fn behind(lanes: u8x16, skipped: usize) -> usize {
-        ones_behind(code_points(lanes), skipped)
+        ones_behind(leads_in(lanes), skipped)
     }
 
     ghost small = { scalar-small };
@@ -128,7 +110,7 @@ impl Measure for Utf16Units {
 
     #[inline(always)]
     fn behind(lanes: u8x16, skipped: usize) -> usize {
-        ones_behind(code_points(lanes), skipped) + ones_behind(fours(lanes), skipped)
+        ones_behind(leads_in(lanes), skipped) + ones_behind(fours(lanes), skipped)
     }
 
     ghost small = { utf16-small };

@@ -1,7 +1,5 @@
-use Rattle.std.proofs.Common.{arith, drop, map, take}
-use Rattle.std.proofs.lemmas.List.Sums.{prefix_len-le-length}
-use Rattle.lane_ascii.specs.Leads.{in_line, is_lead}
-use Rattle.lane_ascii.proofs.FirstLines.{block_front, block_goes_on, byte_ends, byte_goes_on, walked-le, walked-within}
+use Rattle.std.proofs.Common.{arith, refl}
+use Rattle.lane_ascii.proofs.FirstLines.{rest_ends, rest_walked, walked-le, walked-on, walked-within}
 use Rattle.lane_ascii.proofs.first_line.line_front.Goals as goal
 
 pub overflow_sub-bytes : goal.overflow_sub-bytes
@@ -12,31 +10,36 @@ end_in_64-front-requires c = record { front = c.parts.invariant.within; room = o
 
 pub overflow_add-result-then-front-lt64 : goal.overflow_add-result-then-front-lt64
 overflow_add-result-then-front-lt64 c =
-    let before = c.ones_before.ensures (map is_lead (take 64 (drop c.parts.at c.args.bytes.now))) c.leads_in-begins.ensures in
-    omega (arith, walked-le (block_front c.parts.invariant c.leads_in-begins.ensures c.if-front-lt64.true (c.end_in_64-front.ensures.end c.if-front-lt64.true) before))
+    let end = c.end_in_64-front.ensures.end c.if-front-lt64.true in
+    omega (arith, walked-le (walked-on c.parts.invariant c.end_in_64-front.result (omega (arith, end)) c.leads_before.ensures))
 
 pub returns-then-front-lt64-clause-at : goal.returns-then-front-lt64-clause-at
 returns-then-front-lt64-clause-at c = c.end_in_64-front.ensures.end c.if-front-lt64.true
 
 pub returns-then-front-lt64-clause-leads : goal.returns-then-front-lt64-clause-leads
 returns-then-front-lt64-clause-leads c =
-    let before = c.ones_before.ensures (map is_lead (take 64 (drop c.parts.at c.args.bytes.now))) c.leads_in-begins.ensures in
-    (block_front c.parts.invariant c.leads_in-begins.ensures c.if-front-lt64.true (c.end_in_64-front.ensures.end c.if-front-lt64.true) before).counted
+    let end = c.end_in_64-front.ensures.end c.if-front-lt64.true in
+    (walked-on c.parts.invariant c.end_in_64-front.result (omega (arith, end)) c.leads_before.ensures).counted
 
 pub overflow_add-leads : goal.overflow_add-leads
-overflow_add-leads c = omega (arith, walked-le (block_goes_on c.parts.invariant c.leads_in-begins.ensures (c.end_in_64-front.ensures.none c.if-front-lt64.false)))
+overflow_add-leads c = omega (arith, walked-le (walked-on c.parts.invariant 64 (c.end_in_64-front.ensures.none c.if-front-lt64.false) c.leads_of_64-leads.ensures))
 
 pub parts-preserved : goal.parts-preserved
-parts-preserved c = block_goes_on c.parts.invariant c.leads_in-begins.ensures (c.end_in_64-front.ensures.none c.if-front-lt64.false)
+parts-preserved c = walked-on c.parts.invariant 64 (c.end_in_64-front.ensures.none c.if-front-lt64.false) c.leads_of_64-leads.ensures
 
-pub overflow_add-leads-in-bytes : goal.overflow_add-leads-in-bytes
-overflow_add-leads-in-bytes c = omega (arith, walked-le (byte_goes_on c.bytes.invariant c.bytes-test.true c.if-in_line.ensures c.lead_of-leads.ensures))
+pub slice_bounds-line_front_by_16-count : goal.slice_bounds-line_front_by_16-count
+slice_bounds-line_front_by_16-count c = walked-within c.parts.invariant
 
-pub bytes-preserved : goal.bytes-preserved
-bytes-preserved c = byte_goes_on c.bytes.invariant c.bytes-test.true c.if-in_line.ensures c.lead_of-leads.ensures
+pub slice_bounds-line_front_by_16-start : goal.slice_bounds-line_front_by_16-start
+slice_bounds-line_front_by_16-start c = walked-within c.parts.invariant
 
-pub returns-else-in_line-clause-at : goal.returns-else-in_line-clause-at
-returns-else-in_line-clause-at c = byte_ends c.bytes.invariant c.bytes-test.true c.if-in_line.ensures
+pub overflow_add-result-3 : goal.overflow_add-result-3
+overflow_add-result-3 c =
+    let rest = c.line_front_by_16-rest.ensures in
+    omega (arith, walked-le (rest_walked c.parts.invariant _ _ _ refl rest.at rest.leads))
 
-pub returns-after-bytes-clause-at : goal.returns-after-bytes-clause-at
-returns-after-bytes-clause-at c = omega (arith, c.bytes.invariant.within, prefix_len-le-length in_line c.args.bytes.now, c.bytes-test.false)
+pub returns-clause-at : goal.returns-clause-at
+returns-clause-at c = rest_ends c.parts.invariant _ _ _ refl c.line_front_by_16-rest.ensures.at c.line_front_by_16-rest.ensures.leads
+
+pub returns-clause-leads : goal.returns-clause-leads
+returns-clause-leads c = (rest_walked c.parts.invariant _ _ _ refl c.line_front_by_16-rest.ensures.at c.line_front_by_16-rest.ensures.leads).counted

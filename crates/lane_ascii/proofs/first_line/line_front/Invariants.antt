@@ -7,9 +7,3 @@ invariant-parts l = IsWalked l.bytes l.at l.leads
 
 abbrev pub decreases-parts : goal.decreases-parts
 decreases-parts l = length l.bytes - l.at
-
-abbrev pub invariant-bytes : goal.invariant-bytes
-invariant-bytes l = IsWalked l.bytes l.at l.leads
-
-abbrev pub decreases-bytes : goal.decreases-bytes
-decreases-bytes l = length l.bytes - l.at

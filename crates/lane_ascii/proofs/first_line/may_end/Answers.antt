@@ -1,4 +1,4 @@
-use Rattle.std.proofs.Common.{◌≡◌, ◌+◌, ◌∙◌, arith, nat_eq, sym}
+use Rattle.std.proofs.Common.{◌+◌, ◌∙◌, arith, nat_eq, sym}
 use Rattle.std.proofs.lemmas.Bool.{cases_Bool, eqb-true}
 use Rattle.lane_ascii.specs.Leads.{AreHigh}
 use Rattle.lane_ascii.proofs.FirstLines.{high-goes-on, high-mask}

@@ -1,5 +1,5 @@
 use Rattle.std.proofs.Common.{◌+◌, ◌∙◌, ap, ap₂, arith, drop, drop-drop, length-take, sym, take, take-add, ◌++◌}
-use Rattle.lane_utf.specs.Weights.{begins_code_point, scalar_weight}
+use Rattle.lane_ascii.specs.Leads.{is_lead, one_lead}
 use Rattle.lane_utf.specs.Widths.{total_width}
 use Rattle.lane_utf.proofs.Measures.{ones-le, sum-total}
 use Rattle.lane_utf.proofs.UnitSums.{total-append}
@@ -14,10 +14,10 @@ sum_of_lanes-requires c =
     let high = take 64 (drop (c.args.at + 64) bytes) in
     omega (
       arith,
-      ap sum_l c.scalar_ones.ensures ∙ sum-total scalar_weight low,
-      ap sum_l c.scalar_ones-2.ensures ∙ sum-total scalar_weight high,
-      ones-le begins_code_point low,
-      ones-le begins_code_point high,
+      ap sum_l c.lead_ones.ensures ∙ sum-total one_lead low,
+      ap sum_l c.lead_ones-2.ensures ∙ sum-total one_lead high,
+      ones-le is_lead low,
+      ones-le is_lead high,
       length-take 64 (drop c.args.at bytes),
       length-take 64 (drop (c.args.at + 64) bytes),
     )
@@ -29,6 +29,6 @@ returns c =
     let low = take 64 behind in
     let high = take 64 (drop (c.args.at + 64) bytes) in
     c.sum_of_lanes.ensures
-    ∙ ap₂ (λ a b. a + b) (ap sum_l c.scalar_ones.ensures ∙ sum-total scalar_weight low) (ap sum_l c.scalar_ones-2.ensures ∙ sum-total scalar_weight high)
-    ∙ sym (total-append scalar_weight low high)
-    ∙ ap (total_width scalar_weight) (ap (λ xs. low ++ take 64 xs) (sym (drop-drop 64 c.args.at bytes)) ∙ sym (take-add 64 64 behind))
+    ∙ ap₂ (λ a b. a + b) (ap sum_l c.lead_ones.ensures ∙ sum-total one_lead low) (ap sum_l c.lead_ones-2.ensures ∙ sum-total one_lead high)
+    ∙ sym (total-append one_lead low high)
+    ∙ ap (total_width one_lead) (ap (λ xs. low ++ take 64 xs) (sym (drop-drop 64 c.args.at bytes)) ∙ sym (take-add 64 64 behind))

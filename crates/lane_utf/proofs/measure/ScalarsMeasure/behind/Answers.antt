@@ -1,7 +1,7 @@
 use Rattle.std.proofs.Common.{map, ◌∙◌}
-use Rattle.lane_utf.specs.Weights.{begins_code_point}
+use Rattle.lane_ascii.specs.Leads.{is_lead}
 use Rattle.lane_utf.proofs.Measures.{ones_left}
 use Rattle.lane_utf.proofs.measure.ScalarsMeasure.behind.Goals as goal
 
 pub returns : goal.returns
-returns c = c.ones_behind.ensures (map begins_code_point c.args.lanes) c.code_points.ensures ∙ ones_left begins_code_point c.args.skipped c.args.lanes
+returns c = c.ones_behind.ensures (map is_lead c.args.lanes) c.leads_in.ensures ∙ ones_left is_lead c.args.skipped c.args.lanes
