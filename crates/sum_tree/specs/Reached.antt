@@ -60,10 +60,10 @@ pub record IsWayTo {T S : Type 0} (fits : S → Type 0) (measure : S → ℕ) (t
   pub fit : IsReachable fits unit op sum_of s ys
   pub sought : IsTargetAmong measure target unit op sum_of s ys
 
--- a search goes on at a node's only element, or one level down, by a visit
-abbrev pub IsBelow : {T S : Type 0} → (S → Type 0) → (S → ℕ) → ℕ → S → (S → S → S) → (T → S) → S → Row T → ℕ → ℕ → Below T S → Type 0
-IsBelow fits measure target unit op sum_of before r old new (Element x) = (r.items ≡ x.now ∷ []) × (r.height ≡ 0) × (new ≡ old)
-IsBelow fits measure target unit op sum_of before r old new (Child k s c) = IsWayTo fits measure target unit op sum_of before r.items k s c.now.items × (r.height ≡ c.now.height + 1) × RisesBy 1 old new
+-- a search goes on at a node's only element, or one level down, by a visit; s is the sum in front of what it goes on at
+abbrev pub IsBelow : {T S : Type 0} → (S → Type 0) → (S → ℕ) → ℕ → S → (S → S → S) → (T → S) → S → Row T → ℕ → ℕ → S → Below T S → Type 0
+IsBelow fits measure target unit op sum_of before r old new s (Element x) = (r.items ≡ x.now ∷ []) × (r.height ≡ 0) × (new ≡ old) × (s ≡ before)
+IsBelow fits measure target unit op sum_of before r old new s (Child k c) = IsWayTo fits measure target unit op sum_of before r.items k s c.now.items × (r.height ≡ c.now.height + 1) × RisesBy 1 old new
 
 -- the list is cut as in IsFound, and k is the number of elements in front
 pub record IsSearched {T S : Type 0} (measure : S → ℕ) (target : ℕ) (unit : S) (op : S → S → S) (sum_of : T → S) (xs : List T) (k : ℕ) (s : S) (x : Option T) : Type 0 where

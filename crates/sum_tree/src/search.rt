@@ -89,8 +89,8 @@ impl<T: Summed<S> + Drop, S: Summary> Child<T, S> {
     }
 
     /// The element that the target lies in, its number and the sum in front of it, where this one
-    /// is the sum in front of the node. A loop, since the sums are long: a call on each level would
-    /// copy them.
+    /// is the sum in front of the node. A loop over one sum, since sums are long: a call on each
+    /// level would copy them.
     pub(crate) fn find<D: Dimension<S>>(
         &self,
         before: S,
@@ -110,63 +110,62 @@ impl<T: Summed<S> + Drop, S: Summary> Child<T, S> {
         let mut sum = before;
         let mut node = self;
         'levels: loop {
-            match node.below(sum, dimension, target, visits) {
+            match node.below(&mut sum, dimension, target, visits) {
                 Below::Element(x) => return (place, sum, x),
-                Below::Child(count, behind, child) => {
+                Below::Child(count, child) => {
                     place += count;
-                    sum = behind;
                     node = child;
                 }
             }
         }
     }
 
-    /// The child that the target lies in, or the element. Inlined, so that no sum is copied out of
-    /// it.
+    /// The child that the target lies in, or the element. The sum in front of the node becomes the
+    /// one in front of that. Inlined, so that the sum stays where it is.
     #[inline(always)]
     fn below<D: Dimension<S>>(
         &self,
-        before: S,
+        sum: &mut S,
         dimension: &D,
         target: u64,
         visits: &mut Visits,
     ) -> Below<'_, T, S>
-        requires fit { IsReachable S.fits S.empty S.op T.sum_of before self.now.items }
+        requires fit { IsReachable S.fits S.empty S.op T.sum_of sum.old self.now.items }
         requires sought { IsTargetAmong (D.measure dimension.now) target S.empty S.op T.sum_of
-            before self.now.items }
+            sum.old self.now.items }
         ensures { IsBelow S.fits (D.measure dimension.now) target S.empty S.op T.sum_of
-            before self.now visits.old visits.new result }
+            sum.old self.now visits.old visits.new sum.new result }
     {
         match self.parts() {
             NodeParts::Leaf(x) => Below::Element(x),
             NodeParts::Two(a, b) => {
                 visits.count();
-                if target < a.reach(&before, dimension) {
-                    Below::Child(0, before, a)
-                } else {
-                    Below::Child(a.count(), a.behind(before), b)
+                if target < a.reach(sum, dimension) {
+                    return Below::Child(0, a);
                 }
+                *sum = a.behind(*sum);
+                Below::Child(a.count(), b)
             }
             NodeParts::Three(a, b, c) => {
                 visits.count();
-                if target < a.reach(&before, dimension) {
-                    return Below::Child(0, before, a);
+                if target < a.reach(sum, dimension) {
+                    return Below::Child(0, a);
                 }
-                let first = a.behind(before);
-                if target < b.reach(&first, dimension) {
-                    Below::Child(a.count(), first, b)
-                } else {
-                    Below::Child(a.count() + b.count(), b.behind(first), c)
+                *sum = a.behind(*sum);
+                if target < b.reach(sum, dimension) {
+                    return Below::Child(a.count(), b);
                 }
+                *sum = b.behind(*sum);
+                Below::Child(a.count() + b.count(), c)
             }
         }
     }
 }
 
 /// Where a search goes on below a node: at the element, or at a child with the number of the node's
-/// elements in front of it and the sum in front of it.
+/// elements in front of it.
 #[derive(Drop)]
 enum Below<'a, T: Summed<S> + Drop, S: Summary> {
     Element(&'a T),
-    Child(usize, S, &'a Child<T, S>),
+    Child(usize, &'a Child<T, S>),
 }

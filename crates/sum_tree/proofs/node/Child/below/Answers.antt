@@ -11,16 +11,16 @@ behind-requires g c = reach_left g.met.S.Summary.laws g.T.Summed.sum_of c.in-Two
 pub reach-requires-in-Three : goal.reach-requires-in-Three
 reach-requires-in-Three g c = reach_first g.met.S.Summary.laws g.T.Summed.sum_of c.in-Three.ensures.parts g.met.S.Summary.fits_left c.requires.fit
 
-pub behind-first-requires : goal.behind-first-requires
-behind-first-requires g c = reach_first g.met.S.Summary.laws g.T.Summed.sum_of c.in-Three.ensures.parts g.met.S.Summary.fits_left c.requires.fit
+pub behind-requires-in-Three : goal.behind-requires-in-Three
+behind-requires-in-Three g c = reach_first g.met.S.Summary.laws g.T.Summed.sum_of c.in-Three.ensures.parts g.met.S.Summary.fits_left c.requires.fit
 
 pub reach-requires-in-Three-2 : goal.reach-requires-in-Three-2
 reach-requires-in-Three-2 g c =
-    reach_middle g.met.S.Summary.laws g.T.Summed.sum_of c.in-Three.ensures.parts g.met.S.Summary.fits_left c.behind-first.ensures c.requires.fit
+    reach_middle g.met.S.Summary.laws g.T.Summed.sum_of c.in-Three.ensures.parts g.met.S.Summary.fits_left c.behind-in-Three.ensures c.requires.fit
 
-pub behind-requires-else-target-reach-3 : goal.behind-requires-else-target-reach-3
-behind-requires-else-target-reach-3 g c =
-    reach_middle g.met.S.Summary.laws g.T.Summed.sum_of c.in-Three.ensures.parts g.met.S.Summary.fits_left c.behind-first.ensures c.requires.fit
+pub behind-requires-in-Three-2 : goal.behind-requires-in-Three-2
+behind-requires-in-Three-2 g c =
+    reach_middle g.met.S.Summary.laws g.T.Summed.sum_of c.in-Three.ensures.parts g.met.S.Summary.fits_left c.behind-in-Three.ensures c.requires.fit
 
 pub returns-then-target-reach : goal.returns-then-target-reach
 returns-then-target-reach g c =
@@ -32,7 +32,7 @@ pub returns-else-target-reach : goal.returns-else-target-reach
 returns-else-target-reach g c =
     let p = c.in-Two.ensures.parts in
     let way = into_last g.met.S.Summary.laws g.T.Summed.sum_of (g.D.Dimension.measure c.args.dimension.now) c.args.target _ _ _ _ _ _ _
-    p.items c.behind.ensures c.reach.ensures c.if-target-reach.false c.count-else-target-reach.ensures c.requires.fit c.requires.sought in
+    p.items c.behind.ensures c.reach.ensures c.if-target-reach.false c.count-in-Two.ensures c.requires.fit c.requires.sought in
     (way, omega (arith, p.height, p.level), c.count.ensures.rises)
 
 pub returns-then-target-reach-2 : goal.returns-then-target-reach-2
@@ -45,7 +45,7 @@ pub returns-then-target-reach-3 : goal.returns-then-target-reach-3
 returns-then-target-reach-3 g c =
     let parts = c.in-Three.ensures.parts in
     let way = into_middle g.met.S.Summary.laws g.T.Summed.sum_of (g.D.Dimension.measure c.args.dimension.now) c.args.target g.met.S.Summary.fits_left _ _ _ _ _ _ _ _ _
-    parts.items c.behind-first.ensures c.reach-in-Three.ensures c.if-target-reach-2.false c.count-then-target-reach-3.ensures
+    parts.items c.behind-in-Three.ensures c.reach-in-Three.ensures c.if-target-reach-2.false c.count-then-target-reach-3.ensures
     c.reach-in-Three-2.ensures c.if-target-reach-3.true c.requires.fit c.requires.sought in
     (way, omega (arith, parts.height, parts.level), c.count-in-Three.ensures.rises)
 
@@ -53,6 +53,6 @@ pub returns-else-target-reach-3 : goal.returns-else-target-reach-3
 returns-else-target-reach-3 g c =
     let parts = c.in-Three.ensures.parts in
     let way = into_third g.met.S.Summary.laws g.T.Summed.sum_of (g.D.Dimension.measure c.args.dimension.now) c.args.target _ _ _ _ _ _ _ _ _ _ _
-    parts.items c.behind-first.ensures c.reach-in-Three.ensures c.if-target-reach-2.false c.count-else-target-reach-3.ensures
-    c.behind-else-target-reach-3.ensures c.reach-in-Three-2.ensures c.if-target-reach-3.false c.count-else-target-reach-3-2.ensures c.requires.fit c.requires.sought in
+    parts.items c.behind-in-Three.ensures c.reach-in-Three.ensures c.if-target-reach-2.false c.count-in-Three-2.ensures
+    c.behind-in-Three-2.ensures c.reach-in-Three-2.ensures c.if-target-reach-3.false c.count-in-Three-3.ensures c.requires.fit c.requires.sought in
     (way, omega (arith, parts.height, parts.level, parts.level_right), c.count-in-Three.ensures.rises)

@@ -1,4 +1,5 @@
-use Rattle.std.proofs.Common.{refl, arith}
+use Rattle.std.proofs.Common.{refl, arith, subst, sym}
+use Rattle.sum_tree.specs.Reached.{IsWayTo}
 use Rattle.sum_tree.proofs.Levels.{rises_none, rises_on, rises_end}
 use Rattle.sum_tree.proofs.Reaching.{way_none, way_on, way_room, element_at}
 use Rattle.sum_tree.proofs.node.Child.find.Goals as goal
@@ -12,7 +13,8 @@ levels-init g c = record {
 
 pub returns-in-Element-clause-found : goal.returns-in-Element-clause-found
 returns-in-Element-clause-found g c =
-    element_at g.met.S.Summary.laws g.T.Summed.sum_of (g.D.Dimension.measure c.args.dimension.now) c.args.target _ _ _ _ _ _ c.levels.invariant.way c.in-Element.ensures.0
+    let way = subst (λ s. IsWayTo g.S.Summary.fits (g.D.Dimension.measure c.args.dimension.now) c.args.target g.S.Summary.empty g.S.Summary.op g.T.Summed.sum_of c.args.before c.args.self.now.items c.levels.place s c.levels.node.now.items) (sym c.in-Element.ensures.3) c.levels.invariant.way in
+    element_at g.met.S.Summary.laws g.T.Summed.sum_of (g.D.Dimension.measure c.args.dimension.now) c.args.target _ _ _ _ _ _ way c.in-Element.ensures.0
 
 pub returns-in-Element-clause-visited : goal.returns-in-Element-clause-visited
 returns-in-Element-clause-visited g c = rises_end _ _ _ _ _ c.in-Element.ensures.1 c.in-Element.ensures.2 c.levels.invariant.visited
