@@ -80,18 +80,21 @@ pub(crate) fn parts_cr_lf(front: &str, after_cr: bool, rest: &str) -> bool
 }
 
 // What is known of the line end that a text begins with.
+// As line_behind.
+#[inline(always)]
 pub(crate) fn ending_of(text: &str) -> Ending
     ensures { result ≡ ending_of (chars text.now) }
 {
-    let Some((first, rest)) = split_at_scalar(text, 1) else {
-        return Ending::One;
-    };
-    if !ends_cr(first, false) {
+    let bytes = text.as_bytes();
+    if bytes.is_empty() || bytes[0] != b'\r' {
         return Ending::One;
     }
-    match split_at_scalar(rest, 1) {
-        None => Ending::Open,
-        Some(_) if begins_lf(rest) => Ending::Two,
-        Some(_) => Ending::One,
+    if bytes.len() == 1 {
+        return Ending::Open;
+    }
+    if bytes[1] == b'\n' {
+        Ending::Two
+    } else {
+        Ending::One
     }
 }

@@ -75,6 +75,8 @@ pub(crate) fn mark_at<'d>(
 }
 
 // Whether code point `n` is an LF.
+// Seldom asked for a line of a page: only where a piece ends in CR.
+#[inline(never)]
 pub(crate) fn line_feed_at(parts: &Parts<'_, '_>, n: u64, visits: &mut Visits) -> bool
     ensures is { result ≡ begins_lf (drop n (text_of parts.now.doc)) }
     ensures most { (d : ℕ) → length parts.now.pieces < 2 ^ d → visits.new ≤ visits.old + (d + 2) }
@@ -88,6 +90,8 @@ pub(crate) fn line_feed_at(parts: &Parts<'_, '_>, n: u64, visits: &mut Visits) -
 }
 
 // Whether the line end at a mark is CR LF.
+// As line_behind.
+#[inline(always)]
 fn is_cr_lf(parts: &Parts<'_, '_>, m: &LineMark<'_>, visits: &mut Visits) -> bool
     requires room { m.now.at.scalars + 1 < 2 ^ 64 }
     ensures is { (unit : TextUnit) (n : ℕ) (h : IsMarkAt unit (text_of parts.now.doc) n m.now) → result ≡ ((h.c == cr) && begins_lf (h.near ++ h.far)) }
@@ -102,6 +106,8 @@ fn is_cr_lf(parts: &Parts<'_, '_>, m: &LineMark<'_>, visits: &mut Visits) -> boo
 }
 
 // Where the line behind mark `n` starts.
+// In the loop over the lines of a page.
+#[inline(always)]
 pub(crate) fn line_behind(
     parts: &Parts<'_, '_>,
     unit: Unit,

@@ -1,14 +1,30 @@
-use Rattle.std.proofs.Common.{true, false, sym, ◌∙◌}
-use Rattle.position_map.proofs.Endings.{ending_other, ending_more}
+use Rattle.std.proofs.Common.{◌≡◌, sym, ◌∙◌}
+use Rattle.position_map.proofs.Words.{ending_of}
+use Rattle.position_map.specs.declared.ending.Ending.TheVariants.{One}
+use Rattle.position_map.proofs.Endings.{cr_alone, cr_lf, cr_other, ending-bytes, no_byte, no_cr}
+use Rattle.position_map.proofs.cuts.ending_of.Goals.{then-is_empty-via-then-is_empty, then-is_empty-via-else-is_empty+then-bytes-ne13}
 use Rattle.position_map.proofs.cuts.ending_of.Goals as goal
 
-pub returns-then-not-ends_cr : goal.returns-then-not-ends_cr
-returns-then-not-ends_cr c = ending_other _ _ _ c.in-Some.ensures (sym c.ends_cr.ensures ∙ c.if-not-ends_cr.true)
+pub returns-then-is_empty : goal.returns-then-is_empty
+returns-then-is_empty c =
+    let bytes = c.as_bytes-bytes.result.now in
+    let none : ending_of bytes ≡ One = elim c.then-is_empty.branch [
+      | then-is_empty-via-then-is_empty w ↦ no_byte bytes c.is_empty.result c.is_empty.ensures w.if-is_empty.true
+      | then-is_empty-via-else-is_empty+then-bytes-ne13 w ↦ no_cr bytes w.if-bytes-ne13.true
+    ] in
+    sym none ∙ ending-bytes c.args.text.now bytes c.utf8.text c.as_bytes-bytes.ensures.value
 
-pub returns-in-Some-split_at_scalar : goal.returns-in-Some-split_at_scalar
-returns-in-Some-split_at_scalar c =
-    ending_more _ _ _ _ _ true c.in-Some.ensures (sym c.ends_cr.ensures ∙ c.if-not-ends_cr.false) c.in-Some-split_at_scalar.ensures (sym c.if-begins_lf.true ∙ c.begins_lf.ensures)
+pub returns-then-bytes-eq1 : goal.returns-then-bytes-eq1
+returns-then-bytes-eq1 c =
+    sym (cr_alone c.as_bytes-bytes.result.now c.if-bytes-ne13.false c.if-bytes-eq1.true)
+    ∙ ending-bytes c.args.text.now c.as_bytes-bytes.result.now c.utf8.text c.as_bytes-bytes.ensures.value
 
-pub returns-in-Some-2 : goal.returns-in-Some-2
-returns-in-Some-2 c =
-    ending_more _ _ _ _ _ false c.in-Some.ensures (sym c.ends_cr.ensures ∙ c.if-not-ends_cr.false) c.in-Some-2.ensures (sym c.if-begins_lf.false ∙ c.begins_lf.ensures)
+pub returns-then-bytes-eq10 : goal.returns-then-bytes-eq10
+returns-then-bytes-eq10 c =
+    sym (cr_lf c.as_bytes-bytes.result.now c.if-bytes-ne13.false c.if-bytes-eq10.true)
+    ∙ ending-bytes c.args.text.now c.as_bytes-bytes.result.now c.utf8.text c.as_bytes-bytes.ensures.value
+
+pub returns-else-bytes-eq10 : goal.returns-else-bytes-eq10
+returns-else-bytes-eq10 c =
+    sym (cr_other c.as_bytes-bytes.result.now c.if-bytes-ne13.false c.if-bytes-eq1.false c.if-bytes-eq10.false)
+    ∙ ending-bytes c.args.text.now c.as_bytes-bytes.result.now c.utf8.text c.as_bytes-bytes.ensures.value
