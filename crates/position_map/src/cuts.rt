@@ -33,6 +33,8 @@ pub(crate) fn split_at_mark(text: &str, after_cr: bool, n: usize) -> Option<(&st
 }
 
 // The same for its first line mark, by one walk.
+// In the loop over the lines of a page, where its answer would go through memory.
+#[inline(always)]
 pub(crate) fn split_at_first_mark(text: &str) -> Option<(&str, &str, usize)>
     ensures { MatchOption result (marks false (chars text.now) ≤ 0)
         (λ x. IsMarkCut false (chars text.now) 0 (chars x.0.now) (chars x.1.now) × (x.2 ≡ length (chars x.0.now))) }

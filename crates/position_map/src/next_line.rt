@@ -75,6 +75,8 @@ pub(crate) fn next_mark<'d>(
 }
 
 // The line behind mark `n`.
+// In the loop over the lines of a page, where its answer would go through memory.
+#[inline(always)]
 pub(crate) fn line_after<'d>(
     parts: &Parts<'d, '_>,
     n: u64,
