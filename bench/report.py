@@ -18,6 +18,8 @@ TITLES = {
     "changes": "Changes: a range change by line and character, and the one that takes it back",
     "positions": "Positions: an offset of a position and a position of an offset",
     "pages": "Pages: 1,000 lines, and 1,000 code points encoded in UTF-8",
+    "error-pages": "Errors: a page of 1,000, in a document with an error on each line",
+    "texts": "Texts: a 32nd as many code points as the document has bytes, as text and encoded in UTF-8",
     "bulk": "Bulk: a document opened, an eighth of its bytes in code points as text and as UTF-8, its errors",
     "lists-of-1": "Lists of one change by line and character, and the list that takes it back",
     "lists-of-10": "Lists of ten changes by line and character, and the list that takes them back",

@@ -18,9 +18,10 @@ SAMPLES = {
 }
 
 
-# An error of each encoding, behind which a line end is decoded as ever.
-ERRORS = {"utf-16le": b"\x00\xd8", "windows-1251": b"\x98"}
+# An error of each encoding that has any, behind which a line end is decoded as ever.
+ERRORS = {"utf-16le": b"\x00\xd8"}
 ANY_ERROR = b"\xff"
+ERRING = tuple(label for label in SAMPLES if label != "windows-1251")
 
 # The most bytes of a document, and how many a document here lacks to them, for what its session puts in.
 LIMIT, SPARE = 16_777_216, 4096
@@ -118,6 +119,29 @@ def pages(label, size, count):
         session.add("lines", doc="d", **{"from": rng.randrange(lines), "max": 1000})
         start = rng.randrange(len(data) // 8)
         session.add("encode", doc="d", **{"from": start, "to": start + 1000}, label="utf-8")
+    return session.bytes()
+
+
+def error_pages(label, size, count):
+    """Pages of a thousand errors, in a document with an error on each line."""
+    data, session = opened(label, size, ERRORS.get(label, ANY_ERROR))
+    errors = len(line_starts(label, data))
+    rng = random.Random(f"error pages {label} {size}")
+    for _ in range(count):
+        session.add("errors", doc="d", **{"from": rng.randrange(errors), "max": 1000})
+    return session.bytes()
+
+
+def texts(label, size, count):
+    """Long ranges of code points, each as text and in UTF-8."""
+    _, session = opened(label, size)
+    session.add("stat", doc="d")
+    rng = random.Random(f"texts {label} {size}")
+    for _ in range(count):
+        start = rng.randrange(size // 8)
+        of = {"from": start, "to": start + size // 32}
+        session.add("text", doc="d", **of)
+        session.add("encode", doc="d", **of, label="utf-8")
     return session.bytes()
 
 
@@ -253,11 +277,13 @@ KINDS = {
     "changes": Kind(changes, Rounds(2000, 30), (*PEER_SIZES, "16M")),
     "positions": Kind(positions, Rounds(5000, 5000)),
     "pages": Kind(pages, Rounds(200, 200)),
+    "error-pages": Kind(error_pages, Rounds(200, 200), encodings=ERRING),
+    "texts": Kind(texts, Rounds(100, 100)),
     "bulk": Kind(bulk, Rounds(10, 10)),
     "lists-of-1": Kind(lists(1), Rounds(2000, 30), GROWING),
     "lists-of-10": Kind(lists(10), Rounds(500, 3), GROWING),
     "line-starts": of_gate(line_starts_asked, 20_000),
-    "error-starts": of_gate(error_starts_asked, 20_000),
+    "error-starts": of_gate(error_starts_asked, 20_000, ERRING),
     "last-bytes": of_gate(last_bytes, 10_000),
     "last-text": of_gate(last_text, 10_000),
     "front": of_gate(put_in_front(letter), 1000),
