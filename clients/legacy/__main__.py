@@ -1,0 +1,79 @@
+"""The command `legacy`: a subcommand for each job over trees of legacy files.
+
+Each subcommand is a module of this package, with `add_to(commands)`, which adds its parser, and what that names as `run`:
+it takes the words that were parsed and returns the status. `legacy SUBCOMMAND --help` has its words."""
+import argparse
+import codecs
+import importlib
+import io
+import os
+import sys
+from typing import List, Optional, Tuple, Union
+
+from legacy import __version__
+from legacy.finding import Missing
+
+# The modules of the subcommands, in the order of the help.
+SUBCOMMANDS: Tuple[str, ...] = ()
+# The packages of Debian that have the libraries that some subcommands need.
+PACKAGES = {"pyfuse3": "python3-pyfuse3", "distributed": "python3-distributed"}
+
+# Statuses: 2 for words, files and libraries that are wrong or missing, and as a shell has it for a signal.
+USAGE, INTERRUPTED, CLOSED = 2, 130, 141
+
+
+def parser() -> argparse.ArgumentParser:
+    """The parser of all words, with one of its own for each subcommand."""
+    made = argparse.ArgumentParser(
+        prog="legacy", description="Work on trees of files in legacy encodings, which stay bytes: no byte changes that nobody edits.",
+        epilog="Each subcommand has a --help of its own.")
+    made.add_argument("--version", action="version", version=f"legacy {__version__}")
+    commands = made.add_subparsers(title="subcommands", dest="subcommand", metavar="SUBCOMMAND", required=True)
+    for name in SUBCOMMANDS:
+        importlib.import_module(f"legacy.{name}").add_to(commands)
+    return made
+
+
+def library(fault: ModuleNotFoundError) -> str:
+    """What to say of a library that isn't there."""
+    name = (fault.name or "").partition(".")[0]
+    hint = f", Debian's {PACKAGES[name]}" if name in PACKAGES else ""
+    return f"the library {name}{hint}, isn't installed for {sys.executable}"
+
+
+def as_it_can(fault: UnicodeError) -> Tuple[Union[str, bytes], int]:
+    """Takes what a stream's encoding lacks: names that aren't text as their bytes, other characters as an escape."""
+    assert isinstance(fault, UnicodeEncodeError)
+    try:
+        return codecs.lookup_error("surrogateescape")(fault)
+    except UnicodeEncodeError:
+        return codecs.lookup_error("backslashreplace")(fault)
+
+
+def main(words: Optional[List[str]] = None) -> int:
+    """Runs the subcommand that the words name, and returns its status."""
+    codecs.register_error("as-it-can", as_it_can)
+    for stream in sys.stdout, sys.stderr:
+        if isinstance(stream, io.TextIOWrapper):
+            stream.reconfigure(errors="as-it-can")
+    found = parser().parse_args(words)
+    try:
+        status: int = found.run(found)
+        sys.stdout.flush()
+        return status
+    except Missing as fault:
+        said, status = str(fault), USAGE
+    except ModuleNotFoundError as fault:
+        said, status = library(fault), USAGE
+    except KeyboardInterrupt:
+        said, status = "interrupted", INTERRUPTED
+    except BrokenPipeError:
+        # Whoever read the output, such as head, has enough. What is left of it must not fail again at the end.
+        os.dup2(os.open(os.devnull, os.O_WRONLY), sys.stdout.fileno())
+        return CLOSED
+    print(f"legacy {found.subcommand}: {said}", file=sys.stderr)
+    return status
+
+
+if __name__ == "__main__":
+    sys.exit(main())

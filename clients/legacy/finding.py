@@ -1,0 +1,105 @@
+"""What is found without words: the program `gate`, and the Standard's index files and labels.
+
+The program is the one that `--gate` names, else the variable GATE, else `gate` on PATH, else the repository's `./gate`
+where this package lies in a checkout. The index files are in the folder that `--indexes` names, else GATE_INDEXES, else
+where `tools/standard` puts them: `$XDG_DATA_HOME/gate/standard`, by default `~/.local/share/gate/standard`. The labels
+are the file that `--labels` names, else `encodings.json` in that folder; without it the Standard's 40 names are the only
+labels."""
+import argparse
+import os
+import pathlib
+import shutil
+from typing import List, NamedTuple, Optional
+
+from gate import Fault, Gate, Gone
+
+CHECKOUT = pathlib.Path(__file__).resolve().parent.parent.parent / "gate"
+# A file that each folder of the Standard's index files has.
+AN_INDEX = "index-jis0208.txt"
+
+
+class Missing(Exception):
+    """Something that a subcommand needs isn't there, or isn't what it should be: one line that says what."""
+
+
+class Found(NamedTuple):
+    """The program, the folder of the index files, and the label file, if there is one."""
+
+    gate: str
+    indexes: pathlib.Path
+    labels: Optional[pathlib.Path]
+
+    def words(self) -> List[str]:
+        """The command line that serves standard input."""
+        labels = ["--labels", str(self.labels)] if self.labels else []
+        return [self.gate, "stdio", "--indexes", str(self.indexes), *labels]
+
+    def start(self) -> Gate:
+        """Starts the program, which has read its files once this returns."""
+        try:
+            started = Gate.start(*self.words())
+        except OSError as fault:
+            raise Missing(f"{self.gate} can't be run: {fault.strerror}") from fault
+        try:
+            # Any command will do: it replies, if only with a refusal, once its files are read.
+            started.ask("stat", doc="-")
+        except Fault:
+            return started
+        except (Gone, ValueError) as fault:
+            started.close()
+            raise Missing(f"{self.gate} ended before it replied; its words were {' '.join(self.words()[1:])}") from fault
+        return started
+
+
+def add_words(parser: argparse.ArgumentParser) -> None:
+    """Adds the words that name what else is found."""
+    group = parser.add_argument_group("what is found without words")
+    group.add_argument("--gate", metavar="GATE", help="the program (default: the variable GATE, else gate on PATH)")
+    group.add_argument(
+        "--indexes", metavar="DIR", type=pathlib.Path,
+        help="the folder of the Standard's index files (default: the variable GATE_INDEXES, else where tools/standard puts them)")
+    group.add_argument(
+        "--labels", metavar="FILE", type=pathlib.Path, help="the label file (default: encodings.json in the folder of the index files)")
+
+
+def standard() -> pathlib.Path:
+    """Where `tools/standard` puts the index files and the labels."""
+    data = os.environ.get("XDG_DATA_HOME") or os.path.expanduser("~/.local/share")
+    return pathlib.Path(data, "gate", "standard")
+
+
+def program(named: Optional[str] = None) -> str:
+    """The program `gate`. Raises `Missing` where there is none."""
+    named = named or os.environ.get("GATE")
+    if named:
+        if not shutil.which(named):
+            raise Missing(f"the program {named} isn't there, or can't be run")
+        return named
+    found = shutil.which("gate") or (str(CHECKOUT) if os.access(CHECKOUT, os.X_OK) else None)
+    if not found:
+        raise Missing("the program gate isn't on PATH; --gate or the variable GATE names it")
+    return found
+
+
+def index_files(named: Optional[pathlib.Path] = None) -> pathlib.Path:
+    """The folder of the index files. Raises `Missing` where it has none."""
+    given = named or os.environ.get("GATE_INDEXES")
+    folder = pathlib.Path(given) if given else standard()
+    if not (folder / AN_INDEX).is_file():
+        hint = "" if given else "; tools/standard fetches them, or --indexes or the variable GATE_INDEXES names their folder"
+        raise Missing(f"{folder} has no index files, as {AN_INDEX}{hint}")
+    return folder
+
+
+def label_file(named: Optional[pathlib.Path], indexes: pathlib.Path) -> Optional[pathlib.Path]:
+    """The label file, or None where none is named and none lies beside the index files."""
+    if named and not named.is_file():
+        raise Missing(f"the label file {named} isn't there")
+    beside = indexes / "encodings.json"
+    return named or (beside if beside.is_file() else None)
+
+
+def find(words: argparse.Namespace) -> Found:
+    """All that `add_words` names, from the words that were parsed."""
+    indexes = index_files(words.indexes)
+    return Found(program(words.gate), indexes, label_file(words.labels, indexes))
