@@ -1,3 +1,5 @@
 pub mod Devices
+pub mod Histories
 pub mod Reading
 pub mod Slices
+pub mod Wires

@@ -3,13 +3,17 @@
 
 mod count;
 mod device;
+mod history;
 mod laws;
 mod memory;
 mod reading;
 mod stream;
+mod wire;
 
 pub use device::{Failed, Feed, Outlet, write_all};
+pub use history::History;
 pub use laws::law_slices;
 pub use memory::{MemFeed, MemOutlet};
 pub use reading::{MOST_READS, Progress, READ_BUFFER};
 pub use stream::{FromRead, ToWrite};
+pub use wire::{Arrival, Wire};
