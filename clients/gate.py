@@ -10,15 +10,18 @@
 `Gate` sends commands and hands out replies, over a program that it starts or over TCP; `Document` is one document with
 its bytes beside it, so that an edit can be taken back to the byte. docs/PROTOCOL.md says what each command does."""
 import base64
+import binascii
+import collections
 import contextlib
+import fcntl
 import json
 import os
-import queue
+import select
 import socket
 import subprocess
 import threading
 import time
-from typing import Any, BinaryIO, Callable, Dict, List, Optional, Sequence, Tuple, Union
+from typing import Any, Callable, Deque, Dict, List, Optional, Sequence, Tuple, Union
 
 # What a reply or a refusal says, by the names that docs/PROTOCOL.md has.
 Members = Dict[str, Any]
@@ -31,6 +34,10 @@ Change = Union[Tuple[str], Tuple[str, Pair], Tuple[str, Pair, Pair]]
 ROOM = 3_000_000
 # The most commands that wait for their reply. Whoever sends more waits for the oldest.
 WINDOW = 64
+# The bytes that a pipe to a program has room for, and that are read at once. Linux's name for setting them is in Python's
+# library from 3.10 on.
+PIPE = 1 << 20
+SET_PIPE_SIZE = getattr(fcntl, "F_SETPIPE_SZ", 1031)
 # The most entries of a page of errors or of lines.
 PAGE = 10_000
 
@@ -51,49 +58,53 @@ class Gone(Exception):
 class Reply:
     """The reply to a command that was sent."""
 
-    def __init__(self) -> None:
-        self._came = threading.Event()
-        self._members: Optional[Members] = None
-
-    def _put(self, members: Optional[Members]) -> None:
-        self._members = members
-        self._came.set()
+    def __init__(self, gate: "Gate") -> None:
+        self._gate = gate
+        self._line: Optional[bytes] = None
 
     def get(self) -> Members:
         """Waits for the reply, and returns its members. Raises `Fault` for a refusal."""
-        self._came.wait()
-        if self._members is None:
+        if self._line is None:
+            self._gate._wait(self)
+        if not self._line:
             raise Gone()
-        if "fault" in self._members:
-            raise Fault(self._members)
-        return self._members
+        members: Members = json.loads(self._line)
+        if "fault" in members:
+            raise Fault(members)
+        return members
 
 
 class Gate:
-    """A connection to `gate`. Replies come in the order of the commands, so the oldest command that waits has the next
-    one; a thread reads them, so that sending never blocks for good."""
+    """A connection to `gate`, which threads may share. Replies come in the order of the commands, so the oldest command
+    that waits has the next one. Whoever waits for a reply reads those in front of it too, and whoever can't send now
+    reads meanwhile: so sending never blocks for good."""
 
-    def __init__(self, reading: BinaryIO, writing: BinaryIO, end: Callable[[], None]):
-        self._reading, self._writing, self._end = reading, writing, end
-        self._waiting: "queue.Queue[Reply]" = queue.Queue()
-        self._places = threading.BoundedSemaphore(WINDOW)
-        self._sending = threading.Lock()
+    def __init__(self, reading: int, writing: int, finish: Callable[[], None], end: Callable[[], None]):
+        """Takes two file descriptors, what ends the writing, and what ends the rest once all replies are read."""
+        self._from, self._into, self._finish, self._end = reading, writing, finish, end
+        os.set_blocking(writing, False)
+        self._waiting: Deque[Reply] = collections.deque()
+        self._reading, self._sending = threading.Lock(), threading.Lock()
+        self._begun: List[bytes] = []
         self._next, self._over = 0, False
-        self._reader = threading.Thread(target=self._read, daemon=True)
-        self._reader.start()
 
     @classmethod
-    def start(cls, *words: Union[str, os.PathLike]) -> "Gate":
+    def start(cls, *words: Union[str, "os.PathLike[str]"]) -> "Gate":
         """Starts the program with these words, and ends it with the connection."""
-        program = subprocess.Popen(words, stdin=subprocess.PIPE, stdout=subprocess.PIPE)
+        program = subprocess.Popen(words, stdin=subprocess.PIPE, stdout=subprocess.PIPE, bufsize=0)
+        writing, reading = program.stdin, program.stdout
+        assert writing and reading
+        # (what the system doesn't allow costs speed alone)
+        with contextlib.suppress(OSError):
+            fcntl.fcntl(writing, SET_PIPE_SIZE, PIPE)
 
-        def end():
-            with contextlib.suppress(BrokenPipeError):
-                program.stdin.close()
+        close = reading.close
+
+        def end() -> None:
             program.wait()
-            program.stdout.close()
+            close()
 
-        return cls(program.stdout, program.stdin, end)
+        return cls(reading.fileno(), writing.fileno(), writing.close, end)
 
     @classmethod
     def connect(cls, port: int = 7117, host: str = "127.0.0.1", patience: float = 10.0) -> "Gate":
@@ -107,44 +118,81 @@ class Gate:
                 if time.monotonic() > until:
                     raise
                 time.sleep(0.05)
-        reading, writing = connection.makefile("rb"), connection.makefile("wb")
 
-        def end():
+        def finish() -> None:
             with contextlib.suppress(OSError):
-                writing.close()
                 connection.shutdown(socket.SHUT_WR)
-            reading.close()
-            connection.close()
 
-        return cls(reading, writing, end)
+        return cls(connection.fileno(), connection.fileno(), finish, connection.close)
+
+    def _wait(self, reply: Reply) -> None:
+        """Reads until this reply has come; of several threads that wait one reads for all."""
+        while reply._line is None:
+            with self._reading:
+                if reply._line is None:
+                    self._read()
 
     def _read(self) -> None:
-        with contextlib.suppress(OSError):
-            for line in self._reading:
-                self._waiting.get()._put(json.loads(line))
-                self._places.release()
-        with self._sending:
+        """Reads once, and hands out the replies that are complete; where nothing can come any more, empty ones."""
+        try:
+            piece = os.read(self._from, PIPE)
+        except BlockingIOError:
+            _ready(self._from, None)
+            return
+        except ConnectionError:
+            piece = b""
+        if not piece:
             self._over = True
-        while not self._waiting.empty():
-            self._waiting.get()._put(None)
-            self._places.release()
+            while self._waiting:
+                self._waiting.popleft()._line = b""
+        rest, *others = piece.split(b"\n")
+        self._begun.append(rest)
+        for rest in others:
+            self._waiting.popleft()._line = b"".join(self._begun)
+            self._begun = [rest]
+
+    def _write(self, line: bytes) -> None:
+        left = memoryview(line)
+        while left:
+            try:
+                left = left[os.write(self._into, left) :]
+            except BlockingIOError:
+                # Perhaps the other side can't go on before its replies are read; another thread may be at it.
+                if self._reading.acquire(blocking=False):
+                    try:
+                        if _ready(self._from, self._into):
+                            self._read()
+                    finally:
+                        self._reading.release()
+                else:
+                    _ready(None, self._into, 10)
 
     def send(self, op: str, **fields: Any) -> Reply:
-        """Sends a command, and returns its `Reply` without waiting for it."""
-        self._places.acquire()
-        reply = Reply()
+        """Sends a command, and returns its `Reply` without waiting for it. A field that is bytes is sent as base64."""
+        content = {key: fields.pop(key) for key in [*fields] if isinstance(fields[key], bytes)}
+        reply = Reply(self)
         with self._sending:
+            while len(self._waiting) >= WINDOW:
+                with contextlib.suppress(IndexError):
+                    self._wait(self._waiting[0])
             if self._over:
-                self._places.release()
                 raise Gone()
-            line = json.dumps({"id": self._next, "op": op, **fields}).encode()
+            line = json.dumps({"id": self._next, "op": op, **fields}).encode()[:-1]
+            line += b"".join(b',"%b":"%b"' % (key.encode(), _base64(it)) for key, it in content.items()) + b"}\n"
             self._next += 1
-            self._waiting.put(reply)
-            # (where the other end is gone, the reader says so)
-            with contextlib.suppress(OSError):
-                self._writing.write(line + b"\n")
-                self._writing.flush()
+            self._waiting.append(reply)
+            # (where the other end is gone, whoever reads finds out)
+            with contextlib.suppress(ConnectionError):
+                self._write(line)
         return reply
+
+    def send_open(self, name: str, label: str, content: bytes, bom: str = "sniff", room: int = ROOM) -> List[Reply]:
+        """Sends what opens a document, by parts where a line hasn't room for it, and returns the reply to each part."""
+        sent = [self.send("open", doc=name, label=label, bytes=content[:room], bom=bom)]
+        for rev, at in enumerate(range(room, len(content), room)):
+            part = content[at : at + room]
+            sent.append(self.send("splice", doc=name, rev=rev, at=at, bytes=part, **{"del": 0}))
+        return sent
 
     def ask(self, op: str, **fields: Any) -> Members:
         """Sends a command, and returns the members of its reply. Raises `Fault` for a refusal."""
@@ -157,8 +205,12 @@ class Gate:
 
     def close(self) -> None:
         """Ends the connection, and a program that was started for it."""
+        with self._sending:
+            self._finish()
+        with self._reading:
+            while not self._over:
+                self._read()
         self._end()
-        self._reader.join()
 
     def __enter__(self) -> "Gate":
         return self
@@ -180,10 +232,8 @@ class Document:
 
     def __init__(self, gate: Gate, name: str, label: str, content: bytes, bom: str = "sniff", room: int = ROOM):
         self._gate, self.name, self.bytes = gate, name, content
-        self._take(gate.ask("open", doc=name, label=label, bytes=_base64(content[:room]), bom=bom))
-        for at in range(room, len(content), room):
-            part = _base64(content[at : at + room])
-            self._take(gate.ask("splice", doc=name, rev=self.rev, at=at, bytes=part, **{"del": 0}))
+        for reply in gate.send_open(name, label, content, bom, room):
+            self._take(reply.get())
 
     def _take(self, reply: Members) -> Members:
         self.rev, self.encoding, self.bom = reply["rev"], reply["encoding"], reply["bom"]
@@ -196,7 +246,7 @@ class Document:
 
     def splice(self, at: int, count: int, new: bytes) -> Edit:
         """Replaces `count` bytes from `at` on, and returns the edit."""
-        self._take(self._gate.ask("splice", doc=self.name, rev=self.rev, at=at, bytes=_base64(new), **{"del": count}))
+        self._take(self._gate.ask("splice", doc=self.name, rev=self.rev, at=at, bytes=new, **{"del": count}))
         return self._put(at, count, new)
 
     def change(self, text: str, start: Optional[Pair] = None, end: Optional[Pair] = None, unit: str = "utf-16") -> Edit:
@@ -233,7 +283,8 @@ class Document:
     def text(self, begin: int = 0, end: Optional[int] = None, mode: str = "replacement") -> str:
         """The text from one code point to another, or to its end. An error is U+FFFD, or in mode "fatal" a refusal."""
         end = self.stat()["utf32"] if end is None else end
-        return self._gate.ask("text", doc=self.name, mode=mode, **{"from": begin, "to": end})["text"]
+        text: str = self._gate.ask("text", doc=self.name, mode=mode, **{"from": begin, "to": end})["text"]
+        return text
 
     def source(self, at: int = 0, count: Optional[int] = None) -> bytes:
         """The bytes as `gate` has them."""
@@ -248,7 +299,7 @@ class Document:
 
     def errors(self) -> List[Pair]:
         """The places of all errors, each the first byte and the one behind the last."""
-        return [tuple(it) for it in self._pages("errors", "total")]
+        return [(begin, end) for begin, end in self._pages("errors", "total")]
 
     def diagnostics(
         self, line: Optional[int] = None, most: int = PAGE, unit: str = "utf-16"
@@ -263,7 +314,7 @@ class Document:
 
     def lines(self) -> List[Pair]:
         """All lines, each the code points where it begins and ends, its line end not included."""
-        return [tuple(it) for it in self._pages("lines", "count")]
+        return [(begin, end) for begin, end in self._pages("lines", "count")]
 
     def _pages(self, op: str, total: str, **fields: Any) -> List[List[int]]:
         found: List[List[int]] = []
@@ -280,7 +331,8 @@ class Document:
 
     def offset(self, position: Pair, unit: str = "utf-16") -> int:
         """The offset in code points of a line and a character."""
-        return self._gate.ask("offset", doc=self.name, unit=unit, **_position(position))["offset"]
+        offset: int = self._gate.ask("offset", doc=self.name, unit=unit, **_position(position))["offset"]
+        return offset
 
     def place(self, value: int, unit: str = "byte") -> Members:
         """The offset that a value names, in each unit, and the place of the code point there, or None."""
@@ -291,8 +343,21 @@ class Document:
         self._gate.ask("close", doc=self.name)
 
 
-def _base64(content: bytes) -> str:
-    return base64.b64encode(content).decode()
+def _base64(content: bytes) -> bytes:
+    return binascii.b2a_base64(content, newline=False)
+
+
+def _ready(reading: Optional[int], writing: Optional[int], patience: Optional[int] = None) -> bool:
+    """Waits, at most so many milliseconds, until the one can be read from or the other written to; returns whether the
+    one can be read from. They may be the same."""
+    events: Dict[int, int] = {}
+    for file, event in (reading, select.POLLIN), (writing, select.POLLOUT):
+        if file is not None:
+            events[file] = events.get(file, 0) | event
+    waits = select.poll()
+    for file, event in events.items():
+        waits.register(file, event)
+    return any(file == reading and event & ~select.POLLOUT for file, event in waits.poll(patience))
 
 
 def _position(position: Pair) -> Dict[str, int]:

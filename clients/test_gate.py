@@ -1,4 +1,5 @@
 """The client over the program as it was built: crates/gate/out/gate, or the one that the variable GATE names."""
+import concurrent.futures
 import os
 import pathlib
 import socket
@@ -111,6 +112,37 @@ class Documents(unittest.TestCase):
         replies = [self.gate.send("text", doc="d", **{"from": at, "to": 1000}) for at in range(4 * WINDOW)]
         self.assertEqual([len(it.get()["text"]) for it in replies], [1000 - at for at in range(4 * WINDOW)])
         document.close()
+
+    def test_replies_that_fill_the_pipe_block_nobody(self):
+        # More than a megabyte of replies, and of commands, before the first reply is read: more than pipes hold.
+        text = "あ" * 6_000
+        self.gate.send_open("d", "utf-8", text.encode())
+        replies = []
+        for at in range(WINDOW):
+            self.gate.send_open(f"d{at}", "utf-8", text.encode())
+            replies.append(self.gate.send("text", doc="d", **{"from": at, "to": len(text)}))
+            self.gate.send("close", doc=f"d{at}")
+        self.assertEqual([len(it.get()["text"]) for it in replies], [len(text) - at for at in range(WINDOW)])
+
+    def test_threads_share_a_connection(self):
+        texts = [chr(0x3042 + it) * 500 for it in range(8)]
+
+        def work(text):
+            for _ in range(10):
+                document = self.gate.open(text[0], "utf-8", text.encode())
+                if document.text() != text:
+                    return False
+                document.close()
+            return True
+
+        with concurrent.futures.ThreadPoolExecutor(len(texts)) as pool:
+            self.assertEqual(list(pool.map(work, texts)), [True] * len(texts))
+
+    def test_closing_needs_no_reply_read(self):
+        with Gate.start(PROGRAM, "stdio", "--indexes", INDEXES) as gate:
+            gate.send_open("d", "utf-8", b"a" * 300_000)
+            unread = [gate.send("text", doc="d", **{"from": 0, "to": 300_000}) for _ in range(3)]
+        self.assertEqual([len(it.get()["text"]) for it in unread], [300_000] * 3)
 
     def test_guessed_revisions_behind_a_refusal_are_stale(self):
         self.gate.open("d", "windows-1252", b"")
