@@ -4,6 +4,10 @@ use clap::error::ErrorKind;
 use clap::{Arg, ArgAction, ArgMatches, Command, Error, value_parser};
 use std::alloc::Global;
 
+/// The version of the program and of what is packed beside it, with the identity of the toolchain that
+/// proves it, as `rt version` prints it.
+const VERSION: &str = "0.4.0 (logic dac8208d650f15bf)";
+
 /// The command that serves the standard streams with files.
 const STDIO: &str = "stdio";
 
@@ -157,6 +161,7 @@ fn command<'a>(alloc: Global) -> Result<Command<'a>, Error> {
     );
     let gate = Command::new(alloc, "gate")
         .bin_name("gate")?
+        .version(VERSION)
         .about(
             "A live transcoding gateway for edited legacy documents: JSON lines in, replies out. Without a command it serves standard input with no index file.",
         )

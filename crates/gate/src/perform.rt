@@ -130,7 +130,7 @@ fn files_of<'a, T: Files>(
     Ok((indexes, labels))
 }
 
-/// Help is printed to the output; every other error of the command line is a failure.
+/// Help and the version are printed to the output; every other error of the command line is a failure.
 fn refused<'a, W: Outlet>(error: clap::Error, output: &mut W) -> Result<(), Failure<'a>> {
     if error.kind() == clap::error::ErrorKind::OutOfMemory {
         return Err(Failure::OutOfMemory);
