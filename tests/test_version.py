@@ -9,7 +9,10 @@ from program import PROGRAM, TOP, built
 SOURCE = TOP / "crates" / "gate" / "src" / "command_line.rt"
 
 # Other places of the version and of the toolchain's logic: a file, and what is around it there.
-VERSION_PLACES = [("clients/legacy/__init__.py", r'^__version__ = "([\d.]+)"')]
+VERSION_PLACES = [
+    ("clients/legacy/__init__.py", r'^__version__ = "([\d.]+)"'),
+    ("docs/gate.1", r"^This page describes version ([\d.]+)\.$"),
+]
 LOGIC_PLACES = [("README.md", r"prints ends in `logic (\w+)`")]
 
 
