@@ -19,6 +19,7 @@ WHEEL = "Wheel-Version: 1.0\nGenerator: wheels.py\nRoot-Is-Purelib: true\nTag: p
 
 # A file's path in an archive, and its bytes.
 File = Tuple[str, bytes]
+Settings = Optional[Dict[str, Any]]
 
 
 def project() -> Dict[str, Dict[str, Any]]:
@@ -70,9 +71,12 @@ def described(files: List[File]) -> Iterator[File]:
     """All files of a wheel: these, what describes them, and a list of them with their sums."""
     folder = f"{stem()}.dist-info"
     scripts = "".join(f"{name} = {place}\n" for name, place in project()["project.scripts"].items())
-    about = [("METADATA", metadata()), ("WHEEL", WHEEL.encode()), ("entry_points.txt", f"[console_scripts]\n{scripts}".encode())]
+    about = {
+        f"{folder}/METADATA": metadata(), f"{folder}/WHEEL": WHEEL.encode(),
+        f"{folder}/entry_points.txt": f"[console_scripts]\n{scripts}".encode(),
+    }
     record = []
-    for name, content in [*files, *((f"{folder}/{name}", content) for name, content in about)]:
+    for name, content in [*files, *about.items()]:
         digest = base64.urlsafe_b64encode(hashlib.sha256(content).digest()).rstrip(b"=").decode()
         record.append(f"{name},sha256={digest},{len(content)}\n")
         yield name, content
@@ -90,17 +94,17 @@ def write_wheel(directory: str, files: List[File]) -> str:
     return name
 
 
-def build_wheel(directory: str, settings: Optional[Dict[str, Any]] = None, metadata_directory: Optional[str] = None) -> str:
+def build_wheel(directory: str, settings: Settings = None, metadata_directory: Optional[str] = None) -> str:
     """A wheel of the modules."""
     return write_wheel(directory, sources())
 
 
-def build_editable(directory: str, settings: Optional[Dict[str, Any]] = None, metadata_directory: Optional[str] = None) -> str:
+def build_editable(directory: str, settings: Settings = None, metadata_directory: Optional[str] = None) -> str:
     """A wheel that names this folder, so that the modules are taken from here."""
     return write_wheel(directory, [(f"{project()['project']['name']}.pth", f"{HERE}\n".encode())])
 
 
-def build_sdist(directory: str, settings: Optional[Dict[str, Any]] = None) -> str:
+def build_sdist(directory: str, settings: Settings = None) -> str:
     """An archive of the sources, from which a wheel can be built."""
     own = [(name, (HERE / name).read_bytes()) for name in ("pyproject.toml", "wheels.py")]
     name = f"{stem()}.tar.gz"

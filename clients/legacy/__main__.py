@@ -14,7 +14,9 @@ from legacy import __version__
 from legacy.finding import Missing
 
 # The modules of the subcommands, in the order of the help.
-SUBCOMMANDS: Tuple[str, ...] = ()
+SUBCOMMANDS: Tuple[str, ...] = (
+    "rules",
+)
 # The packages of Debian that have the libraries that some subcommands need.
 PACKAGES = {"pyfuse3": "python3-pyfuse3", "distributed": "python3-distributed"}
 
@@ -25,8 +27,8 @@ USAGE, INTERRUPTED, CLOSED = 2, 130, 141
 def parser() -> argparse.ArgumentParser:
     """The parser of all words, with one of its own for each subcommand."""
     made = argparse.ArgumentParser(
-        prog="legacy", description="Work on trees of files in legacy encodings, which stay bytes: no byte changes that nobody edits.",
-        epilog="Each subcommand has a --help of its own.")
+        prog="legacy", epilog="Each subcommand has a --help of its own.",
+        description="Work on trees of files in legacy encodings, which stay bytes: no byte changes that nobody edits.")
     made.add_argument("--version", action="version", version=f"legacy {__version__}")
     commands = made.add_subparsers(title="subcommands", dest="subcommand", metavar="SUBCOMMAND", required=True)
     for name in SUBCOMMANDS:

@@ -57,15 +57,23 @@ def add_words(parser: argparse.ArgumentParser) -> None:
     group.add_argument("--gate", metavar="GATE", help="the program (default: the variable GATE, else gate on PATH)")
     group.add_argument(
         "--indexes", metavar="DIR", type=pathlib.Path,
-        help="the folder of the Standard's index files (default: the variable GATE_INDEXES, else where tools/standard puts them)")
-    group.add_argument(
-        "--labels", metavar="FILE", type=pathlib.Path, help="the label file (default: encodings.json in the folder of the index files)")
+        help="the folder of the Standard's index files (default: GATE_INDEXES, else where tools/standard puts them)")
+    add_labels(group)
 
 
-def standard() -> pathlib.Path:
-    """Where `tools/standard` puts the index files and the labels."""
+def add_labels(parser: "argparse._ActionsContainer") -> None:
+    """Adds the word that names the label file, the only one for what needs no program."""
+    parser.add_argument(
+        "--labels", metavar="FILE", type=pathlib.Path,
+        help="the label file (default: encodings.json in the folder of the index files)")
+
+
+def standard(named: Optional[pathlib.Path] = None) -> pathlib.Path:
+    """The folder of the index files and the labels: the one that is named, or else is given, or where `tools/standard`
+    puts them."""
+    given = named or os.environ.get("GATE_INDEXES")
     data = os.environ.get("XDG_DATA_HOME") or os.path.expanduser("~/.local/share")
-    return pathlib.Path(data, "gate", "standard")
+    return pathlib.Path(given) if given else pathlib.Path(data, "gate", "standard")
 
 
 def program(named: Optional[str] = None) -> str:
@@ -83,9 +91,9 @@ def program(named: Optional[str] = None) -> str:
 
 def index_files(named: Optional[pathlib.Path] = None) -> pathlib.Path:
     """The folder of the index files. Raises `Missing` where it has none."""
-    given = named or os.environ.get("GATE_INDEXES")
-    folder = pathlib.Path(given) if given else standard()
+    folder = standard(named)
     if not (folder / AN_INDEX).is_file():
+        given = named or os.environ.get("GATE_INDEXES")
         hint = "" if given else "; tools/standard fetches them, or --indexes or the variable GATE_INDEXES names their folder"
         raise Missing(f"{folder} has no index files, as {AN_INDEX}{hint}")
     return folder

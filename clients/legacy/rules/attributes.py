@@ -1,0 +1,205 @@
+"""Files of git's attributes, as gitattributes(5) has them: their lines, macros, and patterns, matched as git does."""
+import dataclasses
+import functools
+import re
+from typing import Dict, List, NamedTuple, Optional, Pattern, Tuple, Union
+
+from legacy.rules.patterns import ANY, BLANK, FOLDERS, NOTHING, ONE, WITHIN, Gap, Tokens, bracket, compiled
+
+# The attribute that names a file's encoding.
+ENCODING = "working-tree-encoding"
+# Git ignores longer lines.
+LONGEST = 2048
+NAME = re.compile(r"[A-Za-z0-9_.][-A-Za-z0-9_.]*")
+QUOTED = re.compile(r'"((?:[^"\\]|\\(?:[abfnrtv\\"]|[0-3][0-7]{2}))*)"')
+ESCAPES = {"a": "\a", "b": "\b", "f": "\f", "n": "\n", "r": "\r", "t": "\t", "v": "\v"}
+
+
+# What an attribute is set to: a text, true ("a"), false ("-a"), or None where it is taken back ("!a").
+Value = Union[str, bool, None]
+States = List[Tuple[str, Value]]
+
+
+class Line(NamedTuple):
+    """A line of such a file: what it sets for the files that its pattern matches, or as a macro. Bytes are read as the
+    characters of their numbers, since git matches bytes."""
+
+    number: int
+    glob: str
+    macro: bool
+    states: States
+
+
+class Faulty(NamedTuple):
+    """A line with an encoding that git leaves out, and why."""
+
+    number: int
+    why: str
+
+
+@dataclasses.dataclass(frozen=True, eq=False)
+class Attributes:
+    """What a file says."""
+
+    lines: Tuple[Line, ...] = ()
+    faulty: Tuple[Faulty, ...] = ()
+
+
+# What git knows by itself.
+BUILT_IN = Attributes((Line(0, "binary", True, [("diff", False), ("merge", False), ("text", False)]),))
+
+
+def parsed(content: bytes, macros: bool) -> Attributes:
+    """What a file says, one in which git allows macros or not."""
+    lines, faulty = [], []
+    text = content.decode("latin-1")
+    for number, line in enumerate((text[3:] if text.startswith("\xef\xbb\xbf") else text).split("\n"), 1):
+        try:
+            found = _parsed(number, line.partition("\0")[0], macros)
+        except ValueError as fault:
+            faulty += [Faulty(number, str(fault))] if ENCODING in line else []
+        else:
+            lines += [found] if found else []
+    return Attributes(tuple(lines), tuple(faulty))
+
+
+def _parsed(number: int, text: str, macros: bool) -> Optional[Line]:
+    line = text.lstrip(BLANK)
+    if not line or line.startswith("#"):
+        return None
+    if len(text) >= LONGEST:
+        raise ValueError(f"git ignores a line of {LONGEST} bytes or more")
+    quoted = QUOTED.match(line)
+    glob = _unquoted(quoted[1]) if quoted else _word(line)
+    states = line[quoted.end() if quoted else len(glob) :].strip(BLANK)
+    macro = glob.startswith("[attr]") and len(glob) > len("[attr]")
+    if macro and not macros:
+        raise ValueError("git takes macros from the file of the top folder alone")
+    if macro:
+        glob = _valid(_word(glob[len("[attr]") :].lstrip(BLANK)))
+    elif glob.startswith("!"):
+        raise ValueError("git has no negated patterns of attributes; \\! begins a name with !")
+    return Line(number, glob, macro, [_state(word) for word in re.split(f"[{BLANK}]+", states) if word])
+
+
+def _word(text: str) -> str:
+    return re.split(f"[{BLANK}]", text, 1)[0]
+
+
+def _unquoted(text: str) -> str:
+    """What stands in quotes, as in C."""
+    def put(found: "re.Match[str]") -> str:
+        escape = found[1]
+        return chr(int(escape, 8)) if escape.isdigit() else ESCAPES.get(escape, escape)
+    return re.sub(r"\\([0-3][0-7]{2}|.)", put, text)
+
+
+def _valid(name: str) -> str:
+    if not NAME.fullmatch(name):
+        raise ValueError(f"{name!r} is no name of an attribute")
+    return name
+
+
+def _state(word: str) -> Tuple[str, Value]:
+    name, equals, value = word.partition("=")
+    if name[:1] in ("-", "!"):
+        return _valid(name[1:]), False if name[0] == "-" else None
+    return _valid(name), value if equals else True
+
+
+@functools.lru_cache(maxsize=1024)
+def macros_of(files: Tuple[Attributes, ...]) -> Dict[str, States]:
+    """What each macro stands for, by files of which the first counts most."""
+    found: Dict[str, States] = {}
+    for attributes in files:
+        for line in reversed(attributes.lines):
+            if line.macro:
+                found.setdefault(line.glob, line.states)
+    return found
+
+
+@functools.lru_cache(maxsize=1024)
+def lines_of(files: Tuple[Attributes, ...]) -> List[List[Line]]:
+    """The lines of each file that may set a file's encoding, by themselves or by a macro, the last one first."""
+    names = {ENCODING, *macros_of(files)}
+    return [
+        [line for line in reversed(it.lines) if not line.macro and any(name in names for name, _ in line.states)]
+        for it in files]
+
+
+class Setting(NamedTuple):
+    """What the attribute is set to, by which line of which file."""
+
+    value: Value
+    file: int
+    line: Line
+
+
+def encoding_of(files: Tuple[Attributes, ...], paths: List[str]) -> Optional[Setting]:
+    """What the attribute of a file's encoding is set to, by files of which the first counts most, each with the file's
+    path from the folder to which its patterns belong; None where no line sets it."""
+    macros = macros_of(files)
+    values: Dict[str, Value] = {}
+    for at, (lines, path) in enumerate(zip(lines_of(files), paths)):
+        for line in lines:
+            if matches(line.glob, path):
+                set_by(line.states, macros, values)
+                if ENCODING in values:
+                    return Setting(values[ENCODING], at, line)
+    return None
+
+
+def set_by(states: States, macros: Dict[str, States], values: Dict[str, Value]) -> None:
+    """Adds to the values, which come first, what a line sets, the last of its words first, and what macros of it set."""
+    waiting = list(states)
+    while waiting:
+        name, value = waiting.pop()
+        if name not in values:
+            values[name] = value
+            if value is True:
+                waiting += macros.get(name, [])
+
+
+@functools.lru_cache(maxsize=4096)
+def pattern(glob: str) -> Optional[Pattern[str]]:
+    """The expression of a pattern; None for one of folders."""
+    if glob.endswith("/"):
+        return None
+    return compiled(_tokens(glob[1:] if glob.startswith("/") else glob))
+
+
+def matches(glob: str, path: str) -> bool:
+    """Whether a pattern matches a file: one without a slash by its name, one with a slash by its path from the folder to
+    which the pattern belongs."""
+    expression = pattern(glob)
+    subject = path if "/" in glob else path.rpartition("/")[2]
+    return expression is not None and expression.fullmatch(subject) is not None
+
+
+def _tokens(glob: str) -> Tokens:
+    tokens: Tokens = []
+    at = 0
+    while at < len(glob):
+        if glob[at] == "*":
+            gap, at = _stars(glob, at)
+            tokens.append(gap)
+        elif glob[at] == "[":
+            token, at = bracket(glob, at + 1)
+            tokens.append(token)
+        elif glob[at] == "\\":
+            tokens.append(re.escape(glob[at + 1]) if at + 1 < len(glob) else NOTHING)
+            at += 2
+        else:
+            tokens.append(ONE if glob[at] == "?" else re.escape(glob[at]))
+            at += 1
+    return tokens
+
+
+def _stars(glob: str, at: int) -> Tuple[Gap, int]:
+    """The gap of the stars from a place on, and where it ends. Two and more cross slashes if they are alone between two."""
+    end = at + len(glob[at:]) - len(glob[at:].lstrip("*"))
+    if end - at == 1 or glob[at - 1 : at] not in ("", "/"):
+        return WITHIN, end
+    if glob.startswith("/", end):
+        return FOLDERS, end + 1
+    return ANY if end == len(glob) or glob.startswith("\\/", end) else WITHIN, end

@@ -1,0 +1,131 @@
+"""The order in which rules count, and the words of a command line that say or ask for some."""
+import argparse
+import os
+import pathlib
+import re
+import sys
+import time
+from typing import Callable, Dict, List, NamedTuple, Optional, Sequence, Set, Tuple, Union
+
+from legacy.finding import Missing
+from legacy.rules.attributes import matches
+from legacy.rules.editorconfig import EditorConfigs
+from legacy.rules.files import Named, Tree
+from legacy.rules.names import encoding_of, labels_in
+from legacy.rules.repositories import Repositories
+
+# Names that programs give to files of their own: hidden ones, backups, swap and lock files, and refused texts of the
+# mount. A pattern counts for them where it is such a name itself, as `.*.txt` is.
+SPECIAL = re.compile(r"^\.|^#.*#$|^4913$|~$|\.rejected$")
+# What a word has in place of a label to say that files are bytes.
+BYTES = "bytes"
+
+Path = Union[str, bytes, "os.PathLike[str]"]
+
+
+class Rule(NamedTuple):
+    """A file's encoding: a label of the Encoding Standard, where that is said, and the byte order mark that the file gets
+    if it is made anew."""
+
+    label: str
+    origin: str
+    mark: bytes = b""
+
+
+def to_stderr(text: str) -> None:
+    """Prints a line on standard error."""
+    print(f"legacy: {text}", file=sys.stderr)
+
+
+class Rules:
+    """The rules of the tree `source`, a path or a folder's descriptor. Of `words`, each a pattern as gitattributes(5) has
+    them and a label, the last that matches counts. `report` is called once with each fault of a file of rules, as an
+    encoding that the Standard doesn't have. Files of rules are looked at anew after `patience` seconds.
+
+    Raises `Missing` where a word's label is none, and `OSError` where the tree isn't there."""
+
+    def __init__(
+        self, source: Union[Path, int], words: Sequence[Tuple[str, str]] = (), attributes: bool = True,
+        editorconfig: bool = False, default: Optional[str] = None, labels: Optional[pathlib.Path] = None,
+        report: Callable[[str], None] = to_stderr, patience: float = 1.0,
+    ):
+        self._labels = labels_in(labels) if labels else None
+        self._report: Callable[[str], None] = report
+        self._reported: Set[str] = set()
+        self._kept: Dict[Named, Optional[Rule]] = {}
+        self._patience, self._turn, self._until = patience, 0, 0.0
+        self._words = [
+            Named(None if label == BYTES else label, f"-e {glob}={label}", os.fsencode(glob).decode("latin-1"))
+            for glob, label in words]
+        self._default = Named(default, "--default", "*") if default else None
+        for named in [*self._words, *([self._default] if self._default else [])]:
+            if named.name and not encoding_of(named.name, self._labels):
+                raise Missing(f"{named.origin}: {named.name} is no encoding of the Encoding Standard")
+        tree = Tree(source)
+        self._sources: List[Callable[[bytes, int], Optional[Named]]] = [self._by_words]
+        self._sources += [Repositories(tree, self._once).named] if attributes else []
+        self._sources += [EditorConfigs(tree, self._once).named] if editorconfig else []
+
+    def rule_of(self, path: Path) -> Optional[Rule]:
+        """The rule of a file, by its path from the tree's top; None where it has none."""
+        raw = os.fsencode(path)
+        if time.monotonic() >= self._until:
+            self.refresh()
+        special = SPECIAL.search(os.fsdecode(os.path.basename(raw))) is not None
+        for source in self._sources:
+            named = source(raw, self._turn)
+            if named and (not special or SPECIAL.search(named.glob.rpartition("/")[2])):
+                return self._rule(named)
+        return self._rule(self._default) if self._default and not special else None
+
+    def refresh(self) -> None:
+        """Looks at the files of rules anew from now on."""
+        self._turn += 1
+        self._until = time.monotonic() + self._patience
+
+    def _by_words(self, path: bytes, _: int) -> Optional[Named]:
+        text = path.decode("latin-1")
+        return next((named for named in reversed(self._words) if matches(named.glob, text)), None)
+
+    def _rule(self, named: Named) -> Optional[Rule]:
+        if named not in self._kept:
+            found = encoding_of(named.name, self._labels) if named.name else None
+            if named.name and not found:
+                self._once(f"{named.origin}: {named.name} is no encoding of the Encoding Standard; its files pass as bytes")
+            self._kept[named] = Rule(found.label, named.origin, found.mark) if found else None
+        return self._kept[named]
+
+    def _once(self, text: str) -> None:
+        if text not in self._reported:
+            self._reported.add(text)
+            self._report(text)
+
+
+def word(text: str) -> Tuple[str, str]:
+    """A pattern and a label, from what a command line has."""
+    glob, _, label = text.rpartition("=")
+    if not glob or not label:
+        raise argparse.ArgumentTypeError(f"{text} isn't GLOB=LABEL, as '*.txt=shift_jis'")
+    return glob, label
+
+
+def add_words(parser: argparse.ArgumentParser) -> None:
+    """Adds the words that say rules, or where they are looked for."""
+    group = parser.add_argument_group("which file is in which encoding")
+    group.add_argument(
+        "-e", "--encoding", metavar="GLOB=LABEL", type=word, action="append", default=[],
+        help="files that the pattern matches, as in .gitattributes, are in this encoding, or are no text where it is the word"
+             " bytes; of several, the last that matches counts, before any file of rules")
+    group.add_argument("--default", metavar="LABEL", help="files that no other rule names are in this encoding")
+    group.add_argument(
+        "--editorconfig", action="store_true", help="look for the property charset of .editorconfig too, behind the attributes")
+    group.add_argument(
+        "--no-attributes", dest="attributes", action="store_false", help="don't look for the attribute working-tree-encoding")
+
+
+def rules_from(
+    words: argparse.Namespace, source: Union[Path, int], labels: Optional[pathlib.Path] = None,
+    report: Callable[[str], None] = to_stderr, patience: float = 1.0,
+) -> Rules:
+    """The rules of a tree by the words that `add_words` adds."""
+    return Rules(source, words.encoding, words.attributes, words.editorconfig, words.default, labels, report, patience)

@@ -1,0 +1,136 @@
+"""Which encodings git's attributes name in a tree: its own files of attributes, those of the repositories in and around
+it, and those of the user and of the machine.
+
+They are read here and not asked of `git check-attr`. That needs a repository, and a git that trusts its owner; it goes
+through paths that a mount may hide; and its process doesn't notice that a file of attributes has changed."""
+import os
+import subprocess
+from typing import Callable, Dict, NamedTuple, Optional, Tuple
+
+from legacy.rules import attributes
+from legacy.rules.attributes import BUILT_IN, Attributes, Setting
+from legacy.rules.files import Held, Named, Place, Tree, Watched
+
+OF_MACHINE = b"/etc/gitattributes"
+
+
+class Levels(NamedTuple):
+    """The files of attributes that count for a folder, that which counts most first, each with its name for people, and
+    with the length of the path of the folder to which its patterns belong."""
+
+    files: Tuple[Attributes, ...]
+    names: Tuple[str, ...]
+    starts: Tuple[int, ...]
+
+
+def common_folder(place: Place) -> Optional[bytes]:
+    """The folder of the repository whose top this folder is, where git keeps what all its work trees have in common."""
+    try:
+        os.stat(place.name(b".git/HEAD"), dir_fd=place.held.number)
+        return b".git"
+    except NotADirectoryError:
+        return _linked(place)
+    except OSError:
+        return None
+
+
+def _linked(place: Place) -> Optional[bytes]:
+    """The same for a linked work tree or a submodule, where `.git` is a file."""
+    try:
+        key, _, folder = place.held.read(place.name(b".git")).rstrip(b"\r\n").partition(b": ")
+        if key != b"gitdir":
+            return None
+        own = os.path.join(place.path, folder)
+        try:
+            return os.path.join(own, place.held.read(os.path.join(own, b"commondir")).rstrip(b"\r\n"))
+        except FileNotFoundError:
+            return own
+    except OSError:
+        return None
+
+
+def of_user(tree: bytes) -> Optional[bytes]:
+    """The user's file of attributes, by the configuration of git where there is one."""
+    try:
+        ran = subprocess.run(
+            ["git", "config", "-z", "--type=path", "--get", "core.attributesFile"], cwd=tree,
+            stdin=subprocess.DEVNULL, stdout=subprocess.PIPE, stderr=subprocess.DEVNULL)
+    except OSError:
+        ran = None
+    if ran and ran.returncode == 0:
+        named = ran.stdout.rstrip(b"\0")
+        return os.path.join(tree, named) if named else None
+    folder = os.environb.get(b"XDG_CONFIG_HOME") or os.path.expanduser(b"~/.config")
+    return os.path.join(folder, b"git", b"attributes")
+
+
+class Repositories:
+    """The attributes of a tree's files."""
+
+    def __init__(self, tree: Tree, report: Callable[[str], None]):
+        self._tree, self._report = tree, report
+        self._watched: Dict[Tuple[bytes, bool], Watched[Attributes]] = {}
+        self._levels: Dict[bytes, Tuple[int, Levels]] = {}
+        outside = [of_user(tree.path), None if os.environ.get("GIT_ATTR_NOSYSTEM") else OF_MACHINE]
+        self._outside = [self._watch_outside(path) for path in outside if path]
+
+    def named(self, path: bytes, turn: int) -> Optional[Named]:
+        """What the attributes say of a file's encoding, if anything."""
+        levels = self.levels(os.path.dirname(path), turn)
+        found = self.setting(path, levels)
+        if found is None or found.value in (None, ""):
+            return None
+        origin = f"{levels.names[found.file]}:{found.line.number}"
+        if found.value is True:
+            self._report(f"{origin}: {attributes.ENCODING} has no value; its files pass as bytes")
+        return Named(found.value if isinstance(found.value, str) else None, origin, found.line.glob)
+
+    def setting(self, path: bytes, levels: Levels) -> Optional[Setting]:
+        """What sets a file's attribute, by the levels of its folder."""
+        whole = os.path.join(self._tree.path, path).decode("latin-1")
+        return attributes.encoding_of(levels.files, [whole[start:] for start in levels.starts])
+
+    def levels(self, folder: bytes, turn: int) -> Levels:
+        """The files of attributes that count for a folder."""
+        kept = self._levels.get(folder)
+        if not kept or kept[0] != turn:
+            kept = self._levels[folder] = turn, self._levels_of(folder, turn)
+        return kept[1]
+
+    def _levels_of(self, folder: bytes, turn: int) -> Levels:
+        chain = self._tree.chain(folder)
+        commons = [common_folder(place) for place in chain]
+        at = next((at for at, common in enumerate(commons) if common), chain.index(self._tree.top))
+        common, top = commons[at], chain[at]
+        watched = [self._watch(place, b".gitattributes", place is top) for place in chain[: at + 1]]
+        starts = [len(os.path.join(place.path, b"")) for place in chain[: at + 1]]
+        if common:
+            watched.insert(0, self._watch(top, os.path.join(common, b"info", b"attributes"), True))
+            starts.insert(0, starts[-1])
+        watched += self._outside
+        starts += [starts[-1]] * (len(self._outside) + 1)
+        names = (*(self._tree.shown(it.path) for it in watched), "")
+        return Levels((*(it.found(turn) for it in watched), BUILT_IN), names, tuple(starts))
+
+    def _watch(self, place: Place, name: bytes, macros: bool) -> "Watched[Attributes]":
+        key = os.path.join(place.path, name), macros
+        if key not in self._watched:
+            # (git doesn't follow a link from the tree, which may lead out of it)
+            self._watched[key] = Watched(place, name, self._parser(key[0], macros), follow=name != b".gitattributes")
+        return self._watched[key]
+
+    def _watch_outside(self, path: bytes) -> "Watched[Attributes]":
+        folder, name = os.path.split(path)
+        try:
+            place: Optional[Place] = Place(Held(folder), b"", folder)
+        except OSError:
+            place = None
+        return Watched(place, name, self._parser(path, True))
+
+    def _parser(self, path: bytes, macros: bool) -> Callable[[bytes], Attributes]:
+        def parse(content: bytes) -> Attributes:
+            found = attributes.parsed(content, macros)
+            for faulty in found.faulty:
+                self._report(f"{self._tree.shown(path)}:{faulty.number}: {faulty.why}")
+            return found
+        return parse
