@@ -1,5 +1,4 @@
 """What CI says at its end of tests that were skipped, and tools/dependencies, with commands of these tests in the place of Debian's."""
-import os
 import pathlib
 import subprocess
 import tempfile
