@@ -302,26 +302,27 @@ class Document:
         return [(begin, end) for begin, end in self._pages("errors", "total")]
 
     def diagnostics(
-        self, line: Optional[int] = None, most: int = PAGE, unit: str = "utf-16"
+        self, line: Optional[int] = None, most: Optional[int] = None, unit: str = "utf-16"
     ) -> List[Tuple[Pair, Pair, Pair]]:
         """All errors, or those from a line on, at most so many: of each its place, and the positions where its U+FFFD
         begins and ends."""
         if line is None:
-            found = self._pages("diagnostics", "total", unit=unit)
+            found = self._pages("diagnostics", "total", most, unit=unit)
         else:
-            found = self._gate.ask("diagnostics", doc=self.name, line=line, max=most, unit=unit)["diagnostics"]
+            found = self._gate.ask("diagnostics", doc=self.name, line=line, max=PAGE if most is None else most, unit=unit)["diagnostics"]
         return [((it[0], it[1]), (it[2], it[3]), (it[4], it[5])) for it in found]
 
     def lines(self) -> List[Pair]:
         """All lines, each the code points where it begins and ends, its line end not included."""
         return [(begin, end) for begin, end in self._pages("lines", "count")]
 
-    def _pages(self, op: str, total: str, **fields: Any) -> List[List[int]]:
+    def _pages(self, op: str, total: str, most: Optional[int] = None, **fields: Any) -> List[List[int]]:
         found: List[List[int]] = []
         while True:
-            page = self._gate.ask(op, doc=self.name, max=PAGE, **{"from": len(found)}, **fields)
+            room = PAGE if most is None else min(PAGE, most - len(found))
+            page = self._gate.ask(op, doc=self.name, max=room, **{"from": len(found)}, **fields)
             found += page[op]
-            if len(found) >= page[total]:
+            if len(found) >= page[total] or len(found) == most:
                 return found
 
     def position(self, offset: int, unit: str = "utf-16") -> Pair:
@@ -341,6 +342,14 @@ class Document:
     def close(self) -> None:
         """Closes the document."""
         self._gate.ask("close", doc=self.name)
+
+    def __enter__(self) -> "Document":
+        return self
+
+    def __exit__(self, *_: Any) -> None:
+        # (the reply is read with a later one)
+        with contextlib.suppress(Gone):
+            self._gate.send("close", doc=self.name)
 
 
 def _base64(content: bytes) -> bytes:

@@ -16,6 +16,8 @@ from legacy.finding import Missing
 # The modules of the subcommands, in the order of the help.
 SUBCOMMANDS: Tuple[str, ...] = (
     "rules",
+    "check",
+    "search",
 )
 # The packages of Debian that have the libraries that some subcommands need.
 PACKAGES = {"pyfuse3": "python3-pyfuse3", "distributed": "python3-distributed"}

@@ -1,0 +1,239 @@
+"""`legacy check`: each file's encoding, and what is wrong with it: bytes that are no text of it, line ends of several
+kinds, and a byte order mark that its rule doesn't expect.
+
+    for row in check(["letters"], Settings(found, encoding=[("*.txt", "shift_jis")])):
+        print(row.path, row.encoding, row.errors, row.places)"""
+import argparse
+import dataclasses
+import re
+import sys
+from typing import Any, ClassVar, Dict, Iterator, List, Sequence, Type, Union
+
+from gate import Document, Gate
+
+from legacy import work
+from legacy.work import DONE, FOUND, PASSED, REFUSED, Item, Row, Settings, plain
+
+ABOUT = ("Check each file of these trees: its encoding, errors with line, character, place and bytes, line ends of several kinds, and a byte"
+         " order mark that disagrees with the rule. The status is 0 where all is clean, 1 where damage was found, 2 where something couldn't"
+         " be looked at.")
+
+# A line ends as LSP has it.
+LINE_END = re.compile("\r\n|\r|\n")
+# The kinds of damage.
+ERRORS, LINE_ENDS, MARK = "errors", "line-ends", "mark"
+KINDS = (ERRORS, LINE_ENDS, MARK)
+# The code points on each side of an error that a row has, at most.
+AROUND = 60
+# The errors of a file that a row has, at most, unless it is asked for more.
+MOST = 10_000
+
+
+@dataclasses.dataclass
+class Place:
+    """An error: where its bytes begin and end, the line and character, from 1 on, in code points, the bytes in
+    hexadecimal, and what is beside it on its line."""
+
+    begin: int
+    end: int
+    line: int
+    character: int
+    bytes: str
+    before: str
+    after: str
+
+
+@dataclasses.dataclass
+class Ends:
+    """How many line ends of each kind there are."""
+
+    lf: int = 0
+    crlf: int = 0
+    cr: int = 0
+
+    @property
+    def kinds(self) -> int:
+        """How many kinds there are."""
+        return (self.lf > 0) + (self.crlf > 0) + (self.cr > 0)
+
+
+@dataclasses.dataclass
+class Checked(Row):
+    """A file's encoding in force, the length of its byte order mark, its code points, how many errors it has, the first
+    ones' places, its line ends, and the kinds of damage."""
+
+    encoding: str = ""
+    bom: int = 0
+    characters: int = 0
+    errors: int = 0
+    places: List[Place] = dataclasses.field(default_factory=list)
+    ends: Ends = dataclasses.field(default_factory=Ends)
+    damage: List[str] = dataclasses.field(default_factory=list)
+
+    def __post_init__(self) -> None:
+        # (a row that is restored from JSON has objects in their places)
+        self.places = [Place(**it) if isinstance(it, dict) else it for it in self.places]
+        self.ends = Ends(**self.ends) if isinstance(self.ends, dict) else self.ends
+
+
+@dataclasses.dataclass
+class Check(work.Job):
+    """The job: which kinds of damage count, and how many places of a file a row has at most."""
+
+    kinds: Sequence[str] = KINDS
+    most: int = MOST
+
+    rows: ClassVar[Type[Row]] = Checked
+
+    def row(self, gate: Gate, item: Item, content: bytes) -> Checked:
+        """What is wrong with a file."""
+        made = Checked(item.path, len(content), item.label)
+        given = ENCODINGS.of(gate, item.label)
+        if plain(content, given):
+            made.encoding, made.characters, made.ends = given, len(content), ends_of(content)
+        else:
+            with gate.open("checked", item.label, content) as document:
+                self._look(document, made)
+        found = {ERRORS: made.errors > 0, LINE_ENDS: made.ends.kinds > 1, MARK: made.encoding != given}
+        made.damage = [it for it in KINDS if found[it] and it in self.kinds]
+        made.outcome = FOUND if made.damage else DONE
+        return made
+
+    def _look(self, document: Document, made: Checked) -> None:
+        stat = document.stat()
+        made.encoding, made.bom = document.encoding, document.bom
+        made.characters, made.errors = stat["utf32"], stat["errors"]
+        made.ends = _ends(document, stat["lines"] - 1)
+        if made.errors:
+            made.places = places_of(document, self.most)
+
+
+class Encodings:
+    """The names of encodings, by their labels."""
+
+    def __init__(self) -> None:
+        self._names: Dict[str, str] = {}
+
+    def of(self, gate: Gate, label: str) -> str:
+        """The name of the encoding that a label names."""
+        if label not in self._names:
+            with gate.open("encoding", label, b"") as document:
+                self._names[label] = document.encoding
+        return self._names[label]
+
+
+ENCODINGS = Encodings()
+
+
+def ends_of(content: Union[bytes, str]) -> Ends:
+    """The line ends of a text, or of bytes in which CR and LF are these bytes and no others."""
+    crlf, cr, lf = ("\r\n", "\r", "\n") if isinstance(content, str) else (b"\r\n", b"\r", b"\n")
+    found = content.count(cr)  # type: ignore[arg-type]
+    both = content.count(crlf) if found else 0  # type: ignore[arg-type]
+    return Ends(content.count(lf) - both, both, found - both)  # type: ignore[arg-type]
+
+
+def _ends(document: Document, count: int) -> Ends:
+    """The line ends of a document that has so many of them. They are counted in the bytes where these say as many, as they
+    do but in UTF-16 and behind errors in ISO-2022-JP, and else in the text."""
+    if not document.encoding.startswith("UTF-16"):
+        ends = ends_of(document.bytes)
+        if ends.lf + ends.crlf + ends.cr == count:
+            return ends
+    return ends_of(document.text())
+
+
+def places_of(document: Document, most: int = MOST) -> List[Place]:
+    """The errors of a document, from the first one on, with what is beside them on their lines."""
+    text = document.text()
+    starts = [0, *(it.end() for it in LINE_END.finditer(text))]
+    found: List[Place] = []
+    for (begin, end), (line, character), _ in document.diagnostics(unit="utf-32", most=most):
+        at = starts[line] + character
+        stop = LINE_END.search(text, at)
+        last = min(stop.start() if stop else len(text), at + 1 + AROUND)
+        before, after = text[max(starts[line], at - AROUND) : at], text[at + 1 : last]
+        found.append(Place(begin, end, line + 1, character + 1, document.bytes[begin:end].hex(" "), before, after))
+    return found
+
+
+def check(trees: Sequence[str], settings: Settings, kinds: Sequence[str] = KINDS, most: int = MOST) -> Iterator[Checked]:
+    """The rows of all files of these trees."""
+    for row in work.run(Check(tuple(kinds), most), trees, settings):
+        assert isinstance(row, Checked)
+        yield row
+
+
+def add_to(commands: "argparse._SubParsersAction[Any]") -> None:
+    """Adds the parser of this subcommand."""
+    parser = commands.add_parser("check", help="find what is damaged in trees of files", description=ABOUT)
+    parser.add_argument("trees", metavar="TREE", nargs="+", help="a folder, or one file")
+    parser.add_argument("--ignore", metavar="KIND", choices=KINDS, action="append", default=[], help=f"a kind of damage that doesn't count, of {', '.join(KINDS)}")
+    parser.add_argument("--most", metavar="N", type=int, default=MOST, help="the errors of a file that are listed at most (default: %(default)s)")
+    parser.add_argument("-v", "--verbose", action="store_true", help="print a line for each file, clean ones too, and its encoding")
+    parser.add_argument("--json", action="store_true", help="print an object of JSON for each file")
+    work.add_words(parser)
+    parser.set_defaults(run=run)
+
+
+def run(words: argparse.Namespace) -> int:
+    """Prints what is wrong, and returns the status."""
+    kinds = [it for it in KINDS if it not in words.ignore]
+    counts = Counts()
+    for row in check(words.trees, work.settings_from(words), kinds, words.most):
+        counts.add(row)
+        for line in [row.json()] if words.json else lines_of(row, words.verbose):
+            print(line)
+    sys.stdout.flush()
+    print(counts, file=sys.stderr)
+    return counts.status
+
+
+def lines_of(row: Checked, verbose: bool) -> Iterator[str]:
+    """What a person is shown of a row."""
+    name = shown(row.path)
+    if row.outcome == REFUSED:
+        yield f"{name}: not checked: {row.reason}"
+    if row.outcome == PASSED and verbose:
+        yield f"{name}: not checked, {row.reason}"
+    if verbose and row.encoding:
+        yield f"{name}: {row.encoding}, {row.size} bytes, {row.characters} characters{'' if row.damage else ', clean'}"
+    for it in row.places if ERRORS in row.damage else []:
+        yield f"{name}:{it.line}:{it.character}: bytes {it.begin} to {it.end}: {it.bytes or 'none'}: {it.before[-20:]}\ufffd{it.after[:20]}"
+    if ERRORS in row.damage and row.errors > len(row.places):
+        yield f"{name}: {row.errors - len(row.places)} further errors"
+    if LINE_ENDS in row.damage:
+        counts = ((row.ends.lf, "LF"), (row.ends.crlf, "CR LF"), (row.ends.cr, "CR"))
+        yield f"{name}: line ends of several kinds: {', '.join(f'{count} {kind}' for count, kind in counts if count)}"
+    if MARK in row.damage:
+        yield f"{name}: it begins with the byte order mark of {row.encoding}, and its rule names {row.label}"
+
+
+def shown(path: str) -> str:
+    """A path on one line: one with control characters is quoted."""
+    return repr(path) if re.search("[\\0-\x1f\x7f]", path) else path
+
+
+class Counts:
+    """How many files there are of each outcome, and errors."""
+
+    def __init__(self) -> None:
+        self._of = {DONE: 0, FOUND: 0, PASSED: 0, REFUSED: 0}
+        self._errors = 0
+
+    def add(self, row: Checked) -> None:
+        """Counts a row."""
+        self._of[row.outcome] += 1
+        self._errors += row.errors
+
+    def __str__(self) -> str:
+        parts = [f"{self._of[DONE]} files clean", f"{self._of[FOUND]} damaged, with {self._errors} errors"]
+        parts += [f"{self._of[REFUSED]} not checked"] if self._of[REFUSED] else []
+        parts += [f"{self._of[PASSED]} without a rule, or links"] if self._of[PASSED] else []
+        return "; ".join(parts)
+
+    @property
+    def status(self) -> int:
+        """The status of the command; where no file has a rule, nothing could be looked at."""
+        nothing = self._of[PASSED] and not (self._of[DONE] or self._of[FOUND])
+        return 2 if self._of[REFUSED] or nothing else 1 if self._of[FOUND] else 0

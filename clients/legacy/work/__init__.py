@@ -1,0 +1,12 @@
+"""Work over trees: a job makes a row of each file, on one processor, many or many machines, and the rows come in the
+order of the trees, whoever made them.
+
+    settings = Settings(finding.find(), encoding=[("*.txt", "shift_jis")], jobs=4)
+    for row in run(Check(), ["letters"], settings):
+        print(row.json())"""
+from legacy.work.rows import DONE, FOUND, LARGEST, PASSED, REFUSED, Item, Job, Refusal, Row, plain
+from legacy.work.run import Settings, add_words, run, settings_from
+
+__all__ = [
+    "DONE", "FOUND", "LARGEST", "PASSED", "REFUSED", "Item", "Job", "Refusal", "Row", "Settings", "add_words", "plain", "run",
+    "settings_from"]

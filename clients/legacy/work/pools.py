@@ -1,0 +1,155 @@
+"""Who does a task: this process, some processes of this machine, or a Dask cluster. Lists of files go in, and their rows
+come out in the same order, with a bounded number of lists under way."""
+import collections
+import concurrent.futures
+import importlib
+import itertools
+import multiprocessing
+import multiprocessing.util
+import os
+import signal
+import threading
+from concurrent.futures.process import BrokenProcessPool
+from typing import Any, Callable, Deque, Generator, Iterable, List, Tuple, Type
+
+from legacy.finding import Missing
+from legacy.work.rows import WORKER, Item, Row, Task
+
+Lists = Iterable[List[Item]]
+Rows = Generator[List[Row], None, None]
+Pool = Callable[[Task, Lists], Rows]
+
+# The lists under way for each process.
+AHEAD = 4
+
+
+def processors() -> int:
+    """How many processors this process may use."""
+    return len(os.sched_getaffinity(0)) if hasattr(os, "sched_getaffinity") else os.cpu_count() or 1
+
+
+def here(task: Task, lists: Lists) -> Rows:
+    """This process."""
+    try:
+        for items in lists:
+            yield task.rows(items)
+    finally:
+        WORKER.end()
+
+
+def processes(count: int) -> Pool:
+    """Processes of this machine, each with a `gate` of its own; this one alone where there is little to do."""
+
+    def rows(task: Task, lists: Lists) -> Rows:
+        lists = iter(lists)
+        first = list(itertools.islice(lists, 2))
+        if count == 1 or len(first) < 2:
+            return here(task, itertools.chain(first, lists))
+        # (a forked process needs no module of the caller's imported anew; what it has of this one's pipes must not stay)
+        WORKER.end()
+        method = "fork" if "fork" in multiprocessing.get_all_start_methods() else None
+        context = multiprocessing.get_context(method)
+
+        def start() -> concurrent.futures.Executor:
+            return concurrent.futures.ProcessPoolExecutor(count, context, _begin)
+
+        return _Window(task, start, BrokenProcessPool, count * AHEAD).rows(itertools.chain(first, lists))
+
+    return rows
+
+
+def _begin() -> None:
+    """Begins a process: Ctrl-C is its parent's, where that one is gone it ends, and its `gate` ends with it."""
+    signal.signal(signal.SIGINT, signal.SIG_IGN)
+    multiprocessing.util.Finalize(None, WORKER.end, exitpriority=0)
+    threading.Thread(target=_end_with_parent, daemon=True).start()
+
+
+def _end_with_parent() -> None:
+    parent = multiprocessing.parent_process()
+    if parent:
+        parent.join()
+        os._exit(1)
+
+
+def dask(address: str) -> Pool:
+    """The workers of a Dask cluster, by its scheduler's address, on which this package is installed too. All see the
+    files by the same paths."""
+
+    def rows(task: Task, lists: Lists) -> Rows:
+        distributed: Any = importlib.import_module("distributed")
+        try:
+            client = distributed.Client(address, timeout="10s", set_as_default=False)
+        except (OSError, ValueError, TimeoutError) as fault:
+            raise Missing(f"no Dask scheduler replies at {address}: {fault}") from fault
+        def start() -> concurrent.futures.Executor:
+            executor: concurrent.futures.Executor = client.get_executor(pure=False)
+            return executor
+
+        with client:
+            count = max(1, sum(client.ncores().values()))
+            yield from _Window(task, start, distributed.KilledWorker, count * AHEAD).rows(lists)
+
+    return rows
+
+
+class _Window:
+    """Lists under way at an executor. Where a process ends, they go to others; a list at which it ends again is done
+    file by file."""
+
+    def __init__(self, task: Task, start: Callable[[], concurrent.futures.Executor], ended: Type[Exception], size: int):
+        self._task, self._start, self._ended, self._size = task, start, ended, size
+        self._executor = start()
+        self._under_way: "Deque[Tuple[List[Item], concurrent.futures.Future[Any]]]" = collections.deque()
+
+    def rows(self, lists: Lists) -> Rows:
+        """The rows of each list, in order."""
+        try:
+            for items in lists:
+                self._under_way.append((items, self._sent(items)))
+                if len(self._under_way) >= self._size:
+                    yield self._next()
+            while self._under_way:
+                yield self._next()
+        finally:
+            for _, future in self._under_way:
+                future.cancel()
+            self._executor.shutdown(wait=True)
+
+    def _sent(self, items: List[Item]) -> "concurrent.futures.Future[Any]":
+        if items:
+            try:
+                return self._executor.submit(self._task.rows, items)
+            except self._ended as fault:
+                sent: "concurrent.futures.Future[Any]" = concurrent.futures.Future()
+                sent.set_exception(fault)
+                return sent
+        none: "concurrent.futures.Future[Any]" = concurrent.futures.Future()
+        none.set_result([])
+        return none
+
+    def _next(self) -> List[Row]:
+        items, future = self._under_way.popleft()
+        return self._result(items, future)
+
+    def _result(self, items: List[Item], future: "concurrent.futures.Future[Any]") -> List[Row]:
+        for again in (True, False):
+            try:
+                made: List[Row] = future.result()
+                return made
+            except self._ended:
+                self._begin_anew()
+                if again:
+                    future = self._sent(items)
+        if len(items) == 1:
+            return [self._task.lost(items[0])]
+        return [row for it in items for row in self._result([it], self._sent([it]))]
+
+    def _begin_anew(self) -> None:
+        self._executor.shutdown(wait=False)
+        self._executor = self._start()
+        lists = [(items, future) for items, future in self._under_way]
+        self._under_way.clear()
+        for items, future in lists:
+            is_lost = future.done() and not future.cancelled() and isinstance(future.exception(), self._ended)
+            self._under_way.append((items, self._sent(items) if is_lost else future))

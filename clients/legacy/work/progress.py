@@ -1,0 +1,52 @@
+"""A line that shows how far a run is, on a terminal, by tqdm where that is installed."""
+import contextlib
+import sys
+import threading
+from typing import Any, Callable, Iterator, Sequence
+
+from legacy.work.walk import walk
+
+
+@contextlib.contextmanager
+def shown(trees: Sequence[str], follow: bool) -> Iterator[Callable[[int], None]]:
+    """Gives what is called with the bytes of each file that is done."""
+    bar = _bar() if sys.stderr.isatty() else None
+    if bar is None:
+        yield lambda _: None
+        return
+    files = 0
+
+    def done(size: int) -> None:
+        nonlocal files
+        files += 1
+        bar.set_postfix_str(f"{files} files", refresh=False)
+        bar.update(size)
+
+    # The time that is left is known once all is counted, which takes far less time than the work.
+    ends = threading.Event()
+    counts = threading.Thread(target=_count, args=(bar, trees, follow, ends), daemon=True)
+    counts.start()
+    try:
+        with bar:
+            yield done
+    finally:
+        ends.set()
+        counts.join()
+
+
+def _bar() -> Any:
+    try:
+        import tqdm  # type: ignore[import]
+    except ModuleNotFoundError:
+        return None
+    tqdm.tqdm.monitor_interval = 0
+    return tqdm.tqdm(unit="B", unit_scale=True, dynamic_ncols=True, leave=False, file=sys.stderr)
+
+
+def _count(bar: Any, trees: Sequence[str], follow: bool, ends: threading.Event) -> None:
+    total = 0
+    for entry in walk(trees, follow):
+        if ends.is_set():
+            return
+        total += entry.size
+    bar.total = total

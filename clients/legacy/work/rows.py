@@ -1,0 +1,194 @@
+"""A row: what a job made of a file, or why it couldn't."""
+import base64
+import dataclasses
+import json
+import os
+import stat
+import threading
+from typing import Any, ClassVar, Dict, List, NamedTuple, Optional, Type, TypeVar
+
+from gate import Fault, Gate, Gone
+
+from legacy.finding import Found
+from legacy.work.walk import reason
+
+# The most bytes of a document of `gate`.
+LARGEST = 16_777_216
+
+# What became of a file: it was looked at and there is nothing to say, or something was found; it is no text, since no
+# rule names its encoding, or a link; or the job couldn't be done, for the reason that the row has.
+DONE, FOUND, PASSED, REFUSED = "done", "found", "passed", "refused"
+
+# What a refusal of `gate` means for a file, where it isn't the job's own.
+FAULTS = {
+    "NoIndex": "gate has no index file of {label}", "UnknownLabel": "gate has no encoding named {label}",
+    "TooLarge": f"larger than {LARGEST} bytes", "OutOfMemory": "gate is out of memory"}
+
+Restored = TypeVar("Restored", bound="Row")
+
+
+class Item(NamedTuple):
+    """A file to do a job on: its path, what it was when the tree was walked, and the label that its rule names."""
+
+    path: str
+    size: int
+    time: int
+    label: str
+    fault: str = ""
+
+
+@dataclasses.dataclass
+class Row:
+    """What every row has."""
+
+    path: str
+    size: int
+    label: str
+    outcome: str = DONE
+    reason: str = ""
+
+    def json(self) -> str:
+        """The row as a line of JSON. A path that isn't UTF-8 has the code points U+DC80 to U+DCFF for its other bytes, and
+        is there as base64 too, as `path_base64`."""
+        members = dataclasses.asdict(self)
+        raw = os.fsencode(self.path)
+        if not _is_utf8(raw):
+            members["path_base64"] = base64.b64encode(raw).decode()
+        return json.dumps(members)
+
+    @classmethod
+    def restored(cls: Type[Restored], line: str) -> Restored:
+        """The row that a line of JSON has."""
+        members: Dict[str, Any] = json.loads(line)
+        members.pop("path_base64", None)
+        return cls(**members)
+
+
+class Refusal(Exception):
+    """The job can't be done on this file: the reason, in a few words."""
+
+
+class Job:
+    """What is done on each file. It goes to other processes and machines, so it is a dataclass of plain values."""
+
+    rows: ClassVar[Type[Row]] = Row
+
+    def row(self, gate: Gate, item: Item, content: bytes) -> Row:
+        """The row of a file. Raises `Refusal` or `gate.Fault` where there is none."""
+        raise NotImplementedError
+
+    def holds(self, row: Row) -> bool:
+        """Whether what the job left beside the row is still there."""
+        return True
+
+
+class Task(NamedTuple):
+    """A job, and the program to do it by."""
+
+    job: Job
+    found: Found
+
+    def rows(self, items: List[Item]) -> List[Row]:
+        """The rows of these files."""
+        return [self._row(it) for it in items]
+
+    def lost(self, item: Item) -> Row:
+        """The row of a file at which the process ended, again and again."""
+        return self._refused(item, "the process that looked at it ended")
+
+    def _row(self, item: Item) -> Row:
+        if item.fault or not item.label:
+            passes = not item.fault or "isn't followed" in item.fault
+            made = self._refused(item, item.fault or "no rule names its encoding")
+            made.outcome = PASSED if passes else REFUSED
+            return made
+        try:
+            return self._made(item, read(item))
+        except Refusal as fault:
+            return self._refused(item, str(fault))
+        except OSError as fault:
+            return self._refused(item, reason(fault))
+        except MemoryError:
+            return self._refused(item, "out of memory")
+
+    def _made(self, item: Item, content: bytes) -> Row:
+        for last in (False, True):
+            try:
+                return self.job.row(WORKER.gate(self.found), item, content)
+            except Gone:
+                WORKER.end()
+                if last:
+                    raise Refusal("gate ended at it")
+            except Fault as fault:
+                # A document may have stayed open.
+                WORKER.end()
+                raise Refusal(FAULTS.get(fault.name, f"gate refused it: {fault}").format(label=item.label)) from fault
+        raise AssertionError
+
+    def _refused(self, item: Item, why: str) -> Row:
+        return self.job.rows(item.path, item.size, item.label, REFUSED, why)
+
+
+class Worker(threading.local):
+    """This thread's own `gate`."""
+
+    _gate: Optional[Gate] = None
+    _found: Optional[Found] = None
+
+    def gate(self, found: Found) -> Gate:
+        """The program, which is started once."""
+        if self._gate is None or found != self._found:
+            self.end()
+            self._gate, self._found = found.start(), found
+        return self._gate
+
+    def end(self) -> None:
+        """Ends the program; the next call starts it anew."""
+        if self._gate is not None:
+            self._gate.close()
+        self._gate = None
+
+
+WORKER = Worker()
+
+
+def read(item: Item) -> bytes:
+    """All bytes of a file, unless it is none, is too large, or changes meanwhile. Nothing blocks: neither a FIFO that took
+    the file's place, nor a device."""
+    if item.size > LARGEST:
+        raise Refusal(f"{item.size} bytes; {LARGEST} are the most")
+    number = os.open(item.path, os.O_RDONLY | os.O_NONBLOCK | os.O_NOCTTY | os.O_CLOEXEC)
+    with open(number, "rb", buffering=0) as file:
+        before = os.fstat(number)
+        if not stat.S_ISREG(before.st_mode):
+            raise Refusal("no file any more")
+        content: bytes = file.read(LARGEST + 1) or b""
+        # (one read is all of it, unless the system gave less)
+        while 0 < len(content) < before.st_size:
+            piece = file.read(before.st_size - len(content))
+            if not piece:
+                break
+            content += piece
+        after = os.fstat(number)
+    if _signature(before) != _signature(after) or len(content) != after.st_size:
+        raise Refusal("it changed while it was read")
+    return content
+
+
+def plain(content: bytes, encoding: str) -> bool:
+    """Whether these bytes are ASCII in an encoding in which each byte of ASCII is that character."""
+    if not content.isascii() or encoding in ("UTF-16LE", "UTF-16BE", "replacement"):
+        return False
+    return encoding != "ISO-2022-JP" or not any(it in content for it in (b"\x0e", b"\x0f", b"\x1b"))
+
+
+def _signature(status: os.stat_result) -> List[int]:
+    return [status.st_size, status.st_mtime_ns, status.st_ctime_ns]
+
+
+def _is_utf8(raw: bytes) -> bool:
+    try:
+        raw.decode()
+    except UnicodeDecodeError:
+        return False
+    return True

@@ -1,0 +1,125 @@
+"""A run: a job over trees, with what is known beside it."""
+import argparse
+import collections
+import contextlib
+import dataclasses
+import os
+from typing import Deque, Iterable, Iterator, List, Optional, Sequence, Tuple
+
+from legacy import finding, rules
+from legacy.finding import Found
+from legacy.work import pools, progress
+from legacy.work.rows import Item, Job, Row, Task
+from legacy.work.state import State
+from legacy.work.walk import Entry, walk
+
+# The most files of a list that goes to a process, and the most bytes, but for the last file's.
+FILES, BYTES = 16, 1 << 20
+
+
+@dataclasses.dataclass
+class Settings:
+    """How trees are gone over: the program; the rules, as `legacy.rules.Rules` has them; how many processes, 0 for one a
+    processor; the file that a run is resumed from; the address of a Dask scheduler; whether links are followed, and
+    whether a line shows how far it is."""
+
+    found: Found
+    encoding: Sequence[Tuple[str, str]] = ()
+    attributes: bool = True
+    editorconfig: bool = False
+    default: Optional[str] = None
+    jobs: int = 0
+    state: Optional[str] = None
+    dask: Optional[str] = None
+    follow: bool = False
+    progress: bool = False
+
+    def rules(self, tree: str) -> rules.Rules:
+        """The rules of a tree."""
+        return rules.Rules(
+            tree or ".", self.encoding, self.attributes, self.editorconfig, self.default, self.found.labels, patience=60)
+
+    def pool(self) -> pools.Pool:
+        """Who does the work."""
+        return pools.dask(self.dask) if self.dask else pools.processes(self.jobs or pools.processors())
+
+
+def add_words(parser: argparse.ArgumentParser) -> None:
+    """Adds the words that `settings_from` takes."""
+    group = parser.add_argument_group("how the work is done")
+    group.add_argument("--jobs", metavar="N", type=_count, default=0, help="processes, each with a gate of its own (default: one a processor)")
+    group.add_argument(
+        "--resume", metavar="STATE", help="a SQLite file of what is done, made where there is none: a run that ended goes on, and files"
+        " of the same size and time aren't read again")
+    group.add_argument(
+        "--dask", metavar="SCHEDULER", help="let the workers of a Dask cluster do the work, as tcp://HOST:8786; they see the files by"
+        " the same paths, and have this package and gate")
+    group.add_argument("--follow", action="store_true", help="follow symlinks in trees, but for those that circle")
+    group.add_argument("--no-progress", dest="progress", action="store_false", help="show no line of progress on a terminal")
+    rules.add_words(parser)
+    finding.add_words(parser)
+
+
+def settings_from(words: argparse.Namespace) -> Settings:
+    """The settings by words that were parsed."""
+    return Settings(
+        finding.find(words), words.encoding, words.attributes, words.editorconfig, words.default, words.jobs, words.resume,
+        words.dask, words.follow, words.progress)
+
+
+def run(job: Job, trees: Sequence[str], settings: Settings) -> Iterator[Row]:
+    """The rows of all entries of these trees, in the order in which they are walked. Raises `Missing` where something that
+    all of it needs isn't there."""
+    with contextlib.ExitStack() as kept:
+        state = kept.enter_context(State(settings.state, job)) if settings.state else None
+        done = kept.enter_context(progress.shown(trees, settings.follow)) if settings.progress else lambda _: None
+        under_way: Deque[Tuple[List[Item], List[Optional[Row]]]] = collections.deque()
+
+        def asked() -> Iterator[List[Item]]:
+            for items in _lists(_items(walk(trees, settings.follow), settings)):
+                known = [state.kept(it) if state else None for it in items]
+                under_way.append((items, known))
+                yield [it for it, row in zip(items, known) if row is None]
+
+        results = kept.enter_context(contextlib.closing(settings.pool()(Task(job, settings.found), asked())))
+        for made in results:
+            items, known = under_way.popleft()
+            missing = iter(made)
+            rows = [row or next(missing) for row in known]
+            if state:
+                state.keep([it for it, row in zip(items, known) if row is None], made)
+            for row in rows:
+                done(row.size)
+                yield row
+
+
+def _items(entries: Iterable[Entry], settings: Settings) -> Iterator[Item]:
+    """Each entry with the label that the rules of its tree name."""
+    tree, found = None, None
+    for it in entries:
+        if it.fault:
+            yield Item(it.path, it.size, it.time, "", it.fault)
+            continue
+        if found is None or it.tree != tree:
+            tree, found = it.tree, settings.rules(it.tree)
+        rule = found.rule_of(os.fsencode(it.inside))
+        yield Item(it.path, it.size, it.time, rule.label if rule else "")
+
+
+def _lists(items: Iterable[Item]) -> Iterator[List[Item]]:
+    begun: List[Item] = []
+    size = 0
+    for it in items:
+        begun.append(it)
+        size += it.size
+        if len(begun) == FILES or size >= BYTES:
+            yield begun
+            begun, size = [], 0
+    if begun:
+        yield begun
+
+
+def _count(text: str) -> int:
+    if not text.isdecimal() or not 1 <= int(text) <= 1000:
+        raise argparse.ArgumentTypeError(f"{text} is no number of processes from 1 to 1000")
+    return int(text)

@@ -1,0 +1,76 @@
+"""What a run has done, in a SQLite file, so that another goes on from there."""
+import dataclasses
+import json
+import os
+import sqlite3
+import time
+from typing import Optional, Sequence
+
+from legacy import __version__
+from legacy.finding import Missing
+from legacy.work.rows import DONE, FOUND, Item, Job, Row
+
+TABLES = """
+CREATE TABLE IF NOT EXISTS job(description TEXT NOT NULL);
+CREATE TABLE IF NOT EXISTS done(
+    path BLOB PRIMARY KEY, size INTEGER NOT NULL, time INTEGER NOT NULL, label TEXT NOT NULL, row TEXT NOT NULL) WITHOUT ROWID;
+"""
+# Rows are lost with the process, at most those of so many seconds.
+LOST = 0.5
+
+
+class State:
+    """The rows of a job, by each file's path, size, time and label. Raises `Missing` where the file is no state of this
+    job, or of another run that goes on."""
+
+    def __init__(self, path: str, job: Job):
+        self._path, self._job = path, job
+        try:
+            self._base = sqlite3.connect(path, timeout=1, isolation_level=None)
+            self._base.executescript("PRAGMA locking_mode=EXCLUSIVE; PRAGMA journal_mode=WAL; PRAGMA synchronous=NORMAL;" + TABLES)
+            self._base.execute("BEGIN IMMEDIATE")
+            self._is_of(f"{type(job).__name__} {json.dumps(dataclasses.asdict(job))} {__version__}")
+        except sqlite3.Error as fault:
+            raise Missing(f"the state {path}: {fault}") from fault
+        self._since = time.monotonic()
+
+    def _is_of(self, description: str) -> None:
+        known = self._base.execute("SELECT description FROM job").fetchone()
+        if known and known[0] != description:
+            raise Missing(f"the state {self._path} is that of another job: {known[0]}; this is {description}")
+        if not known:
+            self._base.execute("INSERT INTO job VALUES (?)", (description,))
+
+    def kept(self, item: Item) -> Optional[Row]:
+        """The row of a file that is as it was."""
+        found = self._base.execute(
+            "SELECT row FROM done WHERE path = ? AND size = ? AND time = ? AND label = ?",
+            (os.fsencode(item.path), item.size, item.time, item.label)).fetchone()
+        row = self._job.rows.restored(found[0]) if found else None
+        return row if row and self._job.holds(row) else None
+
+    def keep(self, items: Sequence[Item], rows: Sequence[Row]) -> None:
+        """Keeps rows; not refusals, so that these are tried again."""
+        done = [
+            (os.fsencode(it.path), it.size, it.time, it.label, row.json())
+            for it, row in zip(items, rows) if row.outcome in (DONE, FOUND)]
+        try:
+            self._base.executemany("INSERT OR REPLACE INTO done VALUES (?, ?, ?, ?, ?)", done)
+            if time.monotonic() - self._since > LOST:
+                self._base.execute("COMMIT")
+                self._base.execute("BEGIN IMMEDIATE")
+                self._since = time.monotonic()
+        except sqlite3.Error as fault:
+            raise Missing(f"the state {self._path}: {fault}") from fault
+
+    def __enter__(self) -> "State":
+        return self
+
+    def __exit__(self, *_: object) -> None:
+        try:
+            if self._base.in_transaction:
+                self._base.execute("COMMIT")
+        except sqlite3.Error as fault:
+            raise Missing(f"the state {self._path}: {fault}") from fault
+        finally:
+            self._base.close()

@@ -1,0 +1,101 @@
+"""What is in trees: each file, in an order that depends on names alone, and each thing that is none, with the reason."""
+import os
+import stat
+from typing import Iterator, List, NamedTuple, Sequence, Tuple
+
+# What git keeps in `.git` is no file of the tree.
+HIDDEN = ".git"
+
+KINDS = [
+    (stat.S_ISLNK, "a symlink, which isn't followed"), (stat.S_ISFIFO, "a FIFO"), (stat.S_ISSOCK, "a socket"),
+    (stat.S_ISCHR, "a device"), (stat.S_ISBLK, "a device")]
+
+
+class Entry(NamedTuple):
+    """A file, by the tree it is in and its path from there, or else why it is none."""
+
+    tree: str
+    inside: str
+    size: int
+    time: int  # of its last change, in nanoseconds
+    fault: str = ""
+    is_link: bool = False
+
+    @property
+    def path(self) -> str:
+        """The path as it is opened."""
+        return os.path.join(self.tree, self.inside)
+
+
+# A folder by its device and number: those above a folder tell whether a link circles.
+Chain = Tuple[Tuple[int, int], ...]
+
+
+def walk(trees: Sequence[str], follow: bool = False) -> Iterator[Entry]:
+    """All entries of these folders and files, folder by folder in the order of the names' bytes. A link is followed where
+    it is a tree itself, and others where `follow` says so, but for those that lead back."""
+    for tree in trees:
+        try:
+            is_folder = stat.S_ISDIR(os.stat(tree).st_mode)
+        except OSError as fault:
+            yield Entry(*os.path.split(tree), 0, 0, reason(fault))
+            continue
+        if is_folder:
+            yield from _below(tree, follow)
+        else:
+            yield _entry(*os.path.split(tree), True)[0]
+
+
+def reason(fault: OSError) -> str:
+    """What a fault of the system says."""
+    return fault.strerror or str(fault)
+
+
+def _below(tree: str, follow: bool) -> Iterator[Entry]:
+    """Everything below a folder; no call for each level, since folders may be nested deeper than calls."""
+    open_folders: List[Tuple[Iterator[str], Chain]] = []
+    inside, chain = "", _identity(os.stat(tree))
+    try:
+        open_folders.append((iter(_names(tree, "")), chain))
+    except OSError as fault:
+        yield Entry(tree, "", 0, 0, reason(fault))
+    while open_folders:
+        names, chain = open_folders[-1]
+        inside = next(names, "")
+        if not inside:
+            open_folders.pop()
+            continue
+        entry, status = _entry(tree, inside, follow)
+        if entry.fault or not stat.S_ISDIR(status.st_mode):
+            yield entry
+        elif entry.is_link and _identity(status)[0] in chain:
+            yield entry._replace(fault="a symlink that circles")
+        else:
+            try:
+                open_folders.append((iter(_names(tree, inside)), chain + _identity(status)))
+            except OSError as fault:
+                yield Entry(tree, inside, 0, 0, reason(fault))
+
+
+def _names(tree: str, inside: str) -> List[str]:
+    names = (it for it in os.listdir(os.path.join(tree, inside)) if it != HIDDEN)
+    return [os.path.join(inside, it) for it in sorted(names, key=os.fsencode)]
+
+
+def _identity(status: os.stat_result) -> Chain:
+    return ((status.st_dev, status.st_ino),)
+
+
+def _entry(tree: str, inside: str, follow: bool) -> Tuple[Entry, os.stat_result]:
+    """What is at a path, and its status."""
+    path = os.path.join(tree, inside)
+    status = os.stat_result([0] * 10)
+    try:
+        status = os.lstat(path)
+        is_link = stat.S_ISLNK(status.st_mode)
+        if is_link and follow:
+            status = os.stat(path)
+    except OSError as fault:
+        return Entry(tree, inside, 0, 0, reason(fault)), status
+    kind = next((text for holds, text in KINDS if holds(status.st_mode)), "")
+    return Entry(tree, inside, status.st_size, status.st_mtime_ns, kind, is_link), status
