@@ -15,6 +15,7 @@ from legacy.finding import Missing
 
 # The modules of the subcommands, in the order of the help.
 SUBCOMMANDS: Tuple[str, ...] = (
+    "mount",
     "rules",
     "check",
     "search",

@@ -1,0 +1,259 @@
+"""The tree below: files as the source has them, and how one gets other bytes. Whenever that is cut short, all of the old
+bytes are there or all of the new ones."""
+import contextlib
+import fcntl
+import itertools
+import os
+import stat
+from typing import Callable, Iterator, NamedTuple, Optional, Tuple
+
+# How names of files begin that are being written. Nobody sees them in the mount.
+BESIDE = b".legacy-"
+NEW, OLD = BESIDE + b"new-", BESIDE + b"old-"
+# The most bytes of a file's name.
+LONGEST_NAME = 255
+# An attribute of a file without which it would be open to others than before.
+ACCESS_LIST = "system.posix_acl_access"
+
+_numbers = itertools.count()
+
+
+class Signature(NamedTuple):
+    """What a file's bytes are known again by."""
+
+    device: int
+    inode: int
+    size: int
+    modified: int
+    changed: int
+
+
+def signature(found: os.stat_result) -> Signature:
+    """The signature of a file."""
+    return Signature(found.st_dev, found.st_ino, found.st_size, found.st_mtime_ns, found.st_ctime_ns)
+
+
+class Source:
+    """The tree that is shown. It is held by a descriptor, so that it may be mounted over itself; `root` leads to it from
+    other processes too."""
+
+    def __init__(self, folder: bytes):
+        self.descriptor = os.open(folder, os.O_PATH | os.O_DIRECTORY)
+        self.root = b"/proc/%d/fd/%d" % (os.getpid(), self.descriptor)
+
+    def full(self, path: bytes) -> bytes:
+        """What to open for a path of this tree."""
+        return self.root + b"/" + (path or b".")
+
+    def stat(self, path: bytes) -> os.stat_result:
+        """What is at a path, a link not followed."""
+        return os.lstat(self.full(path))
+
+    def read(self, path: bytes) -> Tuple[Signature, bytes]:
+        """A file's bytes, with the signature that it had before and behind; after some tries that of behind."""
+        with open(self.full(path), "rb", buffering=0) as file:
+            for _ in range(4):
+                before = signature(os.fstat(file.fileno()))
+                content = file.readall()
+                behind = signature(os.fstat(file.fileno()))
+                if before == behind:
+                    break
+                file.seek(0)
+            return behind, content
+
+    def folder(self, path: bytes) -> int:
+        """A descriptor of the folder that a path lies in, which stays the same wherever the folder is moved."""
+        return os.open(self.full(os.path.dirname(path)), os.O_PATH | os.O_DIRECTORY)
+
+    def unfinished(self) -> Iterator[Tuple[bytes, bytes]]:
+        """Clears away what mounts that were killed have left: of each its path, and where it is now, or nothing where it
+        held no more than a file that is whole. What a mount that still runs is writing is left alone."""
+        device = os.stat(self.root).st_dev
+        todo = [b""]
+        while todo:
+            path = todo.pop()
+            with contextlib.suppress(OSError), os.scandir(self.full(path)) as entries:
+                for entry in entries:
+                    inside = os.path.join(path, entry.name)
+                    if entry.is_dir(follow_symlinks=False):
+                        if entry.stat(follow_symlinks=False).st_dev == device:
+                            todo.append(inside)
+                    elif entry.name.startswith(BESIDE) and (now := self._cleared(inside)) is not None:
+                        yield inside, now
+
+    def _cleared(self, path: bytes) -> Optional[bytes]:
+        """Removes an unfinished file, or gives old bytes a name; None where someone is writing it."""
+        folder, name = os.path.split(path)
+        with contextlib.suppress(OSError), open(self.full(path), "rb") as file:
+            fcntl.flock(file, fcntl.LOCK_EX | fcntl.LOCK_NB)
+            whole = os.path.join(folder, name[len(OLD):])
+            if name.startswith(OLD) and not self._same(file.read(), whole):
+                kept = free(lambda it: os.path.lexists(self.full(it)), whole, b".before")
+                os.rename(self.full(path), self.full(kept))
+                return kept
+            os.unlink(self.full(path))
+            return b""
+        return None
+
+    def _same(self, content: bytes, path: bytes) -> bool:
+        try:
+            return self.read(path)[1] == content
+        except OSError:
+            return False
+
+
+def free(taken: Callable[[bytes], bool], path: bytes, suffix: bytes) -> bytes:
+    """The first of a path with a suffix, or with a suffix and a number, that isn't taken."""
+    folder, name = os.path.split(path)
+    for number in itertools.count(1):
+        end = suffix + (b".%d" % number if number > 1 else b"")
+        found = os.path.join(folder, name[: LONGEST_NAME - len(end)] + end)
+        if not taken(found):
+            return found
+    raise AssertionError
+
+
+class Place(NamedTuple):
+    """Where a file lies: a descriptor of its folder, and its name there."""
+
+    folder: int
+    name: bytes
+
+    def stat(self) -> os.stat_result:
+        """What is there, a link not followed."""
+        return os.stat(self.name, dir_fd=self.folder, follow_symlinks=False)
+
+    def open(self, flags: int, mode: int = 0o600) -> int:
+        """A descriptor of the file."""
+        return os.open(self.name, flags | os.O_CLOEXEC | os.O_NOFOLLOW, mode, dir_fd=self.folder)
+
+    def unlink(self) -> None:
+        """Removes the file, if it is there."""
+        with contextlib.suppress(FileNotFoundError):
+            os.unlink(self.name, dir_fd=self.folder)
+
+
+class Store(NamedTuple):
+    """How a file gets other bytes: what is looked at right before, the time of its last change, and whether all is to be
+    on the disk before it takes the old file's place. Its mode, owner, attributes and access list are those of the file
+    there, or of `like`, which is about to take its place."""
+
+    check: Callable[[], None]
+    modified: Optional[int]
+    sync: bool
+    like: Optional[Place] = None
+
+    def put(self, place: Place, content: bytes) -> Signature:
+        """Writes a new file beside, and renames it over the old one. Where the file has other names, or can't be made anew
+        with its owner and access list, it is written in place."""
+        like = self.like or place
+        found = like.stat()
+        if self.like is None and found.st_nlink > 1 or not self._anew(place, content, like, found):
+            self._in_place(place, content)
+        return signature(place.stat())
+
+    def _anew(self, place: Place, content: bytes, like: Place, found: os.stat_result) -> bool:
+        new = Place(place.folder, NEW + b"%d-%d" % (os.getpid(), next(_numbers)))
+        try:
+            file = new.open(os.O_CREAT | os.O_EXCL | os.O_WRONLY)
+        except PermissionError:
+            return False
+        try:
+            fcntl.flock(file, fcntl.LOCK_EX)
+            write(file, content)
+            if not copied(like, found, file):
+                new.unlink()
+                return False
+            self._finish(file)
+            self.check()
+            os.rename(new.name, place.name, src_dir_fd=place.folder, dst_dir_fd=place.folder)
+        except BaseException:
+            new.unlink()
+            raise
+        finally:
+            os.close(file)
+        return True
+
+    def _in_place(self, place: Place, content: bytes) -> None:
+        """Meanwhile the old bytes lie beside it, where there is leave to put them there."""
+        with contextlib.ExitStack() as held:
+            file = place.open(os.O_RDWR)
+            held.callback(os.close, file)
+            self.check()
+            before = os.pread(file, os.fstat(file).st_size, 0)
+            with contextlib.suppress(PermissionError):
+                held.enter_context(beside(place, before, self.sync))
+            try:
+                overwrite(file, content)
+            except OSError:
+                overwrite(file, before)
+                raise
+            self._finish(file)
+
+    def _finish(self, file: int) -> None:
+        if self.modified is not None:
+            os.utime(file, ns=(self.modified, self.modified))
+        if self.sync:
+            os.fsync(file)
+
+
+@contextlib.contextmanager
+def beside(place: Place, content: bytes, sync: bool) -> Iterator[None]:
+    """Holds a file's old bytes in one of its own beside it."""
+    kept = Place(place.folder, (OLD + place.name)[:LONGEST_NAME])
+    file = kept.open(os.O_CREAT | os.O_EXCL | os.O_WRONLY)
+    try:
+        fcntl.flock(file, fcntl.LOCK_EX)
+        write(file, content)
+        if sync:
+            os.fsync(file)
+        yield
+    finally:
+        kept.unlink()
+        os.close(file)
+
+
+def overwrite(file: int, content: bytes) -> None:
+    """Puts a content in the place of a file's own."""
+    os.lseek(file, 0, os.SEEK_SET)
+    write(file, content)
+    os.ftruncate(file, len(content))
+
+
+def write(file: int, content: bytes) -> None:
+    """Writes all of it."""
+    left = memoryview(content)
+    while left:
+        left = left[os.write(file, left):]
+
+
+def copied(like: Place, found: os.stat_result, file: int) -> bool:
+    """Gives a file another one's owner, attributes, access list and mode. False where it can't have them all, but for
+    attributes that only the system sets."""
+    try:
+        if (found.st_uid, found.st_gid) != (os.geteuid(), os.getegid()):
+            os.fchown(file, found.st_uid, found.st_gid)
+        for name, value in attributes(like):
+            try:
+                os.setxattr(file, name, value)
+            except OSError:
+                if name == ACCESS_LIST or name.startswith("user."):
+                    raise
+        os.fchmod(file, stat.S_IMODE(found.st_mode))
+    except OSError:
+        return False
+    return True
+
+
+def attributes(place: Place) -> Iterator[Tuple[str, bytes]]:
+    """A file's extended attributes, its access list among them."""
+    try:
+        file = place.open(os.O_RDONLY | os.O_NONBLOCK)
+    except PermissionError:
+        return
+    try:
+        with contextlib.suppress(OSError):
+            for name in os.listxattr(file):
+                yield name, os.getxattr(file, name)
+    finally:
+        os.close(file)

@@ -1,0 +1,215 @@
+"""`legacy mount`: its words, and the process that serves the mount."""
+import argparse
+import contextlib
+import importlib
+import logging
+import logging.handlers
+import os
+import pathlib
+import signal
+import sys
+from typing import TYPE_CHECKING, Callable, List, Set
+
+from legacy.finding import Found, Missing, add_words, find
+from legacy.mount.below import Source
+from legacy.mount.refusals import shown
+from legacy.rules import add_words as add_rules
+from legacy.rules import rules_from
+
+if TYPE_CHECKING:
+    from legacy.mount.operations import Operations
+    from legacy.mount.questions import Questions
+    from legacy.mount.workers import Workers
+
+log = logging.getLogger("legacy.mount")
+
+DONE, FAILED, USAGE = 0, 1, 2
+DESCRIPTION = "Show the legacy files of SOURCE as UTF-8 at MOUNTPOINT. What a program saves there becomes an edit of the bytes."
+EPILOG = """What has no rule is shown as the bytes that it is; `legacy rules SOURCE` prints the rules. Unmount with `fusermount3 -u
+MOUNTPOINT`, or as root with umount. Status: 0 unmounted, 1 it can't be mounted, 2 wrong words."""
+# The seconds between two looks at what nobody waits for.
+PERIOD = 5.0
+
+
+def add_to(commands: "argparse._SubParsersAction[argparse.ArgumentParser]") -> None:
+    """Adds the words of `legacy mount`."""
+    parser = commands.add_parser("mount", help="show a tree's legacy files as UTF-8 to every program", description=DESCRIPTION, epilog=EPILOG)
+    parser.set_defaults(run=run)
+    parser.add_argument("source", metavar="SOURCE", help="the folder whose files are in legacy encodings")
+    parser.add_argument("mountpoint", metavar="MOUNTPOINT", help="the folder where they are shown, which may be SOURCE itself")
+    add_rules(parser)
+    parser.add_argument("--read-only", action="store_true", help="let no program change anything")
+    parser.add_argument("--large", choices=("refuse", "bytes"), default="refuse",
+                        help="files of more than 16 MiB can't be opened, or are shown as the bytes that they are (default: refuse)")
+    parser.add_argument("--rejected", metavar="DIR", help="where texts go that can't be saved (default: beside their files, as NAME.rejected)")
+    parser.add_argument("--show-git", action="store_true", help="show .git, .hg and .svn, in which programs would store UTF-8")
+    parser.add_argument("--no-sync", action="store_true", help="don't wait for the disk at each save")
+    parser.add_argument("--allow-other", action="store_true", help="let other users in too")
+    parser.add_argument("--foreground", action="store_true", help="stay until it is unmounted or ended by a signal")
+    parser.add_argument("--log", metavar="FILE", help="where what happens is written (default: the system's log, or in the foreground standard error)")
+    add_words(parser)
+
+
+def run(words: argparse.Namespace) -> int:
+    """Mounts, and serves the mount."""
+    importlib.import_module("pyfuse3")  # (or it is missing, which is said by who called)
+    found = found_for_good(words)
+    for folder in words.source, words.mountpoint:
+        if not os.path.isdir(folder):
+            print(f"legacy mount: {folder} is no folder", file=sys.stderr)
+            return FAILED
+    for name in "rejected", "log":
+        if getattr(words, name):
+            setattr(words, name, os.path.abspath(getattr(words, name)))
+    words.source, words.mountpoint = os.path.abspath(words.source), os.path.abspath(words.mountpoint)
+    if words.foreground:
+        return serve(words, found, lambda: None)
+    return in_the_background(lambda mounted: serve(words, found, mounted))
+
+
+def found_for_good(words: argparse.Namespace) -> Found:
+    """What is found without words, by paths that hold from everywhere; `gate` takes it."""
+    found = find(words)
+    gate = os.path.abspath(found.gate) if os.sep in found.gate else found.gate
+    labels = pathlib.Path(os.path.abspath(found.labels)) if found.labels else None
+    found = Found(gate, pathlib.Path(os.path.abspath(found.indexes)), labels)
+    found.start().close()
+    return found
+
+
+def in_the_background(job: Callable[[Callable[[], None]], int]) -> int:
+    """Does a job in a process of its own, which it leaves alone once that is mounted. What goes wrong before is printed."""
+    come, to = os.pipe()
+    child = os.fork()
+    if child:
+        os.close(to)
+        return DONE if os.read(come, 1) else os.WEXITSTATUS(os.waitpid(child, 0)[1])
+    os.close(come)
+    os.setsid()
+    os.chdir("/")
+
+    def mounted() -> None:
+        nothing = os.open(os.devnull, os.O_RDWR)
+        for stream in 0, 1, 2:
+            os.dup2(nothing, stream)
+        os.write(to, b"m")
+        os.close(to)
+
+    status = FAILED
+    try:
+        status = job(mounted)
+    except Missing as fault:
+        print(f"legacy mount: {fault}", file=sys.stderr)
+        status = USAGE
+    finally:
+        sys.stderr.flush()
+        os._exit(status)
+
+
+def serve(words: argparse.Namespace, found: Found, mounted: Callable[[], None]) -> int:
+    """Serves the mount until it ends."""
+    import pyfuse3
+    import trio
+
+    from legacy.mount.operations import Operations, Options
+    from legacy.mount.questions import Questions
+    from legacy.mount.reading import Reader
+    from legacy.mount.refusals import Refusals
+    from legacy.mount.saves import Saves
+    from legacy.mount.workers import Workers
+
+    logs_to(words)
+    os.umask(0)
+    sys.setswitchinterval(0.001)
+    source = Source(os.fsencode(words.source))
+    rules = rules_from(words, source.descriptor, found.labels, log.warning)
+    questions, workers = Questions(found.words()), Workers(found.words())
+    reader = Reader(source, questions, workers)
+    refusals = Refusals(source, os.fsencode(words.rejected) if words.rejected else None)
+
+    async def forget_pages(ino: int) -> None:
+        # (in a thread: it waits for pages that are being read, which the loop serves)
+        with contextlib.suppress(OSError):
+            await trio.to_thread.run_sync(pyfuse3.invalidate_inode, ino)
+
+    saves = Saves(reader, workers, refusals, not words.no_sync, forget_pages)
+    options = Options(words.read_only, words.large == "bytes", words.show_git)
+    operations = Operations(source, rules, reader, saves, options)
+    try:
+        pyfuse3.init(operations, words.mountpoint, fuse_options(words))
+    except RuntimeError:
+        print(f"legacy mount: {words.mountpoint} can't be mounted on", file=sys.stderr)
+        return FAILED
+    try:
+        trio.run(serve_until, operations, questions, workers, mounted)
+    finally:
+        saves.unsaved(operations.tree.nodes.values())
+        pyfuse3.close(unmount=True)
+        workers.close()
+        questions.close()
+    return DONE
+
+
+def fuse_options(words: argparse.Namespace) -> Set[str]:
+    """How it is mounted."""
+    import pyfuse3
+
+    chosen = {"fsname=" + words.source.replace("\\", "\\\\").replace(",", "\\,"), "subtype=gate"}
+    if words.read_only:
+        chosen.add("ro")
+    if words.allow_other:
+        chosen.add("allow_other")
+    return set(pyfuse3.default_options) | chosen
+
+
+async def serve_until(operations: "Operations", questions: "Questions", workers: "Workers", mounted: Callable[[], None]) -> None:
+    """Serves the kernel until it is unmounted, or a signal comes."""
+    import pyfuse3
+    import trio
+
+    async def ended_by_a_signal() -> None:
+        with trio.open_signal_receiver(signal.SIGTERM, signal.SIGINT, signal.SIGHUP) as signals:
+            async for _ in signals:
+                pyfuse3.terminate()
+
+    async def looked_after() -> None:
+        while True:
+            await trio.sleep(PERIOD)
+            questions.look_after()
+            workers.look_after()
+
+    async def begun() -> None:
+        await operations.mounted.wait()
+        mounted()
+        workers.start()
+        await trio.to_thread.run_sync(cleared, operations.source, cancellable=True)
+
+    async with trio.open_nursery() as nursery:
+        for task in ended_by_a_signal, looked_after, begun:
+            nursery.start_soon(task)
+        await pyfuse3.main()
+        nursery.cancel_scope.cancel()
+
+
+def cleared(source: Source) -> None:
+    """Says what mounts that were killed have left, which is cleared away."""
+    for path, now in source.unfinished():
+        what = f"its old bytes are in {shown(now)}" if now else "it is removed"
+        log.warning("%s: a mount was killed while it wrote it; %s", shown(path), what)
+
+
+def logs_to(words: argparse.Namespace) -> None:
+    """Where the log goes."""
+    logger = logging.getLogger()
+    logger.setLevel(logging.INFO)
+    handlers: List[logging.Handler] = []
+    if words.foreground:
+        handlers.append(logging.StreamHandler())
+    if words.log:
+        handlers.append(logging.FileHandler(words.log, encoding="utf-8"))
+    if not handlers:
+        with contextlib.suppress(OSError):
+            handlers.append(logging.handlers.SysLogHandler("/dev/log"))
+    for it in handlers:
+        it.setFormatter(logging.Formatter("%(asctime)s %(message)s", "%H:%M:%S"))
+        logger.addHandler(it)

@@ -1,0 +1,189 @@
+"""Short questions to `gate`, asked from the loop that serves the kernel, which goes on with other requests until the
+replies come. What is longer goes to a process of its own (workers.py)."""
+import base64
+import contextlib
+import errno
+import fcntl
+import json
+import os
+import subprocess
+import time
+from typing import Any, AsyncIterator, Awaitable, Callable, Dict, List, Optional, Sequence, Set, TypeVar
+
+import trio
+
+from gate import Fault, Gone
+from legacy.mount.snapshots import Lengths, Text
+from legacy.saving import Refused
+
+# The room of a pipe to gate, where the system gives it, and how it is asked for.
+ROOM, SET_ROOM = 1 << 18, 1031
+# The most bytes of a document that fit in it as base64, and in a pipe that keeps its first room.
+LONG, SHORT = 180_000, 45_000
+# The seconds after which a gate that doesn't reply is ended.
+PATIENCE = 20.0
+# How many processes answer.
+PROCESSES = 2
+
+Members = Dict[str, Any]
+Found = TypeVar("Found")
+
+
+class Answering:
+    """A `gate` behind pipes. Commands are written at once, since they fit in the pipe, and then their replies are read."""
+
+    def __init__(self, words: Sequence[str]):
+        self._process = subprocess.Popen(words, stdin=subprocess.PIPE, stdout=subprocess.PIPE, bufsize=0)
+        assert self._process.stdin and self._process.stdout
+        self._to, self._from = self._process.stdin.fileno(), self._process.stdout.fileno()
+        os.set_blocking(self._from, False)
+        self.longest = SHORT
+        with contextlib.suppress(OSError):
+            if fcntl.fcntl(self._to, SET_ROOM, ROOM) >= ROOM:
+                self.longest = LONG
+        self.lock = trio.Lock()
+        self.since: Optional[float] = None
+
+    async def ask(self, *commands: bytes) -> List[Members]:
+        """The replies to some commands. Raises `Gone`, and is then of no more use."""
+        self.since = time.monotonic()
+        try:
+            os.write(self._to, b"\n".join(commands) + b"\n")
+            replies = [json.loads(line) for line in await self._lines(len(commands))]
+        except (OSError, ValueError) as fault:
+            raise Gone() from fault
+        self.since = None
+        return replies
+
+    async def _lines(self, count: int) -> List[bytes]:
+        come: List[bytes] = []
+        while count > 0:
+            await trio.lowlevel.wait_readable(self._from)
+            with contextlib.suppress(BlockingIOError):
+                part = os.read(self._from, 1 << 20)
+                if not part:
+                    raise Gone()
+                come.append(part)
+                count -= part.count(b"\n")
+        return b"".join(come).splitlines()
+
+    def end(self) -> None:
+        """Ends the process, on which whoever waits for it is answered `Gone`."""
+        self._process.kill()
+
+    def close(self) -> None:
+        """Ends the process, and what was opened for it."""
+        self._process.kill()
+        self._process.wait()
+        for pipe in self._process.stdin, self._process.stdout:
+            if pipe:
+                pipe.close()
+
+
+class Questions:
+    """What is asked of a few processes, each of which has one question at a time."""
+
+    def __init__(self, words: Sequence[str]):
+        self._words = words
+        self._answering: List[Answering] = []
+        self._encodings: Dict[str, str] = {}
+        self._encodable: Dict[str, Set[str]] = {}
+        self.longest = SHORT
+
+    @contextlib.asynccontextmanager
+    async def _one(self) -> AsyncIterator[Answering]:
+        """One of the processes, which is this question's alone."""
+        found = next((it for it in self._answering if not it.lock.locked()), None)
+        if found is None and len(self._answering) < PROCESSES:
+            found = Answering(self._words)
+            self._answering.append(found)
+            self.longest = found.longest
+        if found is None:
+            found = self._answering[int(time.monotonic() * 1e6) % len(self._answering)]
+            await found.lock.acquire()
+        else:
+            found.lock.acquire_nowait()
+        try:
+            yield found
+        except Gone:
+            with contextlib.suppress(ValueError):
+                self._answering.remove(found)
+            found.close()
+            raise
+        finally:
+            found.lock.release()
+
+    def look_after(self) -> None:
+        """Ends a process that keeps a question waiting."""
+        for it in self._answering:
+            if it.since is not None and time.monotonic() - it.since > PATIENCE:
+                it.end()
+
+    def close(self) -> None:
+        """Ends the processes."""
+        for it in self._answering:
+            it.close()
+
+    async def encoding(self, label: str) -> str:
+        """The name of the encoding that a label stands for."""
+        if label not in self._encodings:
+            opened, _ = await self._asked(opening(label, b""), CLOSE)
+            self._encodings[label] = opened["encoding"]
+        return self._encodings[label]
+
+    async def lengths(self, raw: bytes, label: str) -> Lengths:
+        """How long the text of these bytes is."""
+        _, counts, _ = await self._asked(opening(label, raw), STAT, CLOSE)
+        return Lengths(counts["utf8"], counts["errors"])
+
+    async def text(self, raw: bytes, label: str) -> Text:
+        """The text of these bytes."""
+
+        async def read(gate: Answering) -> Text:
+            _, counts = accepted(await gate.ask(opening(label, raw), STAT))
+            text, _ = accepted(await gate.ask(b'{"id":0,"op":"text","doc":"q","from":0,"to":%d}' % counts["utf32"], CLOSE))
+            return Text(text["text"].encode(), counts["encoding"], counts["bom"])
+
+        return await self._with(read)
+
+    async def lacking(self, letters: Set[str], label: str) -> Optional[str]:
+        """One of these characters for which the encoding has no bytes, if there is one."""
+        known = self._encodable.setdefault(label, set())
+        asked = "".join(letters - known)
+        if asked:
+            whole = b'{"id":0,"op":"encode","doc":"q","from":0,"to":%d,"label":"%b"}' % (len(asked), label.encode())
+            _, encoded, _ = await self._asked(opening("utf-8", asked.encode(), "keep"), whole, CLOSE, but="Unencodable")
+            if "fault" in encoded:
+                return asked[encoded["index"]]
+            known.update(asked)
+        return None
+
+    async def _asked(self, *commands: bytes, but: str = "") -> List[Members]:
+        async def ask(gate: Answering) -> List[Members]:
+            return accepted(await gate.ask(*commands), but)
+
+        return await self._with(ask)
+
+    async def _with(self, job: Callable[[Answering], Awaitable[Found]]) -> Found:
+        """Does a job with one of the processes, and once more with another where that one ended."""
+        for _ in range(2):
+            with contextlib.suppress(Gone):
+                async with self._one() as gate:
+                    return await job(gate)
+        raise Refused(errno.EIO, "gate ended before it replied")
+
+
+STAT, CLOSE = b'{"id":0,"op":"stat","doc":"q"}', b'{"id":0,"op":"close","doc":"q"}'
+
+
+def opening(label: str, raw: bytes, mark: str = "sniff") -> bytes:
+    """The command that opens the one document of a process."""
+    return b'{"id":0,"op":"open","doc":"q","label":"%b","bom":"%b","bytes":"%b"}' % (label.encode(), mark.encode(), base64.b64encode(raw))
+
+
+def accepted(replies: List[Members], but: str = "") -> List[Members]:
+    """The replies, of which none is a refusal, but for those of one name."""
+    for it in replies:
+        if it.get("fault", but) != but:
+            raise Refused(errno.EIO, f"gate answered {Fault(it)}")
+    return replies

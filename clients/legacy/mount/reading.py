@@ -1,0 +1,142 @@
+"""Texts of files: read as they are needed, and kept as long as the files are as they were."""
+import contextlib
+import errno
+import os
+import time
+from typing import Any, Callable, Dict, List, Set, Tuple
+
+import trio
+
+from legacy.mount.below import Signature, Source, signature
+from legacy.mount.questions import Questions
+from legacy.mount.snapshots import LARGEST, Lengths, Past, Shelf, Sizes, Snapshot, Text
+from legacy.mount.workers import Workers
+from legacy.saving import Refused
+
+# Files up to here are read by the loop itself.
+SMALL = 1 << 18
+# The nanoseconds within which two changes of a file may bear one time.
+TICK = 20_000_000
+
+
+class Reader:
+    """The texts of a source's files."""
+
+    def __init__(self, source: Source, questions: Questions, workers: Workers):
+        self.source, self._questions, self._workers = source, questions, workers
+        self.shelf, self.sizes, self.past = Shelf(), Sizes(), Past()
+        self._reading: Dict[Tuple[Signature, str], trio.Event] = {}
+
+    async def snapshot(self, path: bytes, label: str) -> Snapshot:
+        """What is at a path now. Raises `Refused` where it is too large for a text."""
+        while True:
+            key = signature(self.source.stat(path)), label
+            kept = self.shelf.get(*key)
+            if kept:
+                return kept
+            if key not in self._reading:
+                break
+            await self._reading[key].wait()
+        done = self._reading[key] = trio.Event()
+        try:
+            return await self._read(path, key[0], label)
+        finally:
+            del self._reading[key]
+            done.set()
+
+    async def _read(self, path: bytes, found: Signature, label: str) -> Snapshot:
+        fits(found.size)
+        found, raw = await self._in_thread_if(found.size > SMALL, self.source.read, path)
+        snapshot = Snapshot(found, raw, label, await self.text(raw, label))
+        if settled(found):
+            self.keep(snapshot)
+        return snapshot
+
+    def leaves(self, path: bytes, label: str) -> None:
+        """Remembers what is about to leave a path, if it is a text."""
+        with contextlib.suppress(OSError):
+            found = signature(self.source.stat(path))
+            known = self.shelf.get(found, label)
+            if known or found.size <= LARGEST:
+                self.past.put(path, known or Snapshot(*self.source.read(path), label, None))
+
+    async def before(self, path: bytes, label: str) -> List[Snapshot]:
+        """The last contents of a path, the newest last."""
+        found = self.past.of(path, label)
+        for it in found:
+            if it.text is None:
+                it.text = await self.text(it.raw, label)
+        return found
+
+    def keep(self, snapshot: Snapshot) -> None:
+        """Keeps what is known of a file."""
+        self.shelf.put(snapshot)
+        self.sizes.put(snapshot.signature, snapshot.label, len(snapshot.utf8))
+
+    async def text(self, raw: bytes, label: str) -> Text:
+        """The text of these bytes."""
+        encoding = await self._questions.encoding(label)
+        if own_text(raw, encoding):
+            return Text(raw, encoding, 0)
+        if len(raw) <= self._questions.longest:
+            return await self._questions.text(raw, label)
+        found: Text = await trio.to_thread.run_sync(self._workers.do, "text", raw, label)
+        return found
+
+    async def size(self, path: bytes, label: str, found: os.stat_result) -> int:
+        """How long the text of a file is. Raises `Refused` where it is too large for one."""
+        known = self.sizes.get(signature(found), label)
+        if known is not None:
+            return known
+        if found.st_size <= self._questions.longest:
+            # Whoever asks for the size is about to read it.
+            return len((await self.snapshot(path, label)).utf8)
+        fits(found.st_size)
+        read, raw = await trio.to_thread.run_sync(self.source.read, path)
+        size = (await self.lengths(raw, label)).utf8
+        if settled(read):
+            self.sizes.put(read, label, size)
+        return size
+
+    async def lengths(self, raw: bytes, label: str) -> Lengths:
+        """How long the text of these bytes is, and how many errors it has."""
+        if own_text(raw, await self._questions.encoding(label)):
+            return Lengths(len(raw), 0)
+        if len(raw) <= self._questions.longest:
+            return await self._questions.lengths(raw, label)
+        found: Lengths = await trio.to_thread.run_sync(self._workers.do, "lengths", raw, label)
+        return found
+
+    async def lacking(self, letters: Set[str], label: str) -> str:
+        """One of these characters for which an encoding has no bytes, or nothing."""
+        return await self._questions.lacking(letters, label) or ""
+
+    async def encoding(self, label: str) -> str:
+        """The name of the encoding that a label stands for."""
+        return await self._questions.encoding(label)
+
+    async def _in_thread_if(self, long: bool, call: Callable[..., Any], *words: Any) -> Any:
+        return await trio.to_thread.run_sync(call, *words) if long else call(*words)
+
+
+def fits(size: int) -> None:
+    """Whether a file is small enough for a document."""
+    if size > LARGEST:
+        raise Refused(errno.EFBIG, f"it has {size} bytes, and texts have at most {LARGEST}")
+
+
+def settled(found: Signature) -> bool:
+    """Whether another change of the file would bear another time."""
+    return time.time_ns() - found.changed > TICK
+
+
+def own_text(raw: bytes, encoding: str) -> bool:
+    """Whether bytes are their own text in UTF-8."""
+    if encoding == "UTF-8":
+        try:
+            raw.decode()
+        except UnicodeDecodeError:
+            return False
+        return not raw.startswith(b"\xef\xbb\xbf")
+    return raw.isascii() and not encoding.startswith("UTF-16") and encoding != "replacement" and (
+        encoding != "ISO-2022-JP" or not any(it in raw for it in b"\x0e\x0f\x1b"))

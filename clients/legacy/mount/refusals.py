@@ -1,0 +1,108 @@
+"""What is not saved: the text beside its file, a line in the log with the reason, and a note on the desktop."""
+import contextlib
+import logging
+import os
+import shutil
+import subprocess
+import tempfile
+import time
+from typing import Dict, NamedTuple, Optional
+
+from legacy.mount.below import Source, free, write
+
+log = logging.getLogger("legacy.mount")
+
+SUFFIX = b".rejected"
+REASON = "user.gate.refused"
+# The least seconds between two notes.
+BETWEEN = 2.0
+
+
+def shown(path: Optional[bytes]) -> str:
+    """A path as it is printed."""
+    return "a file that was deleted" if path is None else path.decode(errors="backslashreplace")
+
+
+class Rejected(NamedTuple):
+    """A refused text: where it is, its reason, and the program that wrote it."""
+
+    place: bytes
+    text: bytes
+    reason: str
+    program: int
+
+
+class Refusals:
+    """The refused texts of this run. They lie beside their files, or with the same paths in a folder of their own."""
+
+    def __init__(self, source: Source, folder: Optional[bytes], read_only: bool = False):
+        self._source, self._folder = source, folder
+        self._of: Dict[bytes, Rejected] = {}
+        self._noted = 0.0
+
+    def reject(self, path: bytes, text: bytes, reason: str, program: int) -> None:
+        """Keeps a refused text, and says why it was refused."""
+        before = self._of.get(path)
+        if before and (before.text, before.reason) == (text, reason):
+            return
+        mine = before.place if before and before.program == program else None
+        place = self._written(path, text, reason, mine)
+        where = f"the text is in {shown(place)}" if place else "the text is lost, since nothing could be written"
+        log.error("%s: NOT SAVED: %s; %s", shown(path), reason, where)
+        if place:
+            self._of[path] = Rejected(place, text, reason, program)
+        self._note(f"{os.fsdecode(path)} was not saved", f"{reason}; {where}")
+
+    def accept(self, path: bytes, program: int) -> None:
+        """Removes a refused text, where the program that wrote it has now saved another."""
+        before = self._of.get(path)
+        if before and before.program == program:
+            del self._of[path]
+            with contextlib.suppress(OSError):
+                os.unlink(self._full(before.place))
+
+    def _full(self, place: bytes) -> bytes:
+        return place if os.path.isabs(place) else self._source.full(place)
+
+    def _written(self, path: bytes, text: bytes, reason: str, mine: Optional[bytes]) -> Optional[bytes]:
+        """Writes a text where there is leave and room, and returns where that is."""
+        places = [os.path.join(self._folder, path)] if self._folder else [path]
+        for place in [*places, os.path.join(os.fsencode(tempfile.gettempdir()), os.path.basename(path))]:
+            with contextlib.suppress(OSError):
+                if os.path.isabs(place):
+                    os.makedirs(os.path.dirname(place), exist_ok=True)
+                found = mine or free(lambda it: os.path.lexists(self._full(it)), place, SUFFIX)
+                self._write(self._full(found), text, reason, new=mine is None)
+                return found
+            mine = None
+        return None
+
+    def _write(self, full: bytes, text: bytes, reason: str, new: bool) -> None:
+        file = os.open(full, os.O_WRONLY | os.O_CREAT | (os.O_EXCL if new else os.O_TRUNC) | os.O_NOFOLLOW, 0o600)
+        try:
+            write(file, text)
+            with contextlib.suppress(OSError):
+                os.setxattr(file, REASON, reason.encode(errors="backslashreplace"))
+        except OSError:
+            os.unlink(full)
+            raise
+        finally:
+            os.close(file)
+
+    def _note(self, title: str, text: str) -> None:
+        """A note on the desktop, if there is one."""
+        program, now = shutil.which("notify-send"), time.monotonic()
+        if program and now - self._noted > BETWEEN and {"DISPLAY", "WAYLAND_DISPLAY"} & set(os.environ):
+            self._noted = now
+            with contextlib.suppress(OSError):
+                subprocess.Popen(
+                    [program, "--app-name=legacy mount", "--icon=dialog-warning", "--", title, text],
+                    stdin=subprocess.DEVNULL, stdout=subprocess.DEVNULL, stderr=subprocess.DEVNULL, start_new_session=True)
+
+
+def program_of(thread: int) -> int:
+    """The process that a thread is of."""
+    with contextlib.suppress(OSError, ValueError, IndexError):
+        with open(f"/proc/{thread}/status", encoding="utf-8", errors="replace") as file:
+            return next(int(line.split()[1]) for line in file if line.startswith("Tgid:"))
+    return thread

@@ -1,0 +1,328 @@
+"""Texts that programs wrote become bytes of the files below. What each is compared with, its base, depends on the way in
+which it comes:
+
+- written in place: the file at the first open for writing, as long as a program has it open. The edit is made at fsync and
+  at each close, since a program looks at what these say.
+- by renaming over another file: the file that is replaced.
+- to a name that a file was renamed away from, or deleted at: the last content of that name.
+- to a new name: the file read of late whose lines it has most of.
+
+A file is written only if `gate` accepted all of its text, and only over what it was read as."""
+import contextlib
+import errno
+import logging
+import os
+import time
+import unicodedata
+from typing import Awaitable, Callable, Iterable, Iterator, List, NamedTuple, Optional, Sequence, Tuple
+
+import trio
+
+from legacy.mount.below import Place, Signature, Source, Store, signature
+from legacy.mount.reading import Reader, own_text
+from legacy.mount.refusals import Refusals, program_of, shown
+from legacy.mount.snapshots import LARGEST, Snapshot, Text, letters_of, lines_of
+from legacy.mount.tree import Handle, Node, Session, begun
+from legacy.mount.workers import Workers
+from legacy.saving import Refused
+from legacy.rules import Rule
+
+log = logging.getLogger("legacy.mount")
+
+# A text in UTF-8 has at most so many bytes.
+LARGEST_TEXT = 3 * LARGEST + 3
+# How alike a text has to be, by lines, to what it is compared with.
+ALIKE = 0.3
+# The most other contents, and bytes of them, that lines are looked for in.
+OTHERS, BYTES_OF_OTHERS = 40, 1 << 20
+BAD = "\ufffd"
+
+Where = Callable[[], Tuple[bytes, bytes]]
+
+
+class Made(NamedTuple):
+    """The bytes for a text, and how they were made."""
+
+    raw: bytes
+    how: str
+
+
+class Saves:
+    """Saves what programs write."""
+
+    def __init__(self, reader: Reader, workers: Workers, refusals: Refusals, sync: bool, forget_pages: Callable[[int], Awaitable[None]]):
+        self._reader, self._workers, self._refusals, self._sync = reader, workers, refusals, sync
+        self._forget_pages = forget_pages
+
+    # While it is written.
+
+    async def look(self, handle: Handle, offset: int, content: bytes) -> None:
+        """Refuses a character that the encoding lacks at its write already: more programs look at what a write says than
+        at what a close says. The text is kept all the same, to be rejected as a whole."""
+        node = handle.node
+        session = node.session
+        assert session and node.rule
+        joined = handle.begun + content if handle.begun and handle.end == offset else content
+        handle.begun, handle.end = begun(joined[-4:]), offset + len(content)
+        letters = letters_of(joined) - {BAD}
+        if letters:
+            letters -= session.base.letters
+        if letters:
+            lacking = await self._reader.lacking(set(letters), node.rule.label)
+            if lacking and not any(lacking in it.letters for it in await self._others(node.path, node.rule.label)):
+                encoding = await self._reader.encoding(node.rule.label)
+                log.warning("%s: refused at a write: %s has no bytes in %s", shown(node.path), named(lacking), encoding)
+                raise Refused(errno.EILSEQ, f"{named(lacking)} has no bytes in {encoding}")
+
+    async def _others(self, path: Optional[bytes], label: str) -> List[Snapshot]:
+        """What lines may be taken from: what was at the path, and what was read of late."""
+        past = await self._reader.before(path, label) if path is not None else []
+        late = list(self._reader.shelf.late(label))[:OTHERS]
+        return [*past, *late]
+
+    # When it is to be saved.
+
+    async def commit(self, node: Node, thread: int) -> None:
+        """Saves what programs have written into a file. Raises `OSError` where it is refused."""
+        async with node.lock:
+            await self.commit_held(node, thread)
+
+    async def commit_held(self, node: Node, thread: int) -> None:
+        """The same, by who holds the inode's lock."""
+        session, path, rule = node.session, node.path, node.rule
+        if session is None or not session.dirty or path is None or rule is None:
+            return
+        version, content, began = session.version, bytes(session.text()), time.monotonic()
+        if version == session.refused:
+            raise Refused(errno.EILSEQ, node.refusal)
+        try:
+            made = await self._made(path, rule, session.base, content)
+            stored = await self._store(path, session, made)
+        except OSError as fault:
+            node.refusal = str(fault)
+            if fault.errno in (errno.EILSEQ, errno.EFBIG):
+                session.refused = version
+            self._refusals.reject(path, content, node.refusal, program_of(thread))
+            raise
+        text = await self._text_of(made.raw, content, rule.label)
+        session.below = node.shown = Snapshot(stored, made.raw, rule.label, text)
+        self._reader.keep(session.below)
+        session.saved, node.refusal = version, ""
+        node.sent, node.below = stored, stored.inode
+        if made.how != "unchanged":
+            # (behind a refusal an editor may put back what was there)
+            self._refusals.accept(path, program_of(thread))
+        log.info("%s: saved (%s), %.1f ms", shown(path), made.how, 1000 * (time.monotonic() - began))
+
+    async def _made(self, path: bytes, rule: Rule, base: Optional[Snapshot], content: bytes, own: Sequence[Snapshot] = ()) -> Made:
+        """The bytes for a text, where what is known of them is a base and perhaps bytes of its own."""
+        if len(content) > LARGEST_TEXT:
+            raise Refused(errno.EFBIG, f"more than {LARGEST} bytes")
+        if (base is None or not base.raw) and content:
+            base = await self._likest(path, rule, content)
+        if base is not None and base.utf8 == content:
+            return Made(base.raw, "unchanged")
+        mark = getattr(rule, "mark", b"")
+        if base is None:
+            encoding = await self._reader.encoding(rule.label)
+            if not mark and own_text(content, encoding):
+                return Made(content, "its own text")
+            base = Snapshot(Signature(0, 0, 0, 0, 0), mark, rule.label, Text(b"", encoding, len(mark)))
+        pool = [*self._reader.past.of(path, rule.label), *own]
+        if not base.raw:
+            pool = [*pool, *self._late(rule.label)]
+        try:
+            return await self._by_worker(rule, base, content, pool)
+        except Refused as refused:
+            more = [it for it in self._late(rule.label) if it not in pool]
+            if refused.errno != errno.EILSEQ or not more:
+                raise
+            return await self._by_worker(rule, base, content, [*more, *pool])
+
+    def _late(self, label: str) -> List[Snapshot]:
+        """What was read of late, the last of it last, as much as lines are looked for in."""
+        found: List[Snapshot] = []
+        cost = 0
+        for it in self._reader.shelf.late(label):
+            cost += it.cost
+            if cost > BYTES_OF_OTHERS or len(found) == OTHERS:
+                break
+            found.insert(0, it)
+        return found
+
+    async def _by_worker(self, rule: Rule, base: Snapshot, content: bytes, pool: Sequence[Snapshot]) -> Made:
+        others = [(it.raw, it.text) for it in pool]
+        made = await trio.to_thread.run_sync(self._workers.do, "save", rule.label, (base.raw, base.text), content, others)
+        return Made(*made)
+
+    async def _likest(self, path: bytes, rule: Rule, content: bytes) -> Optional[Snapshot]:
+        """What a new text was made from, if anything: what was at its path, or else what was read of late."""
+        own = list(reversed(await self._reader.before(path, rule.label)))
+        late = list(self._reader.shelf.late(rule.label))[:OTHERS]
+        found: Optional[Snapshot] = await trio.to_thread.run_sync(likest, content, own, late)
+        return found
+
+    async def ended(self, node: Node, thread: int) -> None:
+        """The last program that had a file open for writing has closed it."""
+        try:
+            await self.commit(node, thread)
+        except OSError:
+            await self._put_back(node)
+        session = node.session
+        if session is None or node.writers:
+            return
+        if node.path is not None and session.base.raw != session.below.raw:
+            self._reader.past.put(node.path, session.base)
+        node.session = None
+        if session.dirty:
+            # What was refused is no part of the file, and the kernel has pages of it.
+            node.sent = None
+            await self._forget_pages(node.ino)
+
+    async def _put_back(self, node: Node) -> None:
+        """A file that a program deleted in order to make it anew, by a text that was then refused, is as it was before."""
+        session, path, rule = node.session, node.path, node.rule
+        if node.born and session and path is not None and rule and not session.below.raw:
+            before = await self._reader.before(path, rule.label)
+            if before:
+                with contextlib.suppress(OSError):
+                    stored = await self._put(path, before[-1].raw, session.below, None)
+                    session.below = node.shown = Snapshot(stored, before[-1].raw, rule.label, before[-1].text)
+                    log.warning("%s: is as it was before it was deleted", shown(path))
+
+    def unsaved(self, nodes: Iterable[Node]) -> None:
+        """Rejects what programs have written and not closed."""
+        for node in nodes:
+            if node.session and node.session.dirty and node.path is not None:
+                thread = next((it.thread for it in node.handles if it.writes), 0)
+                content = bytes(node.session.text())
+                if content:
+                    self._refusals.reject(node.path, content, "unmounted before the file was closed", program_of(thread))
+
+    # When a name changes.
+
+    async def renamed(self, node: Node, where: Where, rule: Rule, over: bool, thread: int) -> None:
+        """A text gets the name of a file with a rule: it is saved into that one's bytes. Inodes' locks are held; `where` has
+        both paths as they are now, and `over` says whether there is such a file."""
+        path, new = where()
+        with opened(self._reader.source, path) as came, opened(self._reader.source, new) as goes:
+            content, began = b"", time.monotonic()
+            try:
+                base = await self._reader.snapshot(new, rule.label) if over else None
+                own = node.shown if node.rule and node.shown and node.shown.label == rule.label else None
+                while True:
+                    found, version = signature(came.stat()), node.session.version if node.session else 0
+                    content = await self._content(node, came)
+                    made = await self._made(new, rule, base, content, [own] if own else [])
+                    if (signature(came.stat()), node.session.version if node.session else 0) == (found, version):
+                        break
+                stored = await self._write(goes, made.raw, base, found.modified, came)
+            except Refused as refused:
+                self._refusals.reject(new, content, str(refused), program_of(thread))
+                raise
+            came.unlink()
+        if base:
+            self._reader.past.put(new, base)
+        await self._becomes(node, rule, Snapshot(stored, made.raw, rule.label, await self._text_of(made.raw, content, rule.label)), base)
+        self._refusals.accept(new, program_of(thread))
+        log.info("%s: saved by renaming %s (%s), %.1f ms", shown(new), shown(path), made.how, 1000 * (time.monotonic() - began))
+
+    async def _content(self, node: Node, came: Place) -> bytes:
+        """The text of what is renamed."""
+        if node.session and node.session.data is not None:
+            return bytes(node.session.data)
+        if node.rule:
+            assert node.path is not None
+            return (await self._reader.snapshot(node.path, node.rule.label)).utf8
+        file = came.open(os.O_RDONLY)
+        try:
+            size = os.fstat(file).st_size
+            if size > LARGEST_TEXT:
+                raise Refused(errno.EFBIG, f"more than {LARGEST} bytes")
+            return os.pread(file, size, 0)
+        finally:
+            os.close(file)
+
+    async def _becomes(self, node: Node, rule: Rule, now: Snapshot, base: Optional[Snapshot]) -> None:
+        """An inode is now a file with a rule, which is as it was just written."""
+        self._reader.keep(now)
+        node.rule, node.born, node.below, node.shown, node.sent = rule, False, now.signature.inode, now, None
+        for it in node.handles:
+            if it.descriptor is not None:
+                os.close(it.descriptor)
+                it.descriptor = None
+        if node.session or node.writers:
+            session = Session(now)
+            session.base = base or now
+            session.data = bytearray(now.utf8)
+            node.session = session
+
+    async def _text_of(self, raw: bytes, content: bytes, label: str) -> Text:
+        """What is known of bytes whose text is this."""
+        for mark, name in (b"\xef\xbb\xbf", "UTF-8"), (b"\xfe\xff", "UTF-16BE"), (b"\xff\xfe", "UTF-16LE"):
+            if raw.startswith(mark):
+                return Text(content, name, len(mark))
+        return Text(content, await self._reader.encoding(label), 0)
+
+    async def _store(self, path: bytes, session: Session, made: Made) -> Signature:
+        """Writes the file below, where it is as it was."""
+        source = self._reader.source
+        found = source.stat(path)
+        if made.raw == session.below.raw and signature(found) == session.below.signature:
+            os.utime(source.full(path), ns=(found.st_atime_ns, session.modified or time.time_ns()))
+            return signature(source.stat(path))
+        return await self._put(path, made.raw, session.below, session.modified)
+
+    async def _put(self, path: bytes, raw: bytes, below: Snapshot, modified: Optional[int]) -> Signature:
+        with opened(self._reader.source, path) as place:
+            return await self._write(place, raw, below, modified)
+
+    async def _write(self, place: Place, raw: bytes, below: Optional[Snapshot], modified: Optional[int],
+                     like: Optional[Place] = None) -> Signature:
+        store = Store(lambda: same(place, below), modified, self._sync, like)
+        stored: Signature = await trio.to_thread.run_sync(store.put, place, raw)
+        return stored
+
+
+@contextlib.contextmanager
+def opened(source: Source, path: bytes) -> Iterator[Place]:
+    """A file's place, which stays its own wherever its folder is moved."""
+    folder = source.folder(path)
+    try:
+        yield Place(folder, os.path.basename(path))
+    finally:
+        os.close(folder)
+
+
+def same(place: Place, below: Optional[Snapshot]) -> None:
+    """Raises `Refused` where a file isn't as it was read."""
+    if below is None or signature(place.stat()) == below.signature:
+        return
+    file = place.open(os.O_RDONLY)
+    try:
+        if os.pread(file, len(below.raw) + 1, 0) != below.raw:
+            raise Refused(errno.EBUSY, "the file below was changed by someone else meanwhile")
+    finally:
+        os.close(file)
+
+
+def likest(content: bytes, own: Sequence[Snapshot], late: Sequence[Snapshot]) -> Optional[Snapshot]:
+    """The content that a text has most lines of: a few lines are enough for one of its own path, others have three of its
+    lines at least, or all."""
+    lines = lines_of(content)
+    best, most = None, ALIKE
+    for it in [*own, *late]:
+        alike = len(lines & it.lines)
+        share = alike / max(1, min(len(lines), len(it.lines)))
+        if it in own:
+            share = max(share, ALIKE + 0.01 if len(lines) < 4 else 0.0)
+        elif alike < 3 and it.utf8 != content:
+            continue
+        if share > most:
+            best, most = it, share
+    return best
+
+
+def named(letter: str) -> str:
+    """A character's number and name."""
+    return f"U+{ord(letter):04X} {unicodedata.name(letter, '')}".strip()

@@ -1,0 +1,147 @@
+"""What a file says: its bytes as they were read, and their text in UTF-8; and which of that is kept."""
+import collections
+import functools
+import re
+import zlib
+from typing import Dict, FrozenSet, Iterator, List, NamedTuple, Optional, Tuple
+
+from legacy.mount.below import Signature
+
+# The most bytes of a document of gate.
+LARGEST = 16_777_216
+# The most bytes of snapshots that are kept.
+KEPT = 64 << 20
+# How many lines of a text it is compared by, about.
+SOME_LINES = 4096
+
+
+ASCII = re.compile(rb"[\0-\x7f]+")
+
+
+class Lengths(NamedTuple):
+    """How long a text is in UTF-8, and how many errors it has."""
+
+    utf8: int
+    errors: int
+
+
+class Text(NamedTuple):
+    """What bytes say: their text in UTF-8, the encoding in force, and the length of the byte order mark."""
+
+    utf8: bytes
+    encoding: str
+    bom: int
+
+
+class Snapshot:
+    """A file as it was read, by its rule's label. Of one that was about to go the text is made when it is wanted."""
+
+    def __init__(self, signature: Signature, raw: bytes, label: str, text: Optional[Text]):
+        self.signature, self.raw, self.label, self.text = signature, raw, label, text
+
+    @property
+    def utf8(self) -> bytes:
+        """The text in UTF-8."""
+        assert self.text
+        return self.text.utf8
+
+    @property
+    def cost(self) -> int:
+        """How many bytes it holds."""
+        return len(self.raw) + (len(self.text.utf8) if self.text else 0)
+
+    @functools.cached_property
+    def letters(self) -> FrozenSet[str]:
+        """The characters of the text."""
+        return letters_of(self.utf8)
+
+    @functools.cached_property
+    def lines(self) -> FrozenSet[bytes]:
+        """Lines of the text, by which it is compared with others."""
+        return lines_of(self.utf8)
+
+
+def letters_of(utf8: bytes) -> FrozenSet[str]:
+    """The characters of a text that aren't ASCII; what isn't UTF-8 is passed over."""
+    return frozenset() if utf8.isascii() else frozenset(ASCII.sub(b"", utf8).decode(errors="ignore"))
+
+
+def lines_of(utf8: bytes) -> FrozenSet[bytes]:
+    """The lines of a text that have something in them; of a text of many lines some, chosen by what they are."""
+    mask = (1 << (utf8.count(b"\n") // SOME_LINES).bit_length()) - 1
+    return frozenset(line for line in utf8.split(b"\n") if line.strip() and not zlib.crc32(line) & mask)
+
+
+class Shelf:
+    """Snapshots, the last used ones last; the first go where they cost too much."""
+
+    def __init__(self, most: int = KEPT):
+        self._most, self._cost = most, 0
+        self._kept: "collections.OrderedDict[Tuple[Signature, str], Snapshot]" = collections.OrderedDict()
+
+    def get(self, signature: Signature, label: str) -> Optional[Snapshot]:
+        """The snapshot of a file that is still as it was."""
+        found = self._kept.get((signature, label))
+        if found:
+            self._kept.move_to_end((signature, label))
+        return found
+
+    def put(self, snapshot: Snapshot) -> None:
+        """Keeps a snapshot."""
+        key = snapshot.signature, snapshot.label
+        if key in self._kept:
+            self._cost -= self._kept.pop(key).cost
+        self._kept[key] = snapshot
+        self._cost += snapshot.cost
+        while self._cost > self._most and len(self._kept) > 1:
+            self._cost -= self._kept.popitem(last=False)[1].cost
+
+    def now(self, old: Signature, now: Signature, label: str) -> None:
+        """What was known by one signature has another."""
+        found = self._kept.pop((old, label), None)
+        if found:
+            found.signature = now
+            self._kept[now, label] = found
+
+    def late(self, label: str) -> Iterator[Snapshot]:
+        """Those of a label that aren't empty, the last used one first."""
+        return (it for it in list(reversed(self._kept.values())) if it.label == label and it.raw)
+
+
+class Sizes:
+    """How long the texts of files are in UTF-8, as long as these are as they were."""
+
+    def __init__(self) -> None:
+        self._found: Dict[Tuple[int, int, str], Tuple[Signature, int]] = {}
+
+    def get(self, signature: Signature, label: str) -> Optional[int]:
+        """How long a file's text is, if that is known."""
+        found = self._found.get((signature.device, signature.inode, label))
+        return found[1] if found and found[0] == signature else None
+
+    def put(self, signature: Signature, label: str, size: int) -> None:
+        """Keeps how long it is, in the place of what was known of the file before."""
+        self._found[signature.device, signature.inode, label] = signature, size
+
+
+class Past:
+    """What was at a path before: the last few contents of each, the newest last."""
+
+    def __init__(self, most: int = KEPT):
+        self._most, self._cost = most, 0
+        self._of: "collections.OrderedDict[bytes, List[Snapshot]]" = collections.OrderedDict()
+
+    def of(self, path: bytes, label: str) -> List[Snapshot]:
+        """The contents that a path had, by one label."""
+        return [it for it in self._of.get(path, ()) if it.label == label]
+
+    def put(self, path: bytes, snapshot: Snapshot) -> None:
+        """Keeps what is about to leave a path."""
+        if not snapshot.raw:
+            return
+        before = self._of.pop(path, [])
+        now = [*[it for it in before if it.raw != snapshot.raw][-3:], snapshot]
+        self._of[path] = now
+        self._cost += sum(it.cost for it in now) - sum(it.cost for it in before)
+        while self._cost > self._most and len(self._of) > 1:
+            self._cost -= sum(it.cost for it in self._of.popitem(last=False)[1])

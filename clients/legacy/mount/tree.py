@@ -1,0 +1,232 @@
+"""Names and inodes of the mount, and what programs have open.
+
+The loop that serves the kernel alone changes this, and never across an await; so names need no lock. Whoever goes on behind
+an await looks again at what may have changed meanwhile. An inode has a lock, which is held while its text is saved or its
+name changes; who needs two takes the one with the lower number first."""
+import contextlib
+import os
+import stat
+import time
+from typing import AsyncIterator, Callable, Dict, List, Mapping, Optional, Set
+
+import trio
+
+from legacy.mount.below import Signature
+from legacy.mount.snapshots import Snapshot
+from legacy.rules import Rule
+
+ROOT = 1
+# The seconds after which the rule of a file that nobody has open is looked up anew.
+AGAIN = 0.5
+
+
+class Session:
+    """What programs make of a file's text, from when the first of them opens it for writing until the last closes it."""
+
+    def __init__(self, below: Snapshot):
+        # What a new text is compared with, and the file below as it should be.
+        self.base, self.below = below, below
+        self.data: Optional[bytearray] = None
+        # Counts writes; which of them is saved, and behind which the text was refused for what it says.
+        self.version, self.saved, self.refused = 0, 0, -1
+        self.modified: Optional[int] = None
+
+    @property
+    def dirty(self) -> bool:
+        """Whether something was written that isn't saved."""
+        return self.version != self.saved
+
+    def text(self) -> bytearray:
+        """The text as it was written."""
+        if self.data is None:
+            self.data = bytearray(self.below.utf8)
+        return self.data
+
+    def write(self, offset: int, content: bytes) -> None:
+        """Puts bytes of UTF-8 somewhere."""
+        data = self.text()
+        if offset > len(data):
+            data.extend(bytes(offset - len(data)))
+        data[offset : offset + len(content)] = content
+        self.changed()
+
+    def truncate(self, size: int) -> None:
+        """Cuts the text, or fills it with zeros."""
+        data = self.text()
+        if size < len(data):
+            del data[size:]
+        else:
+            data.extend(bytes(size - len(data)))
+        self.changed()
+
+    def changed(self) -> None:
+        """Counts a write."""
+        self.version += 1
+        self.modified = time.time_ns()
+
+    def whole(self) -> bool:
+        """Whether this may be a text that is meant. A shell cuts a file, closes a copy of its handle, and only then starts
+        programs that write, each of which closes one: what is empty, or ends inside a character, waits for the last."""
+        data = self.text()
+        if not data:
+            return not self.base.raw
+        return not begun(bytes(data[-4:]))
+
+
+def begun(utf8: bytes) -> bytes:
+    """The beginning of a character that a text in UTF-8 ends in."""
+    for count in range(1, min(4, len(utf8) + 1)):
+        lead = utf8[-count]
+        if lead >= 0xC0:
+            return utf8[-count:] if count < (2 if lead < 0xE0 else 3 if lead < 0xF0 else 4) else b""
+        if lead < 0x80:
+            break
+    return b""
+
+
+class Node:
+    """An inode, and of a file with a rule what is open of it."""
+
+    def __init__(self, ino: int, path: Optional[bytes], rule: Optional[Rule]):
+        self.ino, self.path, self.rule = ino, path, rule
+        # When its rule was looked up.
+        self.ruled = time.monotonic()
+        self.lookups = 0
+        self.handles: Set["Handle"] = set()
+        # Whether it was made in this mount, as a temporary file is.
+        self.born = False
+        # What those who have it open read, and what those who write made of it.
+        self.shown: Optional[Snapshot] = None
+        self.session: Optional[Session] = None
+        # The inode below, what it was last, and when its name was looked up last.
+        self.below: Optional[int] = None
+        self.found: Optional[os.stat_result] = None
+        self.seen = 0.0
+        # Of which content the kernel may have kept the size, and pages.
+        self.told: Optional[Signature] = None
+        self.sent: Optional[Signature] = None
+        self.refusal = ""
+        self._lock: Optional[trio.Lock] = None
+
+    @property
+    def lock(self) -> trio.Lock:
+        """Held while its text is saved, or its name changes."""
+        if self._lock is None:
+            self._lock = trio.Lock()
+        return self._lock
+
+    @property
+    def written(self) -> Optional[bytearray]:
+        """The text as programs wrote it, where they wrote."""
+        return self.session.data if self.session else None
+
+    @property
+    def writers(self) -> bool:
+        """Whether a program has it open for writing."""
+        return any(it.writes for it in self.handles)
+
+
+class Handle:
+    """A file that a program has open: by a descriptor of the file below, or of a file with a rule by its text."""
+
+    def __init__(self, node: Node, descriptor: Optional[int], writes: bool, thread: int):
+        self.node, self.descriptor, self.writes, self.thread = node, descriptor, writes, thread
+        # Where the last write ended, and the beginning of a character that it ended in.
+        self.end, self.begun = 0, b""
+
+
+Form = Callable[[bytes, os.stat_result], Optional[Rule]]
+
+
+class Tree:
+    """The inodes by number and by path. `form` says what rule a path has."""
+
+    def __init__(self, form: Form):
+        self._form = form
+        self.nodes: Dict[int, Node] = {}
+        self.paths: Dict[bytes, Node] = {}
+        # What was renamed keeps its form.
+        self._kept: Dict[bytes, Optional[Rule]] = {}
+        self._last = ROOT
+        top = Node(ROOT, b"", None)
+        top.lookups = 1
+        self.nodes[ROOT] = self.paths[b""] = top
+
+    def form(self, path: bytes, found: os.stat_result) -> Optional[Rule]:
+        """The rule of what is at a path."""
+        if not stat.S_ISREG(found.st_mode):
+            return None
+        return self._kept[path] if path in self._kept else self._form(path, found)
+
+    def keep_form(self, path: bytes, rule: Optional[Rule]) -> None:
+        """Keeps a form for what was renamed to a path."""
+        self._kept[path] = rule
+
+    def drop_form(self, path: bytes) -> None:
+        """What comes to a path next has the form that its name has."""
+        self._kept.pop(path, None)
+
+    def at(self, path: bytes, found: os.stat_result) -> Node:
+        """The inode of what is at a path."""
+        node = self.paths.get(path)
+        if node and node.handles and replaced(node, found):
+            # Who has the old file open goes on with it.
+            self.gone(node)
+            node = None
+        if node is None:
+            self._last += 1
+            node = Node(self._last, path, self.form(path, found))
+            self.nodes[node.ino] = self.paths[path] = node
+        elif not node.handles and time.monotonic() - node.ruled > AGAIN:
+            rule, node.ruled = self.form(path, found), time.monotonic()
+            if rule != node.rule:
+                node.rule, node.sent = rule, None
+        return node
+
+    def gone(self, node: Node) -> None:
+        """What has no name any more."""
+        if node.path is not None and self.paths.get(node.path) is node:
+            del self.paths[node.path]
+        node.path = None
+
+    def moved(self, path: bytes, new: bytes) -> None:
+        """What was at a path, and below it, is now at another."""
+        there = self.paths.get(new)
+        if there:
+            self.gone(there)
+        self._kept.pop(new, None)
+        for old in below(self.paths, path):
+            node = self.paths.pop(old)
+            node.path = new + old[len(path):]
+            self.paths[node.path] = node
+        for old in below(self._kept, path):
+            self._kept[new + old[len(path):]] = self._kept.pop(old)
+
+    def forget(self, ino: int, lookups: int = 0) -> None:
+        """The kernel forgets so many lookups of an inode."""
+        node = self.nodes.get(ino)
+        if node:
+            node.lookups -= lookups
+            if node.lookups <= 0 and not node.handles and ino != ROOT:
+                del self.nodes[ino]
+                if node.path is not None and self.paths.get(node.path) is node:
+                    del self.paths[node.path]
+
+    @contextlib.asynccontextmanager
+    async def locked(self, *nodes: Optional[Node]) -> AsyncIterator[None]:
+        """Holds the locks of some inodes."""
+        locks = [it.lock for it in sorted({it.ino: it for it in nodes if it}.values(), key=lambda it: it.ino)]
+        async with contextlib.AsyncExitStack() as held:
+            for lock in locks:
+                await held.enter_async_context(lock)
+            yield
+
+
+def replaced(node: Node, found: os.stat_result) -> bool:
+    """Whether someone put another file in the place of one."""
+    return node.below is not None and node.below != found.st_ino
+
+
+def below(paths: Mapping[bytes, object], path: bytes) -> List[bytes]:
+    """A path, where it is there, and those below it."""
+    return [it for it in paths if it == path or it.startswith(path + b"/")]

@@ -1,0 +1,103 @@
+"""The processes that do what is long (worker.py): some of them, so that what takes long holds up nothing else."""
+import contextlib
+import errno
+import os
+import pathlib
+import pickle
+import select
+import subprocess
+import sys
+import threading
+import time
+from typing import Any, List, Sequence
+
+from legacy.saving import Refused
+
+# The most of them at once.
+MOST = 3
+# The seconds after which one that has nothing to do is ended, and after which one that doesn't reply is.
+IDLE, PATIENCE = 30.0, 600.0
+PACKAGES = pathlib.Path(__file__).resolve().parent.parent.parent
+
+
+class Gone(Exception):
+    """A process ended before it replied."""
+
+
+class Worker:
+    """One process."""
+
+    def __init__(self, words: Sequence[str]):
+        path = os.pathsep.join([str(PACKAGES), *filter(None, [os.environ.get("PYTHONPATH")])])
+        self._process = subprocess.Popen(
+            [sys.executable, "-m", "legacy.mount.worker", *words], stdin=subprocess.PIPE, stdout=subprocess.PIPE,
+            env={**os.environ, "PYTHONPATH": path}, start_new_session=True)
+        self.since = time.monotonic()
+
+    def do(self, name: str, given: Sequence[Any]) -> Any:
+        """What the job returns or raises."""
+        to, come = self._process.stdin, self._process.stdout
+        assert to and come
+        try:
+            pickle.dump((name, given), to, pickle.HIGHEST_PROTOCOL)
+            to.flush()
+            if not select.select([come], [], [], PATIENCE)[0]:
+                self._process.kill()
+            outcome, found = pickle.load(come)
+        except (OSError, EOFError, pickle.UnpicklingError) as fault:
+            raise Gone() from fault
+        self.since = time.monotonic()
+        if outcome == "refused":
+            raise Refused(*found)
+        return found
+
+    def close(self) -> None:
+        """Ends it, and what was opened for it."""
+        self._process.kill()
+        self._process.wait()
+        for pipe in self._process.stdin, self._process.stdout:
+            with contextlib.suppress(OSError):
+                if pipe:
+                    pipe.close()
+
+
+class Workers:
+    """The processes, which are started as they are needed."""
+
+    def __init__(self, words: Sequence[str]):
+        self._words = words
+        self._places = threading.BoundedSemaphore(MOST)
+        self._idle: List[Worker] = []
+
+    def do(self, name: str, *given: Any) -> Any:
+        """Does a job, whose outcome it waits for; once more where the process ended."""
+        with self._places:
+            for _ in range(2):
+                worker = self._idle.pop() if self._idle else Worker(self._words)
+                with contextlib.suppress(Gone):
+                    try:
+                        found = worker.do(name, given)
+                    except Refused:
+                        self._idle.append(worker)
+                        raise
+                    self._idle.append(worker)
+                    return found
+                worker.close()
+        raise Refused(errno.EIO, "the process that saves ended twice before it had an answer")
+
+    def start(self) -> None:
+        """Starts one, so that the first job finds it."""
+        self._idle.append(Worker(self._words))
+
+    def look_after(self) -> None:
+        """Ends what has had nothing to do for long."""
+        for worker in list(self._idle):
+            if time.monotonic() - worker.since > IDLE:
+                with contextlib.suppress(ValueError):
+                    self._idle.remove(worker)
+                    worker.close()
+
+    def close(self) -> None:
+        """Ends all."""
+        while self._idle:
+            self._idle.pop().close()
