@@ -36,7 +36,7 @@ def shown(trees: Sequence[str], follow: bool) -> Iterator[Callable[[int], None]]
 
 def _bar() -> Any:
     try:
-        import tqdm  # type: ignore[import]
+        import tqdm
     except ModuleNotFoundError:
         return None
     tqdm.tqdm.monitor_interval = 0
