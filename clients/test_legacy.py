@@ -45,6 +45,23 @@ class Words(unittest.TestCase):
             self.assertIn("legacy: error: ", said)
 
 
+class Manual(unittest.TestCase):
+    PAGE = TOP / "docs" / "legacy.1"
+
+    def test_it_has_the_words_of_the_command(self):
+        ran = subprocess.run([sys.executable, str(TOP / "tools" / "manual"), "--check"], stderr=subprocess.PIPE)
+        self.assertEqual((ran.stderr.decode(), ran.returncode), ("", 0))
+        page = self.PAGE.read_text(encoding="utf-8")
+        for name in __main__.SUBCOMMANDS:
+            self.assertIn(f".Ss legacy {name.rpartition('.')[2]}\n", page)
+
+    @unittest.skipUnless(shutil.which("mandoc"), "there is no mandoc, which sets manual pages")
+    def test_it_has_no_fault_of_form(self):
+        ran = subprocess.run(["mandoc", "-T", "lint", "-W", "style", str(self.PAGE)], stdout=subprocess.PIPE, stderr=subprocess.DEVNULL)
+        faults = [line for line in ran.stdout.decode().splitlines() if "referenced manual not found" not in line]
+        self.assertEqual(faults, [])
+
+
 class Faults(unittest.TestCase):
     """What `main` makes of a subcommand that fails, over one that a test puts in."""
 
