@@ -11,6 +11,7 @@ SOURCE = TOP / "crates" / "gate" / "src" / "command_line.rt"
 # Other places of the version and of the toolchain's logic: a file, and what is around it there.
 VERSION_PLACES = [
     ("clients/legacy/__init__.py", r'^__version__ = "([\d.]+)"'),
+    ("CHANGELOG.md", r"^## ([\d.]+), "),
     ("docs/gate.1", r"^This page describes version ([\d.]+)\.$"),
 ]
 LOGIC_PLACES = [("README.md", r"prints ends in `logic (\w+)`")]

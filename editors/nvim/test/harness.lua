@@ -11,6 +11,9 @@ if M.indexes == '' then
   M.indexes = nil
 end
 
+-- What a user's environment names is found by the test of that alone.
+vim.env.GATE, vim.env.GATE_INDEXES, vim.env.XDG_DATA_HOME = nil, nil, M.work
+
 local passed, failed, skipped = 0, 0, 0
 
 ---Runs a test; one that needs index files where there are none is skipped.

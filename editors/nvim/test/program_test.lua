@@ -42,6 +42,25 @@ it.test('a folder without index files', false, function()
   it.same(it.failure('LegacyEdit! Shift_JIS ' .. path), name .. "the setting 'indexes' names no folder")
 end)
 
+it.test('what is found without settings', false, function()
+  local config = require('legacy.config')
+  local function found()
+    local settings = config.get()
+    return { settings.gate, settings.indexes, settings.labels }
+  end
+  require('legacy').setup({})
+  it.same(found(), { 'gate' })
+  local standard = it.work .. '/gate/standard'
+  vim.fn.mkdir(standard, 'p')
+  it.write(standard .. '/index-jis0208.txt', '')
+  it.write(standard .. '/encodings.json', '')
+  it.same(found(), { 'gate', standard, standard .. '/encodings.json' })
+  vim.env.GATE, vim.env.GATE_INDEXES = '/a/gate', '/b'
+  it.same(found(), { '/a/gate', '/b' })
+  vim.env.GATE, vim.env.GATE_INDEXES = nil, nil
+  vim.fn.delete(it.work .. '/gate', 'rf')
+end)
+
 it.test('an encoding that is none', false, function()
   local hint = it.indexes and '' or ": without a label file the Encoding Standard's 40 names are all"
   it.same(refusal({}, 'cp437'), "legacy: 'cp437' is no encoding" .. hint)

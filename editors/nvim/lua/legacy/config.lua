@@ -12,7 +12,7 @@ local M = {}
 
 ---@type legacy.Settings
 local defaults = {
-  gate = 'gate',
+  gate = nil,
   indexes = nil,
   labels = nil,
   refused = 'revert',
@@ -61,6 +61,23 @@ function M.setup(settings)
   given = settings or {}
 end
 
+---A variable of the environment, where it isn't empty.
+---@param name string
+---@return string|nil
+local function variable(name)
+  local value = os.getenv(name)
+  return value ~= '' and value or nil
+end
+
+---The folder of the index files where no setting names one: as the command `legacy` finds it.
+---@return string|nil
+local function standard()
+  local named = variable('GATE_INDEXES')
+  local folder = (variable('XDG_DATA_HOME') or '~/.local/share') .. '/gate/standard'
+  local is_there = vim.fn.filereadable(vim.fn.expand(folder) .. '/index-jis0208.txt') == 1
+  return named or is_there and folder or nil
+end
+
 ---@return legacy.Settings
 function M.get()
   local found = {}
@@ -74,6 +91,8 @@ function M.get()
     end
     found[name] = value
   end
+  found.gate = found.gate or variable('GATE') or 'gate'
+  found.indexes = found.indexes or standard()
   if found.indexes then
     found.indexes = vim.fn.expand(found.indexes)
     local labels = found.indexes .. '/encodings.json'
