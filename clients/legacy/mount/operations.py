@@ -6,8 +6,7 @@ import functools
 import logging
 import os
 import stat
-import time
-from typing import Any, Awaitable, Callable, Dict, List, NamedTuple, Optional, Sequence, Tuple
+from typing import Any, Awaitable, Callable, Dict, List, NamedTuple, Optional, Sequence, Set, Tuple
 
 import pyfuse3
 import trio
@@ -18,16 +17,12 @@ from legacy.mount.refusals import SUFFIX, shown
 from legacy.mount.saves import LARGEST_TEXT, Saves
 from legacy.mount.snapshots import LARGEST, Snapshot, Text
 from legacy.rules import Rule, Rules
-from legacy.mount.tree import Handle, Node, Session, Tree, replaced
+from legacy.mount.tree import EXACT, Handle, Node, Session, Tree, replaced
 from legacy.saving import Refused
 
 log = logging.getLogger("legacy.mount")
 FUSEError = pyfuse3.FUSEError
 
-# The seconds for which the kernel needn't ask anew what a file is.
-EXACT = 1.0
-# The seconds after which the kernel may have used a name that it looked up earlier.
-JUST_NOW = 0.1
 # The flags of an open that mean nothing below: the kernel has looked at them, or they ask for aligned buffers.
 NOT_BELOW = os.O_CREAT | os.O_EXCL | os.O_APPEND | os.O_NOFOLLOW | os.O_DIRECT
 OWN = b"user.gate."
@@ -91,6 +86,8 @@ class Operations(pyfuse3.Operations):  # type: ignore[misc]
         self.handles: Dict[int, Handle] = {}
         self.folders: Dict[int, Folder] = {}
         self.last = 0
+        # The threads whose open was told that another file is there now.
+        self.stale: Set[int] = set()
         self.mounted = trio.Event()
 
     def init(self) -> None:
@@ -151,8 +148,8 @@ class Operations(pyfuse3.Operations):  # type: ignore[misc]
 
     def found(self, node: Node) -> os.stat_result:
         """What is below, or what was there when the name went."""
-        if node.path is not None:
-            return self.source.stat(node.path)
+        if node.name is not None:
+            return self.source.stat(node.name)
         held = next((it.descriptor for it in node.handles if it.descriptor is not None), None)
         if held is not None:
             return os.fstat(held)
@@ -162,25 +159,30 @@ class Operations(pyfuse3.Operations):  # type: ignore[misc]
 
     async def text_size(self, node: Node, rule: Rule, found: os.stat_result, lazily: bool) -> Tuple[int, int, float]:
         """How long the text of a file is, when it was last changed, and for how many seconds that is so."""
+        open_now = self.open_size(node, found)
+        if open_now:
+            return open_now
+        current = signature(found)
+        size = self.reader.sizes.get(current, rule.label)
+        if size is None and not lazily and node.name is not None:
+            with contextlib.suppress(Refused):  # (opening it says why)
+                current, size = await self.reader.size(node.name, rule.label, found)
+            open_now = self.open_size(node, found)
+            if open_now:
+                return open_now
+        node.tell(current)
+        return found.st_size if size is None else size, current.modified, 0.0 if size is None and lazily else EXACT
+
+    def open_size(self, node: Node, found: os.stat_result) -> Optional[Tuple[int, int, float]]:
+        """The same of what programs have open, which goes on as it was read, whatever became of the file."""
         session = node.session
         if session and session.data is not None:
-            node.told = session.below.signature
+            node.tell(session.below.signature)
             return len(session.data), session.modified or found.st_mtime_ns, EXACT
-        current = signature(found)
         if node.shown and node.handles:
-            # What is open goes on as it was read, whatever became of the file.
-            node.told = node.shown.signature
-            return len(node.shown.utf8), found.st_mtime_ns if current == node.told else node.told.modified, EXACT
-        node.told = current
-        known = self.reader.sizes.get(current, rule.label)
-        if known is not None:
-            return known, found.st_mtime_ns, EXACT
-        if lazily or node.path is None:
-            return found.st_size, found.st_mtime_ns, 0.0
-        try:
-            return await self.reader.size(node.path, rule.label, found), found.st_mtime_ns, EXACT
-        except Refused:
-            return found.st_size, found.st_mtime_ns, EXACT  # (opening it says why)
+            node.tell(node.shown.signature)
+            return len(node.shown.utf8), node.shown.signature.modified, EXACT
+        return None
 
     @guarded
     async def lookup(self, parent: int, name: bytes, ctx: Any = None) -> Any:
@@ -196,7 +198,6 @@ class Operations(pyfuse3.Operations):  # type: ignore[misc]
         found = self.source.stat(path)
         node = self.tree.at(path, found)
         node.lookups += 1
-        node.seen = time.monotonic()
         try:
             return await self.attributes(node, found)
         except BaseException:
@@ -266,12 +267,11 @@ class Operations(pyfuse3.Operations):  # type: ignore[misc]
         if not node.rule:
             descriptor = os.open(self.below(node), flags & ~NOT_BELOW | os.O_CLOEXEC)
             return pyfuse3.FileInfo(fh=self.opened(node, descriptor, writes, ctx))
-        await self.read_for(node, node.rule)
+        await self.read_for(node, node.rule, writes, ctx.pid)
         current = node.shown.signature if node.shown else None
         info = pyfuse3.FileInfo(fh=self.opened(node, None, writes, ctx))
         info.keep_cache = node.written is None and node.sent == current
-        if node.told != current:
-            # The kernel may have the size of another version.
+        if node.misled(current):
             pyfuse3.invalidate_inode(ino, attr_only=True)
         node.sent = current
         if writes:
@@ -282,21 +282,28 @@ class Operations(pyfuse3.Operations):  # type: ignore[misc]
                 node.session.truncate(0)
         return info
 
-    async def read_for(self, node: Node, rule: Rule) -> None:
+    async def read_for(self, node: Node, rule: Rule, writes: bool, thread: int) -> None:
         """Has what is below as what is open of a file. Where programs write it, it is theirs."""
+        again = thread in self.stale
+        self.stale.discard(thread)
         while node.written is None:
-            path = node.path
-            if path is None or node.handles and replaced(node, self.source.stat(path)):
-                if node.shown and time.monotonic() - node.seen < JUST_NOW:
-                    return  # (it was this when its name was looked up)
-                self.tree.gone(node)
-                raise FUSEError(errno.ESTALE)  # (on which the kernel looks its name up again)
+            path = node.was if node.path is None and not writes else node.path
+            other = path is not None and bool(node.handles) and (node.path is None or replaced(node, self.source.stat(path)))
+            if other and again and not writes:
+                return  # (it was this when its name was looked up anew)
+            if other:
+                self.tree.gone(node, path)
+            if other or path is None:
+                self.stale.add(thread)
+                raise FUSEError(errno.ESTALE)  # (on which the kernel looks its name up anew, once)
             try:
                 snapshot = await self.reader.snapshot(path, rule.label)
             except Refused as refused:
                 log.warning("%s: not opened: %s", shown(path), refused)
                 raise
-            if node.path == path and node.written is None:
+            if node.handles and node.shown and node.shown.signature != snapshot.signature:
+                continue
+            if path in (node.path, node.was) and node.written is None:
                 node.shown, node.below = snapshot, snapshot.signature.inode
                 return
 
@@ -421,7 +428,7 @@ class Operations(pyfuse3.Operations):  # type: ignore[misc]
             raise FUSEError(errno.EFBIG)
         alone = node.session is None
         if alone:
-            await self.read_for(node, node.rule)
+            await self.read_for(node, node.rule, True, ctx.pid)
         if node.session is None:
             assert node.shown
             node.session = Session(node.shown)
@@ -448,6 +455,8 @@ class Operations(pyfuse3.Operations):  # type: ignore[misc]
                 it.signature = now
         if node.sent == old:
             node.sent = now
+        if node.told == old:
+            node.told = now
 
     # Names.
 

@@ -83,20 +83,18 @@ class Reader:
         found: Text = await trio.to_thread.run_sync(self._workers.do, "text", raw, label)
         return found
 
-    async def size(self, path: bytes, label: str, found: os.stat_result) -> int:
-        """How long the text of a file is. Raises `Refused` where it is too large for one."""
-        known = self.sizes.get(signature(found), label)
-        if known is not None:
-            return known
+    async def size(self, path: bytes, label: str, found: os.stat_result) -> Tuple[Signature, int]:
+        """How long the text of a file is now. Raises `Refused` where it is too large for one."""
         if found.st_size <= self._questions.longest:
             # Whoever asks for the size is about to read it.
-            return len((await self.snapshot(path, label)).utf8)
+            snapshot = await self.snapshot(path, label)
+            return snapshot.signature, len(snapshot.utf8)
         fits(found.st_size)
         read, raw = await trio.to_thread.run_sync(self.source.read, path)
         size = (await self.lengths(raw, label)).utf8
         if settled(read):
             self.sizes.put(read, label, size)
-        return size
+        return read, size
 
     async def lengths(self, raw: bytes, label: str) -> Lengths:
         """How long the text of these bytes is, and how many errors it has."""

@@ -89,7 +89,9 @@ class Saves:
 
     async def commit_held(self, node: Node, thread: int) -> None:
         """The same, by who holds the inode's lock."""
-        session, path, rule = node.session, node.path, node.rule
+        session, rule = node.session, node.rule
+        # (where someone put another file in its place, it is saved over that only if it has the same bytes)
+        path = node.was if node.path is None else node.path
         if session is None or not session.dirty or path is None or rule is None:
             return
         version, content, began = session.version, bytes(session.text()), time.monotonic()

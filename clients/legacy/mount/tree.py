@@ -16,6 +16,8 @@ from legacy.mount.snapshots import Snapshot
 from legacy.rules import Rule
 
 ROOT = 1
+# The seconds for which the kernel needn't ask anew what a file is.
+EXACT = 1.0
 # The seconds after which the rule of a file that nobody has open is looked up anew.
 AGAIN = 0.5
 
@@ -89,6 +91,8 @@ class Node:
 
     def __init__(self, ino: int, path: Optional[bytes], rule: Optional[Rule]):
         self.ino, self.path, self.rule = ino, path, rule
+        # Its name before someone put another file in its place below.
+        self.was: Optional[bytes] = None
         # When its rule was looked up.
         self.ruled = time.monotonic()
         self.lookups = 0
@@ -98,13 +102,13 @@ class Node:
         # What those who have it open read, and what those who write made of it.
         self.shown: Optional[Snapshot] = None
         self.session: Optional[Session] = None
-        # The inode below, what it was last, and when its name was looked up last.
+        # The inode below, and what it was last.
         self.below: Optional[int] = None
         self.found: Optional[os.stat_result] = None
-        self.seen = 0.0
-        # Of which content the kernel may have kept the size, and pages.
-        self.told: Optional[Signature] = None
+        # Of which content the kernel may have pages, and which it was told the size of, since when.
         self.sent: Optional[Signature] = None
+        self.told: Optional[Signature] = None
+        self.since = 0.0
         self.refusal = ""
         self._lock: Optional[trio.Lock] = None
 
@@ -114,6 +118,21 @@ class Node:
         if self._lock is None:
             self._lock = trio.Lock()
         return self._lock
+
+    @property
+    def name(self) -> Optional[bytes]:
+        """Where to look for it: where someone put another file in its place, that is what it is once nobody has it open."""
+        return self.was if self.path is None and not self.handles else self.path
+
+    def tell(self, content: Optional[Signature]) -> None:
+        """The kernel is told the size of a content."""
+        if content != self.told:
+            self.since = time.monotonic() if self.told else 0.0
+            self.told = content
+
+    def misled(self, content: Optional[Signature]) -> bool:
+        """Whether the kernel may still have another size. (Of two answers on the way it keeps that which it saw first.)"""
+        return content != self.told or time.monotonic() - self.since < 2 * EXACT
 
     @property
     def written(self) -> Optional[bytearray]:
@@ -171,7 +190,7 @@ class Tree:
         node = self.paths.get(path)
         if node and node.handles and replaced(node, found):
             # Who has the old file open goes on with it.
-            self.gone(node)
+            self.gone(node, path)
             node = None
         if node is None:
             self._last += 1
@@ -183,11 +202,11 @@ class Tree:
                 node.rule, node.sent = rule, None
         return node
 
-    def gone(self, node: Node) -> None:
-        """What has no name any more."""
+    def gone(self, node: Node, was: Optional[bytes] = None) -> None:
+        """What has no name any more, or another file has it."""
         if node.path is not None and self.paths.get(node.path) is node:
             del self.paths[node.path]
-        node.path = None
+        node.path, node.was = None, was
 
     def moved(self, path: bytes, new: bytes) -> None:
         """What was at a path, and below it, is now at another."""
@@ -223,8 +242,15 @@ class Tree:
 
 
 def replaced(node: Node, found: os.stat_result) -> bool:
-    """Whether someone put another file in the place of one."""
-    return node.below is not None and node.below != found.st_ino
+    """Whether someone put other bytes in the place of those that programs have open. (A file that is made anew may have the
+    number of the inode that went.)"""
+    if node.lock.locked():
+        return False  # (the mount itself is at it)
+    shown = node.session.below if node.session else node.shown
+    if shown is None:
+        return node.below is not None and node.below != found.st_ino
+    known = shown.signature
+    return (known.inode, known.size, known.modified) != (found.st_ino, found.st_size, found.st_mtime_ns)
 
 
 def below(paths: Mapping[bytes, object], path: bytes) -> List[bytes]:
