@@ -2,7 +2,7 @@
 import dataclasses
 import functools
 import re
-from typing import Dict, List, NamedTuple, Optional, Pattern, Tuple, Union
+from typing import Dict, List, NamedTuple, Optional, Tuple, Union
 
 from legacy.rules.patterns import ANY, BLANK, FOLDERS, NOTHING, ONE, WITHIN, Gap, Tokens, bracket, compiled
 
@@ -14,18 +14,39 @@ NAME = re.compile(r"[A-Za-z0-9_.][-A-Za-z0-9_.]*")
 QUOTED = re.compile(r'"((?:[^"\\]|\\(?:[abfnrtv\\"]|[0-3][0-7]{2}))*)"')
 ESCAPES = {"a": "\a", "b": "\b", "f": "\f", "n": "\n", "r": "\r", "t": "\t", "v": "\v"}
 
-
 # What an attribute is set to: a text, true ("a"), false ("-a"), or None where it is taken back ("!a").
 Value = Union[str, bool, None]
 States = List[Tuple[str, Value]]
 
 
+class Pattern:
+    """A pattern of files: one without a slash matches by the file's name, one with a slash by its path from the folder to
+    which the pattern belongs. Bytes are read as the characters of their numbers, since git matches bytes."""
+
+    def __init__(self, glob: str):
+        self.glob = glob
+        self._of_paths = "/" in glob
+        self._inside = glob[1:] if glob.startswith("/") else glob
+        # A file of attributes may list thousands of files by their names.
+        self._is_text = not re.search(r"[*?[\\]|/$", glob)
+        self._expression: Optional["re.Pattern[str]"] = None
+
+    def matches(self, path: str) -> bool:
+        """Whether it matches a file."""
+        subject = path if self._of_paths else path.rpartition("/")[2]
+        if self._is_text:
+            return subject == self._inside
+        if self._expression is None:
+            # (what ends in a slash is the pattern of a folder)
+            self._expression = compiled([NOTHING] if self.glob.endswith("/") else _tokens(self._inside))
+        return self._expression.fullmatch(subject) is not None
+
+
 class Line(NamedTuple):
-    """A line of such a file: what it sets for the files that its pattern matches, or as a macro. Bytes are read as the
-    characters of their numbers, since git matches bytes."""
+    """A line of such a file: what it sets for the files that its pattern matches, or as the macro of that name."""
 
     number: int
-    glob: str
+    pattern: Pattern
     macro: bool
     states: States
 
@@ -46,7 +67,7 @@ class Attributes:
 
 
 # What git knows by itself.
-BUILT_IN = Attributes((Line(0, "binary", True, [("diff", False), ("merge", False), ("text", False)]),))
+BUILT_IN = Attributes((Line(0, Pattern("binary"), True, [("diff", False), ("merge", False), ("text", False)]),))
 
 
 def parsed(content: bytes, macros: bool) -> Attributes:
@@ -79,7 +100,7 @@ def _parsed(number: int, text: str, macros: bool) -> Optional[Line]:
         glob = _valid(_word(glob[len("[attr]") :].lstrip(BLANK)))
     elif glob.startswith("!"):
         raise ValueError("git has no negated patterns of attributes; \\! begins a name with !")
-    return Line(number, glob, macro, [_state(word) for word in re.split(f"[{BLANK}]+", states) if word])
+    return Line(number, Pattern(glob), macro, [_state(word) for word in re.split(f"[{BLANK}]+", states) if word])
 
 
 def _word(text: str) -> str:
@@ -114,7 +135,7 @@ def macros_of(files: Tuple[Attributes, ...]) -> Dict[str, States]:
     for attributes in files:
         for line in reversed(attributes.lines):
             if line.macro:
-                found.setdefault(line.glob, line.states)
+                found.setdefault(line.pattern.glob, line.states)
     return found
 
 
@@ -142,7 +163,7 @@ def encoding_of(files: Tuple[Attributes, ...], paths: List[str]) -> Optional[Set
     values: Dict[str, Value] = {}
     for at, (lines, path) in enumerate(zip(lines_of(files), paths)):
         for line in lines:
-            if matches(line.glob, path):
+            if line.pattern.matches(path):
                 set_by(line.states, macros, values)
                 if ENCODING in values:
                     return Setting(values[ENCODING], at, line)
@@ -158,22 +179,6 @@ def set_by(states: States, macros: Dict[str, States], values: Dict[str, Value]) 
             values[name] = value
             if value is True:
                 waiting += macros.get(name, [])
-
-
-@functools.lru_cache(maxsize=4096)
-def pattern(glob: str) -> Optional[Pattern[str]]:
-    """The expression of a pattern; None for one of folders."""
-    if glob.endswith("/"):
-        return None
-    return compiled(_tokens(glob[1:] if glob.startswith("/") else glob))
-
-
-def matches(glob: str, path: str) -> bool:
-    """Whether a pattern matches a file: one without a slash by its name, one with a slash by its path from the folder to
-    which the pattern belongs."""
-    expression = pattern(glob)
-    subject = path if "/" in glob else path.rpartition("/")[2]
-    return expression is not None and expression.fullmatch(subject) is not None
 
 
 def _tokens(glob: str) -> Tokens:

@@ -4,10 +4,10 @@ import os
 import re
 from typing import Callable, Dict, List, NamedTuple, Optional, Pattern, Tuple
 
-from legacy.rules.files import Named, Place, Tree, Watched
+from legacy.rules.files import LARGEST, Named, Place, Tree, Watched
 from legacy.rules.patterns import ANY, FOLDERS, ONE, WITHIN, Tokens, bracket, compiled
 
-# The most characters of a section's glob, and the most patterns that its braces may stand for.
+# The most characters of a section's glob, and the most patterns for which those of a file may stand, braces resolved.
 LONGEST, MOST = 1024, 1000
 NUMBERS = re.compile(r"([+-]?\d+)\.\.([+-]?\d+)")
 SECTION = re.compile(r"\s*\[((?:[^#;]|\\#|\\;)+)\]")
@@ -32,7 +32,7 @@ class Config(NamedTuple):
 
 def parsed(content: bytes, report: Callable[[int, str], None]) -> Config:
     """What a file says; `report` is called with what is wrong in a line."""
-    root, glob, sections = False, None, []
+    root, glob, sections, left = False, None, [], MOST
     for number, line in enumerate(content.decode("utf-8-sig", "replace").split("\n"), 1):
         section, found = SECTION.match(line), PROPERTY.match(line)
         if not line.strip() or line[0] in "#;":
@@ -45,11 +45,12 @@ def parsed(content: bytes, report: Callable[[int, str], None]) -> Config:
                 root = value == "true" if key == "root" else root
             elif key == "charset":
                 alternatives = braces(glob) if len(glob) <= LONGEST else []
-                if 0 < len(alternatives) <= MOST:
+                if 0 < len(alternatives) <= left:
+                    left -= len(alternatives)
                     charset = None if value == "unset" else value
                     sections.append(Section(number, glob, [pattern(it) for it in alternatives], charset))
                 else:
-                    report(number, f"its section has more than {LONGEST} characters or stands for more than {MOST} patterns")
+                    report(number, f"its section has more than {LONGEST} characters, or the file more than {MOST} patterns")
     return Config(root, sections)
 
 
@@ -59,7 +60,8 @@ def braces(glob: str) -> List[str]:
     while at < len(glob):
         choices, end = _choices(glob, at) if glob[at] == "{" else ([], at)
         if choices:
-            pairs = ((head, tail) for choice in choices for head in braces(choice) for tail in braces(glob[end:]))
+            tails = braces(glob[end:])
+            pairs = ((head, tail) for choice in choices for head in braces(choice) for tail in tails)
             return [glob[:at] + head + tail for head, tail in itertools.islice(pairs, MOST + 1)]
         at += 2 if glob[at] == "\\" else 1
     return [glob]
@@ -141,4 +143,4 @@ class EditorConfigs:
     def _parser(self, path: bytes) -> Callable[[bytes], Config]:
         def report(number: int, why: str) -> None:
             self._report(f"{self._tree.shown(path)}:{number}: {why}, and is left out")
-        return lambda content: parsed(content, report)
+        return lambda content: parsed(content if len(content) <= LARGEST else b"", report)

@@ -8,8 +8,8 @@ import time
 import weakref
 from typing import Callable, Generic, List, NamedTuple, Optional, Tuple, TypeVar, Union
 
-# Larger files are ignored, as git does.
-LARGEST = 100 * 1024 * 1024
+# The most bytes of a file of rules. (git's own limit is 100 MiB, of which Python would make gigabytes.)
+LARGEST = 4 * 1024 * 1024
 # A file that changed as lately as this, in nanoseconds, may change again and have the same dates.
 LATELY = 100_000_000
 
@@ -34,7 +34,7 @@ class Held:
         weakref.finalize(self, os.close, self.number)
 
     def read(self, name: bytes, follow: bool = True) -> bytes:
-        """All bytes of a file below. Raises `OSError` where there is none, or something else than a file."""
+        """The bytes of a file below, at most one more than the limit. Raises `OSError` where there is none."""
         flags = os.O_RDONLY | os.O_CLOEXEC | os.O_NONBLOCK | (0 if follow else os.O_NOFOLLOW)
         with open(os.open(name, flags, dir_fd=self.number), "rb") as file:
             return file.read(LARGEST + 1)
@@ -81,8 +81,7 @@ class Watched(Generic[Parsed]):
                 raise OSError
             signature = (status.st_dev, status.st_ino, status.st_size, status.st_mtime_ns, status.st_ctime_ns)
             if signature != self._signature:
-                content = place.held.read(name, self._follow)
-                self._found = self._parse(content) if len(content) <= LARGEST else self._nothing
+                self._found = self._parse(place.held.read(name, self._follow))
                 self._signature = signature if time.time_ns() - status.st_ctime_ns > LATELY else None
         except OSError:
             self._found, self._signature = self._nothing, None

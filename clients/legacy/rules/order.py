@@ -8,7 +8,7 @@ import time
 from typing import Callable, Dict, List, NamedTuple, Optional, Sequence, Set, Tuple, Union
 
 from legacy.finding import Missing
-from legacy.rules.attributes import matches
+from legacy.rules.attributes import Pattern
 from legacy.rules.editorconfig import EditorConfigs
 from legacy.rules.files import Named, Tree
 from legacy.rules.names import encoding_of, labels_in
@@ -55,11 +55,11 @@ class Rules:
         self._kept: Dict[Named, Optional[Rule]] = {}
         self._patience, self._turn, self._until = patience, 0, 0.0
         self._words = [
-            Named(None if label == BYTES else label, f"-e {glob}={label}", os.fsencode(glob).decode("latin-1"))
+            (Pattern(os.fsencode(glob).decode("latin-1")), Named(None if label == BYTES else label, f"-e {glob}={label}", glob))
             for glob, label in words]
         self._default = Named(default, "--default", "*") if default else None
-        for named in [*self._words, *([self._default] if self._default else [])]:
-            if named.name and not encoding_of(named.name, self._labels):
+        for named in [*(named for _, named in self._words), self._default]:
+            if named and named.name and not encoding_of(named.name, self._labels):
                 raise Missing(f"{named.origin}: {named.name} is no encoding of the Encoding Standard")
         tree = Tree(source)
         self._sources: List[Callable[[bytes, int], Optional[Named]]] = [self._by_words]
@@ -85,7 +85,7 @@ class Rules:
 
     def _by_words(self, path: bytes, _: int) -> Optional[Named]:
         text = path.decode("latin-1")
-        return next((named for named in reversed(self._words) if matches(named.glob, text)), None)
+        return next((named for pattern, named in reversed(self._words) if pattern.matches(text)), None)
 
     def _rule(self, named: Named) -> Optional[Rule]:
         if named not in self._kept:
@@ -106,6 +106,10 @@ def word(text: str) -> Tuple[str, str]:
     glob, _, label = text.rpartition("=")
     if not glob or not label:
         raise argparse.ArgumentTypeError(f"{text} isn't GLOB=LABEL, as '*.txt=shift_jis'")
+    if glob.endswith("/"):
+        raise argparse.ArgumentTypeError(f"{glob} is the pattern of a folder; {glob}** is that of the files in it")
+    if glob.startswith("!"):
+        raise argparse.ArgumentTypeError(f"{glob} isn't negated; {glob[1:]}={BYTES} says that such files are no text")
     return glob, label
 
 

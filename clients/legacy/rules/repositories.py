@@ -9,9 +9,11 @@ from typing import Callable, Dict, NamedTuple, Optional, Tuple
 
 from legacy.rules import attributes
 from legacy.rules.attributes import BUILT_IN, Attributes, Setting
-from legacy.rules.files import Held, Named, Place, Tree, Watched
+from legacy.rules.files import LARGEST, Held, Named, Place, Tree, Watched
 
 OF_MACHINE = b"/etc/gitattributes"
+# Of so many folders it is remembered which files count for them.
+FOLDERS = 10_000
 
 
 class Levels(NamedTuple):
@@ -83,7 +85,7 @@ class Repositories:
         origin = f"{levels.names[found.file]}:{found.line.number}"
         if found.value is True:
             self._report(f"{origin}: {attributes.ENCODING} has no value; its files pass as bytes")
-        return Named(found.value if isinstance(found.value, str) else None, origin, found.line.glob)
+        return Named(found.value if isinstance(found.value, str) else None, origin, found.line.pattern.glob)
 
     def setting(self, path: bytes, levels: Levels) -> Optional[Setting]:
         """What sets a file's attribute, by the levels of its folder."""
@@ -94,14 +96,17 @@ class Repositories:
         """The files of attributes that count for a folder."""
         kept = self._levels.get(folder)
         if not kept or kept[0] != turn:
+            if len(self._levels) >= FOLDERS:
+                self._levels.clear()
+                self._watched.clear()
             kept = self._levels[folder] = turn, self._levels_of(folder, turn)
         return kept[1]
 
     def _levels_of(self, folder: bytes, turn: int) -> Levels:
         chain = self._tree.chain(folder)
-        commons = [common_folder(place) for place in chain]
-        at = next((at for at, common in enumerate(commons) if common), chain.index(self._tree.top))
-        common, top = commons[at], chain[at]
+        found = ((at, common) for at, common in enumerate(map(common_folder, chain)) if common)
+        at, common = next(found, (chain.index(self._tree.top), None))
+        top = chain[at]
         watched = [self._watch(place, b".gitattributes", place is top) for place in chain[: at + 1]]
         starts = [len(os.path.join(place.path, b"")) for place in chain[: at + 1]]
         if common:
@@ -129,6 +134,9 @@ class Repositories:
 
     def _parser(self, path: bytes, macros: bool) -> Callable[[bytes], Attributes]:
         def parse(content: bytes) -> Attributes:
+            if len(content) > LARGEST:
+                self._report(f"{self._tree.shown(path)}: is larger than {LARGEST} bytes, and is left out")
+                return Attributes()
             found = attributes.parsed(content, macros)
             for faulty in found.faulty:
                 self._report(f"{self._tree.shown(path)}:{faulty.number}: {faulty.why}")
