@@ -339,6 +339,12 @@ class Document:
         """The offset that a value names, in each unit, and the place of the code point there, or None."""
         return self._gate.ask("place", doc=self.name, unit=unit, value=value)
 
+    def span(self, begin: int, end: int) -> Pair:
+        """Where the bytes of the code points from one to another begin and end, of one code point at least."""
+        # (behind the text's last one there is no place)
+        first, last = (self._gate.send("place", doc=self.name, unit="utf-32", value=it) for it in (begin, end - 1))
+        return first.get()["place"][0], last.get()["place"][1]
+
     def close(self) -> None:
         """Closes the document."""
         self._gate.ask("close", doc=self.name)

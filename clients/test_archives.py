@@ -1,56 +1,14 @@
-"""The subcommands over whole trees: check, search. What is to be found comes from how the tree was made
+"""`legacy check` and `legacy search`. What is to be found comes from how the tree was made
 (bench/archives/tree.py), and from bytes that stand here."""
 import json
 import os
 import pathlib
-import subprocess
-import sys
 import tempfile
 import unittest
 
-from legacy import finding
+from archives import BUILT, INDEXES, Folder, run, settings, tree
 from legacy.check import Ends, check
 from legacy.search import search
-from legacy.work import Settings
-
-CLIENTS = pathlib.Path(__file__).resolve().parent
-TOP = CLIENTS.parent
-sys.path.insert(0, str(TOP / "bench" / "archives"))
-import tree  # noqa: E402
-
-PROGRAM = os.environ.get("GATE", str(TOP / "crates" / "gate" / "out" / "gate"))
-INDEXES = TOP / "examples" / "indexes"
-WORDS = [(f"*.{it.label}", it.label) for it in tree.ENCODINGS]
-
-BUILT = unittest.skipUnless(os.access(PROGRAM, os.X_OK), f"there is no program {PROGRAM}; rt ci builds it")
-
-
-def settings(**more):
-    """Settings over the small index files, by whose labels the rules of a tree's names go."""
-    return Settings(**{"found": finding.Found(PROGRAM, INDEXES, None), "encoding": WORDS, "attributes": False, "jobs": 1, **more})
-
-
-def run(*words):
-    """What `legacy` printed on both streams, and its status."""
-    ran = subprocess.run(
-        [sys.executable, "-m", "legacy", *words, "--gate", PROGRAM, "--indexes", str(INDEXES)],
-        env={**os.environ, "PYTHONPATH": str(CLIENTS), "PYTHONIOENCODING": "utf-8"}, stdout=subprocess.PIPE, stderr=subprocess.PIPE)
-    return ran.stdout.decode(errors="surrogateescape"), ran.stderr.decode(), ran.returncode
-
-
-class Folder(unittest.TestCase):
-    """Tests with a folder of their own."""
-
-    def setUp(self):
-        kept = tempfile.TemporaryDirectory()
-        self.addCleanup(kept.cleanup)
-        self.folder = pathlib.Path(kept.name)
-
-    def file(self, name, content):
-        path = self.folder / name
-        path.parent.mkdir(parents=True, exist_ok=True)
-        path.write_bytes(content)
-        return str(path)
 
 
 @BUILT

@@ -19,6 +19,8 @@ SUBCOMMANDS: Tuple[str, ...] = (
     "rules",
     "check",
     "search",
+    "convert",
+    "mend",
 )
 # The packages of Debian that have the libraries that some subcommands need.
 PACKAGES = {"pyfuse3": "python3-pyfuse3", "distributed": "python3-distributed"}

@@ -45,8 +45,9 @@ def across(
         cut = View(document.bytes, _wider(errors, more), _encoded(mark, document.encoding))
         with gate.open("across", label, cut.content) as other:
             for match in _matches(expression, other.text().replace(mark, BAD)):
-                begin, end = (cut.origin(it, behind) for it, behind in zip(_bytes(other, *match), (False, True)))
-                found.add((document.place(begin)["utf32"], document.place(end)["utf32"]))
+                begin, end = other.span(*match)
+                origins = cut.origin(begin), cut.origin(end - 1, True)
+                found.add((document.place(origins[0])["utf32"], document.place(origins[1])["utf32"]))
     return list(_apart(sorted(it for it in found if BAD in text[it[0] : it[1]]), known))
 
 
@@ -63,11 +64,6 @@ def _wider(errors: Sequence[Range], more: int) -> Iterator[Range]:
 
 def _encoded(mark: str, encoding: str) -> bytes:
     return mark.encode({"UTF-16LE": "utf-16-le", "UTF-16BE": "utf-16-be"}.get(encoding, "ascii"))
-
-
-def _bytes(document: Document, begin: int, end: int) -> Range:
-    """Where the bytes of some code points begin, and the last of them."""
-    return document.place(begin, "utf-32")["place"][0], document.place(end - 1, "utf-32")["place"][1] - 1
 
 
 def _matches(expression: "Pattern[str]", text: str) -> Iterator[Range]:

@@ -93,12 +93,11 @@ def compiled(expression: str, ignore_case: bool) -> Pattern[str]:
 
 def _match(document: Document, text: str, begin: int, end: int, across: bool) -> Match:
     line, character = document.position(begin, unit="utf-32")
-    # The end is that of its last code point, since behind the text's last one there is no place.
-    first, last = document.place(begin, unit="utf-32")["place"], document.place(end - 1, unit="utf-32")["place"]
+    first, last = document.span(begin, end)
     stop = LINE_END.search(text, end)
     after = text[end : min(stop.start() if stop else len(text), end + AROUND)]
     before = text[max(begin - character, begin - AROUND) : begin]
-    return Match(line + 1, character + 1, first[0], last[1], text[begin:end], before, after, across)
+    return Match(line + 1, character + 1, first, last, text[begin:end], before, after, across)
 
 
 def search(

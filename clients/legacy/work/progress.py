@@ -1,5 +1,6 @@
 """A line that shows how far a run is, on a terminal, by tqdm where that is installed."""
 import contextlib
+import importlib
 import sys
 import threading
 from typing import Any, Callable, Iterator, Sequence
@@ -36,11 +37,11 @@ def shown(trees: Sequence[str], follow: bool) -> Iterator[Callable[[int], None]]
 
 def _bar() -> Any:
     try:
-        import tqdm
+        tqdm: Any = importlib.import_module("tqdm").tqdm
     except ModuleNotFoundError:
         return None
-    tqdm.tqdm.monitor_interval = 0
-    return tqdm.tqdm(unit="B", unit_scale=True, dynamic_ncols=True, leave=False, file=sys.stderr)
+    tqdm.monitor_interval = 0
+    return tqdm(unit="B", unit_scale=True, dynamic_ncols=True, leave=False, file=sys.stderr)
 
 
 def _count(bar: Any, trees: Sequence[str], follow: bool, ends: threading.Event) -> None:

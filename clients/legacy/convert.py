@@ -1,0 +1,171 @@
+"""`legacy convert`: files in another encoding, in a tree beside theirs.
+
+    for row in convert("utf-8", ["letters"], "letters-utf-8", Settings(found, encoding=[("*.txt", "shift_jis")])):
+        print(row.path, row.out, row.reason)"""
+import argparse
+import contextlib
+import dataclasses
+import os
+import sys
+import unicodedata
+from typing import Any, ClassVar, Dict, Iterator, List, Sequence, Tuple, Type
+
+from gate import Document, Fault, Gate
+
+from legacy import work
+from legacy.check import shown
+from legacy.finding import Found, Missing
+from legacy.work import PASSED, REFUSED, Item, Refusal, Row, Settings
+from legacy.work.writing import create
+
+ABOUT = ("Write each file of these trees in another encoding into the tree OUT, with its mode and times. A file with an error, or with a"
+         " character that the other encoding lacks, is refused with the place, and so is one whose name OUT has already with other bytes."
+         " The content of a single folder goes into OUT, several folders and files into it by their names. The status is 0 where all files"
+         " were converted, 1 where some were refused, 2 where nothing could be done.")
+
+
+@dataclasses.dataclass
+class Converted(Row):
+    """The encoding in force of a file, and the file that was written."""
+
+    encoding: str = ""
+    out: str = ""
+
+
+@dataclasses.dataclass
+class Convert(work.Job):
+    """The job: the label of the other encoding; pairs of what a path begins with and what takes its place; `encode`'s mode;
+    whether a byte order mark is text; and whether a file is refused that wouldn't come back with the same bytes."""
+
+    to: str
+    places: Sequence[Tuple[str, str]]
+    mode: str = "fatal"
+    keep_mark: bool = False
+    exact: bool = False
+
+    rows: ClassVar[Type[Row]] = Converted
+
+    def row(self, gate: Gate, item: Item, content: bytes) -> Converted:
+        """Converts a file."""
+        made = Converted(item.path, len(content), item.label, out=self._out(item.path))
+        with gate.open("converted", item.label, content, "keep" if self.keep_mark else "sniff") as document:
+            made.encoding = document.encoding
+            new = self._encoded(document)
+            if self.exact:
+                self._come_back(gate, document, new)
+        create(made.out, new, item.path)
+        return made
+
+    def holds(self, row: Row) -> bool:
+        """Whether the file that was written is there."""
+        assert isinstance(row, Converted)
+        return os.path.exists(row.out)
+
+    def _out(self, path: str) -> str:
+        return next(to + path[len(begin) :] for begin, to in self.places if path.startswith(begin))
+
+    def _encoded(self, document: Document) -> bytes:
+        stat = document.stat()
+        if stat["errors"]:
+            (begin, end), (line, character), _ = document.diagnostics(unit="utf-32", most=1)[0]
+            raise Refusal(f"{stat['errors']} errors, the first in line {line + 1}, character {character + 1}, bytes {begin} to {end}")
+        try:
+            return document.encode(self.to, end=stat["utf32"], mode=self.mode)
+        except Fault as fault:
+            if fault.name != "Unencodable":
+                raise
+            line, character = document.position(fault.members["index"], unit="utf-32")
+            raise Refusal(f"line {line + 1}, character {character + 1}: {_named(fault.members['code_point'])} has no bytes in {self.to}")
+
+    def _come_back(self, gate: Gate, document: Document, new: bytes) -> None:
+        """Converts the new bytes back. Raises `Refusal` where they aren't those that were."""
+        old = document.bytes[document.bom :]
+        with gate.open("back", self.to, new, "keep") as back:
+            try:
+                again = back.encode(document.encoding)
+            except Fault:
+                again = b""
+        if again != old:
+            at = next((at for at, (one, other) in enumerate(zip(old, again)) if one != other), min(len(old), len(again)))
+            raise Refusal(f"converted back it would have other bytes, from byte {at + document.bom} on")
+
+
+def _named(code_point: int) -> str:
+    return f"U+{code_point:04X} {unicodedata.name(chr(code_point), '')}".strip()
+
+
+def places(trees: Sequence[str], out: str) -> List[Tuple[str, str]]:
+    """What the paths of trees begin with, and what takes its place. Raises `Missing` where OUT lies in a tree, or two trees
+    have one name."""
+    found: Dict[str, str] = {}
+    for tree in trees:
+        if os.path.isdir(tree):
+            inside = os.path.join(os.path.realpath(tree), "")
+            if os.path.join(os.path.realpath(out), "").startswith(inside):
+                raise Missing(f"{out} lies in {tree}, which would grow while it is walked")
+            begin, to = os.path.join(tree, ""), os.path.join(out, "")
+        else:
+            begin = os.path.join(*os.path.split(tree))
+            to = os.path.join(out, os.path.basename(tree))
+        if len(trees) > 1 and begin.endswith("/"):
+            to = os.path.join(out, os.path.basename(os.path.abspath(tree)), "")
+        if to in found.values():
+            raise Missing(f"two of the trees would be {to}")
+        found[begin] = to
+    return sorted(found.items(), reverse=True)
+
+
+def convert(
+    to: str, trees: Sequence[str], out: str, settings: Settings, mode: str = "fatal", keep_mark: bool = False, exact: bool = False
+) -> Iterator[Converted]:
+    """The rows of all files of these trees, each once the file is written. Raises `Missing` where nothing can be encoded."""
+    job = Convert(to, places(trees, out), mode, keep_mark, exact)
+    _look_at(to, settings.found)
+    for row in work.run(job, trees, settings):
+        assert isinstance(row, Converted)
+        yield row
+
+
+def _look_at(to: str, found: Found) -> None:
+    """Raises `Missing` where `gate` doesn't encode to this label."""
+    reasons = {"UnknownLabel": "no encoding", "NoIndex": "an encoding without its index file", "NoEncoder": "no encoding to write"}
+    with contextlib.closing(found.start()) as gate, gate.open("target", "utf-8", b"") as document:
+        try:
+            document.encode(to, end=0)
+        except Fault as fault:
+            raise Missing(f"--to: {to} is {reasons.get(fault.name, fault.name)}") from fault
+
+
+def add_to(commands: "argparse._SubParsersAction[Any]") -> None:
+    """Adds the parser of this subcommand."""
+    parser = commands.add_parser("convert", help="write trees of files in another encoding", description=ABOUT)
+    parser.add_argument("--to", metavar="LABEL", required=True, help="the other encoding")
+    parser.add_argument(
+        "--mode", choices=("fatal", "html"), default="fatal", help="what becomes of a character that the other encoding lacks: the file is"
+        " refused (fatal, the default), or it is &#N; with its number (html)")
+    parser.add_argument(
+        "--keep-mark", action="store_true", help="each file is in the encoding that its rule names, whatever it begins with, and a byte"
+        " order mark is converted like the text behind it; else the mark says which encoding it is, and is left out")
+    parser.add_argument("--exact", action="store_true", help="refuse a file that wouldn't have the same bytes once it is converted back")
+    parser.add_argument("--json", action="store_true", help="print an object of JSON for each file")
+    parser.add_argument("trees", metavar="TREE", nargs="+", help="a folder, or one file")
+    parser.add_argument("out", metavar="OUT", help="the folder that the new files go into; it is made where there is none")
+    work.add_words(parser)
+    parser.set_defaults(run=run)
+
+
+def run(words: argparse.Namespace) -> int:
+    """Prints what was refused, and returns the status."""
+    counts = {REFUSED: 0, PASSED: 0}
+    written = 0
+    for row in convert(words.to, words.trees, words.out, work.settings_from(words), words.mode, words.keep_mark, words.exact):
+        counts[row.outcome] = counts.get(row.outcome, 0) + 1
+        written += bool(row.out and row.outcome not in (REFUSED, PASSED))
+        if words.json:
+            print(row.json())
+        elif row.outcome == REFUSED:
+            print(f"{shown(row.path)}: not converted: {row.reason}")
+    sys.stdout.flush()
+    rest = [(counts[REFUSED], "refused"), (counts[PASSED], "without a rule, or links")]
+    print("; ".join([f"{written} files converted", *(f"{count} {what}" for count, what in rest if count)]), file=sys.stderr)
+    return 1 if counts[REFUSED] else 0 if written or not counts[PASSED] else 2
