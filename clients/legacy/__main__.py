@@ -21,6 +21,7 @@ SUBCOMMANDS: Tuple[str, ...] = (
     "search",
     "convert",
     "mend",
+    "diff",
 )
 # The packages of Debian that have the libraries that some subcommands need.
 PACKAGES = {"pyfuse3": "python3-pyfuse3", "distributed": "python3-distributed"}

@@ -5,8 +5,8 @@ order of the trees, whoever made them.
     for row in run(Check(), ["letters"], settings):
         print(row.json())"""
 from legacy.work.rows import DONE, FOUND, LARGEST, PASSED, REFUSED, Item, Job, Refusal, Row, plain, read
-from legacy.work.run import Settings, add_words, run, settings_from
+from legacy.work.run import Settings, add_fewer_words, add_words, run, settings_from
 
 __all__ = [
-    "DONE", "FOUND", "LARGEST", "PASSED", "REFUSED", "Item", "Job", "Refusal", "Row", "Settings", "add_words", "plain", "read", "run",
+    "DONE", "FOUND", "LARGEST", "PASSED", "REFUSED", "Item", "Job", "Refusal", "Row", "Settings", "add_fewer_words", "add_words", "plain", "read", "run",
     "settings_from"]

@@ -60,6 +60,13 @@ def add_words(parser: argparse.ArgumentParser) -> None:
     finding.add_words(parser)
 
 
+def add_fewer_words(parser: argparse.ArgumentParser) -> None:
+    """Adds those of them that say rules and name the program, for what looks at few files."""
+    rules.add_words(parser)
+    finding.add_words(parser)
+    parser.set_defaults(jobs=1, resume=None, dask=None, follow=False, progress=False)
+
+
 def settings_from(words: argparse.Namespace) -> Settings:
     """The settings by words that were parsed."""
     return Settings(

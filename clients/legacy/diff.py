@@ -1,0 +1,203 @@
+"""`legacy diff`: what differs in two files or trees, as text; and `legacy textconv`, which shows git a file as text.
+
+    for it in diff("old", "new", Settings(found, encoding=[("*.txt", "shift_jis")])):
+        print(it.old, it.new, it.fault, *it.lines)"""
+import argparse
+import functools
+import os
+import re
+import sys
+from typing import Any, Iterator, List, NamedTuple, Optional, Sequence
+
+from gate import Gate
+
+from legacy import work
+from legacy.difference import Edit, lines_that_differ
+from legacy.work import Item, Refusal, Settings
+from legacy.work.walk import Entry, walk
+
+ABOUT = ("Show what differs in two files, or in the files of two trees, as text in UTF-8 and in the form of diff -u. An error is U+FFFD with its"
+         " bytes behind it, as \ufffd<ff>. The status is 0 where the texts are the same, 1 where they differ, 2 where something couldn't be"
+         " looked at.")
+
+# A line with its end, as LSP has it, or the last one without.
+LINE = re.compile("[^\r\n]*(?:\r\n|\r|\n)|[^\r\n]+")
+# The lines around a difference.
+CONTEXT = 3
+NO_END = "\\ No newline at end of file\n"
+
+
+class Side(NamedTuple):
+    """A file's text, in which each error has its bytes behind it, and all its bytes; or why it has none."""
+
+    text: Optional[str]
+    content: bytes
+    fault: str = ""
+
+
+class Compared(NamedTuple):
+    """Two files that differ, or of which one couldn't be looked at, with the reason; and the lines that a person is shown."""
+
+    old: str
+    new: str
+    lines: Sequence[str]
+    fault: str = ""
+
+
+class Reader:
+    """Reads files as text, each by its rule."""
+
+    def __init__(self, settings: Settings, gate: Gate):
+        self._rules, self._gate = functools.lru_cache(maxsize=8)(settings.rules), gate
+
+    def side(self, entry: Entry) -> Side:
+        """A file's text, or its bytes alone where no rule names its encoding."""
+        rule = None if entry.fault else self._rules(entry.tree).rule_of(os.fsencode(entry.inside))
+        try:
+            if entry.fault:
+                raise Refusal(entry.fault)
+            content = work.read(Item(entry.path, entry.size, entry.time, ""))
+        except Refusal as fault:
+            return Side(None, b"", str(fault))
+        except OSError as fault:
+            return Side(None, b"", fault.strerror or str(fault))
+        return Side(shown_text(self._gate, rule.label, content) if rule else None, content)
+
+
+def shown_text(gate: Gate, label: str, content: bytes) -> str:
+    """The text of a document, in which each error is U+FFFD with its bytes behind it."""
+    with gate.open("shown", label, content) as document:
+        text = document.text()
+        parts, last = [], 0
+        for begin, end in document.errors():
+            at = document.place(begin)["utf32"]
+            parts += [text[last : at + 1], f"<{content[begin:end].hex(' ')}>"]
+            last = at + 1
+        return "".join([*parts, text[last:]])
+
+
+def diff(old: str, new: str, settings: Settings, context: int = CONTEXT) -> Iterator[Compared]:
+    """The files of two trees, or two files, that aren't the same to the byte."""
+    with settings.found.start() as gate:
+        reader = Reader(settings, gate)
+        if not os.path.isdir(old) or not os.path.isdir(new):
+            yield from _files(reader, next(walk([old])), next(walk([new])), context)
+            return
+        olds, news = ({os.fsencode(it.inside): it for it in walk([tree])} for tree in (old, new))
+        for inside in sorted({*olds, *news}):
+            if inside in olds and inside in news:
+                yield from _files(reader, olds[inside], news[inside], context)
+            else:
+                only = olds[inside].path if inside in olds else news[inside].path
+                yield Compared(old, new, [f"Only in {os.path.dirname(only)}: {os.path.basename(only)}\n"])
+
+
+def _files(reader: Reader, old: Entry, new: Entry, context: int) -> Iterator[Compared]:
+    first, second = (reader.side(it) for it in (old, new))
+    lines: List[str] = []
+    for entry, side in (old, first), (new, second):
+        if side.fault:
+            yield Compared(old.path, new.path, [f"{entry.path}: not compared: {side.fault}\n"], side.fault)
+            return
+    if first.text is not None and second.text is not None and first.text != second.text:
+        lines = [f"--- {old.path}\n", f"+++ {new.path}\n", *unified(first.text, second.text, context)]
+    elif first.content != second.content and first.text == second.text is not None:
+        lines = [f"Files {old.path} and {new.path} have the same text in different bytes\n"]
+    elif first.content != second.content:
+        lines = [f"Files {old.path} and {new.path} differ, and no rule names the encodings of both\n"]
+    if lines:
+        yield Compared(old.path, new.path, lines)
+
+
+def unified(old: str, new: str, context: int = CONTEXT) -> Iterator[str]:
+    """The hunks of a difference. A line end other than LF is shown as \u240d, but where all are the same CR LF."""
+    olds, news = LINE.findall(old), LINE.findall(new)
+    plain = all(it.endswith("\r\n") or it[-1] not in "\r\n" for it in [*olds, *news])
+    for hunk in _hunks(lines_that_differ(olds, news), context):
+        begin, end = max(0, hunk[0].start - context), min(len(olds), hunk[-1].end + context)
+        new_begin, new_end = max(0, hunk[0].new_start - context), min(len(news), hunk[-1].new_end + context)
+        yield f"@@ -{_numbers(begin, end)} +{_numbers(new_begin, new_end)} @@\n"
+        at = begin
+        for it in hunk:
+            yield from _marked(" ", olds[at : it.start], plain)
+            yield from _marked("-", olds[it.start : it.end], plain)
+            yield from _marked("+", news[it.new_start : it.new_end], plain)
+            at = it.end
+        yield from _marked(" ", olds[at:end], plain)
+
+
+def _hunks(edits: Sequence[Edit], context: int) -> Iterator[List[Edit]]:
+    """Edits whose context touches are one hunk."""
+    begun: List[Edit] = []
+    for it in edits:
+        if begun and it.start - begun[-1].end > 2 * context:
+            yield begun
+            begun = []
+        begun.append(it)
+    if begun:
+        yield begun
+
+
+def _numbers(begin: int, end: int) -> str:
+    return f"{begin + 1 if end > begin else begin},{end - begin}"
+
+
+def _marked(mark: str, lines: Sequence[str], plain: bool) -> Iterator[str]:
+    for line in lines:
+        text = line.rstrip("\r\n")
+        end = line[len(text) :].replace("\n", "")
+        yield f"{mark}{text}{'' if plain else end.replace(chr(13), chr(0x240D))}\n"
+        if text == line:
+            yield NO_END
+
+
+def textconv(path: str, settings: Settings) -> bytes:
+    """A file as text in UTF-8, for git; as it is where no rule names its encoding, or it is too large. Raises `Refusal`
+    where it can't be read."""
+    with settings.found.start() as gate:
+        side = Reader(settings, gate).side(next(walk([path])))
+    if side.fault and not _is_too_large(path):
+        raise Refusal(side.fault)
+    if side.fault:
+        with open(path, "rb") as file:
+            return file.read()
+    return side.content if side.text is None else side.text.encode()
+
+
+def _is_too_large(path: str) -> bool:
+    return os.path.isfile(path) and os.path.getsize(path) > work.LARGEST
+
+
+def add_to(commands: "argparse._SubParsersAction[Any]") -> None:
+    """Adds the parsers of both subcommands."""
+    parser = commands.add_parser("diff", help="show what differs as text", description=ABOUT)
+    parser.add_argument("old", metavar="A", help="a file, or a folder")
+    parser.add_argument("new", metavar="B", help="another")
+    parser.add_argument("-U", "--unified", metavar="N", type=int, default=CONTEXT, help="the lines around a difference (default: %(default)s)")
+    work.add_fewer_words(parser)
+    parser.set_defaults(run=run)
+    parser = commands.add_parser(
+        "textconv", help="show git a file as text", description="Print a file as text in UTF-8, each error as U+FFFD with its bytes behind it, for"
+        " git's diff.NAME.textconv. git gives it files of the same name elsewhere, so its rule comes from -e or --default.")
+    parser.add_argument("file", metavar="FILE", help="a file")
+    work.add_fewer_words(parser)
+    parser.set_defaults(run=run_textconv)
+
+
+def run(words: argparse.Namespace) -> int:
+    """Prints the difference, and returns the status."""
+    status = 0
+    for it in diff(words.old, words.new, work.settings_from(words), max(0, words.unified)):
+        status = 2 if it.fault else max(status, 1)
+        print(*it.lines, sep="", end="")
+    return status
+
+
+def run_textconv(words: argparse.Namespace) -> int:
+    """Prints a file as text."""
+    try:
+        sys.stdout.buffer.write(textconv(words.file, work.settings_from(words)))
+    except Refusal as fault:
+        print(f"legacy textconv: {words.file}: {fault}", file=sys.stderr)
+        return 2
+    return 0
