@@ -139,8 +139,19 @@ class Install(unittest.TestCase):
         self.assertIn("File too large", said)
         self.assertEqual(snapshot(self.home), {})
 
+    def test_a_list_that_is_none(self):
+        listed = self.prefix / "share" / "gate" / "installed"
+        listed.parent.mkdir(parents=True)
+        for text in "", "[]", '{"files": 1, "folders": []}':
+            listed.write_text(text)
+            for words in [], ["--uninstall"]:
+                self.assertIn("isn't the list that this wrote", self.install(*words, status=1)[1])
+        self.assertEqual([name for name, content in snapshot(self.home).items() if content is not None], [str(listed.relative_to(self.home))])
+
     def test_words(self):
         self.install("--python", "no-such-python", status=1)
+        self.assertIn("is no program gate", self.runs(TOOL, "--gate", "/bin/echo", status=1)[1])
+        self.runs(TOOL, "--gate", self.home, status=1)
         self.runs(TOOL, "--gate", self.home / "none", status=1)
         self.runs(TOOL, "a", "b", status=2)
         self.assertEqual(snapshot(self.home), {})

@@ -60,6 +60,7 @@ def server(holds=None, **others):
     """A server of the files, some of them others; where it holds one back, `held` says that it was asked for."""
     with http.server.ThreadingHTTPServer(("127.0.0.1", 0), Handler) as it:
         it.daemon_threads = True
+        it.handle_error = lambda request, address: None  # the peer is gone, as it is to be
         it.files = {name: (content, len(content)) for name, content in SERVED.items()}
         it.holds, it.held = holds, threading.Event()
         it.url = f"http://127.0.0.1:{it.server_address[1]}/standard"
@@ -171,6 +172,12 @@ class Standard(unittest.TestCase):
         path.write_bytes(b"x")
         self.fetch(str(path), status=1, said=f"the folder {path} can't be made")
         self.assertEqual(path.read_bytes(), b"x")
+
+    def test_a_folder_in_the_place_of_a_file(self):
+        (self.folder / "folder" / NAMES[0]).mkdir(parents=True)
+        with server() as it:
+            self.fetch("--from", it.url, str(self.folder / "folder"), status=1, said=f"{NAMES[0]} can't be replaced")
+        self.assertEqual([path.name for path in self.folder.rglob("*")], ["folder", NAMES[0]])
 
     def test_words(self):
         for words in ["--from"], ["--to", "x"], ["a", "b"]:

@@ -102,6 +102,7 @@ class Try(unittest.TestCase):
             (["stdio", "--indexes", SMALL, f"--labels={self.folder}/none"], b""),
             (["stdio", "--indexes", str(faulty)], b""),
             (["stdio", "--indexes", str(unread)], b""),
+            (["stdio", "--indexes", SMALL, "--labels", str(unread)], b""),
             (["trace", "--indexes", SMALL], b"open\n"),
             (["replay", "--indexes", SMALL], b""),
         ]:
