@@ -172,19 +172,27 @@ def add_to(commands: "argparse._SubParsersAction[Any]") -> None:
     parser.add_argument("--most", metavar="N", type=int, default=MOST, help="the errors of a file that are listed at most (default: %(default)s)")
     parser.add_argument("-v", "--verbose", action="store_true", help="print a line for each file, clean ones too, and its encoding")
     parser.add_argument("--json", action="store_true", help="print an object of JSON for each file")
+    parser.add_argument("--report", metavar="FILE", help="write a page of HTML: counts, and each damaged place with the line around it")
     work.add_words(parser)
     parser.set_defaults(run=run)
 
 
 def run(words: argparse.Namespace) -> int:
     """Prints what is wrong, and returns the status."""
+    from legacy.report import Report
+
     kinds = [it for it in KINDS if it not in words.ignore]
-    counts = Counts()
-    for row in check(words.trees, work.settings_from(words), kinds, words.most):
+    counts, settings = Counts(), work.settings_from(words)
+    report = Report(words.report, words.trees) if words.report else None
+    for row in check(words.trees, settings, kinds, words.most):
         counts.add(row)
+        if report:
+            report.add(row)
         for line in [row.json()] if words.json else lines_of(row, words.verbose):
             print(line)
     sys.stdout.flush()
+    if report:
+        report.close()
     print(counts, file=sys.stderr)
     return counts.status
 
