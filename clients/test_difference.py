@@ -1,11 +1,13 @@
 """The difference of two texts: that its edits make the new text, that they are few, and what they never name."""
 import random
+import re
 import time
 import unittest
 from unittest import mock
 
-from legacy import difference
-from legacy.difference import BAD, Edit, common_lines, edits
+from legacy import difference, sequences
+from legacy.difference import BAD, Difference, common_lines, edits
+from legacy.sequences import Edit
 
 
 def made(old, new, found):
@@ -43,14 +45,15 @@ class Edits(unittest.TestCase):
         rng = random.Random(59)
         for number in range(1500):
             # Now and then all bounds are low, so that what lies beyond them is looked at too.
-            bounds = {"PAIRS": rng.choice([1 << 24, 100, 10]), "STEPS": rng.choice([48, 3]), "DEPTH": rng.choice([24, 1]),
-                      "LETTERS": rng.choice([10_000, 50])}
+            bounds = {"PAIRS": rng.choice([1 << 24, 100, 10]), "STEPS": rng.choice([48, 3]), "DEPTH": rng.choice([24, 1])}
             alphabet = rng.choice(["a\ufffd\n", "ab\n", "a\r\nb\ufffd", "abcdefg \n", "図書館の\n\ufffdab", "😀é\n"])
             old, new = drawn(rng, alphabet)
-            with mock.patch.multiple(difference, **bounds):
-                for words in {}, {"join": False}, {"lines": True}, {"same": BAD + "ab"}:
+            with mock.patch.multiple(sequences, **bounds), mock.patch.object(difference, "LETTERS", rng.choice([10_000, 50])):
+                precious = [(at, at + 3) for at in range(0, len(old), rng.randrange(4, 20))]
+                for words in {}, {"one_form": False}, {"same": BAD + "ab"}, {"precious": precious}, None:
                     with self.subTest(number=number, old=old, new=new, bounds=bounds, words=words):
-                        found = edits(old, new, **words)
+                        it = Difference(old, new)
+                        found = it.by_lines() if words is None else it.edits(**words)
                         self.assertEqual(made(old, new, found), new)
                         self.assertTrue(all(it.start < it.end or it.new_start < it.new_end for it in found))
                         self.assertTrue(all(one.end < other.start for one, other in zip(found, found[1:])))
@@ -61,8 +64,9 @@ class Edits(unittest.TestCase):
         for number in range(400):
             old, new = drawn(rng, rng.choice(["ab", "abc", "abcdefg", "図書館の"]))
             # (both ways of finding one)
-            with mock.patch.multiple(difference, PAIRS=rng.choice([1 << 24, 0]), STEPS=200, _pieces=list, DEPTH=0):
-                found = edits(old, new, join=False)
+            with mock.patch.multiple(sequences, PAIRS=rng.choice([1 << 24, 0]), STEPS=200), \
+                    mock.patch.object(difference, "_piece", lambda: re.compile("(?s).")), mock.patch.object(sequences, "_anchors", lambda *_: []):
+                found = edits(old, new, one_form=False)
             with self.subTest(number=number, old=old, new=new):
                 out = sum(it.end - it.start for it in found)
                 self.assertEqual(len(old) - out, longest(old, new))
@@ -110,7 +114,7 @@ class Edits(unittest.TestCase):
 
     def test_the_damage_that_stays_is_the_one_between_the_same_letters(self):
         old, new = "ab\ufffdcd ef\ufffdgh ij\ufffdkl", "ef\ufffdgh"
-        self.assertEqual(edits(old, new, join=False), [Edit(0, 6, 0, 0), Edit(11, 17, 5, 5)])
+        self.assertEqual(edits(old, new, one_form=False), [Edit(0, 6, 0, 0), Edit(11, 17, 5, 5)])
 
 
 def halves(kind, count):

@@ -177,8 +177,8 @@ class Refusals(OverGate):
 class Falsified(Reply):
     """A reply whose text is another one than `gate` sent."""
 
-    def __init__(self, reply):
-        super().__init__()
+    def __init__(self, gate, reply):
+        super().__init__(gate)
         self.reply = reply
 
     def get(self):
@@ -191,7 +191,7 @@ class Trust(OverGate):
         base = read(self.gate, "shift_jis", b"a\xff")
         send = self.gate.send
         with mock.patch.object(
-                self.gate, "send", lambda op, **fields: Falsified(send(op, **fields)) if op == "text" else send(op, **fields)):
+                self.gate, "send", lambda op, **fields: Falsified(self.gate, send(op, **fields)) if op == "text" else send(op, **fields)):
             with self.assertRaises(Refused) as refused:
                 save(self.gate, "shift_jis", base, "b\ufffd")
         self.assertEqual(refused.exception.errno, errno.EILSEQ)

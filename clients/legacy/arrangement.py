@@ -1,23 +1,29 @@
 """Of which known lines a new text is made: those that stay, those that were moved, copied or restored, which are known to
-the byte, and those that are like one that is gone.
-
-Lines are those between LFs. They come as lists, that of the old text first, then those of other contents, the newest last.
-A line that can't stand elsewhere is "" in `movable`, which is else the same list."""
+the byte, and those that are like one that is gone."""
 import collections
 import itertools
-from typing import Deque, Dict, Iterator, List, NamedTuple, Optional, Sequence, Set, Tuple
+from typing import Container, Deque, Dict, Iterable, Iterator, List, NamedTuple, Optional, Sequence, Set, Tuple
 
-from legacy.difference import BAD, Edit, lines_that_differ
+from legacy.difference import BAD
+from legacy.lines import Lines
+from legacy.sequences import Edit
 
 # How much alike two lines must be, of 1, that one is taken for the other edited; and if it has damage, which nobody types.
 ALIKE, ALIKE_WITH_DAMAGE = 0.5, 0.2
 # The most lines that a pair of letters leads to: one that more lines have says little.
 LEADS = 8
 # The most code points of lines that are compared with each other.
-LETTERS = 2_000_000
+LETTERS = 500_000
 
 # The number of a content in the list, and a line of it.
 Place = Tuple[int, int]
+
+
+class Content(NamedTuple):
+    """The lines of a text, and which of them can stand nowhere else."""
+
+    lines: Lines
+    fixed: Container[int]
 
 
 class Run(NamedTuple):
@@ -28,85 +34,97 @@ class Run(NamedTuple):
     last: int
 
 
-def arranged(old: Sequence[str], movable: Sequence[Sequence[str]], new: Sequence[str], literal: bool,
+def arranged(contents: Sequence[Content], new: Lines, hunks: Sequence[Edit], literal: bool,
              anywhere: bool = False) -> Optional[List[Run]]:
     """The lines that together are, or with further edits become, the new text, or None where those of the old text as it
-    is are best. `literal`: lines of the new text that are ASCII are taken from it, as content number `len(movable)`.
-    `anywhere`: an edited line may be like any line, and not only like one that is gone."""
-    made = _Arrangement(old, movable, new, literal, anywhere)
+    is are best. `contents`: the old one, then others, the newest last. `hunks`: the runs of lines that differ. `literal`:
+    lines of the new text that are ASCII are taken from it, as content number `len(contents)`. `anywhere`: an edited line
+    may be like any line, and not only like one that is gone."""
+    made = _Arrangement(contents, new, hunks, literal, anywhere)
     return made.runs() if made.is_needed() else None
 
 
 class _Arrangement:
-    def __init__(self, old: Sequence[str], movable: Sequence[Sequence[str]], new: Sequence[str], literal: bool, anywhere: bool):
-        self.old, self.contents, self.new, self.literal = old, movable, new, literal
-        self.hunks = lines_that_differ(old, new)
+    def __init__(self, contents: Sequence[Content], new: Lines, hunks: Sequence[Edit], literal: bool, anywhere: bool):
+        self.contents, self.old, self.new, self.hunks, self.literal = contents, contents[0].lines, new, hunks, literal
         self.sources: Dict[int, Place] = {}  # of lines of the new text
-        self.pairs: Dict[Edit, Set[str]] = {}  # of letters of what is left of a hunk
-        self.gone = {n for it in self.hunks for n in range(it.start, it.end)}
+        self.used: Set[int] = set()  # of the lines that are gone
+        self.typed = [(n, it) for it in hunks for n in range(it.new_start, it.new_end) if not new[n].isascii()]
         self._find_moved()
-        self.left = self.gone - {line for _, line in self.sources.values()}
-        self._find_others(anywhere)
+        self._find_known()
+        self._find_alike(anywhere)
 
-    def _typed(self, hunk: Edit) -> List[int]:
-        """The lines of a hunk of the new text that are not ASCII and have no source yet."""
-        return [n for n in range(hunk.new_start, hunk.new_end) if n not in self.sources and not self.new[n].isascii()]
+    def _gone(self) -> Iterator[int]:
+        """The old lines that differ and weren't moved."""
+        return (line for it in self.hunks for line in self._left(it))
+
+    def _left(self, hunk: Edit) -> Iterable[int]:
+        return (line for line in range(hunk.start, hunk.end) if line not in self.used and line not in self.contents[0].fixed)
+
+    def _found(self, sources: Dict[int, Place]) -> None:
+        self.sources.update(sources)
+        self.typed = [it for it in self.typed if it[0] not in sources]
 
     def _find_moved(self) -> None:
         """Lines that are gone elsewhere, each of which comes once."""
-        wanted = {self.new[n] for it in self.hunks for n in self._typed(it)}
-        gone: Dict[str, Deque[int]] = {}
-        for line in sorted(self.gone):
-            if self.contents[0][line] in wanted:
-                gone.setdefault(self.contents[0][line], collections.deque()).append(line)
-        for n in [n for it in self.hunks for n in self._typed(it)] if gone else []:
-            if gone.get(self.new[n]):
-                self.sources[n] = 0, gone[self.new[n]].popleft()
+        wanted = {self.new.hashes[n] for n, _ in self.typed}
+        gone: Dict[int, Deque[int]] = {}
+        for line in self._gone():
+            if self.old.hashes[line] in wanted:
+                gone.setdefault(self.old.hashes[line], collections.deque()).append(line)
+        found = {n: gone[self.new.hashes[n]].popleft() for n, _ in self.typed if gone.get(self.new.hashes[n])}
+        self.used.update(found.values())
+        self._found({n: (0, line) for n, line in found.items()})
 
-    def _find_others(self, anywhere: bool) -> None:
-        """Lines that are copied or restored, and edited ones that are like one that is gone, unless they are like what was
-        in their place."""
-        typed = [n for it in self.hunks for n in self._typed(it) if not self._is_edited_here(n, it)]
-        known = self._known({_ended(self.new[n]) for n in typed}) if typed else {}
-        for n in typed:
-            if _ended(self.new[n]) in known:
-                self.sources[n] = known[_ended(self.new[n])]
-        self._find_alike([n for n in typed if n not in self.sources], anywhere)
+    def _find_known(self) -> None:
+        """Lines that are copied or restored, with a CR at their end or without, but not those that are like what was in their
+        place but for ASCII characters."""
+        known = self._known({hash(form) for n, _ in self.typed for form in _forms(self.new[n])})
+        here: Dict[Edit, Set[int]] = {}
+        found: Dict[int, Place] = {}
+        for n, hunk in self.typed if known else ():
+            places = [known[hash(form)] for form in _forms(self.new[n]) if hash(form) in known]
+            if places:
+                if hunk not in here:
+                    letters = self.old.letters(hunk.start, hunk.end)
+                    here[hunk] = {letters[line - hunk.start] for line in self._left(hunk)}
+                if self.new.letters(n, n + 1)[0] not in here[hunk]:
+                    found[n] = places[0]
+        self._found(found)
 
-    def _is_edited_here(self, n: int, hunk: Edit) -> bool:
-        """Whether a line has most of its letters from the lines of its hunk that are left."""
-        left = [line for line in range(hunk.start, hunk.end) if line in self.left]
-        if not left:
-            return False
-        if hunk not in self.pairs:
-            self.pairs[hunk] = set().union(*(_pairs(self.old[line]) for line in left))
-        pairs = _pairs(self.new[n])
-        return len(pairs & self.pairs[hunk]) >= ALIKE * len(pairs)
-
-    def _known(self, wanted: Set[str]) -> Dict[str, Place]:
-        """Where lines are known, but for a CR at their end: in the old text, else in the newest content."""
-        known: Dict[str, Place] = {}
-        for content in [*range(1, len(self.contents)), 0]:
-            for line, text in enumerate(self.contents[content]):
-                if _ended(text) in wanted:
-                    known[_ended(text)] = content, line
+    def _known(self, wanted: Set[int]) -> Dict[int, Place]:
+        """Where lines are known: in the old text, else in the newest content."""
+        known: Dict[int, Place] = {}
+        for number in [*range(1, len(self.contents)), 0] if wanted else []:
+            lines, fixed = self.contents[number]
+            known.update((it, (number, line)) for line, it in enumerate(lines.hashes) if it in wanted and line not in fixed)
         return known
 
-    def _find_alike(self, typed: List[int], anywhere: bool) -> None:
-        """For each edited line one that is like it."""
-        places = [(0, line) for line in sorted(self.left)]
+    def _find_alike(self, anywhere: bool) -> None:
+        """For each edited line one that is like it, where what was in its place is not."""
+        places = [(0, line) for line in self._gone()]
         if anywhere:
-            places += [(content, line) for content in range(len(self.contents) - 1, -1, -1)
-                       for line in range(len(self.contents[content])) if content or line not in self.gone]
-        places = [it for it in places if not self._text(it).isascii()]
-        letters = sum(len(self.new[n]) for n in typed) + sum(len(self._text(it)) for it in places)
-        if not typed or not places or letters > LETTERS:
-            return
+            gone = {line for it in self.hunks for line in range(it.start, it.end)}
+            places += [(number, line) for number in range(len(self.contents) - 1, -1, -1)
+                       for line in range(len(self.contents[number].lines))
+                       if line not in self.contents[number].fixed and (number or line not in gone)]
+        letters = sum(len(self.new[n]) for n, _ in self.typed)
+        found: List[Place] = []
+        for it in places if self.typed else ():
+            text = self._text(it)
+            if not text.isascii():
+                found.append(it)
+                letters += len(text)
+            if letters > LETTERS:
+                return
+        self._choose(found)
+
+    def _choose(self, places: List[Place]) -> None:
+        here = {hunk: set().union(*(_pairs(self.old[line]) for line in self._left(hunk))) for _, hunk in self.typed}
+        typed = [n for n, hunk in self.typed if not _is_covered(_pairs(self.new[n]), here[hunk])]
         leads = _leads([self._text(it) for it in places], {pair for n in typed for pair in _pairs(self.new[n])})
-        for n in typed:
-            found = self._most_alike(self.new[n], leads, places)
-            if found is not None:
-                self.sources[n] = found
+        found = {n: self._most_alike(self.new[n], leads, places) for n in typed}
+        self._found({n: it for n, it in found.items() if it})
 
     def _most_alike(self, text: str, leads: Dict[str, List[int]], places: List[Place]) -> Optional[Place]:
         pairs = _pairs(text)
@@ -118,7 +136,7 @@ class _Arrangement:
         return places[best] if alike >= (ALIKE_WITH_DAMAGE if BAD in text else ALIKE) else None
 
     def _text(self, place: Place) -> str:
-        return self.contents[place[0]][place[1]]
+        return self.contents[place[0]].lines[place[1]]
 
     def _stays(self, it: Edit) -> bool:
         """Whether the old lines of this hunk, where they are, become the new ones: no line comes from elsewhere."""
@@ -144,8 +162,7 @@ class _Arrangement:
 
     def _hunk(self, it: Edit) -> Iterator[Run]:
         """The lines of a hunk into which some come from elsewhere."""
-        used = {line for content, line in self.sources.values() if not content}
-        left = [line for line in range(it.start, it.end) if line not in used]
+        left = list(self._left(it))
         typed = _rows([n for n in range(it.new_start, it.new_end) if self._source(n) is None])
         fit = sum(map(len, typed)) == len(left)
         takes = max(typed, key=len, default=None)
@@ -170,14 +187,19 @@ class _Arrangement:
         return self.sources.get(n)
 
 
-def _ended(text: str) -> str:
-    return text[:-1] if text.endswith("\r") else text
+def _forms(line: str) -> Tuple[str, str]:
+    """The line, and the same line with a CR at its end or without."""
+    return line, line[:-1] if line.endswith("\r") else line + "\r"
 
 
 def _pairs(text: str) -> Set[str]:
     """The pairs of letters that follow each other, but for a CR at the end."""
-    text = _ended(text)
+    text = text[:-1] if text.endswith("\r") else text
     return set(map("".join, zip(text, text[1:] + "\n")))
+
+
+def _is_covered(pairs: Set[str], by: Set[str]) -> bool:
+    return len(pairs & by) >= ALIKE * len(pairs)
 
 
 def _leads(texts: Sequence[str], wanted: Set[str]) -> Dict[str, List[int]]:

@@ -12,7 +12,7 @@ from typing import Any, Iterator, List, NamedTuple, Optional, Sequence
 from gate import Gate
 
 from legacy import work
-from legacy.difference import Edit, lines_that_differ
+from legacy.sequences import Edit, differences
 from legacy.work import Item, Refusal, Settings
 from legacy.work.walk import Entry, walk
 
@@ -113,7 +113,7 @@ def unified(old: str, new: str, context: int = CONTEXT) -> Iterator[str]:
     """The hunks of a difference. A line end other than LF is shown as \u240d, but where all are the same CR LF."""
     olds, news = LINE.findall(old), LINE.findall(new)
     plain = all(it.endswith("\r\n") or it[-1] not in "\r\n" for it in [*olds, *news])
-    for hunk in _hunks(lines_that_differ(olds, news), context):
+    for hunk in _hunks(list(differences(olds, news)), context):
         begin, end = max(0, hunk[0].start - context), min(len(olds), hunk[-1].end + context)
         new_begin, new_end = max(0, hunk[0].new_start - context), min(len(news), hunk[-1].new_end + context)
         yield f"@@ -{_numbers(begin, end)} +{_numbers(new_begin, new_end)} @@\n"

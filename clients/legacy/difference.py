@@ -4,376 +4,204 @@
         print(old[it.start : it.end], "becomes", new[it.new_start : it.new_end])
 
 Whoever keeps a text as legacy bytes wants it because what no edit names keeps its bytes. So it is found in steps, from
-whole lines to code points: what is common at both ends; lines that both have once (patience); a shortest script where
-that is affordable. Within lines that differ it is the same by code points, and in long ones first by pieces that are
-cut where their own letters say, so that an insertion moves no other cut. Two rules go beyond what is usual:
+whole lines to letters: what is common at both ends; lines that both have once (patience); a shortest script where that is
+affordable. Within lines that differ it is the same by letters, and in long ones first by pieces that end where their own
+letters say, so that an insertion moves no other end. Beyond what is usual,
 
-- U+FFFD stands for bytes that are no text, and nobody types it: where one is on both sides, it is the same one.
-- Nothing is quadratic. Each comparison has a bound, and what lies beyond it is replaced as a whole."""
+- U+FFFD stands for bytes that are no text, and nobody types it: where it is on both sides, it is the same one;
+- a letter that isn't ASCII is worth more than an ASCII one, which mostly has but one form;
+- what is known to have no bytes but those that an encoder gives is replaced as it comes, since that loses nothing;
+- nothing is quadratic: each comparison has a bound, and what lies beyond it is replaced as a whole."""
 import bisect
+import functools
 import itertools
 import re
-from typing import Any, Dict, Hashable, Iterable, Iterator, List, NamedTuple, Optional, Sequence, Tuple
+from array import array
+from typing import Iterable, Iterator, List, Optional, Sequence, Tuple
 
-# A text, or a list of lines or of other texts.
-Items = Sequence[Any]
+from legacy.lines import Lines
+from legacy.sequences import Edit, between, common, common_end, differences, script, shortest, trimmed, weighed
 
 # What bytes that are no text are shown as.
 BAD = "\ufffd"
-# The most pairs of items that a shortest script is made of: bits of its table.
-PAIRS = 1 << 24
-# The most insertions and deletions that are looked for where there are more pairs.
-STEPS = 48
-# How often what lies between lines that both sides have once is looked at in the same way.
-DEPTH = 24
 # The most code points, of all lines that differ, for which a shortest script is made.
 LETTERS = 2_000_000
 # Edits with fewer ASCII characters than this between them can be joined.
 NEAR = 16
+# The most pairs of places that are looked at for those with the same letters beside them.
+PLACES = 10_000
+
+# Where something begins and ends, in code points.
+Range = Tuple[int, int]
 
 
-class Edit(NamedTuple):
-    """What is from `start` to `end` becomes what is from `new_start` to `new_end` of the other."""
-
-    start: int
-    end: int
-    new_start: int
-    new_end: int
-
-    def moved(self, by: int, new_by: int) -> "Edit":
-        """The same edit where both begin that much later."""
-        return Edit(self.start + by, self.end + by, self.new_start + new_by, self.new_end + new_by)
+def edits(old: str, new: str, one_form: bool = True) -> List[Edit]:
+    """The edits, in order, none of which touches the next."""
+    return Difference(old, new).edits(one_form)
 
 
-def edits(old: str, new: str, join: bool = True, lines: bool = False, same: str = BAD) -> List[Edit]:
-    """The edits, in order, none of which touches the next. `join`: edits with a few ASCII characters between them
-    become one, which costs no byte where an ASCII character has only one form. `lines`: whole lines are replaced.
-    `same`: the characters that nobody types, which are the same ones before and after."""
-    head, tail = common_lines(old, new)
-    texts = _Texts(old[head : len(old) - tail], new[head : len(new) - tail], join, same)
-    found = texts.lines() if lines else texts.edits()
-    return joined(old, (it.moved(head, head) for it in found), join)
+class Difference:
+    """Two texts that are compared: at once by lines, and by letters where that is asked for."""
+
+    def __init__(self, old: str, new: str):
+        self.old, self.new = old, new
+        # How many code points, in whole lines, both begin and end with, and the lines between.
+        self.head, self.tail = common_lines(old, new)
+        self.lines = Lines(old, self.head, len(old) - self.tail)
+        self.new_lines = Lines(new, self.head, len(new) - self.tail)
+        # The runs of these lines that differ.
+        self.hunks = list(differences(self.lines.hashes, self.new_lines.hashes))
+
+    def edits(self, one_form: bool = True, same: str = BAD, precious: Optional[Sequence[Range]] = None) -> List[Edit]:
+        """The edits by letters. `one_form`: ASCII characters have only one form in bytes, so that edits with few of them in
+        between may become one. `same`: the characters that nobody types. `precious`: the only ranges of the old text, in
+        order, that have bytes to lose, where that is known."""
+        fine = _Letters(self, one_form, same, None if precious is None else _Ranges(precious))
+        return joined(self.old, self._real(fine.edits()), one_form, fine.precious)
+
+    def by_lines(self) -> List[Edit]:
+        """The edits by whole lines."""
+        return joined(self.old, self._real(map(self.range_of, self.hunks)), False)
+
+    def range_of(self, hunk: Edit) -> Edit:
+        """The code points of a hunk, its LFs included: that of a last line is behind the text."""
+        at, new_at = self.lines.starts, self.new_lines.starts
+        return Edit(at[hunk.start], at[hunk.end], new_at[hunk.new_start], new_at[hunk.new_end])
+
+    def _real(self, found: Iterable[Edit]) -> Iterator[Edit]:
+        """The edits without an LF behind the text."""
+        for it in found:
+            if it.end > len(self.old) or it.new_end > len(self.new):
+                # Lines that came or went at the end take the LF in front of them; others end with one on both sides.
+                by = 1 if it.start == it.end or it.new_start == it.new_end else 0
+                it = Edit(it.start - by, it.end - 1, it.new_start - by, it.new_end - 1)
+            if it.start < it.end or it.new_start < it.new_end:
+                yield it
 
 
 def common_lines(old: str, new: str) -> Tuple[int, int]:
     """How many code points two texts have in common at their start and at their end, in whole lines."""
-    head = _common(old, new, 0, 0, min(len(old), len(new)))
+    head = common(old, new, 0, 0, min(len(old), len(new)))
     head = old.rfind("\n", 0, head) + 1
-    tail = _common_end(old, new, len(old), len(new), min(len(old), len(new)) - head)
+    tail = common_end(old, new, len(old), len(new), min(len(old), len(new)) - head)
     # (the line behind the first LF of what is common begins anew in both)
     start = old.find("\n", len(old) - tail) + 1 if tail else 0
     return head, len(old) - start if start else 0
 
 
-def lines_that_differ(old: Sequence[str], new: Sequence[str]) -> List[Edit]:
-    """The runs of lines that differ, in numbers of lines."""
-    return list(_differences(old, new, Edit(0, len(old), 0, len(new)), DEPTH))
+def _starts(pieces: Sequence[str], first: int) -> "array[int]":
+    """Where each begins, and where the next would."""
+    return array("q", itertools.accumulate(map(len, pieces), initial=first))
 
 
-def joined(old: str, found: Iterable[Edit], near: bool) -> List[Edit]:
-    """Edits that touch become one, and so do those that are near."""
+def joined(old: str, found: Iterable[Edit], near: bool, precious: "Optional[_Ranges]" = None) -> List[Edit]:
+    """Edits that touch become one, and so do those between which nothing is precious, or, where `near`, only a few ASCII
+    characters are."""
     result: List[Edit] = []
     for it in found:
         if result:
             last = result[-1]
             gap = it.start - last.end
-            if not gap or near and gap < NEAR and old[last.end : it.start].isascii():
+            if (not gap or near and gap < NEAR and old[last.end : it.start].isascii()
+                    or precious is not None and precious.misses(last.end, it.start)):
                 result[-1] = Edit(last.start, it.end, last.new_start, it.new_end)
                 continue
         result.append(it)
     return result
 
 
-def _common(a: Items, b: Items, i: int, k: int, most: int) -> int:
-    """How many items are equal from two places on. Slices are compared, twice as long each time."""
-    if not most or a[i] != b[k]:
-        return 0
-    count, step = 1, 1
-    while count + step <= most and a[i + count : i + count + step] == b[k + count : k + count + step]:
-        count, step = count + step, min(2 * step, 1 << 16)
-    while step:
-        if count + step <= most and a[i + count : i + count + step] == b[k + count : k + count + step]:
-            count += step
-        step //= 2
-    return count
+class _Ranges:
+    """Ranges in order, none of which touches the next."""
+
+    def __init__(self, ranges: Sequence[Range]):
+        self.starts, self.ends = [it[0] for it in ranges], [it[1] for it in ranges]
+
+    def misses(self, start: int, end: int) -> bool:
+        """Whether nothing of them lies in this range."""
+        at = bisect.bisect_right(self.ends, start)
+        return at == len(self.ends) or self.starts[at] >= end
 
 
-def _common_end(a: Items, b: Items, j: int, l: int, most: int) -> int:
-    """How many items are equal in front of two places."""
-    if not most or a[j - 1] != b[l - 1]:
-        return 0
-    count, step = 1, 1
-    while count + step <= most and a[j - count - step : j - count] == b[l - count - step : l - count]:
-        count, step = count + step, min(2 * step, 1 << 16)
-    while step:
-        if count + step <= most and a[j - count - step : j - count] == b[l - count - step : l - count]:
-            count += step
-        step //= 2
-    return count
+@functools.lru_cache(maxsize=None)
+def _piece() -> "re.Pattern[str]":
+    """A piece ends with a code point that is a multiple of 16, so that its end depends on nothing before it."""
+    # (those of the first plane alone are a set that is looked up at once)
+    cut = "".join(f"\\u{it:04x}" for it in range(0, 0x10000, 16) if not 0xD800 <= it < 0xE000)
+    return re.compile(f"[^{cut}]{{0,62}}(?:[{cut}]|.)", re.DOTALL)
 
 
-def _trimmed(a: Items, b: Items, it: Edit) -> Edit:
-    i, j, k, l = it
-    same = _common(a, b, i, k, min(j - i, l - k))
-    i, k = i + same, k + same
-    same = _common_end(a, b, j, l, min(j - i, l - k))
-    return Edit(i, j - same, k, l - same)
+class _Letters:
+    """Two texts that are compared within the lines that differ."""
 
-
-def _differences(a: Items, b: Items, whole: Edit, depth: int) -> Iterator[Edit]:
-    """What differs between two sequences, by items that both have once, and where there are none, by a shortest script;
-    where that is too much, as a whole. A `depth` of 0 looks for no such items."""
-    todo = [(whole, depth)]
-    while todo:
-        part, depth = todo.pop()
-        it = _trimmed(a, b, part)
-        if it.start == it.end or it.new_start == it.new_end:
-            if it.start < it.end or it.new_start < it.new_end:
-                yield it
-            continue
-        anchors = _anchors(a, b, it) if depth else []
-        if anchors:
-            todo += [(gap, depth - 1) for gap in reversed(_between(it, anchors))]
-        else:
-            yield from _script(a, b, it)
-
-
-def _between(it: Edit, pairs: List[Tuple[int, int]]) -> List[Edit]:
-    """What lies between pairs of items that are the same."""
-    ends = itertools.chain([(it.start - 1, it.new_start - 1)], pairs)
-    starts = itertools.chain(pairs, [(it.end, it.new_end)])
-    return [Edit(i + 1, j, k + 1, l) for (i, k), (j, l) in zip(ends, starts) if j - i > 1 or l - k > 1]
-
-
-def _anchors(a: Items, b: Items, it: Edit) -> List[Tuple[int, int]]:
-    """What each has exactly once between these places, in the longest row that is in both orders."""
-    once = _once(a[it.start : it.end], it.start)
-    other = _once(b[it.new_start : it.new_end], it.new_start)
-    return _ascending([(at, other[item]) for item, at in once.items() if at >= 0 and other.get(item, -1) >= 0])
-
-
-def _once(items: Items, first: int) -> Dict[Hashable, int]:
-    """Where each item is, and -1 for those that come again."""
-    found: Dict[Hashable, int] = {}
-    for at, item in enumerate(items, first):
-        found[item] = -1 if item in found else at
-    return found
-
-
-def _ascending(pairs: List[Tuple[int, int]]) -> List[Tuple[int, int]]:
-    """The longest row of pairs, sorted by their first numbers, whose second numbers ascend."""
-    seconds = [it[1] for it in pairs]
-    if all(map(int.__lt__, seconds, itertools.islice(seconds, 1, None))):
-        return pairs
-    lows: List[int] = []
-    ends: List[int] = []
-    before = [-1] * len(pairs)
-    for n, at in enumerate(seconds):
-        place = bisect.bisect_left(lows, at)
-        lows[place : place + 1] = [at]
-        ends[place : place + 1] = [n]
-        before[n] = ends[place - 1] if place else -1
-    row, n = [], ends[-1]
-    while n >= 0:
-        row.append(pairs[n])
-        n = before[n]
-    return row[::-1]
-
-
-def _script(a: Items, b: Items, it: Edit) -> List[Edit]:
-    """A shortest script, or the whole where that is too much."""
-    i, j, k, l = it
-    if (j - i) * (l - k) <= PAIRS:
-        return [gap.moved(i, k) for gap in _shortest(a[i:j], b[k:l])]
-    found = _few(a, b, it)
-    return [it] if found is None else found
-
-
-def _shortest(a: Items, b: Items) -> List[Edit]:
-    """What is left out of a longest common subsequence, all columns of whose table are computed at once, as the bits of a
-    number (Hyyrö 2004: in row y a bit is 0 where the item of its column makes the subsequence longer)."""
-    columns: Dict[Hashable, int] = {}
-    for x, item in enumerate(a):
-        columns[item] = columns.get(item, 0) | 1 << x
-    row, full, rows = (1 << len(a)) - 1, (1 << len(a)) - 1, []
-    for item in b:
-        hits = row & columns.get(item, 0)
-        if hits:
-            row = ((row + hits) | (row - hits)) & full
-        rows.append(row)
-    found: List[Edit] = []
-    x, y = end, new_end = len(a), len(b)
-    while x and y:
-        if a[x - 1] == b[y - 1]:
-            if x < end or y < new_end:
-                found.append(Edit(x, end, y, new_end))
-            x, y = x - 1, y - 1
-            end, new_end = x, y
-        elif rows[y - 1] >> (x - 1) & 1:
-            x -= 1
-        else:
-            y -= 1
-    if end or new_end:
-        found.append(Edit(0, end, 0, new_end))
-    return found[::-1]
-
-
-def _weighed(a: str, b: str) -> List[Edit]:
-    """A shortest script in which a letter that isn't ASCII counts twice, since only it has bytes to lose: it is compared as
-    two items. The one that is matched first says with which letter the whole one is."""
-    owners: List[List[int]] = []
-    items: List[List[str]] = []
-    for text in a, b:
-        owners.append([at for at, letter in enumerate(text) for _ in range(1 if letter < "\x80" else 2)])
-        items.append([it for letter in text for it in ((letter,) if letter < "\x80" else (letter, letter * 2))])
-    pairs = [(-1, -1)]
-    x = y = 0
-    for gap in [*_shortest(items[0], items[1]), Edit(len(items[0]), 0, len(items[1]), 0)]:
-        for at, new_at in zip(range(x, gap.start), range(y, gap.new_start)):
-            pair = owners[0][at], owners[1][new_at]
-            if pair[0] > pairs[-1][0] and pair[1] > pairs[-1][1]:
-                pairs.append(pair)
-        x, y = gap.end, gap.new_end
-    return _between(Edit(0, len(a), 0, len(b)), pairs[1:])
-
-
-def _few(a: Items, b: Items, it: Edit) -> Optional[List[Edit]]:
-    """The shortest script (Myers 1986), or None where it has more than `STEPS` insertions and deletions."""
-    i, j, k, l = it
-    n, m = j - i, l - k
-    ends: Dict[int, int] = {1: 0}
-    trace: List[Dict[int, int]] = []
-    for steps in range(STEPS + 1):
-        trace.append(ends.copy())
-        for diagonal in range(-steps, steps + 1, 2):
-            down = diagonal == -steps or diagonal != steps and ends[diagonal - 1] < ends[diagonal + 1]
-            x = ends[diagonal + 1] if down else ends[diagonal - 1] + 1
-            y = x - diagonal
-            if x < n and y < m:
-                x += _common(a, b, i + x, k + y, min(n - x, m - y))
-            ends[diagonal] = x
-            if x >= n and x - diagonal >= m:
-                return [gap.moved(i, k) for gap in _walked(trace, n, m)]
-    return None
-
-
-def _walked(trace: List[Dict[int, int]], x: int, y: int) -> List[Edit]:
-    """The script that led to x and y."""
-    found: List[Edit] = []
-    for steps in range(len(trace) - 1, 0, -1):
-        ends, diagonal = trace[steps], x - y
-        down = diagonal == -steps or diagonal != steps and ends[diagonal - 1] < ends[diagonal + 1]
-        before = ends[diagonal + 1] if down else ends[diagonal - 1]
-        new_before = before - (diagonal + 1 if down else diagonal - 1)
-        step = Edit(before, before + (not down), new_before, new_before + down)
-        if found and (step.end, step.new_end) == (found[-1].start, found[-1].new_start):
-            step = Edit(step.start, found[-1].end, step.new_start, found.pop().new_end)
-        found.append(step)
-        x, y = before, new_before
-    return found[::-1]
-
-
-# A piece ends with a code point that is a multiple of 16, so that its end depends on nothing before it.
-_PIECE: List["re.Pattern[str]"] = []
-_ASCII = re.compile("[\0-\x7f]+")
-
-
-def _pieces(text: str) -> List[str]:
-    if not _PIECE:
-        cut = "".join(f"\\U{it:08x}" for it in range(0, 0x11000, 16) if not 0xD800 <= it < 0xE000)
-        _PIECE.append(re.compile(f"[^{cut}]{{0,62}}(?:[{cut}]|.)", re.DOTALL))
-    return _PIECE[0].findall(text)
-
-
-def _starts(items: Sequence[str], more: int) -> List[int]:
-    """Where each begins, `more` code points being between two, and where the next would."""
-    return [0, *itertools.accumulate(len(it) + more for it in items)]
-
-
-class _Texts:
-    """Two texts that are compared. Each is looked at as if it ended with an LF, so that all its lines do."""
-
-    def __init__(self, old: str, new: str, one_form: bool, same: str):
-        self.old, self.new, self.one_form = old + "\n", new + "\n", one_form
+    def __init__(self, of: Difference, one_form: bool, same: str, precious: Optional[_Ranges]):
+        self.of, self.old, self.new, self.one_form, self.precious = of, of.old, of.new, one_form, precious
         self.same = re.compile(f"[{re.escape(same)}]")
         self.letters = LETTERS
 
-    def lines(self) -> Iterator[Edit]:
-        """The runs of lines that differ."""
-        for it, _, _ in self._hunks():
-            yield from self._real(it)
-
     def edits(self) -> Iterator[Edit]:
-        """What differs within them."""
-        for hunk, a, b in self._hunks():
-            if len(a) < 2 or len(b) < 2 or self._is_small(hunk):
-                found = self._within(hunk)
-            else:
-                found = self._alike(a, b, hunk)
-            for it in found:
-                yield from self._real(it)
+        for hunk in self.of.hunks:
+            it = self.of.range_of(hunk)
+            few = hunk.end - hunk.start < 2 or hunk.new_end - hunk.new_start < 2
+            yield from self._within(it) if few or it.is_small() or self._is_plain(it) else self._alike(hunk)
 
-    def _real(self, it: Edit) -> List[Edit]:
-        """The edit without the LFs that were added: lines that came or went at the end take the one in front of them."""
-        if it.end == len(self.old) or it.new_end == len(self.new):
-            by = 1 if it.start and it.new_start else 0
-            it = Edit(it.start - by, it.end - 1, it.new_start - by, it.new_end - 1)
-        return [it] if it.start < it.end or it.new_start < it.new_end else []
+    def _is_plain(self, it: Edit) -> bool:
+        """Whether nothing that is replaced has bytes to lose."""
+        return self.precious is not None and self.precious.misses(it.start, it.end)
 
-    @staticmethod
-    def _is_small(it: Edit) -> bool:
-        return (it.end - it.start) * (it.new_end - it.new_start) <= PAIRS
-
-    def _hunks(self) -> Iterator[Tuple[Edit, List[str], List[str]]]:
-        """The lines that differ, with where they are."""
-        a, b = self.old[:-1].split("\n"), self.new[:-1].split("\n")
-        at, new_at = _starts(a, 1), _starts(b, 1)
-        for i, j, k, l in lines_that_differ(a, b):
-            yield Edit(at[i], at[j], new_at[k], new_at[l]), a[i:j], b[k:l]
-
-    def _alike(self, a: List[str], b: List[str], whole: Edit) -> Iterator[Edit]:
+    def _alike(self, hunk: Edit) -> Iterator[Edit]:
         """By lines whose letters are the same but for ASCII ones, and where there are as many, line by line."""
-        at, new_at = _starts(a, 1), _starts(b, 1)
-        keys, new_keys = ([_ASCII.sub("", it) or it for it in lines] for lines in (a, b))
-        gaps = list(_differences(keys, new_keys, Edit(0, len(a), 0, len(b)), DEPTH))
-        line, new_line = 0, 0
-        for i, j, k, l in [*gaps, Edit(len(a), len(a), len(b), len(b))]:
-            even = j - i == l - k
-            for p, q in zip(range(line, j if even else i), range(new_line, l if even else k)):
-                if a[p] != b[q]:
-                    yield from self._within(
-                        Edit(at[p], at[p + 1], new_at[q], new_at[q + 1]).moved(whole.start, whole.new_start))
+        lines, new_lines = self.of.lines, self.of.new_lines
+        unlike = differences(lines.letters(hunk.start, hunk.end), new_lines.letters(hunk.new_start, hunk.new_end))
+        line, new_line = hunk.start, hunk.new_start
+        end = Edit(hunk.end, hunk.end, hunk.new_end, hunk.new_end)
+        for gap in itertools.chain((it.moved(hunk.start, hunk.new_start) for it in unlike), [end]):
+            even = gap.end - gap.start == gap.new_end - gap.new_start
+            count = (gap.end if even else gap.start) - line
+            for p, q in zip(range(line, line + count), range(new_line, new_line + count)):
+                if lines.hashes[p] != new_lines.hashes[q]:
+                    yield from self._within(self.of.range_of(Edit(p, p + 1, q, q + 1)))
             if not even:
-                yield from self._within(Edit(at[i], at[j], new_at[k], new_at[l]).moved(whole.start, whole.new_start))
-            line, new_line = j, l
+                yield from self._within(self.of.range_of(gap))
+            line, new_line = gap.end, gap.new_end
 
-    def _within(self, whole: Edit) -> Iterator[Edit]:
-        """By code points, in long texts by pieces first."""
-        it = _trimmed(self.old, self.new, whole)
-        if it.start == it.end or it.new_start == it.new_end or self._is_small(it):
-            yield from self._by_damage(it)
+    def _within(self, lines: Edit) -> Iterator[Edit]:
+        """By letters, in long texts by pieces first."""
+        if lines.start == lines.end or lines.new_start == lines.new_end or self._is_plain(lines):
+            yield lines
             return
-        a, b = _pieces(self.old[it.start : it.end]), _pieces(self.new[it.new_start : it.new_end])
-        at, new_at = _starts(a, 0), _starts(b, 0)
-        for i, j, k, l in _differences(a, b, Edit(0, len(a), 0, len(b)), DEPTH):
-            yield from self._by_damage(Edit(at[i], at[j], new_at[k], new_at[l]).moved(it.start, it.new_start))
+        # (both end with an LF)
+        it = trimmed(self.old, self.new, Edit(lines.start, lines.end - 1, lines.new_start, lines.new_end - 1))
+        if it.is_small():
+            yield from self._by_same_ones(it)
+            return
+        a, b = (_piece().findall(text, start, end)
+                for text, start, end in ((self.old, it.start, it.end), (self.new, it.new_start, it.new_end)))
+        at, new_at = _starts(a, it.start), _starts(b, it.new_start)
 
-    def _by_damage(self, it: Edit) -> Iterator[Edit]:
+        def letters(gap: Edit) -> Edit:
+            return Edit(at[gap.start], at[gap.end], new_at[gap.new_start], new_at[gap.new_end])
+
+        for gap in differences(a, b, 4, lambda gap: letters(gap).is_small()):
+            yield from self._by_same_ones(letters(gap))
+
+    def _by_same_ones(self, it: Edit) -> Iterator[Edit]:
         """What lies between characters that nobody types and that are the same on both sides."""
-        for gap in _between(it, self._same_ones(it)):
-            yield from self._by_letters(_trimmed(self.old, self.new, gap))
+        for gap in between(it, self._same_ones(it)):
+            yield from self._by_letters(trimmed(self.old, self.new, gap))
 
     def _by_letters(self, it: Edit) -> List[Edit]:
         i, j, k, l = it
         if i == j or k == l:
             return [it] if i < j or k < l else []
         a, b = self.old[i:j], self.new[k:l]
-        self.letters -= len(a) + len(b)
-        if self.letters < 0 or self.one_form and (a.isascii() or b.isascii()):
+        if self.one_form and (a.isascii() or b.isascii()) or self._is_plain(it):
             return [it]
-        if 4 * len(a) * len(b) <= PAIRS:
-            return [gap.moved(i, k) for gap in _weighed(a, b)]
-        return _script(self.old, self.new, it)
+        self.letters -= len(a) + len(b)
+        if self.letters < 0:
+            return [it]
+        if Edit(0, 2 * len(a), 0, 2 * len(b)).is_small():
+            return [gap.moved(i, k) for gap in weighed(a, b)]
+        return script(self.old, self.new, it)
 
     def _same_ones(self, it: Edit) -> List[Tuple[int, int]]:
         """Places of characters that nobody types: in their order where both sides have the same, else those that have
@@ -385,13 +213,13 @@ class _Texts:
         letters, new_letters = [self.old[at] for at in a], [self.new[at] for at in b]
         if letters == new_letters:
             return list(zip(a, b))
-        if len(a) * len(b) > 10_000:
+        if len(a) * len(b) > PLACES:
             return []
         if len({*letters, *new_letters}) == 1:
             return self._best_pairs(a, b)
-        ends = [*_shortest(letters, new_letters), Edit(len(a), len(a), len(b), len(b))]
-        starts = [Edit(0, 0, 0, 0), *ends]
-        return [pair for one, other in zip(starts, ends)
+        ends = [*shortest(letters, new_letters), Edit(len(a), len(a), len(b), len(b))]
+        begins = [Edit(0, 0, 0, 0), *ends]
+        return [pair for one, other in zip(begins, ends)
                 for pair in zip(a[one.end : other.start], b[one.new_end : other.new_start])]
 
     def _best_pairs(self, a: List[int], b: List[int]) -> List[Tuple[int, int]]:
@@ -419,6 +247,6 @@ class _Texts:
 
     def _beside(self, at: int, new_at: int) -> int:
         """How many letters are equal on both sides of two places, of eight each."""
-        before = _common_end(self.old, self.new, at, new_at, min(8, at, new_at))
+        before = common_end(self.old, self.new, at, new_at, min(8, at, new_at))
         most = min(8, len(self.old) - at - 1, len(self.new) - new_at - 1)
-        return before + _common(self.old, self.new, at + 1, new_at + 1, most)
+        return before + common(self.old, self.new, at + 1, new_at + 1, most)

@@ -17,12 +17,14 @@ import errno
 import itertools
 import re
 import unicodedata
-from typing import Any, Callable, Dict, Iterator, List, NamedTuple, Optional, Sequence, Tuple
+from array import array
+from typing import Any, Callable, Dict, Iterator, List, NamedTuple, Optional, Sequence, Set, Tuple
 
 from gate import ROOM, Fault, Gate, Gone, Reply
-
-from legacy.arrangement import arranged
-from legacy.difference import BAD, Edit, common_lines, edits, joined, lines_that_differ
+from legacy.arrangement import Content, Run, arranged
+from legacy.difference import BAD, Difference, Range, joined
+from legacy.lines import Lines
+from legacy.sequences import Edit
 
 UNIT = "utf-32"
 # The most bytes of a document.
@@ -33,6 +35,8 @@ CHANGES, LINE = 1000, 3_500_000
 PIECE, PAGE = 250_000, 1_000_000
 # The most edits whose bytes are asked for with each, so that no second question is needed.
 FEW = 8
+# From how many code points of lines that differ on it is asked which lines have bytes to lose.
+MANY = 100_000
 # How often a single edit that is refused is made wider.
 WIDER = 6
 # The longest line that is looked for in a known text without a table of its lines, and how many are.
@@ -97,10 +101,8 @@ class _Document:
 
     def __init__(self, gate: Gate, label: str, raw: bytes):
         self.gate, self.name = gate, f"saving-{next(_NUMBERS)}"
-        self.parts = [gate.send("open", doc=self.name, label=label, bytes=_base64(raw[:ROOM]))]
-        self.rev = 0
-        for at in range(ROOM, len(raw), ROOM):
-            self.parts.append(self.edit("splice", at=at, bytes=_base64(raw[at : at + ROOM]), **{"del": 0}))
+        self.parts = gate.send_open(self.name, label, raw)
+        self.rev = len(self.parts) - 1
 
     def edit(self, op: str, **fields: object) -> Reply:
         """Sends an edit of the revision to which those before it lead."""
@@ -140,11 +142,16 @@ class _Document:
             self.ask("close")
 
 
-class _Start(NamedTuple):
-    """Bytes that edits are made in, and the text that they are."""
+class _Start:
+    """Bytes that edits are made in, and how their text differs from the one that is to be saved."""
 
-    raw: bytes
-    text: str
+    def __init__(self, raw: bytes, text: str, new: str):
+        self.raw, self.text, self.difference = raw, text, Difference(text, new)
+
+    def letters(self) -> int:
+        """How many code points the lines have that differ."""
+        ranges = map(self.difference.range_of, self.difference.hunks)
+        return sum(it.end - it.start + it.new_end - it.new_start for it in ranges)
 
 
 class _Rejected(Exception):
@@ -184,81 +191,106 @@ class _Saving:
 
     def _ways(self) -> Iterator[Tuple[_Start, bool]]:
         """What to begin with, and whether whole lines are replaced."""
-        here = _Start(self.base.raw, self.base.text)
-        there = self._arranged(False) if self._has_known_lines() else None
+        here = _Start(self.base.raw, self.base.text, self.new)
+        there = self._arranged(here.difference, False) if self._has_known_lines(here.difference) else None
         if there:
             yield there, False
         yield here, False
-        anywhere = self._arranged(True)
+        anywhere = self._arranged(here.difference, True)
         if anywhere:
             yield anywhere, False
             yield anywhere, True
         yield here, True
 
-    def _has_known_lines(self) -> bool:
+    def _has_known_lines(self, it: Difference) -> bool:
         """Whether it may be that a line was moved, copied or restored, or is like one that is gone."""
-        old, new = self.base.text, self.new
-        head, tail = common_lines(old, new)
-        a, b = old[head : len(old) - tail].split("\n"), new[head : len(new) - tail].split("\n")
-        hunks = lines_that_differ(a, b)
-        wanted = {b[n] for it in hunks for n in range(it.new_start, it.new_end) if not b[n].isascii()}
-        if len(wanted) > SOME or any(len(it) > SHORT for it in wanted):
+        typed = (it.new_lines[n] for hunk in it.hunks for n in range(hunk.new_start, hunk.new_end))
+        wanted = list(itertools.islice((line for line in typed if not line.isascii()), SOME + 1))
+        if len(wanted) > SOME or any(len(line) > SHORT for line in wanted):
             return True
-        gone = any(not a[n].isascii() for it in hunks for n in range(it.start, it.end))
-        return bool(wanted) and (len(hunks) > 1 and gone or any(
-            line.rstrip("\r") in it.text for it in [self.base, *self.others] for line in wanted))
+        gone = (it.lines[n] for hunk in it.hunks for n in range(hunk.start, hunk.end))
+        return bool(wanted) and (len(it.hunks) > 1 and not all(map(str.isascii, gone)) or any(
+            line.rstrip("\r") in known.text for known in [self.base, *self.others] for line in wanted))
 
-    def _arranged(self, anywhere: bool) -> Optional[_Start]:
+    def _arranged(self, it: Difference, anywhere: bool) -> Optional[_Start]:
         """The known lines of which the new text is made, or None where those of the base, as they are, are best."""
-        tables = [it for it in map(_lines, [self.base, *self.others]) if it]
+        tables = [table for table in map(_table, [self.base, *self.others]) if table]
         if not tables or tables[0].of is not self.base:
             return None
-        new = self.new.split("\n")
-        runs = arranged(tables[0].texts, [it.movable for it in tables], new, self.one_form, anywhere)
+        new = Lines(self.new)
+        before = self.new.count("\n", 0, it.head)
+        hunks = [hunk.moved(before, before) for hunk in it.hunks]
+        runs = arranged([Content(table.lines, table.fixed) for table in tables], new, hunks, self.one_form, anywhere)
         if runs is None:
             return None
         raws: List[bytes] = []
         texts: List[str] = []
-        for it in runs:
-            if it.content == len(tables):
-                texts += new[it.first : it.last]
-                raws += (line.encode("ascii") for line in new[it.first : it.last])
-            else:
-                texts += tables[it.content].texts[it.first : it.last]
-                raws += tables[it.content].raws[it.first : it.last]
-        return _Start(self.base.raw[: self.base.bom] + _feed(self.base.encoding).join(raws), "\n".join(texts))
+        for run in runs:
+            text, raw = tables[run.content].cut(run) if run.content < len(tables) else _literal(new, run)
+            texts.append(text)
+            raws.append(raw)
+        raw = self.base.raw[: self.base.bom] + _feed(self.base.encoding).join(raws)
+        return _Start(raw, "\n".join(texts), self.new)
 
     def _tried(self, start: _Start, lines: bool) -> bytes:
         """The bytes, where need be with single edits made wider. Raises `_Rejected`."""
-        found = edits(start.text, self.new, self.one_form, lines, self.same)
+        precious = None if lines or start.letters() < MANY else self._precious(start)
+        found = start.difference.by_lines() if lines else start.difference.edits(self.one_form, self.same, precious)
         first: Optional[_Rejected] = None
         for _ in range(WIDER):
             try:
                 return self._applied(start, found)
             except _Rejected as rejected:
                 first = first or rejected
-                wider = None if lines else self._wider(start.text, found, rejected)
+                wider = None if lines else self._wider(start, found, precious, rejected)
                 if wider is None or wider == found:
                     break
                 found = wider
         assert first
         raise first
 
-    def _wider(self, old: str, found: List[Edit], rejected: _Rejected) -> Optional[List[Edit]]:
+    def _wider(self, start: _Start, found: List[Edit], precious: Optional[List[Range]],
+               rejected: _Rejected) -> Optional[List[Edit]]:
         """The edits anew with one more character that nobody types, since the encoding lacks it; or with the refused one
         made wider, where it is its neighbours that it can't stand between."""
         code = rejected.fault.members.get("code_point")
         if code is not None:
-            if chr(code) in self.same or chr(code) not in old:
+            if chr(code) in self.same or chr(code) not in start.text:
                 return None
             self.same += chr(code)
-            return edits(old, self.new, self.one_form, same=self.same)
+            return start.difference.edits(self.one_form, self.same, precious)
         if rejected.fault.name not in ("NotKept", "SplitsItem") or rejected.edit not in found:
             return None
         it = rejected.edit
-        before, behind = min(1, it.start), min(1, len(old) - it.end)
+        before, behind = min(1, it.start), min(1, len(start.text) - it.end)
         wide = Edit(it.start - before, it.end + behind, it.new_start - before, it.new_end + behind)
-        return joined(old, sorted(wide if x == it else x for x in found), self.one_form)
+        return joined(start.text, sorted(wide if x == it else x for x in found), self.one_form)
+
+    def _precious(self, start: _Start) -> Optional[List[Range]]:
+        """The lines whose bytes aren't those that an encoder gives for their text, or None where that isn't asked for."""
+        table = _table(Known(start.raw, start.text, self.base.encoding, self.base.bom))
+        if self.base.encoding == "ISO-2022-JP" or not table:
+            return None
+        found: List[Range] = []
+        at = table.lines.starts
+        with _Document(self.gate, self.label, start.raw) as document:
+            document.opened()
+            for line, encoded in enumerate(self._encoded(document, start.text)):
+                if encoded != table.raw(line, line + 1):
+                    found.append((at[line], at[line + 1]))
+        return found
+
+    def _encoded(self, document: _Document, text: str) -> Iterator[bytes]:
+        """The lines of a text as an encoder gives them."""
+        at, feed = 0, _feed(self.base.encoding)
+        while at <= len(text):
+            end = text.find("\n", at + PAGE) + 1 or len(text) + 1
+            reply = document.ask("encode", label=self.base.encoding, mode="html", **{"from": at, "to": min(end, len(text))})
+            page = base64.b64decode(reply.get()["bytes"])
+            starts = _starts(page, 0, self.base.encoding)
+            lines = len(starts) - 1 - (end <= len(text))
+            yield from (page[starts[line] : starts[line + 1] - len(feed)] for line in range(lines))
+            at = end
 
     def _applied(self, start: _Start, found: List[Edit]) -> bytes:
         """The bytes with these edits made in them, once `gate` has decoded them to the new text."""
@@ -381,39 +413,61 @@ def _spliced(raw: bytes, plans: List[Reply]) -> bytes:
     return raw
 
 
-class _Lines(NamedTuple):
-    """A content's lines, without their LFs."""
+class _Table(NamedTuple):
+    """A content's lines, as text and as bytes."""
 
     of: Known
-    texts: List[str]
-    raws: List[bytes]
-    movable: List[str]  # the texts, and "" for those whose bytes are another text elsewhere
+    lines: Lines
+    starts: "array[int]"  # of the lines' bytes, and of one that would be behind the last
+    fixed: Set[int]  # the lines whose bytes are another text elsewhere
+
+    def raw(self, first: int, last: int) -> bytes:
+        """The bytes of some lines, without the last LF."""
+        return self.of.raw[self.starts[first] : self.starts[last] - len(_feed(self.of.encoding))]
+
+    def cut(self, run: Run) -> Tuple[str, bytes]:
+        return _text(self.lines, run), self.raw(run.first, run.last)
 
 
-def _lines(of: Known) -> Optional[_Lines]:
+def _text(lines: Lines, run: Run) -> str:
+    """Some lines, without the last LF."""
+    return lines.text[lines.starts[run.first] : lines.starts[run.last] - 1]
+
+
+def _literal(lines: Lines, run: Run) -> Tuple[str, bytes]:
+    """Lines that are ASCII, and each their own bytes."""
+    text = _text(lines, run)
+    return text, text.encode("ascii")
+
+
+def _table(of: Known) -> Optional[_Table]:
     """The lines of a content, or None where its bytes don't fall into the lines that its text has."""
-    body, texts = of.raw[of.bom :], of.text.split("\n")
-    if of.encoding.startswith("UTF-16"):
-        codec = "utf-16-le" if of.encoding == "UTF-16LE" else "utf-16-be"
-        odd = len(body) % 2
-        raws = [it.encode(codec, "surrogatepass") for it in body[: len(body) - odd].decode(codec, "surrogatepass").split("\n")]
-        movable = texts
-        if odd:
-            raws[-1] += body[-1:]
-            movable = [*texts[:-1], ""]
-    else:
-        raws = body.split(b"\n")
-        movable = _in_ascii(texts, raws) if of.encoding == "ISO-2022-JP" else texts
-    return _Lines(of, texts, raws, movable) if len(texts) == len(raws) else None
+    lines, starts = Lines(of.text), _starts(of.raw, of.bom, of.encoding)
+    if len(starts) != len(lines.starts):
+        return None
+    fixed: Set[int] = set()
+    if of.encoding == "ISO-2022-JP":
+        fixed = _not_in_ascii([of.raw[start:end] for start, end in zip(starts, starts[1:])])
+    elif of.encoding.startswith("UTF-16") and len(of.raw) % 2:
+        fixed = {len(lines) - 1}
+    return _Table(of, lines, starts, fixed)
 
 
-def _in_ascii(texts: List[str], raws: List[bytes]) -> List[str]:
-    """The texts of the lines of ISO-2022-JP that begin and end in ASCII."""
-    found, ascii_before = [], True
-    for text, raw in zip(texts, raws):
+def _starts(raw: bytes, first: int, encoding: str) -> "array[int]":
+    """Where the bytes of each line begin, and where those of one behind the last would."""
+    feed = _feed(encoding)
+    ends = (it.end() for it in re.compile(feed).finditer(raw, first) if not (it.start() - first) % len(feed))
+    return array("q", itertools.chain([first], ends, [len(raw) + len(feed)]))
+
+
+def _not_in_ascii(raws: Sequence[bytes]) -> Set[int]:
+    """The lines of ISO-2022-JP that don't begin and end in ASCII."""
+    found, ascii_before = set(), True
+    for line, raw in enumerate(raws):
         escapes = _ESCAPE.findall(raw)
         ascii_behind = escapes[-1] == b"\x1b(B" if escapes else ascii_before
-        found.append(text if ascii_before and ascii_behind else "")
+        if not (ascii_before and ascii_behind):
+            found.add(line)
         ascii_before = ascii_behind
     return found
 
@@ -425,10 +479,6 @@ def _has_one_form(encoding: str) -> bool:
 
 def _feed(encoding: str) -> bytes:
     return {"UTF-16LE": b"\n\0", "UTF-16BE": b"\0\n"}.get(encoding, b"\n")
-
-
-def _base64(content: bytes) -> str:
-    return base64.b64encode(content).decode()
 
 
 def _refused(fault: Fault, encoding: str = "", character: str = "") -> Refused:
