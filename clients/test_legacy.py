@@ -77,6 +77,9 @@ class Faults(unittest.TestCase):
             (finding.Missing("no gate"), 2, "legacy act: no gate\n"),
             (ModuleNotFoundError(name="pyfuse3"), 2,
              f"legacy act: the library pyfuse3, Debian's python3-pyfuse3, isn't installed for {sys.executable}\n"),
+            (ModuleNotFoundError(name="it.of"), 2, f"legacy act: the library it isn't installed for {sys.executable}\n"),
+            (PermissionError(13, "Permission denied", b"/a"), 2, "legacy act: /a: Permission denied\n"),
+            (OSError(28, "No space left on device"), 2, "legacy act: No space left on device\n"),
             (KeyboardInterrupt(), 130, "legacy act: interrupted\n"),
         ]:
             with self.subTest(line):
@@ -92,6 +95,15 @@ class Faults(unittest.TestCase):
         program.stdout.close()
         with program.stderr:
             self.assertEqual((program.stderr.read(), program.wait()), (b"", 141))
+
+
+    def test_an_output_that_is_full_or_closed(self):
+        words = [sys.executable, "-m", "legacy", "rules", "--default", "utf-8", str(CLIENTS)]
+        with open("/dev/full", "wb") as full:
+            ran = subprocess.run(words, env={**os.environ, "PYTHONPATH": str(CLIENTS)}, stdout=full, stderr=subprocess.PIPE)
+        self.assertEqual((ran.stderr.decode(), ran.returncode), ("legacy rules: No space left on device\n", 2))
+        closed = subprocess.run(["sh", "-c", '"$@" >&-', "sh", *words], env={**os.environ, "PYTHONPATH": str(CLIENTS)}, stderr=subprocess.PIPE)
+        self.assertEqual((closed.stderr, closed.returncode), (b"", 0))
 
 
 class Finding(unittest.TestCase):

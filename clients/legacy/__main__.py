@@ -45,8 +45,8 @@ def parser() -> argparse.ArgumentParser:
 def library(fault: ModuleNotFoundError) -> str:
     """What to say of a library that isn't there."""
     name = (fault.name or "").partition(".")[0]
-    hint = f", Debian's {PACKAGES[name]}" if name in PACKAGES else ""
-    return f"the library {name}{hint}, isn't installed for {sys.executable}"
+    hint = f", Debian's {PACKAGES[name]}," if name in PACKAGES else ""
+    return f"the library {name}{hint} isn't installed for {sys.executable}"
 
 
 def as_it_can(fault: UnicodeError) -> Tuple[Union[str, bytes], int]:
@@ -58,9 +58,24 @@ def as_it_can(fault: UnicodeError) -> Tuple[Union[str, bytes], int]:
         return codecs.lookup_error("backslashreplace")(fault)
 
 
+def fault_of(fault: OSError) -> str:
+    """What to say of a file or a stream that fails."""
+    return f"{os.fsdecode(fault.filename)}: {fault.strerror}" if fault.filename else str(fault.strerror or fault)
+
+
+def end_output() -> None:
+    """Writes what is left of the output, or sees that it doesn't fail again at the end."""
+    try:
+        sys.stdout.flush()
+    except OSError:
+        os.dup2(os.open(os.devnull, os.O_WRONLY), sys.stdout.fileno())
+
+
 def main(words: Optional[List[str]] = None) -> int:
     """Runs the subcommand that the words name, and returns its status."""
     codecs.register_error("as-it-can", as_it_can)
+    if sys.stdout is None:  # (it was closed, as of a service)
+        sys.stdout = open(os.devnull, "w")
     for stream in sys.stdout, sys.stderr:
         if isinstance(stream, io.TextIOWrapper):
             stream.reconfigure(errors="as-it-can")
@@ -75,10 +90,12 @@ def main(words: Optional[List[str]] = None) -> int:
         said, status = library(fault), USAGE
     except KeyboardInterrupt:
         said, status = "interrupted", INTERRUPTED
-    except BrokenPipeError:
-        # Whoever read the output, such as head, has enough. What is left of it must not fail again at the end.
-        os.dup2(os.open(os.devnull, os.O_WRONLY), sys.stdout.fileno())
+    except BrokenPipeError:  # Whoever read the output, such as head, has enough.
+        end_output()
         return CLOSED
+    except OSError as fault:
+        said, status = fault_of(fault), USAGE
+    end_output()
     print(f"legacy {found.subcommand}: {said}", file=sys.stderr)
     return status
 

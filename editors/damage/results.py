@@ -19,6 +19,6 @@ def install(page: pathlib.Path, parts: Mapping[str, str]) -> None:
     text = page.read_text()
     for name, part in parts.items():
         between = f"(<!-- {name} -->\n).*?(<!-- end of {name} -->)"
-        text, n = re.subn(between, lambda it: f"{it[1]}{part}\n{it[2]}", text, flags=re.S)
+        text, n = re.subn(between, lambda it: it[1] + part + "\n" + it[2], text, flags=re.S)
         assert n == 1, name
     page.write_text(text)
