@@ -12,7 +12,7 @@ use Rattle.encoders.specs.Steps.{encoded_iso, FromFault, unencodable_from, no_me
 use Rattle.position_map.specs.declared.change_fault.ChangeFault.TheVariants.{OutOfRange, SplitsItem}
 use Rattle.position_map.specs.Plan.{put_in}
 use Rattle.position_map.proofs.Words.{Files, has_files, OutputState, Document, decoded, text_of, ChangeFault, PosFault, OutOfRange as past_the_end}
-use Rattle.position_map.proofs.Words.{SplitsCharacter as inside_a_character, Plan, Range, TextUnit, Cut, cut_of, offset_of, planned, over_range}
+use Rattle.position_map.proofs.Words.{SplitsCharacter as inside_a_character, Plan, Position, Range, TextUnit, Cut, cut_of, offset_of, planned, over_range}
 use Rattle.position_map.proofs.Words.{with_ends, is_behind, position_cause, replacing, splice_with, encoder_cause, IsPlanned, with_return}
 use Rattle.position_map.proofs.Words.{same_output, begins_with_escape}
 use Rattle.position_map.proofs.ItemCutting.{cut_some, cut_none}
@@ -80,6 +80,10 @@ other_put d files encoding s r right text result same in_force there other h =
     h)
 
 -- ---- the ends of a range
+
+-- as the parts of a document have it, so has the document
+pub at_document : {p d : Document} (u : TextUnit) (at : Position) {r : Result ℕ PosFault} → p ≡ d → r ≡ offset_of (text_of p) u at → r ≡ offset_of (text_of d) u at
+at_document u at same h = rw (← same) h
 
 pub refused_end : (wanted : Result Plan ChangeFault) (fault : PosFault) → wanted ≡ Err (position_cause fault) → IsPlanned wanted (Err (position_cause fault))
 refused_end wanted past_the_end h = h

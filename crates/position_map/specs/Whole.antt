@@ -4,7 +4,7 @@ use Rattle.lane_ascii.specs.Marks.{marks}
 use Rattle.lane_utf.specs.Widths.{utf8_width, utf16_width, total_width}
 use Rattle.piece_rope.specs.Outcomes.{Outcome, total_of}
 use Rattle.piece_rope.specs.declared.lengths.Lengths.{Lengths}
-use Rattle.piece_rope.specs.Document.{Document, decoded, text_of}
+use Rattle.piece_rope.specs.Document.{Document, decoded, errors_of, text_of}
 use Rattle.piece_rope.specs.Made.{AreMade}
 use Rattle.piece_rope.specs.Outputs.{HaveOutputs}
 use Rattle.piece_rope.specs.Sizes.{longest, shortest}
@@ -44,4 +44,5 @@ pub record AreLengths (d : Document) (n : Lengths) : Type 0 where
   pub scalars : n.scalars ≡ length (text_of d)
   pub utf16 : n.utf16 ≡ total_width utf16_width (text_of d)
   pub utf8 : n.utf8 ≡ total_width utf8_width (text_of d)
+  pub errors : n.errors ≡ length (errors_of d)
   pub lines : n.lines ≡ marks false (text_of d) + 1

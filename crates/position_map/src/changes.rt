@@ -7,7 +7,7 @@ ghost use Rattle.position_map.specs.Whole.{pieces_most};
 
 use crate::change_fault::ChangeFault;
 use crate::item_cuts::cut_before;
-use crate::offsets::to_offset;
+use crate::offsets::offset_at;
 use crate::parts::Parts;
 use crate::plan::Plan;
 use crate::planned_bytes::PlannedBytes;
@@ -38,15 +38,17 @@ pub fn plan_change(
     ensures most { (d : ℕ) → pieces_most doc.now < 2 ^ d → visits.new ≤ visits.old + (10 * d + 20) }
     ensures kept { visits.old ≤ visits.new }
 {
+    let parts = Parts::of(doc);
     let Some(range) = range else {
-        return replace(alloc, doc, 0, doc.lengths().scalars, text, visits);
+        let end = parts.end(unit).scalars;
+        return replace(alloc, parts, 0, end, text, visits);
     };
     if is_behind(range.start, range.end) {
         return Err(ChangeFault::OutOfRange);
     }
-    let i = to_offset(doc, range.start, unit, visits)?;
-    let j = to_offset(doc, range.end, unit, visits)?;
-    replace(alloc, doc, i, j, text, visits)
+    let i = offset_at(&parts, unit, range.start, visits)?;
+    let j = offset_at(&parts, unit, range.end, visits)?;
+    replace(alloc, parts, i, j, text, visits)
 }
 
 // Whether a position is behind another, by line and then by character.
@@ -59,28 +61,27 @@ fn is_behind(p: Position, q: Position) -> bool
 // The splice that replaces the code points `i..j` by a text.
 fn replace(
     alloc: Global,
-    doc: &Doc<'_>,
+    parts: Parts<'_, '_>,
     i: u64,
     j: u64,
     text: &str,
     visits: &mut Visits,
 ) -> Result<Plan, ChangeFault>
     requires order { i ≤ j }
-    requires within { j ≤ length (text_of doc.now) }
-    ensures plan { IsPlanned (replacing doc.now (chars text.now) i j) result }
-    ensures fits { IfOk result (FitsText doc.now) }
-    ensures most { (d : ℕ) → pieces_most doc.now < 2 ^ d → visits.new ≤ visits.old + 2 * (d + 2) }
+    requires within { j ≤ length (text_of parts.doc) }
+    ensures plan { IsPlanned (replacing parts.entry.doc (chars text.now) i j) result }
+    ensures fits { IfOk result (FitsText parts.entry.doc) }
+    ensures most { (d : ℕ) → length parts.entry.pieces < 2 ^ d → visits.new ≤ visits.old + 2 * (d + 2) }
     ensures kept { visits.old ≤ visits.new }
 {
-    doc.law_in_force();
-    let parts = Parts::of(doc);
+    parts.law_in_force();
     let Some(left) = cut_before(&parts, i, visits) else {
         return Err(ChangeFault::SplitsItem);
     };
     let Some(right) = cut_before(&parts, j, visits) else {
         return Err(ChangeFault::SplitsItem);
     };
-    let ins = PlannedBytes::new(put_in(alloc, doc, left, right, text)?);
+    let ins = PlannedBytes::new(put_in(alloc, parts, left, right, text)?);
     let del = right.at.saturating_sub(left.at);
     let at = left.at;
     Ok(Plan { at, del, ins, i, j })

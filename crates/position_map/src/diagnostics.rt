@@ -43,7 +43,7 @@ pub fn first_error_from(doc: &Doc<'_>, line: u64, visits: &mut Visits) -> u64
 {
     let parts = Parts::of(doc);
     match line_start(&parts, Unit::Utf8, line, visits) {
-        None => doc.lengths().errors,
+        None => parts.errors(),
         Some(start) => errors_before(&parts, start.scalars, visits),
     }
 }

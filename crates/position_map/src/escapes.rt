@@ -2,8 +2,9 @@
 ghost use Rattle.std.specs.Prelude.{◌≡◌, ◌≤◌, IfOk, drop, length};
 ghost use Rattle.position_map.specs.Plan.{begins_with_escape};
 
+use crate::parts::Parts;
 use iso2022jp::{OutputState, escape_of};
-use piece_rope::{Doc, DocFault};
+use piece_rope::DocFault;
 
 // Whether bytes begin with an escape.
 fn begins_with_escape(bytes: &[u8]) -> bool
@@ -16,12 +17,11 @@ fn begins_with_escape(bytes: &[u8]) -> bool
         || bytes.starts_with(&[0x1B, 0x24, 0x40])
 }
 
-// Whether an escape begins at a byte of a document, of which at most three bytes are read.
-pub(crate) fn escape_begins(doc: &Doc<'_>, at: u64) -> Result<bool, DocFault>
-    requires { at ≤ length doc.now.bytes }
-    ensures { IfOk result (λ begins. begins ≡ begins_with_escape (drop at doc.now.bytes)) }
+// Whether an escape begins at a byte of a document.
+pub(crate) fn escape_begins(parts: Parts<'_, '_>, at: u64) -> Result<bool, DocFault>
+    requires { at ≤ length parts.doc.bytes }
+    ensures { IfOk result (λ begins. begins ≡ begins_with_escape (drop at parts.entry.doc.bytes)) }
 {
-    let rest = doc.lengths().bytes - at;
-    let bytes = doc.source(at, rest.min(3))?;
+    let bytes = parts.three_from(at)?;
     Ok(begins_with_escape(bytes.as_slice()))
 }

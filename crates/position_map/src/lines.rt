@@ -18,7 +18,8 @@ pub fn line_count(doc: &Doc<'_>) -> u64
     ensures lines { result ≡ length (lines_of (text_of doc.now)) }
     ensures ends { result ≡ marks false (text_of doc.now) + 1 }
 {
-    doc.lengths().lines
+    let parts = Parts::of(doc);
+    parts.line_count()
 }
 
 /// Where line `n` starts and where it ends without its line end, in code points from the text's

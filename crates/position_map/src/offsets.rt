@@ -39,17 +39,7 @@ pub fn to_offset(
     ensures kept { visits.old ≤ visits.new }
 {
     let parts = Parts::of(doc);
-    if position.line == 0 {
-        let start = Point {
-            scalars: 0,
-            units: 0,
-        };
-        return offset_from(&parts, unit, position, start, visits);
-    }
-    match mark_cut(&parts, position.line - 1, visits) {
-        None => Ok(parts.end(unit).scalars),
-        Some(cut) => offset_behind(&parts, unit, position, cut, visits),
-    }
+    offset_at(&parts, unit, position, visits)
 }
 
 /// The number of units of `to` that the code points take that take `value` units of `from`; an
@@ -74,6 +64,30 @@ pub fn convert(
     match front_at(&parts, from, value, visits) {
         Ok((before, front)) => Ok(sum_in(before, to) + units_in(front, to)),
         Err(fault) => Err(fault),
+    }
+}
+
+// The offset of a position.
+pub(crate) fn offset_at(
+    parts: &Parts<'_, '_>,
+    unit: Unit,
+    position: Position,
+    visits: &mut Visits,
+) -> Result<u64, PosFault>
+    ensures offset { result ≡ offset_of (text_of parts.now.doc) unit position }
+    ensures most { (d : ℕ) → length parts.now.pieces < 2 ^ d → visits.new ≤ visits.old + 4 * (d + 2) }
+    ensures kept { visits.old ≤ visits.new }
+{
+    if position.line == 0 {
+        let start = Point {
+            scalars: 0,
+            units: 0,
+        };
+        return offset_from(parts, unit, position, start, visits);
+    }
+    match mark_cut(parts, position.line - 1, visits) {
+        None => Ok(parts.end(unit).scalars),
+        Some(cut) => offset_behind(parts, unit, position, cut, visits),
     }
 }
 

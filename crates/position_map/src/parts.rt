@@ -1,6 +1,7 @@
 //! Documents as their pieces and their tail.
-ghost use Rattle.std.specs.Prelude.{◌≡◌, ℕ, ◌+◌, ◌^◌, ◌<◌, ◌≤◌, length, map, option_copied, IfSome, Some};
-ghost use Rattle.piece_rope.specs.Document.{decoded, text_of};
+ghost use Rattle.std.specs.Prelude.{◌≡◌, ℕ, ◌+◌, ◌-◌, ◌^◌, ◌<◌, ◌≤◌, length, map, take, drop, min, option_copied, true, IfOk, IfSome, Some};
+ghost use Rattle.index_loader.specs.Files.{has_files};
+ghost use Rattle.piece_rope.specs.Document.{decoded, errors_of, text_of};
 ghost use Rattle.piece_rope.specs.Entry.{here_of};
 ghost use Rattle.piece_rope.specs.Sizes.{longest};
 ghost use Rattle.position_map.specs.Found.{IsFoundBy, IsFoundOutcome, errors_in_sum};
@@ -12,12 +13,17 @@ ghost use Rattle.position_map.specs.Whole.{AreLengths, AreAllPieces};
 use crate::item_cuts::Cut;
 use crate::point::Point;
 use crate::unit::Unit;
+use enc_names::Encoding;
+use index_loader::Indexes;
 use iso2022jp::OutputState;
-use piece_rope::{Axis, Doc, Entered, ErrorCount, Finder, Lengths, Outcome, Sum, Visits};
+use piece_rope::{Axis, Doc, DocFault, Entered, ErrorCount, Finder, Lengths, Outcome, Sum, Visits};
 use std::marker::Model;
 
 /// A document as its pieces, which are reached by searches alone, and its tail. Contracts see what
-/// these decode to.
+/// these decode to. It is all that this crate's bodies have of a document: they reach it by the calls
+/// below alone, each of which counts its visits or reads what is stored whole, but for two paths of
+/// the tree: the one to the first bytes, and in `three_from` one to three bytes. It has no copies, so
+/// that this last call, which takes it, is made once.
 #[derive(Drop)]
 pub(crate) struct Parts<'d, 'i> {
     doc: &'d Doc<'i>,
@@ -76,6 +82,35 @@ impl<'d, 'i> Parts<'d, 'i> {
         ensures whole { AreAllPieces self.now.doc self.now.pieces self.now.tail }
     {
         self.lengths.lines
+    }
+
+    // The number of errors.
+    pub(crate) fn errors(&self) -> u64
+        ensures { result ≡ length (errors_of self.now.doc) }
+    {
+        self.lengths.errors
+    }
+
+    // The indexes that the document was opened with.
+    pub(crate) fn indexes(&self) -> &'i Indexes
+        ensures { result.now ≡ self.now.doc.indexes }
+    {
+        self.doc.indexes()
+    }
+
+    // The encoding in force.
+    pub(crate) fn encoding(&self) -> Encoding
+        ensures { result ≡ (decoded self.now.doc).encoding }
+    {
+        self.doc.encoding()
+    }
+
+    // The laws of the encoding in force (`Doc::law_in_force`); the call does nothing.
+    pub(crate) fn law_in_force(&self)
+        ensures files { has_files self.now.doc.indexes (decoded self.now.doc).encoding ≡ true }
+        ensures within { (decoded self.now.doc).bom ≤ length self.now.doc.bytes }
+    {
+        self.doc.law_in_force();
     }
 
     // The number of bytes of the byte order mark.
@@ -141,5 +176,14 @@ impl<'d, 'i> Parts<'d, 'i> {
             Some(entered) => (before, Some(entered.here())),
             None => (before, None),
         }
+    }
+
+    // The three bytes from `at` on, or as many as there are.
+    pub(crate) fn three_from(self, at: u64) -> Result<Vec<u8>, DocFault>
+        requires { at ≤ length self.doc.bytes }
+        ensures { IfOk result (λ bytes. bytes.items ≡ take (min (length self.entry.doc.bytes - at) 3) (drop at self.entry.doc.bytes)) }
+    {
+        let rest = self.lengths.bytes - at;
+        self.doc.source(at, rest.min(3))
     }
 }

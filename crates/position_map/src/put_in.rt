@@ -10,27 +10,27 @@ ghost use Rattle.position_map.specs.Plan.{put_in, with_return, same_output};
 
 use crate::escapes::escape_begins;
 use crate::item_cuts::Cut;
+use crate::parts::Parts;
 use enc_names::Encoding;
 use encoders::{EncodeFault, EncodeMode, encode};
 use iso2022jp::{OutputState, encode_from, escape_of};
-use piece_rope::Doc;
 use std::alloc::Global;
 
 // The bytes of a text to be put in between two cuts, in the encoding in force.
 pub(crate) fn put_in(
     alloc: Global,
-    doc: &Doc<'_>,
+    parts: Parts<'_, '_>,
     left: Cut,
     right: Cut,
     text: &str,
 ) -> Result<Vec<u8>, EncodeFault>
-    requires { right.at ≤ length doc.now.bytes }
-    ensures { IsEncoded (put_in doc.now (decoded doc.now).encoding left.output right.output right.at (chars text.now)) result }
+    requires { right.at ≤ length parts.doc.bytes }
+    ensures { IsEncoded (put_in parts.entry.doc (decoded parts.entry.doc).encoding left.output right.output right.at (chars text.now)) result }
 {
-    doc.law_in_force();
-    match doc.encoding() {
-        Encoding::Iso2022Jp => put_iso(alloc, doc, left, right, text),
-        encoding => encode(alloc, encoding, doc.indexes(), EncodeMode::Fatal, text),
+    parts.law_in_force();
+    match parts.encoding() {
+        Encoding::Iso2022Jp => put_iso(alloc, parts, left, right, text),
+        encoding => encode(alloc, encoding, parts.indexes(), EncodeMode::Fatal, text),
     }
 }
 
@@ -38,20 +38,20 @@ pub(crate) fn put_in(
 // one, where no escape follows by itself.
 fn put_iso(
     alloc: Global,
-    doc: &Doc<'_>,
+    parts: Parts<'_, '_>,
     left: Cut,
     right: Cut,
     text: &str,
 ) -> Result<Vec<u8>, EncodeFault>
-    requires files { has_files doc.now.indexes Iso2022Jp ≡ true }
-    requires within { right.at ≤ length doc.now.bytes }
-    ensures { IsEncoded (bytes_only (with_return right.output (drop right.at doc.now.bytes) (encoded_iso doc.now.indexes left.output (chars text.now) false false))) result }
+    requires files { has_files parts.doc.indexes Iso2022Jp ≡ true }
+    requires within { right.at ≤ length parts.doc.bytes }
+    ensures { IsEncoded (bytes_only (with_return right.output (drop right.at parts.entry.doc.bytes) (encoded_iso parts.entry.doc.indexes left.output (chars text.now) false false))) result }
 {
-    let (mut bytes, state) = encode_from(alloc, doc.indexes(), left.output, text, false, false)?;
+    let (mut bytes, state) = encode_from(alloc, parts.indexes(), left.output, text, false, false)?;
     if same_output(state, right.output) {
         return Ok(bytes);
     }
-    let Ok(escape_follows) = escape_begins(doc, right.at) else {
+    let Ok(escape_follows) = escape_begins(parts, right.at) else {
         return Err(EncodeFault::OutOfMemory);
     };
     if escape_follows {

@@ -1,10 +1,11 @@
-use Rattle.position_map.proofs.Words.{◌≡◌, ◌≤◌, ◌∙◌, subst, length, text_of, Utf8, errors_before_line, lines_of}
+use Rattle.position_map.proofs.Words.{◌≡◌, ◌∙◌, subst, Utf8, errors_before_line}
 use Rattle.position_map.proofs.ErrorLines.{before-end, before-line}
 use Rattle.position_map.proofs.diagnostics.first_error_from.Goals as goal
 
 pub returns-in-None-clause-number : goal.returns-in-None-clause-number
 returns-in-None-clause-number c =
-    c.lengths.ensures.errors ∙ before-end c.args.doc.now c.args.line (subst (λ d. length (lines_of (text_of d)) ≤ c.args.line) c.of-parts.ensures.doc c.in-None.ensures.start)
+    subst (λ d. c.errors.result ≡ errors_before_line d c.args.line) c.of-parts.ensures.doc
+    (c.errors.ensures ∙ before-end c.of-parts.result.doc c.args.line c.in-None.ensures.start)
 
 pub returns-in-Some-clause-number : goal.returns-in-Some-clause-number
 returns-in-Some-clause-number c =
