@@ -1,0 +1,7 @@
+mod Beside
+mod Number
+mod Others
+mod Prelude
+mod Reaching
+mod Steps
+mod Taken

@@ -1,0 +1,87 @@
+-- What an act leaves as it was: the other clients, and how little waits to be taken of each.
+use Rattle.std.proofs.Common.{zero, suc}
+use Rattle.std.proofs.lemmas.List.{length-drop}
+use Rattle.devices.specs.declared.reading.TheConstants.{READ_BUFFER}
+use Rattle.sessions.specs.Advances.{is_step_of, are_steps_of}
+use Rattle.sessions.proofs.Prelude.{◌≡◌, ◌≢◌, ℕ, ◌<◌, ◌≤◌, true, List, [], ◌∷◌, length, replicate, ◌⊎◌, Option, None, Some, slice_set, sym, ap, ◌∙◌, subst, inl, inr, arith, length-set, get_or-set_other, get_or-set_same, eqb-true, eqb_tells}
+use Rattle.sessions.proofs.Prelude.{Happening, connections, at_number, line_at, Numbered, Client, Hall, client_at, fresh_client, Act, Joins, Sends, Asks, Gets, Leaves, Acts, ActAll, HasLittle, InputIsLittle, number_within}
+use Rattle.sessions.proofs.Reaching.{both_stay}
+
+-- ---- other clients
+
+-- client d is as it was, and the line that is begun on its connection
+abbrev IsKept : Hall → Hall → ℕ → Type 0
+IsKept old new d = (client_at new d ≡ client_at old d) × (line_at new.traffic d ≡ line_at old.traffic d)
+
+kept_one : (old mid : Hall) (a : Act) (es : List Happening) (said : List Numbered) (c d : ℕ) → d ≢ c → is_step_of c a ≡ true → Acts old a es said mid → IsKept old mid d
+kept_one old mid (Joins n) es said c d ne step h = cc
+kept_one old mid (Sends n bytes) es said c d ne step h = (
+  ap (λ (x : Hall). client_at x d) h.2.is ∙ get_or-set_other old.clients n d _ None (λ s. ne (s ∙ eqb-true n c step)),
+  ap (λ (x : Hall). line_at x.traffic d) h.2.is,
+)
+kept_one old mid (Asks n) es said c d ne step h = (
+  ap (λ l. at_number l d) h.4.is ∙ get_or-set_other old.clients n d _ None (λ s. ne (s ∙ eqb-true n c step)),
+  ap (λ l. at_number l d) h.4.took.lines ∙ get_or-set_other old.traffic.lines n d _ None (λ s. ne (s ∙ eqb-true n c step)),
+)
+kept_one old mid (Gets n bytes) es said c d ne step h = (
+  ap (λ (x : Hall). client_at x d) h.2.is ∙ get_or-set_other old.clients n d _ None (λ s. ne (s ∙ eqb-true n c step)),
+  ap (λ (x : Hall). line_at x.traffic d) h.2.is,
+)
+kept_one old mid (Leaves n) es said c d ne step h = cc
+
+pub others_kept : (old new : Hall) (acts : List Act) (es : List Happening) (replies : List Numbered) (c d : ℕ) → d ≢ c → are_steps_of c acts ≡ true → ActAll old acts es replies new → IsKept old new d
+others_kept old new [] es replies c d ne steps h = (ap (λ (x : Hall). client_at x d) h.2, ap (λ (x : Hall). line_at x.traffic d) h.2)
+others_kept old new (a ∷ acts) es replies c d ne steps h =
+    let both = both_stay (is_step_of c a) (are_steps_of c acts) steps in
+    let one = kept_one old h.0 a h.1 h.3 c d ne both.0 h.5 in
+    let rest = others_kept h.0 new acts h.2 h.4 c d ne both.1 h.6 in
+    (rest.0 ∙ one.0, rest.1 ∙ one.1)
+
+-- ---- what waits to be taken
+
+-- what is at c behind a put at d was there, or was put
+put_at : (xs : List (Option Client)) (d c : ℕ) (x : Option Client) (y : Client) → at_number (slice_set xs d x) c ≡ Some y → (at_number xs c ≡ Some y) ⊎ (x ≡ Some y)
+put_at xs d c x y h = elim (eqb_tells c d) as (λ _. (at_number xs c ≡ Some y) ⊎ (x ≡ Some y)) [
+  | inl same ↦
+      let within = number_within (slice_set xs d x) c y h in
+      let is : c ≡ d = same.1 in
+      let count = length-set xs d x in
+      let small : d < length xs = omega (arith, within, is, count) in
+      inr (sym (get_or-set_same xs d x None small) ∙ ap (at_number (slice_set xs d x)) (sym is) ∙ h)
+  | inr other ↦ inl (sym (get_or-set_other xs d c x None other.1) ∙ h)
+]
+
+little_put : (old mid : Hall) (d : ℕ) (x : Option Client) → mid.clients ≡ slice_set old.clients d x → ((y : Client) → x ≡ Some y → length y.input ≤ READ_BUFFER) → HasLittle old → HasLittle mid
+little_put old mid d x put few little c client here =
+    elim (put_at old.clients d c x client (sym (ap (λ l. at_number l c) put) ∙ here)) [ inl was ↦ little c client was | inr is ↦ few client is ]
+
+little_of : (x : Client) → length x.input ≤ READ_BUFFER → (y : Client) → Some x ≡ Some y → length y.input ≤ READ_BUFFER
+little_of x few y e = let same : x ≡ y = cc in subst (λ (k : Client). length k.input ≤ READ_BUFFER) same few
+
+little_one : (old mid : Hall) (a : Act) (es : List Happening) (said : List Numbered) → Acts old a es said mid → HasLittle old → HasLittle mid
+little_one old mid (Joins c) es said h little =
+    little_put old mid c _ (ap (λ (x : Hall). x.clients) h.2.is) (little_of fresh_client (omega arith)) little
+little_one old mid (Sends c bytes) es said h little =
+    little_put old mid c _ (ap (λ (x : Hall). x.clients) h.2.is) (little_of _ h.2.few) little
+little_one old mid (Asks c) es said h little =
+    let before = little c _ h.4.was in
+    let count = length-drop h.4.taken h.0 in
+    little_put old mid c _ h.4.is (little_of _ (omega (arith, before, count))) little
+little_one old mid (Gets c bytes) es said h little =
+    little_put old mid c _ (ap (λ (x : Hall). x.clients) h.2.is) (little_of _ (little c _ h.2.was)) little
+little_one old mid (Leaves c) es said h little = little_put old mid c None (ap (λ (x : Hall). x.clients) h.2.is) (λ y e. cc) little
+
+little_all : (old new : Hall) (acts : List Act) (es : List Happening) (replies : List Numbered) → ActAll old acts es replies new → HasLittle old → HasLittle new
+little_all old new [] es replies h little = subst HasLittle (sym h.2) little
+little_all old new (a ∷ acts) es replies h little = little_all h.0 new acts h.2 h.4 h.6 (little_one old h.0 a h.1 h.3 h.5 little)
+
+nobody : (n c : ℕ) (client : Client) → at_number (replicate n None) c ≡ Some client → ⊥
+nobody zero c client h = cc
+nobody (suc n) zero client h = cc
+nobody (suc n) (suc c) client h = nobody n c client h
+
+pub input_is_little : InputIsLittle
+input_is_little = record {
+  begin = λ h none c client here. absurd (nobody connections c client (sym (ap (λ l. at_number l c) none) ∙ here));
+  stays = λ old new acts did little. little_all old new acts did.0 did.1 did.2 little;
+}

@@ -1,0 +1,236 @@
+-- One act, as a call makes it.
+use Rattle.std.proofs.Common.{lt-ltb, set-set, eq-eqb, ◌≢◌, zero, suc}
+use Rattle.std.proofs.lemmas.List.{take-append-drop}
+use Rattle.devices.specs.declared.reading.TheConstants.{READ_BUFFER}
+use Rattle.sessions.specs.Advances.{Advanced, Moves, are_steps_of}
+use Rattle.sessions.specs.Reaching.{came, went}
+use Rattle.sessions.proofs.Others.{others_kept}
+use Rattle.sessions.specs.declared.sessions.Advance.{Advance}
+use Rattle.sessions.specs.declared.sessions.Advance.TheVariants.{Moved}
+use Rattle.std.specs.Option.{is_some, option_map}
+use Rattle.sessions.proofs.Prelude.{◌≡◌, ℕ, ◌<◌, ◌≤◌, ◌==◌, Bool, true, false, List, [], ◌∷◌, ◌++◌, length, drop, take, Option, None, Some, slice_set, refl, sym, ap, ◌∙◌, subst, inl, inr, arith, append-nil, get_or-set_other, get_or-set_same, eqb_tells, eqb-true}
+use Rattle.sessions.proofs.Prelude.{Traffic, Partial, Received, Happening, Opening, Bringing, Closing, connections, at_number, unless_open, unless_closed, unless_bad_number, gate_fault, Took, with_line, Numbered, or_empty}
+use Rattle.sessions.proofs.Prelude.{Client, Hall, client_at, fresh_client, Act, Joins, Sends, Asks, Gets, Leaves, with_client, Acts, Did, Matches, Present, number_within}
+
+-- ---- the same numbers
+
+same_unless : (x : Option Partial) (y : Option Client) → is_some x ≡ is_some y → (unless_open x ≡ unless_open y) × (unless_closed x ≡ unless_closed y)
+same_unless None None e = (refl, refl)
+same_unless (Some x) (Some y) e = (refl, refl)
+same_unless None (Some y) e = cc
+same_unless (Some x) None e = cc
+
+pub same_fault : (t : Traffic) (cs : List (Option Client)) (e : Happening) → Matches t cs → gate_fault t.lines e ≡ gate_fault cs e
+same_fault t cs (Opening c) m = ap (unless_bad_number c) (same_unless _ _ (m c)).1
+same_fault t cs (Bringing c bytes) m = ap (unless_bad_number c) (same_unless _ _ (m c)).0
+same_fault t cs (Closing c) m = ap (unless_bad_number c) (same_unless _ _ (m c)).0
+
+open_some : (x : Option Client) → is_some x ≡ true → unless_open x ≡ None
+open_some (Some x) h = refl
+open_some None h = cc
+
+pub map_some : {A B : Type 0} (f : A → B) (x : Option A) → is_some (option_map f x) ≡ is_some x
+map_some f (Some x) = refl
+map_some f None = refl
+
+-- a client that is there may bring and go
+pub may_bring : (t : Traffic) (cs : List (Option Client)) (c : ℕ) (bytes : List ℕ) (client : Client) → Matches t cs → c < connections → at_number cs c ≡ Some client → gate_fault t.lines (Bringing c bytes) ≡ None
+may_bring t cs c bytes client m small is = same_fault t cs (Bringing c bytes) m ∙ rw (lt-ltb c connections small, is) refl
+
+pub may_close : (t : Traffic) (cs : List (Option Client)) (c : ℕ) → Matches t cs → c < connections → is_some (at_number cs c) ≡ true → gate_fault t.lines (Closing c) ≡ None
+may_close t cs c m small here = same_fault t cs (Closing c) m ∙ rw (lt-ltb c connections small) (open_some (at_number cs c) here)
+
+-- and where there is none, one may come
+pub may_open : (t : Traffic) (cs : List (Option Client)) (c : ℕ) → Matches t cs → c < connections → at_number cs c ≡ None → gate_fault t.lines (Opening c) ≡ None
+may_open t cs c m small is = same_fault t cs (Opening c) m ∙ rw (lt-ltb c connections small, is) refl
+
+-- a line and a client are put at a number, or taken away there
+pub matches_set : (t u : Traffic) (cs ds : List (Option Client)) (c : ℕ) (x : Option Partial) (y : Option Client) → Matches t cs → c < length t.lines → c < length cs → u.lines ≡ slice_set t.lines c x → ds ≡ slice_set cs c y
+    → is_some x ≡ is_some y → Matches u ds
+matches_set t u cs ds c x y m line place lines clients same = λ d. elim (eqb_tells d c) as (λ _. is_some (at_number u.lines d) ≡ is_some (at_number ds d)) [
+  | inl here ↦ rw (lines, clients, here.1, get_or-set_same t.lines c x None line, get_or-set_same cs c y None place) same
+  | inr other ↦ rw (lines, clients, get_or-set_other t.lines c d x None other.1, get_or-set_other cs c d y None other.1) (m d)
+]
+
+-- only a client is put, where one was
+pub matches_put : (t : Traffic) (cs ds : List (Option Client)) (c : ℕ) (was : Client) (y : Client) → Matches t cs → c < length cs → at_number cs c ≡ Some was → ds ≡ slice_set cs c (Some y) → Matches t ds
+matches_put t cs ds c was y m place is clients = λ d. elim (eqb_tells d c) as (λ _. is_some (at_number t.lines d) ≡ is_some (at_number ds d)) [
+  | inl here ↦ rw (clients, here.1, get_or-set_same cs c (Some y) None place) (m c ∙ ap is_some is)
+  | inr other ↦ rw (clients, get_or-set_other cs c d (Some y) None other.1) (m d)
+]
+
+-- ---- one act alone
+
+pub did_one : (old new : Hall) (a : Act) (es : List Happening) (said : List Numbered) → Acts old a es said new → Did old (a ∷ []) new
+did_one old new a es said h = (es, said, (new, es, [], said, [], h, (refl, refl, refl), sym (append-nil es), sym (append-nil said)))
+
+pub did_none : (h : Hall) → Did h [] h
+did_none h = ([], [], (refl, refl, refl))
+
+-- ---- by call
+
+client_is : (a : Client) (x y : List ℕ) → a.input ≡ x → a.unsent ≡ y → a ≡ record { input = x; unsent = y }
+client_is a x y p q =
+    let f : List ℕ → Client = λ i. record { input = i; unsent = a.unsent } in
+    let g : List ℕ → Client = λ u. record { input = x; unsent = u } in
+    ap f p ∙ ap g q
+
+module _ (t u : Traffic) (cs ds : List (Option Client)) (c : ℕ) (session after : Client) (taken : ℕ) (reply : Option (List ℕ)) (m : Matches t cs) (small : c < connections) (is : at_number cs c ≡ Some session)
+    (took : Took t c session.input taken reply u) (put : ds ≡ slice_set (slice_set cs c None) c (Some after)) where
+  pub asked : session.unsent ≡ [] → after.input ≡ drop taken session.input → after.unsent ≡ or_empty reply → Did (record { traffic = t; clients = cs }) (Asks c ∷ []) (record { traffic = u; clients = ds })
+  asked settled input unsent = did_one _ _ (Asks c) _ _ (
+    session.input,
+    reply,
+    refl,
+    refl,
+    record {
+      taken = taken;
+      is_open = may_bring t cs c session.input session m small is;
+      was = is ∙ ap Some (client_is session session.input [] refl settled);
+      took = took;
+      is = put ∙ set-set cs c None (Some after) ∙ ap (λ a. slice_set cs c (Some a)) (client_is after _ _ input unsent);
+    },
+  )
+
+  pub asked_match : Matches u ds
+  asked_match =
+      matches_set t u cs ds c (Some took.next) (Some after) m (number_within t.lines c took.begun took.was) (number_within cs c session is) took.lines (put ∙ set-set cs c None (Some after)) refl
+
+module _ (t u : Traffic) (cs ds : List (Option Client)) (c : ℕ) (m : Matches t cs) (small : c < connections) (line : c < length t.lines) (place : c < length cs) where
+  pub joins : (session : Client) → at_number cs c ≡ None → u ≡ with_line t c (Some (Received [])) → ds ≡ slice_set cs c (Some session) → session ≡ fresh_client
+      → Did (record { traffic = t; clients = cs }) (Joins c ∷ []) (record { traffic = u; clients = ds })
+  joins session none opened put fresh = did_one _ _ (Joins c) _ _ (
+    refl,
+    refl,
+    record {
+      free = may_open t cs c m small none;
+      vacant = none;
+      is =
+          let f : Traffic → Hall = λ x. record { traffic = x; clients = ds } in
+          let g : List (Option Client) → Hall = λ x. record { traffic = with_line t c (Some (Received [])); clients = x } in
+          ap f opened ∙ ap g (put ∙ ap (λ a. slice_set cs c (Some a)) fresh);
+    },
+  )
+
+  pub joins_match : (session : Client) → u ≡ with_line t c (Some (Received [])) → ds ≡ slice_set cs c (Some session) → Matches u ds
+  joins_match session opened put = matches_set t u cs ds c (Some (Received [])) (Some session) m line place (ap (λ (x : Traffic). x.lines) opened) put refl
+
+  pub leaves : is_some (at_number cs c) ≡ true → u ≡ with_line t c None → ds ≡ slice_set cs c None
+      → Did (record { traffic = t; clients = cs }) (Leaves c ∷ []) (record { traffic = u; clients = ds })
+  leaves here closed put = did_one _ _ (Leaves c) _ _ (
+    refl,
+    refl,
+    record {
+      is_open = may_close t cs c m small here;
+      is =
+          let f : Traffic → Hall = λ x. record { traffic = x; clients = ds } in
+          let g : List (Option Client) → Hall = λ x. record { traffic = with_line t c None; clients = x } in
+          ap f closed ∙ ap g put;
+    },
+  )
+
+  pub leaves_match : u ≡ with_line t c None → ds ≡ slice_set cs c None → Matches u ds
+  leaves_match closed put = matches_set t u cs ds c None None m line place (ap (λ (x : Traffic). x.lines) closed) put refl
+
+module _ (t : Traffic) (cs ds : List (Option Client)) (c : ℕ) (session after : Client) (is : at_number cs c ≡ Some session) (put : ds ≡ slice_set (slice_set cs c None) c (Some after)) where
+  pub put_match : Matches t cs → Matches t ds
+  put_match m = matches_put t cs ds c session after m (number_within cs c session is) is (put ∙ set-set cs c None (Some after))
+
+  with_after : (x : Client) → after ≡ x → record { traffic = t; clients = ds } ≡ with_client (record { traffic = t; clients = cs }) t c (Some x)
+  with_after x same =
+      let g : List (Option Client) → Hall = λ l. record { traffic = t; clients = l } in
+      ap g (put ∙ set-set cs c None (Some after) ∙ ap (λ a. slice_set cs c (Some a)) same)
+
+  pub gets : (n : ℕ) → after.input ≡ session.input → after.unsent ≡ drop n session.unsent
+      → Did (record { traffic = t; clients = cs }) (Gets c (take n session.unsent) ∷ []) (record { traffic = t; clients = ds })
+  gets n input unsent = did_one _ _ (Gets c (take n session.unsent)) _ _ (
+    refl,
+    refl,
+    record {
+      input = session.input;
+      rest = drop n session.unsent;
+      was = is ∙ ap Some (client_is session session.input _ refl (sym (take-append-drop n session.unsent)));
+      is = with_after _ (client_is after session.input _ input unsent);
+    },
+  )
+
+  pub sends : (bytes : List ℕ) → length after.input ≤ READ_BUFFER → session ≡ fresh_client → after.input ≡ bytes → after.unsent ≡ session.unsent
+      → Did (record { traffic = t; clients = cs }) (Sends c bytes ∷ []) (record { traffic = t; clients = ds })
+  sends bytes few fresh input unsent = did_one _ _ (Sends c bytes) _ _ (
+    refl,
+    refl,
+    record {
+      few = subst (λ l. length l ≤ READ_BUFFER) input few;
+      was = is ∙ ap Some fresh;
+      is = with_after _ (client_is after bytes [] input (unsent ∙ ap (λ (x : Client). x.unsent) fresh));
+    },
+  )
+
+-- ---- steps
+
+module _ (answer : Advance) (c : ℕ) (old new : Hall) (received_old received_new sent_old sent_new : List ℕ) where
+  advanced : (acts : List Act) → are_steps_of c acts ≡ true → (answer ≡ Moved → Moves c acts) → Did old acts new → received_new ≡ received_old ++ came c acts → sent_new ≡ sent_old ++ went c acts
+      → Advanced answer c old new received_old received_new sent_old sent_new
+  advanced acts own moved did received sent = record {
+    acts = acts;
+    own = own;
+    moved = moved;
+    did = did;
+    received = received;
+    sent = sent;
+    others = λ d ne. (others_kept old new acts did.0 did.1 c d ne own did.2).0;
+    other_lines = λ d ne. (others_kept old new acts did.0 did.1 c d ne own did.2).1;
+  }
+
+  here : (c == c) ≡ true
+  here = eq-eqb c c refl
+
+  pub advance_asks : Did old (Asks c ∷ []) new → received_new ≡ received_old → sent_new ≡ sent_old → Advanced answer c old new received_old received_new sent_old sent_new
+  advance_asks did received sent =
+      advanced (Asks c ∷ []) (rw here refl) (λ _. inr (inl refl)) did (received ∙ sym (append-nil received_old)) (sent ∙ sym (append-nil sent_old))
+
+  pub advance_gets : (bytes : List ℕ) → (answer ≡ Moved → bytes ≢ []) → Did old (Gets c bytes ∷ []) new → received_new ≡ received_old → sent_new ≡ sent_old ++ bytes
+      → Advanced answer c old new received_old received_new sent_old sent_new
+  advance_gets bytes some did received sent =
+      advanced (Gets c bytes ∷ []) (rw here refl) (λ m. inl (bytes, refl, some m)) did (received ∙ sym (append-nil received_old))
+      (sent ∙ ap (λ l. sent_old ++ l) (sym (rw here (append-nil bytes))))
+
+  pub advance_sends : (bytes : List ℕ) → Did old (Sends c bytes ∷ []) new → received_new ≡ received_old ++ bytes → sent_new ≡ sent_old → Advanced answer c old new received_old received_new sent_old sent_new
+  advance_sends bytes did received sent =
+      advanced (Sends c bytes ∷ []) (rw here refl) (λ _. inr (inr (bytes, refl))) did (received ∙ ap (λ l. received_old ++ l) (sym (rw here (append-nil bytes))))
+      (sent ∙ sym (append-nil sent_old))
+
+-- ---- what a call finds is what its caller promised
+
+pub found_is : (t : Traffic) (cs : List (Option Client)) (h : Hall) (c : ℕ) (session client : Client) → record { traffic = t; clients = cs } ≡ h → at_number cs c ≡ Some session → Present h c client → session ≡ client
+found_is t cs h c session client view is p =
+    let f : Hall → Option Client = λ x. client_at x c in
+    let e : Some session ≡ Some client = sym is ∙ ap f view ∙ p.is in cc
+
+pub present : (t : Traffic) (cs : List (Option Client)) (h : Hall) (c : ℕ) (client : Client) → record { traffic = t; clients = cs } ≡ h → Some client ≡ at_number cs c → length cs ≡ connections → Present h c client
+present t cs h c client view is count =
+    let f : Hall → Option Client = λ x. client_at x c in
+    let place = number_within cs c client (sym is) in record {
+      small = omega (arith, place, count);
+      is = sym (ap f view) ∙ sym is;
+    }
+
+empty_of : (xs : List ℕ) → true ≡ (length xs == 0) → xs ≡ []
+empty_of [] e = refl
+empty_of (x ∷ xs) e = absurd (let h : length (x ∷ xs) ≡ 0 = eqb-true (length (x ∷ xs)) 0 (sym e) in omega arith)
+
+pub present_settled : (t : Traffic) (cs : List (Option Client)) (h : Hall) (c : ℕ) (client : Client) (unsent : List ℕ) → record { traffic = t; clients = cs } ≡ h → Some client ≡ at_number cs c → length cs ≡ connections
+    → unsent ≡ client.unsent → true ≡ (length unsent == 0) → Present h c (record { input = client.input; unsent = [] })
+present_settled t cs h c client unsent view is count same e =
+    let none : client.unsent ≡ [] = sym same ∙ empty_of unsent e in
+    subst (Present h c) (client_is client client.input [] refl none) (present t cs h c client view is count)
+
+pub some_of : (xs ys : List ℕ) → xs ≡ ys → false ≡ (length xs == 0) → ys ≡ [] → ⊥
+some_of xs ys same f e =
+    let none : List ℕ → Bool = λ l. length l == 0 in
+    let h : false ≡ true = f ∙ ap none (same ∙ e) in cc
+
+pub take_some : (n : ℕ) (xs : List ℕ) → n ≢ 0 → xs ≢ [] → take n xs ≢ []
+take_some zero xs some more e = some refl
+take_some (suc n) [] some more e = more refl
+take_some (suc n) (x ∷ xs) some more e = cc

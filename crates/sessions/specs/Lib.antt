@@ -1,0 +1,5 @@
+pub mod Advances
+pub mod Codes
+pub mod Parts
+pub mod Reaching
+pub mod Sessions

@@ -1,0 +1,214 @@
+//! The clients of a gateway.
+ghost use Rattle.std.specs.Prelude.{◌≡◌, ◌≢◌, ◌⊎◌, ℕ, ◌<◌, ◌≤◌, List, [], ◌∷◌, length, take, None, Some, Err, replicate, IfOk, OnErr, MatchOption, IsSome, option_map};
+ghost use Rattle.connections.specs.Events.{connections, at_number};
+ghost use Rattle.sessions.specs.Sessions.{Client, Hall, client_at, fresh_client, Joins, Sends, Asks, Gets, Leaves, Did, Present};
+ghost use Rattle.sessions.specs.Advances.{Advanced, Rests};
+
+use crate::session::Session;
+use crate::slots::Slots;
+use connections::{CONNECTIONS, Event, Gateway, Out, law_events};
+use devices::{Arrival, Failed, READ_BUFFER, Wire};
+use std::alloc::Global;
+use std::marker::Model;
+
+/// Why a client isn't let in.
+#[derive(Clone, Copy, PartialEq, Eq, Debug)]
+pub enum JoinFault {
+    /// All connections are taken.
+    Full,
+    /// Memory ran out.
+    OutOfMemory,
+}
+
+/// What became of a client in one step.
+#[derive(Clone, Copy, PartialEq, Eq, Debug)]
+pub enum Advance {
+    /// Something was done, and there may be more to do at once.
+    Moved,
+    /// Nothing can be done before its device has bytes, or takes some.
+    Waits,
+    /// Its device has reported the end, or failed.
+    Over,
+}
+
+/// A gateway and its clients. Contracts see the gateway's traffic and, for each client that is
+/// connected, what came from it and isn't taken yet, and what isn't sent to it yet.
+pub struct Sessions<'i> {
+    gateway: Gateway<'i>,
+    slots: Slots,
+    alloc: Global,
+}
+
+impl<'i> Model for Sessions<'i> {
+    ghost use Rattle.sessions.specs.Sessions.{Hall, Matches};
+    ghost use Rattle.sessions.specs.Codes.{hall_code};
+
+    ghost Value = { Hall };
+
+    ghost coded = { hall_code };
+
+    ghost view = { λ a. record { traffic = a.gateway; clients = a.slots } };
+
+    ghost invariant = { λ a. Matches a.gateway a.slots };
+}
+
+// Written out: where it is derived, each crate above proves anew what becomes of all that is dropped.
+impl Drop for Sessions<'_> {
+    fn drop(self) {
+        let Sessions {
+            gateway: _,
+            slots: _,
+            alloc: _,
+        } = self;
+    }
+}
+
+impl<'i> Sessions<'i> {
+    /// The sessions of a gateway on which no connection is open, with no client.
+    pub fn new(alloc: Global, gateway: Gateway<'i>) -> Sessions<'i>
+        requires { gateway.lines ≡ replicate connections None }
+        ensures traffic { result.traffic ≡ gateway.entry }
+        ensures clients { result.clients ≡ replicate connections None }
+    {
+        Sessions {
+            gateway,
+            slots: Slots::new(),
+            alloc,
+        }
+    }
+
+    /// The lowest number at which there is no client.
+    fn vacancy(&self) -> Option<u8>
+        ensures { MatchOption result ((c : ℕ) → c < connections → IsSome (client_at self.now c))
+            (λ c. (c < connections) × (client_at self.now c ≡ None)) }
+    {
+        for c in 0..CONNECTIONS as u8 {
+            if self.slots.at(c).is_none() {
+                return Some(c);
+            }
+        }
+        None
+    }
+
+    /// Lets a client in, and returns its number.
+    pub fn join(&mut self) -> Result<u8, JoinFault>
+        ensures joined { IfOk result (λ c. Did self.old (Joins c ∷ []) self.new) }
+        ensures refused { OnErr result (self.new ≡ self.old) }
+        ensures full { result ≡ Err JoinFault.Full → (c : ℕ) → c < connections → IsSome (client_at self.old c) }
+    {
+        let Some(c) = self.vacancy() else {
+            return Err(JoinFault::Full);
+        };
+        let Ok(session) = Session::new(self.alloc) else {
+            return Err(JoinFault::OutOfMemory);
+        };
+        match self.gateway.event(Event::Open(c)) {
+            Ok(_) => {}
+            Err(_) => unreachable!(),
+        }
+        self.slots.put(c, Some(session));
+        Ok(c)
+    }
+
+    /// The client of this number is gone; where there is none, nothing happens. The line that is begun
+    /// and what isn't sent yet are dropped, and the number is free.
+    pub fn leave(&mut self, c: u8)
+        ensures gone { client_at self.new c ≡ None }
+        ensures left { IsSome (client_at self.old c) → Did self.old (Leaves c ∷ []) self.new }
+        ensures none { client_at self.old c ≡ None → self.new ≡ self.old }
+    {
+        if self.slots.at(c).is_none() {
+            return;
+        }
+        match self.gateway.event(Event::Close(c)) {
+            Ok(_) => {}
+            Err(_) => unreachable!(),
+        }
+        self.slots.put(c, None);
+    }
+
+    /// Takes one step of a client. What isn't sent to it yet goes first: as long as there is some,
+    /// nothing more is taken from it. Then what came from it is taken, up to and with one line feed;
+    /// and only when nothing is left of that, it is read from. Where there is no client of this
+    /// number, it is over.
+    pub fn advance<W: Wire>(&mut self, c: u8, wire: &mut W) -> Advance
+        ensures step { Advanced result c self.old self.new (W.received wire.old) (W.received wire.new) (W.sent wire.old) (W.sent wire.new) }
+        ensures rests { result ≡ Advance.Waits → Rests (client_at self.new c) (W.is_empty wire.new) (W.is_full wire.new) }
+        ensures over { result ≡ Advance.Over → (client_at self.old c ≡ None) ⊎ W.is_over wire.new }
+    {
+        let Some(session) = self.slots.at(c) else {
+            return Advance::Over;
+        };
+        if !session.unsent().is_empty() {
+            return self.write_to(c, wire);
+        }
+        if !session.input().is_empty() {
+            self.ask(c);
+            return Advance::Moved;
+        }
+        self.read_from(c, wire)
+    }
+
+    /// Writes once to a client.
+    fn write_to<W: Wire>(&mut self, c: u8, wire: &mut W) -> Advance
+        requires { (client : Client) × Present self.old c client × (client.unsent ≢ []) }
+        ensures step { Advanced result c self.old self.new (W.received wire.old) (W.received wire.new) (W.sent wire.old) (W.sent wire.new) }
+        ensures rests { result ≡ Advance.Waits → Rests (client_at self.new c) (W.is_empty wire.new) (W.is_full wire.new) }
+        ensures over { result ≡ Advance.Over → (client_at self.old c ≡ None) ⊎ W.is_over wire.new }
+    {
+        let Some(mut session) = self.slots.take(c) else {
+            unreachable!()
+        };
+        let advance = match wire.write(session.unsent()) {
+            Ok(count) => {
+                session.send(count);
+                if count == 0 {
+                    Advance::Waits
+                } else {
+                    Advance::Moved
+                }
+            }
+            Err(Failed) => Advance::Over,
+        };
+        self.slots.put(c, Some(session));
+        advance
+    }
+
+    /// Takes what came from a client.
+    fn ask(&mut self, c: u8)
+        requires { (input : List ℕ) × Present self.old c (record { input = input; unsent = [] }) }
+        ensures { Did self.old (Asks c ∷ []) self.new }
+    {
+        law_events();
+        let Some(mut session) = self.slots.take(c) else {
+            unreachable!()
+        };
+        match self.gateway.event(Event::Bytes(c, session.input())) {
+            Ok(Out { taken, reply }) => session.take(taken, reply),
+            Err(_) => unreachable!(),
+        }
+        self.slots.put(c, Some(session));
+    }
+
+    /// Reads once from a client.
+    fn read_from<W: Wire>(&mut self, c: u8, wire: &mut W) -> Advance
+        requires { Present self.old c fresh_client }
+        ensures step { Advanced result c self.old self.new (W.received wire.old) (W.received wire.new) (W.sent wire.old) (W.sent wire.new) }
+        ensures rests { result ≡ Advance.Waits → Rests (client_at self.new c) (W.is_empty wire.new) (W.is_full wire.new) }
+        ensures over { result ≡ Advance.Over → (client_at self.old c ≡ None) ⊎ W.is_over wire.new }
+    {
+        let mut buffer = [0; READ_BUFFER];
+        let count = match wire.read(&mut buffer) {
+            Ok(Arrival::Bytes(count)) => count,
+            Ok(Arrival::NotYet) => return Advance::Waits,
+            Ok(Arrival::End) => return Advance::Over,
+            Err(Failed) => return Advance::Over,
+        };
+        let Some(mut session) = self.slots.take(c) else {
+            unreachable!()
+        };
+        session.receive(&buffer[..count]);
+        self.slots.put(c, Some(session));
+        Advance::Moved
+    }
+}
