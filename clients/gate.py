@@ -7,13 +7,15 @@
         letter.undo(edit)
         pathlib.Path("letter.txt").write_bytes(letter.bytes)
 
-`Gate` sends commands and hands out replies, over a program that it starts or over TCP; `Document` is one document with
-its bytes beside it, so that an edit can be taken back to the byte. docs/PROTOCOL.md says what each command does."""
+`Gate` sends commands and hands out replies, over a program that it starts, a Unix socket or TCP; `Document` is one
+document with its bytes beside it, so that an edit can be taken back to the byte; `Fleet` spreads documents over several
+servers. docs/PROTOCOL.md says what each command does."""
 import base64
 import binascii
 import collections
 import contextlib
 import fcntl
+import hashlib
 import json
 import os
 import select
@@ -27,6 +29,8 @@ from typing import Any, Callable, Deque, Dict, List, Optional, Sequence, Tuple, 
 Members = Dict[str, Any]
 # A line and a character, both counted from 0, or the code points where something begins and ends.
 Pair = Tuple[int, int]
+# Where a program listens: the path of a Unix socket, or a port of 127.0.0.1.
+Place = Union[str, int]
 # A change: its text alone, for the whole text, or its text and from where to where.
 Change = Union[Tuple[str], Tuple[str, Pair], Tuple[str, Pair, Pair]]
 
@@ -107,14 +111,21 @@ class Gate:
         return cls(reading.fileno(), writing.fileno(), writing.close, end)
 
     @classmethod
-    def connect(cls, port: int = 7117, host: str = "127.0.0.1", patience: float = 10.0) -> "Gate":
-        """Connects to `gate tcp`, which prints nothing when it begins to listen: so it is tried until it does."""
+    def connect(
+        cls,
+        port: int = 7117,
+        host: str = "127.0.0.1",
+        patience: float = 10.0,
+        path: Union[None, str, "os.PathLike[str]"] = None,
+    ) -> "Gate":
+        """Connects to a port, as that of `gate tcp`, or to the Unix socket `path` where one is given. `gate` prints nothing
+        when it begins to listen: so it is tried until somebody does."""
         until = time.monotonic() + patience
         while True:
             try:
-                connection = socket.create_connection((host, port))
+                connection = socket.create_connection((host, port)) if path is None else _connected(path)
                 break
-            except ConnectionRefusedError:
+            except (ConnectionRefusedError, FileNotFoundError):
                 if time.monotonic() > until:
                     raise
                 time.sleep(0.05)
@@ -203,6 +214,10 @@ class Gate:
         byte order mark isn't looked for, and its bytes are text like others."""
         return Document(self, name, label, content, bom)
 
+    def join(self, name: str) -> "Document":
+        """A document that is open, as another client has left it."""
+        return Document._joined(self, name)
+
     def close(self) -> None:
         """Ends the connection, and a program that was started for it."""
         with self._sending:
@@ -234,6 +249,30 @@ class Document:
         self._gate, self.name, self.bytes = gate, name, content
         for reply in gate.send_open(name, label, content, bom, room):
             self._take(reply.get())
+
+    @classmethod
+    def _joined(cls, gate: Gate, name: str) -> "Document":
+        document = cls.__new__(cls)
+        document._gate, document.name = gate, name
+        document.refresh()
+        return document
+
+    def refresh(self) -> None:
+        """Takes the document as it is now: another client may have edited it, as `Stale` says. Edits from before can't be
+        undone then."""
+        while True:
+            found = self.stat()
+            try:
+                reply = self._gate.ask("source", doc=self.name, at=0, len=found["bytes"])
+            except Fault as fault:
+                # (it was made shorter in between)
+                if fault.name != "OutOfRange":
+                    raise
+                continue
+            if reply["rev"] == found["rev"]:
+                self._take(found)
+                self.bytes = base64.b64decode(reply["bytes"])
+                return
 
     def _take(self, reply: Members) -> Members:
         self.rev, self.encoding, self.bom = reply["rev"], reply["encoding"], reply["bom"]
@@ -356,6 +395,63 @@ class Document:
         # (the reply is read with a later one)
         with contextlib.suppress(Gone):
             self._gate.send("close", doc=self.name)
+
+
+class Fleet:
+    """Several servers, over which documents are spread by their names, so that more of them fit and each server has its
+    own processor. All clients that know the same places find a document at the same one. With a place more, one document
+    in so many moves, and all of these to it; with a place less those that were there move, and no other."""
+
+    def __init__(self, places: Sequence[Place], patience: float = 10.0):
+        self.places, self._patience = list(places), patience
+        self._gates: Dict[Place, Gate] = {}
+
+    def place_of(self, name: str) -> Place:
+        """The place with the greatest weight for the name, which is the hash of both (rendezvous hashing)."""
+        return max(self.places, key=lambda place: hashlib.sha256(f"{place}\0{name}".encode()).digest())
+
+    def gate_of(self, name: str) -> Gate:
+        """The connection to the server that has the documents of this name."""
+        place = self.place_of(name)
+        if place not in self._gates:
+            where: Dict[str, Any] = {"port": place} if isinstance(place, int) else {"path": place}
+            self._gates[place] = Gate.connect(patience=self._patience, **where)
+        return self._gates[place]
+
+    def open(self, name: str, label: str, content: bytes, bom: str = "sniff") -> Document:
+        """Opens a document at its server."""
+        return self.gate_of(name).open(name, label, content, bom)
+
+    def join(self, name: str) -> Document:
+        """A document that is open at its server."""
+        return self.gate_of(name).join(name)
+
+    def remove(self, place: Place) -> None:
+        """Takes a place out, as one whose server is gone, and its documents with it: who opens these anew finds another."""
+        self.places.remove(place)
+        if place in self._gates:
+            self._gates.pop(place).close()
+
+    def close(self) -> None:
+        """Ends all connections."""
+        while self._gates:
+            self._gates.popitem()[1].close()
+
+    def __enter__(self) -> "Fleet":
+        return self
+
+    def __exit__(self, *_: Any) -> None:
+        self.close()
+
+
+def _connected(path: Union[str, "os.PathLike[str]"]) -> socket.socket:
+    connection = socket.socket(socket.AF_UNIX)
+    try:
+        connection.connect(os.fspath(path))
+    except OSError:
+        connection.close()
+        raise
+    return connection
 
 
 def _base64(content: bytes) -> bytes:
