@@ -5,6 +5,7 @@ import errno
 import os
 import pathlib
 import sys
+import time
 import unittest
 from unittest import mock
 
@@ -90,6 +91,11 @@ class Edits(OverGate):
         # The line that it is like stays.
         self.assertEqual(
             self.saved("euc-jp", rare + b"\n1\n", lambda old: f"{old}x{old[:3]}\n"), rare + b"\n1\nx" + rare[:-2] + b"\n")
+
+    def test_many_equal_lines_that_are_all_edited(self):
+        line, began = b"\x82\xa0\x82\xa2\x82\xa4 a line\n", time.process_time()
+        self.assertEqual(self.saved("shift_jis", line * 2000, lambda old: old.replace("line", "row")), line.replace(b"line", b"row") * 2000)
+        self.assertLess(time.process_time() - began, 4)
 
     def test_rewrapped_text_keeps_its_damage(self):
         words = [b"\x82\xa0\xff", b"\x87\x90", b"\x82\xa2\x82\xa4", b"\xfd"] * 12

@@ -120,7 +120,8 @@ class _Arrangement:
         self._choose(found)
 
     def _choose(self, places: List[Place]) -> None:
-        here = {hunk: set().union(*(_pairs(self.old[line]) for line in self._left(hunk))) for _, hunk in self.typed}
+        hunks = {hunk for _, hunk in self.typed}
+        here = {hunk: set().union(*(_pairs(self.old[line]) for line in self._left(hunk))) for hunk in hunks}
         typed = [n for n, hunk in self.typed if not _is_covered(_pairs(self.new[n]), here[hunk])]
         leads = _leads([self._text(it) for it in places], {pair for n in typed for pair in _pairs(self.new[n])})
         found = {n: self._most_alike(self.new[n], leads, places) for n in typed}
