@@ -38,9 +38,9 @@ Change = Union[Tuple[str], Tuple[str, Pair], Tuple[str, Pair, Pair]]
 ROOM = 3_000_000
 # The most commands that wait for their reply. Whoever sends more waits for the oldest.
 WINDOW = 64
-# The bytes that a pipe to a program has room for, and that are read at once. Linux's name for setting them is in Python's
-# library from 3.10 on.
-PIPE = 1 << 20
+# The bytes that are read at once, and that a pipe to a program has room for, so that most lines are written at once too.
+# Linux's name for setting the latter is in Python's library from 3.10 on.
+READ, PIPE = 1 << 16, 1 << 20
 SET_PIPE_SIZE = getattr(fcntl, "F_SETPIPE_SZ", 1031)
 # The most entries of a page of errors or of lines.
 PAGE = 10_000
@@ -146,7 +146,7 @@ class Gate:
     def _read(self) -> None:
         """Reads once, and hands out the replies that are complete; where nothing can come any more, empty ones."""
         try:
-            piece = os.read(self._from, PIPE)
+            piece = os.read(self._from, READ)
         except BlockingIOError:
             _ready(self._from, None)
             return
@@ -188,13 +188,14 @@ class Gate:
                     self._wait(self._waiting[0])
             if self._over:
                 raise Gone()
-            line = json.dumps({"id": self._next, "op": op, **fields}).encode()[:-1]
-            line += b"".join(b',"%b":"%b"' % (key.encode(), _base64(it)) for key, it in content.items()) + b"}\n"
+            line = [json.dumps({"id": self._next, "op": op, **fields}).encode()[:-1]]
+            for key, it in content.items():
+                line += [b',"%b":"' % key.encode(), _base64(it), b'"']
             self._next += 1
             self._waiting.append(reply)
             # (where the other end is gone, whoever reads finds out)
             with contextlib.suppress(ConnectionError):
-                self._write(line)
+                self._write(b"".join([*line, b"}\n"]))
         return reply
 
     def send_open(self, name: str, label: str, content: bytes, bom: str = "sniff", room: int = ROOM) -> List[Reply]:

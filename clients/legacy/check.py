@@ -7,7 +7,7 @@ import argparse
 import dataclasses
 import re
 import sys
-from typing import Any, ClassVar, Dict, Iterator, List, Sequence, Type, Union
+from typing import Any, AnyStr, ClassVar, Dict, Iterator, List, Sequence, Type
 
 from gate import Document, Gate
 
@@ -125,34 +125,36 @@ class Encodings:
 ENCODINGS = Encodings()
 
 
-def ends_of(content: Union[bytes, str]) -> Ends:
+def ends_of(content: AnyStr) -> Ends:
     """The line ends of a text, or of bytes in which CR and LF are these bytes and no others."""
-    crlf, cr, lf = ("\r\n", "\r", "\n") if isinstance(content, str) else (b"\r\n", b"\r", b"\n")
-    found = content.count(cr)  # type: ignore[arg-type]
-    both = content.count(crlf) if found else 0  # type: ignore[arg-type]
-    return Ends(content.count(lf) - both, both, found - both)  # type: ignore[arg-type]
+    cr, lf = ("\r", "\n") if isinstance(content, str) else (b"\r", b"\n")
+    found = content.count(cr)
+    both = content.count(cr + lf) if found else 0
+    return Ends(content.count(lf) - both, both, found - both)
 
 
 def _ends(document: Document, count: int) -> Ends:
-    """The line ends of a document that has so many of them. They are counted in the bytes where these say as many, as they
-    do but in UTF-16 and behind errors in ISO-2022-JP, and else in the text."""
-    if not document.encoding.startswith("UTF-16"):
-        ends = ends_of(document.bytes)
-        if ends.lf + ends.crlf + ends.cr == count:
-            return ends
-    return ends_of(document.text())
+    """The line ends of a document that has so many of them. Where no byte is CR's, they are LF. Else they are counted in the
+    bytes where these say as many, as they do but in UTF-16 and behind errors in ISO-2022-JP, or in the text."""
+    if b"\r" not in document.bytes:
+        return Ends(lf=count)
+    if document.encoding.startswith("UTF-16"):
+        return ends_of(document.text())
+    if document.bytes.count(b"\r\n") == count:
+        return Ends(crlf=count)
+    ends = ends_of(document.bytes)
+    return ends if ends.lf + ends.crlf + ends.cr == count else ends_of(document.text())
 
 
 def places_of(document: Document, most: int = MOST) -> List[Place]:
     """The errors of a document, from the first one on, with what is beside them on their lines."""
-    text = document.text()
-    starts = [0, *(it.end() for it in LINE_END.finditer(text))]
+    length = document.stat()["utf32"]
     found: List[Place] = []
     for (begin, end), (line, character), _ in document.diagnostics(unit="utf-32", most=most):
-        at = starts[line] + character
-        stop = LINE_END.search(text, at)
-        last = min(stop.start() if stop else len(text), at + 1 + AROUND)
-        before, after = text[max(starts[line], at - AROUND) : at], text[at + 1 : last]
+        at = document.offset((line, character), unit="utf-32")
+        first = at - min(character, AROUND)
+        text = document.text(first, min(at + 1 + AROUND, length))
+        before, after = text[: at - first], LINE_END.split(text[at + 1 - first :], 1)[0]
         found.append(Place(begin, end, line + 1, character + 1, document.bytes[begin:end].hex(" "), before, after))
     return found
 

@@ -162,7 +162,7 @@ def read(item: Item) -> bytes:
         before = os.fstat(number)
         if not stat.S_ISREG(before.st_mode):
             raise Refusal("no file any more")
-        content: bytes = file.read(LARGEST + 1) or b""
+        content: bytes = file.read(min(before.st_size, LARGEST) + 1) or b""
         # (one read is all of it, unless the system gave less)
         while 0 < len(content) < before.st_size:
             piece = file.read(before.st_size - len(content))
