@@ -43,13 +43,13 @@ def drawn(rng, alphabet, most=60):
 class Edits(unittest.TestCase):
     def test_random_texts(self):
         rng = random.Random(59)
-        for number in range(1500):
+        for number in range(700):
             # Now and then all bounds are low, so that what lies beyond them is looked at too.
             bounds = {"PAIRS": rng.choice([1 << 24, 100, 10]), "STEPS": rng.choice([48, 3]), "DEPTH": rng.choice([24, 1])}
             alphabet = rng.choice(["a\ufffd\n", "ab\n", "a\r\nb\ufffd", "abcdefg \n", "図書館の\n\ufffdab", "😀é\n"])
             old, new = drawn(rng, alphabet)
-            with mock.patch.multiple(sequences, **bounds), mock.patch.object(difference, "LETTERS", rng.choice([10_000, 50])):
-                precious = [(at, at + 3) for at in range(0, len(old), rng.randrange(4, 20))]
+            with mock.patch.multiple(sequences, **bounds), mock.patch.object(difference, "WORK", rng.choice([10_000, 50])):
+                precious = [(at, at + 3) for at in range(0, len(old), rng.randrange(3, 20))]
                 for words in {}, {"one_form": False}, {"same": BAD + "ab"}, {"precious": precious}, None:
                     with self.subTest(number=number, old=old, new=new, bounds=bounds, words=words):
                         it = Difference(old, new)
@@ -61,7 +61,7 @@ class Edits(unittest.TestCase):
 
     def test_a_script_is_a_shortest_one(self):
         rng = random.Random(59)
-        for number in range(400):
+        for number in range(200):
             old, new = drawn(rng, rng.choice(["ab", "abc", "abcdefg", "図書館の"]))
             # (both ways of finding one)
             with mock.patch.multiple(sequences, PAIRS=rng.choice([1 << 24, 0]), STEPS=200), \
@@ -73,7 +73,7 @@ class Edits(unittest.TestCase):
 
     def test_whole_lines_in_common(self):
         rng = random.Random(59)
-        for _ in range(2000):
+        for _ in range(1000):
             old, new = drawn(rng, "ab\r\n", 30)
             head, tail = common_lines(old, new)
             self.assertLessEqual(head + tail, min(len(old), len(new)))
@@ -127,8 +127,8 @@ def halves(kind, count):
         return "図書館の計画 word " * (count // 12), "図書館の計画 other " * (count // 12)
     if kind == "equal lines":
         return "図書\n" * (count // 3), "書図\n" + "図書\n" * (count // 6) + "x\n" + "図書\n" * (count // 6)
-    if kind == "empty lines":
-        return "\n" * count, "\r\n" * count
+    if kind == "short lines":
+        return "é\n" * (count // 2), "é\r\n" * (count // 2)
     if kind == "damage alone":
         return BAD * count, BAD * (count // 2) + "a" + BAD * (count // 2)
     if kind == "repeated blocks":
@@ -153,10 +153,10 @@ class Bounds(unittest.TestCase):
         return took
 
     def test_never_quadratic(self):
-        for kind in ("two symbols", "one long line", "equal lines", "empty lines", "damage alone", "repeated blocks",
+        for kind in ("two symbols", "one long line", "equal lines", "short lines", "damage alone", "repeated blocks",
                      "nested anchors"):
             with self.subTest(kind=kind):
-                self.assertLess(self.seconds(kind, 160_000), 10 * self.seconds(kind, 40_000) + 0.3)
+                self.assertLess(self.seconds(kind, 80_000), 9 * self.seconds(kind, 20_000) + 0.3)
 
 
 if __name__ == "__main__":

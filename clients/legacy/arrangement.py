@@ -1,7 +1,9 @@
 """Of which known lines a new text is made: those that stay, those that were moved, copied or restored, which are known to
 the byte, and those that are like one that is gone."""
+import bisect
 import collections
 import itertools
+from array import array
 from typing import Container, Deque, Dict, Iterable, Iterator, List, NamedTuple, Optional, Sequence, Set, Tuple
 
 from legacy.difference import BAD
@@ -14,6 +16,9 @@ ALIKE, ALIKE_WITH_DAMAGE = 0.5, 0.2
 LEADS = 8
 # The most code points of lines that are compared with each other.
 LETTERS = 500_000
+
+# The most lines that are looked for with a CR at their end or without.
+FORMS = 10_000
 
 # The number of a content in the list, and a line of it.
 Place = Tuple[int, int]
@@ -48,8 +53,9 @@ class _Arrangement:
     def __init__(self, contents: Sequence[Content], new: Lines, hunks: Sequence[Edit], literal: bool, anywhere: bool):
         self.contents, self.old, self.new, self.hunks, self.literal = contents, contents[0].lines, new, hunks, literal
         self.sources: Dict[int, Place] = {}  # of lines of the new text
+        self.new_starts = [it.new_start for it in hunks]
         self.used: Set[int] = set()  # of the lines that are gone
-        self.typed = [(n, it) for it in hunks for n in range(it.new_start, it.new_end) if not new[n].isascii()]
+        self.typed = array("q", (n for it in hunks for n in range(it.new_start, it.new_end) if not new[n].isascii()))
         self._find_moved()
         self._find_known()
         self._find_alike(anywhere)
@@ -63,66 +69,73 @@ class _Arrangement:
 
     def _found(self, sources: Dict[int, Place]) -> None:
         self.sources.update(sources)
-        self.typed = [it for it in self.typed if it[0] not in sources]
+        if sources:
+            self.typed = array("q", (n for n in self.typed if n not in sources))
+
+    def _hunk_of(self, n: int) -> Edit:
+        """The hunk that a line of the new text is in."""
+        return self.hunks[bisect.bisect_right(self.new_starts, n) - 1]
 
     def _find_moved(self) -> None:
         """Lines that are gone elsewhere, each of which comes once."""
-        wanted = {self.new.hashes[n] for n, _ in self.typed}
+        wanted = {self.new.hashes[n] for n in self.typed}
         gone: Dict[int, Deque[int]] = {}
         for line in self._gone():
             if self.old.hashes[line] in wanted:
                 gone.setdefault(self.old.hashes[line], collections.deque()).append(line)
-        found = {n: gone[self.new.hashes[n]].popleft() for n, _ in self.typed if gone.get(self.new.hashes[n])}
+        found = {n: gone[self.new.hashes[n]].popleft() for n in self.typed if gone.get(self.new.hashes[n])}
         self.used.update(found.values())
         self._found({n: (0, line) for n, line in found.items()})
 
     def _find_known(self) -> None:
         """Lines that are copied or restored, with a CR at their end or without, but not those that are like what was in their
         place but for ASCII characters."""
-        known = self._known({hash(form) for n, _ in self.typed for form in _forms(self.new[n])})
+        known = self._known(self.typed)
         here: Dict[Edit, Set[int]] = {}
         found: Dict[int, Place] = {}
-        for n, hunk in self.typed if known else ():
-            places = [known[hash(form)] for form in _forms(self.new[n]) if hash(form) in known]
-            if places:
-                if hunk not in here:
-                    letters = self.old.letters(hunk.start, hunk.end)
-                    here[hunk] = {letters[line - hunk.start] for line in self._left(hunk)}
-                if self.new.letters(n, n + 1)[0] not in here[hunk]:
-                    found[n] = places[0]
+        for n, place in known.items():
+            hunk = self._hunk_of(n)
+            if hunk not in here:
+                letters = self.old.letters(hunk.start, hunk.end)
+                here[hunk] = {letters[line - hunk.start] for line in self._left(hunk)}
+            if self.new.letters(n, n + 1)[0] not in here[hunk]:
+                found[n] = place
         self._found(found)
 
-    def _known(self, wanted: Set[int]) -> Dict[int, Place]:
+    def _known(self, typed: Sequence[int]) -> Dict[int, Place]:
         """Where lines are known: in the old text, else in the newest content."""
-        known: Dict[int, Place] = {}
+        forms = {n: _forms(self.new[n]) for n in typed} if len(typed) <= FORMS else {n: (self.new.hashes[n],) for n in typed}
+        wanted = {it for form in forms.values() for it in form}
+        places: Dict[int, Place] = {}
         for number in [*range(1, len(self.contents)), 0] if wanted else []:
             lines, fixed = self.contents[number]
-            known.update((it, (number, line)) for line, it in enumerate(lines.hashes) if it in wanted and line not in fixed)
-        return known
+            places.update((it, (number, line)) for line, it in enumerate(lines.hashes) if it in wanted and line not in fixed)
+        return {n: next(places[it] for it in form if it in places) for n, form in forms.items() if not places.keys().isdisjoint(form)}
 
     def _find_alike(self, anywhere: bool) -> None:
         """For each edited line one that is like it, where what was in its place is not."""
-        places = [(0, line) for line in self._gone()]
+        places: Iterable[Place] = ((0, line) for line in self._gone())
         if anywhere:
             gone = {line for it in self.hunks for line in range(it.start, it.end)}
-            places += [(number, line) for number in range(len(self.contents) - 1, -1, -1)
-                       for line in range(len(self.contents[number].lines))
-                       if line not in self.contents[number].fixed and (number or line not in gone)]
-        letters = sum(len(self.new[n]) for n, _ in self.typed)
+            places = itertools.chain(places, (
+                (number, line) for number in range(len(self.contents) - 1, -1, -1)
+                for line in range(len(self.contents[number].lines))
+                if line not in self.contents[number].fixed and (number or line not in gone)))
+        left = LETTERS - sum(len(self.new[n]) for n in self.typed[:LETTERS])
         found: List[Place] = []
         for it in places if self.typed else ():
             text = self._text(it)
             if not text.isascii():
                 found.append(it)
-                letters += len(text)
-            if letters > LETTERS:
+                left -= len(text)
+            if left < 0:
                 return
         self._choose(found)
 
     def _choose(self, places: List[Place]) -> None:
-        hunks = {hunk for _, hunk in self.typed}
+        hunks = set(map(self._hunk_of, self.typed))
         here = {hunk: set().union(*(_pairs(self.old[line]) for line in self._left(hunk))) for hunk in hunks}
-        typed = [n for n, hunk in self.typed if not _is_covered(_pairs(self.new[n]), here[hunk])]
+        typed = [n for n in self.typed if not _is_covered(_pairs(self.new[n]), here[self._hunk_of(n)])]
         leads = _leads([self._text(it) for it in places], {pair for n in typed for pair in _pairs(self.new[n])})
         found = {n: self._most_alike(self.new[n], leads, places) for n in typed}
         self._found({n: it for n, it in found.items() if it})
@@ -188,9 +201,9 @@ class _Arrangement:
         return self.sources.get(n)
 
 
-def _forms(line: str) -> Tuple[str, str]:
-    """The line, and the same line with a CR at its end or without."""
-    return line, line[:-1] if line.endswith("\r") else line + "\r"
+def _forms(line: str) -> Tuple[int, ...]:
+    """The hashes of the line, and of the same line with a CR at its end or without."""
+    return hash(line), hash(line[:-1] if line.endswith("\r") else line + "\r")
 
 
 def _pairs(text: str) -> Set[str]:

@@ -24,8 +24,8 @@ from legacy.sequences import Edit, between, common, common_end, differences, scr
 
 # What bytes that are no text are shown as.
 BAD = "\ufffd"
-# The most code points, of all lines that differ, for which a shortest script is made.
-LETTERS = 2_000_000
+# The most work at shortest scripts of letters: a unit for each letter, and for so many pairs of letters.
+WORK, PAIRS_A_UNIT = 2_000_000, 2048
 # Edits with fewer ASCII characters than this between them can be joined.
 NEAR = 16
 # The most pairs of places that are looked at for those with the same letters beside them.
@@ -121,6 +121,15 @@ class _Ranges:
         at = bisect.bisect_right(self.ends, start)
         return at == len(self.ends) or self.starts[at] >= end
 
+    def items(self, starts: Sequence[int], first: int, last: int) -> Iterator[int]:
+        """The numbers of those items, of which it is said where they begin, that have a part of them."""
+        at = bisect.bisect_right(self.ends, starts[first])
+        while first < last and at < len(self.starts):
+            first = max(first, bisect.bisect_right(starts, self.starts[at]) - 1)
+            behind = min(last, bisect.bisect_left(starts, self.ends[at]))
+            yield from range(first, behind)
+            first, at = max(first, behind), at + 1
+
 
 @functools.lru_cache(maxsize=None)
 def _piece() -> "re.Pattern[str]":
@@ -136,7 +145,7 @@ class _Letters:
     def __init__(self, of: Difference, one_form: bool, same: str, precious: Optional[_Ranges]):
         self.of, self.old, self.new, self.one_form, self.precious = of, of.old, of.new, one_form, precious
         self.same = re.compile(f"[{re.escape(same)}]")
-        self.letters = LETTERS
+        self.left = WORK
 
     def edits(self) -> Iterator[Edit]:
         for hunk in self.of.hunks:
@@ -145,8 +154,10 @@ class _Letters:
             yield from self._within(it) if few or it.is_small() or self._is_plain(it) else self._alike(hunk)
 
     def _is_plain(self, it: Edit) -> bool:
-        """Whether nothing that is replaced has bytes to lose."""
-        return self.precious is not None and self.precious.misses(it.start, it.end)
+        """Whether nothing that could be kept has bytes to lose."""
+        if self.precious is not None and self.precious.misses(it.start, it.end):
+            return True
+        return self.one_form and (self.old[it.start : it.end].isascii() or self.new[it.new_start : it.new_end].isascii())
 
     def _alike(self, hunk: Edit) -> Iterator[Edit]:
         """By lines whose letters are the same but for ASCII ones, and where there are as many, line by line."""
@@ -157,21 +168,37 @@ class _Letters:
         for gap in itertools.chain((it.moved(hunk.start, hunk.new_start) for it in unlike), [end]):
             even = gap.end - gap.start == gap.new_end - gap.new_start
             count = (gap.end if even else gap.start) - line
-            for p, q in zip(range(line, line + count), range(new_line, new_line + count)):
-                if lines.hashes[p] != new_lines.hashes[q]:
-                    yield from self._within(self.of.range_of(Edit(p, p + 1, q, q + 1)))
+            yield from self._by_line(Edit(line, line + count, new_line, new_line + count))
             if not even:
                 yield from self._within(self.of.range_of(gap))
             line, new_line = gap.end, gap.new_end
 
+    def _by_line(self, it: Edit) -> Iterator[Edit]:
+        """As many lines on both sides, each compared with its like; those with nothing to lose in between as a whole."""
+        hashes, new_hashes = self.of.lines.hashes, self.of.new_lines.hashes
+        line = it.start
+        for one in itertools.chain(self._precious_lines(it.start, it.end), [it.end]):
+            new_line, new_one = (it.new_start - it.start + at for at in (line, one))
+            if hashes[line:one] != new_hashes[new_line:new_one]:
+                yield from self._within(self.of.range_of(Edit(line, one, new_line, new_one)))
+            if one < it.end and hashes[one] != new_hashes[new_one]:
+                yield from self._within(self.of.range_of(Edit(one, one + 1, new_one, new_one + 1)))
+            line = one + 1
+
+    def _precious_lines(self, first: int, last: int) -> Iterable[int]:
+        """The lines that have bytes to lose."""
+        if self.precious is None:
+            return range(first, last)
+        return self.precious.items(self.of.lines.starts, first, last)
+
     def _within(self, lines: Edit) -> Iterator[Edit]:
         """By letters, in long texts by pieces first."""
-        if lines.start == lines.end or lines.new_start == lines.new_end or self._is_plain(lines):
+        if lines.start == lines.end or lines.new_start == lines.new_end:
             yield lines
             return
         # (both end with an LF)
         it = trimmed(self.old, self.new, Edit(lines.start, lines.end - 1, lines.new_start, lines.new_end - 1))
-        if it.is_small():
+        if it.is_small() or self._is_plain(it):
             yield from self._by_same_ones(it)
             return
         a, b = (_piece().findall(text, start, end)
@@ -193,11 +220,11 @@ class _Letters:
         i, j, k, l = it
         if i == j or k == l:
             return [it] if i < j or k < l else []
-        a, b = self.old[i:j], self.new[k:l]
-        if self.one_form and (a.isascii() or b.isascii()) or self._is_plain(it):
+        if self._is_plain(it):
             return [it]
-        self.letters -= len(a) + len(b)
-        if self.letters < 0:
+        a, b = self.old[i:j], self.new[k:l]
+        self.left -= len(a) + len(b) + len(a) * len(b) // PAIRS_A_UNIT
+        if self.left < 0:
             return [it]
         if Edit(0, 2 * len(a), 0, 2 * len(b)).is_small():
             return [gap.moved(i, k) for gap in weighed(a, b)]

@@ -3,12 +3,29 @@ import itertools
 import operator
 import re
 from array import array
-from typing import Optional
+from typing import Iterator, List, Optional, TypeVar
 
-# About how many code points are cut into lines at a time.
+# About how many code points or bytes are cut into lines at a time.
 BLOCK = 1 << 18
 
 _ASCII = re.compile("[\0-\t\v-\x7f]+")
+Content = TypeVar("Content", str, bytes)
+
+
+def blocks(content: Content, feed: Content, start: int, end: int) -> Iterator[List[Content]]:
+    """The lines of a part of a content, some of them at a time."""
+    while True:
+        cut = content.find(feed, start + BLOCK, end) + 1 or end + 1
+        yield content[start : cut - 1].split(feed)
+        if cut > end:
+            return
+        start = cut
+
+
+def starts_after(start: int, lines: "List[str] | List[bytes]") -> Iterator[int]:
+    """Where each line behind one that begins at `start` does, and where one behind the last would, as if an LF were there."""
+    ends = itertools.accumulate(map(operator.add, map(len, lines), itertools.repeat(1)), initial=start)
+    return itertools.islice(ends, 1, None)
 
 
 class Lines:
@@ -17,19 +34,12 @@ class Lines:
 
     def __init__(self, text: str, start: int = 0, end: Optional[int] = None):
         self.text = text
-        # Where each begins, and where one behind the last would, as if an LF were there.
+        # Where each begins, and where one behind the last would.
         self.starts = array("q", [start])
         self.hashes = array("q")
-        end = len(text) if end is None else end
-        while True:
-            cut = text.find("\n", start + BLOCK, end) + 1 or end + 1
-            lines = text[start : cut - 1].split("\n")
+        for lines in blocks(text, "\n", start, len(text) if end is None else end):
             self.hashes.extend(map(hash, lines))
-            ends = itertools.accumulate(map(operator.add, map(len, lines), itertools.repeat(1)), initial=start)
-            self.starts.extend(itertools.islice(ends, 1, None))
-            if cut > end:
-                break
-            start = cut
+            self.starts.extend(starts_after(self.starts[-1], lines))
 
     def __len__(self) -> int:
         return len(self.hashes)
@@ -40,13 +50,6 @@ class Lines:
     def letters(self, first: int, last: int) -> "array[int]":
         """The hashes of lines without their ASCII characters."""
         found = array("q")
-        for line in range(first, last, BLOCK >> 4):
-            end = min(line + (BLOCK >> 4), last)
-            found.extend(map(hash, letters_alone(self.text[self.starts[line] : self.starts[end] - 1]).split("\n")))
+        for lines in blocks(self.text, "\n", self.starts[first], self.starts[last] - 1) if first < last else ():
+            found.extend(map(hash, _ASCII.sub("", "\n".join(lines)).split("\n")))
         return found
-
-
-
-def letters_alone(text: str) -> str:
-    """The text without ASCII characters other than LF."""
-    return _ASCII.sub("", text)

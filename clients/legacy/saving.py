@@ -15,6 +15,7 @@ import bisect
 import contextlib
 import errno
 import itertools
+import operator
 import re
 import unicodedata
 from array import array
@@ -23,7 +24,7 @@ from typing import Any, Callable, Dict, Iterator, List, NamedTuple, Optional, Se
 from gate import ROOM, Fault, Gate, Gone, Reply
 from legacy.arrangement import Content, Run, arranged
 from legacy.difference import BAD, Difference, Range, joined
-from legacy.lines import Lines
+from legacy.lines import Lines, blocks, starts_after
 from legacy.sequences import Edit
 
 UNIT = "utf-32"
@@ -272,24 +273,23 @@ class _Saving:
         if self.base.encoding == "ISO-2022-JP" or not table:
             return None
         found: List[Range] = []
-        at = table.lines.starts
+        at, line = table.lines.starts, 0
         with _Document(self.gate, self.label, start.raw) as document:
             document.opened()
-            for line, encoded in enumerate(self._encoded(document, start.text)):
-                if encoded != table.raw(line, line + 1):
-                    found.append((at[line], at[line + 1]))
+            for page in self._encoded(document, start.text):
+                lines = _split(page, self.base.encoding)
+                differ = map(operator.ne, lines, _split(table.raw(line, line + len(lines)), self.base.encoding))
+                found += [(at[it], at[it + 1]) for it in itertools.compress(itertools.count(line), differ)]
+                line += len(lines)
         return found
 
     def _encoded(self, document: _Document, text: str) -> Iterator[bytes]:
-        """The lines of a text as an encoder gives them."""
-        at, feed = 0, _feed(self.base.encoding)
+        """The text as an encoder gives it, some lines at a time, without the LF of the last."""
+        at = 0
         while at <= len(text):
             end = text.find("\n", at + PAGE) + 1 or len(text) + 1
-            reply = document.ask("encode", label=self.base.encoding, mode="html", **{"from": at, "to": min(end, len(text))})
-            page = base64.b64decode(reply.get()["bytes"])
-            starts = _starts(page, 0, self.base.encoding)
-            lines = len(starts) - 1 - (end <= len(text))
-            yield from (page[starts[line] : starts[line + 1] - len(feed)] for line in range(lines))
+            reply = document.ask("encode", label=self.base.encoding, mode="html", **{"from": at, "to": end - 1})
+            yield base64.b64decode(reply.get()["bytes"])
             at = end
 
     def _applied(self, start: _Start, found: List[Edit]) -> bytes:
@@ -456,8 +456,22 @@ def _table(of: Known) -> Optional[_Table]:
 def _starts(raw: bytes, first: int, encoding: str) -> "array[int]":
     """Where the bytes of each line begin, and where those of one behind the last would."""
     feed = _feed(encoding)
-    ends = (it.end() for it in re.compile(feed).finditer(raw, first) if not (it.start() - first) % len(feed))
-    return array("q", itertools.chain([first], ends, [len(raw) + len(feed)]))
+    found = array("q", [first])
+    if len(feed) == 1:
+        for lines in blocks(raw, feed, first, len(raw)):
+            found.extend(starts_after(found[-1], lines))
+    else:
+        found.extend(it.end() for it in re.finditer(feed, raw) if not (it.start() - first) % 2)
+        found.append(len(raw) + 2)
+    return found
+
+
+def _split(raw: bytes, encoding: str) -> List[bytes]:
+    """The bytes of each line."""
+    if len(_feed(encoding)) == 1:
+        return raw.split(b"\n")
+    starts = _starts(raw, 0, encoding)
+    return [raw[start : end - 2] for start, end in zip(starts, starts[1:])]
 
 
 def _not_in_ascii(raws: Sequence[bytes]) -> Set[int]:
