@@ -111,11 +111,12 @@ def serve(words: argparse.Namespace, found: Found, mounted: Callable[[], None]) 
     import pyfuse3
     import trio
 
-    from legacy.mount.operations import Operations, Options
+    from legacy.mount.operations import Operations
     from legacy.mount.questions import Questions
     from legacy.mount.reading import Reader
     from legacy.mount.refusals import Refusals
     from legacy.mount.saves import Saves
+    from legacy.mount.view import Options, View
     from legacy.mount.workers import Workers
 
     logs_to(words)
@@ -133,8 +134,8 @@ def serve(words: argparse.Namespace, found: Found, mounted: Callable[[], None]) 
             await trio.to_thread.run_sync(pyfuse3.invalidate_inode, ino)
 
     saves = Saves(reader, workers, refusals, not words.no_sync, forget_pages)
-    options = Options(words.read_only, words.large == "bytes", words.show_git)
-    operations = Operations(source, rules, reader, saves, options)
+    options = Options(words.read_only, words.large == "bytes", words.show_git, words.editorconfig)
+    operations = Operations(View(source, rules, reader, options), saves)
     try:
         pyfuse3.init(operations, words.mountpoint, fuse_options(words))
     except RuntimeError:

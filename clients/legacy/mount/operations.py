@@ -1,24 +1,22 @@
-"""The mount's answers to the kernel, one call for each request. What texts are and how they are saved is in the modules
-beside."""
+"""The mount's answers to the kernel, one call for each request. What is shown is in view.py, how it is saved in saves.py."""
 import contextlib
 import errno
 import functools
 import logging
 import os
 import stat
-from typing import Any, Awaitable, Callable, Dict, List, NamedTuple, Optional, Sequence, Set, Tuple
+from typing import Any, Awaitable, Callable, Dict, List, NamedTuple, Optional, Sequence, Tuple
 
 import pyfuse3
 import trio
 
-from legacy.mount.below import BESIDE, Source, signature
-from legacy.mount.reading import Reader
-from legacy.mount.refusals import SUFFIX, shown
+from legacy.mount.below import signature
+from legacy.mount.refusals import SUFFIX
 from legacy.mount.saves import LARGEST_TEXT, Saves
-from legacy.mount.snapshots import LARGEST, Snapshot, Text
-from legacy.rules import Rule, Rules
-from legacy.mount.tree import EXACT, Handle, Node, Session, Tree, replaced
-from legacy.saving import Refused
+from legacy.mount.snapshots import Snapshot, Text
+from legacy.mount.tree import Handle, Node, Session
+from legacy.mount.view import View
+from legacy.rules import Rule
 
 log = logging.getLogger("legacy.mount")
 FUSEError = pyfuse3.FUSEError
@@ -26,15 +24,6 @@ FUSEError = pyfuse3.FUSEError
 # The flags of an open that mean nothing below: the kernel has looked at them, or they ask for aligned buffers.
 NOT_BELOW = os.O_CREAT | os.O_EXCL | os.O_APPEND | os.O_NOFOLLOW | os.O_DIRECT
 OWN = b"user.gate."
-HIDDEN = frozenset({b".git", b".hg", b".svn"})
-
-
-class Options(NamedTuple):
-    """What the command's words say of the view."""
-
-    read_only: bool = False
-    large_as_bytes: bool = False
-    show_git: bool = False
 
 
 def guarded(call: Callable[..., Awaitable[Any]]) -> Callable[..., Awaitable[Any]]:
@@ -60,7 +49,7 @@ def changes(call: Callable[..., Awaitable[Any]]) -> Callable[..., Awaitable[Any]
 
     @functools.wraps(call)
     async def checked(self: "Operations", *words: Any) -> Any:
-        if self.options.read_only:
+        if self.view.options.read_only:
             raise FUSEError(errno.EROFS)
         return await call(self, *words)
 
@@ -79,130 +68,22 @@ class Operations(pyfuse3.Operations):  # type: ignore[misc]
 
     enable_writeback_cache = False
 
-    def __init__(self, source: Source, rules: Rules, reader: Reader, saves: Saves, options: Options):
+    def __init__(self, view: View, saves: Saves):
         super().__init__()
-        self.source, self.rules, self.reader, self.saves, self.options = source, rules, reader, saves, options
-        self.tree = Tree(self.form)
+        self.view, self.saves = view, saves
+        self.source, self.tree, self.reader = view.source, view.tree, view.reader
         self.handles: Dict[int, Handle] = {}
         self.folders: Dict[int, Folder] = {}
         self.last = 0
-        # The threads whose open was told that another file is there now.
-        self.stale: Set[int] = set()
         self.mounted = trio.Event()
 
     def init(self) -> None:
         """The kernel has taken the mount."""
         self.mounted.set()
 
-    def form(self, path: bytes, found: os.stat_result) -> Optional[Rule]:
-        """The rule of a file."""
-        if found.st_size > LARGEST and self.options.large_as_bytes:
-            return None
-        return self.rules.rule_of(path)
-
-    # Paths.
-
-    def hidden(self, name: bytes) -> bool:
-        """Whether nobody sees a name."""
-        return name.startswith(BESIDE) or name in HIDDEN and not self.options.show_git
-
-    def path(self, ino: int, name: bytes) -> bytes:
-        """The path of a name in a folder."""
-        folder = self.tree.nodes[ino].path
-        if folder is None or self.hidden(name):
-            raise FUSEError(errno.ENOENT)
-        return folder + b"/" + name if folder else name
-
-    def new_path(self, ino: int, name: bytes) -> bytes:
-        """The path of a name that something is to get."""
-        if self.hidden(name):
-            log.warning("%s: the name is not for files of the mount", shown(name))
-            raise FUSEError(errno.EACCES)
-        return self.path(ino, name)
-
-    def below(self, node: Node) -> bytes:
-        """What to open below for an inode."""
-        if node.path is None:
-            raise FUSEError(errno.ESTALE)
-        return self.source.full(node.path)
-
-    # What files are.
-
-    async def attributes(self, node: Node, found: Optional[os.stat_result] = None, lazily: bool = False) -> Any:
-        """What a file is. `lazily`: where the size of its text isn't known, that of its bytes, which the kernel doesn't
-        keep."""
-        found = found or self.found(node)
-        node.found = found
-        if not node.handles:
-            node.below = found.st_ino
-        size, modified, timeout = found.st_size, found.st_mtime_ns, EXACT
-        if node.rule and stat.S_ISREG(found.st_mode):
-            size, modified, timeout = await self.text_size(node, node.rule, found, lazily)
-        it = pyfuse3.EntryAttributes()
-        it.st_ino, it.st_mode, it.st_nlink = node.ino, found.st_mode, found.st_nlink
-        it.st_uid, it.st_gid, it.st_rdev = found.st_uid, found.st_gid, found.st_rdev
-        it.st_size, it.st_blksize, it.st_blocks = size, 65536, (size + 511) // 512
-        it.st_atime_ns, it.st_mtime_ns, it.st_ctime_ns = found.st_atime_ns, modified, found.st_ctime_ns
-        it.attr_timeout, it.entry_timeout = timeout, EXACT
-        return it
-
-    def found(self, node: Node) -> os.stat_result:
-        """What is below, or what was there when the name went."""
-        if node.name is not None:
-            return self.source.stat(node.name)
-        held = next((it.descriptor for it in node.handles if it.descriptor is not None), None)
-        if held is not None:
-            return os.fstat(held)
-        if node.found is None or not node.handles:
-            raise FUSEError(errno.ESTALE)
-        return node.found
-
-    async def text_size(self, node: Node, rule: Rule, found: os.stat_result, lazily: bool) -> Tuple[int, int, float]:
-        """How long the text of a file is, when it was last changed, and for how many seconds that is so."""
-        open_now = self.open_size(node, found)
-        if open_now:
-            return open_now
-        current = signature(found)
-        size = self.reader.sizes.get(current, rule.label)
-        if size is None and not lazily and node.name is not None:
-            with contextlib.suppress(Refused):  # (opening it says why)
-                current, size = await self.reader.size(node.name, rule.label, found)
-            open_now = self.open_size(node, found)
-            if open_now:
-                return open_now
-        node.tell(current)
-        return found.st_size if size is None else size, current.modified, 0.0 if size is None and lazily else EXACT
-
-    def open_size(self, node: Node, found: os.stat_result) -> Optional[Tuple[int, int, float]]:
-        """The same of what programs have open, which goes on as it was read, whatever became of the file."""
-        session = node.session
-        if session and session.data is not None:
-            node.tell(session.below.signature)
-            return len(session.data), session.modified or found.st_mtime_ns, EXACT
-        if node.shown and node.handles:
-            node.tell(node.shown.signature)
-            return len(node.shown.utf8), node.shown.signature.modified, EXACT
-        return None
-
     @guarded
     async def lookup(self, parent: int, name: bytes, ctx: Any = None) -> Any:
-        return await self.entry(parent, name)
-
-    async def entry(self, parent: int, name: bytes) -> Any:
-        """What a name stands for, which the kernel keeps until it forgets it."""
-        if name == b"." or name == b"..":
-            here = self.tree.nodes[parent].path or b""
-            path = here if name == b"." else os.path.dirname(here)
-        else:
-            path = self.path(parent, name)
-        found = self.source.stat(path)
-        node = self.tree.at(path, found)
-        node.lookups += 1
-        try:
-            return await self.attributes(node, found)
-        except BaseException:
-            self.tree.forget(node.ino, 1)
-            raise
+        return await self.view.entry(parent, name)
 
     async def forget(self, inodes: Sequence[Tuple[int, int]]) -> None:
         for ino, lookups in inodes:
@@ -210,16 +91,16 @@ class Operations(pyfuse3.Operations):  # type: ignore[misc]
 
     @guarded
     async def getattr(self, ino: int, ctx: Any = None) -> Any:
-        return await self.attributes(self.tree.nodes[ino])
+        return await self.view.attributes(self.tree.nodes[ino])
 
     @guarded
     async def readlink(self, ino: int, ctx: Any) -> bytes:
-        return os.readlink(self.below(self.tree.nodes[ino]))
+        return os.readlink(self.view.below(self.tree.nodes[ino]))
 
     @guarded
     async def opendir(self, ino: int, ctx: Any) -> int:
         node = self.tree.nodes[ino]
-        entries = sorted(it for it in os.listdir(self.below(node)) if not self.hidden(it))
+        entries = sorted(it for it in os.listdir(self.view.below(node)) if not self.view.hidden(it))
         self.last += 1
         self.folders[self.last] = Folder(node, entries)
         return self.last
@@ -232,7 +113,7 @@ class Operations(pyfuse3.Operations):  # type: ignore[misc]
                 path = node.path + b"/" + name if node.path else name
                 found = self.source.stat(path)
                 entry = self.tree.at(path, found)
-                if not pyfuse3.readdir_reply(token, name, await self.attributes(entry, found, lazily=True), number):
+                if not pyfuse3.readdir_reply(token, name, await self.view.attributes(entry, found, lazily=True), number):
                     break
                 entry.lookups += 1
 
@@ -242,7 +123,7 @@ class Operations(pyfuse3.Operations):  # type: ignore[misc]
 
     @guarded
     async def fsyncdir(self, fh: int, datasync: bool) -> None:
-        descriptor = os.open(self.below(self.folders[fh].node), os.O_RDONLY | os.O_DIRECTORY)
+        descriptor = os.open(self.view.below(self.folders[fh].node), os.O_RDONLY | os.O_DIRECTORY)
         try:
             await trio.to_thread.run_sync(os.fsync, descriptor)
         finally:
@@ -260,14 +141,18 @@ class Operations(pyfuse3.Operations):  # type: ignore[misc]
 
     @guarded
     async def open(self, ino: int, flags: int, ctx: Any) -> Any:
+        return await self.opened_anew(ino, flags, ctx)
+
+    async def opened_anew(self, ino: int, flags: int, ctx: Any) -> Any:
+        """A file that is opened."""
         node = self.tree.nodes[ino]
         writes = flags & os.O_ACCMODE != os.O_RDONLY
-        if writes and self.options.read_only:
-            raise FUSEError(errno.EROFS)
+        if writes:
+            self.view.takes_changes(node.rule, node.path)
         if not node.rule:
-            descriptor = os.open(self.below(node), flags & ~NOT_BELOW | os.O_CLOEXEC)
+            descriptor = os.open(self.view.below(node), flags & ~NOT_BELOW | os.O_CLOEXEC)
             return pyfuse3.FileInfo(fh=self.opened(node, descriptor, writes, ctx))
-        await self.read_for(node, node.rule, writes, ctx.pid)
+        await self.view.read_for(node, node.rule, writes, ctx.pid)
         current = node.shown.signature if node.shown else None
         info = pyfuse3.FileInfo(fh=self.opened(node, None, writes, ctx))
         info.keep_cache = node.written is None and node.sent == current
@@ -282,38 +167,17 @@ class Operations(pyfuse3.Operations):  # type: ignore[misc]
                 node.session.truncate(0)
         return info
 
-    async def read_for(self, node: Node, rule: Rule, writes: bool, thread: int) -> None:
-        """Has what is below as what is open of a file. Where programs write it, it is theirs."""
-        again = thread in self.stale
-        self.stale.discard(thread)
-        while node.written is None:
-            path = node.was if node.path is None and not writes else node.path
-            other = path is not None and bool(node.handles) and (node.path is None or replaced(node, self.source.stat(path)))
-            if other and again and not writes:
-                return  # (it was this when its name was looked up anew)
-            if other:
-                self.tree.gone(node, path)
-            if other or path is None:
-                self.stale.add(thread)
-                raise FUSEError(errno.ESTALE)  # (on which the kernel looks its name up anew, once)
-            try:
-                snapshot = await self.reader.snapshot(path, rule.label)
-            except Refused as refused:
-                log.warning("%s: not opened: %s", shown(path), refused)
-                raise
-            if node.handles and node.shown and node.shown.signature != snapshot.signature:
-                continue
-            if path in (node.path, node.was) and node.written is None:
-                node.shown, node.below = snapshot, snapshot.signature.inode
-                return
-
     @guarded
     @changes
     async def create(self, parent: int, name: bytes, mode: int, flags: int, ctx: Any) -> Any:
-        path = self.new_path(parent, name)
+        path = self.view.new_path(parent, name)
+        if not flags & os.O_EXCL and self.view.at(path):
+            # (someone else made it meanwhile)
+            entry = await self.view.entry(parent, name)
+            return await self.opened_anew(entry.st_ino, flags, ctx), entry
         full = self.source.full(path)
         descriptor = os.open(full, os.O_CREAT | os.O_EXCL | os.O_RDWR | os.O_CLOEXEC, mode & 0o7777 & ~ctx.umask)
-        self.owned(path, ctx)
+        self.view.owned(path, ctx)
         self.tree.drop_form(path)
         found = os.fstat(descriptor)
         there = self.tree.paths.get(path)
@@ -331,14 +195,7 @@ class Operations(pyfuse3.Operations):  # type: ignore[misc]
             self.reader.sizes.put(node.shown.signature, node.rule.label, 0)
         info = pyfuse3.FileInfo(fh=self.opened(node, held, True, ctx))
         node.lookups += 1
-        return info, await self.attributes(node)
-
-    def owned(self, path: bytes, ctx: Any) -> None:
-        """Gives what was made to whoever asked for it, where the mount is root's."""
-        if os.geteuid() == 0:
-            folder = self.source.stat(os.path.dirname(path))
-            group = -1 if folder.st_mode & stat.S_ISGID else ctx.gid
-            os.chown(self.source.full(path), ctx.uid, group, follow_symlinks=False)
+        return info, await self.view.attributes(node)
 
     @guarded
     async def read(self, fh: int, offset: int, size: int) -> bytes:
@@ -399,6 +256,7 @@ class Operations(pyfuse3.Operations):  # type: ignore[misc]
     async def setattr(self, ino: int, attr: Any, fields: Any, fh: Optional[int], ctx: Any) -> Any:
         node = self.tree.nodes[ino]
         if fields.update_size:
+            self.view.takes_changes(node.rule, node.path)
             await self.resize(node, attr.st_size, self.handles.get(fh) if fh is not None else None, ctx)
         if node.path is not None:
             full = self.source.full(node.path)
@@ -414,21 +272,21 @@ class Operations(pyfuse3.Operations):  # type: ignore[misc]
                 os.utime(full, ns=(accessed, modified), follow_symlinks=False)
                 if node.session and node.session.dirty and fields.update_mtime:
                     node.session.modified = modified
-            self.same_bytes(node, before)
-        return await self.attributes(node)
+            self.view.same_bytes(node, before)
+        return await self.view.attributes(node)
 
     async def resize(self, node: Node, size: int, handle: Optional[Handle], ctx: Any) -> None:
         """Cuts a file, or fills it with zeros."""
         handle = handle or next((it for it in node.handles if it.writes), None)
         if not node.rule:
             held = handle.descriptor if handle else None
-            os.truncate(self.below(node) if held is None else held, size)
+            os.truncate(self.view.below(node) if held is None else held, size)
             return
         if size > LARGEST_TEXT:
             raise FUSEError(errno.EFBIG)
         alone = node.session is None
         if alone:
-            await self.read_for(node, node.rule, True, ctx.pid)
+            await self.view.read_for(node, node.rule, True, ctx.pid)
         if node.session is None:
             assert node.shown
             node.session = Session(node.shown)
@@ -439,36 +297,17 @@ class Operations(pyfuse3.Operations):  # type: ignore[misc]
             finally:
                 await self.saves.ended(node, ctx.pid)
 
-    def same_bytes(self, node: Node, before: os.stat_result) -> None:
-        """What changes a file's mode, times or attributes changes no byte: what is known of it stays known."""
-        if node.path is None or not node.rule:
-            return
-        old, now = signature(before), signature(self.source.stat(node.path))
-        if (old.inode, old.size) != (now.inode, now.size):
-            return
-        size = self.reader.sizes.get(old, node.rule.label)
-        if size is not None:
-            self.reader.sizes.put(now, node.rule.label, size)
-        self.reader.shelf.now(old, now, node.rule.label)
-        for it in (node.shown, node.session and node.session.below):
-            if it and it.signature == old:
-                it.signature = now
-        if node.sent == old:
-            node.sent = now
-        if node.told == old:
-            node.told = now
-
     # Names.
 
     @guarded
     @changes
     async def rename(self, parent: int, name: bytes, new_parent: int, new_name: bytes, flags: int, ctx: Any) -> None:
         def where() -> Tuple[bytes, bytes]:
-            return self.path(parent, name), self.new_path(new_parent, new_name)
+            return self.view.path(parent, name), self.view.new_path(new_parent, new_name)
 
         path, new = where()
         found = self.source.stat(path)
-        target = self.at(new)
+        target = self.view.at(new)
         if flags & ~pyfuse3.RENAME_NOREPLACE:
             raise FUSEError(errno.EINVAL)
         if flags and target:
@@ -483,7 +322,8 @@ class Operations(pyfuse3.Operations):  # type: ignore[misc]
                 if it:
                     await self.saves.commit_held(it, ctx.pid)
             over = target is not None and stat.S_ISREG(target.st_mode)
-            rule = self.tree.form(new, target) if over and target else self.form(new, found)
+            rule = self.tree.form(new, target) if over and target else self.view.form(new, found)
+            self.view.takes_changes(rule, new)
             if node.rule and rule and node.rule.label != rule.label:
                 raise FUSEError(errno.EXDEV)  # (a program that moves files then copies the text)
             if rule and (not node.rule or node.born and over):
@@ -491,12 +331,6 @@ class Operations(pyfuse3.Operations):  # type: ignore[misc]
                 self.tree.moved(*where())
             else:
                 self.renamed(node, *where(), rule)
-
-    def at(self, path: bytes) -> Optional[os.stat_result]:
-        """What is at a path, if anything is."""
-        with contextlib.suppress(FileNotFoundError):
-            return self.source.stat(path)
-        return None
 
     def renamed(self, node: Node, path: bytes, new: bytes, rule: Optional[Rule]) -> None:
         """A file gets another name, and keeps its bytes and its form."""
@@ -511,12 +345,12 @@ class Operations(pyfuse3.Operations):  # type: ignore[misc]
             self.tree.keep_form(new, node.rule)
         else:
             node.rule = rule
-        self.same_bytes(node, before)
+        self.view.same_bytes(node, before)
 
     @guarded
     @changes
     async def unlink(self, parent: int, name: bytes, ctx: Any) -> None:
-        path = self.path(parent, name)
+        path = self.view.path(parent, name)
         node = self.tree.paths.get(path)
         rule = node.rule if node else self.tree.form(path, self.source.stat(path))
         if rule:
@@ -529,45 +363,45 @@ class Operations(pyfuse3.Operations):  # type: ignore[misc]
     @guarded
     @changes
     async def link(self, ino: int, parent: int, name: bytes, ctx: Any) -> Any:
-        node, path = self.tree.nodes[ino], self.new_path(parent, name)
-        found = self.found(node)
+        node, path = self.tree.nodes[ino], self.view.new_path(parent, name)
+        found = self.view.found(node)
         rule = self.tree.form(path, found)
         if (node.rule and node.rule.label) != (rule and rule.label):
             raise FUSEError(errno.EXDEV)
         await self.saves.commit(node, ctx.pid)
-        before = self.found(node)
-        os.link(self.below(node), self.source.full(path), follow_symlinks=False)
-        self.same_bytes(node, before)
-        return await self.entry(parent, name)
+        before = self.view.found(node)
+        os.link(self.view.below(node), self.source.full(path), follow_symlinks=False)
+        self.view.same_bytes(node, before)
+        return await self.view.entry(parent, name)
 
     @guarded
     @changes
     async def symlink(self, parent: int, name: bytes, target: bytes, ctx: Any) -> Any:
-        path = self.new_path(parent, name)
+        path = self.view.new_path(parent, name)
         os.symlink(target, self.source.full(path))
-        self.owned(path, ctx)
-        return await self.entry(parent, name)
+        self.view.owned(path, ctx)
+        return await self.view.entry(parent, name)
 
     @guarded
     @changes
     async def mkdir(self, parent: int, name: bytes, mode: int, ctx: Any) -> Any:
-        path = self.new_path(parent, name)
+        path = self.view.new_path(parent, name)
         os.mkdir(self.source.full(path), mode & ~ctx.umask)
-        self.owned(path, ctx)
-        return await self.entry(parent, name)
+        self.view.owned(path, ctx)
+        return await self.view.entry(parent, name)
 
     @guarded
     @changes
     async def mknod(self, parent: int, name: bytes, mode: int, rdev: int, ctx: Any) -> Any:
-        path = self.new_path(parent, name)
+        path = self.view.new_path(parent, name)
         os.mknod(self.source.full(path), mode & ~ctx.umask, rdev)
-        self.owned(path, ctx)
-        return await self.entry(parent, name)
+        self.view.owned(path, ctx)
+        return await self.view.entry(parent, name)
 
     @guarded
     @changes
     async def rmdir(self, parent: int, name: bytes, ctx: Any) -> None:
-        path = self.path(parent, name)
+        path = self.view.path(parent, name)
         os.rmdir(self.source.full(path))
         node = self.tree.paths.get(path)
         if node:
@@ -583,48 +417,21 @@ class Operations(pyfuse3.Operations):  # type: ignore[misc]
 
     # Extended attributes.
 
-    async def own(self, node: Node, name: bytes) -> Optional[str]:
-        """What the mount says of a file with a rule. It isn't listed, or programs would copy it into other files."""
-        rule, path = node.rule, node.path
-        if not rule or path is None:
-            return None
-        if name == b"refused":
-            return node.refusal or await self.too_large(path, rule)
-        if name == b"label":
-            return rule.label
-        if name == b"origin":
-            return rule.origin
-        if name in (b"encoding", b"bom", b"errors"):
-            snapshot = await self.reader.snapshot(path, rule.label)
-            assert snapshot.text
-            if name == b"errors":
-                return str((await self.reader.lengths(snapshot.raw, rule.label)).errors)
-            return snapshot.text.encoding if name == b"encoding" else str(snapshot.text.bom)
-        return None
-
-    async def too_large(self, path: bytes, rule: Rule) -> Optional[str]:
-        """Why a file can't be opened."""
-        try:
-            await self.reader.snapshot(path, rule.label)
-        except Refused as refused:
-            return refused.reason
-        return None
-
     @guarded
     async def getxattr(self, ino: int, name: bytes, ctx: Any) -> bytes:
         node = self.tree.nodes[ino]
         if name.startswith(OWN):
-            own = await self.own(node, name[len(OWN):])
+            own = await self.view.own(node, name[len(OWN):])
             if own is not None:
                 return own.encode(errors="surrogateescape")
         if node.path is None:
             raise FUSEError(errno.ENODATA)
-        return os.getxattr(self.below(node), name, follow_symlinks=False)
+        return os.getxattr(self.view.below(node), name, follow_symlinks=False)
 
     @guarded
     async def listxattr(self, ino: int, ctx: Any) -> List[bytes]:
         node = self.tree.nodes[ino]
-        return [] if node.path is None else [os.fsencode(it) for it in os.listxattr(self.below(node), follow_symlinks=False)]
+        return [] if node.path is None else [os.fsencode(it) for it in os.listxattr(self.view.below(node), follow_symlinks=False)]
 
     @guarded
     @changes
@@ -632,15 +439,15 @@ class Operations(pyfuse3.Operations):  # type: ignore[misc]
         node = self.tree.nodes[ino]
         if name.startswith(OWN):
             raise FUSEError(errno.ENOTSUP)
-        before = self.found(node)
-        os.setxattr(self.below(node), name, value, follow_symlinks=False)
-        self.same_bytes(node, before)
+        before = self.view.found(node)
+        os.setxattr(self.view.below(node), name, value, follow_symlinks=False)
+        self.view.same_bytes(node, before)
 
     @guarded
     @changes
     async def removexattr(self, ino: int, name: bytes, ctx: Any) -> None:
         node = self.tree.nodes[ino]
-        before = self.found(node)
-        os.removexattr(self.below(node), name, follow_symlinks=False)
-        self.same_bytes(node, before)
+        before = self.view.found(node)
+        os.removexattr(self.view.below(node), name, follow_symlinks=False)
+        self.view.same_bytes(node, before)
 

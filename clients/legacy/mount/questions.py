@@ -4,6 +4,7 @@ import base64
 import contextlib
 import errno
 import fcntl
+import itertools
 import json
 import os
 import subprocess
@@ -86,6 +87,7 @@ class Questions:
     def __init__(self, words: Sequence[str]):
         self._words = words
         self._answering: List[Answering] = []
+        self._turns = itertools.count()
         self._encodings: Dict[str, str] = {}
         self._encodable: Dict[str, Set[str]] = {}
         self.longest = SHORT
@@ -93,25 +95,35 @@ class Questions:
     @contextlib.asynccontextmanager
     async def _one(self) -> AsyncIterator[Answering]:
         """One of the processes, which is this question's alone."""
-        found = next((it for it in self._answering if not it.lock.locked()), None)
-        if found is None and len(self._answering) < PROCESSES:
-            found = Answering(self._words)
-            self._answering.append(found)
-            self.longest = found.longest
-        if found is None:
-            found = self._answering[int(time.monotonic() * 1e6) % len(self._answering)]
-            await found.lock.acquire()
-        else:
-            found.lock.acquire_nowait()
+        found = await self._taken()
         try:
             yield found
-        except Gone:
-            with contextlib.suppress(ValueError):
-                self._answering.remove(found)
+        except Refused:
+            raise  # (its document is closed)
+        except BaseException:
+            # (it may have more to say, which the next question would take for its own)
+            self._answering.remove(found)
             found.close()
             raise
         finally:
             found.lock.release()
+
+    async def _taken(self) -> Answering:
+        """A process whose lock is held: a free one, or a new one where there are few, or else the one that was waited for."""
+        while True:
+            found = next((it for it in self._answering if not it.lock.locked()), None)
+            if found is None and len(self._answering) < PROCESSES:
+                found = Answering(self._words)
+                self._answering.append(found)
+                self.longest = found.longest
+            if found:
+                found.lock.acquire_nowait()
+                return found
+            waited = self._answering[next(self._turns) % PROCESSES]
+            await waited.lock.acquire()
+            if waited in self._answering:
+                return waited
+            waited.lock.release()
 
     def look_after(self) -> None:
         """Ends a process that keeps a question waiting."""

@@ -2,6 +2,7 @@
 import contextlib
 import errno
 import os
+import re
 import time
 from typing import Any, Callable, Dict, List, Set, Tuple
 
@@ -17,6 +18,9 @@ from legacy.saving import Refused
 SMALL = 1 << 18
 # The nanoseconds within which two changes of a file may bear one time.
 TICK = 20_000_000
+# What a file's text is read by, in the place of a label, that says of other files which charset they have.
+CHARSET_UTF_8 = "charset = utf-8"
+CHARSET = re.compile(rb"(?im)^([ \t]*charset[ \t]*[=:][ \t]*)[^\s#;]+")
 
 
 class Reader:
@@ -75,6 +79,8 @@ class Reader:
 
     async def text(self, raw: bytes, label: str) -> Text:
         """The text of these bytes."""
+        if label == CHARSET_UTF_8:
+            return Text(CHARSET.sub(rb"\1utf-8", raw), "UTF-8", 0)
         encoding = await self._questions.encoding(label)
         if own_text(raw, encoding):
             return Text(raw, encoding, 0)
@@ -98,6 +104,8 @@ class Reader:
 
     async def lengths(self, raw: bytes, label: str) -> Lengths:
         """How long the text of these bytes is, and how many errors it has."""
+        if label == CHARSET_UTF_8:
+            return Lengths(len((await self.text(raw, label)).utf8), 0)
         if own_text(raw, await self._questions.encoding(label)):
             return Lengths(len(raw), 0)
         if len(raw) <= self._questions.longest:

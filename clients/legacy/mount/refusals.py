@@ -43,7 +43,7 @@ class Refusals:
     def reject(self, path: bytes, text: bytes, reason: str, program: int) -> None:
         """Keeps a refused text, and says why it was refused."""
         before = self._of.get(path)
-        if before and (before.text, before.reason) == (text, reason):
+        if before and (before.text, before.reason) == (text, reason) and os.path.lexists(self._full(before.place)):
             return
         mine = before.place if before and before.program == program else None
         place = self._written(path, text, reason, mine)
@@ -73,6 +73,7 @@ class Refusals:
                     os.makedirs(os.path.dirname(place), exist_ok=True)
                 found = mine or free(lambda it: os.path.lexists(self._full(it)), place, SUFFIX)
                 self._write(self._full(found), text, reason, new=mine is None)
+                self._owned(self._full(found), path)
                 return found
             mine = None
         return None
@@ -88,6 +89,13 @@ class Refusals:
             raise
         finally:
             os.close(file)
+
+    def _owned(self, full: bytes, path: bytes) -> None:
+        """Whoever may read and write a file may do so with its refused text."""
+        with contextlib.suppress(OSError):
+            found = self._source.stat(path)
+            os.chmod(full, found.st_mode & 0o666)
+            os.chown(full, found.st_uid, found.st_gid)
 
     def _note(self, title: str, text: str) -> None:
         """A note on the desktop, if there is one."""

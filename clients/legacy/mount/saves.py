@@ -176,6 +176,8 @@ class Saves:
         if node.path is not None and session.base.raw != session.below.raw:
             self._reader.past.put(node.path, session.base)
         node.session = None
+        # Whoever came meanwhile goes on with what is below.
+        node.shown = session.below if node.handles else None
         if session.dirty:
             # What was refused is no part of the file, and the kernel has pages of it.
             node.sent = None

@@ -1,0 +1,247 @@
+"""What the mount shows: paths, inodes and what they are. Of a file with a rule that is its text in UTF-8, whose size is
+exact and found out when it is wanted."""
+import contextlib
+import errno
+import logging
+import os
+import stat
+from typing import Any, NamedTuple, Optional, Set, Tuple
+
+import pyfuse3
+
+from legacy.mount.below import BESIDE, Source, signature
+from legacy.mount.reading import CHARSET_UTF_8, Reader
+from legacy.mount.refusals import shown
+from legacy.mount.snapshots import LARGEST
+from legacy.mount.tree import EXACT, Node, Tree, replaced
+from legacy.rules import Rule, Rules
+from legacy.saving import Refused
+
+log = logging.getLogger("legacy.mount")
+FUSEError = pyfuse3.FUSEError
+
+HIDDEN = frozenset({b".git", b".hg", b".svn"})
+
+
+class Options(NamedTuple):
+    """What the command's words say of the view."""
+
+    read_only: bool = False
+    large_as_bytes: bool = False
+    show_git: bool = False
+    editorconfig: bool = False
+
+
+# What editors obey in a file of this name is what the mount shows.
+EDITORCONFIG, AS_SHOWN = b".editorconfig", Rule(CHARSET_UTF_8, "charset is shown as utf-8")
+
+
+class View:
+    """The tree as programs see it."""
+
+    def __init__(self, source: Source, rules: Rules, reader: Reader, options: Options):
+        self.source, self.reader, self.options = source, reader, options
+        self._rules = rules
+        self.tree = Tree(self.form)
+        # The threads whose open was told that another file is there now.
+        self._stale: Set[int] = set()
+
+    def form(self, path: bytes, found: os.stat_result) -> Optional[Rule]:
+        """The rule of a file."""
+        if found.st_size > LARGEST and self.options.large_as_bytes:
+            return None
+        if self.options.editorconfig and os.path.basename(path) == EDITORCONFIG:
+            return AS_SHOWN
+        return self._rules.rule_of(path)
+
+    def takes_changes(self, rule: Optional[Rule], path: Optional[bytes]) -> None:
+        """Raises a fault where what is at a path can't be changed through the mount."""
+        if self.options.read_only:
+            raise FUSEError(errno.EROFS)
+        if rule == AS_SHOWN:
+            log.warning("%s: isn't shown as it is, and can be changed in the source alone", shown(path))
+            raise FUSEError(errno.EACCES)
+
+    # Paths.
+
+    def hidden(self, name: bytes) -> bool:
+        """Whether nobody sees a name."""
+        return name.startswith(BESIDE) or name in HIDDEN and not self.options.show_git
+
+    def path(self, ino: int, name: bytes) -> bytes:
+        """The path of a name in a folder."""
+        folder = self.tree.nodes[ino].path
+        if folder is None or self.hidden(name):
+            raise FUSEError(errno.ENOENT)
+        return folder + b"/" + name if folder else name
+
+    def new_path(self, ino: int, name: bytes) -> bytes:
+        """The path of a name that something is to get."""
+        if self.hidden(name):
+            log.warning("%s: the name is not for files of the mount", shown(name))
+            raise FUSEError(errno.EACCES)
+        return self.path(ino, name)
+
+    def below(self, node: Node) -> bytes:
+        """What to open below for an inode."""
+        if node.path is None:
+            raise FUSEError(errno.ESTALE)
+        return self.source.full(node.path)
+
+    # What files are.
+
+    async def attributes(self, node: Node, found: Optional[os.stat_result] = None, lazily: bool = False) -> Any:
+        """What a file is. `lazily`: where the size of its text isn't known, that of its bytes, which the kernel doesn't
+        keep."""
+        found = found or self.found(node)
+        node.found = found
+        if not node.handles:
+            node.below = found.st_ino
+        size, modified, timeout = found.st_size, found.st_mtime_ns, EXACT
+        if node.rule and stat.S_ISREG(found.st_mode):
+            size, modified, timeout = await self.text_size(node, node.rule, found, lazily)
+        it = pyfuse3.EntryAttributes()
+        it.st_ino, it.st_mode, it.st_nlink = node.ino, found.st_mode, found.st_nlink
+        it.st_uid, it.st_gid, it.st_rdev = found.st_uid, found.st_gid, found.st_rdev
+        it.st_size, it.st_blksize, it.st_blocks = size, 65536, (size + 511) // 512
+        it.st_atime_ns, it.st_mtime_ns, it.st_ctime_ns = found.st_atime_ns, modified, found.st_ctime_ns
+        it.attr_timeout, it.entry_timeout = timeout, EXACT
+        return it
+
+    def found(self, node: Node) -> os.stat_result:
+        """What is below, or what was there when the name went."""
+        if node.name is not None:
+            return self.source.stat(node.name)
+        held = next((it.descriptor for it in node.handles if it.descriptor is not None), None)
+        if held is not None:
+            return os.fstat(held)
+        if node.found is None or not node.handles:
+            raise FUSEError(errno.ESTALE)
+        return node.found
+
+    async def text_size(self, node: Node, rule: Rule, found: os.stat_result, lazily: bool) -> Tuple[int, int, float]:
+        """How long the text of a file is, when it was last changed, and for how many seconds that is so."""
+        open_now = self.open_size(node, found)
+        if open_now:
+            return open_now
+        current = signature(found)
+        size = self.reader.sizes.get(current, rule.label)
+        if size is None and not lazily and node.name is not None:
+            with contextlib.suppress(Refused):  # (opening it says why)
+                current, size = await self.reader.size(node.name, rule.label, found)
+            open_now = self.open_size(node, found)
+            if open_now:
+                return open_now
+        node.tell(current)
+        return found.st_size if size is None else size, current.modified, 0.0 if size is None and lazily else EXACT
+
+    def open_size(self, node: Node, found: os.stat_result) -> Optional[Tuple[int, int, float]]:
+        """The same of what programs have open, which goes on as it was read, whatever became of the file."""
+        session = node.session
+        if session and session.data is not None:
+            node.tell(session.below.signature)
+            return len(session.data), session.modified or found.st_mtime_ns, EXACT
+        if node.shown and node.handles:
+            node.tell(node.shown.signature)
+            return len(node.shown.utf8), node.shown.signature.modified, EXACT
+        return None
+
+    async def entry(self, parent: int, name: bytes) -> Any:
+        """What a name stands for, which the kernel keeps until it forgets it."""
+        if name == b"." or name == b"..":
+            here = self.tree.nodes[parent].path or b""
+            path = here if name == b"." else os.path.dirname(here)
+        else:
+            path = self.path(parent, name)
+        found = self.source.stat(path)
+        node = self.tree.at(path, found)
+        node.lookups += 1
+        try:
+            return await self.attributes(node, found)
+        except BaseException:
+            self.tree.forget(node.ino, 1)
+            raise
+
+    async def read_for(self, node: Node, rule: Rule, writes: bool, thread: int) -> None:
+        """Has what is below as what is open of a file. Where programs write it, it is theirs."""
+        again = thread in self._stale
+        self._stale.discard(thread)
+        while node.written is None:
+            path = node.was if node.path is None and not writes else node.path
+            other = path is not None and bool(node.handles) and (node.path is None or replaced(node, self.source.stat(path)))
+            if other and again and not writes:
+                return  # (it was this when its name was looked up anew)
+            if other:
+                self.tree.gone(node, path)
+            if other or path is None:
+                self._stale.add(thread)
+                raise FUSEError(errno.ESTALE)  # (on which the kernel looks its name up anew, once)
+            try:
+                snapshot = await self.reader.snapshot(path, rule.label)
+            except Refused as refused:
+                log.warning("%s: not opened: %s", shown(path), refused)
+                raise
+            if node.handles and node.shown and node.shown.signature != snapshot.signature:
+                continue
+            if path in (node.path, node.was) and node.written is None:
+                node.shown, node.below = snapshot, snapshot.signature.inode
+                return
+
+    def owned(self, path: bytes, ctx: Any) -> None:
+        """Gives what was made to whoever asked for it, where the mount is root's."""
+        if os.geteuid() == 0:
+            folder = self.source.stat(os.path.dirname(path))
+            group = -1 if folder.st_mode & stat.S_ISGID else ctx.gid
+            os.chown(self.source.full(path), ctx.uid, group, follow_symlinks=False)
+
+    def same_bytes(self, node: Node, before: os.stat_result) -> None:
+        """What changes a file's mode, times or attributes changes no byte: what is known of it stays known."""
+        if node.path is None or not node.rule:
+            return
+        old, now = signature(before), signature(self.source.stat(node.path))
+        if (old.inode, old.size) != (now.inode, now.size):
+            return
+        size = self.reader.sizes.get(old, node.rule.label)
+        if size is not None:
+            self.reader.sizes.put(now, node.rule.label, size)
+        self.reader.shelf.now(old, now, node.rule.label)
+        for it in (node.shown, node.session and node.session.below):
+            if it and it.signature == old:
+                it.signature = now
+        if node.sent == old:
+            node.sent = now
+        if node.told == old:
+            node.told = now
+
+    def at(self, path: bytes) -> Optional[os.stat_result]:
+        """What is at a path, if anything is."""
+        with contextlib.suppress(FileNotFoundError):
+            return self.source.stat(path)
+        return None
+
+    async def own(self, node: Node, name: bytes) -> Optional[str]:
+        """What the mount says of a file with a rule. It isn't listed, or programs would copy it into other files."""
+        rule, path = node.rule, node.path
+        if not rule or path is None:
+            return None
+        if name == b"refused":
+            return node.refusal or await self.too_large(path, rule)
+        if name == b"label":
+            return rule.label
+        if name == b"origin":
+            return rule.origin
+        if name in (b"encoding", b"bom", b"errors"):
+            snapshot = await self.reader.snapshot(path, rule.label)
+            assert snapshot.text
+            if name == b"errors":
+                return str((await self.reader.lengths(snapshot.raw, rule.label)).errors)
+            return snapshot.text.encoding if name == b"encoding" else str(snapshot.text.bom)
+        return None
+
+    async def too_large(self, path: bytes, rule: Rule) -> Optional[str]:
+        """Why a file can't be opened."""
+        try:
+            await self.reader.snapshot(path, rule.label)
+        except Refused as refused:
+            return refused.reason
+        return None
