@@ -1,5 +1,8 @@
 """Which file is in which encoding: names beside iconv, patterns and files of attributes beside `git check-attr`, those of
 EditorConfig beside its own library, the order in which rules count, and `legacy rules`."""
+import contextlib
+import errno
+import io
 import json
 import os
 import pathlib
@@ -13,6 +16,7 @@ import time
 import unittest
 from unittest import mock
 
+from legacy.__main__ import main
 from legacy.finding import Missing
 from legacy.rules import Rule, Rules, editorconfig, repositories
 from legacy.rules.attributes import ENCODING, Pattern, parsed
@@ -499,13 +503,21 @@ class Command(Folder):
                 printed, said, status = self.run_command(*words)
                 self.assertEqual((printed, said[-len(line):], status), (b"", line, 2))
 
-    @unittest.skipIf(os.geteuid() == 0, "root reads every folder")
     def test_a_folder_that_can_t_be_read(self):
         self.write("shut/x")
         self.write("x")
-        (self.folder / "shut").chmod(0)
-        self.addCleanup((self.folder / "shut").chmod, 0o700)
-        self.assertEqual(self.run_command("--default", "gbk", "."), (b"x: gbk (--default)\n", "legacy rules: ./shut: Permission denied\n", 2))
+        opened = os.scandir
+
+        def scandir(path):
+            if path.endswith(b"shut"):  # (which root could read)
+                raise PermissionError(errno.EACCES, "Permission denied", path)
+            return opened(path)
+
+        printed, said = io.StringIO(), io.StringIO()
+        with mock.patch("os.scandir", scandir), contextlib.redirect_stdout(printed), contextlib.redirect_stderr(said):
+            status = main(["rules", "--default", "gbk", str(self.folder)])
+        line = f"legacy rules: {self.folder}/shut: Permission denied\n"
+        self.assertEqual((printed.getvalue(), said.getvalue(), status), ("x: gbk (--default)\n", line, 2))
 
 
 if __name__ == "__main__":
