@@ -107,7 +107,7 @@ def label_file(named: Optional[pathlib.Path], indexes: pathlib.Path) -> Optional
     return named or (beside if beside.is_file() else None)
 
 
-def find(words: argparse.Namespace) -> Found:
-    """All that `add_words` names, from the words that were parsed."""
+def find(words: argparse.Namespace = argparse.Namespace(gate=None, indexes=None, labels=None)) -> Found:
+    """All that `add_words` names, from the words that were parsed; or what is found without any."""
     indexes = index_files(words.indexes)
     return Found(program(words.gate), indexes, label_file(words.labels, indexes))
