@@ -18,8 +18,8 @@ NO_FOLDER = ["--indexes", "/no/such/folder"]
 # The words of the runs over an input and an output; the folder isn't there, which is no fault.
 RUNS = [[], ["stdio", *NO_FOLDER], ["trace", *NO_FOLDER]]
 
-# What is written by each, and by the help.
-WRITING = [([], OPEN), (["stdio", *NO_FOLDER], OPEN), (["trace", *NO_FOLDER], "open 16\n"), (["--help"], "")]
+# What is written by each, by the help and as the version.
+WRITING = [([], OPEN), (["stdio", *NO_FOLDER], OPEN), (["trace", *NO_FOLDER], "open 16\n"), (["--help"], ""), (["--version"], "")]
 
 # The seconds that a wait may take.
 LIMIT = 30
