@@ -88,6 +88,11 @@ class Edits(OverGate):
         rare = b"\xbf\xde\x8f\xb0\xa1\x8f\xb0\xa2\xbd\xf1"
         self.assertEqual(
             self.saved("euc-jp", rare + b"\n1\n2\n", lambda old: f"1\n2\nx{old[:4]}\n"), b"1\n2\nx" + rare + b"\n")
+        # Little of it is left; and two lines were joined.
+        self.assertEqual(
+            self.saved("euc-jp", b"1\n" + rare + b"\n", lambda old: f"{old[3]}yy\u3042zz\n1\n"), b"\x8f\xb0\xa1yy\xa4\xa2zz\n1\n")
+        self.assertEqual(
+            self.saved("euc-jp", rare + b"\nsecond line\n1\n", lambda old: f"1\n{old[:4]}nd line\n"), b"1\n" + rare + b"nd line\n")
         # The line that it is like stays.
         self.assertEqual(
             self.saved("euc-jp", rare + b"\n1\n", lambda old: f"{old}x{old[:3]}\n"), rare + b"\n1\nx" + rare[:-2] + b"\n")

@@ -10,8 +10,8 @@ from legacy.difference import BAD
 from legacy.lines import Lines
 from legacy.sequences import Edit
 
-# How much alike two lines must be, of 1, that one is taken for the other edited; and if it has damage, which nobody types.
-ALIKE, ALIKE_WITH_DAMAGE = 0.5, 0.2
+# How much alike two lines must be, of 1, that one is taken for the other edited.
+ALIKE = 0.5
 # The most lines that a pair of letters leads to: one that more lines have says little.
 LEADS = 8
 # The most code points of lines that are compared with each other.
@@ -19,9 +19,6 @@ LETTERS = 500_000
 
 # The most lines that are looked for with a CR at their end or without.
 FORMS = 10_000
-
-# The number of a content in the list, and a line of it.
-Place = Tuple[int, int]
 
 
 class Content(NamedTuple):
@@ -39,21 +36,22 @@ class Run(NamedTuple):
     last: int
 
 
-def arranged(contents: Sequence[Content], new: Lines, hunks: Sequence[Edit], literal: bool,
-             anywhere: bool = False) -> Optional[List[Run]]:
+def arranged(contents: Sequence[Content], new: Lines, hunks: Sequence[Edit], literal: bool, anywhere: bool = False,
+             same: str = BAD) -> Optional[List[Run]]:
     """The lines that together are, or with further edits become, the new text, or None where those of the old text as it
     is are best. `contents`: the old one, then others, the newest last. `hunks`: the runs of lines that differ. `literal`:
     lines of the new text that are ASCII are taken from it, as content number `len(contents)`. `anywhere`: an edited line
-    may be like any line, and not only like one that is gone."""
-    made = _Arrangement(contents, new, hunks, literal, anywhere)
+    may be like any line, and not only like one that is gone. `same`: the characters that nobody types."""
+    made = _Arrangement(contents, new, hunks, literal, anywhere, same)
     return made.runs() if made.is_needed() else None
 
 
 class _Arrangement:
-    def __init__(self, contents: Sequence[Content], new: Lines, hunks: Sequence[Edit], literal: bool, anywhere: bool):
+    def __init__(self, contents: Sequence[Content], new: Lines, hunks: Sequence[Edit], literal: bool, anywhere: bool, same: str):
         self.contents, self.old, self.new, self.hunks, self.literal = contents, contents[0].lines, new, hunks, literal
-        self.sources: Dict[int, Place] = {}  # of lines of the new text
-        self.new_starts = [it.new_start for it in hunks]
+        self.same = set(same)
+        self.sources: Dict[int, Run] = {}  # of lines of the new text
+        self.starts, self.new_starts = [it.start for it in hunks], [it.new_start for it in hunks]
         self.used: Set[int] = set()  # of the lines that are gone
         self.typed = array("q", (n for it in hunks for n in range(it.new_start, it.new_end) if not new[n].isascii()))
         self._find_moved()
@@ -67,7 +65,7 @@ class _Arrangement:
     def _left(self, hunk: Edit) -> Iterable[int]:
         return (line for line in range(hunk.start, hunk.end) if line not in self.used and line not in self.contents[0].fixed)
 
-    def _found(self, sources: Dict[int, Place]) -> None:
+    def _found(self, sources: Dict[int, Run]) -> None:
         self.sources.update(sources)
         if sources:
             self.typed = array("q", (n for n in self.typed if n not in sources))
@@ -85,14 +83,14 @@ class _Arrangement:
                 gone.setdefault(self.old.hashes[line], collections.deque()).append(line)
         found = {n: gone[self.new.hashes[n]].popleft() for n in self.typed if gone.get(self.new.hashes[n])}
         self.used.update(found.values())
-        self._found({n: (0, line) for n, line in found.items()})
+        self._found({n: Run(0, line, line + 1) for n, line in found.items()})
 
     def _find_known(self) -> None:
         """Lines that are copied or restored, with a CR at their end or without, but not those that are like what was in their
         place but for ASCII characters."""
         known = self._known(self.typed)
         here: Dict[Edit, Set[int]] = {}
-        found: Dict[int, Place] = {}
+        found: Dict[int, Run] = {}
         for n, place in known.items():
             hunk = self._hunk_of(n)
             if hunk not in here:
@@ -102,27 +100,28 @@ class _Arrangement:
                 found[n] = place
         self._found(found)
 
-    def _known(self, typed: Sequence[int]) -> Dict[int, Place]:
+    def _known(self, typed: Sequence[int]) -> Dict[int, Run]:
         """Where lines are known: in the old text, else in the newest content."""
         forms = {n: _forms(self.new[n]) for n in typed} if len(typed) <= FORMS else {n: (self.new.hashes[n],) for n in typed}
         wanted = {it for form in forms.values() for it in form}
-        places: Dict[int, Place] = {}
+        places: Dict[int, Run] = {}
         for number in [*range(1, len(self.contents)), 0] if wanted else []:
             lines, fixed = self.contents[number]
-            places.update((it, (number, line)) for line, it in enumerate(lines.hashes) if it in wanted and line not in fixed)
+            places.update((it, Run(number, line, line + 1)) for line, it in enumerate(lines.hashes)
+                          if it in wanted and line not in fixed)
         return {n: next(places[it] for it in form if it in places) for n, form in forms.items() if not places.keys().isdisjoint(form)}
 
     def _find_alike(self, anywhere: bool) -> None:
         """For each edited line one that is like it, where what was in its place is not."""
-        places: Iterable[Place] = ((0, line) for line in self._gone())
+        places: Iterator[Run] = (Run(0, line, line + 1) for line in self._gone())
         if anywhere:
             gone = {line for it in self.hunks for line in range(it.start, it.end)}
             places = itertools.chain(places, (
-                (number, line) for number in range(len(self.contents) - 1, -1, -1)
+                Run(number, line, line + 1) for number in range(len(self.contents) - 1, -1, -1)
                 for line in range(len(self.contents[number].lines))
                 if line not in self.contents[number].fixed and (number or line not in gone)))
         left = LETTERS - sum(len(self.new[n]) for n in self.typed[:LETTERS])
-        found: List[Place] = []
+        found: List[Run] = []
         for it in places if self.typed else ():
             text = self._text(it)
             if not text.isascii():
@@ -132,31 +131,59 @@ class _Arrangement:
                 return
         self._choose(found)
 
-    def _choose(self, places: List[Place]) -> None:
+    def _choose(self, places: List[Run]) -> None:
         hunks = set(map(self._hunk_of, self.typed))
-        here = {hunk: set().union(*(_pairs(self.old[line]) for line in self._left(hunk))) for hunk in hunks}
-        typed = [n for n in self.typed if not _is_covered(_pairs(self.new[n]), here[self._hunk_of(n)])]
-        leads = _leads([self._text(it) for it in places], {pair for n in typed for pair in _pairs(self.new[n])})
+        here = {hunk: set().union(*(self._pairs(self.old[line]) for line in self._left(hunk))) for hunk in hunks}
+        typed = [n for n in self.typed if not self._is_covered(self._pairs(self.new[n]), here[self._hunk_of(n)])]
+        leads = _leads(map(self._pairs, map(self._text, places)), {pair for n in typed for pair in self._pairs(self.new[n])})
         found = {n: self._most_alike(self.new[n], leads, places) for n in typed}
         self._found({n: it for n, it in found.items() if it})
 
-    def _most_alike(self, text: str, leads: Dict[str, List[int]], places: List[Place]) -> Optional[Place]:
-        pairs = _pairs(text)
+    def _most_alike(self, text: str, leads: Dict[str, List[int]], places: List[Run]) -> Optional[Run]:
+        pairs = self._pairs(text)
         votes = collections.Counter(itertools.chain.from_iterable(leads.get(it, ()) for it in pairs))
         if not votes:
             return None
         best = max(votes, key=lambda it: (votes[it], -it))
-        alike = 2 * votes[best] / (len(pairs) + len(_pairs(self._text(places[best]))))
-        return places[best] if alike >= (ALIKE_WITH_DAMAGE if BAD in text else ALIKE) else None
+        found = self._with_neighbours(text, pairs, places[best])
+        of = set().union(*(self._pairs(self.contents[found.content].lines[line]) for line in range(found.first, found.last)))
+        # What nobody types has to come from somewhere.
+        needed = self.same & pairs
+        return found if 2 * len(pairs & of) >= ALIKE * (len(pairs) + len(of)) or needed and needed <= of else None
 
-    def _text(self, place: Place) -> str:
-        return self.contents[place[0]].lines[place[1]]
+    def _with_neighbours(self, text: str, pairs: Set[str], it: Run) -> Run:
+        """A line that is gone, with lines beside it that were joined with it."""
+        hunk = self.hunks[bisect.bisect_right(self.starts, it.first) - 1] if not it.content else None
+        if not hunk or it.first >= hunk.end:
+            return it
+        first, last = it.first, it.last
+        room = 2 * len(text) - len(self.old[first])
+        for step, at in (1, last), (-1, first - 1):
+            while hunk.start <= at < hunk.end and at not in self.used and at not in self.contents[0].fixed:
+                room -= len(self.old[at])
+                if room < 0 or not self._is_covered(self._pairs(self.old[at]), pairs):
+                    break
+                first, last, at = min(first, at), max(last, at + 1), at + step
+        return Run(0, first, last)
+
+    def _text(self, place: Run) -> str:
+        return self.contents[place.content].lines[place.first]
+
+    def _pairs(self, text: str) -> Set[str]:
+        """The pairs of letters that follow each other, but for a CR at the end, and the letters that nobody types."""
+        text = text[:-1] if text.endswith("\r") else text
+        return {*map("".join, zip(text, text[1:] + "\n")), *self.same.intersection(text)}
+
+    def _is_covered(self, pairs: Set[str], by: Set[str]) -> bool:
+        """Whether most of them are there, and all letters that nobody types."""
+        both = pairs & by
+        return len(both) >= ALIKE * len(pairs) and both >= self.same & pairs
 
     def _stays(self, it: Edit) -> bool:
         """Whether the old lines of this hunk, where they are, become the new ones: no line comes from elsewhere."""
         found = [self.sources[n] for n in range(it.new_start, it.new_end) if n in self.sources]
-        inside = all(not content and it.start <= line < it.end for content, line in found)
-        return inside and all(one < other for one, other in zip(found, found[1:]))
+        inside = all(not run.content and it.start <= run.first < it.end for run in found)
+        return inside and all(one.last <= other.first for one, other in zip(found, found[1:]))
 
     def is_needed(self) -> bool:
         """Whether any line comes from elsewhere."""
@@ -185,7 +212,7 @@ class _Arrangement:
         while n < it.new_end:
             place = self._source(n)
             if place is not None:
-                yield Run(place[0], place[1], place[1] + 1)
+                yield place
                 n += 1
                 continue
             row = rows[n]
@@ -195,9 +222,9 @@ class _Arrangement:
                 yield Run(0, line, line + 1)
             left, n = left[count:], row.stop
 
-    def _source(self, n: int) -> Optional[Place]:
+    def _source(self, n: int) -> Optional[Run]:
         if self.literal and self.new[n].isascii():
-            return len(self.contents), n
+            return Run(len(self.contents), n, n + 1)
         return self.sources.get(n)
 
 
@@ -206,21 +233,11 @@ def _forms(line: str) -> Tuple[int, ...]:
     return hash(line), hash(line[:-1] if line.endswith("\r") else line + "\r")
 
 
-def _pairs(text: str) -> Set[str]:
-    """The pairs of letters that follow each other, but for a CR at the end."""
-    text = text[:-1] if text.endswith("\r") else text
-    return set(map("".join, zip(text, text[1:] + "\n")))
-
-
-def _is_covered(pairs: Set[str], by: Set[str]) -> bool:
-    return len(pairs & by) >= ALIKE * len(pairs)
-
-
-def _leads(texts: Sequence[str], wanted: Set[str]) -> Dict[str, List[int]]:
-    """The texts that have each pair of letters, in order."""
+def _leads(having: Iterable[Set[str]], wanted: Set[str]) -> Dict[str, List[int]]:
+    """The numbers of those that have each pair of letters, in order."""
     leads: Dict[str, List[int]] = {}
-    for n, text in enumerate(texts):
-        for pair in _pairs(text) & wanted:
+    for n, pairs in enumerate(having):
+        for pair in pairs & wanted:
             found = leads.setdefault(pair, [])
             if len(found) < LEADS:
                 found.append(n)

@@ -50,7 +50,7 @@ class Difference:
         self.lines = Lines(old, self.head, len(old) - self.tail)
         self.new_lines = Lines(new, self.head, len(new) - self.tail)
         # The runs of these lines that differ.
-        self.hunks = list(differences(self.lines.hashes, self.new_lines.hashes))
+        self.hunks = list(differences(self.lines.hashes, self.new_lines.hashes, in_place=True))
 
     def edits(self, one_form: bool = True, same: str = BAD, precious: Optional[Sequence[Range]] = None) -> List[Edit]:
         """The edits by letters. `one_form`: ASCII characters have only one form in bytes, so that edits with few of them in
@@ -150,8 +150,12 @@ class _Letters:
     def edits(self) -> Iterator[Edit]:
         for hunk in self.of.hunks:
             it = self.of.range_of(hunk)
-            few = hunk.end - hunk.start < 2 or hunk.new_end - hunk.new_start < 2
-            yield from self._within(it) if few or it.is_small() or self._is_plain(it) else self._alike(hunk)
+            if self.precious is not None and self.precious.misses(it.start, it.end):
+                yield it
+            elif hunk.end - hunk.start < 2 or hunk.new_end - hunk.new_start < 2 or it.is_small():
+                yield from self._within(it)
+            else:
+                yield from self._alike(hunk)
 
     def _is_plain(self, it: Edit) -> bool:
         """Whether nothing that could be kept has bytes to lose."""
@@ -162,7 +166,8 @@ class _Letters:
     def _alike(self, hunk: Edit) -> Iterator[Edit]:
         """By lines whose letters are the same but for ASCII ones, and where there are as many, line by line."""
         lines, new_lines = self.of.lines, self.of.new_lines
-        unlike = differences(lines.letters(hunk.start, hunk.end), new_lines.letters(hunk.new_start, hunk.new_end))
+        letters, new_letters = lines.letters(hunk.start, hunk.end), new_lines.letters(hunk.new_start, hunk.new_end)
+        unlike = differences(letters, new_letters, in_place=True)
         line, new_line = hunk.start, hunk.new_start
         end = Edit(hunk.end, hunk.end, hunk.new_end, hunk.new_end)
         for gap in itertools.chain((it.moved(hunk.start, hunk.new_start) for it in unlike), [end]):
@@ -208,7 +213,7 @@ class _Letters:
         def letters(gap: Edit) -> Edit:
             return Edit(at[gap.start], at[gap.end], new_at[gap.new_start], new_at[gap.new_end])
 
-        for gap in differences(a, b, 4, lambda gap: letters(gap).is_small()):
+        for gap in differences(a, b, least=4, is_fine=lambda gap: letters(gap).is_small()):
             yield from self._by_same_ones(letters(gap))
 
     def _by_same_ones(self, it: Edit) -> Iterator[Edit]:

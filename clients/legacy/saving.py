@@ -221,7 +221,7 @@ class _Saving:
         new = Lines(self.new)
         before = self.new.count("\n", 0, it.head)
         hunks = [hunk.moved(before, before) for hunk in it.hunks]
-        runs = arranged([Content(table.lines, table.fixed) for table in tables], new, hunks, self.one_form, anywhere)
+        runs = arranged([Content(table.lines, table.fixed) for table in tables], new, hunks, self.one_form, anywhere, self.same)
         if runs is None:
             return None
         raws: List[bytes] = []

@@ -11,6 +11,8 @@ Items = Sequence[Any]
 PAIRS = 1 << 24
 # The most insertions and deletions that are looked for where there are more pairs.
 STEPS = 48
+# The most items that are compared with those that are in their place.
+NEAR = 32
 # From how many items on only some are looked at first.
 MANY = 4096
 # How often what lies between items that both sides have once is looked at in the same way.
@@ -70,16 +72,22 @@ def trimmed(a: Items, b: Items, it: Edit) -> Edit:
     return Edit(i, j - same, k, l - same)
 
 
-def differences(a: Items, b: Items, least: int = 0, is_fine: Callable[[Edit], bool] = lambda _: False) -> Iterator[Edit]:
-    """What differs between two sequences, by items that both have once and that are at least so long, and where there are
-    none, by a shortest script, unless it `is_fine` as it is; where that is too much, as a whole."""
+def differences(a: Items, b: Items, in_place: bool = False, least: int = 0,
+                is_fine: Callable[[Edit], bool] = lambda _: False) -> Iterator[Edit]:
+    """What differs between two sequences, by items that both have once, and where there are none, by a shortest script;
+    where that is too much, as a whole. `in_place`: few items are compared in their places first. `least`: how long an item
+    must be that both have once. `is_fine` says of what such items leave that it needs no script."""
     todo = [(Edit(0, len(a), 0, len(b)), DEPTH)]
     while todo:
         part, depth = todo.pop()
         it = trimmed(a, b, part)
-        if it.start == it.end or it.new_start == it.new_end:
+        if it.start == it.end or it.new_start == it.new_end or it.end - it.start == it.new_end - it.new_start == 1:
             if it.start < it.end or it.new_start < it.new_end:
                 yield it
+            continue
+        found = _in_place(a, b, it) if in_place else []
+        if found:
+            yield from found
             continue
         anchors = _anchors(a, b, it, least) if depth else []
         if anchors:
@@ -88,6 +96,15 @@ def differences(a: Items, b: Items, least: int = 0, is_fine: Callable[[Edit], bo
             yield it
         else:
             yield from script(a, b, it)
+
+
+def _in_place(a: Items, b: Items, it: Edit) -> List[Edit]:
+    """Of a few items what differs in its place, where most there are equal."""
+    i, j, k, l = it
+    if j - i != l - k or j - i > NEAR:
+        return []
+    differ = [at for at, (one, other) in enumerate(zip(a[i:j], b[k:l])) if one != other]
+    return [Edit(i + at, i + at + 1, k + at, k + at + 1) for at in differ] if 2 * len(differ) <= j - i else []
 
 
 def between(it: Edit, pairs: List[Tuple[int, int]]) -> List[Edit]:
@@ -143,6 +160,8 @@ def _ascending(pairs: List[Tuple[int, int]]) -> List[Tuple[int, int]]:
 def script(a: Items, b: Items, it: Edit) -> List[Edit]:
     """A shortest script, or the whole where that is too much."""
     i, j, k, l = it
+    if set(a[i:j]).isdisjoint(b[k:l]):
+        return [it]
     if it.is_small():
         return [gap.moved(i, k) for gap in shortest(a[i:j], b[k:l])]
     found = _few(a, b, it)
