@@ -485,6 +485,14 @@ class Command(Folder):
         (self.home / "link").symlink_to(self.folder)
         self.assertEqual(self.run_command("--default", "gbk", str(self.home / "link"))[0], b"a/b/x: gbk (--default)\n")
 
+    def test_folders_nested_deeper_than_calls(self):
+        inside = "/".join(["a"] * 1500)
+        subprocess.run(["mkdir", "-p", str(self.folder / inside)], check=True)
+        self.addCleanup(subprocess.run, ["rm", "-rf", str(self.folder / "a")])
+        self.write(f"{inside}/x")
+        line = f"{inside}/x: gbk (-e **/a/x=gbk)\n".encode()
+        self.assertEqual(self.run_command("--no-attributes", "-e", "**/a/x=gbk", "."), (line, "", 0))
+
     def test_one_file(self):
         self.write("sub/.gitattributes", f"x {ENCODING}=gbk")
         self.write("sub/x")
@@ -492,7 +500,7 @@ class Command(Folder):
 
     def test_trees_and_words_that_are_wrong(self):
         for words, line in [
-            (["none"], "legacy rules: none isn't there\n"),
+            (["none"], "legacy rules: none: No such file or directory\n"), (["none/none"], "legacy rules: none: No such file or directory\n"),
             (["-e", "*=klingon", "."], "legacy rules: -e *=klingon: klingon is no encoding of the Encoding Standard\n"),
             (["-e", "klingon", "."], "legacy rules: error: argument -e/--encoding: klingon isn't GLOB=LABEL, as '*.txt=shift_jis'\n"),
             (["-e", "a/=gbk", "."], "a/ is the pattern of a folder; a/** is that of the files in it\n"),
@@ -506,15 +514,15 @@ class Command(Folder):
     def test_a_folder_that_can_t_be_read(self):
         self.write("shut/x")
         self.write("x")
-        opened = os.scandir
+        listed = os.listdir
 
-        def scandir(path):
-            if path.endswith(b"shut"):  # (which root could read)
+        def listdir(path):
+            if str(path).endswith("shut"):  # (which root could read)
                 raise PermissionError(errno.EACCES, "Permission denied", path)
-            return opened(path)
+            return listed(path)
 
         printed, said = io.StringIO(), io.StringIO()
-        with mock.patch("os.scandir", scandir), contextlib.redirect_stdout(printed), contextlib.redirect_stderr(said):
+        with mock.patch("os.listdir", listdir), contextlib.redirect_stdout(printed), contextlib.redirect_stderr(said):
             status = main(["rules", "--default", "gbk", str(self.folder)])
         line = f"legacy rules: {self.folder}/shut: Permission denied\n"
         self.assertEqual((printed.getvalue(), said.getvalue(), status), ("x: gbk (--default)\n", line, 2))

@@ -4,7 +4,7 @@ import json
 import os
 import re
 import sys
-from typing import Any, Callable, Iterator, List
+from typing import Any
 
 from legacy import finding
 from legacy.rules.order import Rule, add_words, rules_from
@@ -23,47 +23,27 @@ def add_to(commands: "argparse._SubParsersAction[Any]") -> None:
 
 
 def run(words: argparse.Namespace) -> int:
-    """Prints the rules, and returns 2 where a folder couldn't be read."""
-    tree = os.fsencode(words.tree)
-    folder, only = (tree, b"") if os.path.isdir(tree) else os.path.split(tree)
-    if only and not os.path.lexists(tree):
-        raise finding.Missing(f"{words.tree} isn't there")
-    rules = rules_from(words, folder or b".", finding.label_file(words.labels, finding.standard()))
-    failed: List[OSError] = []
-    for path in [only] if only else files_below(folder, failed.append):
-        rule = rules.rule_of(path)
+    """Prints the rules, and returns 2 where something couldn't be looked at."""
+    from legacy.work.walk import KINDS, walk  # (work asks for rules itself)
+    folder = words.tree if os.path.isdir(words.tree) else os.path.dirname(words.tree)
+    rules = rules_from(words, folder or ".", finding.label_file(words.labels, finding.standard()))
+    status = 0
+    for entry in walk([words.tree]):
+        rule = None if entry.fault else rules.rule_of(entry.inside)
         if rule:
-            print(in_json(path, rule) if words.json else in_words(path, rule))
-    sys.stdout.flush()
-    for fault in failed:
-        print(f"legacy rules: {os.fsdecode(fault.filename)}: {fault.strerror}", file=sys.stderr)
-    return 2 if failed else 0
+            print(in_json(entry.inside, rule) if words.json else in_words(entry.inside, rule))
+        elif entry.fault and entry.fault not in {kind for _, kind in KINDS}:
+            print(f"legacy rules: {entry.path}: {entry.fault}", file=sys.stderr)
+            status = 2
+    return status
 
 
-def files_below(folder: bytes, failed: Callable[[OSError], None], inside: bytes = b"") -> Iterator[bytes]:
-    """The paths of all files below a folder, from there, in the order of their bytes. Links aren't followed, so that none
-    leads out of the folder or round in a circle; what git keeps in `.git` is no file of the tree."""
-    try:
-        with os.scandir(os.path.join(folder, inside)) as entries:
-            found = sorted(entries, key=lambda it: it.name)
-    except OSError as fault:
-        failed(fault)
-        return
-    for entry in found:
-        path = os.path.join(inside, entry.name)
-        if entry.is_file(follow_symlinks=False):
-            yield path
-        elif entry.is_dir(follow_symlinks=False) and entry.name != b".git":
-            yield from files_below(folder, failed, path)
-
-
-def in_words(path: bytes, rule: Rule) -> str:
+def in_words(path: str, rule: Rule) -> str:
     """A line for a person. A name with control characters is quoted, so that it is one line."""
-    text = os.fsdecode(path)
-    quoted = json.dumps(text, ensure_ascii=False) if re.search("[\\0-\x1f\x7f]", text) else text
+    quoted = json.dumps(path, ensure_ascii=False) if re.search("[\\0-\x1f\x7f]", path) else path
     return f"{quoted}: {rule.label}{', new ones with a byte order mark' if rule.mark else ''} ({rule.origin})"
 
 
-def in_json(path: bytes, rule: Rule) -> str:
+def in_json(path: str, rule: Rule) -> str:
     """A line for a program. Bytes that are no UTF-8 are the code points U+DC80 to U+DCFF, as Python has them."""
-    return json.dumps({"path": os.fsdecode(path), "label": rule.label, "origin": rule.origin, "mark": bool(rule.mark)})
+    return json.dumps({"path": path, "label": rule.label, "origin": rule.origin, "mark": bool(rule.mark)})
