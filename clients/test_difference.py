@@ -106,6 +106,8 @@ class Edits(unittest.TestCase):
             ("a\ufffdbcd", "bcda\ufffd"),
             ("\ufffd図\ufffd書\ufffd", "図\ufffd書\ufffd館\ufffd"),
             ("x\ufffdab\n\ufffdcd\n", "x\ufffd ab \ufffdc\nd\n"),
+            # A line too long for a script as a whole.
+            (BAD * 9000, "a".join([BAD * 100] * 90)),
             # One goes; the others have their neighbours.
             ("一\ufffd二\ufffd三\ufffd四", "一\ufffd二三\ufffd四"),
         ]:

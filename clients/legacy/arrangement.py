@@ -10,8 +10,9 @@ from legacy.difference import BAD
 from legacy.lines import Lines
 from legacy.sequences import Edit
 
-# How much alike two lines must be, of 1, that one is taken for the other edited.
-ALIKE = 0.5
+# How much alike two lines must be, of 1, that one is taken for the other edited: in its place, and elsewhere among those
+# that are gone. The latter is little, since a line that has nothing of the other loses nothing by it.
+ALIKE, ALIKE_ELSEWHERE = 0.5, 0.25
 # The most lines that a pair of letters leads to: one that more lines have says little.
 LEADS = 8
 # The most code points of lines that are compared with each other.
@@ -149,7 +150,7 @@ class _Arrangement:
         of = set().union(*(self._pairs(self.contents[found.content].lines[line]) for line in range(found.first, found.last)))
         # What nobody types has to come from somewhere.
         needed = self.same & pairs
-        return found if 2 * len(pairs & of) >= ALIKE * (len(pairs) + len(of)) or needed and needed <= of else None
+        return found if 2 * len(pairs & of) >= ALIKE_ELSEWHERE * (len(pairs) + len(of)) or needed and needed <= of else None
 
     def _with_neighbours(self, text: str, pairs: Set[str], it: Run) -> Run:
         """A line that is gone, with lines beside it that were joined with it."""

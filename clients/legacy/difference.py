@@ -206,6 +206,12 @@ class _Letters:
         if it.is_small() or self._is_plain(it):
             yield from self._by_same_ones(it)
             return
+        found = list(self._by_pieces(it))
+        if self._types_same_ones(found) and self._has_same_ones(it):
+            found = list(self._by_same_ones(it))
+        yield from found
+
+    def _by_pieces(self, it: Edit) -> Iterator[Edit]:
         a, b = (_piece().findall(text, start, end)
                 for text, start, end in ((self.old, it.start, it.end), (self.new, it.new_start, it.new_end)))
         at, new_at = _starts(a, it.start), _starts(b, it.new_start)
@@ -215,6 +221,14 @@ class _Letters:
 
         for gap in differences(a, b, least=4, is_fine=lambda gap: letters(gap).is_small()):
             yield from self._by_same_ones(letters(gap))
+
+    def _types_same_ones(self, found: Iterable[Edit]) -> bool:
+        """Whether edits put in what nobody types."""
+        return any(self.same.search(self.new, it.new_start, it.new_end) for it in found)
+
+    def _has_same_ones(self, it: Edit) -> bool:
+        """Whether both sides have the same characters that nobody types."""
+        return self.same.findall(self.old, it.start, it.end) == self.same.findall(self.new, it.new_start, it.new_end)
 
     def _by_same_ones(self, it: Edit) -> Iterator[Edit]:
         """What lies between characters that nobody types and that are the same on both sides."""
