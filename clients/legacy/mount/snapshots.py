@@ -130,6 +130,8 @@ class Past:
     def __init__(self, most: int = KEPT):
         self._most, self._cost = most, 0
         self._of: "collections.OrderedDict[bytes, List[Snapshot]]" = collections.OrderedDict()
+        # (what a path's contents cost when they were put there: a text may be made later)
+        self._costs: Dict[bytes, int] = {}
 
     def of(self, path: bytes, label: str) -> List[Snapshot]:
         """The contents that a path had, by one label."""
@@ -140,8 +142,11 @@ class Past:
         if not snapshot.raw:
             return
         before = self._of.pop(path, [])
+        self._cost -= self._costs.pop(path, 0)
         now = [*[it for it in before if it.raw != snapshot.raw][-3:], snapshot]
-        self._of[path] = now
-        self._cost += sum(it.cost for it in now) - sum(it.cost for it in before)
+        while len(now) > 1 and sum(it.cost for it in now) > self._most // 2:
+            del now[0]
+        self._of[path], self._costs[path] = now, sum(it.cost for it in now)
+        self._cost += self._costs[path]
         while self._cost > self._most and len(self._of) > 1:
-            self._cost -= sum(it.cost for it in self._of.popitem(last=False)[1])
+            self._cost -= self._costs.pop(self._of.popitem(last=False)[0])
