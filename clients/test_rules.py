@@ -331,11 +331,11 @@ class EditorConfig(Folder):
         for glob, said in [
             ("{a,b}" * 200, [left_out]), ("{1..99999999}", [left_out]), ("a" * 1025, [left_out]), ("{" * 400, []), ("{a," * 250 + "}" * 250, []),
         ]:
-            began = time.monotonic()
+            began = time.process_time()
             self.write(".editorconfig", f"[{glob}]", "charset = latin1", "[a]", "charset = latin1")
             rules = self.rules(editorconfig=True)
             self.assertEqual((self.labels(rules, "a"), self.said), (["windows-1252"], said))
-            self.assertLess(time.monotonic() - began, 5)
+            self.assertLess(time.process_time() - began, 5)
 
 
 class Order(Folder):
@@ -417,17 +417,17 @@ class Order(Folder):
     def test_a_stranger_s_patterns_take_no_time(self):
         for glob in "*a" * 60 + "b", "/" + "**/*a*/" * 60 + "b", "**/" * 500 + "b", "[" * 1000, "*" * 1000 + "b":
             path = "/".join(["a" * 60] * 60)
-            began = time.monotonic()
+            began = time.process_time()
             self.assertFalse(Pattern(glob).matches(path))
-            self.assertLess(time.monotonic() - began, 2)
+            self.assertLess(time.process_time() - began, 2)
 
     def test_files_of_rules_that_are_large(self):
         listed = "".join(f"/some/folder/file{at}.txt {ENCODING}=Big5\n" for at in range(20_000))
         self.write(".gitattributes", listed)
         rules = self.rules()
-        began = time.monotonic()
+        began = time.process_time()
         self.assertEqual(self.labels(rules, "some/folder/file7.txt", "some/folder/file7", "file7.txt"), ["big5", None, None])
-        self.assertLess(time.monotonic() - began, 5)
+        self.assertLess(time.process_time() - began, 5)
         self.write(".gitattributes", listed * 5)
         self.write("sub/.editorconfig", "[*]\ncharset = latin1\n" * 2000)
         rules = self.rules(editorconfig=True)
