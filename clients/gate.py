@@ -23,7 +23,7 @@ import socket
 import subprocess
 import threading
 import time
-from typing import Any, Callable, Deque, Dict, List, Optional, Sequence, Tuple, Union
+from typing import Any, Callable, Deque, Dict, Iterator, List, Optional, Sequence, Tuple, Union
 
 # What a reply or a refusal says, by the names that docs/PROTOCOL.md has.
 Members = Dict[str, Any]
@@ -180,23 +180,27 @@ class Gate:
 
     def send(self, op: str, **fields: Any) -> Reply:
         """Sends a command, and returns its `Reply` without waiting for it. A field that is bytes is sent as base64."""
-        content = {key: fields.pop(key) for key in [*fields] if isinstance(fields[key], bytes)}
-        reply = Reply(self)
+        return self.send_all(op, [fields])[0]
+
+    def send_all(self, op: str, listed: Sequence[Members]) -> List[Reply]:
+        """Sends commands of one kind, each with its fields, and returns their replies. All are written at once, so they
+        are commands with short replies, and no more than `WINDOW`."""
+        replies = [Reply(self) for _ in listed]
         with self._sending:
-            while len(self._waiting) >= WINDOW:
+            while self._waiting and len(self._waiting) + len(listed) > WINDOW:
                 with contextlib.suppress(IndexError):
                     self._wait(self._waiting[0])
             if self._over:
                 raise Gone()
-            line = [json.dumps({"id": self._next, "op": op, **fields}).encode()[:-1]]
-            for key, it in content.items():
-                line += [b',"%b":"' % key.encode(), _base64(it), b'"']
-            self._next += 1
-            self._waiting.append(reply)
+            line: List[bytes] = []
+            for fields in listed:
+                line += _line(self._next, op, fields)
+                self._next += 1
+            self._waiting.extend(replies)
             # (where the other end is gone, whoever reads finds out)
             with contextlib.suppress(ConnectionError):
-                self._write(b"".join([*line, b"}\n"]))
-        return reply
+                self._write(b"".join(line))
+        return replies
 
     def send_open(self, name: str, label: str, content: bytes, bom: str = "sniff", room: int = ROOM) -> List[Reply]:
         """Sends what opens a document, by parts where a line hasn't room for it, and returns the reply to each part."""
@@ -379,11 +383,17 @@ class Document:
         """The offset that a value names, in each unit, and the place of the code point there, or None."""
         return self._gate.ask("place", doc=self.name, unit=unit, value=value)
 
+    def spans(self, ranges: Sequence[Pair]) -> Iterator[Pair]:
+        """Where the bytes of the code points from one to another begin and end, for each range of one at least."""
+        for some in (ranges[at : at + WINDOW // 2] for at in range(0, len(ranges), WINDOW // 2)):
+            # (the end is that of the last one, since behind the text's last one there is no place)
+            asked = [{"doc": self.name, "unit": "utf-32", "value": it} for begin, end in some for it in (begin, end - 1)]
+            places = [it.get()["place"] for it in self._gate.send_all("place", asked)]
+            yield from ((first[0], last[1]) for first, last in zip(places[::2], places[1::2]))
+
     def span(self, begin: int, end: int) -> Pair:
-        """Where the bytes of the code points from one to another begin and end, of one code point at least."""
-        # (behind the text's last one there is no place)
-        first, last = (self._gate.send("place", doc=self.name, unit="utf-32", value=it) for it in (begin, end - 1))
-        return first.get()["place"][0], last.get()["place"][1]
+        """Where the bytes of the code points from one to another begin and end, of one at least."""
+        return next(self.spans([(begin, end)]))
 
     def close(self) -> None:
         """Closes the document."""
@@ -453,6 +463,16 @@ def _connected(path: Union[str, "os.PathLike[str]"]) -> socket.socket:
         connection.close()
         raise
     return connection
+
+
+def _line(number: int, op: str, fields: Members) -> List[bytes]:
+    """The parts of a command's line."""
+    content = {key: it for key, it in fields.items() if isinstance(it, bytes)}
+    others = {key: it for key, it in fields.items() if key not in content}
+    parts = [json.dumps({"id": number, "op": op, **others}).encode()[:-1]]
+    for key, it in content.items():
+        parts += [b',"%b":"' % key.encode(), _base64(it), b'"']
+    return [*parts, b"}\n"]
 
 
 def _base64(content: bytes) -> bytes:

@@ -8,13 +8,13 @@ import dataclasses
 import functools
 import re
 import sys
-from typing import Any, ClassVar, Iterator, List, Pattern, Sequence, Tuple, Type
+from typing import Any, ClassVar, Iterator, List, Pattern, Sequence, Set, Type
 
 from gate import Document, Gate
 
 from legacy import work
 from legacy.check import ENCODINGS, LINE_END, shown
-from legacy.damage import across
+from legacy.damage import Range, across
 from legacy.finding import Missing
 from legacy.work import DONE, FOUND, REFUSED, Item, Row, Settings, plain
 
@@ -75,12 +75,12 @@ class Search(work.Job):
             found = _found(expression, text)
             cut = stat["errors"] and self.through_damage
             more = across(gate, item.label, document, text, expression, found) if cut else []
-            made.matches = [_match(document, text, *it, it in more) for it in sorted(found + more)]
+            made.matches = list(_matches(document, text, sorted(found + more), set(more)))
         made.outcome = FOUND if made.matches else DONE
         return made
 
 
-def _found(expression: "Pattern[str]", text: str) -> List[Tuple[int, int]]:
+def _found(expression: "Pattern[str]", text: str) -> List[Range]:
     """Where matches begin and end."""
     return [it.span() for it in expression.finditer(text) if it[0]]
 
@@ -91,13 +91,17 @@ def compiled(expression: str, ignore_case: bool) -> Pattern[str]:
     return re.compile(expression, re.MULTILINE | (re.IGNORECASE if ignore_case else 0))
 
 
-def _match(document: Document, text: str, begin: int, end: int, across: bool) -> Match:
-    line, character = document.position(begin, unit="utf-32")
-    first, last = document.span(begin, end)
-    stop = LINE_END.search(text, end)
-    after = text[end : min(stop.start() if stop else len(text), end + AROUND)]
-    before = text[max(begin - character, begin - AROUND) : begin]
-    return Match(line + 1, character + 1, first, last, text[begin:end], before, after, across)
+def _matches(document: Document, text: str, found: Sequence[Range], across: Set[Range]) -> Iterator[Match]:
+    """The matches at these places of the text, in order."""
+    ends = LINE_END.finditer(text)
+    line, start, stop = 1, 0, next(ends, None)
+    for (begin, end), (first, last) in zip(found, document.spans(found)):
+        while stop and stop.end() <= begin:
+            line, start, stop = line + 1, stop.end(), next(ends, None)
+        rest = LINE_END.search(text, end)
+        after = text[end : min(rest.start() if rest else len(text), end + AROUND)]
+        before = text[max(start, begin - AROUND) : begin]
+        yield Match(line, begin - start + 1, first, last, text[begin:end], before, after, (begin, end) in across)
 
 
 def search(

@@ -1,0 +1,85 @@
+#!/usr/bin/env python3
+"""Measures `legacy` beside what else reads files in legacy encodings, over a tree that tree.py made, and prints a table.
+
+    bench/archives/measure.py [--folders N] [--only NAME ..] TOP
+
+takes the first N folders of TOP/tree (of 250 files each), all without it. `gate` and the index files are those that the
+command `legacy` finds. Others are Debian's: iconv (glibc), file, uchardet, ripgrep; one that isn't installed is left out.
+A row has the files and megabytes a second of wall time, and the megabytes a second of processor time, of all processes."""
+import argparse
+import os
+import pathlib
+import resource
+import shlex
+import shutil
+import subprocess
+import sys
+import tempfile
+import time
+from typing import Dict, Iterator, List, Tuple
+
+sys.path.insert(0, str(pathlib.Path(__file__).resolve().parent))
+import tree  # noqa: E402
+
+CLIENTS = pathlib.Path(__file__).resolve().parent.parent.parent / "clients"
+# iconv's name of an encoding, where it isn't the label.
+ICONV = {"shift_jis": "cp932", "windows-1253": "cp1253", "windows-1252": "cp1252"}
+
+
+def commands(folders: List[str], words: List[str], out: str) -> Iterator[Tuple[str, str]]:
+    """The name and the command line of each measure, for a shell."""
+    where = " ".join(map(shlex.quote, folders))
+    legacy = f"{shlex.quote(sys.executable)} -m legacy"
+    rules = " ".join(map(shlex.quote, words)) + " --no-attributes"
+    yield "legacy check --jobs 1", f"{legacy} check --jobs 1 {rules} {where}"
+    yield "legacy check --jobs 4", f"{legacy} check --jobs 4 {rules} {where}"
+    yield "legacy search --jobs 1", f"{legacy} search 図書館 --jobs 1 {rules} {where}"
+    yield "legacy convert --jobs 1", f"{legacy} convert --to utf-8 --jobs 1 {rules} {where} {shlex.quote(out)}"
+    loops, searches = [], []
+    for it in tree.ENCODINGS:
+        name = ICONV.get(it.label, it.label)
+        loops.append(f"find {where} -name '*.{it.label}' | while read -r it; do iconv -f {name} -t utf-8 \"$it\"; done")
+        searches.append(f"rg -j 1 --encoding {it.label} -g '*.{it.label}' 図書館 {where}")
+    yield "iconv in a shell loop", "; ".join(loops)
+    yield "file --mime-encoding", f"find {where} -type f -print0 | xargs -0 file --mime-encoding"
+    yield "uchardet", f"find {where} -type f -print0 | xargs -0 uchardet"
+    yield "rg -j 1 --encoding", "; ".join(searches)
+
+
+def program(name: str) -> str:
+    """The program that a measure needs."""
+    return {"legacy": sys.executable}.get(name.split()[0], name.split()[0])
+
+
+def measured(line: str) -> Tuple[float, float]:
+    """The wall time and the processor time of a command line."""
+    before, since = resource.getrusage(resource.RUSAGE_CHILDREN), time.monotonic()
+    subprocess.run(["sh", "-c", line], stdout=subprocess.DEVNULL, stderr=subprocess.DEVNULL, env={**os.environ, "PYTHONPATH": str(CLIENTS)})
+    after = resource.getrusage(resource.RUSAGE_CHILDREN)
+    return time.monotonic() - since, after.ru_utime + after.ru_stime - before.ru_utime - before.ru_stime
+
+
+def main() -> int:
+    """Prints the table."""
+    parser = argparse.ArgumentParser(description="Measure legacy beside other programs over a tree of files.")
+    parser.add_argument("top", metavar="TOP", type=pathlib.Path)
+    parser.add_argument("--folders", metavar="N", type=int)
+    parser.add_argument("--only", metavar="NAME", nargs="+", default=[])
+    words = parser.parse_args()
+    folders = sorted(it for it in (words.top / "tree").iterdir() if it.name.isdecimal())[: words.folders]
+    sizes: Dict[pathlib.Path, int] = {it: it.stat().st_size for folder in folders for it in folder.iterdir()}
+    count, megabytes = len(sizes), sum(sizes.values()) / 1e6
+    print(f"{count} files, {megabytes:.0f} MB\n\n| | files a second | MB a second | MB a second of a processor |\n| --- | ---: | ---: | ---: |")
+    for path in sizes:
+        path.read_bytes()
+    rules = (words.top / "words").read_text().split()
+    with tempfile.TemporaryDirectory(dir=words.top) as out:
+        for name, line in commands([str(it) for it in folders], rules, out):
+            if shutil.which(program(name)) and (not words.only or any(it in name for it in words.only)):
+                wall, used = measured(line)
+                print(f"| `{name}` | {count / wall:.0f} | {megabytes / wall:.0f} | {megabytes / used:.0f} |", flush=True)
+    return 0
+
+
+if __name__ == "__main__":
+    sys.exit(main())
