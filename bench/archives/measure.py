@@ -22,6 +22,8 @@ sys.path.insert(0, str(pathlib.Path(__file__).resolve().parent))
 import tree  # noqa: E402
 
 CLIENTS = pathlib.Path(__file__).resolve().parent.parent.parent / "clients"
+# What stands in damaged files alone, so that a search is measured and not what it prints.
+RARE = "damaged here"
 # iconv's name of an encoding, where it isn't the label.
 ICONV = {"shift_jis": "cp932", "windows-1253": "cp1253", "windows-1252": "cp1252"}
 
@@ -33,13 +35,13 @@ def commands(folders: List[str], words: List[str], out: str) -> Iterator[Tuple[s
     rules = " ".join(map(shlex.quote, words)) + " --no-attributes"
     yield "legacy check --jobs 1", f"{legacy} check --jobs 1 {rules} {where}"
     yield "legacy check --jobs 4", f"{legacy} check --jobs 4 {rules} {where}"
-    yield "legacy search --jobs 1", f"{legacy} search 図書館 --jobs 1 {rules} {where}"
+    yield "legacy search --jobs 1", f"{legacy} search '{RARE}' --jobs 1 {rules} {where}"
     yield "legacy convert --jobs 1", f"{legacy} convert --to utf-8 --jobs 1 {rules} {where} {shlex.quote(out)}"
     loops, searches = [], []
     for it in tree.ENCODINGS:
         name = ICONV.get(it.label, it.label)
         loops.append(f"find {where} -name '*.{it.label}' | while read -r it; do iconv -f {name} -t utf-8 \"$it\"; done")
-        searches.append(f"rg -j 1 --encoding {it.label} -g '*.{it.label}' 図書館 {where}")
+        searches.append(f"rg -j 1 --encoding {it.label} -g '*.{it.label}' '{RARE}' {where}")
     yield "iconv in a shell loop", "; ".join(loops)
     yield "file --mime-encoding", f"find {where} -type f -print0 | xargs -0 file --mime-encoding"
     yield "uchardet", f"find {where} -type f -print0 | xargs -0 uchardet"

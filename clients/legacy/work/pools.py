@@ -8,6 +8,7 @@ import multiprocessing
 import multiprocessing.util
 import os
 import signal
+import socket
 import threading
 from concurrent.futures.process import BrokenProcessPool
 from typing import Any, Callable, Deque, Generator, Iterable, List, Tuple, Type
@@ -79,8 +80,10 @@ def dask(address: str) -> Pool:
     def rows(task: Task, lists: Lists) -> Rows:
         distributed: Any = importlib.import_module("distributed")
         try:
-            client = distributed.Client(address, timeout="10s", set_as_default=False)
-        except (OSError, ValueError, TimeoutError) as fault:
+            # (a busy scheduler may take its time, one that isn't there is refused at once)
+            socket.create_connection(distributed.comm.get_address_host_port(address), timeout=10).close()
+            client = distributed.Client(address, timeout="60s", set_as_default=False)
+        except (OSError, ValueError, TypeError, TimeoutError) as fault:
             raise Missing(f"no Dask scheduler replies at {address}: {fault}") from fault
         def start() -> concurrent.futures.Executor:
             executor: concurrent.futures.Executor = client.get_executor(pure=False)
