@@ -131,6 +131,10 @@ class _Ranges:
             first, at = max(first, behind), at + 1
 
 
+# A run of letters that aren't ASCII.
+_LETTERS = re.compile("[^\0-\x7f]+")
+
+
 @functools.lru_cache(maxsize=None)
 def _piece() -> "re.Pattern[str]":
     """A piece ends with a code point that is a multiple of 16, so that its end depends on nothing before it."""
@@ -232,8 +236,22 @@ class _Letters:
 
     def _by_same_ones(self, it: Edit) -> Iterator[Edit]:
         """What lies between characters that nobody types and that are the same on both sides."""
+        ascii_alone = self._in_ascii_alone(it) if self.one_form else None
+        if ascii_alone is not None:
+            yield from ascii_alone
+            return
         for gap in between(it, self._same_ones(it)):
             yield from self._by_letters(trimmed(self.old, self.new, gap))
+
+    def _in_ascii_alone(self, it: Edit) -> Optional[List[Edit]]:
+        """What differs where all other letters are the same, in the same runs."""
+        runs = [*_LETTERS.finditer(self.old, it.start, it.end)]
+        new_runs = [*_LETTERS.finditer(self.new, it.new_start, it.new_end)]
+        if [run[0] for run in runs] != [run[0] for run in new_runs]:
+            return None
+        ends = [(it.start, it.new_start), *((run.end(), new.end()) for run, new in zip(runs, new_runs))]
+        begins = [*((run.start(), new.start()) for run, new in zip(runs, new_runs)), (it.end, it.new_end)]
+        return [Edit(i, j, k, l) for (i, k), (j, l) in zip(ends, begins) if self.old[i:j] != self.new[k:l]]
 
     def _by_letters(self, it: Edit) -> List[Edit]:
         i, j, k, l = it

@@ -22,7 +22,7 @@ from array import array
 from typing import Any, Callable, Dict, Iterator, List, NamedTuple, Optional, Sequence, Set, Tuple
 
 from gate import ROOM, Fault, Gate, Gone, Reply
-from legacy.arrangement import Content, Run, arranged
+from legacy.arrangement import LETTERS, Content, Run, arranged
 from legacy.difference import BAD, Difference, Range, joined
 from legacy.lines import Lines, blocks, starts_after
 from legacy.sequences import Edit
@@ -193,7 +193,7 @@ class _Saving:
     def _ways(self) -> Iterator[Tuple[_Start, bool]]:
         """What to begin with, and whether whole lines are replaced."""
         here = _Start(self.base.raw, self.base.text, self.new)
-        there = self._arranged(here.difference, False) if self._has_known_lines(here.difference) else None
+        there = self._arranged(here.difference, False) if self._has_known_lines(here.difference, here.letters()) else None
         if there:
             yield there, False
         yield here, False
@@ -203,15 +203,23 @@ class _Saving:
             yield anywhere, True
         yield here, True
 
-    def _has_known_lines(self, it: Difference) -> bool:
+    def _has_known_lines(self, it: Difference, letters: int) -> bool:
         """Whether it may be that a line was moved, copied or restored, or is like one that is gone."""
         typed = (it.new_lines[n] for hunk in it.hunks for n in range(hunk.new_start, hunk.new_end))
         wanted = list(itertools.islice((line for line in typed if not line.isascii()), SOME + 1))
         if len(wanted) > SOME or any(len(line) > SHORT for line in wanted):
-            return True
+            return letters <= LETTERS or self._has_equal_lines(it)
         gone = (it.lines[n] for hunk in it.hunks for n in range(hunk.start, hunk.end))
         return bool(wanted) and (len(it.hunks) > 1 and not all(map(str.isascii, gone)) or any(
             line.rstrip("\r") in known.text for known in [self.base, *self.others] for line in wanted))
+
+    def _has_equal_lines(self, it: Difference) -> bool:
+        """Whether a line that was typed, as it seems, is one that is known."""
+        typed = {it.new_lines.hashes[n] for hunk in it.hunks for n in range(hunk.new_start, hunk.new_end)
+                 if not it.new_lines[n].isascii()}
+        around = [Lines(it.old, 0, it.head), Lines(it.old, len(it.old) - it.tail)]
+        others = (Lines(known.text) for known in self.others)
+        return not all(typed.isdisjoint(lines.hashes) for lines in itertools.chain([it.lines], around, others))
 
     def _arranged(self, it: Difference, anywhere: bool) -> Optional[_Start]:
         """The known lines of which the new text is made, or None where those of the base, as they are, are best."""

@@ -99,12 +99,12 @@ def differences(a: Items, b: Items, in_place: bool = False, least: int = 0,
 
 
 def _in_place(a: Items, b: Items, it: Edit) -> List[Edit]:
-    """Of a few items what differs in its place, where most there are equal."""
+    """Of a few items what differs in its place, where a third of them are equal there."""
     i, j, k, l = it
     if j - i != l - k or j - i > NEAR:
         return []
     differ = [at for at, (one, other) in enumerate(zip(a[i:j], b[k:l])) if one != other]
-    return [Edit(i + at, i + at + 1, k + at, k + at + 1) for at in differ] if 2 * len(differ) <= j - i else []
+    return [Edit(i + at, i + at + 1, k + at, k + at + 1) for at in differ] if 3 * len(differ) <= 2 * (j - i) else []
 
 
 def between(it: Edit, pairs: List[Tuple[int, int]]) -> List[Edit]:
