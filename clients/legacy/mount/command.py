@@ -29,6 +29,8 @@ EPILOG = """What has no rule is shown as the bytes that it is; `legacy rules SOU
 MOUNTPOINT`, or as root with umount. Status: 0 unmounted, 1 it can't be mounted, 2 wrong words."""
 # The seconds between two looks at what nobody waits for.
 PERIOD = 5.0
+# The seconds that saves have once a signal has come.
+GRACE = 20.0
 
 
 def add_to(commands: "argparse._SubParsersAction[argparse.ArgumentParser]") -> None:
@@ -172,6 +174,9 @@ async def serve_until(operations: "Operations", questions: "Questions", workers:
         with trio.open_signal_receiver(signal.SIGTERM, signal.SIGINT, signal.SIGHUP) as signals:
             async for _ in signals:
                 pyfuse3.terminate()
+                # What is being saved still is; what takes too long is refused.
+                await trio.sleep(GRACE)
+                workers.stop()
 
     async def looked_after() -> None:
         while True:

@@ -157,7 +157,8 @@ class Operations(pyfuse3.Operations):  # type: ignore[misc]
         info = pyfuse3.FileInfo(fh=self.opened(node, None, writes, ctx))
         info.keep_cache = node.written is None and node.sent == current
         if node.misled(current):
-            pyfuse3.invalidate_inode(ino, attr_only=True)
+            with contextlib.suppress(OSError):  # (where the kernel has forgotten it)
+                pyfuse3.invalidate_inode(ino, attr_only=True)
         node.sent = current
         if writes:
             if node.session is None:
@@ -314,7 +315,7 @@ class Operations(pyfuse3.Operations):  # type: ignore[misc]
             raise FUSEError(errno.EEXIST)
         if not stat.S_ISREG(found.st_mode):
             os.rename(self.source.full(path), self.source.full(new))
-            self.tree.moved(path, new)
+            self.tree.moved(path, new, folder=True)
             return
         node, there = self.tree.at(path, found), self.tree.paths.get(new)
         async with self.tree.locked(node, there):
@@ -351,14 +352,17 @@ class Operations(pyfuse3.Operations):  # type: ignore[misc]
     @changes
     async def unlink(self, parent: int, name: bytes, ctx: Any) -> None:
         path = self.view.path(parent, name)
-        node = self.tree.paths.get(path)
-        rule = node.rule if node else self.tree.form(path, self.source.stat(path))
-        if rule:
-            self.reader.leaves(path, rule.label)
-        os.unlink(self.source.full(path))
-        self.tree.drop_form(path)
-        if node:
-            self.tree.gone(node)
+        # (a save that is under way would make it anew)
+        async with self.tree.locked(self.tree.paths.get(path)):
+            path = self.view.path(parent, name)
+            node = self.tree.paths.get(path)
+            rule = node.rule if node else self.tree.form(path, self.source.stat(path))
+            if rule:
+                self.reader.leaves(path, rule.label)
+            os.unlink(self.source.full(path))
+            self.tree.drop_form(path)
+            if node:
+                self.tree.gone(node)
 
     @guarded
     @changes

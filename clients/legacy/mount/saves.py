@@ -64,21 +64,25 @@ class Saves:
         assert session and node.rule
         joined = handle.begun + content if handle.begun and handle.end == offset else content
         handle.begun, handle.end = begun(joined[-4:]), offset + len(content)
-        letters = letters_of(joined) - {BAD}
-        if letters:
-            letters -= session.base.letters
-        if letters:
-            lacking = await self._reader.lacking(set(letters), node.rule.label)
-            if lacking and not any(lacking in it.letters for it in await self._others(node.path, node.rule.label)):
+        letters = set(letters_of(joined)) - {BAD}
+        while letters:
+            lacking = await self._reader.lacking(letters, node.rule.label)
+            if not lacking:
+                return
+            if not await self._is_known(lacking, node, session):
                 encoding = await self._reader.encoding(node.rule.label)
                 log.warning("%s: refused at a write: %s has no bytes in %s", shown(node.path), named(lacking), encoding)
                 raise Refused(errno.EILSEQ, f"{named(lacking)} has no bytes in {encoding}")
+            letters.remove(lacking)
 
-    async def _others(self, path: Optional[bytes], label: str) -> List[Snapshot]:
-        """What lines may be taken from: what was at the path, and what was read of late."""
-        past = await self._reader.before(path, label) if path is not None else []
-        late = list(self._reader.shelf.late(label))[:OTHERS]
-        return [*past, *late]
+    async def _is_known(self, letter: str, node: Node, session: Session) -> bool:
+        """Whether a character is in what lines may be taken from: the base, what was at the path, and what was read of
+        late. (A decoder may know bytes for it that no encoder gives.)"""
+        label = session.base.label
+        past = await self._reader.before(node.path, label) if node.path is not None else []
+        contents = [session.base, *past, *list(self._reader.shelf.late(label))[:OTHERS]]
+        found: bool = await trio.to_thread.run_sync(lambda: any(letter.encode() in it.utf8 for it in contents))
+        return found
 
     # When it is to be saved.
 
@@ -243,7 +247,8 @@ class Saves:
             size = os.fstat(file).st_size
             if size > LARGEST_TEXT:
                 raise Refused(errno.EFBIG, f"more than {LARGEST} bytes")
-            return os.pread(file, size, 0)
+            content: bytes = await trio.to_thread.run_sync(os.pread, file, size, 0)
+            return content
         finally:
             os.close(file)
 

@@ -1,7 +1,6 @@
 """What a file says: its bytes as they were read, and their text in UTF-8; and which of that is kept."""
 import collections
 import functools
-import re
 import zlib
 from typing import Dict, FrozenSet, Iterator, List, NamedTuple, Optional, Tuple
 
@@ -15,7 +14,7 @@ KEPT = 64 << 20
 SOME_LINES = 4096
 
 
-ASCII = re.compile(rb"[\0-\x7f]+")
+ASCII = bytes(range(128))
 
 
 class Lengths(NamedTuple):
@@ -51,11 +50,6 @@ class Snapshot:
         return len(self.raw) + (len(self.text.utf8) if self.text else 0)
 
     @functools.cached_property
-    def letters(self) -> FrozenSet[str]:
-        """The characters of the text."""
-        return letters_of(self.utf8)
-
-    @functools.cached_property
     def lines(self) -> FrozenSet[bytes]:
         """Lines of the text, by which it is compared with others."""
         return lines_of(self.utf8)
@@ -63,7 +57,7 @@ class Snapshot:
 
 def letters_of(utf8: bytes) -> FrozenSet[str]:
     """The characters of a text that aren't ASCII; what isn't UTF-8 is passed over."""
-    return frozenset() if utf8.isascii() else frozenset(ASCII.sub(b"", utf8).decode(errors="ignore"))
+    return frozenset() if utf8.isascii() else frozenset(utf8.translate(None, ASCII).decode(errors="ignore"))
 
 
 def lines_of(utf8: bytes) -> FrozenSet[bytes]:

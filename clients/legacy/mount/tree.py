@@ -208,17 +208,17 @@ class Tree:
             del self.paths[node.path]
         node.path, node.was = None, was
 
-    def moved(self, path: bytes, new: bytes) -> None:
-        """What was at a path, and below it, is now at another."""
+    def moved(self, path: bytes, new: bytes, folder: bool = False) -> None:
+        """What was at a path, and of a folder what is below it, is now at another."""
         there = self.paths.get(new)
         if there:
             self.gone(there)
         self._kept.pop(new, None)
-        for old in below(self.paths, path):
+        for old in below(self.paths, path) if folder else [path] if path in self.paths else []:
             node = self.paths.pop(old)
             node.path = new + old[len(path):]
             self.paths[node.path] = node
-        for old in below(self._kept, path):
+        for old in below(self._kept, path) if folder else [path] if path in self._kept else []:
             self._kept[new + old[len(path):]] = self._kept.pop(old)
 
     def forget(self, ino: int, lookups: int = 0) -> None:

@@ -1,6 +1,7 @@
 """The processes that do what is long (worker.py): some of them, so that what takes long holds up nothing else."""
 import contextlib
 import errno
+import fcntl
 import os
 import pathlib
 import pickle
@@ -9,14 +10,17 @@ import subprocess
 import sys
 import threading
 import time
-from typing import Any, List, Sequence
+from typing import Any, List, Sequence, Set
 
+from legacy.mount.questions import SET_ROOM
 from legacy.saving import Refused
 
 # The most of them at once.
 MOST = 3
 # The seconds after which one that has nothing to do is ended, and after which one that doesn't reply is.
 IDLE, PATIENCE = 30.0, 600.0
+# The room of a pipe to one, where the system gives it.
+ROOM = 1 << 20
 PACKAGES = pathlib.Path(__file__).resolve().parent.parent.parent
 
 
@@ -32,6 +36,9 @@ class Worker:
         self._process = subprocess.Popen(
             [sys.executable, "-m", "legacy.mount.worker", *words], stdin=subprocess.PIPE, stdout=subprocess.PIPE,
             env={**os.environ, "PYTHONPATH": path}, start_new_session=True)
+        for pipe in self._process.stdin, self._process.stdout:
+            with contextlib.suppress(OSError):
+                fcntl.fcntl(pipe.fileno() if pipe else -1, SET_ROOM, ROOM)
         self.since = time.monotonic()
 
     def do(self, name: str, given: Sequence[Any]) -> Any:
@@ -51,6 +58,10 @@ class Worker:
             raise Refused(*found)
         return found
 
+    def kill(self) -> None:
+        """Ends it, on which whoever waits for it learns that it is gone."""
+        self._process.kill()
+
     def close(self) -> None:
         """Ends it, and what was opened for it."""
         self._process.kill()
@@ -68,22 +79,30 @@ class Workers:
         self._words = words
         self._places = threading.BoundedSemaphore(MOST)
         self._idle: List[Worker] = []
+        self._busy: Set[Worker] = set()
+        self._over = False
 
     def do(self, name: str, *given: Any) -> Any:
         """Does a job, whose outcome it waits for; once more where the process ended."""
         with self._places:
             for _ in range(2):
+                if self._over:
+                    break
                 worker = self._idle.pop() if self._idle else Worker(self._words)
-                with contextlib.suppress(Gone):
-                    try:
-                        found = worker.do(name, given)
-                    except Refused:
-                        self._idle.append(worker)
-                        raise
+                self._busy.add(worker)
+                try:
+                    found = worker.do(name, given)
+                except Refused:
+                    self._idle.append(worker)
+                    raise
+                except Gone:
+                    worker.close()
+                else:
                     self._idle.append(worker)
                     return found
-                worker.close()
-        raise Refused(errno.EIO, "the process that saves ended twice before it had an answer")
+                finally:
+                    self._busy.discard(worker)
+        raise Refused(errno.EIO, "the process that saves ended before it had an answer")
 
     def start(self) -> None:
         """Starts one, so that the first job finds it."""
@@ -96,6 +115,12 @@ class Workers:
                 with contextlib.suppress(ValueError):
                     self._idle.remove(worker)
                     worker.close()
+
+    def stop(self) -> None:
+        """Ends those that are at work, and has no other begin: what they do is refused."""
+        self._over = True
+        for worker in list(self._busy):
+            worker.kill()
 
     def close(self) -> None:
         """Ends all."""
