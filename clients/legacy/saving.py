@@ -287,7 +287,7 @@ class _Saving:
             for page in self._encoded(document, start.text):
                 lines = _split(page, self.base.encoding)
                 differ = map(operator.ne, lines, _split(table.raw(line, line + len(lines)), self.base.encoding))
-                found += [(at[it], at[it + 1]) for it in itertools.compress(itertools.count(line), differ)]
+                found += [(at[it], at[it + 1] - 1) for it in itertools.compress(itertools.count(line), differ)]
                 line += len(lines)
         return found
 
