@@ -81,6 +81,12 @@ class Checks(Folder):
         row = json.loads(run(*words, "--json")[0].splitlines()[1])
         self.assertEqual((row["encoding"], row["characters"], row["errors"], row["damage"]), ("Shift_JIS", 9, 1, ["errors", "line-ends"]))
 
+    def test_a_terminal_gets_no_control_characters_of_files(self):
+        path = self.file("a.txt", "A\x1b[2J\x9b\t".encode() + b"\xff\n")
+        words = [path, "-e", "*.txt=utf-8"]
+        self.assertEqual(run("check", *words)[0], f"{path}:1:8: bytes 8 to 9: ff: A\u241b[2J<9b>\t\ufffd\n")
+        self.assertEqual(run("search", "A", *words)[0], f"{path}:1:1: bytes 0 to 1: A\u241b[2J<9b>\t\ufffd\n")
+
     def test_nothing_has_a_rule(self):
         self.file("a.txt", b"x")
         self.assertEqual(run("check", str(self.folder))[1:], ("0 files clean; 0 damaged, with 0 errors; 1 without a rule, or links\n", 2))

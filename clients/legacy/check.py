@@ -23,6 +23,8 @@ LINE_END = re.compile("\r\n|\r|\n")
 # The kinds of damage.
 ERRORS, LINE_ENDS, MARK = "errors", "line-ends", "mark"
 KINDS = (ERRORS, LINE_ENDS, MARK)
+# What a person is shown for control characters, which a terminal would obey.
+PICTURES = {**{it: chr(0x2400 + it) for it in range(32) if it != 9}, **{it: f"<{it:02x}>" for it in range(127, 160)}}
 # The code points on each side of an error that a row has, at most.
 AROUND = 60
 # The errors of a file that a row has, at most, unless it is asked for more.
@@ -209,7 +211,8 @@ def lines_of(row: Checked, verbose: bool) -> Iterator[str]:
     if verbose and row.encoding:
         yield f"{name}: {row.encoding}, {row.size} bytes, {row.characters} characters{'' if row.damage else ', clean'}"
     for it in row.places if ERRORS in row.damage else []:
-        yield f"{name}:{it.line}:{it.character}: bytes {it.begin} to {it.end}: {it.bytes or 'none'}: {it.before[-20:]}\ufffd{it.after[:20]}"
+        around = f"{it.before[-20:]}\ufffd{it.after[:20]}".translate(PICTURES)
+        yield f"{name}:{it.line}:{it.character}: bytes {it.begin} to {it.end}: {it.bytes or 'none'}: {around}"
     if ERRORS in row.damage and row.errors > len(row.places):
         yield f"{name}: {row.errors - len(row.places)} further errors"
     if LINE_ENDS in row.damage:

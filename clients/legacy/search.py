@@ -13,7 +13,7 @@ from typing import Any, ClassVar, Iterator, List, Pattern, Sequence, Set, Type
 from gate import Document, Gate
 
 from legacy import work
-from legacy.check import ENCODINGS, LINE_END, shown
+from legacy.check import ENCODINGS, LINE_END, PICTURES, shown
 from legacy.damage import Range, across
 from legacy.finding import Missing
 from legacy.work import DONE, FOUND, REFUSED, Item, Row, Settings, plain
@@ -149,5 +149,5 @@ def lines_of(row: Searched) -> Iterator[str]:
     """What a person is shown of a row."""
     for it in row.matches:
         across = ", across damage" if it.across else ""
-        line = f"{it.before}{it.text}{it.after}".translate({10: "\u240a", 13: "\u240d"})
+        line = f"{it.before}{it.text}{it.after}".translate(PICTURES)
         yield f"{shown(row.path)}:{it.line}:{it.character}: bytes {it.begin} to {it.end}{across}: {line}"
