@@ -114,6 +114,16 @@ class Edits(unittest.TestCase):
             with self.subTest(old=old, new=new):
                 self.assertFalse([it for it in edits(old, new) if BAD in new[it.new_start : it.new_end]])
 
+    def test_a_word_replaced_in_each_line_names_no_damage(self):
+        # Line 20 has by accident the letters that line 450 then has.
+        lines = [f"{number:04d} 図書館 \ufffd is here" for number in range(600)]
+        lines[20], lines[450] = "0020 東京 図書館", "0450 図書館 図書館"
+        old = "\n".join(lines)
+        new = "\n".join(line.replace("図書館", "東京", 1) for line in lines)
+        found = edits(old, new)
+        self.assertEqual(made(old, new, found), new)
+        self.assertEqual([it for it in found if BAD in old[it.start : it.end]], [])
+
     def test_the_damage_that_stays_is_the_one_between_the_same_letters(self):
         old, new = "ab\ufffdcd ef\ufffdgh ij\ufffdkl", "ef\ufffdgh"
         self.assertEqual(edits(old, new, one_form=False), [Edit(0, 6, 0, 0), Edit(11, 17, 5, 5)])

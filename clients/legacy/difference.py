@@ -28,6 +28,8 @@ BAD = "\ufffd"
 WORK, PAIRS_A_UNIT = 2_000_000, 2048
 # Edits with fewer ASCII characters than this between them can be joined.
 NEAR = 16
+# About how many lines say whether all are edited in their places.
+SAMPLE = 64
 # The most pairs of places that are looked at for those with the same letters beside them.
 PLACES = 10_000
 
@@ -169,6 +171,9 @@ class _Letters:
 
     def _alike(self, hunk: Edit) -> Iterator[Edit]:
         """By lines whose letters are the same but for ASCII ones, and where there are as many, line by line."""
+        if self._is_in_place(hunk):
+            yield from self._by_line(hunk)
+            return
         lines, new_lines = self.of.lines, self.of.new_lines
         letters, new_letters = lines.letters(hunk.start, hunk.end), new_lines.letters(hunk.new_start, hunk.new_end)
         unlike = differences(letters, new_letters, in_place=True)
@@ -181,6 +186,22 @@ class _Letters:
             if not even:
                 yield from self._within(self.of.range_of(gap))
             line, new_line = gap.end, gap.new_end
+
+    def _is_in_place(self, hunk: Edit) -> bool:
+        """Whether lines are edited each in its place, as by a word that is replaced in all of them: of as many on both sides
+        most begin and end as those in their places do. (Their letters may be equal elsewhere by accident.)"""
+        count = hunk.end - hunk.start
+        if count != hunk.new_end - hunk.new_start:
+            return False
+        looked = range(0, count, max(1, count // SAMPLE))
+        return 2 * sum(self._begin_and_end_alike(hunk.start + at, hunk.new_start + at) for at in looked) > len(looked)
+
+    def _begin_and_end_alike(self, line: int, new_line: int) -> bool:
+        """Whether two lines have half of their code points in common at their start and at their end."""
+        it = self.of.range_of(Edit(line, line + 1, new_line, new_line + 1))
+        rest = trimmed(self.old, self.new, Edit(it.start, it.end - 1, it.new_start, it.new_end - 1))
+        most = max(it.end - it.start, it.new_end - it.new_start) - 1
+        return 2 * max(rest.end - rest.start, rest.new_end - rest.new_start) <= most
 
     def _by_line(self, it: Edit) -> Iterator[Edit]:
         """As many lines on both sides, each compared with its like; those with nothing to lose in between as a whole."""
