@@ -198,6 +198,7 @@ fn bulk_into<D: Decoder, K: Sink<D::State>>(
 {
     let own = decoder.own_text(state, rest);
     if own > 0 {
+        // `own_text` ensures that these bytes are UTF-8.
         let text = unsafe { str::from_utf8_unchecked(&rest[..own]) };
         sink.plain(text, own, (read + own) as i64, Stride::Utf8, state)?;
         return Ok(own);
@@ -208,6 +209,7 @@ fn bulk_into<D: Decoder, K: Sink<D::State>>(
         stride,
     } = decoder.bulk(state, rest, block);
     if taken > 0 {
+        // `bulk` ensures that what it has written is UTF-8.
         let text = unsafe { str::from_utf8_unchecked(&block[..written]) };
         sink.plain(text, taken, (read + taken) as i64, stride, state)?;
     }
