@@ -72,13 +72,23 @@ class Refused(OSError):
 
 def read(gate: Gate, label: str, raw: bytes) -> Known:
     """A content as `gate` decodes it. Raises `Refused` where it can't be had."""
+    return read_all(gate, [(label, raw)])[0]
+
+
+def read_all(gate: Gate, contents: Sequence[Tuple[str, bytes]]) -> List[Known]:
+    """Some contents, each by its label, in less time than one after the other; for each a document is open meanwhile. Raises
+    `Refused` where one of them can't be had."""
     try:
-        with _Document(gate, label, raw) as document:
-            stat = document.ask("stat")
-            document.opened()
-            told = stat.get()
-            text = "".join([it.get()["text"] for it in document.text(told["utf32"])])
-            return Known(raw, text, told["encoding"], told["bom"])
+        with contextlib.ExitStack() as held:
+            documents = [held.enter_context(_Document(gate, *it)) for it in contents]
+            stats = [it.ask("stat") for it in documents]
+            for it in documents:
+                it.opened()
+            told = [it.get() for it in stats]
+            texts = [document.text(it["utf32"]) for document, it in zip(documents, told)]
+            found = [Known(raw, "".join([page.get()["text"] for page in pages]), it["encoding"], it["bom"])
+                     for (_, raw), pages, it in zip(contents, texts, told)]
+        return found
     except Fault as fault:
         raise _refused(fault) from fault
 

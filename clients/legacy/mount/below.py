@@ -5,11 +5,14 @@ import fcntl
 import itertools
 import os
 import stat
+import time
 from typing import Callable, Iterator, NamedTuple, Optional, Tuple
 
 # How names of files begin that are being written. Nobody sees them in the mount.
 BESIDE = b".legacy-"
 NEW, OLD = BESIDE + b"new-", BESIDE + b"old-"
+# The nanoseconds within which two changes of a file may bear one time.
+TICK = 20_000_000
 # The most bytes of a file's name.
 LONGEST_NAME = 255
 # An attribute of a file without which it would be open to others than before.
@@ -33,6 +36,24 @@ def signature(found: os.stat_result) -> Signature:
     return Signature(found.st_dev, found.st_ino, found.st_size, found.st_mtime_ns, found.st_ctime_ns)
 
 
+def steady(path: bytes) -> Tuple[Signature, bytes]:
+    """A file's bytes, with the signature that it had before and behind; after some tries that of behind."""
+    with open(path, "rb", buffering=0) as file:
+        for _ in range(4):
+            before = signature(os.fstat(file.fileno()))
+            content = file.readall()
+            behind = signature(os.fstat(file.fileno()))
+            if before == behind:
+                break
+            file.seek(0)
+        return behind, content
+
+
+def settled(found: Signature) -> bool:
+    """Whether another change of the file would bear another time."""
+    return time.time_ns() - found.changed > TICK
+
+
 class Source:
     """The tree that is shown. It is held by a descriptor, so that it may be mounted over itself; `root` leads to it from
     other processes too."""
@@ -47,19 +68,11 @@ class Source:
 
     def stat(self, path: bytes) -> os.stat_result:
         """What is at a path, a link not followed."""
-        return os.lstat(self.full(path))
+        return os.stat(path or b".", dir_fd=self.descriptor, follow_symlinks=False)
 
     def read(self, path: bytes) -> Tuple[Signature, bytes]:
-        """A file's bytes, with the signature that it had before and behind; after some tries that of behind."""
-        with open(self.full(path), "rb", buffering=0) as file:
-            for _ in range(4):
-                before = signature(os.fstat(file.fileno()))
-                content = file.readall()
-                behind = signature(os.fstat(file.fileno()))
-                if before == behind:
-                    break
-                file.seek(0)
-            return behind, content
+        """A file's bytes, with their signature."""
+        return steady(self.full(path))
 
     def folder(self, path: bytes) -> int:
         """A descriptor of the folder that a path lies in, which stays the same wherever the folder is moved."""
@@ -132,6 +145,16 @@ class Place(NamedTuple):
         with contextlib.suppress(FileNotFoundError):
             os.unlink(self.name, dir_fd=self.folder)
 
+    def sync_names(self) -> None:
+        """Waits until the disk has the folder's names. (What was renamed is renamed, also where the folder can't be read, or
+        its file system knows nothing of this.)"""
+        with contextlib.suppress(OSError):
+            folder = os.open(b".", os.O_RDONLY | os.O_DIRECTORY | os.O_CLOEXEC, dir_fd=self.folder)
+            try:
+                os.fsync(folder)
+            finally:
+                os.close(folder)
+
 
 class Store(NamedTuple):
     """How a file gets other bytes: what is looked at right before, the time of its last change, and whether all is to be
@@ -172,6 +195,8 @@ class Store(NamedTuple):
             raise
         finally:
             os.close(file)
+        if self.sync:
+            place.sync_names()
         return True
 
     def _in_place(self, place: Place, content: bytes) -> None:
@@ -180,7 +205,7 @@ class Store(NamedTuple):
             file = place.open(os.O_RDWR)
             held.callback(os.close, file)
             self.check()
-            before = os.pread(file, os.fstat(file).st_size, 0)
+            before = read_at(file, os.fstat(file).st_size)
             with contextlib.suppress(PermissionError):
                 held.enter_context(beside(place, before, self.sync))
             try:
@@ -207,10 +232,23 @@ def beside(place: Place, content: bytes, sync: bool) -> Iterator[None]:
         write(file, content)
         if sync:
             os.fsync(file)
+            kept.sync_names()
         yield
     finally:
         kept.unlink()
         os.close(file)
+
+
+def read_at(file: int, size: int, at: int = 0) -> bytes:
+    """So many bytes of a file from a place on, or fewer where it ends. (One read may have fewer in the middle too.)"""
+    parts = []
+    while size > 0:
+        part = os.pread(file, size, at)
+        if not part:
+            break
+        parts.append(part)
+        size, at = size - len(part), at + len(part)
+    return b"".join(parts)
 
 
 def overwrite(file: int, content: bytes) -> None:

@@ -8,7 +8,7 @@ import os
 import pathlib
 import signal
 import sys
-from typing import TYPE_CHECKING, Callable, List, Set
+from typing import TYPE_CHECKING, Callable, List, Sequence, Set
 
 from legacy.finding import Found, Missing, add_words, find
 from legacy.mount.below import Source
@@ -113,21 +113,24 @@ def serve(words: argparse.Namespace, found: Found, mounted: Callable[[], None]) 
     import pyfuse3
     import trio
 
+    from legacy.mount.ahead import AT_ONCE
     from legacy.mount.operations import Operations
     from legacy.mount.questions import Questions
     from legacy.mount.reading import Reader
     from legacy.mount.refusals import Refusals
     from legacy.mount.saves import Saves
     from legacy.mount.view import Options, View
+    from legacy.mount.waiting import shorten
     from legacy.mount.workers import Workers
 
     logs_to(words)
+    shorten()
     os.umask(0)
     sys.setswitchinterval(0.001)
     source = Source(os.fsencode(words.source))
     rules = rules_from(words, source.descriptor, found.labels, log.warning)
-    questions, workers = Questions(found.words()), Workers(found.words())
-    reader = Reader(source, questions, workers)
+    questions, workers, for_small = Questions(found.words()), Workers(found.words()), Workers(found.words(), AT_ONCE)
+    reader = Reader(source, questions, workers, for_small)
     refusals = Refusals(source, os.fsencode(words.rejected) if words.rejected else None)
 
     async def forget_pages(ino: int) -> None:
@@ -144,11 +147,12 @@ def serve(words: argparse.Namespace, found: Found, mounted: Callable[[], None]) 
         print(f"legacy mount: {words.mountpoint} can't be mounted on", file=sys.stderr)
         return FAILED
     try:
-        trio.run(serve_until, operations, questions, workers, mounted)
+        trio.run(serve_until, operations, questions, (workers, for_small), mounted)
     finally:
         saves.unsaved(operations.tree.nodes.values())
         pyfuse3.close(unmount=True)
-        workers.close()
+        for it in workers, for_small:
+            it.close()
         questions.close()
     return DONE
 
@@ -165,10 +169,12 @@ def fuse_options(words: argparse.Namespace) -> Set[str]:
     return set(pyfuse3.default_options) | chosen
 
 
-async def serve_until(operations: "Operations", questions: "Questions", workers: "Workers", mounted: Callable[[], None]) -> None:
+async def serve_until(operations: "Operations", questions: "Questions", workers: "Sequence[Workers]", mounted: Callable[[], None]) -> None:
     """Serves the kernel until it is unmounted, or a signal comes."""
     import pyfuse3
     import trio
+
+    from legacy.mount.ahead import AT_ONCE
 
     async def ended_by_a_signal() -> None:
         with trio.open_signal_receiver(signal.SIGTERM, signal.SIGINT, signal.SIGHUP) as signals:
@@ -176,22 +182,24 @@ async def serve_until(operations: "Operations", questions: "Questions", workers:
                 pyfuse3.terminate()
                 # What is being saved still is; what takes too long is refused.
                 await trio.sleep(GRACE)
-                workers.stop()
+                for it in workers:
+                    it.stop()
 
     async def looked_after() -> None:
         while True:
             await trio.sleep(PERIOD)
             questions.look_after()
-            workers.look_after()
+            for it in workers:
+                it.look_after()
 
     async def begun() -> None:
         await operations.mounted.wait()
         mounted()
-        workers.start()
+        workers[0].start()
         await trio.to_thread.run_sync(cleared, operations.source, cancellable=True)
 
     async with trio.open_nursery() as nursery:
-        for task in ended_by_a_signal, looked_after, begun:
+        for task in ended_by_a_signal, looked_after, begun, *[operations.reader.ahead.serve] * AT_ONCE:
             nursery.start_soon(task)
         await pyfuse3.main()
         nursery.cancel_scope.cancel()

@@ -10,7 +10,8 @@ from typing import Any, Awaitable, Callable, Dict, List, NamedTuple, Optional, S
 import pyfuse3
 import trio
 
-from legacy.mount.below import signature
+from legacy.mount.ahead import SMALL, Listing, Wanted
+from legacy.mount.below import read_at, signature
 from legacy.mount.refusals import SUFFIX
 from legacy.mount.saves import LARGEST_TEXT, Saves
 from legacy.mount.snapshots import Snapshot, Text
@@ -57,10 +58,11 @@ def changes(call: Callable[..., Awaitable[Any]]) -> Callable[..., Awaitable[Any]
 
 
 class Folder(NamedTuple):
-    """A folder that a program reads: its inode, and its entries as they were when it began."""
+    """A folder that a program reads: its inode, its entries as they were when it began, and those that are small texts."""
 
     node: Node
     entries: List[bytes]
+    texts: Listing
 
 
 class Operations(pyfuse3.Operations):  # type: ignore[misc]
@@ -101,13 +103,14 @@ class Operations(pyfuse3.Operations):  # type: ignore[misc]
     async def opendir(self, ino: int, ctx: Any) -> int:
         node = self.tree.nodes[ino]
         entries = sorted(it for it in os.listdir(self.view.below(node)) if not self.view.hidden(it))
+        assert node.path is not None
         self.last += 1
-        self.folders[self.last] = Folder(node, entries)
+        self.folders[self.last] = Folder(node, entries, self.reader.ahead.listing(node.path))
         return self.last
 
     @guarded
     async def readdir(self, fh: int, start: int, token: Any) -> None:
-        node, entries = self.folders[fh]
+        node, entries, texts = self.folders[fh]
         for number, name in enumerate(entries[start:], start + 1):
             with contextlib.suppress(FileNotFoundError):
                 path = node.path + b"/" + name if node.path else name
@@ -116,6 +119,8 @@ class Operations(pyfuse3.Operations):  # type: ignore[misc]
                 if not pyfuse3.readdir_reply(token, name, await self.view.attributes(entry, found, lazily=True), number):
                     break
                 entry.lookups += 1
+                if entry.rule and found.st_size <= SMALL and not self.view.is_known(entry.rule, found):
+                    texts.add(Wanted(path, entry.rule.label), found.st_size)
 
     @guarded
     async def releasedir(self, fh: int) -> None:
@@ -185,7 +190,8 @@ class Operations(pyfuse3.Operations):  # type: ignore[misc]
         if there:
             self.tree.gone(there)
         node = self.tree.at(path, found)
-        node.born, node.below = True, found.st_ino
+        node.made(anew=self.reader.past.has(path))
+        node.below = found.st_ino
         held: Optional[int] = descriptor
         if node.rule:
             os.close(descriptor)
@@ -202,7 +208,7 @@ class Operations(pyfuse3.Operations):  # type: ignore[misc]
     async def read(self, fh: int, offset: int, size: int) -> bytes:
         handle = self.handles[fh]
         if handle.descriptor is not None:
-            return os.pread(handle.descriptor, size, offset)
+            return read_at(handle.descriptor, size, offset)
         written = handle.node.written
         if written is not None:
             return bytes(written[offset : offset + size])
@@ -327,7 +333,7 @@ class Operations(pyfuse3.Operations):  # type: ignore[misc]
             self.view.takes_changes(rule, new)
             if node.rule and rule and node.rule.label != rule.label:
                 raise FUSEError(errno.EXDEV)  # (a program that moves files then copies the text)
-            if rule and (not node.rule or node.born and over):
+            if rule and (not node.rule or node.is_temporary and over):
                 await self.saves.renamed(node, where, rule, over, ctx.pid)
                 self.tree.moved(*where())
             else:

@@ -3,21 +3,19 @@ import contextlib
 import errno
 import os
 import re
-import time
 from typing import Any, Callable, Dict, List, Set, Tuple
 
 import trio
 
-from legacy.mount.below import Signature, Source, signature
+from legacy.mount.ahead import Ahead
+from legacy.mount.below import Signature, Source, settled, signature
 from legacy.mount.questions import Questions
-from legacy.mount.snapshots import LARGEST, Lengths, Past, Shelf, Sizes, Snapshot, Text
+from legacy.mount.snapshots import LARGEST, Lengths, Past, Shelf, Sizes, Snapshot, Text, own_text
 from legacy.mount.workers import Workers
 from legacy.saving import Refused
 
 # Files up to here are read by the loop itself.
 SMALL = 1 << 18
-# The nanoseconds within which two changes of a file may bear one time.
-TICK = 20_000_000
 # What a file's text is read by, in the place of a label, that says of other files which charset they have.
 CHARSET_UTF_8 = "charset = utf-8"
 CHARSET = re.compile(rb"(?im)^([ \t]*charset[ \t]*[=:][ \t]*)[^\s#;]+")
@@ -26,21 +24,24 @@ CHARSET = re.compile(rb"(?im)^([ \t]*charset[ \t]*[=:][ \t]*)[^\s#;]+")
 class Reader:
     """The texts of a source's files."""
 
-    def __init__(self, source: Source, questions: Questions, workers: Workers):
+    def __init__(self, source: Source, questions: Questions, workers: Workers, for_small: Workers):
         self.source, self._questions, self._workers = source, questions, workers
         self.shelf, self.sizes, self.past = Shelf(), Sizes(), Past()
+        self.ahead = Ahead(source, for_small, self.keep)
         self._reading: Dict[Tuple[Signature, str], trio.Event] = {}
 
     async def snapshot(self, path: bytes, label: str) -> Snapshot:
         """What is at a path now. Raises `Refused` where it is too large for a text."""
         while True:
+            coming = self.ahead.read(path)
             key = signature(self.source.stat(path)), label
             kept = self.shelf.get(*key)
             if kept:
                 return kept
-            if key not in self._reading:
+            coming = coming or self._reading.get(key)
+            if not coming:
                 break
-            await self._reading[key].wait()
+            await coming.wait()
         done = self._reading[key] = trio.Event()
         try:
             return await self._read(path, key[0], label)
@@ -131,18 +132,3 @@ def fits(size: int) -> None:
         raise Refused(errno.EFBIG, f"it has {size} bytes, and texts have at most {LARGEST}")
 
 
-def settled(found: Signature) -> bool:
-    """Whether another change of the file would bear another time."""
-    return time.time_ns() - found.changed > TICK
-
-
-def own_text(raw: bytes, encoding: str) -> bool:
-    """Whether bytes are their own text in UTF-8."""
-    if encoding == "UTF-8":
-        try:
-            raw.decode()
-        except UnicodeDecodeError:
-            return False
-        return not raw.startswith(b"\xef\xbb\xbf")
-    return raw.isascii() and not encoding.startswith("UTF-16") and encoding != "replacement" and (
-        encoding != "ISO-2022-JP" or not any(it in raw for it in b"\x0e\x0f\x1b"))

@@ -18,10 +18,10 @@ from typing import Awaitable, Callable, Iterable, Iterator, List, NamedTuple, Op
 
 import trio
 
-from legacy.mount.below import Place, Signature, Source, Store, signature
-from legacy.mount.reading import Reader, own_text
+from legacy.mount.below import Place, Signature, Source, Store, read_at, signature
+from legacy.mount.reading import Reader
 from legacy.mount.refusals import Refusals, program_of, shown
-from legacy.mount.snapshots import LARGEST, Snapshot, Text, letters_of, lines_of
+from legacy.mount.snapshots import LARGEST, Snapshot, Text, letters_of, lines_of, own_text
 from legacy.mount.tree import Handle, Node, Session, begun
 from legacy.mount.workers import Workers
 from legacy.saving import Refused
@@ -105,7 +105,7 @@ class Saves:
             made = await self._made(path, rule, session.base, content)
             stored = await self._store(path, session, made)
         except OSError as fault:
-            node.refusal = str(fault)
+            node.refusal = str(fault) if isinstance(fault, Refused) else os.strerror(fault.errno or errno.EIO)
             if fault.errno in (errno.EILSEQ, errno.EFBIG):
                 session.refused = version
             self._refusals.reject(path, content, node.refusal, program_of(thread))
@@ -177,6 +177,7 @@ class Saves:
         session = node.session
         if session is None or node.writers:
             return
+        node.closed()
         if node.path is not None and session.base.raw != session.below.raw:
             self._reader.past.put(node.path, session.base)
         node.session = None
@@ -247,7 +248,7 @@ class Saves:
             size = os.fstat(file).st_size
             if size > LARGEST_TEXT:
                 raise Refused(errno.EFBIG, f"more than {LARGEST} bytes")
-            content: bytes = await trio.to_thread.run_sync(os.pread, file, size, 0)
+            content: bytes = await trio.to_thread.run_sync(read_at, file, size)
             return content
         finally:
             os.close(file)
@@ -255,7 +256,8 @@ class Saves:
     async def _becomes(self, node: Node, rule: Rule, now: Snapshot, base: Optional[Snapshot]) -> None:
         """An inode is now a file with a rule, which is as it was just written."""
         self._reader.keep(now)
-        node.rule, node.born, node.below, node.shown, node.sent = rule, False, now.signature.inode, now, None
+        node.rule, node.born, node.temporary = rule, False, 0.0
+        node.below, node.shown, node.sent = now.signature.inode, now, None
         for it in node.handles:
             if it.descriptor is not None:
                 os.close(it.descriptor)
@@ -309,7 +311,7 @@ def same(place: Place, below: Optional[Snapshot]) -> None:
         return
     file = place.open(os.O_RDONLY)
     try:
-        if os.pread(file, len(below.raw) + 1, 0) != below.raw:
+        if read_at(file, len(below.raw) + 1) != below.raw:
             raise Refused(errno.EBUSY, "the file below was changed by someone else meanwhile")
     finally:
         os.close(file)

@@ -55,6 +55,18 @@ class Snapshot:
         return lines_of(self.utf8)
 
 
+def own_text(raw: bytes, encoding: str) -> bool:
+    """Whether bytes are their own text in UTF-8."""
+    if encoding == "UTF-8":
+        try:
+            raw.decode()
+        except UnicodeDecodeError:
+            return False
+        return not raw.startswith(b"\xef\xbb\xbf")
+    return raw.isascii() and not encoding.startswith("UTF-16") and encoding != "replacement" and (
+        encoding != "ISO-2022-JP" or not any(it in raw for it in b"\x0e\x0f\x1b"))
+
+
 def letters_of(utf8: bytes) -> FrozenSet[str]:
     """The characters of a text that aren't ASCII; what isn't UTF-8 is passed over."""
     return frozenset() if utf8.isascii() else frozenset(utf8.translate(None, ASCII).decode(errors="ignore"))
@@ -89,6 +101,10 @@ class Shelf:
         self._cost += snapshot.cost
         while self._cost > self._most and len(self._kept) > 1:
             self._cost -= self._kept.popitem(last=False)[1].cost
+
+    def has(self, signature: Signature, label: str) -> bool:
+        """Whether there is a snapshot of a file that is still as it was."""
+        return (signature, label) in self._kept
 
     def now(self, old: Signature, now: Signature, label: str) -> None:
         """What was known by one signature has another."""
@@ -130,6 +146,10 @@ class Past:
     def of(self, path: bytes, label: str) -> List[Snapshot]:
         """The contents that a path had, by one label."""
         return [it for it in self._of.get(path, ()) if it.label == label]
+
+    def has(self, path: bytes) -> bool:
+        """Whether something was at a path."""
+        return path in self._of
 
     def put(self, path: bytes, snapshot: Snapshot) -> None:
         """Keeps what is about to leave a path."""

@@ -18,6 +18,8 @@ from legacy.rules import Rule
 ROOT = 1
 # The seconds for which the kernel needn't ask anew what a file is.
 EXACT = 1.0
+# The seconds for which a file that was made where nothing was, or written since, is taken for a temporary one.
+TEMPORARY = 60.0
 # The seconds after which the rule of a file that nobody has open is looked up anew.
 AGAIN = 0.5
 
@@ -97,8 +99,9 @@ class Node:
         self.ruled = time.monotonic()
         self.lookups = 0
         self.handles: Set["Handle"] = set()
-        # Whether it was made in this mount, as a temporary file is.
-        self.born = False
+        # Whether it was made in this mount by a program that still has it open; and until when it is taken for a temporary
+        # file, since it was made where nothing was.
+        self.born, self.temporary = False, 0.0
         # What those who have it open read, and what those who write made of it.
         self.shown: Optional[Snapshot] = None
         self.session: Optional[Session] = None
@@ -138,6 +141,21 @@ class Node:
     def written(self) -> Optional[bytearray]:
         """The text as programs wrote it, where they wrote."""
         return self.session.data if self.session else None
+
+    def made(self, anew: bool) -> None:
+        """It was made in this mount, perhaps anew where something was before."""
+        self.born, self.temporary = True, 0.0 if anew else time.monotonic() + TEMPORARY
+
+    def closed(self) -> None:
+        """Whoever wrote it has closed it."""
+        self.born = False
+        if self.is_temporary:
+            self.temporary = time.monotonic() + TEMPORARY
+
+    @property
+    def is_temporary(self) -> bool:
+        """Whether it is as temporary files are: made in this mount of late, at a name at which nothing was."""
+        return time.monotonic() < self.temporary
 
     @property
     def writers(self) -> bool:

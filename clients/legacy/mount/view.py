@@ -187,6 +187,10 @@ class View:
                 node.shown, node.below = snapshot, snapshot.signature.inode
                 return
 
+    def is_known(self, rule: Rule, found: os.stat_result) -> bool:
+        """Whether the text of a file needs no decoding."""
+        return rule == AS_SHOWN or self.reader.shelf.has(signature(found), rule.label)
+
     def owned(self, path: bytes, ctx: Any) -> None:
         """Gives what was made to whoever asked for it, where the mount is root's."""
         if os.geteuid() == 0:

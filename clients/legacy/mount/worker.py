@@ -10,8 +10,9 @@ import sys
 from typing import Callable, List, Optional, Sequence, Tuple, TypeVar
 
 from gate import Fault, Gate, Gone
+from legacy.mount.below import Signature, settled, steady
 from legacy.mount.snapshots import Lengths, Text
-from legacy.saving import Known, Refused, read, save
+from legacy.saving import Known, Refused, read, read_all, save
 
 Found = TypeVar("Found")
 # Bytes, and their text if that is at hand.
@@ -27,11 +28,15 @@ class Jobs:
 
     def text(self, raw: bytes, label: str) -> Text:
         """The text of these bytes."""
-        def made(gate: Gate) -> Text:
-            found = read(gate, label, raw)
-            return Text(found.text.encode(), found.encoding, found.bom)
+        return self._with(lambda gate: text_of(read(gate, label, raw)))
 
-        return self._with(made)
+    def texts(self, files: Sequence[Tuple[bytes, str]]) -> List[Optional[Tuple[Signature, bytes, Text]]]:
+        """What small files have now, each by its label; nothing of one that isn't there, or that may still change under the
+        same signature."""
+        found = [content_of(path) for path, _ in files]
+        contents = [(label, it[1]) for it, (_, label) in zip(found, files) if it]
+        texts = self._with(lambda gate: iter([text_of(it) for it in read_all(gate, contents)]))
+        return [(*it, next(texts)) if it else None for it in found]
 
     def lengths(self, raw: bytes, label: str) -> Lengths:
         """How long the text of these bytes is."""
@@ -66,6 +71,20 @@ class Jobs:
                 self._gate = None
                 raise Refused(errno.EIO, f"gate answered {fault}") from fault
         raise Refused(errno.EIO, "gate ended before it replied")
+
+
+def content_of(path: bytes) -> Optional[Tuple[Signature, bytes]]:
+    """A file's bytes with their signature, if nobody is changing it."""
+    try:
+        found = steady(path)
+    except OSError:
+        return None
+    return found if settled(found[0]) else None
+
+
+def text_of(known: Known) -> Text:
+    """What a content says, as the mount keeps it."""
+    return Text(known.text.encode(), known.encoding, known.bom)
 
 
 def known(gate: Gate, label: str, content: Content) -> Known:

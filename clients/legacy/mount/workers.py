@@ -75,9 +75,9 @@ class Worker:
 class Workers:
     """The processes, which are started as they are needed."""
 
-    def __init__(self, words: Sequence[str]):
+    def __init__(self, words: Sequence[str], most: int = MOST):
         self._words = words
-        self._places = threading.BoundedSemaphore(MOST)
+        self._places = threading.BoundedSemaphore(most)
         self._idle: List[Worker] = []
         self._busy: Set[Worker] = set()
         self._over = False

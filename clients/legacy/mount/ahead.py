@@ -1,0 +1,107 @@
+"""Small texts decoded ahead of need. Who lists a folder and then reads two of its files is about to read them all, as a
+search does: so what lies beside the second one is decoded meanwhile, many files at a time, by processes of their own."""
+import collections
+from typing import Callable, Dict, Iterator, List, NamedTuple, Optional, Set
+
+import trio
+
+from legacy.mount.below import Source
+from legacy.mount.snapshots import Snapshot
+from legacy.mount.workers import Workers
+from legacy.saving import Refused
+
+# The most files that are decoded together, and the most bytes of one, and about of all.
+FILES, SMALL, ROOM = 32, 1 << 16, 1 << 20
+# How many such parts of folders are decoded at once, and how many more may wait.
+AT_ONCE, WAITING = 2, 16
+# How many folders' lists are kept.
+FOLDERS = 64
+
+
+class Wanted(NamedTuple):
+    """A file that may be decoded: its path, and the label of its rule."""
+
+    path: bytes
+    label: str
+
+
+Part = List[Wanted]
+
+
+class Listing:
+    """The small texts of a folder in the order in which they were listed, in parts."""
+
+    def __init__(self) -> None:
+        self._parts: List[Part] = []
+        self._room = 0
+        self._places: Dict[bytes, int] = {}
+        self._begun: Set[int] = set()
+        self._first: Optional[bytes] = None
+
+    def add(self, it: Wanted, size: int) -> None:
+        """Adds a file, once."""
+        if it.path in self._places:
+            return
+        if not self._parts or len(self._parts[-1]) == FILES or size > self._room:
+            self._parts.append([])
+            self._room = ROOM
+        self._parts[-1].append(it)
+        self._room -= size
+        self._places[it.path] = len(self._parts) - 1
+
+    def parts(self, path: bytes) -> Iterator[Part]:
+        """The parts that are to be begun since a file is read: from the second file on its own, and those beside it."""
+        self._first = self._first or path
+        place = self._places.get(path)
+        if place is None or path == self._first:
+            return
+        for part in place, place + 1, place - 1:
+            if 0 <= part < len(self._parts) and part not in self._begun:
+                self._begun.add(part)
+                yield self._parts[part]
+
+
+class Ahead:
+    """What is decoded ahead of need; `keep` takes what became of it."""
+
+    def __init__(self, source: Source, workers: Workers, keep: Callable[[Snapshot], None]):
+        self._source, self._workers, self._keep = source, workers, keep
+        self._listings: "collections.OrderedDict[bytes, Listing]" = collections.OrderedDict()
+        self._to, self._from = trio.open_memory_channel[Part](WAITING)
+        self._coming: Dict[bytes, trio.Event] = {}
+
+    def listing(self, folder: bytes) -> Listing:
+        """A folder is listed anew."""
+        found = self._listings[folder] = Listing()
+        self._listings.move_to_end(folder)
+        if len(self._listings) > FOLDERS:
+            self._listings.popitem(last=False)
+        return found
+
+    def read(self, path: bytes) -> Optional[trio.Event]:
+        """A file is read. Returns what to wait for where it is being decoded."""
+        coming = self._coming.get(path)
+        listing = self._listings.get(path.rpartition(b"/")[0])
+        for part in listing.parts(path) if listing else ():
+            # (this one doesn't wait for the others)
+            part = [it for it in part if it.path != path and it.path not in self._coming]
+            try:
+                self._to.send_nowait(part)
+            except trio.WouldBlock:
+                break
+            self._coming.update((it.path, trio.Event()) for it in part)
+        return coming
+
+    async def serve(self) -> None:
+        """Decodes what is wanted, one part after the other."""
+        async for part in self._from:
+            files = [(self._source.full(it.path), it.label) for it in part]
+            try:
+                for it, content in zip(part, await trio.to_thread.run_sync(self._workers.do, "texts", files)):
+                    if content:
+                        found, raw, text = content
+                        self._keep(Snapshot(found, raw, it.label, text))
+            except Refused:
+                pass  # (whoever reads it is told why)
+            for it in part:
+                self._coming.pop(it.path).set()

@@ -1,0 +1,86 @@
+"""How the tasks that serve the kernel wait for its next request. By pyfuse3 as it comes each request takes two turns of
+trio's and a lock, which is most of what a short one costs. Here a request that has come already is taken at once, some in
+a row, and whoever has to wait leaves the others out of it.
+
+pyfuse3 finds trio by a name of its own module, where its pyfuse3_asyncio puts another library; so does `shorten`."""
+import select
+from typing import Any
+
+import pyfuse3
+import trio
+
+# How many requests are taken in a row before other tasks have their turn.
+ROW = 16
+
+
+class Requests:
+    """The kernel's requests, of one mount. Between the end of `wait_readable` and the reading of the request no other task
+    runs; so what is there is still there."""
+
+    def __init__(self) -> None:
+        self._others = trio.lowlevel.ParkingLot()
+        self._poll = select.poll()
+        self._known = -1
+        self._row = 0
+        self._waits = self._over = False
+
+    def _is_there(self, descriptor: int) -> bool:
+        """Whether a request can be read, or the end of the mount."""
+        if descriptor != self._known:
+            self._poll.register(descriptor, select.POLLIN)
+            self._known = descriptor
+        return bool(self._poll.poll(0))
+
+    async def wait_readable(self, descriptor: int) -> None:
+        """Waits until there is a request."""
+        while not self._over:
+            if self._row >= ROW:
+                self._row = 0
+                await trio.lowlevel.checkpoint()
+            elif self._is_there(descriptor):
+                self._row += 1
+                return
+            elif self._waits:
+                await self._others.park()
+            else:
+                await self._wait(descriptor)
+        raise trio.ClosedResourceError
+
+    async def _wait(self, descriptor: int) -> None:
+        """Waits for all tasks. The next one goes on with it, since this one has a request then, which may take long."""
+        self._row, self._waits = 0, True
+        try:
+            await trio.lowlevel.wait_readable(descriptor)
+        except trio.ClosedResourceError:
+            self._over = True
+            self._others.unpark_all()
+        finally:
+            self._waits = False
+            self._others.unpark()
+
+
+class _NoLock:
+    """In the place of the lock behind which pyfuse3 has one task wait at a time."""
+
+    async def __aenter__(self) -> None:
+        pass
+
+    async def __aexit__(self, *_: object) -> None:
+        pass
+
+
+class _Trio:
+    """What pyfuse3 has for trio, or for its lowlevel: that, but for some names."""
+
+    def __init__(self, of: Any, **names: Any):
+        self.__dict__.update(names)
+        self._of = of
+
+    def __getattr__(self, name: str) -> Any:
+        return getattr(self._of, name)
+
+
+def shorten() -> None:
+    """Has pyfuse3 wait by `Requests`, which need no lock."""
+    lowlevel = _Trio(trio.lowlevel, wait_readable=Requests().wait_readable)
+    pyfuse3.trio = _Trio(trio, lowlevel=lowlevel, Lock=_NoLock)

@@ -1,0 +1,279 @@
+"""Parts of `legacy mount` that no program sees alone. They need no mount, but some need pyfuse3 and trio."""
+import errno
+import os
+import pathlib
+import subprocess
+import sys
+import tempfile
+import time
+import unittest
+from unittest import mock
+
+from legacy.mount import below
+from legacy.mount.below import Place, Store, read_at
+from legacy.saving import Refused
+from mounts import PYTHON, has_pyfuse3
+
+HAS_PYFUSE3 = has_pyfuse3(sys.executable)
+if HAS_PYFUSE3:
+    import trio
+    import trio.testing
+    from legacy.mount import questions, tree
+    from legacy.mount.ahead import FILES, ROOM, Listing, Wanted
+    from legacy.mount.waiting import Requests
+
+
+@unittest.skipIf(HAS_PYFUSE3 or not PYTHON, "this interpreter has pyfuse3, or none has")
+class Elsewhere(unittest.TestCase):
+    def test_the_other_tests_of_this_file(self):
+        ran = subprocess.run([PYTHON, "-m", "unittest", "test_mount_parts"], cwd=pathlib.Path(__file__).parent, stderr=subprocess.PIPE)
+        self.assertEqual(ran.returncode, 0, ran.stderr.decode())
+
+
+class Below(unittest.TestCase):
+    """How files below are read and written."""
+
+    def setUp(self):
+        folder = tempfile.TemporaryDirectory()
+        self.addCleanup(folder.cleanup)
+        self.folder = pathlib.Path(folder.name)
+        descriptor = os.open(folder.name, os.O_PATH | os.O_DIRECTORY)
+        self.addCleanup(os.close, descriptor)
+        self.place = Place(descriptor, b"f")
+
+    def test_a_read_that_has_only_a_part_is_gone_on_with(self):
+        (self.folder / "f").write_bytes(bytes(range(100)))
+        file = self.place.open(os.O_RDONLY)
+        self.addCleanup(os.close, file)
+        pread = os.pread
+        with mock.patch("os.pread", lambda file, size, at: pread(file, min(size, 7), at)):
+            self.assertEqual(read_at(file, 50, 10), bytes(range(10, 60)))
+            self.assertEqual(read_at(file, 50, 90), bytes(range(90, 100)))
+
+    def synced(self, sync, links=1):
+        """What of a save waits for the disk: files, and folders."""
+        (self.folder / "f").write_bytes(b"before")
+        for number in range(1, links):
+            os.link(self.folder / "f", self.folder / str(number))
+        found, fsync = [], os.fsync
+
+        def noted(file):
+            found.append("folder" if os.path.isdir(f"/proc/self/fd/{file}") else "file")
+            fsync(file)
+
+        with mock.patch("os.fsync", noted):
+            Store(lambda: None, None, sync).put(self.place, b"after")
+        self.assertEqual((self.folder / "f").read_bytes(), b"after")
+        return found
+
+    def test_a_save_waits_for_the_file_and_then_for_its_name(self):
+        self.assertEqual(self.synced(True), ["file", "folder"])
+
+    def test_a_save_in_place_waits_for_the_old_bytes_beside_it_first(self):
+        self.assertEqual(self.synced(True, links=2), ["file", "folder", "file"])
+
+    def test_a_save_that_needn_t_wait_for_the_disk(self):
+        self.assertEqual(self.synced(False) + self.synced(False, links=2), [])
+
+    def test_a_content_is_read_with_the_signature_that_it_had_throughout(self):
+        (self.folder / "f").write_bytes(b"one")
+        changes, signature = [b"two", b"three"], below.signature
+
+        def changed(found):
+            if changes:
+                (self.folder / "f").write_bytes(changes.pop())
+            return signature(found)
+
+        with mock.patch.object(below, "signature", changed):
+            found, content = below.steady(os.fsencode(self.folder / "f"))
+        self.assertEqual((content, found), (b"two", signature((self.folder / "f").stat())))
+
+
+@unittest.skipUnless(HAS_PYFUSE3, "this interpreter has no pyfuse3 (Debian's python3-pyfuse3)")
+class Loop(unittest.TestCase):
+    """The loop that serves the kernel."""
+
+    def test_whoever_waits_for_a_request_has_one(self):
+        # Tasks that take bytes from a pipe, which none could read without: one that waits in between holds up no other.
+        count, tasks = 500, 5
+        come, to = os.pipe()
+        self.addCleanup(os.close, come)
+        self.addCleanup(os.close, to)
+        os.set_blocking(come, False)
+        taken = []
+
+        async def serve(requests, nursery):
+            while len(taken) < count:
+                await requests.wait_readable(come)
+                taken.append(os.read(come, 1))
+                if taken[-1] == b"s":
+                    await trio.sleep(0.01)
+            nursery.cancel_scope.cancel()
+
+        async def ask():
+            for number in range(count):
+                os.write(to, b"s" if number % 10 == 9 else b"q")
+                if number % 7 == 0:
+                    await trio.sleep(0)
+
+        async def main():
+            requests = Requests()
+            async with trio.open_nursery() as nursery:
+                for _ in range(tasks):
+                    nursery.start_soon(serve, requests, nursery)
+                nursery.start_soon(ask)
+
+        trio.run(main)
+        self.assertEqual((len(taken), taken.count(b"s")), (count, count // 10))
+
+    def test_other_tasks_have_their_turn_between_requests_that_never_end(self):
+        come, to = os.pipe()
+        self.addCleanup(os.close, come)
+        self.addCleanup(os.close, to)
+        os.write(to, b"q")
+        turns = []
+
+        async def serve(requests):
+            while True:
+                await requests.wait_readable(come)
+
+        async def main():
+            async with trio.open_nursery() as nursery:
+                nursery.start_soon(serve, Requests())
+                for _ in range(10):
+                    await trio.sleep(0)
+                    turns.append(1)
+                nursery.cancel_scope.cancel()
+
+        trio.run(main)
+        self.assertEqual(len(turns), 10)
+
+    def test_the_end_of_the_mount_wakes_all(self):
+        come, to = os.pipe()
+        self.addCleanup(os.close, come)
+        self.addCleanup(os.close, to)
+        ended = []
+
+        async def serve(requests):
+            with self.assertRaises(trio.ClosedResourceError):
+                await requests.wait_readable(come)
+            ended.append(1)
+
+        async def main():
+            requests = Requests()
+            async with trio.open_nursery() as nursery:
+                for _ in range(3):
+                    nursery.start_soon(serve, requests)
+                await trio.testing.wait_all_tasks_blocked()
+                trio.lowlevel.notify_closing(come)
+
+        trio.run(main)
+        self.assertEqual(len(ended), 3)
+
+
+@unittest.skipUnless(HAS_PYFUSE3, "this interpreter has no pyfuse3 (Debian's python3-pyfuse3)")
+class Ahead(unittest.TestCase):
+    """Which files are decoded ahead of need."""
+
+    def listing(self, count, size=100):
+        found = Listing()
+        for number in range(count):
+            found.add(Wanted(b"d/%d" % number, "shift_jis"), size)
+        return found
+
+    def begun(self, listing, number):
+        """The first and the last of each part that is begun."""
+        return [tuple(int(part[at].path[2:]) for at in (0, -1)) for part in listing.parts(b"d/%d" % number)]
+
+    def test_nothing_for_one_file(self):
+        listing = self.listing(100)
+        self.assertEqual([self.begun(listing, 5), self.begun(listing, 5), self.begun(listing, 200)], [[], [], []])
+
+    def test_from_the_second_file_on_what_is_beside_it_each_once(self):
+        listing = self.listing(4 * FILES + 1)
+        self.begun(listing, 0)
+        parts = [(at * FILES, (at + 1) * FILES - 1) for at in range(4)] + [(4 * FILES, 4 * FILES)]
+        self.assertEqual(self.begun(listing, 1), [parts[0], parts[1]])
+        self.assertEqual(self.begun(listing, 2), [])
+        self.assertEqual(self.begun(listing, 4 * FILES), [parts[4], parts[3]])
+        self.assertEqual(self.begun(listing, 4 * FILES - 1), [parts[2]])
+
+    def test_large_ones_are_fewer(self):
+        listing = self.listing(4, ROOM // 2)
+        self.begun(listing, 0)
+        self.assertEqual(self.begun(listing, 1), [(0, 1), (2, 3)])
+
+
+@unittest.skipUnless(HAS_PYFUSE3, "this interpreter has no pyfuse3 (Debian's python3-pyfuse3)")
+class Nodes(unittest.TestCase):
+    def test_a_file_is_a_temporary_one_for_a_while_behind_its_last_writing(self):
+        for anew, temporary in (False, [True, True, False]), (True, [False, False, False]):
+            node, found = tree.Node(2, b"f", None), []
+            with mock.patch.object(tree, "TEMPORARY", 0.2):
+                node.made(anew)
+                found.append(node.is_temporary)
+                time.sleep(0.1)
+                node.closed()
+                time.sleep(0.15)
+                found.append(node.is_temporary)
+                time.sleep(0.1)
+                found.append(node.is_temporary)
+            self.assertEqual((found, node.born), (temporary, False))
+
+
+STAND_IN = """#!{python}
+import os, sys, time
+runs = {folder!r} + "/runs"
+with open(runs, "a") as file:
+    file.write("r")
+late = {late}[min(os.path.getsize(runs), {count}) - 1]
+for line in sys.stdin.buffer:
+    time.sleep(late if b"stat" in line else 0)
+    print('{{"encoding":"Shift_JIS","utf8":4,"errors":1,"id":0}}', flush=True)
+"""
+
+
+@unittest.skipUnless(HAS_PYFUSE3, "this interpreter has no pyfuse3 (Debian's python3-pyfuse3)")
+class Slow(unittest.TestCase):
+    """A gate that replies late: each time it is started it takes so many seconds."""
+
+    def asked(self, *late):
+        """What a short question is answered, where one is waited for half a second, and how many were asked."""
+        with tempfile.TemporaryDirectory() as folder, mock.patch.object(questions, "PATIENCE", 0.5):
+            program = pathlib.Path(folder, "gate")
+            program.write_text(STAND_IN.format(python=sys.executable, folder=folder, late=late, count=len(late)))
+            program.chmod(0o755)
+            try:
+                found = trio.run(self.ask, [str(program)])
+            except Refused as refused:
+                found = errno.errorcode[refused.errno]
+            return found, pathlib.Path(folder, "runs").stat().st_size
+
+    async def ask(self, words):
+        asked = questions.Questions(words)
+
+        async def look_after():
+            while True:
+                await trio.sleep(0.05)
+                asked.look_after()
+
+        async with trio.open_nursery() as nursery:
+            nursery.start_soon(look_after)
+            try:
+                return tuple(await asked.lengths(b"a\xff", "shift_jis"))
+            finally:
+                nursery.cancel_scope.cancel()
+                asked.close()
+
+    def test_within_the_time_it_has(self):
+        self.assertEqual(self.asked(0.1), ((4, 1), 1))
+
+    def test_one_that_is_too_late_is_ended_and_another_is_asked(self):
+        self.assertEqual(self.asked(60, 0), ((4, 1), 2))
+
+    def test_after_two_the_program_is_told(self):
+        self.assertEqual(self.asked(60, 60), ("EIO", 2))
+
+
+if __name__ == "__main__":
+    unittest.main()
