@@ -11,27 +11,19 @@ import signal
 import subprocess
 import sys
 import tempfile
-import time
 import unittest
 from unittest import mock
 
 from archives import BUILT, CLIENTS, INDEXES, PROGRAM, WORDS, Folder, settings, tree
 from legacy import work
 from legacy.check import Check, check
+from legacy.convert import convert
 from legacy.finding import Missing
 from legacy.work import Item, Refusal, Row, rows
 from legacy.work.state import State
+import runs  # (of a folder that archives adds)
 
 RULES = [word for glob, label in WORDS for word in ("-e", f"{glob}={label}")]
-
-
-def python_with(module):
-    """An interpreter that has a module, or None."""
-    for it in sys.executable, "/usr/bin/python3":
-        with contextlib.suppress(OSError):
-            if not subprocess.run([it, "-c", f"import {module}"], stderr=subprocess.DEVNULL).returncode:
-                return it
-    return None
 
 
 def programs():
@@ -111,26 +103,12 @@ class Runs(unittest.TestCase):
     def test_a_run_that_is_killed_and_resumed(self):
         draw = random.Random()
         kills = 0
+        words = command("--jobs", "2", "--resume", self.state, self.tree)
         for _ in range(4):
-            run = subprocess.Popen(
-                command("--jobs", "2", "--resume", self.state, self.tree), env=ENVIRONMENT, stdout=subprocess.PIPE, start_new_session=True)
-            time.sleep(0.2 + draw.random())
-            kills += run.poll() is None
-            run.kill()
-            run.stdout.close()
-            run.wait()
-            self.end_of(run.pid)
+            # (nobody reads what it prints, so that it doesn't end by itself)
+            kills += runs.killed(words, 0.2 + draw.random(), env=ENVIRONMENT, stdout=subprocess.PIPE)
         self.assertGreater(kills, 0)
         self.assertEqual(self.resumed()[0], self.rows)
-
-    def end_of(self, group):
-        """Waits until the processes that a run had are gone too."""
-        until = time.monotonic() + 30
-        with contextlib.suppress(ProcessLookupError):
-            while time.monotonic() < until:
-                os.killpg(group, 0)
-                time.sleep(0.02)
-            self.fail("processes are left")
 
     def test_ctrl_c(self):
         # At a terminal it goes to all processes of the run.
@@ -142,7 +120,7 @@ class Runs(unittest.TestCase):
         _, said = run.communicate(timeout=60)
         if run.returncode != 2:
             self.assertEqual((run.returncode, said.decode()), (130, "legacy check: interrupted\n"))
-        self.end_of(run.pid)
+        runs.end_of(run.pid)
         found, read = self.resumed()
         self.assertEqual(found, self.rows)
         self.assertLess(len(read), len(self.rows))
@@ -174,27 +152,10 @@ class Runs(unittest.TestCase):
             found.append(row.json())
         self.assertEqual(found, self.rows)
 
-    @unittest.skipUnless(python_with("distributed"), "there is no distributed (Debian's python3-distributed)")
+    @unittest.skipUnless(runs.python_with("distributed"), "there is no distributed (Debian's python3-distributed)")
     def test_a_cluster_of_which_a_worker_is_killed(self):
-        python = python_with("distributed")
-        where = self.top / "scheduler.json"
-        quiet = {"env": ENVIRONMENT, "stdout": subprocess.DEVNULL, "stderr": subprocess.DEVNULL}
-        with contextlib.ExitStack() as ends:
-            def start(*words):
-                process = subprocess.Popen([python, "-m", *words, "--scheduler-file", str(where)], **quiet)
-                ends.callback(process.wait)
-                ends.callback(process.kill)
-                return process
-
-            start("distributed.cli.dask_scheduler", "--host", "127.0.0.1", "--port", "0", "--no-dashboard")
-            until = time.monotonic() + 60
-            while not where.exists() and time.monotonic() < until:
-                time.sleep(0.05)
-            workers = [start("distributed.cli.dask_worker", "--nthreads", "1", "--no-nanny", "--no-dashboard", "--host", "127.0.0.1")
-                       for _ in range(3)]
-            address = json.loads(where.read_text())["address"]
-            waits = f"from distributed import Client; c = Client({address!r}); c.wait_for_workers(3, timeout=60); c.close()"
-            subprocess.run([python, "-c", waits], check=True, **quiet)
+        python = runs.python_with("distributed")
+        with tempfile.TemporaryDirectory() as folder, runs.cluster(python, pathlib.Path(folder), env=ENVIRONMENT) as (address, workers):
             run = subprocess.Popen(
                 command("--dask", address, self.tree, python=python), env=ENVIRONMENT, stdout=subprocess.PIPE, stderr=subprocess.PIPE)
             first = run.stdout.readline()
@@ -205,12 +166,23 @@ class Runs(unittest.TestCase):
                 self.assertEqual((first + rest).decode().splitlines(), self.rows, run.stderr.read().decode()[-2000:])
             self.assertEqual(run.wait(), 2)
 
-    @unittest.skipUnless(python_with("distributed"), "there is no distributed (Debian's python3-distributed)")
+    @unittest.skipUnless(runs.python_with("distributed"), "there is no distributed (Debian's python3-distributed)")
     def test_a_scheduler_that_is_not_there(self):
-        words = command("--dask", "tcp://127.0.0.1:1", self.tree, python=python_with("distributed"))
+        words = command("--dask", "tcp://127.0.0.1:1", self.tree, python=runs.python_with("distributed"))
         ran = subprocess.run(words, env=ENVIRONMENT, stdout=subprocess.PIPE, stderr=subprocess.PIPE)
         self.assertEqual((ran.stdout, ran.returncode), (b"", 2))
         self.assertRegex(ran.stderr.decode(), "\\Alegacy check: no Dask scheduler replies at tcp://127.0.0.1:1: .*\n\\Z")
+
+
+class Paths(unittest.TestCase):
+    def test_workers_of_a_cluster_are_given_no_relative_paths(self):
+        far = settings(dask="tcp://127.0.0.1:1")
+        for act, said in [
+            (lambda: check(["a"], far), "a"), (lambda: convert("utf-8", ["/none"], "out", far), "out"),
+            (lambda: check(["/none"], dataclasses.replace(far, found=far.found._replace(indexes=pathlib.Path("standard")))), "standard"),
+        ]:
+            with self.subTest(said), self.assertRaisesRegex(Missing, f"^--dask: {said} is relative, and workers may run in another folder$"):
+                list(act())
 
 
 class States(Folder):
@@ -249,13 +221,6 @@ class Reading(Folder):
             rows.read(Item(str(self.folder / "a"), 6, 0, "utf-8"))
         with self.assertRaisesRegex(Refusal, "^no file any more$"):
             rows.read(Item("/dev/zero", 6, 0, "utf-8"))
-
-    @unittest.skipIf(os.geteuid() == 0, "root reads what nobody may read")
-    def test_a_file_that_may_not_be_read(self):
-        path = self.file("a", b"closed")
-        os.chmod(path, 0)
-        with self.assertRaises(PermissionError):
-            rows.read(Item(path, 6, 0, "utf-8"))
 
 
 if __name__ == "__main__":

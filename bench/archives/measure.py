@@ -1,11 +1,15 @@
 #!/usr/bin/env python3
-"""Measures `legacy` beside what else reads files in legacy encodings, over a tree that tree.py made, and prints a table.
+"""Measures `legacy` beside what else reads files in legacy encodings, over a tree of tree.py, and prints a table.
 
-    bench/archives/measure.py [--folders N] [--only NAME ..] TOP
+    bench/archives/measure.py [--folders N] [--least BYTES] [--rounds N] [--only NAME ..] TOP
 
-takes the first N folders of TOP/tree (of 250 files each), all without it. `gate` and the index files are those that the
-command `legacy` finds. Others are Debian's: iconv (glibc), file, uchardet, ripgrep; one that isn't installed is left out.
-A row has the files and megabytes a second of wall time, and the megabytes a second of processor time, of all processes."""
+makes the tree, of 20,000 files, where TOP has none, and takes all of its folders, or the first N (of 250 files each), and of
+these all files, or those of so many bytes at least. `gate` and the index files are those that the command `legacy` finds.
+Others are Debian's: iconv (glibc), file, uchardet, ripgrep; one that isn't installed is left out. All files are read once
+before, so that the system has them in memory.
+
+A row has the files and megabytes a second of wall time, and the megabytes a second of processor time, of all processes; of
+several rounds, of the fastest."""
 import argparse
 import os
 import pathlib
@@ -16,7 +20,7 @@ import subprocess
 import sys
 import tempfile
 import time
-from typing import Dict, Iterator, List, Tuple
+from typing import Iterator, List, Optional, Tuple
 
 sys.path.insert(0, str(pathlib.Path(__file__).resolve().parent))
 import tree  # noqa: E402
@@ -53,12 +57,32 @@ def program(name: str) -> str:
     return {"legacy": sys.executable}.get(name.split()[0], name.split()[0])
 
 
-def measured(line: str) -> Tuple[float, float]:
-    """The wall time and the processor time of a command line."""
+def measured(line: str, beside: str) -> Tuple[float, float]:
+    """The wall time and the processor time of a command line; what an earlier one wrote is removed first."""
+    shutil.rmtree(os.path.join(beside, "out"), ignore_errors=True)
     before, since = resource.getrusage(resource.RUSAGE_CHILDREN), time.monotonic()
     subprocess.run(["sh", "-c", line], stdout=subprocess.DEVNULL, stderr=subprocess.DEVNULL, env={**os.environ, "PYTHONPATH": str(CLIENTS)})
     after = resource.getrusage(resource.RUSAGE_CHILDREN)
     return time.monotonic() - since, after.ru_utime + after.ru_stime - before.ru_utime - before.ru_stime
+
+
+def chosen(top: pathlib.Path, count: Optional[int], least: int, beside: pathlib.Path) -> List[pathlib.Path]:
+    """The folders of the tree that are measured; where not all files are, folders of links to those that are."""
+    folders = sorted(it for it in (top / "tree").iterdir() if it.name.isdecimal())[:count]
+    if not least:
+        return folders
+    for folder in folders:
+        (beside / folder.name).mkdir()
+        for it in folder.iterdir():
+            if it.stat().st_size >= least:
+                os.link(it, beside / folder.name / it.name)
+    return [beside / it.name for it in folders]
+
+
+def warmed(folders: List[pathlib.Path]) -> Tuple[int, float]:
+    """Reads all files, and returns how many there are, and their megabytes."""
+    sizes = [len(it.read_bytes()) for folder in folders for it in folder.iterdir()]
+    return len(sizes), sum(sizes) / 1e6
 
 
 def main() -> int:
@@ -66,19 +90,20 @@ def main() -> int:
     parser = argparse.ArgumentParser(description="Measure legacy beside other programs over a tree of files.")
     parser.add_argument("top", metavar="TOP", type=pathlib.Path)
     parser.add_argument("--folders", metavar="N", type=int)
+    parser.add_argument("--least", metavar="BYTES", type=int, default=0)
+    parser.add_argument("--rounds", metavar="N", type=int, default=1)
     parser.add_argument("--only", metavar="NAME", nargs="+", default=[])
     words = parser.parse_args()
-    folders = sorted(it for it in (words.top / "tree").iterdir() if it.name.isdecimal())[: words.folders]
-    sizes: Dict[pathlib.Path, int] = {it: it.stat().st_size for folder in folders for it in folder.iterdir()}
-    count, megabytes = len(sizes), sum(sizes.values()) / 1e6
-    print(f"{count} files, {megabytes:.0f} MB\n\n| | files a second | MB a second | MB a second of a processor |\n| --- | ---: | ---: | ---: |")
-    for path in sizes:
-        path.read_bytes()
+    if not (words.top / "made.jsonl").exists():
+        tree.make(words.top, 20_000)
     rules = (words.top / "words").read_text().split()
-    with tempfile.TemporaryDirectory(dir=words.top) as out:
-        for name, line in commands([str(it) for it in folders], rules, out):
+    with tempfile.TemporaryDirectory(dir=words.top) as beside:
+        folders = chosen(words.top, words.folders, words.least, pathlib.Path(beside))
+        count, megabytes = warmed(folders)
+        print(f"{count} files, {megabytes:.0f} MB\n\n| | files a second | MB a second | MB a second of a processor |\n| --- | ---: | ---: | ---: |")
+        for name, line in commands([str(it) for it in folders], rules, os.path.join(beside, "out")):
             if shutil.which(program(name)) and (not words.only or any(it in name for it in words.only)):
-                wall, used = measured(line)
+                wall, used = min(measured(line, beside) for _ in range(words.rounds))
                 print(f"| `{name}` | {count / wall:.0f} | {megabytes / wall:.0f} | {megabytes / used:.0f} |", flush=True)
     return 0
 

@@ -6,13 +6,15 @@
 writes the files into TOP/tree, and TOP/made.jsonl: of each file its label and size, the places of its errors, its line
 ends, its byte order mark, and the SHA-256 of its text in UTF-8, where it has one. A name ends in the label, so that
 `-e '*.LABEL=LABEL'` is its rule; TOP/words has these words, a line each. Beside the files are things that are none, as a
-FIFO and a link that circles, which made.jsonl has too, each with why.
+FIFO and a link that circles, and files and folders that may not be read, which made.jsonl has too, each with why. What may
+not be read is that of the user who makes the tree: root reads all.
 
 The bytes are those of Python's codecs. Where damage is an error, and which bytes it takes, is as the decoders of the
 Encoding Standard say. With --indexes only characters are used that these index files have, and only encodings that they
 are enough for."""
 import argparse
 import codecs
+import errno
 import hashlib
 import json
 import os
@@ -26,6 +28,9 @@ from typing import Any, Dict, Iterator, List, NamedTuple, Optional, Set, Tuple
 TOO_LARGE = 16_777_216 + 1
 # The files of one folder, at most.
 FOLDER = 250
+# The line ends of a file of one line, and what the system says of a file that may not be read.
+ONE_LF = {"lf": 1, "crlf": 0, "cr": 0}
+DENIED = os.strerror(errno.EACCES)
 
 Places = List[Tuple[int, int]]
 
@@ -177,15 +182,12 @@ def others(top: pathlib.Path) -> Iterator[Dict[str, Any]]:
     folder.mkdir(parents=True)
     marked = folder / "marked.shift_jis"
     marked.write_bytes(codecs.BOM_UTF8 + b"a text\n")
-    yield row(top, marked, "shift_jis", 10, ends={"lf": 1, "crlf": 0, "cr": 0}, mark=3)
+    yield row(top, marked, "shift_jis", 10, ends=ONE_LF, mark=3)
     large = folder / "large.utf-8"
     with large.open("wb") as file:
         file.truncate(TOO_LARGE)
     yield row(top, large, "utf-8", TOO_LARGE, why="the most")
-    closed = folder / "closed.utf-8"
-    closed.write_bytes(b"closed\n")
-    closed.chmod(0)
-    yield row(top, closed, "utf-8", 7, why="" if os.geteuid() == 0 else "Permission denied", ends={"lf": 1, "crlf": 0, "cr": 0})
+    yield from closed(top, folder)
     os.mkfifo(folder / "fifo.utf-8")
     yield row(top, folder / "fifo.utf-8", "", 0, why="a FIFO")
     with socket.socket(socket.AF_UNIX) as made_here:
@@ -200,7 +202,29 @@ def others(top: pathlib.Path) -> Iterator[Dict[str, Any]]:
     yield row(top, folder / "itself", "", 6, why="a symlink")
     named = folder / os.fsdecode(b"\xff\xe9.utf-8")
     named.write_bytes(b"named\n")
-    yield row(top, named, "utf-8", 6, ends={"lf": 1, "crlf": 0, "cr": 0})
+    yield row(top, named, "utf-8", 6, ends=ONE_LF, mark=0)
+    # A damaged file in a folder in which nothing may be written.
+    fixed = folder / "fixed" / "damaged.utf-8"
+    fixed.parent.mkdir()
+    fixed.write_bytes(b"damaged here:\xfe!\n")
+    fixed.parent.chmod(0o555)
+    yield row(top, fixed, "utf-8", 16, errors=[(13, 14)], ends=ONE_LF, mark=0)
+
+
+def closed(top: pathlib.Path, folder: pathlib.Path) -> Iterator[Dict[str, Any]]:
+    """Makes a file that may not be read, a folder whose names alone may be, and one whose names may not; returns the rows of
+    what the user who makes them finds."""
+    file, listed, sealed = folder / "closed.utf-8", folder / "listed" / "text.utf-8", folder / "sealed" / "text.utf-8"
+    for path in file, listed, sealed:
+        path.parent.mkdir(exist_ok=True)
+        path.write_bytes(b"text\n")
+    for path, mode in (file, 0), (listed.parent, 0o444), (sealed.parent, 0):
+        path.chmod(mode)
+    if os.geteuid() == 0:
+        yield from (row(top, it, "utf-8", 5, ends=ONE_LF, mark=0) for it in (file, listed, sealed))
+    else:
+        yield row(top, file, "utf-8", 5, why=DENIED)
+        yield from (row(top, it, "", 0, why=DENIED) for it in (listed, sealed.parent))
 
 
 def row(top: pathlib.Path, path: pathlib.Path, label: str, size: int, **more: Any) -> Dict[str, Any]:

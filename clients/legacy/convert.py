@@ -119,6 +119,7 @@ def convert(
     to: str, trees: Sequence[str], out: str, settings: Settings, mode: str = "fatal", keep_mark: bool = False, exact: bool = False
 ) -> Iterator[Converted]:
     """The rows of all files of these trees, each once the file is written. Raises `Missing` where nothing can be encoded."""
+    settings.look_at([out])
     job = Convert(to, places(trees, out), mode, keep_mark, exact)
     _look_at(to, settings.found)
     for row in work.run(job, trees, settings):

@@ -7,7 +7,7 @@ import os
 from typing import Deque, Iterable, Iterator, List, Optional, Sequence, Tuple
 
 from legacy import finding, rules
-from legacy.finding import Found
+from legacy.finding import Found, Missing
 from legacy.work import pools, progress
 from legacy.work.rows import Item, Job, Row, Task
 from legacy.work.state import State
@@ -39,6 +39,15 @@ class Settings:
         return rules.Rules(
             tree or ".", self.encoding, self.attributes, self.editorconfig, self.default, self.found.labels, patience=60)
 
+    def look_at(self, paths: Sequence[str]) -> None:
+        """Raises `Missing` where workers of a cluster would look for one of these paths, or for the program and its files, in
+        the folder that they run in."""
+        files = [str(it) for it in (self.found.indexes, self.found.labels) if it]
+        programs = [self.found.gate] if os.sep in self.found.gate else []
+        relative = next((it for it in [*paths, *programs, *files] if not os.path.isabs(it)), None)
+        if self.dask and relative is not None:
+            raise Missing(f"--dask: {relative} is relative, and workers may run in another folder")
+
     def pool(self) -> pools.Pool:
         """Who does the work."""
         return pools.dask(self.dask) if self.dask else pools.processes(self.jobs or pools.processors())
@@ -53,7 +62,7 @@ def add_words(parser: argparse.ArgumentParser) -> None:
         " of the same size and time aren't read again")
     group.add_argument(
         "--dask", metavar="SCHEDULER", help="let the workers of a Dask cluster do the work, as tcp://HOST:8786; they see the files by"
-        " the same paths, and have this package and gate")
+        " the same absolute paths, and have this package and gate")
     group.add_argument("--follow", action="store_true", help="follow symlinks in trees, but for those that circle")
     group.add_argument("--no-progress", dest="progress", action="store_false", help="show no line of progress on a terminal")
     rules.add_words(parser)
@@ -77,6 +86,7 @@ def settings_from(words: argparse.Namespace) -> Settings:
 def run(job: Job, trees: Sequence[str], settings: Settings) -> Iterator[Row]:
     """The rows of all entries of these trees, in the order in which they are walked. Raises `Missing` where something that
     all of it needs isn't there."""
+    settings.look_at(trees)
     with contextlib.ExitStack() as kept:
         state = kept.enter_context(State(settings.state, job)) if settings.state else None
         done = kept.enter_context(progress.shown(trees, settings.follow)) if settings.progress else lambda _: None

@@ -58,7 +58,7 @@ def _below(tree: str, follow: bool) -> Iterator[Entry]:
     try:
         open_folders.append((iter(_names(tree, "")), chain))
     except OSError as fault:
-        yield Entry(tree, "", 0, 0, reason(fault))
+        yield Entry(*os.path.split(tree), 0, 0, reason(fault))
     while open_folders:
         names, chain = open_folders[-1]
         inside = next(names, "")
