@@ -1,0 +1,208 @@
+"""The program as it serves live clients, `gate serve`, and clients of it that a test has in hand."""
+import contextlib
+import json
+import os
+import pathlib
+import resource
+import socket
+import statistics
+import struct
+import subprocess
+import tempfile
+import time
+import unittest
+
+from program import PROGRAM, SMALL
+
+# The seconds that one wait may take.
+LIMIT = 30
+
+# How many clients are served at once.
+PLACES = 16
+
+serves = unittest.skipUnless(
+    os.access(PROGRAM, os.X_OK) and subprocess.run([PROGRAM, "help", "serve"], stdout=subprocess.DEVNULL, stderr=subprocess.DEVNULL).returncode == 0,
+    f"the program {PROGRAM} serves no live clients",
+)
+
+
+def free_port():
+    """A port of 127.0.0.1 on which nobody listens."""
+    with socket.create_server(("127.0.0.1", 0)) as it:
+        return it.getsockname()[1]
+
+
+def connected(place):
+    """A connection to a place, the path of a Unix socket or a port, as soon as somebody listens there."""
+    end = time.monotonic() + LIMIT
+    while True:
+        family, address = (socket.AF_INET, ("127.0.0.1", place)) if isinstance(place, int) else (socket.AF_UNIX, place)
+        peer = socket.socket(family)
+        peer.settimeout(LIMIT)
+        try:
+            peer.connect(address)
+            return peer
+        except (ConnectionRefusedError, FileNotFoundError):
+            peer.close()
+            if time.monotonic() > end:
+                raise
+            time.sleep(0.002)
+
+
+def line(op, number=0, **fields):
+    """A command's line."""
+    return json.dumps({"id": number, "op": op, **fields}).encode() + b"\n"
+
+
+def replayed(commands):
+    """What the program, started anew, replies to commands on its standard streams."""
+    lines = b"".join(line(number=number, **command) for number, command in enumerate(commands))
+    ran = subprocess.run([PROGRAM, *SMALL], input=lines, stdout=subprocess.PIPE, check=True)
+    return [json.loads(it) for it in ran.stdout.splitlines()]
+
+
+class Client:
+    """A connection on which a test sends what it likes, and reads replies one by one."""
+
+    def __init__(self, place):
+        self.peer = connected(place)
+        self.replies = self.peer.makefile("rb", 1 << 16)
+
+    def send(self, data):
+        self.peer.sendall(data)
+
+    def reply(self):
+        """The next reply; none where the other end has closed."""
+        came = self.replies.readline()
+        return json.loads(came) if came else None
+
+    def ask(self, op, **fields):
+        """The reply to a command, without its number."""
+        self.send(line(op, **fields))
+        reply = self.reply()
+        reply.pop("id", None)
+        return reply
+
+    def waits(self, seconds):
+        """Whether nothing comes for so long, the end neither. It is asked where no reply is begun."""
+        self.peer.settimeout(seconds)
+        try:
+            self.peer.recv(1, socket.MSG_PEEK)
+            return False
+        except socket.timeout:
+            return True
+        finally:
+            self.peer.settimeout(LIMIT)
+
+    def ends(self):
+        """Says that it sends no more, and returns what still comes."""
+        self.peer.shutdown(socket.SHUT_WR)
+        return self.replies.read()
+
+    def close(self):
+        self.replies.close()
+        self.peer.close()
+
+    def reset(self):
+        """Closes at once: what is still under way is lost."""
+        self.peer.setsockopt(socket.SOL_SOCKET, socket.SO_LINGER, struct.pack("ii", 1, 0))
+        self.close()
+
+    def __enter__(self):
+        return self
+
+    def __exit__(self, *_):
+        self.close()
+
+
+class Server:
+    """The program while it serves at a place."""
+
+    def __init__(self, place, *words, limits=None):
+        """`limits` is what the process does before it becomes the program."""
+        self.place = place
+        named = ["--port", str(place)] if isinstance(place, int) else ["--socket", place]
+        pipes = {"stdin": subprocess.DEVNULL, "stdout": subprocess.PIPE, "stderr": subprocess.PIPE}
+        self.process = subprocess.Popen([PROGRAM, "serve", *SMALL[1:], *named, *words], preexec_fn=limits, **pipes)
+
+    def connect(self):
+        return Client(self.place)
+
+    def ended(self):
+        """Waits until it has ended: its status, and what it wrote."""
+        output, error = self.process.communicate(timeout=LIMIT)
+        return self.process.returncode, output.decode(), error.decode()
+
+    def resident(self):
+        """The resident memory in KiB."""
+        text = pathlib.Path(f"/proc/{self.process.pid}/status").read_text(encoding="ascii")
+        return next(int(it.split()[1]) for it in text.splitlines() if it.startswith("VmRSS:"))
+
+    def descriptors(self):
+        """How many descriptors it has open."""
+        return len(os.listdir(f"/proc/{self.process.pid}/fd"))
+
+    def busy(self):
+        """The processor's time that it has taken, in seconds."""
+        fields = pathlib.Path(f"/proc/{self.process.pid}/stat").read_text(encoding="ascii").rpartition(")")[2].split()
+        return (int(fields[11]) + int(fields[12])) / os.sysconf("SC_CLK_TCK")
+
+    def kill(self):
+        self.process.kill()
+        self.process.communicate()
+
+
+class Serving(unittest.TestCase):
+    """Tests over servers, each of which is gone behind its test."""
+
+    def setUp(self):
+        kept = tempfile.TemporaryDirectory()
+        self.addCleanup(kept.cleanup)
+        self.folder = pathlib.Path(kept.name)
+        self.path = str(self.folder / "socket")
+
+    def serve(self, place, *words, **how):
+        server = Server(place, *words, **how)
+        self.addCleanup(server.kill)
+        return server
+
+    @contextlib.contextmanager
+    def clients(self, server, count=PLACES):
+        """So many clients, each of which is served already."""
+        with contextlib.ExitStack() as kept:
+            them = [kept.enter_context(server.connect()) for _ in range(count)]
+            for client in them:
+                self.assertEqual(client.ask("stat", doc="nobody's"), {"fault": "NoDocument"})
+            yield them
+
+
+def seconds_of(client, count, **command):
+    """How long each of so many commands waits for its reply."""
+    took = []
+    for _ in range(count):
+        begun = time.monotonic()
+        client.ask(**command)
+        took.append(time.monotonic() - begun)
+    return took
+
+
+def usual(took):
+    """The time that most need at the most: 95 of 100."""
+    return statistics.quantiles(took, n=20)[-1]
+
+
+def at_most_files(count):
+    """What a process does so that it has at most so many descriptors."""
+
+    def limits():
+        resource.setrlimit(resource.RLIMIT_NOFILE, (count, count))
+
+    return limits
+
+
+def more_files(count):
+    """Allows this process so many descriptors, if it may have them, and returns what takes that back."""
+    soft, hard = resource.getrlimit(resource.RLIMIT_NOFILE)
+    wanted = count if hard == resource.RLIM_INFINITY else min(count, hard)
+    resource.setrlimit(resource.RLIMIT_NOFILE, (max(soft, wanted), hard))
+    return lambda: resource.setrlimit(resource.RLIMIT_NOFILE, (soft, hard))
