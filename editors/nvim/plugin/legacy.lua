@@ -29,3 +29,12 @@ vim.api.nvim_create_autocmd('BufWriteCmd', {
   pattern = 'legacy://*',
   command = "execute v:lua.require'legacy'.write(str2nr(expand('<abuf>')), expand('<amatch>'), v:cmdbang)",
 })
+
+vim.api.nvim_create_autocmd('VimLeavePre', {
+  group = group,
+  callback = function()
+    if package.loaded.legacy then
+      require('legacy').leave()
+    end
+  end,
+})

@@ -17,6 +17,7 @@ local api = vim.api
 ---@field path string where it is written
 ---@field refusals legacy.Refusal[] what the buffer has and the document can't
 ---@field private history legacy.History
+---@field private written string|nil when the file was written, as far as that was noticed
 ---@field private settings legacy.Settings
 ---@field private disk string|nil the file's bytes when it was last read or written
 ---@field private window integer how many changes go out together
@@ -31,12 +32,16 @@ Buffer.__index = Buffer
 
 local MOST_IN_FLIGHT = 256
 
+---Milliseconds between two looks at what other editors did, and how often an edit is made anew that they were before.
+local LOOK, TRIES = 250, 10
+
 ---Opens a document, by the name that editors use where the label isn't known.
-local function opened(connect, label, bytes, settings)
-  local document, refusal = Document.open(connect, label, bytes, settings.part)
+local function opened(connect, label, path, bytes, settings)
+  local name = settings.socket and vim.fn.sha256(path) or nil
+  local document, refusal = Document.open(connect, label, bytes, settings.part, name)
   local alias = config.aliases[label:lower()]
   if not document and refusal.fault == 'UnknownLabel' and alias then
-    document, refusal = Document.open(connect, alias, bytes, settings.part)
+    document, refusal = Document.open(connect, alias, bytes, settings.part, name)
   end
   if not document then
     error('legacy: ' .. messages.opening(refusal, label, #bytes, settings), 0)
@@ -54,7 +59,7 @@ function Buffer.read(number, label, path, connect)
   local settings = config.get()
   path = (vim.uv or vim.loop).fs_realpath(path) or path
   local disk = file.read(path)
-  local document = opened(connect, label, disk or '', settings)
+  local document = opened(connect, label, path, disk or '', settings)
   local self = setmetatable({
     number = number,
     document = document,
@@ -73,6 +78,12 @@ function Buffer.read(number, label, path, connect)
   self:fill()
   self:attach()
   self:show()
+  if document.shared then
+    self:watch()
+    if self:is_unwritten() then
+      messages.warn('another editor has opened the file, and made edits that it has not written')
+    end
+  end
   return self
 end
 
@@ -84,11 +95,10 @@ function Buffer:fill()
   options.fileformat = self.mirror.line_end == '\r\n' and 'dos' or 'unix'
   -- What is typed into an empty text gets a line end, as in a new file.
   options.fixendofline, options.endofline = false, ended or #self.document.bytes == 0
-  local levels = options.undolevels
-  options.undolevels = -1
-  api.nvim_buf_set_lines(self.number, 0, -1, true, lines)
-  options.undolevels, options.modified = levels, false
-  self.history = History.new(self:undo_tree().seq_cur)
+  self:without_undo(function()
+    api.nvim_buf_set_lines(self.number, 0, -1, true, lines)
+  end)
+  options.modified = self:is_unwritten()
 end
 
 ---@private
@@ -147,6 +157,68 @@ function Buffer:close()
   end
 end
 
+---Looks from time to time at what other editors did.
+---@private
+function Buffer:watch()
+  local timer = (vim.uv or vim.loop).new_timer()
+  timer:start(LOOK, LOOK, vim.schedule_wrap(function()
+    if not self.closed and api.nvim_buf_is_loaded(self.number) then
+      pcall(self.look, self)
+    elseif not timer:is_closing() then
+      timer:close()
+    end
+  end))
+end
+
+---Takes in what other editors did, and sends what was edited here meanwhile. A program that ended is not started for it.
+function Buffer:look()
+  if self.busy or self.document.connection.ended or self:is_inserting() then
+    return
+  end
+  if self.document:has_moved() then
+    self.dirty = true
+    self:sync()
+  elseif not self.dirty then
+    self:notice_write()
+  end
+end
+
+---Whether text is being inserted: that of other editors comes in behind it, since undo couldn't be kept apart.
+---@private
+---@return boolean
+function Buffer:is_inserting()
+  local mode = api.nvim_get_mode().mode
+  return api.nvim_get_current_buf() == self.number and mode:find('^n?[iR]') ~= nil
+end
+
+---Whether the document has other bytes than the file, as it was last read or written.
+---@private
+---@return boolean
+function Buffer:is_unwritten()
+  return self.document.bytes ~= (self.disk or '')
+end
+
+---Notices that another editor has written what the document has.
+---@private
+function Buffer:notice_write()
+  local stat = (vim.uv or vim.loop).fs_stat(self.path)
+  local written = stat and ('%d.%09d'):format(stat.mtime.sec, stat.mtime.nsec)
+  if written ~= self.written and vim.bo[self.number].modified then
+    self.written = written
+    self:is_written(file.read(self.path))
+  end
+end
+
+---Where the file has the document's bytes, all is written.
+---@private
+---@param there string|nil
+function Buffer:is_written(there)
+  if there == self.document.bytes then
+    self.disk = there
+    vim.bo[self.number].modified = #self.refusals > 0
+  end
+end
+
 ---The buffer's text as lines, like those of a mirror. One empty line is an empty text where Neovim says so, or where
 ---the text is empty already: after undo Neovim has forgotten it.
 ---@private
@@ -167,13 +239,22 @@ function Buffer:sync()
   if self.busy or not self.dirty then
     return
   end
-  self.busy, self.dirty = true, false
-  local hint = self.hint
+  self.busy = true
+  local hint, tries = self.hint, TRIES
   self.hint = nil
   local done, why = pcall(function()
-    self:keep_format()
-    self:follow_undo()
-    self:settle(self:send(hint))
+    repeat
+      self.dirty = false
+      self:keep_format()
+      self:follow_undo()
+      local refusals = self:send(hint)
+      if self.document.behind then
+        self:take_in()
+      else
+        self:settle(refusals)
+      end
+      hint, tries = nil, tries - 1
+    until not self.dirty or #self.refusals > 0 or self.document.behind or tries == 0
   end)
   self.busy = false
   if not done then
@@ -207,7 +288,9 @@ function Buffer:follow_undo()
   for i, step in ipairs(steps) do
     splices[i] = step.taken
   end
-  self.document:splice(splices)
+  if not self.document:splice(splices) then
+    return
+  end
   for _, step in ipairs(steps) do
     self.mirror:replace(step.rows)
   end
@@ -292,10 +375,36 @@ function Buffer:send_edits(edits)
         warn_of_copy(edit.text)
       end
     end
+    if self.document.behind then
+      break
+    end
     self.window = all and math.min(self.window * 2, MOST_IN_FLIGHT) or 1
     first = first + #decided
   end
   return refusals
+end
+
+---Takes in what other editors did: their lines come into the buffer, and what was edited here stays, to be sent again,
+---where it is in other lines; else it is kept in a register. Undo doesn't lead back behind it.
+---@private
+function Buffer:take_in()
+  self.dirty = true
+  if self:is_inserting() then
+    return
+  end
+  local old, mine = self.mirror.lines, self:lines()
+  self.mirror, self.refusals = mirrors.new(self.document:refresh()), {}
+  local merged, lost = diff.merged(old, mine, self.mirror.lines)
+  if lost then
+    vim.fn.setreg('"', lost, 'l')
+    messages.warn('taken back, and put into the unnamed register: another editor changed the same lines')
+  end
+  self:without_undo(function(options)
+    options.fileformat = self.mirror.line_end == '\r\n' and 'dos' or 'unix'
+    self:set_lines(merged)
+  end)
+  self.dirty = not vim.deep_equal(merged, self.mirror.lines)
+  vim.bo[self.number].modified = self.dirty or self:is_unwritten()
 end
 
 ---@private
@@ -309,16 +418,18 @@ function Buffer:settle(refusals)
     return
   end
   self.refusals = {}
-  self:take_back()
+  self:set_lines(self.mirror.lines)
   local more = #refusals > 1 and (' (and %d more)'):format(#refusals - 1) or ''
   messages.warn('taken back: ' .. refusals[1].reason .. more)
 end
 
----Makes the buffer's text the document's, in the same undo step.
+---Makes the buffer's text these lines, in the one range that differs and in the same undo step. The cursor stays at its
+---character.
 ---@private
-function Buffer:take_back()
-  local lines, ended = self.mirror:display()
-  local edit = diff.span(api.nvim_buf_get_lines(self.number, 0, -1, true), lines)
+---@param lines string[] like those of a mirror
+function Buffer:set_lines(lines)
+  local shown, ended = mirrors.display(lines)
+  local edit = diff.span(api.nvim_buf_get_lines(self.number, 0, -1, true), shown)
   if edit then
     api.nvim_buf_call(self.number, function()
       pcall(vim.cmd, 'silent! undojoin')
@@ -334,6 +445,18 @@ function Buffer:take_back()
   if #self.document.bytes > 0 then
     vim.bo[self.number].endofline = ended
   end
+end
+
+---Changes the buffer with no way back: undo forgets what was before.
+---@private
+---@param change fun(options: table)
+function Buffer:without_undo(change)
+  local options = vim.bo[self.number]
+  local levels = options.undolevels
+  options.undolevels = -1
+  change(options)
+  options.undolevels = levels
+  self.history = History.new(self:undo_tree().seq_cur)
 end
 
 ---Shows the damaged places.
@@ -360,7 +483,13 @@ end
 ---@param path string|nil
 ---@param forced boolean
 function Buffer:write(path, forced)
+  if self.document.shared then
+    self:look()
+  end
   self:sync()
+  if self.document.behind then
+    error('legacy: not written: another editor changed the document, which comes in behind Insert mode', 0)
+  end
   if #self.refusals > 0 and not forced then
     error(('legacy: not written: %s (add ! to leave it out)'):format(self.refusals[1].reason), 0)
   end
@@ -368,7 +497,7 @@ function Buffer:write(path, forced)
   path = path or self.path
   if not forced then
     local there = file.read(path)
-    if own and there ~= self.disk then
+    if own and there ~= self.disk and not (self.document.shared and there == self.document.bytes) then
       error('legacy: not written: the file has changed since it was read (add ! to overwrite it)', 0)
     elseif not own and there then
       error('legacy: not written: the file exists (add ! to overwrite it)', 0)

@@ -4,6 +4,7 @@ local M = {}
 ---@class legacy.Settings
 ---@field gate string the program
 ---@field indexes string|nil the folder of the index files
+---@field socket string|nil where a program listens that editors share; where it isn't given, each has its own
 ---@field labels string|nil the label file; where it isn't given, `encodings.json` in `indexes`, if it is there
 ---@field refused 'revert'|'mark' what becomes of text that the document can't have
 ---@field timeout integer milliseconds to wait for a reply
@@ -15,6 +16,7 @@ local defaults = {
   gate = nil,
   indexes = nil,
   labels = nil,
+  socket = nil,
   refused = 'revert',
   timeout = 60000,
   -- A command's line has room for 4,194,304 bytes, and base64 makes four of three.
@@ -26,6 +28,7 @@ local TYPES = {
   gate = 'string',
   indexes = 'string',
   labels = 'string',
+  socket = 'string',
   refused = 'string',
   timeout = 'number',
   part = 'number',
@@ -101,19 +104,30 @@ function M.get()
     end
   end
   found.gate = vim.fn.expand(found.gate)
+  found.socket = found.socket and vim.fn.expand(found.socket)
   return found
 end
+
+---How many seconds a program in the background outlives the last editor.
+local IDLE = '60'
+
+---What is no folder has no index files.
+local NO_FOLDER = '/dev/null'
 
 ---The words of the command line that the settings ask for.
 ---@param settings legacy.Settings
 ---@return string[]
 function M.words(settings)
-  if not settings.indexes then
+  if not settings.indexes and not settings.socket then
     return { settings.gate }
   end
-  local words = { settings.gate, 'stdio', '--indexes', settings.indexes }
+  local how = settings.socket and 'serve' or 'stdio'
+  local words = { settings.gate, how, '--indexes', settings.indexes or NO_FOLDER }
   if settings.labels then
     vim.list_extend(words, { '--labels', vim.fn.expand(settings.labels) })
+  end
+  if settings.socket then
+    vim.list_extend(words, { '--socket', settings.socket, '--idle', IDLE })
   end
   return words
 end

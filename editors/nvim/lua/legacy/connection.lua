@@ -1,5 +1,5 @@
----A running `gate`: commands go to its standard input, one a line, and its replies come back in their order.
----Writes are queued and replies are read as they come, so any number of commands can be in flight.
+---A running `gate`: commands go to its standard input or to its socket, one a line, and its replies come back in their
+---order. Writes are queued and replies are read as they come, so any number of commands can be in flight.
 local uv = vim.uv or vim.loop
 
 ---@class legacy.Connection
@@ -11,8 +11,9 @@ local uv = vim.uv or vim.loop
 ---@field private complaint string what the program wrote to standard error
 ---@field private sent integer how many commands were sent
 ---@field private last table[] commands that go out in front of the next ones, and whose replies nobody takes
----@field private process table
----@field private stdin table
+---@field private process table|nil the program, where it is this connection's own
+---@field private stdin table where commands go
+---@field server table|nil the program in the background, where it was started for this connection
 local Connection = {}
 Connection.__index = Connection
 
@@ -31,19 +32,45 @@ function Connection:receive(data)
   end
 end
 
----Reads what the program writes.
----@private
----@param stdout table
----@param stderr table
-function Connection:listen(stdout, stderr)
-  stdout:read_start(function(_, data)
+---@param words string[]
+---@param timeout integer
+---@return legacy.Connection
+function Connection.new(words, timeout)
+  local self = setmetatable({ words = words, timeout = timeout, ended = false }, Connection)
+  self.replies, self.begun, self.complaint, self.sent, self.last = {}, {}, '', 0, {}
+  return self
+end
+
+---Reads replies until there are no more.
+---@param pipe table
+function Connection:listen(pipe)
+  pipe:read_start(function(_, data)
     if data then
       self:receive(data)
     else
-      stdout:close()
       self.ended = true
+      if not pipe:is_closing() then
+        pipe:close()
+      end
     end
   end)
+end
+
+---Starts the program, and returns its process; an error says why it doesn't start.
+---@param streams table[] its standard streams that are pipes, the one for errors last
+---@param options table
+---@param ended fun()
+---@return table
+function Connection:spawn(streams, options, ended)
+  local stderr = streams[#streams]
+  options.args, options.stdio = vim.list_slice(self.words, 2), options.stdio or streams
+  local process, why = uv.spawn(self.words[1], options, ended)
+  if not process then
+    for _, pipe in ipairs(streams) do
+      pipe:close()
+    end
+    error(("legacy: the program '%s' can't be started (%s); the setting 'gate' names it"):format(self.words[1], why), 0)
+  end
   stderr:read_start(function(_, data)
     if data then
       self.complaint = self.complaint .. data
@@ -51,39 +78,38 @@ function Connection:listen(stdout, stderr)
       stderr:close()
     end
   end)
+  return process
 end
 
----Starts the program; an error says why it doesn't start.
+---Starts the program, for this connection alone; an error says why it doesn't start.
 ---@param words string[]
 ---@param timeout integer
 ---@return legacy.Connection
 function Connection.start(words, timeout)
-  local self = setmetatable({ words = words, timeout = timeout, ended = false }, Connection)
-  self.replies, self.begun, self.complaint, self.sent, self.last = {}, {}, '', 0, {}
+  local self = Connection.new(words, timeout)
   local stdin, stdout, stderr = uv.new_pipe(false), uv.new_pipe(false), uv.new_pipe(false)
-  local arguments = vim.list_slice(words, 2)
-  local process, why = uv.spawn(words[1], { args = arguments, stdio = { stdin, stdout, stderr } }, function()
+  self.process = self:spawn({ stdin, stdout, stderr }, {}, function()
     self.ended = true
     self.process:close()
   end)
-  if not process then
-    for _, pipe in ipairs({ stdin, stdout, stderr }) do
-      pipe:close()
-    end
-    error(("legacy: the program '%s' can't be started (%s); the setting 'gate' names it"):format(words[1], why), 0)
-  end
-  self.process, self.stdin = process, stdin
-  self:listen(stdout, stderr)
+  self.stdin = stdin
+  self:listen(stdout)
   return self
 end
 
----Ends the program's input, and so the program.
+---Whether other editors may use the program too.
+---@return boolean
+function Connection:is_shared()
+  return self.process == nil
+end
+
+---Ends the connection, and the program that was started for it.
 function Connection:stop()
   self.ended = true
   if not self.stdin:is_closing() then
     self.stdin:close()
   end
-  if not self.process:is_closing() then
+  if self.process and not self.process:is_closing() then
     self.process:kill('sigterm')
   end
 end
@@ -154,6 +180,12 @@ end
 ---@param ended boolean whether the program ended by itself
 function Connection:fail(ended)
   self:stop()
+  self:complain(ended and 'ended' or 'gave no reply')
+end
+
+---An error by what the program wrote of itself, or by what is known of it.
+---@param what string
+function Connection:complain(what)
   vim.wait(200, function()
     return self.complaint ~= ''
   end, 20, true)
@@ -161,7 +193,6 @@ function Connection:fail(ended)
   if complaint ~= '' then
     error('legacy: ' .. complaint, 0)
   end
-  local what = ended and 'ended' or 'gave no reply'
   error(("legacy: the program '%s' %s"):format(table.concat(self.words, ' '), what), 0)
 end
 

@@ -217,6 +217,29 @@ function M.edits(old, new, hint, coarse)
   return reversed
 end
 
+---What two lists of lines that were made from the same are together. Where both differ from it in lines that meet, it is
+---the other one, and those of the first are returned as well.
+---@param old string[]
+---@param one string[]
+---@param other string[]
+---@return string[] lines
+---@return string[]|nil lost
+function M.merged(old, one, other)
+  local mine, theirs = group_of(old, one, nil), group_of(old, other, nil)
+  if not mine or not theirs or vim.deep_equal(one, other) then
+    return mine and one or other
+  end
+  local row = mine.row
+  if theirs.row + theirs.count <= mine.row and mine.row + mine.count > theirs.row then
+    row = row + theirs.new_count - theirs.count
+  elseif mine.row + mine.count > theirs.row then
+    return other, vim.list_slice(one, mine.new_row + 1, mine.new_row + mine.new_count)
+  end
+  local lines = vim.list_slice(other, 1, row)
+  vim.list_extend(lines, one, mine.new_row + 1, mine.new_row + mine.new_count)
+  return vim.list_extend(lines, other, row + mine.count + 1)
+end
+
 ---The one range in which two lists of lines differ, or nil.
 ---@param old string[]
 ---@param new string[]

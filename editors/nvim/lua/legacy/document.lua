@@ -8,6 +8,9 @@ local splicing = require('legacy.splices')
 ---@field label string
 ---@field bytes string as the program has them
 ---@field encoding string the encoding in force
+---@field shared boolean whether other editors may have it too
+---@field own boolean whether it was opened here
+---@field behind boolean whether another editor has changed it, so that no edit is accepted before `refresh`
 ---@field private rev integer
 ---@field private part integer bytes that one command carries
 ---@field private connect fun(): legacy.Connection
@@ -18,21 +21,31 @@ Document.__index = Document
 ---Code points of the text, and bytes of the document, that one reply brings.
 local PAGE = 1000000
 
-local opened = 0
+local named = 0
 
----Opens a document of these bytes. Returns nil and the reply where it is refused.
+---A name that no other document has.
+---@return string
+local function new_name()
+  named = named + 1
+  return ('%d-%d'):format(vim.fn.getpid(), named)
+end
+
+---Opens a document of these bytes, or joins the one that is open by the name that is given. Returns nil and the reply
+---where it is refused.
 ---@param connect fun(): legacy.Connection returns the connection that lives
 ---@param label string
 ---@param bytes string
 ---@param part integer
+---@param name string|nil what all editors call it that share it; where it is nil, none does
 ---@return legacy.Document|nil, table|nil
-function Document.open(connect, label, bytes, part)
-  opened = opened + 1
+function Document.open(connect, label, bytes, part, name)
   local self = setmetatable({ label = label, bytes = bytes, part = part, connect = connect }, Document)
-  self.name = ('%d-%d'):format(vim.fn.getpid(), opened)
+  self.name, self.shared, self.behind = name or new_name(), name ~= nil, false
   local refusal = self:send(connect())
   if refusal then
     return nil, refusal
+  elseif self.behind then
+    self:refresh()
   end
   return self
 end
@@ -48,7 +61,18 @@ function Document:send(connection)
     local bytes = base64.encode(self.bytes:sub(at + 1, at + self.part))
     commands[#commands + 1] = { op = 'splice', doc = self.name, rev = #commands - 1, at = at, del = 0, bytes = bytes }
   end
-  local replies = connection:ask(commands)
+  local replies
+  if self.shared then
+    -- The splices would be made on another's document.
+    replies = connection:ask({ table.remove(commands, 1) })
+    if replies[1].fault == 'NameTaken' then
+      return self:join(connection)
+    elseif not replies[1].fault then
+      vim.list_extend(replies, connection:ask(commands))
+    end
+  else
+    replies = connection:ask(commands)
+  end
   for i, reply in ipairs(replies) do
     if reply.fault or reply.encoding == 'replacement' then
       if i > 1 or not reply.fault then
@@ -58,7 +82,37 @@ function Document:send(connection)
     end
   end
   local last = replies[#replies]
-  self.connection, self.rev, self.encoding = connection, last.rev, last.encoding
+  self.connection, self.rev, self.encoding, self.own = connection, last.rev, last.encoding, true
+end
+
+---Joins the document that another editor has opened, if it is in the same encoding: what the label names is seen by an
+---empty document.
+---@private
+---@param connection legacy.Connection
+---@return table|nil the reply that is a refusal
+function Document:join(connection)
+  local empty = new_name()
+  local stat, opened = unpack(connection:ask({
+    { op = 'stat', doc = self.name },
+    { op = 'open', doc = empty, label = self.label, bytes = '' },
+    { op = 'close', doc = empty },
+  }))
+  if stat.fault or opened.fault then
+    return stat.fault and stat or opened
+  elseif stat.given ~= opened.encoding then
+    return { fault = 'OtherEncoding', given = stat.given }
+  end
+  self.connection, self.rev, self.encoding, self.own, self.behind = connection, stat.rev, stat.encoding, false, true
+end
+
+---Opens the document on a connection that hasn't got it.
+---@private
+---@param connection legacy.Connection
+function Document:reopen(connection)
+  local refusal = self:send(connection)
+  if refusal then
+    error("legacy: the document can't be opened again: " .. refusal.fault, 0)
+  end
 end
 
 local EDITS = { change = true, splice = true }
@@ -70,19 +124,34 @@ local EDITS = { change = true, splice = true }
 function Document:ask(commands)
   local connection = self.connect()
   if connection ~= self.connection then
-    local refusal = self:send(connection)
-    if refusal then
-      error("legacy: the document can't be opened again: " .. refusal.fault, 0)
-    end
+    self:reopen(connection)
   end
+  local replies = self:send_commands(commands)
+  if self.shared and replies[1].fault == 'NoDocument' then
+    -- Another editor, which had opened it, has closed it.
+    self:reopen(connection)
+    replies = self:send_commands(commands)
+  end
+  return replies
+end
+
+---@private
+---@param commands table[]
+---@return table[]
+function Document:send_commands(commands)
   local rev = self.rev
   for _, command in ipairs(commands) do
     command.doc = self.name
     if EDITS[command.op] then
+      if self.behind then
+        return vim.tbl_map(function()
+          return { fault = 'Stale' }
+        end, commands)
+      end
       command.rev, rev = rev, rev + 1
     end
   end
-  return connection:ask(commands)
+  return self.connection:ask(commands)
 end
 
 ---@private
@@ -115,6 +184,27 @@ function Document:source()
   return table.concat(pages)
 end
 
+---Whether another editor has changed the document since the last reply.
+---@return boolean
+function Document:has_moved()
+  local stat = self:must({ op = 'stat' })
+  self.behind = self.behind or stat.rev ~= self.rev or stat.bytes ~= #self.bytes
+  return self.behind
+end
+
+---Takes the document as another editor has left it.
+---@return string its text in UTF-8
+function Document:refresh()
+  local bytes, text, before, now
+  repeat
+    before = self:must({ op = 'stat' })
+    bytes, text = self:source(), self:text()
+    now = self:must({ op = 'stat' })
+  until now.rev == before.rev and now.bytes == #bytes
+  self.bytes, self.rev, self.encoding, self.behind = bytes, now.rev, now.encoding, false
+  return text
+end
+
 ---Asks for changes of the text, all in flight, each behind its plan, which has the bytes that go out and come in.
 ---Behind a refusal the revisions are wrong, and the changes there are left undecided.
 ---@param changes table[] each with `range` and `text`, in bytes of UTF-8
@@ -130,6 +220,9 @@ function Document:change(changes)
   for i = 2, #replies, 2 do
     local plan, reply = replies[i - 1], replies[i]
     if reply.fault == 'Stale' and #decided > #taken then
+      break
+    elseif reply.fault == 'Stale' and self.shared then
+      self.behind = true
       break
     elseif reply.fault then
       decided[#decided + 1] = reply
@@ -147,8 +240,10 @@ function Document:change(changes)
   return decided
 end
 
----Replaces bytes by bytes, one splice after another, all in flight.
+---Replaces bytes by bytes, one splice after another, all in flight. Where another editor was first, it says no, and the
+---document is `behind`.
 ---@param splices legacy.Splice[]
+---@return boolean
 function Document:splice(splices)
   local commands = {}
   for _, splice in ipairs(splices) do
@@ -165,12 +260,16 @@ function Document:splice(splices)
     until from >= #splice.put
   end
   for _, reply in ipairs(#commands > 0 and self:ask(commands) or {}) do
-    if reply.fault then
+    if reply.fault == 'Stale' and self.shared then
+      self.behind = true
+      return false
+    elseif reply.fault then
       error('legacy: bytes were not put back: ' .. reply.fault, 0)
     end
     self.rev, self.encoding = reply.rev, reply.encoding
   end
   self.bytes = splicing.made(self.bytes, splices)
+  return true
 end
 
 ---@param most integer
@@ -181,9 +280,9 @@ function Document:damage(most)
   return page.diagnostics, page.total
 end
 
----Closes the document, at the latest before the next command.
+---Closes the document, at the latest before the next command. One that another editor opened stays open.
 function Document:close()
-  if not self.connection.ended then
+  if self.own and not self.connection.ended then
     self.connection:later({ op = 'close', doc = self.name })
   end
 end

@@ -3,6 +3,7 @@ local Buffer = require('legacy.buffer')
 local Connection = require('legacy.connection')
 local config = require('legacy.config')
 local messages = require('legacy.messages')
+local server = require('legacy.server')
 
 local M = {}
 
@@ -23,7 +24,8 @@ local function connect()
     connection:stop()
   end
   if not connection or connection.ended then
-    connection = Connection.start(words, settings.timeout)
+    connection = settings.socket and server.connect(words, settings.socket, settings.timeout)
+      or Connection.start(words, settings.timeout)
   end
   return connection
 end
@@ -136,6 +138,16 @@ function M.write(number, name, bang)
     end
     buffer:write(path, bang == 1)
   end))
+end
+
+---Closes the documents of a program that outlives this editor.
+function M.leave()
+  if connection and connection:is_shared() and not connection.ended then
+    for _, buffer in pairs(buffers) do
+      buffer:close()
+    end
+    pcall(connection.ask, connection, {})
+  end
 end
 
 ---The document's side of a buffer; an error where it has none.

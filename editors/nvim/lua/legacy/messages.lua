@@ -69,6 +69,8 @@ function M.opening(reply, label, size, settings)
     return ("'%s' can't be opened: %s"):format(label, no_index(settings))
   elseif reply.fault == 'TooLarge' then
     return ('the file has %d bytes, more than the program takes'):format(size)
+  elseif reply.fault == 'OtherEncoding' then
+    return ('another editor has opened the file, in %s'):format(reply.given)
   elseif reply.fault == 'TooManyDocuments' then
     return 'the program has no room for another document'
   end

@@ -45,13 +45,19 @@ function Mirror:plain()
   return self.returns == 0
 end
 
----The buffer's lines, and whether the last of them has a line end.
+---A buffer's lines for those of a mirror, and whether the last of them has a line end.
+---@param lines string[]
+---@return string[], boolean
+function M.display(lines)
+  if #lines > 1 and lines[#lines] == '' then
+    return vim.list_slice(lines, 1, #lines - 1), true
+  end
+  return lines, false
+end
+
 ---@return string[], boolean
 function Mirror:display()
-  if #self.lines > 1 and self.lines[#self.lines] == '' then
-    return vim.list_slice(self.lines, 1, #self.lines - 1), true
-  end
-  return self.lines, false
+  return M.display(self.lines)
 end
 
 ---Whether a place lies between CR and LF, which the program takes for one line end.

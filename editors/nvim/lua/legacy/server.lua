@@ -1,0 +1,77 @@
+---A `gate` that serves many editors at a Unix socket: one that listens there, or one that is started in the background and
+---ends when nobody has been connected for a while.
+local Connection = require('legacy.connection')
+local uv = vim.uv or vim.loop
+
+local M = {}
+
+---Milliseconds between two tries to connect.
+local PAUSE = 10
+
+---@param path string
+---@return table|nil pipe to who listens there
+---@return string|nil why there is none
+local function connected(path)
+  local pipe, done, why = uv.new_pipe(false), false, nil
+  pipe:connect(path, function(fault)
+    done, why = true, fault
+  end)
+  vim.wait(1000, function()
+    return done
+  end, PAUSE, true)
+  if done and not why then
+    return pipe
+  end
+  pipe:close()
+  return nil, why or 'ETIMEDOUT'
+end
+
+---Starts a server that lives on when this editor ends, and connects to who listens first: where two editors start at
+---once, one of two servers is refused the place.
+---@param connection legacy.Connection
+---@param path string
+---@return table pipe
+local function started(connection, path)
+  local ended, stderr = false, uv.new_pipe(false)
+  local options = { stdio = { nil, nil, stderr }, detached = true }
+  local process
+  process = connection:spawn({ stderr }, options, function()
+    ended = true
+    process:close()
+  end)
+  process:unref()
+  stderr:unref()
+  connection.server = process
+  local last, pipe = uv.now() + connection.timeout, nil
+  repeat
+    local over = ended or uv.now() > last
+    pipe = connected(path)
+    if not pipe then
+      if over then
+        connection:complain('does not listen at ' .. path)
+      end
+      vim.wait(PAUSE, function()
+        return ended
+      end, PAUSE, true)
+    end
+  until pipe
+  return pipe
+end
+
+---Connects to the server at a path, which is started where none listens.
+---@param words string[] the command line that starts it
+---@param path string
+---@param timeout integer
+---@return legacy.Connection
+function M.connect(words, path, timeout)
+  local connection = Connection.new(words, timeout)
+  local pipe, why = connected(path)
+  if not pipe and not (why:find('ENOENT') or why:find('ECONNREFUSED')) then
+    error(("legacy: the socket '%s' can't be used (%s)"):format(path, why), 0)
+  end
+  connection.stdin = pipe or started(connection, path)
+  connection:listen(connection.stdin)
+  return connection
+end
+
+return M
