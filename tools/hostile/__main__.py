@@ -30,7 +30,7 @@ def arguments():
     parser.add_argument("--connections", type=int, default=10000, help="how many connections are made one after another (%(default)s)")
     given = parser.parse_args()
     if not os.access(given.program, os.X_OK):
-        parser.error(f"there is no program {given.program}; 'rt ci' builds it")
+        parser.error(f"there is no program {given.program}; 'tools/build' builds it")
     if given.connections < peers.WARM + 2:
         parser.error(f"--connections takes a number above {peers.WARM + 1}")
     return given

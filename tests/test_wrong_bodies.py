@@ -1,0 +1,126 @@
+"""tools/wrong_bodies.py and .ci/judge, with commands of these tests in the place of the toolchain's."""
+import os
+import pathlib
+import shutil
+import subprocess
+import tempfile
+import unittest
+
+from program import TOP
+
+SOURCE = """pub fn one() -> u8
+    ensures { result == 1 }
+{
+    1
+}
+
+impl<T: Fn(u8) -> u8> Twice for Pair<T> {
+    fn two(&self) -> u8 {
+        one() + 1
+    }
+
+    fn three(&self) -> u8 {
+        self.two() + 1
+    }
+}
+
+const LIMIT: u8 = 4;
+"""
+
+# Refuses a function in whose lines there is a 9, or LIMIT where that is 9, and says of those that call it that it isn't
+# proved. It knows a function by its name alone.
+RATTLE = r"""#!/usr/bin/env python3
+import pathlib, re, sys
+text = pathlib.Path("src/lib.rt").read_text()
+bodies = dict(zip(("one", "two", "three"), re.split(r"fn \w+\(", text.partition("const")[0])[1:]))
+bad = {name for name, body in bodies.items() if "9" in body} | ({"three"} if "LIMIT: u8 = 9" in text else set())
+only = [it.split("::")[-1] for at, it in enumerate(sys.argv) if sys.argv[at - 1] == "--only"] or list(bodies)
+with open(pathlib.Path(sys.argv[0]).parent / "checks", "a") as it:
+    it.write(" ".join(sorted(only)) + "\n")
+names = {"one": "low::one", "two": "low::PairTwice::two", "three": "low::PairTwice::three"}
+for name in only:
+    if name in bad:
+        print(f"note: src/lib.rt:1:1: it is not proved that {name} ensures what it says")
+        print(f"fn {names[name]}: no proof: expected answers in ./proofs/{name}/Answers.antt")
+    elif name == "two" and "one" in bad:
+        print(f"fn {names[name]}: no proof: it calls `low::one`, which is not proved")
+    else:
+        print(f"fn {names[name]}: proved")
+print("only=1 proved=1" if "--only" in sys.argv else f"logic={'not-proved' if bad else 'proved'}")
+"""
+
+RT = """#!/bin/bash
+case "$1" in
+  doc) echo "$(dirname "$0")/kit/START-HERE.md" ;;
+  ci) echo "rt: low proved"; mkdir -p crates/gate/out; echo built > crates/gate/out/gate; echo "${SAYS:-2 passed, 0 failed}"; exit "${STATUS:-0}" ;;
+esac
+"""
+
+
+class Bodies(unittest.TestCase):
+    def setUp(self):
+        kept = tempfile.TemporaryDirectory()
+        self.addCleanup(kept.cleanup)
+        self.top = pathlib.Path(kept.name)
+        for name in "tools", ".ci":
+            shutil.copytree(TOP / name, self.top / name, ignore=shutil.ignore_patterns("__pycache__"))
+        for name in "crates/low/src", "crates/low/must-fail", "crates/gate/src", "kit/bin":
+            (self.top / name).mkdir(parents=True)
+        (self.top / "crates.txt").write_text("low:\ngate: low\n")
+        (self.top / "HANDLES").touch()
+        (self.top / "crates/low/src/lib.rt").write_text(SOURCE)
+        for path, text in ("rt", RT), ("kit/bin/rattle", RATTLE):
+            (self.top / path).write_text(text)
+            (self.top / path).chmod(0o755)
+
+    def judged(self, status, crate="low", says="2 passed, 0 failed", rt_status=0, **edits):
+        """What the judge says with these edits, each an old text and a new one and maybe a line more, and which functions
+        each check was of."""
+        for name, (old, new, *more) in edits.items():
+            path = self.top / "crates" / crate / "must-fail" / f"{name}.edit"
+            path.parent.mkdir(exist_ok=True)
+            path.write_text("".join(f"{it}\n" for it in [*more, "file: src/lib.rt", f"old: {old}", f"new: {new}"]))
+        environment = {**os.environ, "PATH": f"{self.top}:{os.environ['PATH']}", "SAYS": says, "STATUS": str(rt_status)}
+        ran = subprocess.run([self.top / ".ci" / "judge"], env=environment, stdout=subprocess.PIPE, stderr=subprocess.PIPE)
+        self.assertEqual((ran.returncode, ran.stderr), (status, b""), ran.stdout)
+        checks = self.top / "kit" / "bin" / "checks"
+        return ran.stdout.decode(), checks.read_text().splitlines() if checks.exists() else []
+
+    def test_those_of_functions_of_their_own_are_tried_together(self):
+        said, checks = self.judged(0, a=("    1", "    9"), b=("self.two() + 1", "self.two() + 9"))
+        self.assertEqual(checks, ["one three"])
+        self.assertIn("wrong body low/a.edit: refused: low::one: src/lib.rt:1:1: it is not proved that one", said)
+        self.assertTrue(said.endswith("\n4 passed, 0 failed\n"), said)
+
+    def test_two_of_one_function_take_a_check_each(self):
+        said, checks = self.judged(0, a=("one() + 1", "one() + 9"), b=("        one()", "        9 + one()"))
+        self.assertEqual(checks, ["two", "two"])
+        self.assertTrue(said.endswith("\n4 passed, 0 failed\n"), said)
+
+    def test_what_is_refused_for_a_function_that_it_calls_is_tried_alone(self):
+        said, checks = self.judged(1, a=("    1", "    9"), b=("one() + 1", "one() + 1 + 0"))
+        self.assertEqual(checks, ["one two", "two", "one three two"])
+        self.assertIn("wrong body low/b.edit: NOT REFUSED: the crate is still proved with it\n", said)
+        self.assertTrue(said.endswith("\n3 passed, 1 failed\n"), said)
+
+    def test_one_outside_of_functions_takes_a_check_of_the_crate_or_names_one(self):
+        said, checks = self.judged(0, a=("= 4", "= 9"), b=("u8 = 4", "u8 = 9", "in: PairTwice::three"))
+        self.assertEqual(checks, ["one three two", "three"])
+        self.assertIn("wrong body low/a.edit: refused: by a check of the whole crate, for want of a line 'in: FUNCTION'", said)
+        self.assertIn("wrong body low/b.edit: refused: low::PairTwice::three: ", said)
+
+    def test_one_that_cannot_be_made_fails(self):
+        said, _ = self.judged(1, a=("nothing", "9"))
+        self.assertIn("wrong body low/a.edit: NOT REFUSED: it can't be made: what it replaces doesn't stand there once: nothing", said)
+
+    def test_the_program_is_put_where_it_is_looked_for(self):
+        self.judged(0)
+        self.assertEqual((self.top / "crates/gate/out/gate").read_text(), "built\n")
+
+    def test_a_crate_that_is_not_proved_fails_and_so_do_the_bodies_above_it(self):
+        said, _ = self.judged(1, crate="gate", says="1 passed, 1 failed", rt_status=1, a=("x", "y"))
+        self.assertTrue(said.endswith("\n1 passed, 2 failed\n"), said)
+
+
+if __name__ == "__main__":
+    unittest.main()

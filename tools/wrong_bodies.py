@@ -1,0 +1,236 @@
+"""Wrong bodies of a crate, each an edit of its sources that the prover must refuse, tried together.
+
+An edit turns a function or two. Those that turn functions of their own are laid into one copy of the crate, and of this
+the prover checks these functions and what they call, and no more. A proof stands on the contracts of what its function
+calls, and not on their bodies: so one wrong body can't have another refused. An edit is refused where the prover refuses
+a function that it turns, for a reason of that function's own, and not since one that it calls isn't proved. Whatever
+isn't seen to be refused so is tried alone: first by these functions, then by a check of the whole crate."""
+import functools
+import pathlib
+import re
+import shutil
+import subprocess
+import tempfile
+from typing import Iterator, List, NamedTuple, Optional, Sequence, Set, Tuple
+
+from crates import TOP, below, libraries, own_libraries
+
+# What a crate is made of.
+PARTS = ("src", "specs", "proofs")
+ROOTS = ("lib", "main")
+FUNCTION = re.compile(r"( *)(?:pub(?:\([^)]*\))? )?(?:const )?(?:unsafe )?fn (\w+)")
+OWNER = re.compile(r"(?:pub )?(?:unsafe )?(?:impl|trait)\b")
+# What the prover says of a function, behind its goals that aren't proved.
+SAID = re.compile(r"fn (\S+): (proved|not proved|no proof|could not tell)\b")
+GOAL = re.compile(r"note: (\S+: it is not proved that .*)")
+ERROR = re.compile(r"(?:\./)?proofs/(\S+)/\w+\.antt:\d+:\d+: error: (.*)")
+# An error of a proof that names what an edit took away.
+NAMES = re.compile(r"has no field|is not in scope|has no `|was not admitted")
+SEVERAL = re.compile(r"several functions are named `([^`]*)`: help: write one of (.*)")
+
+
+class BadEdit(Exception):
+    """Why an edit can't be laid into the sources."""
+
+
+class Function(NamedTuple):
+    """A function, by its name and that of what it stands in, as the prover names it: a type, with a trait's name behind it
+    in an impl of the trait, or a file."""
+
+    name: str
+    owner: str
+
+    def fits(self, names: Sequence[str]) -> bool:
+        """Whether these are the names from the crate's root down to this function."""
+        return [self.owner, self.name] == list(names[-2:])
+
+
+def owner_of(head: str) -> str:
+    """The name of a type, by the first line of its `impl`, or of a trait by that of its declaration."""
+    bare = head.replace("->", "")
+    while bare != (bare := re.sub(r"<[^<>]*>", "", bare)):
+        pass
+    of, trait = re.sub(r".*\b(?:impl|trait) +(?:([\w:]+) for )?[&]?([\w:]+).*", r"\2 \1", bare).split(" ")
+    return of.rpartition("::")[2] + trait.rpartition("::")[2]
+
+
+class Edit:
+    """A wrong body: the texts that it replaces, each with its file, and the functions that these stand in."""
+
+    def __init__(self, path: pathlib.Path, crate: pathlib.Path) -> None:
+        self.path = path
+        self.texts: List[Tuple[str, str, str]] = []
+        self.functions: Set[Function] = set()
+        file = old = ""
+        for line in path.read_text(encoding="utf-8").splitlines():
+            word, _, rest = line.partition(": ")
+            if word == "file":
+                file = rest.strip()
+            elif word == "old":
+                old = rest
+            elif word in ("new", "new:"):
+                self.texts.append((file, old, rest))
+            elif word == "in":
+                # (where the function that is refused isn't the one in which the text stands)
+                owner, _, name = rest.strip().rpartition("::")
+                self.functions.add(Function(name, owner))
+        named = bool(self.functions)
+        for file, text, at in self.steps(crate):
+            module = pathlib.Path(file).stem
+            self.functions.update([] if named else function_at(text, at, crate.name if module in ROOTS else module))
+
+    def steps(self, crate: pathlib.Path) -> Iterator[Tuple[str, str, int]]:
+        """Each file that it changes, with its text before and the place of the change; behind the last all is written."""
+        sources = {it: (crate / it).read_text(encoding="utf-8") for it, _, _ in self.texts}
+        for file, old, new in self.texts:
+            if not old or sources[file].count(old) != 1:
+                raise BadEdit(f"what it replaces doesn't stand there once: {old}")
+            yield file, sources[file], sources[file].index(old)
+            sources[file] = sources[file].replace(old, new)
+        self.edited = sources
+
+    def lay(self, crate: pathlib.Path) -> None:
+        """Writes it into the copy of a crate."""
+        for _ in self.steps(crate):
+            pass
+        for file, text in self.edited.items():
+            (crate / file).write_text(text, encoding="utf-8")
+
+
+def function_at(text: str, at: int, module: str) -> List[Function]:
+    """The function in whose lines a place of a source stands, by how these are indented; none where it stands in none."""
+    number, lines = text.count("\n", 0, at), text.split("\n")
+    depth = len(lines[number]) - len(lines[number].lstrip())
+    for above in range(number, -1, -1):
+        head = FUNCTION.match(lines[above])
+        if head and (above == number or len(head[1]) < depth):
+            owners = [owner_of(it) for it in lines[:above] if OWNER.match(it)] if head[1] else [module]
+            return [Function(head[2], owners[-1])]
+        if lines[above] and not lines[above].startswith((" ", "{", "}", ")")):
+            break
+    return []
+
+
+@functools.lru_cache(maxsize=None)
+def kit() -> pathlib.Path:
+    """The toolchain's folder: that of the page that its command names first."""
+    return pathlib.Path(subprocess.run(["rt", "doc"], stdout=subprocess.PIPE, check=True).stdout.decode().strip()).parent
+
+
+class Tried(NamedTuple):
+    """What came of an edit: whether the prover refused it, and its words."""
+
+    edit: pathlib.Path
+    refused: bool
+    said: str
+
+
+class Trial:
+    """The wrong bodies of one crate, over the libraries that it stands on, which are built in the folders of `room`."""
+
+    def __init__(self, crate: str, edits: List[pathlib.Path], room: pathlib.Path) -> None:
+        self.crate, self.edits, toolchain = crate, edits, kit()
+        built = {it: room / "crates" / it / "out" / "rlib" for it in below(crate)}
+        root = "main.rt" if (TOP / "crates" / crate / "src" / "main.rt").exists() else "lib.rt"
+        own = own_libraries()[crate]
+        # (behind the proofs, for which most else waits)
+        self.words = ["nice", "-n19", str(toolchain / "bin" / "rattle"), "check", "--crate-name", crate, f"src/{root}", "-L", f"dependency={toolchain}/rlibs"]
+        for it in ["std", *(it for it in libraries()[crate] if it not in own)]:
+            self.words += ["--extern", f"{it}={toolchain}/rlibs/{it}.rlib"]
+        for it, folder in built.items():
+            self.words += ["--extern", f"{it}={folder}/{it}.rlib"] if it in own else []
+            self.words += ["-L", f"dependency={folder}"]
+        self.words += ["--antt-project", f"{toolchain}/rattle/logic/antt-project.json", "--logic-built", f"{toolchain}/logic_built", "--jobs", "1"]
+
+    def tried(self) -> Iterator[Tried]:
+        """Tries each edit, together where it can be."""
+        left = []
+        for path in self.edits:
+            try:
+                left.append(Edit(path, TOP / "crates" / self.crate))
+            except (BadEdit, OSError) as fault:
+                yield Tried(path, False, f"it can't be made: {fault}")
+        while left:
+            these, left, said = self.together(left)
+            for edit in these:
+                reason = refused(said, edit.functions)
+                yield Tried(edit.path, True, reason) if reason else self.alone(edit)
+
+    def together(self, edits: List[Edit]) -> Tuple[List[Edit], List[Edit], str]:
+        """Tries the first of these and each other that turns functions of its own: gives those, the others, and what the
+        prover says."""
+        with self.copied() as folder:
+            these: List[Edit] = []
+            left: List[Edit] = []
+            turned: Set[Function] = set()
+            for edit in edits:
+                try:
+                    if edit.functions & turned:
+                        raise BadEdit("another stands in its function")
+                    edit.lay(pathlib.Path(folder))
+                    these.append(edit)
+                    turned |= edit.functions
+                except BadEdit:
+                    left.append(edit)
+            return these, left, self.checked(pathlib.Path(folder), turned)
+
+    def alone(self, edit: Edit) -> Tried:
+        """Tries one edit, first by its functions, then by a check of the whole crate."""
+        with self.copied() as folder:
+            edit.lay(pathlib.Path(folder))
+            reason = refused(self.checked(pathlib.Path(folder), edit.functions), edit.functions)
+            if reason:
+                return Tried(edit.path, True, reason)
+            said = self.ran(pathlib.Path(folder), [])
+        if "\nlogic=not-proved" not in said:
+            return Tried(edit.path, False, "the crate is still proved with it" if "\nlogic=proved" in said else f"there is no verdict: {said[-600:]}")
+        first = next((it for it in said.split("\n") if ERROR.match(it) or "it is not proved that" in it), "")
+        return Tried(edit.path, True, f"by a check of the whole crate, for want of a line 'in: FUNCTION': {first[:160]}")
+
+    def copied(self) -> "tempfile.TemporaryDirectory[str]":
+        """A copy of the crate."""
+        room = tempfile.TemporaryDirectory(prefix="wrong-bodies-")
+        for part in PARTS:
+            if (TOP / "crates" / self.crate / part).is_dir():
+                shutil.copytree(TOP / "crates" / self.crate / part, pathlib.Path(room.name, part))
+        return room
+
+    def checked(self, folder: pathlib.Path, functions: Set[Function]) -> str:
+        """What the prover says of these functions of a copy, whose names it may know several functions by."""
+        if not functions:
+            return ""
+        names = {it: [it.name] for it in functions}
+        while True:
+            said = self.ran(folder, sorted({name for it in names.values() for name in it}))
+            several = SEVERAL.search(said)
+            if not several:
+                return said
+            known = re.findall(r"`([^`]*)`", several[2])
+            for it in functions:
+                if names[it] == [several[1]]:
+                    names[it] = [full for full in known if it.fits(full.split("::"))] or known
+
+    def ran(self, folder: pathlib.Path, only: List[str]) -> str:
+        words = [*self.words, *(word for it in only for word in ("--only", it))]
+        ran = subprocess.run(words, cwd=folder, stdin=subprocess.DEVNULL, stdout=subprocess.PIPE, stderr=subprocess.STDOUT, errors="replace", check=False)
+        return ran.stdout
+
+
+def refused(said: str, functions: Set[Function]) -> Optional[str]:
+    """Why the prover refuses one of the functions, for a reason of its own."""
+    if not re.search(r"^only=", said, re.MULTILINE):
+        return None
+    errors = [(it[1].split("/"), it[2]) for it in map(ERROR.match, said.split("\n")) if it and not NAMES.search(it[2])]
+    goals: List[str] = []
+    for line in said.split("\n"):
+        found = SAID.match(line)
+        if not found:
+            goals += GOAL.findall(line)
+            continue
+        name, verdict = found.groups()
+        turned = [it for it in functions if it.fits(name.split("::"))]
+        why = [what for at, what in errors if any(it.fits(at) for it in turned)] + goals
+        if verdict in ("not proved", "no proof") and turned and why:
+            return f"{name}: {why[0][:160]}"
+        goals = []
+    return None
