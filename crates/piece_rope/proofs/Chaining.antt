@@ -1,5 +1,5 @@
 -- Chains of pieces, taken apart and put together.
-use Rattle.std.proofs.Common.{◌≡◌, ◌≢◌, refl, sym, ap, ◌∙◌, subst, ℕ, zero, suc, ◌+◌, ◌≤◌, false, List, [], ◌∷◌, ◌++◌, take, drop, length, slice_get, Some, arith, append-nil, take-append-drop, length-append}
+use Rattle.std.proofs.Common.{◌≡◌, ◌≢◌, refl, sym, ap, ◌∙◌, subst, Bool, ℕ, zero, suc, ◌+◌, ◌≤◌, true, false, List, [], ◌∷◌, ◌++◌, take, drop, length, slice_get, Some, arith, append-nil, take-append-drop, length-append}
 use Rattle.piece_rope.proofs.Prelude.{flat_map-append, length-take-le, slice_get_within, feed, AnyDecoding, AnyState, any, same_state}
 use Rattle.piece_rope.proofs.Prelude.{Entry, LastDiffers, Passed, IsOwn, IsRenewed, Chain, AreRenewed, bytes_of, state_after, renew, renewed}
 use Rattle.piece_rope.proofs.Lists.{take-next, length-snoc}
@@ -114,11 +114,14 @@ module _ (d : AnyDecoding) (laws : Laws d) where
       cc (length-snoc rs more r more_is, take-next ps (length rs) p at, more_renewed, renew-same p r same) in
       rw whole (chain-append entry (renewed front rs) (r ∷ []) chain (cc (renewed-bytes front rs), own, tt))
 
+  pub differs : (a b : AnyState) → same_state a b ≡ false → a ≢ b
+  differs a b f e = cc (laws.same b)
+
   pub differs-here : (entry state : AnyState) (ps : List Entry) (n count : ℕ) (p : Entry) → count ≡ suc n → slice_get ps n ≡ Some p → state ≡ state_after d entry (take n ps)
       → p.entry ≢ state → LastDiffers d entry ps count
   differs-here entry state ps n count p count_is at state_is ne j q e there same = let k : j ≡ n = omega (arith, e, count_is) in ne (cc)
 
-  pub passed-more : (entry state : AnyState) (ps : List Entry) (n : ℕ) (p : Entry) (old mid new : ℕ) → slice_get ps n ≡ Some p → state ≡ state_after d entry (take n ps)
+  passed-more : (entry state : AnyState) (ps : List Entry) (n : ℕ) (p : Entry) (old mid new : ℕ) → slice_get ps n ≡ Some p → state ≡ state_after d entry (take n ps)
       → p.entry ≢ state → mid ≤ old + length (bytes_of (take n ps)) → new ≤ mid + length p.piece.bytes → Passed d entry ps old new
   passed-more entry state ps n p old mid new at state_is ne most here = record {
     count = suc n;
@@ -126,6 +129,15 @@ module _ (d : AnyDecoding) (laws : Laws d) where
     differs = differs-here entry state ps n (suc n) p refl at state_is ne;
     most = omega (arith, most, here, bytes-next ps n p at);
   }
+
+  -- the meter behind one more piece, which costs nothing where it was entered in the new state
+  pub passed-on : (b : Bool) (entry state : AnyState) (ps : List Entry) (n : ℕ) (p : Entry) (old mid new : ℕ) → same_state p.entry state ≡ b → slice_get ps n ≡ Some p
+      → state ≡ state_after d entry (take n ps) → Passed d entry ps old mid → mid ≤ old + length (bytes_of (take n ps))
+      → (p.entry ≡ state → new ≡ mid) → new ≤ mid + length p.piece.bytes → Passed d entry ps old new
+  passed-on true entry state ps n p old mid new same at state_is passed most free here =
+      subst (λ (m : ℕ). Passed d entry ps old m) (sym (free (laws.exact p.entry state same))) passed
+  passed-on false entry state ps n p old mid new unequal at state_is passed most free here =
+      passed-more entry state ps n p old mid new at state_is (differs p.entry state unequal) most here
 
   -- the rest is as it was
   pub rest-chains : (entry from : AnyState) (ps : List Entry) (p : Entry) (rs : List Entry) → slice_get ps (length rs) ≡ Some p → Chain d from ps
@@ -141,6 +153,3 @@ module _ (d : AnyDecoding) (laws : Laws d) where
   pub same-end : (entry from : AnyState) (ps : List Entry) (n : ℕ) → state_after d from (take n ps) ≡ state_after d entry (take n ps)
       → state_after d from ps ≡ state_after d entry ps
   same-end entry from ps n same = cc (state-drop from n ps, state-drop entry n ps)
-
-  pub differs : (a b : AnyState) → same_state a b ≡ false → a ≢ b
-  differs a b f e = cc (laws.same b)

@@ -1,8 +1,8 @@
 //! What becomes of the pieces behind an edit.
-ghost use Rattle.std.specs.Prelude.{◌≡◌, ◌+◌, ◌≤◌, length, drop, IfOk};
-ghost use Rattle.piece_rope.specs.Chain.{Chain, AreRenewed, renewed, state_after};
+ghost use Rattle.std.specs.Prelude.{◌≡◌, ◌+◌, ◌≤◌, length, drop, IfOk, IfSome, IfNone};
+ghost use Rattle.piece_rope.specs.Chain.{Chain, AreRenewed, IsOwn, renewed, state_after};
 ghost use Rattle.piece_rope.specs.Laws.{IsLawful};
-ghost use Rattle.piece_rope.specs.Resync.{Passed, Behind};
+ghost use Rattle.piece_rope.specs.Resync.{Passed, Behind, IsRenewal};
 
 use crate::entered::Entered;
 use crate::pieces::Pieces;
@@ -14,6 +14,31 @@ use std::alloc::{AllocError, Global};
 pub(crate) struct Later {
     pub renewals: Vec<Entered>,
     pub exit: AnyState,
+}
+
+/// The piece entered in `state`, and the state behind it then. `None` where it is the state in which
+/// it was entered before, and then nothing is decoded.
+#[tactic(auto, unfolding(crate::specs::Laws::IsLawful))]
+fn renewal(
+    alloc: Global,
+    decoder: &AnyDecoder<'_>,
+    piece: &Entered,
+    state: AnyState,
+    meter: &mut Meter,
+) -> Result<Option<(Entered, AnyState)>, OutOfMemory>
+    requires lawful { IsLawful decoder.now }
+    requires own { IsOwn decoder.now piece.now }
+    ensures none { IfOk result (λ r. IfNone r (piece.now.entry ≡ state)) }
+    ensures some { IfOk result (λ r. IfSome r (λ to. IsRenewal decoder.now piece.now state to.0 to.1)) }
+    ensures meter { piece.now.entry ≡ state → meter.new ≡ meter.old }
+    ensures meter_most { meter.new ≤ meter.old + length piece.now.piece.bytes }
+    ensures meter_least { meter.old ≤ meter.new }
+{
+    if piece.entry() == state {
+        return Ok(None);
+    }
+    let renewed = piece.renewed(alloc, decoder, state, meter)?;
+    Ok(Some(renewed))
 }
 
 /// Continues over the pieces from number `first`, the first of which is now entered in `entry`,
@@ -43,13 +68,12 @@ pub(crate) fn renewals_from(
     let mut index = first;
     'pieces: while index < pieces.len() {
         let piece = pieces.get(index);
-        if piece.entry() == state {
+        let Some((renewed, exit)) = renewal(alloc, decoder, piece, state, meter)? else {
             return Ok(Later {
                 renewals,
                 exit: end,
             });
-        }
-        let (renewed, exit) = piece.renewed(alloc, decoder, state, meter)?;
+        };
         renewals.push(renewed).map_err(AllocError::from)?;
         state = exit;
         index += 1;

@@ -1,4 +1,4 @@
-use Rattle.piece_rope.proofs.Prelude.{◌≡◌, ◌+◌, ◌-◌, ◌≤◌, length, take, drop, Chain, AreRenewed, renewed, state_after, bytes_of, LastDiffers}
+use Rattle.piece_rope.proofs.Prelude.{◌≡◌, ◌+◌, ◌-◌, ◌≤◌, length, take, drop, Chain, AreRenewed, renewed, state_after, bytes_of, Passed}
 use Rattle.piece_rope.proofs.later.renewals_from.Given as goal
 
 abbrev pub invariant-pieces : goal.invariant-pieces
@@ -8,7 +8,7 @@ invariant-pieces l = record {
   kept : AreRenewed (drop l.first l.pieces.items) l.renewals.items;
   chain : Chain l.decoder l.fn.entry (renewed (take (length l.renewals.items) (drop l.first l.pieces.items)) l.renewals.items);
   state : l.state ≡ state_after l.decoder l.fn.entry (take (length l.renewals.items) (drop l.first l.pieces.items));
-  differs : LastDiffers l.decoder l.fn.entry (drop l.first l.pieces.items) (length l.renewals.items);
+  passed : Passed l.decoder l.fn.entry (drop l.first l.pieces.items) l.fn.meter l.meter;
   most : l.meter ≤ l.fn.meter + length (bytes_of (take (length l.renewals.items) (drop l.first l.pieces.items)));
   least : l.fn.meter ≤ l.meter;
 }
