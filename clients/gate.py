@@ -180,26 +180,31 @@ class Gate:
 
     def send(self, op: str, **fields: Any) -> Reply:
         """Sends a command, and returns its `Reply` without waiting for it. A field that is bytes is sent as base64."""
-        return self.send_all(op, [fields])[0]
+        return self._send([_begun(op, fields)])[0]
 
-    def send_all(self, op: str, listed: Sequence[Members]) -> List[Reply]:
-        """Sends commands of one kind, each with its fields, and returns their replies. All are written at once, so they
-        are commands with short replies, and no more than `WINDOW`."""
-        replies = [Reply(self) for _ in listed]
+    def send_all(self, op: str, field: str, values: Sequence[int], **fields: Any) -> List[Reply]:
+        """Sends commands that differ in one whole number, that of a field, and returns their replies. All are written at
+        once, so they are commands with short replies, and no more than `WINDOW`."""
+        begun, name = _begun(op, fields), json.dumps(field).encode()
+        return self._send([[*begun, b",%b:%d" % (name, it)] for it in values])
+
+    def _send(self, lines: Sequence[List[bytes]]) -> List[Reply]:
+        """Sends commands, each by the parts of its line up to its `id`."""
+        replies = [Reply(self) for _ in lines]
         with self._sending:
-            while self._waiting and len(self._waiting) + len(listed) > WINDOW:
+            while self._waiting and len(self._waiting) + len(lines) > WINDOW:
                 with contextlib.suppress(IndexError):
                     self._wait(self._waiting[0])
             if self._over:
                 raise Gone()
-            line: List[bytes] = []
-            for fields in listed:
-                line += _line(self._next, op, fields)
+            parts: List[bytes] = []
+            for begun in lines:
+                parts += [*begun, b',"id":%d}\n' % self._next]
                 self._next += 1
             self._waiting.extend(replies)
             # (where the other end is gone, whoever reads finds out)
             with contextlib.suppress(ConnectionError):
-                self._write(b"".join(line))
+                self._write(b"".join(parts))
         return replies
 
     def send_open(self, name: str, label: str, content: bytes, bom: str = "sniff", room: int = ROOM) -> List[Reply]:
@@ -213,6 +218,17 @@ class Gate:
     def ask(self, op: str, **fields: Any) -> Members:
         """Sends a command, and returns the members of its reply. Raises `Fault` for a refusal."""
         return self.send(op, **fields).get()
+
+    def ask_all(self, op: str, field: str, values: Sequence[int], **fields: Any) -> Iterator[Members]:
+        """The members of the replies to commands that differ in one whole number, as `send_all` sends them; however many
+        they are, some wait while others are read. Raises `Fault` for a refusal."""
+        under_way: Deque[List[Reply]] = collections.deque()
+        for at in range(0, len(values), WINDOW // 2):
+            under_way.append(self.send_all(op, field, values[at : at + WINDOW // 2], **fields))
+            if len(under_way) == 2:
+                yield from _all_members(under_way.popleft())
+        for replies in under_way:
+            yield from _all_members(replies)
 
     def open(self, name: str, label: str, content: bytes, bom: str = "sniff") -> "Document":
         """Opens a document of these bytes, one that is larger than a line has room for by parts. Where `bom` is "keep", a
@@ -385,11 +401,10 @@ class Document:
 
     def spans(self, ranges: Sequence[Pair]) -> Iterator[Pair]:
         """Where the bytes of the code points from one to another begin and end, for each range of one at least."""
-        for some in (ranges[at : at + WINDOW // 2] for at in range(0, len(ranges), WINDOW // 2)):
-            # (the end is that of the last one, since behind the text's last one there is no place)
-            asked = [{"doc": self.name, "unit": "utf-32", "value": it} for begin, end in some for it in (begin, end - 1)]
-            places = [it.get()["place"] for it in self._gate.send_all("place", asked)]
-            yield from ((first[0], last[1]) for first, last in zip(places[::2], places[1::2]))
+        # (the end is that of the last one, since behind the text's last one there is no place)
+        asked = [it for begin, end in ranges for it in (begin, end - 1)]
+        places = (it["place"] for it in self._gate.ask_all("place", "value", asked, doc=self.name, unit="utf-32"))
+        return ((first[0], last[1]) for first, last in zip(places, places))
 
     def span(self, begin: int, end: int) -> Pair:
         """Where the bytes of the code points from one to another begin and end, of one at least."""
@@ -465,14 +480,27 @@ def _connected(path: Union[str, "os.PathLike[str]"]) -> socket.socket:
     return connection
 
 
-def _line(number: int, op: str, fields: Members) -> List[bytes]:
-    """The parts of a command's line."""
+def _begun(op: str, fields: Members) -> List[bytes]:
+    """The parts of a command's line, up to its `id`."""
     content = {key: it for key, it in fields.items() if isinstance(it, bytes)}
     others = {key: it for key, it in fields.items() if key not in content}
-    parts = [json.dumps({"id": number, "op": op, **others}).encode()[:-1]]
+    parts = [json.dumps({"op": op, **others}).encode()[:-1]]
     for key, it in content.items():
         parts += [b',"%b":"' % key.encode(), _base64(it), b'"']
-    return [*parts, b"}\n"]
+    return parts
+
+
+def _all_members(replies: Sequence[Reply]) -> List[Members]:
+    """The members of replies, one or more, read as one text, which takes far less time than each alone."""
+    gate = replies[0]._gate
+    gate._wait(replies[-1])
+    if not replies[-1]._line:
+        raise Gone()
+    found: List[Members] = json.loads(b"[%b]" % b",".join(it._line or b"" for it in replies))
+    for it in found:
+        if "fault" in it:
+            raise Fault(it)
+    return found
 
 
 def _base64(content: bytes) -> bytes:

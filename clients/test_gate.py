@@ -159,6 +159,20 @@ class Documents(unittest.TestCase):
         self.assertEqual((document.position(2), document.offset((0, 3))), ((0, 3), 2))
         self.assertEqual(document.place(1)["place"], [1, 5])
 
+    def test_many_questions_at_once(self):
+        document = self.gate.open("d", "utf-8", "aあ".encode() * 100)
+        places = [(it["utf32"], it["place"]) for it in self.gate.ask_all("place", "value", range(200), doc="d", unit="utf-32")]
+        self.assertEqual(places, [(it, [it // 2 * 4 + it % 2, it // 2 * 4 + (4 if it % 2 else 1)]) for it in range(200)])
+        self.assertEqual(list(document.spans([(0, 2), (1, 4), (199, 200)])), [(0, 4), (1, 8), (397, 400)])
+        self.assertEqual(list(self.gate.ask_all("place", "value", [], doc="d", unit="utf-32")), [])
+
+    def test_a_refusal_among_many_questions(self):
+        self.gate.open("d", "utf-8", b"a")
+        with self.assertRaises(Fault) as refused:
+            list(self.gate.ask_all("place", "value", [0] * 40 + [9] + [1] * 200, doc="d", unit="utf-32"))
+        self.assertEqual(refused.exception.name, "OutOfRange")
+        self.assertEqual(self.gate.ask("stat", doc="d")["bytes"], 1)
+
     def test_the_text_in_another_encoding(self):
         document = self.gate.open("d", "shift_jis", b"\x82\xa0")
         self.assertEqual(document.encode("utf-8"), "あ".encode())

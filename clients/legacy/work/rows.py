@@ -50,11 +50,10 @@ class Row:
     def json(self) -> str:
         """The row as a line of JSON. A path that isn't UTF-8 has the code points U+DC80 to U+DCFF for its other bytes, and
         is there as base64 too, as `path_base64`."""
-        members = dataclasses.asdict(self)
         raw = os.fsencode(self.path)
-        if not _is_utf8(raw):
-            members["path_base64"] = base64.b64encode(raw).decode()
-        return json.dumps(members)
+        more = {} if _is_utf8(raw) else {"path_base64": base64.b64encode(raw).decode()}
+        # (what a row has in lists is dataclasses too, and may be thousands of them)
+        return json.dumps({**vars(self), **more}, default=vars)
 
     @classmethod
     def restored(cls: Type[Restored], line: str) -> Restored:
