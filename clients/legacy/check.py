@@ -7,19 +7,19 @@ import argparse
 import dataclasses
 import re
 import sys
-from typing import Any, AnyStr, ClassVar, Dict, Iterator, List, Sequence, Type
+from typing import Any, ClassVar, Dict, Iterator, List, Sequence, Type
 
 from gate import Document, Gate
 
 from legacy import work
-from legacy.work import DONE, FOUND, PASSED, REFUSED, Item, Row, Settings, plain
+from legacy.ascii import Rest, plain
+from legacy.ends import LINE_END, Ends, ends_of
+from legacy.work import DONE, FOUND, PASSED, REFUSED, Item, Row, Settings
 
 ABOUT = ("Check each file of these trees: its encoding, errors with line, character, place and bytes, line ends of several kinds, and a byte"
          " order mark that disagrees with the rule. The status is 0 where all is clean, 1 where damage was found, 2 where something couldn't"
          " be looked at.")
 
-# A line ends as LSP has it.
-LINE_END = re.compile("\r\n|\r|\n")
 # The kinds of damage.
 ERRORS, LINE_ENDS, MARK = "errors", "line-ends", "mark"
 KINDS = (ERRORS, LINE_ENDS, MARK)
@@ -43,20 +43,6 @@ class Place:
     bytes: str
     before: str
     after: str
-
-
-@dataclasses.dataclass
-class Ends:
-    """How many line ends of each kind there are."""
-
-    lf: int = 0
-    crlf: int = 0
-    cr: int = 0
-
-    @property
-    def kinds(self) -> int:
-        """How many kinds there are."""
-        return (self.lf > 0) + (self.crlf > 0) + (self.cr > 0)
 
 
 @dataclasses.dataclass
@@ -94,20 +80,21 @@ class Check(work.Job):
         if plain(content, given):
             made.encoding, made.characters, made.ends = given, len(content), ends_of(content)
         else:
-            with gate.open("checked", item.label, content) as document:
-                self._look(document, made)
+            rest = Rest(content, given)
+            with gate.open("checked", item.label, rest.content, rest.bom) as document:
+                self._look(document, made, rest)
         found = {ERRORS: made.errors > 0, LINE_ENDS: made.ends.kinds > 1, MARK: made.encoding != given}
         made.damage = [it for it in KINDS if found[it] and it in self.kinds]
         made.outcome = FOUND if made.damage else DONE
         return made
 
-    def _look(self, document: Document, made: Checked) -> None:
+    def _look(self, document: Document, made: Checked, rest: Rest) -> None:
         stat = document.stat()
         made.encoding, made.bom = document.encoding, document.bom
-        made.characters, made.errors = stat["utf32"], stat["errors"]
-        made.ends = _ends(document, stat["lines"] - 1)
+        made.characters, made.errors = stat["utf32"] + rest.taken, stat["errors"]
+        made.ends = _ends(document, stat["lines"] - 1) + rest.ends
         if made.errors:
-            made.places = places_of(document, self.most)
+            made.places = [_in_file(it, *rest.before(it.begin)) for it in places_of(document, self.most)]
 
 
 class Encodings:
@@ -127,14 +114,6 @@ class Encodings:
 ENCODINGS = Encodings()
 
 
-def ends_of(content: AnyStr) -> Ends:
-    """The line ends of a text, or of bytes in which CR and LF are these bytes and no others."""
-    cr, lf = ("\r", "\n") if isinstance(content, str) else (b"\r", b"\n")
-    found = content.count(cr)
-    both = content.count(cr + lf) if found else 0
-    return Ends(content.count(lf) - both, both, found - both)
-
-
 def _ends(document: Document, count: int) -> Ends:
     """The line ends of a document that has so many of them. Where no byte is CR's, they are LF. Else they are counted in the
     bytes where these say as many, as they do but in UTF-16 and behind errors in ISO-2022-JP, or in the text."""
@@ -145,7 +124,12 @@ def _ends(document: Document, count: int) -> Ends:
     if document.bytes.count(b"\r\n") == count:
         return Ends(crlf=count)
     ends = ends_of(document.bytes)
-    return ends if ends.lf + ends.crlf + ends.cr == count else ends_of(document.text())
+    return ends if ends.count == count else ends_of(document.text())
+
+
+def _in_file(it: Place, taken: int, lines: int) -> Place:
+    """A place of what is left of a file, where it is in the file."""
+    return dataclasses.replace(it, begin=it.begin + taken, end=it.end + taken, line=it.line + lines)
 
 
 def places_of(document: Document, most: int = MOST) -> List[Place]:

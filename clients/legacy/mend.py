@@ -17,7 +17,8 @@ from typing import Any, Callable, ClassVar, Dict, Iterator, List, Optional, Sequ
 from gate import Document, Fault, Gate
 
 from legacy import finding, work
-from legacy.check import LINE_END, shown
+from legacy.check import shown
+from legacy.ends import LINE_END
 from legacy.finding import Found, Missing
 from legacy.work import DONE, FOUND, LARGEST, PASSED, REFUSED, Item, Refusal, Row, Settings
 from legacy.work.writing import replace

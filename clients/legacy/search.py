@@ -13,10 +13,12 @@ from typing import Any, ClassVar, Iterator, List, Pattern, Sequence, Set, Type
 from gate import Document, Gate
 
 from legacy import work
-from legacy.check import ENCODINGS, LINE_END, PICTURES, shown
+from legacy.ascii import plain
+from legacy.check import ENCODINGS, PICTURES, shown
 from legacy.damage import Range, across
+from legacy.ends import LINE_END
 from legacy.finding import Missing
-from legacy.work import DONE, FOUND, REFUSED, Item, Row, Settings, plain
+from legacy.work import DONE, FOUND, REFUSED, Item, Row, Settings
 
 ABOUT = ("Search the text of the files of these trees for a regular expression, as Python's module re has them; ^ and $ are those of a line,"
          " and empty matches are left out. The status is 0 where something was found, 1 where nothing was, 2 where something couldn't be"

@@ -174,13 +174,6 @@ def read(item: Item) -> bytes:
     return content
 
 
-def plain(content: bytes, encoding: str) -> bool:
-    """Whether these bytes are ASCII in an encoding in which each byte of ASCII is that character."""
-    if not content.isascii() or encoding in ("UTF-16LE", "UTF-16BE", "replacement"):
-        return False
-    return encoding != "ISO-2022-JP" or not any(it in content for it in (b"\x0e", b"\x0f", b"\x1b"))
-
-
 def _signature(status: os.stat_result) -> List[int]:
     return [status.st_size, status.st_mtime_ns, status.st_ctime_ns]
 

@@ -1,0 +1,69 @@
+"""What `gate` isn't asked about: a file of ASCII, and stretches of ASCII lines in a file that has others too.
+
+In all encodings but UTF-16, ISO-2022-JP and replacement, a byte of ASCII that comes to a decoder in its first state is that
+character, and a line feed brings each decoder into its first state: it is part of no longer character, and an error that it
+cuts short restores it. So what is left without such lines decodes as it does in the file."""
+import bisect
+import codecs
+from typing import Iterator, List, Tuple
+
+from legacy.ends import Ends, ends_of
+
+# Stretches are looked for by so many bytes at a time, so that a file without any costs little.
+BLOCK = 512
+MARKS = (codecs.BOM_UTF8, codecs.BOM_UTF16_BE, codecs.BOM_UTF16_LE)
+# The encodings in which a byte of ASCII may be something else, and what it has to be in ISO-2022-JP for that.
+OTHERS = ("UTF-16LE", "UTF-16BE", "replacement", "ISO-2022-JP")
+ESCAPES = (b"\x0e", b"\x0f", b"\x1b")
+
+
+def plain(content: bytes, encoding: str) -> bool:
+    """Whether these bytes are ASCII in an encoding in which each of them is that character."""
+    if not content.isascii():
+        return False
+    return encoding not in OTHERS or encoding == "ISO-2022-JP" and not any(it in content for it in ESCAPES)
+
+
+def stretches(content: bytes) -> Iterator[Tuple[int, int]]:
+    """Where stretches of ASCII lines begin and end: at the start or behind a line feed, and behind one or at the end."""
+    begin = 0
+    for at in range(0, len(content), BLOCK):
+        if not content[at : at + BLOCK].isascii():
+            if begin < at:
+                yield from _lines(content, begin, at)
+            begin = at + BLOCK
+    yield from _lines(content, begin, len(content))
+
+
+def _lines(content: bytes, begin: int, end: int) -> Iterator[Tuple[int, int]]:
+    """The lines that are in a run of ASCII, if it has any."""
+    first = content.find(b"\n", begin, end) + 1 if begin else 0
+    last = end if end == len(content) else content.rfind(b"\n", begin, end) + 1
+    if first < last and (first or not begin):
+        yield first, last
+
+
+class Rest:
+    """What is left of a file in this encoding without its stretches of ASCII lines: its content; what `bom` it is to be
+    opened with, since what begins it may not be what begins the file; and how many bytes were taken out, with which line ends."""
+
+    def __init__(self, content: bytes, encoding: str):
+        found = [] if encoding in OTHERS or content.startswith(MARKS) else list(stretches(content))
+        self.content, self.bom, self.taken, self.ends = content, "keep" if found else "sniff", 0, Ends()
+        # Where each stretch would be in what is left, and the bytes and line ends that are taken out up to its end.
+        self._at: List[int] = []
+        self._before = [(0, 0)]
+        parts, last = [], 0
+        for begin, end in found:
+            parts.append(content[last:begin])
+            self._at.append(begin - self.taken)
+            self.taken += end - begin
+            self.ends += ends_of(content[begin:end])
+            self._before.append((self.taken, self.ends.count))
+            last = end
+        if found:
+            self.content = b"".join([*parts, content[last:]])
+
+    def before(self, at: int) -> Tuple[int, int]:
+        """How many bytes and line ends were taken out in front of a byte of what is left."""
+        return self._before[bisect.bisect_right(self._at, at)]
