@@ -17,14 +17,17 @@ import pathlib
 import select
 import socket
 import subprocess
+import sys
 import tempfile
 import time
 from multiprocessing.synchronize import Barrier
 from typing import Callable, ContextManager, Iterator, List, NamedTuple, Tuple
 
-from sessions import b64, document, line_starts
+from sessions import LIMIT, b64, document, line_starts, opened
 
 HERE = pathlib.Path(__file__).resolve().parent
+sys.path.insert(0, str(HERE.parent / "clients"))
+from gate import Document, Gate  # noqa: E402
 
 # The document of a single client, and the one that is asked for as a whole.
 SIZE, WHOLE = 65_536, 100_000
@@ -145,6 +148,41 @@ def splices(connect: Connecting) -> float:
         return took[len(took) // 2]
 
 
+@contextlib.contextmanager
+def in_python(talk: Talk) -> Iterator[Document]:
+    """A document of the client in Python, over descriptors that are connected already."""
+    client = Gate(talk.reading, talk.writing, functools.partial(os.write, talk.writing), lambda: None, lambda: None)
+    yield client.open("d", "utf-8", document("utf-8", SIZE))
+
+
+def splices_in_python(connect: Connecting) -> float:
+    """The same by the client in Python, which writes and reads JSON."""
+    places = line_starts("utf-8", document("utf-8", SIZE))
+    took = []
+    with connect() as talk, in_python(talk) as edited:
+        for number in range(ALONE // 4):
+            at = places[number * 7 % len(places)]
+            begun = time.perf_counter()
+            edit = edited.splice(at, 0, b"a")
+            edited.undo(edit)
+            took.append((time.perf_counter() - begun) / 2 * 1e6)
+    return sorted(took)[len(took) // 2]
+
+
+def longest(op: str, **fields: object) -> Callable[["Connecting"], float]:
+    """Milliseconds of a command on the whole of a document of the most bytes."""
+
+    def call(connect: Connecting) -> float:
+        content, session = opened("utf-8", LIMIT)
+        with connect() as talk:
+            for line in session.bytes().splitlines(True):
+                talk.ask(line)
+            end = json.loads(talk.ask(STAT))["utf32"]
+            return microseconds(talk, [command(op, to=end, **{"from": 0}, **fields)] * 5)[0] / 1e3
+
+    return call
+
+
 def flooding(connect: Connecting, start: Barrier) -> None:
     """One of many clients, which is connected before they begin."""
     with connect() as talk:
@@ -211,8 +249,11 @@ class Measure(NamedTuple):
 MEASURES = [
     Measure("`stat`, one client, in microseconds", stats, by_pipes=True),
     Measure("`splice` in 64 KiB, one client, in microseconds", splices, by_pipes=True),
+    Measure("the same by clients/gate.py", splices_in_python, by_pipes=True),
     Measure("sixteen clients, 50,000 commands each in flight, in thousands a second", together, is_rate=True),
     Measure("`stat` beside a client that asks for texts of 100 KB, 99 of 100, in microseconds", neighbours),
+    Measure("a `text` of 16 MiB, in milliseconds", longest("text")),
+    Measure("an `encode` of 16 MiB, in milliseconds", longest("encode", label="utf-16le")),
 ]
 
 

@@ -15,6 +15,7 @@ import binascii
 import collections
 import contextlib
 import fcntl
+import functools
 import hashlib
 import json
 import os
@@ -31,6 +32,8 @@ Members = Dict[str, Any]
 Pair = Tuple[int, int]
 # Where a program listens: the path of a Unix socket, or a port of 127.0.0.1.
 Place = Union[str, int]
+# What writes the front of some bytes, or raises BlockingIOError, and returns how many those were.
+Put = Callable[[memoryview], int]
 # A change: its text alone, for the whole text, or its text and from where to where.
 Change = Union[Tuple[str], Tuple[str, Pair], Tuple[str, Pair, Pair]]
 
@@ -83,10 +86,10 @@ class Gate:
     that waits has the next one. Whoever waits for a reply reads those in front of it too, and whoever can't send now
     reads meanwhile: so sending never blocks for good."""
 
-    def __init__(self, reading: int, writing: int, finish: Callable[[], None], end: Callable[[], None]):
-        """Takes two file descriptors, what ends the writing, and what ends the rest once all replies are read."""
-        self._from, self._into, self._finish, self._end = reading, writing, finish, end
-        os.set_blocking(writing, False)
+    def __init__(self, reading: int, writing: int, put: Put, finish: Callable[[], None], end: Callable[[], None]):
+        """Takes two file descriptors, how as much is written as there is room for, what ends the writing, and what ends the
+        rest once all replies are read. Reading waits, so that a reply is one call of the system; writing doesn't."""
+        self._from, self._into, self._put, self._finish, self._end = reading, writing, put, finish, end
         self._waiting: Deque[Reply] = collections.deque()
         self._reading, self._sending = threading.Lock(), threading.Lock()
         self._begun: List[bytes] = []
@@ -98,6 +101,7 @@ class Gate:
         program = subprocess.Popen(words, stdin=subprocess.PIPE, stdout=subprocess.PIPE, bufsize=0)
         writing, reading = program.stdin, program.stdout
         assert writing and reading
+        os.set_blocking(writing.fileno(), False)
         # (what the system doesn't allow costs speed alone)
         with contextlib.suppress(OSError):
             fcntl.fcntl(writing, SET_PIPE_SIZE, PIPE)
@@ -108,7 +112,7 @@ class Gate:
             program.wait()
             close()
 
-        return cls(reading.fileno(), writing.fileno(), writing.close, end)
+        return cls(reading.fileno(), writing.fileno(), functools.partial(os.write, writing.fileno()), writing.close, end)
 
     @classmethod
     def connect(
@@ -129,12 +133,17 @@ class Gate:
                 if time.monotonic() > until:
                     raise
                 time.sleep(0.05)
+        connection.setblocking(True)
 
         def finish() -> None:
             with contextlib.suppress(OSError):
                 connection.shutdown(socket.SHUT_WR)
 
-        return cls(connection.fileno(), connection.fileno(), finish, connection.close)
+        def put(data: memoryview) -> int:
+            # (whether a descriptor waits holds for reading too: so it is said of each writing)
+            return connection.send(data, socket.MSG_DONTWAIT)
+
+        return cls(connection.fileno(), connection.fileno(), put, finish, connection.close)
 
     def _wait(self, reply: Reply) -> None:
         """Reads until this reply has come; of several threads that wait one reads for all."""
@@ -147,9 +156,6 @@ class Gate:
         """Reads once, and hands out the replies that are complete; where nothing can come any more, empty ones."""
         try:
             piece = os.read(self._from, READ)
-        except BlockingIOError:
-            _ready(self._from, None)
-            return
         except ConnectionError:
             piece = b""
         if not piece:
@@ -166,7 +172,7 @@ class Gate:
         left = memoryview(line)
         while left:
             try:
-                left = left[os.write(self._into, left) :]
+                left = left[self._put(left) :]
             except BlockingIOError:
                 # Perhaps the other side can't go on before its replies are read; another thread may be at it.
                 if self._reading.acquire(blocking=False):

@@ -6,6 +6,7 @@ import threading
 import time
 import unittest
 
+from program import TOP
 from serving import LIMIT, PLACES, Serving, at_most_files, connected, free_port, line, more_files, replayed, seconds_of, serves, usual
 
 # What documents that are edited by all are made of: characters, halves of characters, shifts and line ends.
@@ -172,6 +173,16 @@ class Together:
         self.assertEqual(len(rows), 1 + len(edits) + len(sources), "a source of a revision that no edit made")
         for (command, reply), again in zip(rows, replayed([command for command, _ in rows])):
             self.assertEqual((command, without_number(reply)), (command, without_number(again)))
+
+    def test_the_session_of_two_clients(self):
+        """Each line of the example begins with its client's number; commands and replies alternate."""
+        lines = [it.split(" ", 1) for it in (TOP / "examples" / "two-clients.txt").read_text(encoding="utf-8").splitlines()]
+        with self.clients(self.server(), 2) as clients:
+            for (number, command), (same, reply) in zip(lines[::2], lines[1::2]):
+                self.assertEqual(number, same)
+                client = clients[int(number) - 1]
+                client.send(command.encode() + b"\n")
+                self.assertEqual(client.replies.readline().decode(), reply + "\n")
 
     def test_a_document_of_one_client_is_there_for_another(self):
         with self.clients(self.server(), 2) as (one, other):
