@@ -15,7 +15,7 @@ import unittest
 from program import PROGRAM, SMALL
 
 # The seconds that one wait may take.
-LIMIT = 30
+LIMIT = 100
 
 # How many clients are served at once.
 PLACES = 16
