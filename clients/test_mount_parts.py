@@ -7,12 +7,14 @@ import sys
 import tempfile
 import time
 import unittest
+from typing import NamedTuple
 from unittest import mock
 
 from legacy.mount import below
 from legacy.mount.below import Place, Store, read_at
+from legacy.rules import Rule
 from legacy.saving import Refused
-from mounts import PYTHON, has_pyfuse3
+from mounts import INDEXES, PROGRAM, PYTHON, has_pyfuse3
 
 HAS_PYFUSE3 = has_pyfuse3(sys.executable)
 if HAS_PYFUSE3:
@@ -20,7 +22,14 @@ if HAS_PYFUSE3:
     import trio.testing
     from legacy.mount import questions, tree
     from legacy.mount.ahead import FILES, ROOM, Listing, Wanted
+    from legacy.mount.operations import Operations
+    from legacy.mount.reading import Reader
+    from legacy.mount.refusals import Refusals
+    from legacy.mount.saves import Saves
+    from legacy.mount.tree import ROOT
+    from legacy.mount.view import Options, View
     from legacy.mount.waiting import Requests
+    from legacy.mount.workers import Workers
 
 
 @unittest.skipIf(HAS_PYFUSE3 or not PYTHON, "this interpreter has pyfuse3, or none has")
@@ -219,6 +228,69 @@ class Nodes(unittest.TestCase):
                 time.sleep(0.1)
                 found.append(node.is_temporary)
             self.assertEqual((found, node.born), (temporary, False))
+
+
+class Everywhere(NamedTuple):
+    """Rules of which one holds for all files."""
+
+    rule: Rule
+
+    def rule_of(self, _):
+        return self.rule
+
+
+@unittest.skipUnless(HAS_PYFUSE3, "this interpreter has no pyfuse3 (Debian's python3-pyfuse3)")
+@unittest.skipUnless(os.access(PROGRAM, os.X_OK), f"there is no program {PROGRAM}; rt ci builds it")
+class Pages(unittest.TestCase):
+    """When the kernel is told to keep the pages that it has of a file."""
+
+    def played(self, play):
+        """Plays requests to the mount of a folder."""
+        with tempfile.TemporaryDirectory() as folder:
+            trio.run(self.serve, pathlib.Path(folder), play)
+
+    async def serve(self, folder, play):
+        (folder / "f").write_bytes(b"\xff")
+        words = [PROGRAM, "stdio", "--indexes", str(INDEXES)]
+        asked, workers = questions.Questions(words), Workers(words)
+        source = below.Source(os.fsencode(folder))
+        reader = Reader(source, asked, workers, workers)
+
+        async def forget_pages(_):
+            pass
+
+        view = View(source, Everywhere(Rule("shift_jis", "this test")), reader, Options())
+        operations = Operations(view, Saves(reader, workers, Refusals(source, None), False, forget_pages))
+        try:
+            await play(folder / "f", operations, (await operations.lookup(ROOT, b"f")).st_ino)
+        finally:
+            asked.close()
+            workers.close()
+            os.close(source.descriptor)
+
+    def test_only_once_those_of_another_content_are_known_to_be_dropped(self):
+        # Of two openings that are answered the second may be through first.
+        async def play(path, operations, ino):
+            found = []
+
+            async def opened():
+                it = await operations.open(ino, os.O_RDONLY, mock.Mock(pid=1))
+                found.append(it.keep_cache)
+                return it.fh
+
+            with mock.patch("pyfuse3.invalidate_inode"):
+                for content in b"\xff", b"\xfe\xfe":
+                    path.write_bytes(content)
+                    handles = [await opened(), await opened()]
+                    self.assertEqual(await operations.read(handles[0], 0, 100), "\ufffd".encode() * len(content))
+                    handles.append(await opened())
+                    for it in handles:
+                        await operations.release(it)
+                    handle = await opened()
+                    await operations.release(handle)
+            self.assertEqual(found, 2 * [False, False, True, True])
+
+        self.played(play)
 
 
 STAND_IN = """#!{python}

@@ -1,5 +1,6 @@
 """Edited texts saved into legacy bytes, over the program as it was built: crates/gate/out/gate, or the one that the
 variable GATE names."""
+import base64
 import collections
 import errno
 import os
@@ -11,7 +12,8 @@ from unittest import mock
 
 import indexes
 from gate import Gate, Gone, Reply
-from legacy import saving
+from legacy import documents, saving
+from legacy.documents import LARGE, Last
 from legacy.saving import Known, Refused, read, save
 
 TOP = pathlib.Path(__file__).resolve().parent.parent
@@ -144,7 +146,7 @@ class Edits(OverGate):
         self.assertEqual((refused.errno, refused.line, refused.character), (errno.EILSEQ, 1, 1))
 
     def test_texts_longer_than_a_change_and_a_page(self):
-        with mock.patch.multiple(saving, PIECE=5, PAGE=7, ROOM=11, CHANGES=3):
+        with mock.patch.multiple(saving, PIECE=5, PAGE=7, CHANGES=3), mock.patch.multiple(documents, PAGE=7, ROOM=11):
             text = "図書館の計画\r\n" * 9
             self.assertEqual(self.saved("shift_jis", b"", lambda _: text), text.encode("cp932"))
             self.assertEqual(
@@ -185,15 +187,59 @@ class Refusals(OverGate):
             self.saved("windows-1252", b"", lambda _: "é")
 
 
+@BUILT
+class Open(OverGate):
+    """A large document that is left open."""
+
+    def setUp(self):
+        self.last, self.opened = Last(), []
+        send_open = self.gate.send_open
+        opening = mock.patch.object(self.gate, "send_open", lambda *words: (self.opened.append(words[0]), send_open(*words))[1])
+        opening.start()
+        self.addCleanup(opening.stop)
+        self.addCleanup(self.close)
+
+    def close(self):
+        with self.last.opened(self.gate, "shift_jis", b""):
+            pass
+
+    def test_it_is_opened_once_for_a_reading_and_for_saves_behind_it(self):
+        raw = b"\xff\x82\xa0 line %s\n" % (b"." * 99) * (LARGE // 99)
+        base = read(self.gate, "shift_jis", raw, self.last)
+        for old, new in (b"line", b"lime"), (b"\x82\xa0", b"\x88\x9f"), (b" l", b"  l"):
+            edited = base.text.replace(old.decode("cp932"), new.decode("cp932"), 3)
+            after = save(self.gate, "shift_jis", base, edited, last=self.last)
+            self.assertEqual(after.raw, base.raw.replace(old, new, 3))
+            base = after
+        many = save(self.gate, "shift_jis", base, base.text.replace("i", "I"), last=self.last)
+        self.assertEqual(many.raw, base.raw.replace(b"i", b"I"))
+        back = save(self.gate, "shift_jis", many, base.text, last=self.last)
+        self.assertEqual((back.raw, len(self.opened)), (base.raw, 1))
+
+    def test_other_bytes_and_another_label_have_one_of_their_own(self):
+        for label, raw in ("shift_jis", b"a" * LARGE), ("shift_jis", b"b" * LARGE), ("euc-jp", b"b" * LARGE):
+            for _ in range(2):
+                self.assertEqual(read(self.gate, label, raw, self.last), Known(raw, raw.decode(), {"e": "EUC-JP"}.get(label[0], "Shift_JIS"), 0))
+        self.assertEqual(len(self.opened), 3)
+
+    def test_behind_a_refusal_and_for_a_small_one_it_is_closed(self):
+        base = read(self.gate, "shift_jis", b"\xff%s\n" % (b"a" * 999) * (LARGE // 999), self.last)
+        for number in range(70):
+            with self.assertRaises(Refused):
+                save(self.gate, "shift_jis", base, base.text + f"{number}é", last=self.last)
+            read(self.gate, "shift_jis", b"%d" % number, self.last)
+        self.assertEqual(save(self.gate, "shift_jis", base, base.text + "b", last=self.last).raw, base.raw + b"b")
+
+
 class Falsified(Reply):
-    """A reply whose text is another one than `gate` sent."""
+    """A reply whose text, in UTF-8, is another one than `gate` sent."""
 
     def __init__(self, gate, reply):
         super().__init__(gate)
         self.reply = reply
 
     def get(self):
-        return {**self.reply.get(), "text": "x" * len(self.reply.get()["text"])}
+        return {**self.reply.get(), "bytes": base64.b64encode(b"x" * len(base64.b64decode(self.reply.get()["bytes"]))).decode()}
 
 
 @BUILT
@@ -202,7 +248,7 @@ class Trust(OverGate):
         base = read(self.gate, "shift_jis", b"a\xff")
         send = self.gate.send
         with mock.patch.object(
-                self.gate, "send", lambda op, **fields: Falsified(self.gate, send(op, **fields)) if op == "text" else send(op, **fields)):
+                self.gate, "send", lambda op, **fields: Falsified(self.gate, send(op, **fields)) if op == "encode" else send(op, **fields)):
             with self.assertRaises(Refused) as refused:
                 save(self.gate, "shift_jis", base, "b\ufffd")
         self.assertEqual(refused.exception.errno, errno.EILSEQ)

@@ -210,7 +210,7 @@ class _Letters:
         for one in itertools.chain(self._precious_lines(it.start, it.end), [it.end]):
             new_line, new_one = (it.new_start - it.start + at for at in (line, one))
             if hashes[line:one] != new_hashes[new_line:new_one]:
-                yield from self._within(self.of.range_of(Edit(line, one, new_line, new_one)))
+                yield self.of.range_of(Edit(line, one, new_line, new_one))
             if one < it.end and hashes[one] != new_hashes[new_one]:
                 yield from self._within(self.of.range_of(Edit(one, one + 1, new_one, new_one + 1)))
             line = one + 1

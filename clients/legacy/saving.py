@@ -8,10 +8,9 @@ The difference becomes edits of the bytes (`changes`); lines that were moved, co
 are known by. Nothing is taken on trust: bytes are handed back only once `gate` has decoded them to the text that was to be
 saved. Where that can't be had, `Refused` says why, for a person.
 
-A call opens one document of `gate`'s 64 at a time, and closes it. Where `gate` ends in between, `Gone` is raised; nothing
+A call opens one document of `gate`'s 64 at a time, and closes it, unless it is to be left open as the `last` one. Where `gate` ends in between, `Gone` is raised; nothing
 is lost, and the call can be made again over another `Gate`."""
 import base64
-import bisect
 import contextlib
 import errno
 import itertools
@@ -19,11 +18,12 @@ import operator
 import re
 import unicodedata
 from array import array
-from typing import Any, Callable, Dict, Iterator, List, NamedTuple, Optional, Sequence, Set, Tuple
+from typing import Any, Callable, ContextManager, Dict, Iterable, Iterator, List, NamedTuple, Optional, Sequence, Set, Tuple
 
-from gate import ROOM, Fault, Gate, Gone, Reply
+from gate import Fault, Gate, Reply
 from legacy.arrangement import LETTERS, Content, Run, arranged
 from legacy.difference import BAD, Difference, Range, joined
+from legacy.documents import PAGE, Document, Last, opened
 from legacy.lines import Lines, blocks, starts_after
 from legacy.sequences import Edit
 
@@ -32,8 +32,8 @@ UNIT = "utf-32"
 LARGEST = 1 << 24
 # The most changes of a list, and about the most bytes of its line.
 CHANGES, LINE = 1000, 3_500_000
-# The most code points of a text that are put in by one change, and that are asked for at once.
-PIECE, PAGE = 250_000, 1_000_000
+# The most code points of a text that are put in by one change.
+PIECE = 250_000
 # The most edits whose bytes are asked for with each, so that no second question is needed.
 FEW = 8
 # From how many code points of lines that differ on it is asked which lines have bytes to lose.
@@ -43,9 +43,7 @@ WIDER = 6
 # The longest line that is looked for in a known text without a table of its lines, and how many are.
 SHORT, SOME = 1000, 8
 
-_LINE_END = re.compile(r"\r\n|\r|\n")
 _ESCAPE = re.compile(rb"\x1b(?:\([BJI]|\$[@B])")
-_NUMBERS = itertools.count()
 
 
 class Known(NamedTuple):
@@ -70,9 +68,14 @@ class Refused(OSError):
         return f"line {self.line}, character {self.character}: {self.reason}" if self.line else self.reason
 
 
-def read(gate: Gate, label: str, raw: bytes) -> Known:
+def read(gate: Gate, label: str, raw: bytes, last: Optional[Last] = None) -> Known:
     """A content as `gate` decodes it. Raises `Refused` where it can't be had."""
-    return read_all(gate, [(label, raw)])[0]
+    try:
+        with opened(gate, label, raw, last) as document:
+            found = _read([document], [raw])[0]
+        return found
+    except Fault as fault:
+        raise _refused(fault) from fault
 
 
 def read_all(gate: Gate, contents: Sequence[Tuple[str, bytes]]) -> List[Known]:
@@ -80,20 +83,24 @@ def read_all(gate: Gate, contents: Sequence[Tuple[str, bytes]]) -> List[Known]:
     `Refused` where one of them can't be had."""
     try:
         with contextlib.ExitStack() as held:
-            documents = [held.enter_context(_Document(gate, *it)) for it in contents]
-            stats = [it.ask("stat") for it in documents]
-            for it in documents:
-                it.opened()
-            told = [it.get() for it in stats]
-            texts = [document.text(it["utf32"]) for document, it in zip(documents, told)]
-            found = [Known(raw, "".join([page.get()["text"] for page in pages]), it["encoding"], it["bom"])
-                     for (_, raw), pages, it in zip(contents, texts, told)]
+            documents = [held.enter_context(Document(gate, *it)) for it in contents]
+            found = _read(documents, [raw for _, raw in contents])
         return found
     except Fault as fault:
         raise _refused(fault) from fault
 
 
-def save(gate: Gate, label: str, base: Known, new: str, others: Sequence[Known] = ()) -> Known:
+def _read(documents: Sequence[Document], raws: Sequence[bytes]) -> List[Known]:
+    stats = [it.ask("stat") for it in documents]
+    for it in documents:
+        it.opened()
+    told = [it.get() for it in stats]
+    texts = [document.pages(stat["utf32"]) for document, stat in zip(documents, told)]
+    return [Known(raw, "".join([page.get()["text"] for page in pages]), stat["encoding"], stat["bom"])
+            for raw, pages, stat in zip(raws, texts, told)]
+
+
+def save(gate: Gate, label: str, base: Known, new: str, others: Sequence[Known] = (), last: Optional[Last] = None) -> Known:
     """The base with the difference to the new text made in its bytes. Lines that aren't in the base are looked for in
     `others`, as the last contents of the file or of files read of late, the newest last. For a new file the base has no
     bytes, or those of a byte order mark. Raises `Refused`."""
@@ -102,55 +109,10 @@ def save(gate: Gate, label: str, base: Known, new: str, others: Sequence[Known] 
     if len(new) > LARGEST:
         raise _refused(Fault({"fault": "TooLarge"}))
     try:
-        return _Saving(gate, label, base, new, [it for it in others if it.encoding == base.encoding]).made()
+        others = [it for it in others if it.encoding == base.encoding]
+        return _Saving(lambda raw: opened(gate, label, raw, last), base, new, others).made()
     except Fault as fault:
         raise _refused(fault, base.encoding) from fault
-
-
-class _Document:
-    """A document of `gate` that is opened for one question. What is sent is waited for only at the end."""
-
-    def __init__(self, gate: Gate, label: str, raw: bytes):
-        self.gate, self.name = gate, f"saving-{next(_NUMBERS)}"
-        self.parts = gate.send_open(self.name, label, raw)
-        self.rev = len(self.parts) - 1
-
-    def edit(self, op: str, **fields: object) -> Reply:
-        """Sends an edit of the revision to which those before it lead."""
-        self.rev += 1
-        return self.gate.send(op, doc=self.name, rev=self.rev - 1, **fields)
-
-    def ask(self, op: str, **fields: object) -> Reply:
-        return self.gate.send(op, doc=self.name, **fields)
-
-    def opened(self) -> None:
-        """Waits until it is open."""
-        for it in self.parts:
-            it.get()
-
-    def text(self, count: int) -> "Iterator[Reply]":
-        """The text by pages, one being asked for while another is looked at; the first is asked for at once."""
-        pages = ({"from": at, "to": min(at + PAGE, count)} for at in range(0, count, PAGE))
-        asked = [self.ask("text", **it) for it in itertools.islice(pages, 1)]
-        return self._pages(asked, pages)
-
-    def _pages(self, asked: List[Reply], pages: Iterator[Dict[str, int]]) -> Iterator[Reply]:
-        for it in pages:
-            asked.append(self.ask("text", **it))
-            yield asked.pop(0)
-        yield from asked
-
-    def source(self, count: int) -> bytes:
-        """The bytes as `gate` has them."""
-        return b"".join(base64.b64decode(self.ask("source", at=at, len=min(ROOM, count - at)).get()["bytes"])
-                        for at in range(0, count, ROOM))
-
-    def __enter__(self) -> "_Document":
-        return self
-
-    def __exit__(self, *_: object) -> None:
-        with contextlib.suppress(Gone):
-            self.ask("close")
 
 
 class _Start:
@@ -176,8 +138,8 @@ class _Rejected(Exception):
 class _Saving:
     """One text that is to be saved: what is tried, the finest way first, until one is accepted."""
 
-    def __init__(self, gate: Gate, label: str, base: Known, new: str, others: Sequence[Known]):
-        self.gate, self.label, self.base, self.new, self.others = gate, label, base, new, others
+    def __init__(self, opened: Callable[[bytes], ContextManager[Document]], base: Known, new: str, others: Sequence[Known]):
+        self.opened, self.base, self.new, self.others = opened, base, new, others
         self.one_form = _has_one_form(base.encoding)
         self.same = BAD
 
@@ -225,11 +187,12 @@ class _Saving:
 
     def _has_equal_lines(self, it: Difference) -> bool:
         """Whether a line that was typed, as it seems, is one that is known."""
-        typed = {it.new_lines.hashes[n] for hunk in it.hunks for n in range(hunk.new_start, hunk.new_end)
-                 if not it.new_lines[n].isascii()}
-        around = [Lines(it.old, 0, it.head), Lines(it.old, len(it.old) - it.tail)]
+        typed: Set[int] = set()
+        for hunk in it.hunks:
+            typed.update(it.new_lines.hashes[hunk.new_start : hunk.new_end])
+        around = (Lines(it.old, *ends) for ends in ((0, it.head), (len(it.old) - it.tail, len(it.old))))
         others = (Lines(known.text) for known in self.others)
-        return not all(typed.isdisjoint(lines.hashes) for lines in itertools.chain([it.lines], around, others))
+        return any(_has_letters(lines, typed) for lines in itertools.chain([it.lines], around, others))
 
     def _arranged(self, it: Difference, anywhere: bool) -> Optional[_Start]:
         """The known lines of which the new text is made, or None where those of the base, as they are, are best."""
@@ -292,7 +255,7 @@ class _Saving:
             return None
         found: List[Range] = []
         at, line = table.lines.starts, 0
-        with _Document(self.gate, self.label, start.raw) as document:
+        with self.opened(start.raw) as document:
             document.opened()
             for page in self._encoded(document, start.text):
                 lines = _split(page, self.base.encoding)
@@ -301,7 +264,7 @@ class _Saving:
                 line += len(lines)
         return found
 
-    def _encoded(self, document: _Document, text: str) -> Iterator[bytes]:
+    def _encoded(self, document: Document, text: str) -> Iterator[bytes]:
         """The text as an encoder gives it, some lines at a time, without the LF of the last."""
         at = 0
         while at <= len(text):
@@ -315,7 +278,7 @@ class _Saving:
         few = len(found) <= FEW
         sent: List[Tuple[Reply, List[_Change]]] = []
         plans: List[Reply] = []
-        with _Document(self.gate, self.label, start.raw) as document:
+        with self.opened(start.raw) as document:
             for listed in _lists(_changes(start.text, self.new, found), 1 if few else CHANGES):
                 if few:
                     plans.append(document.ask("plan", unit=UNIT, **listed[0].fields(self.new)))
@@ -323,14 +286,15 @@ class _Saving:
                 else:
                     reply = document.edit("changes", unit=UNIT, changes=[it.fields(self.new) for it in listed])
                 sent.append((reply, listed))
-            stat, pages = document.ask("stat"), document.text(len(self.new))
+            stat, pages = document.ask("stat"), document.pages(len(self.new), "encode", label="UTF-8")
             document.opened()
             for reply, listed in sent:
                 self._accepted(reply, listed)
             told = stat.get()
             if told["utf32"] != len(self.new) or not self._is_new(pages):
                 raise self._rejected(None, 0, Fault({"fault": "NotKept"}))
-            return _spliced(start.raw, plans) if few else document.source(told["bytes"])
+            document.raw = _spliced(start.raw, plans) if few else document.source(told["bytes"])
+        return document.raw
 
     def _accepted(self, reply: Reply, listed: List["_Change"]) -> None:
         try:
@@ -340,13 +304,9 @@ class _Saving:
             raise self._rejected(it.edit, it.new_start + fault.members.get("index", 0), fault) from fault
 
     def _is_new(self, pages: Iterator[Reply]) -> bool:
-        """Whether the text that `gate` has is the new one, which is as long."""
-        at, same = 0, True
-        for reply in pages:
-            page = reply.get()["text"]
-            same = same and self.new.startswith(page, at)
-            at += len(page)
-        return same and at == len(self.new)
+        """Whether the text that `gate` has, as it gives it in UTF-8, is the new one, which is as long."""
+        wanted = (self.new[at : at + PAGE].encode() for at in range(0, len(self.new), PAGE))
+        return all([base64.b64decode(reply.get()["bytes"]) == page for reply, page in zip(pages, wanted)])
 
     def _rejected(self, edit: Optional[Edit], at: int, fault: Fault) -> _Rejected:
         refused = _refused(fault, self.base.encoding, self.new[at : at + 1])
@@ -371,17 +331,18 @@ class _Change(NamedTuple):
         return {"range": place, "text": new[self.new_start : self.new_end]}
 
 
+def _has_letters(lines: Lines, hashes: Set[int]) -> bool:
+    """Whether one of the lines has one of these hashes, and isn't ASCII."""
+    both = hashes.intersection(lines.hashes)
+    return bool(both) and any(it in both and not lines[line].isascii() for line, it in enumerate(lines.hashes))
+
+
 def _changes(old: str, new: str, found: List[Edit]) -> Iterator[_Change]:
     """The edits as changes, that of the last place first, so that each finds the text before it as it was."""
-    position = _positions(old, found)
-    for edit in reversed(found):
-        start, end, new_start, new_end = edit
-        # Between CR and LF is no position. Both are as in the new text.
-        if old[max(start - 1, 0) : start + 1] == "\r\n":
-            start, new_start = start - 1, new_start - 1
-        if old[max(end - 1, 0) : end + 1] == "\r\n":
-            end, new_end = end + 1, new_end + 1
-        first, last = position(start), position(end)
+    whole = [_with_line_ends(old, it) for it in found]
+    positions = _positions(old, (at for it in whole for at in (it.start, it.end)))
+    for edit, (start, end, new_start, new_end) in zip(reversed(found), reversed(whole)):
+        first, last = positions[start], positions[end]
         # Of a long text the last piece comes first, too. No piece begins with an LF, whose CR may be in front of it.
         while new_end - new_start > PIECE:
             at = new_end - PIECE
@@ -392,19 +353,28 @@ def _changes(old: str, new: str, found: List[Edit]) -> Iterator[_Change]:
         yield _Change(edit, new_start, new_end, first, last)
 
 
-def _positions(old: str, found: List[Edit]) -> Callable[[int], Tuple[int, int]]:
-    """What says the line and the character of a place between the first edit and the last."""
-    if not found:
-        return lambda at: (0, at)
-    begin = old.rfind("\n", 0, max(found[0].start - 1, 0)) + 1
-    before = old.count("\n", 0, begin) + old.count("\r", 0, begin) - old.count("\r\n", 0, begin)
-    starts = [begin, *(it.end() for it in _LINE_END.finditer(old, begin, found[-1].end + 2))]
+def _with_line_ends(old: str, it: Edit) -> Edit:
+    """An edit that neither begins nor ends between CR and LF, where no position is. Both are as in the new text."""
+    start, end, new_start, new_end = it
+    if old[max(start - 1, 0) : start + 1] == "\r\n":
+        start, new_start = start - 1, new_start - 1
+    if old[max(end - 1, 0) : end + 1] == "\r\n":
+        end, new_end = end + 1, new_end + 1
+    return Edit(start, end, new_start, new_end)
 
-    def position(at: int) -> Tuple[int, int]:
-        line = bisect.bisect_right(starts, at) - 1
-        return before + line, at - starts[line]
 
-    return position
+def _positions(old: str, places: Iterable[int]) -> Dict[int, Tuple[int, int]]:
+    """The line and the character of some places, which are in order and not between CR and LF."""
+    found: Dict[int, Tuple[int, int]] = {}
+    line = begin = at = 0
+    for place in places:
+        ends = old.count("\n", at, place) + old.count("\r", at, place) - old.count("\r\n", at, place)
+        if ends:
+            line += ends
+            begin = max(old.rfind("\n", at, place), old.rfind("\r", at, place)) + 1
+        found[place] = line, place - begin
+        at = place
+    return found
 
 
 def _lists(changes: Iterator[_Change], most: int) -> Iterator[List[_Change]]:

@@ -2,7 +2,7 @@
 shortest script. Each look has a bound, and what lies beyond it differs as a whole, so that nothing is quadratic."""
 import bisect
 import itertools
-from typing import Any, Callable, Dict, Hashable, Iterator, List, NamedTuple, Optional, Sequence, Tuple
+from typing import Any, Callable, Dict, Hashable, Iterator, List, NamedTuple, Optional, Sequence, Set, Tuple
 
 # A text, or a list of lines or of other texts.
 Items = Sequence[Any]
@@ -89,7 +89,11 @@ def differences(a: Items, b: Items, in_place: bool = False, least: int = 0,
         if found:
             yield from found
             continue
-        anchors = _anchors(a, b, it, least) if depth else []
+        both = set(a[it.start : it.end]).intersection(b[it.new_start : it.new_end])
+        if not both:
+            yield it
+            continue
+        anchors = _anchors(a, b, it, both, least) if depth else []
         if anchors:
             todo += [(gap, depth - 1) for gap in reversed(between(it, anchors))]
         elif is_fine(it):
@@ -114,24 +118,24 @@ def between(it: Edit, pairs: List[Tuple[int, int]]) -> List[Edit]:
     return [Edit(i + 1, j, k + 1, l) for (i, k), (j, l) in zip(ends, starts) if j - i > 1 or l - k > 1]
 
 
-def _anchors(a: Items, b: Items, it: Edit, least: int) -> List[Tuple[int, int]]:
-    """What each has exactly once between these places, in the longest row that is in both orders. Of many items first only
-    every 16th is looked at, chosen by its hash: what lies between those comes next."""
+def _anchors(a: Items, b: Items, it: Edit, both: Set[Hashable], least: int) -> List[Tuple[int, int]]:
+    """Of the items that are on both sides between these places, those that are once on each, in the longest row that is in
+    both orders. Of many items first only every 16th is looked at, chosen by its hash: what lies between those comes next."""
     some = min(it.end - it.start, it.new_end - it.new_start) > MANY
     for chosen in (True, False) if some else (False,):
-        once = _once(a, it.start, it.end, least, chosen)
-        other = _once(b, it.new_start, it.new_end, least, chosen)
+        once = _once(a, it.start, it.end, both, least, chosen)
+        other = _once(b, it.new_start, it.new_end, both, least, chosen)
         pairs = [(at, other[item]) for item, at in once.items() if at >= 0 and other.get(item, -1) >= 0]
         if pairs:
             return _ascending(pairs)
     return []
 
 
-def _once(items: Items, start: int, end: int, least: int, chosen: bool) -> Dict[Hashable, int]:
-    """Where each item is, and -1 for those that come again."""
+def _once(items: Items, start: int, end: int, wanted: Set[Hashable], least: int, chosen: bool) -> Dict[Hashable, int]:
+    """Where each item that is wanted is, and -1 for those that come again."""
     found: Dict[Hashable, int] = {}
     for at, item in enumerate(items[start:end], start):
-        if chosen and hash(item) & 15 or least and len(item) < least:
+        if item not in wanted or chosen and hash(item) & 15 or least and len(item) < least:
             continue
         found[item] = -1 if item in found else at
     return found

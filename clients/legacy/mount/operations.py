@@ -161,10 +161,12 @@ class Operations(pyfuse3.Operations):  # type: ignore[misc]
         current = node.shown.signature if node.shown else None
         info = pyfuse3.FileInfo(fh=self.opened(node, None, writes, ctx))
         info.keep_cache = node.written is None and node.sent == current
+        if not info.keep_cache:
+            # (another opening may be answered and through before this one, which is to drop the pages)
+            node.sent, self.handles[info.fh].fresh = None, current if node.written is None else None
         if node.misled(current):
             with contextlib.suppress(OSError):  # (where the kernel has forgotten it)
                 pyfuse3.invalidate_inode(ino, attr_only=True)
-        node.sent = current
         if writes:
             if node.session is None:
                 assert node.shown
@@ -207,6 +209,7 @@ class Operations(pyfuse3.Operations):  # type: ignore[misc]
     @guarded
     async def read(self, fh: int, offset: int, size: int) -> bytes:
         handle = self.handles[fh]
+        handle.heard()
         if handle.descriptor is not None:
             return read_at(handle.descriptor, size, offset)
         written = handle.node.written
@@ -232,6 +235,7 @@ class Operations(pyfuse3.Operations):  # type: ignore[misc]
     @guarded
     async def flush(self, fh: int) -> None:
         handle = self.handles[fh]
+        handle.heard()
         session = handle.node.session
         if handle.descriptor is None and handle.writes and session and session.dirty and session.whole():
             await self.saves.commit(handle.node, handle.thread)
@@ -248,6 +252,7 @@ class Operations(pyfuse3.Operations):  # type: ignore[misc]
     @guarded
     async def release(self, fh: int) -> None:
         handle = self.handles.pop(fh)
+        handle.heard()
         node = handle.node
         node.handles.discard(handle)
         if handle.descriptor is not None:

@@ -185,7 +185,7 @@ class Saves:
         node.shown = session.below if node.handles else None
         if session.dirty:
             # What was refused is no part of the file, and the kernel has pages of it.
-            node.sent = None
+            node.sends_anew()
             await self._forget_pages(node.ino)
 
     async def _put_back(self, node: Node) -> None:

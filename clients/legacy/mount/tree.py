@@ -108,7 +108,7 @@ class Node:
         # The inode below, and what it was last.
         self.below: Optional[int] = None
         self.found: Optional[os.stat_result] = None
-        # Of which content the kernel may have pages, and which it was told the size of, since when.
+        # The only content of which the kernel may have pages, and the one that it was told the size of, since when.
         self.sent: Optional[Signature] = None
         self.told: Optional[Signature] = None
         self.since = 0.0
@@ -136,6 +136,12 @@ class Node:
     def misled(self, content: Optional[Signature]) -> bool:
         """Whether the kernel may still have another size. (Of two answers on the way it keeps that which it saw first.)"""
         return content != self.told or time.monotonic() - self.since < 2 * EXACT
+
+    def sends_anew(self) -> None:
+        """What pages the kernel may have aren't those of a content."""
+        self.sent = None
+        for it in self.handles:
+            it.fresh = None
 
     @property
     def written(self) -> Optional[bytearray]:
@@ -170,6 +176,13 @@ class Handle:
         self.node, self.descriptor, self.writes, self.thread = node, descriptor, writes, thread
         # Where the last write ended, and the beginning of a character that it ended in.
         self.end, self.begun = 0, b""
+        # The content at whose opening the kernel was told to drop what it has of the file.
+        self.fresh: Optional[Signature] = None
+
+    def heard(self) -> None:
+        """A request of this handle has come. So the kernel is through with its opening, and has no older pages."""
+        if self.fresh:
+            self.node.sent, self.fresh = self.fresh, None
 
 
 Form = Callable[[bytes, os.stat_result], Optional[Rule]]

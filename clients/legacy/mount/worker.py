@@ -10,6 +10,7 @@ import sys
 from typing import Callable, List, Optional, Sequence, Tuple, TypeVar
 
 from gate import Fault, Gate, Gone
+from legacy.documents import Last
 from legacy.mount.below import Signature, settled, steady
 from legacy.mount.snapshots import Lengths, Text
 from legacy.saving import Known, Refused, read, read_all, save
@@ -25,10 +26,11 @@ class Jobs:
     def __init__(self, words: Sequence[str]):
         self._words = words
         self._gate: Optional[Gate] = None
+        self._last = Last()
 
     def text(self, raw: bytes, label: str) -> Text:
         """The text of these bytes."""
-        return self._with(lambda gate: text_of(read(gate, label, raw)))
+        return self._with(lambda gate: text_of(read(gate, label, raw, self._last)))
 
     def texts(self, files: Sequence[Tuple[bytes, str]]) -> List[Optional[Tuple[Signature, bytes, Text]]]:
         """What small files have now, each by its label; nothing of one that isn't there, or that may still change under the
@@ -54,7 +56,7 @@ class Jobs:
 
         def saved(gate: Gate) -> Tuple[bytes, str]:
             old, *more = [known(gate, label, it) for it in (base, *others)]
-            return save(gate, label, old, new, more).raw, "unchanged" if old.text == new else "the difference"
+            return save(gate, label, old, new, more, self._last).raw, "unchanged" if old.text == new else "the difference"
 
         return self._with(saved)
 
@@ -62,7 +64,7 @@ class Jobs:
         """Does a job with `gate`, and once more with a new one where that ended."""
         for _ in range(2):
             if self._gate is None:
-                self._gate = Gate.start(*self._words)
+                self._gate, self._last = Gate.start(*self._words), Last()
             try:
                 return job(self._gate)
             except Gone:
