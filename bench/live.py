@@ -27,7 +27,7 @@ from sessions import LIMIT, b64, document, line_starts, opened
 
 HERE = pathlib.Path(__file__).resolve().parent
 sys.path.insert(0, str(HERE.parent / "clients"))
-from gate import Document, Gate  # noqa: E402
+from gate import Gate  # noqa: E402
 
 # The document of a single client, and the one that is asked for as a whole.
 SIZE, WHOLE = 65_536, 100_000
@@ -52,10 +52,10 @@ class Talk:
     def ask(self, line: bytes) -> bytes:
         """The reply to a line, waited for."""
         os.write(self.writing, line)
-        reply = os.read(self.reading, READ)
-        while not reply.endswith(b"\n"):
-            reply += os.read(self.reading, READ)
-        return reply
+        parts = [os.read(self.reading, READ)]
+        while not parts[-1].endswith(b"\n"):
+            parts.append(os.read(self.reading, READ))
+        return b"".join(parts)
 
     def flood(self, lines: bytes) -> None:
         """Sends lines as fast as they are taken, and reads until each has its reply."""
@@ -148,18 +148,13 @@ def splices(connect: Connecting) -> float:
         return took[len(took) // 2]
 
 
-@contextlib.contextmanager
-def in_python(talk: Talk) -> Iterator[Document]:
-    """A document of the client in Python, over descriptors that are connected already."""
-    client = Gate(talk.reading, talk.writing, functools.partial(os.write, talk.writing), lambda: None, lambda: None)
-    yield client.open("d", "utf-8", document("utf-8", SIZE))
-
-
 def splices_in_python(connect: Connecting) -> float:
     """The same by the client in Python, which writes and reads JSON."""
     places = line_starts("utf-8", document("utf-8", SIZE))
     took = []
-    with connect() as talk, in_python(talk) as edited:
+    with connect() as talk:
+        client = Gate(talk.reading, talk.writing, functools.partial(os.write, talk.writing), lambda: None, lambda: None)
+        edited = client.open("d", "utf-8", document("utf-8", SIZE))
         for number in range(ALONE // 4):
             at = places[number * 7 % len(places)]
             begun = time.perf_counter()
