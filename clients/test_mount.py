@@ -284,6 +284,8 @@ class Refusals(Ruled):
         time.sleep(0.5)  # (its closing is told the mount afterwards)
         self.writes_what_is_refused(path, "é".encode())
         self.rejected("é".encode(), content=b"")
+        time.sleep(0.5)
+        self.holds(b"")
 
     def test_changed_below_by_someone_else(self):
         file = os.open(self.file(), os.O_WRONLY | os.O_TRUNC)

@@ -1,16 +1,17 @@
 """How the tasks that serve the kernel wait for its next request. By pyfuse3 as it comes each request takes two turns of
-trio's and a lock, which is most of what a short one costs. Here a request that has come already is taken at once, some in
-a row, and whoever has to wait leaves the others out of it.
+trio's and a lock, which is most of what a short one costs. Here a request that has come already is taken at once, for some
+time, and whoever has to wait leaves the others out of it.
 
 pyfuse3 finds trio by a name of its own module, where its pyfuse3_asyncio puts another library; so does `shorten`."""
 import select
+import time
 from typing import Any
 
 import pyfuse3
 import trio
 
-# How many requests are taken in a row before other tasks have their turn.
-ROW = 16
+# The seconds for which requests are taken one after the other before other tasks have their turn.
+TURN = 0.002
 
 
 class Requests:
@@ -21,7 +22,7 @@ class Requests:
         self._others = trio.lowlevel.ParkingLot()
         self._poll = select.poll()
         self._known = -1
-        self._row = 0
+        self._until = 0.0
         self._waits = self._over = False
 
     def _is_there(self, descriptor: int) -> bool:
@@ -34,11 +35,10 @@ class Requests:
     async def wait_readable(self, descriptor: int) -> None:
         """Waits until there is a request."""
         while not self._over:
-            if self._row >= ROW:
-                self._row = 0
+            if time.monotonic() > self._until:
                 await trio.lowlevel.checkpoint()
+                self._until = time.monotonic() + TURN
             elif self._is_there(descriptor):
-                self._row += 1
                 return
             elif self._waits:
                 await self._others.park()
@@ -48,9 +48,10 @@ class Requests:
 
     async def _wait(self, descriptor: int) -> None:
         """Waits for all tasks. The next one goes on with it, since this one has a request then, which may take long."""
-        self._row, self._waits = 0, True
+        self._waits = True
         try:
             await trio.lowlevel.wait_readable(descriptor)
+            self._until = time.monotonic() + TURN
         except trio.ClosedResourceError:
             self._over = True
             self._others.unpark_all()
