@@ -78,6 +78,16 @@ class OrdinaryUser(unittest.TestCase):
             "".join(denied) % (("converted",) * 3) + converted, "0 files converted; 4 refused\n", 1))
         self.assertEqual(self.legacy("check", tree / "sealed")[::2], (f"{tree}/sealed: not checked: Permission denied\n", 2))
 
+    def test_files_of_rules(self):
+        for name in ".gitattributes", ".editorconfig", "a.jp":
+            (self.folder / name).write_bytes(b"*.jp working-tree-encoding=shift_jis\n")
+        for name in ".gitattributes", ".editorconfig":
+            (self.folder / name).chmod(0)
+        printed, said, status = self.legacy("check", "--editorconfig", "-v", self.folder)
+        self.assertIn(f"{self.folder}/a.jp: not checked, no rule names its encoding\n", printed)
+        self.assertEqual((said.splitlines()[:2], status), (
+            [f"legacy: {name}: Permission denied, and so it is left out" for name in (".gitattributes", ".editorconfig")], 2))
+
     def test_a_whole_tree(self):
         bench = TOP / "bench" / "archives"
         said = self.run_as_user(bench / "tree.py", "--files", 66, "--largest", 6000, "--indexes", INDEXES, self.folder)

@@ -61,7 +61,10 @@ def measured(line: str, beside: str) -> Tuple[float, float]:
     """The wall time and the processor time of a command line; what an earlier one wrote is removed first."""
     shutil.rmtree(os.path.join(beside, "out"), ignore_errors=True)
     before, since = resource.getrusage(resource.RUSAGE_CHILDREN), time.monotonic()
-    subprocess.run(["sh", "-c", line], stdout=subprocess.DEVNULL, stderr=subprocess.DEVNULL, env={**os.environ, "PYTHONPATH": str(CLIENTS)})
+    quiet = {"stdout": subprocess.DEVNULL, "stderr": subprocess.DEVNULL}
+    ran = subprocess.run(["sh", "-c", line], env={**os.environ, "PYTHONPATH": str(CLIENTS)}, **quiet)
+    if "-m legacy" in line and ran.returncode > 1:
+        raise SystemExit(f"status {ran.returncode}: {line[:200]}")
     after = resource.getrusage(resource.RUSAGE_CHILDREN)
     return time.monotonic() - since, after.ru_utime + after.ru_stime - before.ru_utime - before.ru_stime
 

@@ -137,7 +137,8 @@ class EditorConfigs:
     def _watch(self, place: Place) -> "Watched[Config]":
         path = os.path.join(place.path, b".editorconfig")
         if path not in self._watched:
-            self._watched[path] = Watched(place, b".editorconfig", self._parser(path))
+            self._watched[path] = Watched(
+                place, b".editorconfig", self._parser(path), lambda why: self._report(f"{self._tree.shown(path)}: {why}"))
         return self._watched[path]
 
     def _parser(self, path: bytes) -> Callable[[bytes], Config]:

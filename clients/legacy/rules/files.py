@@ -53,10 +53,12 @@ class Place(NamedTuple):
 
 
 class Watched(Generic[Parsed]):
-    """What a file says, or what no file does."""
+    """What a file says, or what no file does. `report` is called with why one that is there can't be read."""
 
-    def __init__(self, place: Optional[Place], name: bytes, parse: Callable[[bytes], Parsed], follow: bool = True):
-        self._place, self._name, self._parse, self._follow = place, name, parse, follow
+    def __init__(
+        self, place: Optional[Place], name: bytes, parse: Callable[[bytes], Parsed], report: Callable[[str], None], follow: bool = True
+    ):
+        self._place, self._name, self._parse, self._report, self._follow = place, name, parse, report, follow
         self._nothing = self._found = parse(b"")
         self._signature: Optional[Tuple[int, ...]] = None
         self._turn = -1
@@ -81,10 +83,17 @@ class Watched(Generic[Parsed]):
                 raise OSError
             signature = (status.st_dev, status.st_ino, status.st_size, status.st_mtime_ns, status.st_ctime_ns)
             if signature != self._signature:
-                self._found = self._parse(place.held.read(name, self._follow))
+                self._found = self._parse(self._read(place, name))
                 self._signature = signature if time.time_ns() - status.st_ctime_ns > LATELY else None
         except OSError:
             self._found, self._signature = self._nothing, None
+
+    def _read(self, place: Place, name: bytes) -> bytes:
+        try:
+            return place.held.read(name, self._follow)
+        except PermissionError as fault:
+            self._report(f"{fault.strerror}, and so it is left out")
+            raise
 
 
 class Tree:

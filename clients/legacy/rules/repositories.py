@@ -121,7 +121,7 @@ class Repositories:
         key = os.path.join(place.path, name), macros
         if key not in self._watched:
             # (git doesn't follow a link from the tree, which may lead out of it)
-            self._watched[key] = Watched(place, name, self._parser(key[0], macros), follow=name != b".gitattributes")
+            self._watched[key] = Watched(place, name, self._parser(key[0], macros), self._reporter(key[0]), name != b".gitattributes")
         return self._watched[key]
 
     def _watch_outside(self, path: bytes) -> "Watched[Attributes]":
@@ -130,7 +130,10 @@ class Repositories:
             place: Optional[Place] = Place(Held(folder), b"", folder)
         except OSError:
             place = None
-        return Watched(place, name, self._parser(path, True))
+        return Watched(place, name, self._parser(path, True), self._reporter(path))
+
+    def _reporter(self, path: bytes) -> Callable[[str], None]:
+        return lambda why: self._report(f"{self._tree.shown(path)}: {why}")
 
     def _parser(self, path: bytes, macros: bool) -> Callable[[bytes], Attributes]:
         def parse(content: bytes) -> Attributes:
