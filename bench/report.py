@@ -12,7 +12,7 @@ import subprocess
 
 DOCS = pathlib.Path(__file__).resolve().parent.parent / "docs"
 BEGIN, END = "<!-- figures -->", "<!-- end of figures -->"
-UNITS = {"instructions": "thousands of instructions", "us": "microseconds"}
+UNITS = {"instructions": "thousands of instructions", "us": "microseconds", "faults": "page faults"}
 TITLES = {
     "edits": "Edits: a splice, a text of 100 code points, and the splice that takes it back",
     "changes": "Changes: a range change by line and character, and the one that takes it back",
@@ -20,6 +20,7 @@ TITLES = {
     "pages": "Pages: 1,000 lines, and 1,000 code points encoded in UTF-8",
     "error-pages": "Errors: a page of 1,000, in a document with an error on each line",
     "texts": "Texts: a 32nd as many code points as the document has bytes, as text and encoded in UTF-8",
+    "opening": "Opening: a document opened, ten code points of it, and closed",
     "bulk": "Bulk: a document opened, an eighth of its bytes in code points as text and as UTF-8, its errors",
     "lists-of-1": "Lists of one change by line and character, and the list that takes it back",
     "lists-of-10": "Lists of ten changes by line and character, and the list that takes them back",
@@ -39,7 +40,7 @@ WITH_MEMORY = ("edits", "bulk")
 
 def main():
     words = argparse.ArgumentParser(description=__doc__)
-    words.add_argument("figures", nargs="+", help="what run.py printed, by time or by instructions")
+    words.add_argument("figures", nargs="+", help="what run.py printed, by time, by instructions or by page faults")
     words.add_argument("--codecs", nargs=2, metavar=("OURS", "THEIRS"), help="what 'speed codecs' and codecs printed")
     given = words.parse_args()
     files = [rows_of(name) for name in given.figures]
@@ -81,7 +82,8 @@ def machine():
 
 def table(kind, rows, unit):
     """What gate takes at the least and the greatest size, and its memory; at the greatest size that both were measured
-    with, the faster peer, and how many times gate's cost its is."""
+    with, the faster peer, and how many times gate's cost its is; at the greatest size the floor, and how many times its
+    cost gate's is."""
     sizes = sorted({int(row["bytes"]) for row in rows})
     met = max((int(row["bytes"]) for row in rows if row["ratio"]), default=None)
     # Name of the column, its figure, and the size that it is of.
@@ -89,6 +91,11 @@ def table(kind, rows, unit):
     if met:
         faster = lambda row: min(row[f"peer_{unit}"], row[f"typed_{unit}"], key=float)
         columns += [("faster peer", faster, met), ("over gate", lambda row: row["ratio"], met)]
+    # A floor that keeps its memory has no page faults.
+    if unit != "faults" and all(row[f"floor_{unit}"] for row in rows):
+        floor = lambda row: float(row[f"floor_{unit}"])
+        columns += [("floor", lambda row: f"{floor(row):.2f}", sizes[-1])]
+        columns += [("over floor", lambda row: f"{float(row[f'gate_{unit}']) / floor(row):.1f}", sizes[-1])]
     if unit == "us" and kind in WITH_MEMORY:
         columns += [("MB", lambda row: row["gate_MB"], sizes[-1])]
         columns += [("peer's MB", lambda row: row["peer_MB"], met)] if met else []

@@ -1,8 +1,9 @@
 #!/usr/bin/env python3
 """Runs gate and both peers in turn on the same sessions, compares every reply, and prints what each took.
 
-By time, or by the instructions that valgrind counts: these are the same in each run, however busy the machine is. What
-the peers don't know, and documents that are too long for them, gate alone is measured with; with --no-peer so is all.
+By time, by the instructions that valgrind counts, which are the same in each run, however busy the machine is, or by page
+faults. Beside them runs the floor, which reads the lines and says the same to each. What the peers don't know, and
+documents that are too long for them, gate alone is measured with; with --no-peer so is all.
 """
 
 import argparse
@@ -43,6 +44,18 @@ def counted(words, session):
         return int(count.replace(",", "")) / 1e3, 0, replies
 
 
+def faulted(words, session):
+    """Page faults that needed no disk, no memory, and the replies."""
+    with tempfile.NamedTemporaryFile("r") as faults:
+        replies = replies_of(["/usr/bin/time", "-f", "%R", "-o", faults.name, *words], session)
+        return int(faults.read()), 0, replies
+
+
+def answered(words, session):
+    """Nothing but the replies."""
+    return 0, 0, replies_of(words, session)
+
+
 def replies_of(words, session):
     with tempfile.TemporaryFile() as replies, open(session, "rb") as lines:
         status = subprocess.call(words, stdin=lines, stdout=replies)
@@ -56,6 +69,7 @@ def main():
     words = argparse.ArgumentParser(description=__doc__)
     words.add_argument("--gate", default="../crates/gate/out/gate")
     words.add_argument("--peer", default="peer/target/release/peer")
+    words.add_argument("--floor", default="peer/target/release/floor")
     words.add_argument("--no-peer", action="store_true", help="measure gate alone")
     words.add_argument("--indexes", required=True)
     words.add_argument("--labels", required=True)
@@ -63,20 +77,36 @@ def main():
     words.add_argument("--encodings", nargs="*", choices=SAMPLES, default=list(SAMPLES))
     words.add_argument("--sizes", nargs="*", choices=SIZES, default=list(SIZES))
     words.add_argument("--times", type=int, default=5, help="runs of each session, of which the fastest counts")
-    words.add_argument("--instructions", action="store_true", help="count instructions, over a tenth of the rounds")
+    way = words.add_mutually_exclusive_group()
+    way.add_argument("--instructions", action="store_true", help="count instructions, over a tenth of the rounds")
+    way.add_argument("--faults", action="store_true", help="count page faults, over a tenth of the rounds")
+    way.add_argument("--replies", action="store_true", help="compare replies alone, those of every kind")
     chosen = words.parse_args()
     gate = [chosen.gate, "stdio", "--indexes", chosen.indexes, "--labels", chosen.labels]
-    unit = "instructions" if chosen.instructions else "us"
-    figures = [f"gate_{unit}", *(f"{name}_{unit}" for name in PEERS), "ratio", "gate_MB", *(f"{name}_MB" for name in PEERS)]
-    print("kind", "encoding", "bytes", *figures, sep="\t")
-    meter = Meter(counted, 1, 10) if chosen.instructions else Meter(timed, chosen.times, 1)
-    for name in chosen.kinds:
-        kind = KINDS[name]
-        for encoding in (known for known in chosen.encodings if known in kind.encodings):
-            for size in (known for known in chosen.sizes if known in kind.sizes):
-                case = Case(name, encoding, size)
-                met = kind.rounds.peer and size in PEER_SIZES and not chosen.no_peer
-                compare(case, gate, [[chosen.peer, *words] for words in PEERS.values()] if met else [], meter)
+    peers = [[chosen.peer, *words] for words in PEERS.values()]
+    cases = [
+        Case(name, encoding, size)
+        for name in chosen.kinds
+        for encoding in chosen.encodings
+        for size in chosen.sizes
+        if encoding in KINDS[name].encodings and size in KINDS[name].sizes
+    ]
+    if chosen.replies:
+        for case in cases:
+            if case.is_known:
+                compare_replies(case, gate, peers)
+        return
+    unit, meter = "us", Meter(timed, chosen.times, 1)
+    if chosen.instructions:
+        unit, meter = "instructions", Meter(counted, 1, 10)
+    elif chosen.faults:
+        unit, meter = "faults", Meter(faulted, chosen.times, 10)
+    figures = [f"{name}_{unit}" for name in ("gate", *PEERS)]
+    memory = [f"{name}_MB" for name in ("gate", *PEERS)]
+    print("kind", "encoding", "bytes", *figures, "ratio", f"floor_{unit}", *memory, sep="\t")
+    for case in cases:
+        is_met = case.is_known and KINDS[case.kind].rounds.peer and not chosen.no_peer
+        compare(case, gate, [] if chosen.no_peer else [[chosen.floor]], peers if is_met else [], meter)
 
 
 class Case:
@@ -84,6 +114,8 @@ class Case:
 
     def __init__(self, kind, encoding, size):
         self.kind, self.encoding, self.bytes = kind, encoding, SIZES[size]
+        # Whether the peers know such documents.
+        self.is_known = size in PEER_SIZES
 
     def session(self, rounds):
         return KINDS[self.kind].session(self.encoding, self.bytes, rounds)
@@ -92,22 +124,36 @@ class Case:
         return f"{self.kind} {self.encoding} {self.bytes}"
 
 
-def compare(case, gate, peers, meter):
+def compare(case, gate, floor, peers, meter):
     """One line: the cost of a round, beyond the start and the open, how many times that the faster peer takes, and memory."""
-    # gate's rounds are short: it takes more of them, of which the peers' are the first.
+    # gate's rounds are short: it and the floor take more of them, of which the peers' are the first.
     many, few = (max(1, count // meter.rounds_by) for count in KINDS[case.kind].rounds)
-    before = meter.measure([gate, *peers], case.session(0))
-    ours = meter.measure([gate], case.session(many))[0]
+    own = [gate, *floor]
+    before = meter.measure([*own, *peers], case.session(0))
+    ours = meter.measure(own, case.session(many))
+    theirs = meter.measure(peers, case.session(few)) if peers else []
+    tell_refusal(case, ours[0].replies)
+    for run in theirs:
+        tell_difference(case, ours[0].replies, run.replies)
+    rounds = [many] * len(ours) + [few] * len(theirs)
+    costs = [(run.cost - bare.cost) / count for run, bare, count in zip([*ours, *theirs], before, rounds)]
+    of_peers = costs[len(ours) :]
+    ratio = f"{min(of_peers) / costs[0]:.2f}" if peers else ""
+    none = [""] * (len(PEERS) - len(peers))
+    figures = [f"{costs[0]:.1f}", *(f"{cost:.1f}" for cost in of_peers), *none]
+    least = f"{costs[1]:.3f}" if floor else ""
+    memory = [*(f"{run.peak:.1f}" for run in (ours[0], *theirs)), *none]
+    print(case.kind, case.encoding, case.bytes, *figures, ratio, least, *memory, sep="\t", flush=True)
+
+
+def compare_replies(case, gate, peers):
+    """One line: how many replies are the same, also of a kind that the peers aren't measured with."""
+    rounds = max(3, KINDS[case.kind].rounds.gate // 100)
+    ours, *theirs = Meter(answered, 1, 1).measure([gate, *peers], case.session(rounds))
     tell_refusal(case, ours.replies)
-    took = (ours.cost - before[0].cost) / many
-    runs = meter.measure(peers, case.session(few)) if peers else []
-    for run in runs:
+    for run in theirs:
         tell_difference(case, ours.replies, run.replies)
-    costs = [(run.cost - bare.cost) / few for run, bare in zip(runs, before[1:])]
-    none = [""] * (len(PEERS) - len(runs))
-    ratio = f"{min(costs) / took:.2f}" if costs else ""
-    theirs, peaks = [f"{cost:.1f}" for cost in costs], [f"{run.peak:.1f}" for run in runs]
-    print(case.kind, case.encoding, case.bytes, f"{took:.1f}", *theirs, *none, ratio, f"{ours.peak:.1f}", *peaks, *none, sep="\t", flush=True)
+    print(case.kind, case.encoding, case.bytes, ours.replies.count(b"\n"), sep="\t", flush=True)
 
 
 class Run:
@@ -132,6 +178,8 @@ class Meter:
                 for run, words in zip(runs, programs):
                     cost, run.peak, run.replies = self.once(words, lines.name)
                     run.cost = min(run.cost, cost)
+                    if run.replies.count(b"\n") != session.count(b"\n"):
+                        sys.exit(f"{words[0]} hasn't a reply for each line")
         return runs
 
 

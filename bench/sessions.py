@@ -145,6 +145,17 @@ def texts(label, size, count):
     return session.bytes()
 
 
+def openings(label, size, count):
+    """Documents opened one after another, each with a short text of it, and closed."""
+    data = b64(document(label, size))
+    session = Session()
+    for _ in range(count):
+        session.add("open", doc="d", label=label, bytes=data)
+        session.add("text", doc="d", **{"from": 0, "to": 10})
+        session.add("close", doc="d")
+    return session.bytes()
+
+
 def bulk(label, size, count):
     """Documents opened one after another: a long text of each, the same range in UTF-8, and its errors."""
     data = document(label, size)
@@ -279,6 +290,7 @@ KINDS = {
     "pages": Kind(pages, Rounds(200, 200)),
     "error-pages": Kind(error_pages, Rounds(200, 200), encodings=ERRING),
     "texts": Kind(texts, Rounds(100, 100)),
+    "opening": Kind(openings, Rounds(40, 40), ("64K", "2M")),
     "bulk": Kind(bulk, Rounds(10, 10)),
     "lists-of-1": Kind(lists(1), Rounds(2000, 30), GROWING),
     "lists-of-10": Kind(lists(10), Rounds(500, 3), GROWING),

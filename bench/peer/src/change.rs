@@ -125,8 +125,14 @@ pub fn plan(document: &mut Document, i: usize, j: usize, text: &str) -> Result<P
     })
 }
 
-/// Whether the bytes with the change decode to the text with the change.
-pub fn is_kept(document: &mut Document, plan: &Plan, from: usize, to: usize, text: &str) -> bool {
+/// The bytes with the change and what they decode to, if that is the text with the change.
+pub fn kept(
+    document: &mut Document,
+    plan: &Plan,
+    from: usize,
+    to: usize,
+    text: &str,
+) -> Option<(Vec<u8>, Decoded)> {
     let old = document.bytes();
     let mut bytes = Vec::with_capacity(old.len() + plan.bytes.len());
     bytes.extend_from_slice(&old[..plan.at]);
@@ -136,8 +142,9 @@ pub fn is_kept(document: &mut Document, plan: &Plan, from: usize, to: usize, tex
     let mut new = Decoded::default();
     decode(encoding, &bytes, mark, &mut new);
     let old = &document.decoded().text;
-    new.text.len() == old.len() - (to - from) + text.len()
+    let is_kept = new.text.len() == old.len() - (to - from) + text.len()
         && new.text.starts_with(&old[..from])
         && new.text[from..].starts_with(text)
-        && new.text.ends_with(&old[to..])
+        && new.text.ends_with(&old[to..]);
+    is_kept.then_some((bytes, new))
 }

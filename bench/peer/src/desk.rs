@@ -1,14 +1,15 @@
 //! Commands and replies: names, documents, the order of refusals.
 
-use crate::change::{code_points_before, is_kept, place_of, plan, Plan};
+use crate::change::{code_points_before, kept, place_of, plan, Plan};
 use crate::document::Document;
 use crate::encode::encode;
-use crate::positions::{Counts, Missed, Unit};
 use crate::fields::{Fields, Line, Range, GREATEST};
-use crate::reply::{line, Answer, Content, Fault};
+use crate::positions::{Counts, Missed, Unit};
+use crate::reply::{line, Answer, Content, Fault, Fielded};
 use encoding_rs::Encoding;
 use serde_json::Value;
 use std::collections::HashMap;
+use std::str;
 
 const LINE: usize = 4_194_304;
 const DOCUMENT: usize = 16_777_216;
@@ -104,8 +105,9 @@ impl Desk {
 
     /// The same, of a line that is read without a tree where it has the type of any line.
     pub fn answer_typed(&mut self, bytes: &[u8]) -> String {
-        match serde_json::from_slice::<Line>(bytes) {
-            Ok(read) if bytes.len() <= LINE && read.id <= GREATEST => {
+        let text = str::from_utf8(bytes).ok();
+        match text.and_then(|text| serde_json::from_str::<Line>(text).ok()) {
+            Some(read) if bytes.len() <= LINE && read.id <= GREATEST => {
                 line(Some(read.id), self.command(&read))
             }
             _ => self.answer(bytes),
@@ -287,11 +289,16 @@ impl Desk {
         let max = page(object)?;
         let document = self.get(name)?;
         let rev = document.revision;
-        let lines = document.decoded().tables.lines();
-        let rest = lines.get(from..).ok_or("OutOfRange")?;
-        let page = rest.iter().take(max).map(|(start, end)| [start.utf32 as u64, end.utf32 as u64]);
+        let decoded = document.decoded();
+        let count = decoded.tables.starts(&decoded.text).len();
+        if from > count {
+            return Err("OutOfRange".into());
+        }
+        let page = (from..count).take(max);
+        let page = page.filter_map(|line| decoded.tables.line(&decoded.text, line));
+        let page = page.map(|(start, end)| [start.utf32 as u64, end.utf32 as u64]);
         Ok(vec![
-            ("count", lines.len().into()),
+            ("count", count.into()),
             ("lines", Content::Pairs(page.collect())),
             ("rev", rev.into()),
         ])
@@ -307,7 +314,7 @@ impl Desk {
             .tables
             .at(&decoded.text, offset, Unit::Utf32)
             .map_err(missed)?;
-        let (line, character) = decoded.tables.position(place, unit);
+        let (line, character) = decoded.tables.position(&decoded.text, place, unit);
         Ok(vec![
             ("character", character.into()),
             ("line", line.into()),
@@ -346,7 +353,7 @@ impl Desk {
         };
         let decoded = document.decoded();
         let counts = decoded.tables.at(&decoded.text, value, unit).map_err(missed)?;
-        let is_end = counts.utf32 == decoded.tables.whole().utf32;
+        let is_end = counts.utf8 == decoded.text.len();
         let place = (!is_end).then(|| place_of(document, counts.utf32));
         Ok(vec![
             ("place", Content::Place(place.map(|(from, to)| [from as u64, to as u64]))),
@@ -365,10 +372,10 @@ impl Desk {
             vec![("bytes", length.into()), ("given", given.into())],
         );
         let decoded = document.decoded();
-        let whole = decoded.tables.whole();
+        let whole = decoded.tables.whole(&decoded.text);
         answer.extend([
             ("errors", decoded.errors.len().into()),
-            ("lines", decoded.tables.lines().len().into()),
+            ("lines", decoded.tables.starts(&decoded.text).len().into()),
             ("utf16", whole.utf16.into()),
             ("utf32", whole.utf32.into()),
             ("utf8", whole.utf8.into()),
@@ -381,12 +388,12 @@ impl Desk {
 fn changed(document: &mut Document, unit: Unit, range: Range, put: &str) -> Result<Plan, Fault> {
     let decoded = document.decoded();
     let (from, to) = match range {
-        None => (Counts::default(), decoded.tables.whole()),
+        None => (Counts::default(), decoded.tables.whole(&decoded.text)),
         Some((start, end)) => {
             if start > end {
                 return Err("OutOfRange".into());
             }
-            let place = |(line, character)| {
+            let mut place = |(line, character)| {
                 decoded
                     .tables
                     .of_position(&decoded.text, line, character, unit)
@@ -399,10 +406,8 @@ fn changed(document: &mut Document, unit: Unit, range: Range, put: &str) -> Resu
     if document.bytes().len() - plan.del + plan.bytes.len() > DOCUMENT {
         return Err("TooLarge".into());
     }
-    if !is_kept(document, &plan, from.utf8, to.utf8, put) {
-        return Err("NotKept".into());
-    }
-    document.splice(plan.at, plan.del, &plan.bytes);
+    let (bytes, decoded) = kept(document, &plan, from.utf8, to.utf8, put).ok_or("NotKept")?;
+    document.replace(bytes, decoded);
     Ok(plan)
 }
 
@@ -416,9 +421,6 @@ fn edited(document: &Document, rev: u64) -> Result<(), Fault> {
     }
     Ok(())
 }
-
-/// Fields of a reply.
-type Fielded = Vec<(&'static str, Content)>;
 
 /// The fields of a document's head, and more.
 fn headed(document: &Document, mut more: Fielded) -> Fielded {
@@ -437,7 +439,7 @@ fn part(document: &mut Document, from: u64, to: u64) -> Result<String, Fault> {
     if from > to {
         return Err("OutOfRange".into());
     }
-    let place = |value| {
+    let mut place = |value| {
         decoded
             .tables
             .at(&decoded.text, value as usize, Unit::Utf32)

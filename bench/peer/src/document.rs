@@ -50,6 +50,13 @@ impl Document {
         self.is_decoded = false;
     }
 
+    /// Other bytes, and what they decode to.
+    pub fn replace(&mut self, bytes: Vec<u8>, decoded: Decoded) {
+        self.bytes = bytes;
+        self.decoded = decoded;
+        self.is_decoded = true;
+    }
+
     /// The bytes as they were, where a later part of an edit is refused.
     pub fn restore(&mut self, bytes: Vec<u8>) {
         self.bytes = bytes;
@@ -57,13 +64,13 @@ impl Document {
     }
 
     /// The document decoded, which is done once after an edit.
-    pub fn decoded(&mut self) -> &Decoded {
+    pub fn decoded(&mut self) -> &mut Decoded {
         if !self.is_decoded {
             let (encoding, mark) = self.mark();
             decode(encoding, &self.bytes, mark, &mut self.decoded);
             self.is_decoded = true;
         }
-        &self.decoded
+        &mut self.decoded
     }
 }
 
@@ -73,6 +80,7 @@ pub fn decode(encoding: &'static Encoding, bytes: &[u8], mark: usize, decoded: &
     let rest = &bytes[mark..];
     decoded.text.clear();
     decoded.errors.clear();
+    decoded.tables.clear();
     if let Some(room) = decoder.max_utf8_buffer_length_without_replacement(rest.len()) {
         decoded.text.reserve(room);
     }
@@ -95,5 +103,4 @@ pub fn decode(encoding: &'static Encoding, bytes: &[u8], mark: usize, decoded: &
             }
         }
     }
-    decoded.tables.fill(&decoded.text);
 }

@@ -66,24 +66,23 @@ fn position(value: &Value) -> Option<Position> {
     Some((part("line")?, part("character")?))
 }
 
-/// Any line, read without a tree; its texts are borrowed where nothing in them is escaped.
+/// A text that is borrowed from the line where nothing in it is escaped. Serde borrows one that may
+/// be absent only by a type of its own.
+#[derive(Deserialize)]
+struct Text<'a>(#[serde(borrow)] Cow<'a, str>);
+
+/// Any line, read without a tree.
 #[derive(Deserialize)]
 pub struct Line<'a> {
     pub id: u64,
     #[serde(borrow)]
-    op: Cow<'a, str>,
-    #[serde(borrow)]
-    doc: Option<Cow<'a, str>>,
-    #[serde(borrow)]
-    label: Option<Cow<'a, str>>,
-    #[serde(borrow)]
-    bytes: Option<Cow<'a, str>>,
-    #[serde(borrow)]
-    mode: Option<Cow<'a, str>>,
-    #[serde(borrow)]
-    unit: Option<Cow<'a, str>>,
-    #[serde(borrow)]
-    text: Option<Cow<'a, str>>,
+    op: Text<'a>,
+    doc: Option<Text<'a>>,
+    label: Option<Text<'a>>,
+    bytes: Option<Text<'a>>,
+    mode: Option<Text<'a>>,
+    unit: Option<Text<'a>>,
+    text: Option<Text<'a>>,
     rev: Option<u64>,
     at: Option<u64>,
     del: Option<u64>,
@@ -96,7 +95,6 @@ pub struct Line<'a> {
     character: Option<u64>,
     value: Option<u64>,
     range: Option<Ends>,
-    #[serde(borrow)]
     changes: Option<Vec<Change<'a>>>,
 }
 
@@ -104,7 +102,7 @@ pub struct Line<'a> {
 struct Change<'a> {
     range: Option<Ends>,
     #[serde(borrow)]
-    text: Cow<'a, str>,
+    text: Text<'a>,
 }
 
 #[derive(Clone, Copy, Deserialize)]
@@ -148,16 +146,17 @@ impl Fields for Line<'_> {
 
     #[inline(always)]
     fn text(&self, field: &'static str) -> Option<&str> {
-        match field {
+        let text = match field {
             "op" => Some(&self.op),
-            "doc" => self.doc.as_deref(),
-            "label" => self.label.as_deref(),
-            "bytes" => self.bytes.as_deref(),
-            "mode" => self.mode.as_deref(),
-            "unit" => self.unit.as_deref(),
-            "text" => self.text.as_deref(),
+            "doc" => self.doc.as_ref(),
+            "label" => self.label.as_ref(),
+            "bytes" => self.bytes.as_ref(),
+            "mode" => self.mode.as_ref(),
+            "unit" => self.unit.as_ref(),
+            "text" => self.text.as_ref(),
             _ => None,
-        }
+        };
+        text.map(|Text(text)| &**text)
     }
 
     #[inline(always)]
@@ -174,7 +173,7 @@ impl Fields for Line<'_> {
         Some(
             listed
                 .iter()
-                .map(|change| (change.range.map(Ends::range), &*change.text))
+                .map(|change| (change.range.map(Ends::range), &*change.text.0))
                 .collect(),
         )
     }

@@ -1,8 +1,10 @@
 //! Reply lines: compact JSON, keys in ascending order, as serde_json writes them.
 
-use serde_json::{json, Map, Value};
+use serde::{Serialize, Serializer};
 
 /// What a field of a reply holds.
+#[derive(Serialize)]
+#[serde(untagged)]
 pub enum Content {
     Number(u64),
     Text(String),
@@ -44,7 +46,7 @@ impl From<&'static str> for Content {
 /// A refusal: its name and its further fields.
 pub struct Fault {
     pub name: &'static str,
-    pub fields: Vec<(&'static str, Content)>,
+    pub fields: Fielded,
 }
 
 impl From<&'static str> for Fault {
@@ -57,42 +59,35 @@ impl From<&'static str> for Fault {
 }
 
 impl Fault {
-    pub fn with(name: &'static str, fields: Vec<(&'static str, Content)>) -> Fault {
+    pub fn with(name: &'static str, fields: Fielded) -> Fault {
         Fault { name, fields }
     }
 }
 
+/// Fields with their names.
+pub type Fielded = Vec<(&'static str, Content)>;
+
 /// The fields of a reply beside `id`.
-pub type Answer = Result<Vec<(&'static str, Content)>, Fault>;
+pub type Answer = Result<Fielded, Fault>;
+
+struct Reply(Fielded);
+
+impl Serialize for Reply {
+    fn serialize<S: Serializer>(&self, serializer: S) -> Result<S::Ok, S::Error> {
+        serializer.collect_map(self.0.iter().map(|(name, content)| (name, content)))
+    }
+}
 
 /// The line of a reply.
 pub fn line(id: Option<u64>, answer: Answer) -> String {
-    let fields = answer.unwrap_or_else(|fault| {
+    let mut fields = answer.unwrap_or_else(|fault| {
         let mut fields = fault.fields;
         fields.push(("fault", fault.name.into()));
         fields
     });
-    let mut object: Map<String, Value> = fields
-        .into_iter()
-        .map(|(name, content)| (name.to_owned(), value(content)))
-        .collect();
-    if let Some(id) = id {
-        object.insert("id".to_owned(), id.into());
-    }
-    let mut line = Value::Object(object).to_string();
+    fields.extend(id.map(|id| ("id", id.into())));
+    fields.sort_unstable_by_key(|&(name, _)| name);
+    let mut line = serde_json::to_string(&Reply(fields)).expect("a reply is JSON");
     line.push('\n');
     line
-}
-
-fn value(content: Content) -> Value {
-    match content {
-        Content::Number(number) => number.into(),
-        Content::Text(text) => text.into(),
-        Content::Name(name) => name.into(),
-        Content::Place(place) => place.map_or(Value::Null, |[from, to]| json!([from, to])),
-        Content::Pairs(pairs) => {
-            let pairs: Vec<Value> = pairs.iter().map(|[from, to]| json!([from, to])).collect();
-            pairs.into()
-        }
-    }
 }
