@@ -1,7 +1,8 @@
 //! The command line.
 
 use clap::error::ErrorKind;
-use clap::{Arg, ArgAction, ArgMatches, Command, Error, value_parser};
+use clap::{Arg, ArgAction, ArgGroup, ArgMatches, Command, Error, value_parser};
+use serving::{Limits, Place};
 use std::alloc::Global;
 
 /// The version of the program and of what is packed beside it, with the identity of the toolchain that
@@ -14,8 +15,11 @@ const STDIO: &str = "stdio";
 /// The command that plays a trace.
 const TRACE: &str = "trace";
 
-/// The command that serves connections over TCP.
+/// The command that serves connections over TCP, one after another.
 const TCP: &str = "tcp";
+
+/// The command that serves live clients.
+const SERVE: &str = "serve";
 
 /// What the program is to do.
 #[derive(Clone, Copy)]
@@ -28,6 +32,8 @@ pub enum Job<'a> {
     Trace(Sources<'a>),
     /// Serve connections over TCP with these files.
     Tcp(Sources<'a>, Listening),
+    /// Serve live clients with these files, there and so long.
+    Serve(Sources<'a>, Place<'a>, Limits),
 }
 
 /// The files that the program is to read.
@@ -66,8 +72,11 @@ fn asked<'a>(matches: &ArgMatches<'a>) -> Option<Job<'a>> {
     if let Some(given) = matches.subcommand_matches(TRACE) {
         return Some(Job::Trace(sources_of(given)?));
     }
-    match matches.subcommand_matches(TCP) {
-        Some(given) => tcp_of(given),
+    if let Some(given) = matches.subcommand_matches(TCP) {
+        return tcp_of(given);
+    }
+    match matches.subcommand_matches(SERVE) {
+        Some(given) => serve_of(given),
         None => Some(Job::Plain),
     }
 }
@@ -88,6 +97,20 @@ fn tcp_of<'a>(given: &ArgMatches<'a>) -> Option<Job<'a>> {
         connections: given.get_one::<u32>("serve")?,
     };
     Some(Job::Tcp(sources, listening))
+}
+
+/// The job of the command that serves live clients.
+fn serve_of<'a>(given: &ArgMatches<'a>) -> Option<Job<'a>> {
+    let sources = sources_of(given)?;
+    let place = match given.get_str("socket") {
+        Some(path) => Place::Path(path),
+        None => Place::Port(given.get_one::<u16>("port")?),
+    };
+    let limits = Limits {
+        clients: given.get_one::<u32>("serve"),
+        idle: given.get_one::<u32>("idle"),
+    };
+    Some(Job::Serve(sources, place, limits))
 }
 
 /// The folder of index files.
@@ -116,7 +139,6 @@ fn port<'a>(alloc: Global) -> Arg<'a> {
         .value_name("N")
         .help("The port on 127.0.0.1, from 1 to 65535")
         .value_parser(value_parser!(u16).range(1..))
-        .default_value("7117")
         .action(ArgAction::Set)
 }
 
@@ -127,7 +149,25 @@ fn connections<'a>(alloc: Global) -> Arg<'a> {
         .value_name("N")
         .help("How many connections to serve, from 1 to 1000000")
         .value_parser(value_parser!(u32).range(1..=1_000_000))
-        .default_value("1")
+        .action(ArgAction::Set)
+}
+
+/// The socket that is listened at.
+fn socket<'a>(alloc: Global) -> Arg<'a> {
+    Arg::new(alloc, "socket")
+        .long("socket")
+        .value_name("PATH")
+        .help("The path of the Unix socket, to which only the user may connect")
+        .action(ArgAction::Set)
+}
+
+/// How long no client may be there.
+fn idle<'a>(alloc: Global) -> Arg<'a> {
+    Arg::new(alloc, "idle")
+        .long("idle")
+        .value_name("S")
+        .help("End where no client has been there for S seconds, from 1 on")
+        .value_parser(value_parser!(u32).range(1..))
         .action(ArgAction::Set)
 }
 
@@ -144,8 +184,21 @@ fn tcp<'a>(alloc: Global) -> Result<Command<'a>, Error> {
     let command = with_sources(alloc, TCP, about)?.after_help(
         "Example: gate tcp --indexes standard --labels standard/encodings.json --port 7117 --serve 10",
     );
-    let command = command.arg(port(alloc))?;
-    Ok(command.arg(connections(alloc))?)
+    let command = command.arg(port(alloc).default_value("7117"))?;
+    Ok(command.arg(connections(alloc).default_value("1"))?)
+}
+
+/// The command that serves live clients, at a socket or at a port.
+fn serve<'a>(alloc: Global) -> Result<Command<'a>, Error> {
+    let about =
+        "Serves up to sixteen clients at once, at a Unix socket or on 127.0.0.1, with index files and labels";
+    let command = with_sources(alloc, SERVE, about)?.after_help(
+        "Example: gate serve --indexes standard --labels standard/encodings.json --socket gate.sock --idle 60",
+    );
+    let command = command.arg(socket(alloc))?.arg(port(alloc))?;
+    let command = command.arg(connections(alloc))?.arg(idle(alloc))?;
+    let place = ArgGroup::new(alloc, "place").args(&["socket", "port"])?;
+    Ok(command.group(place.required(true))?)
 }
 
 /// The command line's form.
@@ -171,6 +224,7 @@ fn command<'a>(alloc: Global) -> Result<Command<'a>, Error> {
         .no_binary_name(true)
         .subcommand(stdio)?
         .subcommand(trace)?
-        .subcommand(tcp(alloc)?)?;
+        .subcommand(tcp(alloc)?)?
+        .subcommand(serve(alloc)?)?;
     Ok(gate)
 }

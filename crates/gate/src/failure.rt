@@ -31,8 +31,12 @@ pub enum Failure<'a> {
     TooManyReads,
     /// The program can't listen on this port.
     CannotListen(u16),
+    /// The program can't listen at this path.
+    CannotListenAt(&'a str),
     /// A connection can't be accepted.
     Accept,
+    /// The system doesn't report what clients do.
+    Poll,
     /// Memory ran out outside of a command.
     OutOfMemory,
 }
@@ -54,7 +58,9 @@ impl Failure<'_> {
             | Failure::Write
             | Failure::TooManyReads
             | Failure::CannotListen(_)
+            | Failure::CannotListenAt(_)
             | Failure::Accept
+            | Failure::Poll
             | Failure::OutOfMemory => 1,
         }
     }
@@ -111,7 +117,9 @@ impl fmt::Display for Failure<'_> {
             Failure::Write => f.write_str("gate: write fault\n"),
             Failure::TooManyReads => f.write_str("gate: too many reads\n"),
             Failure::CannotListen(port) => writeln!(f, "gate: cannot listen on port {port}"),
+            Failure::CannotListenAt(path) => writeln!(f, "gate: cannot listen on {path}"),
             Failure::Accept => f.write_str("gate: accept fault\n"),
+            Failure::Poll => f.write_str("gate: poll fault\n"),
             Failure::OutOfMemory => f.write_str("gate: out of memory\n"),
         }
     }

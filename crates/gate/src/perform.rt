@@ -12,15 +12,18 @@ use enc_names::Labels;
 use gateway::{Feed, Outlet};
 use index_files::indexes_in;
 use index_loader::Indexes;
+use serving::{Limits, Place, ServingFault, serve_clients};
+use sessions::Sessions;
 use std::alloc::Global;
+use std::fs::{File, Files};
 use std::net::{Net, TcpListener, TcpStream};
-use std::rt::Files;
+use std::time::Clock;
 
 /// Runs the program's words, with `input` as standard input, `output` as standard output and
 /// `error` as standard error, and returns the exit status. The program's name isn't one of the
 /// words. A text that can't be written to `error` changes no status.
 pub fn perform<
-    T: Files + Net<Listener = TcpListener, Stream = TcpStream>,
+    T: Files<File = File> + Net<Listener = TcpListener, Stream = TcpStream> + Clock,
     R: Feed,
     W: Outlet,
     E: Outlet,
@@ -35,7 +38,12 @@ pub fn perform<
 }
 
 /// Reads the command line first, then the files, and then serves.
-fn attempt<'a, T: Files + Net<Listener = TcpListener, Stream = TcpStream>, R: Feed, W: Outlet>(
+fn attempt<
+    'a,
+    T: Files<File = File> + Net<Listener = TcpListener, Stream = TcpStream> + Clock,
+    R: Feed,
+    W: Outlet,
+>(
     rt: &T,
     alloc: Global,
     words: &'a [String],
@@ -51,6 +59,7 @@ fn attempt<'a, T: Files + Net<Listener = TcpListener, Stream = TcpStream>, R: Fe
         Job::Stdio(sources) => serve_input(rt, alloc, sources, input, output)?,
         Job::Trace(sources) => replay_input(rt, alloc, sources, input, output)?,
         Job::Tcp(sources, listening) => listen(rt, alloc, sources, listening)?,
+        Job::Serve(sources, place, limits) => serve_live(rt, alloc, sources, place, limits)?,
     }
     Ok(())
 }
@@ -112,6 +121,33 @@ fn listen<'a, T: Files + Net<Listener = TcpListener, Stream = TcpStream>>(
     match serve(&listener, &mut gateway, listening.connections) {
         Ok(()) => Ok(()),
         Err(ServeFault::Accept) => Err(Failure::Accept),
+    }
+}
+
+/// Serves live clients over the files that are named, from no document on.
+#[inline(never)]
+fn serve_live<'a, T: Files<File = File> + Net + Clock>(
+    rt: &T,
+    alloc: Global,
+    sources: Sources<'a>,
+    place: Place<'a>,
+    limits: Limits,
+) -> Result<(), Failure<'a>> {
+    let (indexes, labels) = files_of(rt, alloc, sources)?;
+    let mut sessions = Sessions::new(alloc, beginning(alloc, &indexes, labels));
+    match serve_clients(rt, alloc, &mut sessions, place, limits) {
+        Ok(()) => Ok(()),
+        Err(ServingFault::Listen) => Err(cannot_listen(place)),
+        Err(ServingFault::Poll) => Err(Failure::Poll),
+        Err(ServingFault::OutOfMemory) => Err(Failure::OutOfMemory),
+    }
+}
+
+/// The failure for a place that can't be listened at.
+fn cannot_listen(place: Place<'_>) -> Failure<'_> {
+    match place {
+        Place::Path(path) => Failure::CannotListenAt(path),
+        Place::Port(port) => Failure::CannotListen(port),
     }
 }
 

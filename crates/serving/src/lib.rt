@@ -1,0 +1,15 @@
+//! Serving live clients: sockets of which no call waits, and a loop in which the clients that are
+//! connected take their steps.
+#![tactic(auto)]
+
+mod listener;
+mod lock;
+mod peer;
+mod peers;
+mod serve;
+mod server;
+mod socket_file;
+
+pub use listener::Place;
+pub use serve::{ServingFault, serve_clients};
+pub use server::Limits;

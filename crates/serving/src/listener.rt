@@ -1,0 +1,103 @@
+//! Where clients come in.
+
+use crate::lock::Lock;
+use crate::peer::{Peer, Socket};
+use crate::socket_file;
+use mio::event::Source;
+use mio::net::{TcpListener, UnixListener};
+use mio::{Interest, Registry, Token};
+use std::alloc::Global;
+use std::fs::{File, Files};
+use std::io::{self, ErrorKind};
+use std::net::{Ipv4Addr, Net, SocketAddr};
+
+/// Where a server listens.
+#[derive(Clone, Copy)]
+pub enum Place<'a> {
+    /// At a Unix socket of this path, to which only the user may connect.
+    Path(&'a str),
+    /// At this port of 127.0.0.1.
+    Port(u16),
+}
+
+/// What clients connect to.
+#[derive(Drop)]
+pub enum Listener {
+    /// A socket at a path, and the lock beside it.
+    Unix(UnixListener, Lock),
+    /// A port.
+    Tcp(TcpListener),
+}
+
+impl Listener {
+    /// Listens at a place. What can't be listened at is left as it was.
+    pub fn bind<R: Files<File = File> + Net>(
+        rt: &R,
+        alloc: Global,
+        place: Place<'_>,
+    ) -> io::Result<Listener> {
+        match place {
+            Place::Path(path) => listen_at(rt, alloc, path),
+            Place::Port(port) => {
+                let address = SocketAddr::from((Ipv4Addr::LOCALHOST, port));
+                Ok(Listener::Tcp(TcpListener::bind(rt, address)?))
+            }
+        }
+    }
+
+    /// The next client, or none where none waits.
+    pub fn accept(&self) -> io::Result<Option<Peer>> {
+        let accepted = match self {
+            Listener::Unix(listener, _) => {
+                listener.accept().map(|(stream, _)| Socket::Unix(stream))
+            }
+            Listener::Tcp(listener) => listener.accept().map(|(stream, _)| Socket::Tcp(stream)),
+        };
+        match accepted {
+            Ok(socket) => Ok(Some(Peer::new(socket))),
+            Err(e) if e.kind() == ErrorKind::WouldBlock => Ok(None),
+            Err(e) => Err(e),
+        }
+    }
+
+    /// Has the listener watched for clients.
+    pub fn watch(&mut self, registry: &Registry, token: Token) -> io::Result<()> {
+        match self {
+            Listener::Unix(listener, _) => listener.register(registry, token, Interest::READABLE),
+            Listener::Tcp(listener) => listener.register(registry, token, Interest::READABLE),
+        }
+    }
+
+    /// Listens no more at the place. A socket's file is removed, and last the lock is given up.
+    pub fn close<R: Files<File = File>>(self, rt: &R, place: Place<'_>) {
+        match self {
+            Listener::Unix(listener, lock) => {
+                if let Place::Path(path) = place {
+                    socket_file::remove(rt, path);
+                }
+                drop(listener);
+                lock.give_up(rt);
+            }
+            Listener::Tcp(listener) => drop(listener),
+        }
+    }
+}
+
+/// Listens at a path, under its lock.
+fn listen_at<R: Files<File = File> + Net>(
+    rt: &R,
+    alloc: Global,
+    path: &str,
+) -> io::Result<Listener> {
+    if !socket_file::may_come(rt, path) {
+        return Err(io::Error::from(ErrorKind::AddrInUse));
+    }
+    let lock = Lock::take(rt, alloc, path)?;
+    match socket_file::listen(rt, alloc, path) {
+        Ok(listener) => Ok(Listener::Unix(listener, lock)),
+        Err(error) => {
+            lock.give_up(rt);
+            Err(error)
+        }
+    }
+}

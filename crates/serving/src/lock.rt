@@ -1,0 +1,52 @@
+//! The lock by which one server at a time listens at a path.
+
+use std::alloc::Global;
+use std::fs::{self, File, Files, TryLockError};
+use std::io::{self, ErrorKind};
+use std::os::unix::fs::{MetadataExt, OpenOptionsExt};
+
+/// A locked file beside a path. The system gives up the lock when the process ends, however it ends.
+#[derive(Drop)]
+pub struct Lock {
+    file: File,
+    name: String,
+}
+
+impl Lock {
+    /// Takes the lock beside a path.
+    ///
+    /// # Errors
+    ///
+    /// Another server has it, or the file can't be had.
+    pub fn take<R: Files<File = File>>(rt: &R, alloc: Global, path: &str) -> io::Result<Lock> {
+        let name = format!(in alloc; "{path}.lock")?;
+        let mut options = File::options();
+        options.write(true).create(true).mode(0o600);
+        let file = options.open(rt, name.as_str())?;
+        match file.try_lock() {
+            Ok(()) => {}
+            Err(TryLockError::WouldBlock) => return Err(io::Error::from(ErrorKind::AddrInUse)),
+            Err(TryLockError::Error(error)) => return Err(error),
+        }
+        if !is_lock(rt, &file, name.as_str())? {
+            return Err(io::Error::from(ErrorKind::AddrInUse));
+        }
+        Ok(Lock { file, name })
+    }
+
+    /// Gives the lock up. Its file is removed first, while no other server can have it.
+    pub fn give_up<R: Files<File = File>>(self, rt: &R) {
+        let Lock { file, name } = self;
+        let _ = fs::remove_file(rt, name.as_str());
+        drop(file);
+    }
+}
+
+/// Whether the file that is locked is the one of that name, and not one that the server before has
+/// removed, a link, or a file in which something is written.
+fn is_lock<R: Files<File = File>>(rt: &R, file: &File, name: &str) -> io::Result<bool> {
+    let locked = file.metadata()?;
+    let named = fs::symlink_metadata(rt, name)?;
+    let same = locked.dev() == named.dev() && locked.ino() == named.ino();
+    Ok(same && named.is_file() && named.len() == 0)
+}

@@ -1,0 +1,155 @@
+//! A client's socket.
+ghost use Rattle.std.specs.Prelude.{◌≡◌, true, false};
+ghost use Rattle.std.specs.Io.{ReadsAtMost, WritesAtMost};
+ghost use Rattle.devices.specs.Histories.{bytes_of};
+
+use devices::{Arrival, Failed, History, Wire};
+use mio::event::{Event, Source};
+use mio::net::{TcpStream, UnixStream};
+use mio::{Interest, Registry, Token};
+use std::io::{self, ErrorKind, Read, Write};
+
+/// A stream of either kind, of which no call waits.
+#[derive(Drop)]
+pub enum Socket {
+    /// Of a client on this machine.
+    Unix(UnixStream),
+    /// Of a client at a port.
+    Tcp(TcpStream),
+}
+
+impl Socket {
+    fn read(&mut self, buf: &mut [u8]) -> io::Result<usize>
+        ensures { ReadsAtMost result buf.new }
+    {
+        match self {
+            Socket::Unix(stream) => stream.read(buf),
+            Socket::Tcp(stream) => stream.read(buf),
+        }
+    }
+
+    fn write(&mut self, buf: &[u8]) -> io::Result<usize>
+        ensures { WritesAtMost result buf.now }
+    {
+        match self {
+            Socket::Unix(stream) => stream.write(buf),
+            Socket::Tcp(stream) => stream.write(buf),
+        }
+    }
+}
+
+/// A client's socket, and what is known of its readiness. The system reports a change once: so it
+/// counts as ready from a report on until a call finds that it would have had to wait.
+#[derive(Drop)]
+pub struct Peer {
+    socket: Socket,
+    /// Whether a read may find something.
+    may_read: bool,
+    /// Whether a write may be taken.
+    may_write: bool,
+    /// Whether the client will send no more, so that no further report comes before the end is read.
+    hung_up: bool,
+    /// Whether the end was read, or a call failed.
+    over: bool,
+    /// What its reads returned, for contracts alone.
+    received: History,
+    /// What its writes took, for contracts alone.
+    sent: History,
+}
+
+impl Peer {
+    /// A client that was just let in.
+    pub fn new(socket: Socket) -> Peer {
+        Peer {
+            socket,
+            may_read: true,
+            may_write: true,
+            hung_up: false,
+            over: false,
+            received: History::Empty,
+            sent: History::Empty,
+        }
+    }
+
+    /// Has the socket watched. One over TCP sends each reply at once.
+    pub fn watch(&mut self, registry: &Registry, token: Token) -> io::Result<()> {
+        let both = Interest::READABLE | Interest::WRITABLE;
+        match &mut self.socket {
+            Socket::Unix(stream) => stream.register(registry, token, both),
+            Socket::Tcp(stream) => {
+                let _ = stream.set_nodelay(true);
+                stream.register(registry, token, both)
+            }
+        }
+    }
+
+    /// Notes what the system reported of the socket.
+    pub fn note(&mut self, event: &Event) {
+        let broken = event.is_error() || event.is_write_closed();
+        self.hung_up |= broken || event.is_read_closed();
+        self.may_read |= self.hung_up || event.is_readable();
+        self.may_write |= broken || event.is_writable();
+    }
+}
+
+// Where fewer bytes come or go than there was room for, the next call would have to wait: the system reports when it need
+// not. So one call in two is saved.
+impl Wire for Peer {
+    ghost received = { λ p. bytes_of p.received };
+
+    ghost sent = { λ p. bytes_of p.sent };
+
+    ghost is_empty = { λ p. p.may_read ≡ false };
+
+    ghost is_full = { λ p. p.may_write ≡ false };
+
+    ghost is_over = { λ p. p.over ≡ true };
+
+    fn read(&mut self, buf: &mut [u8]) -> Result<Arrival, Failed> {
+        if !self.may_read {
+            return Ok(Arrival::NotYet);
+        }
+        let result = self.socket.read(buf);
+        match result {
+            Ok(0) => {
+                self.over = true;
+                Ok(Arrival::End)
+            }
+            Ok(n) => {
+                self.received.extend(&buf[..n]);
+                self.may_read = self.hung_up || n == buf.len();
+                Ok(Arrival::Bytes(n))
+            }
+            Err(e) if e.kind() == ErrorKind::WouldBlock => {
+                self.may_read = false;
+                Ok(Arrival::NotYet)
+            }
+            Err(_) => {
+                self.over = true;
+                Err(Failed)
+            }
+        }
+    }
+
+    fn write(&mut self, buf: &[u8]) -> Result<usize, Failed> {
+        if !self.may_write {
+            return Ok(0);
+        }
+        let result = self.socket.write(buf);
+        match result {
+            Ok(n) => {
+                self.sent.extend(&buf[..n]);
+                self.may_write = n == buf.len();
+                Ok(n)
+            }
+            Err(e) if e.kind() == ErrorKind::WouldBlock => {
+                self.may_write = false;
+                Ok(0)
+            }
+            Err(_) => {
+                self.over = true;
+                Err(Failed)
+            }
+        }
+    }
+}

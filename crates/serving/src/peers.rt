@@ -1,0 +1,58 @@
+//! The sockets of the clients, by their numbers.
+ghost use Rattle.std.specs.Prelude.{◌≡◌, ◌<◌, None, Some, length, slice_set};
+ghost use Rattle.connections.specs.Events.{connections};
+ghost use Rattle.serving.specs.Resting.{peer_at};
+
+use crate::peer::Peer;
+use connections::CONNECTIONS;
+use mio::event::Event;
+
+/// The sockets of the clients that are connected.
+#[derive(Drop)]
+pub struct Peers {
+    peers: [Option<Peer>; CONNECTIONS],
+}
+
+impl Peers {
+    /// No client is connected.
+    pub fn new() -> Peers {
+        Peers {
+            peers: [
+                None, None, None, None, None, None, None, None, //
+                None, None, None, None, None, None, None, None,
+            ],
+        }
+    }
+
+    /// Whether no client is connected.
+    pub fn are_none(&self) -> bool {
+        self.peers.iter().all(|peer| peer.is_none())
+    }
+
+    /// Takes the socket at a number out, if there is one.
+    pub fn take(&mut self, c: u8) -> Option<Peer>
+        requires { c < connections }
+        ensures peer { result ≡ peer_at self.old c }
+        ensures rest { self.new.peers ≡ slice_set self.old.peers c None }
+        ensures count { length self.old.peers ≡ connections }
+        ensures count_left { length self.new.peers ≡ connections }
+    {
+        self.peers[c as usize].take()
+    }
+
+    /// Puts a socket at a number; where there is no such number, it is closed.
+    pub fn put(&mut self, c: u8, peer: Peer)
+        ensures put { c < connections → self.new.peers ≡ slice_set self.old.peers c (Some peer) }
+    {
+        if (c as usize) < CONNECTIONS {
+            self.peers[c as usize] = Some(peer);
+        }
+    }
+
+    /// Notes what the system reported of a socket, whose number is the token.
+    pub fn note(&mut self, event: &Event) {
+        if let Some(Some(peer)) = self.peers.get_mut(event.token().0) {
+            peer.note(event);
+        }
+    }
+}

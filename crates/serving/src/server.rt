@@ -1,0 +1,336 @@
+//! The loop: who takes a step, and when there is nothing to do but wait.
+ghost use Rattle.std.specs.Prelude.{◌≡◌, ◌⊎◌, ◌*◌, ◌<◌, ◌≤◌, true, false, IfOk, IsNone};
+ghost use Rattle.std.specs.Duration.{as_nanos};
+ghost use Rattle.connections.specs.Events.{connections};
+ghost use Rattle.sessions.specs.Sessions.{client_at};
+ghost use Rattle.serving.specs.declared.server.TheConstants.{RETRY_SECONDS};
+ghost use Rattle.serving.specs.Acting.{ByActs, ByActsOf};
+ghost use Rattle.serving.specs.Resting.{AllRest, NoMore, OthersKept, RestBelow, RestsOn, WaitsAtMost, peer_at};
+
+use crate::listener::Listener;
+use crate::peer::Peer;
+use crate::peers::Peers;
+use connections::CONNECTIONS;
+use mio::{Events, Poll, Token};
+use sessions::{Advance, JoinFault, Sessions, law_acts_in_a_row};
+use std::alloc::Global;
+use std::io;
+use std::net::Net;
+use std::time::{Clock, Duration, Instant};
+
+/// The numbers of the clients are their tokens; this is the listener's.
+const LISTENER: Token = Token(CONNECTIONS);
+
+/// The most events that the system reports at once: one of each client and of the listener.
+const EVENTS: usize = CONNECTIONS + 1;
+
+/// How many steps each client has at most before the system is asked what is new.
+const ROUNDS: u32 = 4;
+
+/// After how many seconds a client that couldn't be let in is let in again.
+const RETRY_SECONDS: u64 = 1;
+
+/// When a server ends by itself. Without a limit it goes on until a signal ends it.
+#[derive(Clone, Copy)]
+pub struct Limits {
+    /// How many clients it serves.
+    pub clients: Option<u32>,
+    /// How many seconds it waits without a client.
+    pub idle: Option<u32>,
+}
+
+/// What the loop does after its rounds.
+enum Next {
+    /// Asks what is new, and waits for it, at most so long, or without a limit.
+    Wait(Option<Duration>),
+    /// Ends.
+    End,
+}
+
+/// The sockets of the clients that are connected, and what is known of those that wait.
+#[derive(Drop)]
+pub struct Server {
+    poll: Poll,
+    events: Events,
+    peers: Peers,
+    /// Whether a client may wait at the listener.
+    is_asked: bool,
+    /// Whether one waits that couldn't be let in although there is a place.
+    is_refused: bool,
+    /// How many more clients are let in, if there is a limit.
+    left: Option<u32>,
+    /// How long no client may be there, if there is a limit.
+    idle: Option<Duration>,
+    /// Since when no client is there, once that was looked at.
+    alone_since: Option<Instant>,
+}
+
+impl Server {
+    /// A server to which clients come by this listener. None is there yet.
+    pub fn new<R: Net>(
+        rt: &R,
+        alloc: Global,
+        listener: &mut Listener,
+        limits: Limits,
+    ) -> io::Result<Server> {
+        let poll = Poll::new(rt)?;
+        let events = Events::with_capacity(alloc, EVENTS)?;
+        listener.watch(poll.registry(), LISTENER)?;
+        Ok(Server {
+            poll,
+            events,
+            peers: Peers::new(),
+            is_asked: true,
+            is_refused: false,
+            left: limits.clients,
+            idle: seconds(limits.idle),
+            alone_since: None,
+        })
+    }
+
+    /// Serves until the last client has gone, or none has come for too long.
+    pub fn run<K: Clock>(
+        &mut self,
+        clock: &K,
+        listener: &Listener,
+        sessions: &mut Sessions<'_>,
+    ) -> io::Result<()>
+        ensures acts { ByActs sessions.old sessions.new }
+    {
+        law_acts_in_a_row();
+        for _ in 0..u64::MAX {
+            let busy = self.rounds(listener, sessions);
+            match self.next(clock, busy)? {
+                Next::Wait(most) => self.wait(most)?,
+                Next::End => return Ok(()),
+            }
+        }
+        Ok(())
+    }
+
+    /// Goes round until nothing moves, or often enough to ask the system what is new. Returns whether
+    /// something may still move.
+    fn rounds(&mut self, listener: &Listener, sessions: &mut Sessions<'_>) -> bool
+        ensures acts { ByActs sessions.old sessions.new }
+        ensures rest { result ≡ false → AllRest self.new sessions.new }
+    {
+        law_acts_in_a_row();
+        for _ in 0..ROUNDS {
+            if !self.round(listener, sessions) {
+                return false;
+            }
+        }
+        true
+    }
+
+    /// Lets in who waits, has each client take a step, and returns whether anything moved.
+    fn round(&mut self, listener: &Listener, sessions: &mut Sessions<'_>) -> bool
+        ensures acts { ByActs sessions.old sessions.new }
+        ensures rest { result ≡ false → AllRest self.new sessions.new }
+    {
+        law_acts_in_a_row();
+        let came = self.let_in(listener, sessions);
+        let moved = self.steps(sessions);
+        came | moved
+    }
+
+    /// Has each client take a step, and returns whether one moved or has gone.
+    fn steps(&mut self, sessions: &mut Sessions<'_>) -> bool
+        ensures acts { ByActs sessions.old sessions.new }
+        ensures rest { result ≡ false → RestBelow connections self.new.peers sessions.new }
+        ensures no_more { result ≡ false → NoMore self.old sessions.old → NoMore self.new sessions.new }
+    {
+        law_acts_in_a_row();
+        let mut moved = false;
+        for c in 0..CONNECTIONS as u8 {
+            moved |= self.step(sessions, c);
+        }
+        moved
+    }
+
+    /// Has a client take a step, and returns whether it moved or has gone.
+    fn step(&mut self, sessions: &mut Sessions<'_>, c: u8) -> bool
+        requires { c < connections }
+        ensures acts { ByActsOf c sessions.old sessions.new }
+        ensures rests { result ≡ false → RestsOn (client_at sessions.new c) (peer_at self.new.peers c) }
+        ensures others { result ≡ false → OthersKept c self.old.peers self.new.peers sessions.old sessions.new }
+        ensures no_more { result ≡ false → NoMore self.old sessions.old → NoMore self.new sessions.new }
+    {
+        law_acts_in_a_row();
+        let Some(mut peer) = self.peers.take(c) else {
+            return false;
+        };
+        match sessions.advance(c, &mut peer) {
+            Advance::Moved => {
+                self.peers.put(c, peer);
+                true
+            }
+            Advance::Waits => {
+                self.peers.put(c, peer);
+                false
+            }
+            Advance::Over => {
+                sessions.leave(c);
+                true
+            }
+        }
+    }
+
+    /// Lets in who waits at the listener, if there is a place, and returns whether somebody came. The
+    /// place is taken first, so that nobody is let in for whom there is none.
+    fn let_in(&mut self, listener: &Listener, sessions: &mut Sessions<'_>) -> bool
+        ensures acts { ByActs sessions.old sessions.new }
+        ensures no_more { result ≡ false → NoMore self.new sessions.new }
+    {
+        law_acts_in_a_row();
+        self.is_refused = false;
+        if !self.is_asked || matches!(self.left, Some(0)) {
+            return false;
+        }
+        let c = match sessions.join() {
+            Ok(c) => c,
+            Err(JoinFault::Full) => return false,
+            Err(JoinFault::OutOfMemory) => {
+                self.is_refused = true;
+                return false;
+            }
+        };
+        match self.accepted(listener) {
+            Some(peer) => {
+                self.seat(sessions, c, peer);
+                true
+            }
+            None => {
+                sessions.leave(c);
+                false
+            }
+        }
+    }
+
+    /// The next client. Where none waits, the system reports the next one; where one can't be had, as
+    /// without a free descriptor, it doesn't.
+    fn accepted(&mut self, listener: &Listener) -> Option<Peer>
+        ensures { IsNone result → (self.new.is_asked ≡ false) ⊎ (self.new.is_refused ≡ true) }
+    {
+        match listener.accept() {
+            Ok(Some(peer)) => Some(peer),
+            Ok(None) => {
+                self.is_asked = false;
+                None
+            }
+            Err(_) => {
+                self.is_refused = true;
+                None
+            }
+        }
+    }
+
+    /// Gives a client its number. One that can't be watched is gone.
+    fn seat(&mut self, sessions: &mut Sessions<'_>, c: u8, peer: Peer)
+        ensures acts { ByActsOf c sessions.old sessions.new }
+    {
+        law_acts_in_a_row();
+        let mut peer = peer;
+        match peer.watch(self.poll.registry(), Token(c as usize)) {
+            Ok(()) => {
+                self.peers.put(c, peer);
+                self.count();
+            }
+            Err(_) => sessions.leave(c),
+        }
+    }
+
+    /// A client has come.
+    fn count(&mut self) {
+        self.alone_since = None;
+        if let Some(left) = self.left {
+            self.left = Some(left.saturating_sub(1));
+        }
+    }
+
+    /// What to do after rounds. Nobody waits where something may still move.
+    fn next<K: Clock>(&mut self, clock: &K, busy: bool) -> io::Result<Next>
+        ensures awake { busy ≡ true → IfOk result (WaitsAtMost 0) }
+        ensures again { self.old.is_refused ≡ true → IfOk result (WaitsAtMost (RETRY_SECONDS * 1_000_000_000)) }
+    {
+        if busy {
+            return Ok(Next::Wait(Some(Duration::from_secs(0))));
+        }
+        if !self.peers.are_none() {
+            return Ok(self.patience());
+        }
+        if matches!(self.left, Some(0)) {
+            return Ok(Next::End);
+        }
+        match self.idle {
+            Some(idle) => self.next_alone(clock, idle),
+            None => Ok(self.patience()),
+        }
+    }
+
+    /// What to do where no client is there, and none may be for so long. Time is read off the clock,
+    /// since a wait ends early where the process was stopped in it.
+    fn next_alone<K: Clock>(&mut self, clock: &K, idle: Duration) -> io::Result<Next>
+        ensures again { self.old.is_refused ≡ true → IfOk result (WaitsAtMost (RETRY_SECONDS * 1_000_000_000)) }
+    {
+        let now = Instant::now(clock)?;
+        let since = self.alone_since.unwrap_or(now);
+        self.alone_since = Some(since);
+        let rest = idle.saturating_sub(now.saturating_duration_since(since));
+        if rest.is_zero() {
+            return Ok(Next::End);
+        }
+        if self.is_refused {
+            return Ok(Next::Wait(Some(shorter(rest, retry()))));
+        }
+        Ok(Next::Wait(Some(rest)))
+    }
+
+    /// To wait until a client that couldn't be let in is tried again, or, where there is none, without
+    /// a limit.
+    fn patience(&self) -> Next
+        ensures again { self.now.is_refused ≡ true → WaitsAtMost (RETRY_SECONDS * 1_000_000_000) result }
+    {
+        if self.is_refused {
+            Next::Wait(Some(retry()))
+        } else {
+            Next::Wait(None)
+        }
+    }
+
+    /// Waits until something is new, at most so long, and notes what is.
+    fn wait(&mut self, most: Option<Duration>) -> io::Result<()> {
+        self.poll.poll(&mut self.events, most)?;
+        for event in self.events.iter() {
+            if event.token() == LISTENER {
+                self.is_asked = true;
+            } else {
+                self.peers.note(event);
+            }
+        }
+        Ok(())
+    }
+}
+
+/// After what time a client that couldn't be let in is tried again.
+fn retry() -> Duration
+    ensures { as_nanos result ≡ RETRY_SECONDS * 1_000_000_000 }
+{
+    Duration::from_secs(RETRY_SECONDS)
+}
+
+/// The shorter of two times.
+fn shorter(a: Duration, b: Duration) -> Duration
+    ensures first { as_nanos result ≤ as_nanos a }
+    ensures second { as_nanos result ≤ as_nanos b }
+{
+    if a.as_nanos() < b.as_nanos() { a } else { b }
+}
+
+/// A number of seconds as a time.
+fn seconds(count: Option<u32>) -> Option<Duration> {
+    match count {
+        Some(count) => Some(Duration::from_secs(u64::from(count))),
+        None => None,
+    }
+}
