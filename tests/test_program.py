@@ -138,6 +138,14 @@ BAD_WORDS = [
     ["tcp"],
     *(["tcp", "--indexes", "DIR", "--port", port] for port in ("0", "65536", "-1", "http", "")),
     *(["tcp", "--indexes", "DIR", "--serve", count] for count in ("0", "1000001")),
+    ["tcp", "--indexes", "DIR", "--idle", "1"],
+    ["serve", "--indexes", "DIR"],
+    ["serve", "--indexes", "DIR", "--socket"],
+    ["serve", "--socket", "PATH"],
+    ["serve", "--indexes", "DIR", "--socket", "PATH", "--port", "7117"],
+    *(["serve", "--indexes", "DIR", "--port", port] for port in ("0", "65536")),
+    *(["serve", "--indexes", "DIR", "--socket", "PATH", "--serve", count] for count in ("0", "1000001")),
+    *(["serve", "--indexes", "DIR", "--socket", "PATH", "--idle", idle] for idle in ("0", "-1", "1.5", "4294967296", "")),
     ["stdio", "--indexes"],
     ["stdio", "--indexes", "DIR", "--labels"],
     ["stdio", "--indexes", "DIR", "more"],
@@ -150,6 +158,8 @@ TOLD = [
     (["stdio"], "error: the following required arguments were not provided:\n  --indexes <DIR>\n\nUsage: gate stdio --indexes <DIR>\n"),
     (["tcp", "--indexes", "none", "--port", "65536"], "error: invalid value '65536' for '--port <N>': 65536 is not in 1..=65535\n"),
     (["tcp", "--indexes", "none", "--serve", "0"], "error: invalid value '0' for '--serve <N>': 0 is not in 1..=1000000\n"),
+    (["serve", "--indexes", "none"], "error: the following required arguments were not provided:\n  <--socket <PATH>|--port <N>>\n\nUsage: gate serve --indexes <DIR> <--socket <PATH>|--port <N>>\n"),
+    (["serve", "--indexes", "none", "--port", "1", "--idle", "0"], "error: invalid value '0' for '--idle <S>': 0 is not in 1..=4294967295\n"),
 ]
 
 # Index files, each put beside those before it and in front of them in the program's order, and what is then said.
@@ -325,7 +335,7 @@ class Program(unittest.TestCase):
                 self.serves(SIGN + encodes, SIGN_OPENED + encoded + NO_INDEX * (len(MULTIBYTE) - count))
 
     def test_help_goes_to_the_output(self):
-        for words in ["--help"], ["-h"], ["help"], ["stdio", "--help"], ["trace", "--help"], ["tcp", "--help"]:
+        for words in ["--help"], ["-h"], ["help"], ["stdio", "--help"], ["trace", "--help"], ["tcp", "--help"], ["serve", "--help"]:
             with self.subTest(words):
                 ran = subprocess.run([PROGRAM, *words], input=OPEN.encode(), stdout=subprocess.PIPE, stderr=subprocess.PIPE)
                 self.assertEqual((ran.returncode, ran.stderr), (0, b""))
@@ -350,10 +360,12 @@ class Program(unittest.TestCase):
 
     def test_files_are_read_before_the_port_is_listened_on(self):
         with contextlib.closing(socket.create_server(("127.0.0.1", 0))) as taken:
-            words = ["tcp", "--indexes", str(self.folder), "--port", str(taken.getsockname()[1])]
-            self.runs(*words, status=1, error=f"gate: cannot listen on port {words[-1]}\n")
+            words = ["--indexes", str(self.folder), "--port", str(taken.getsockname()[1])]
+            for job in "tcp", "serve":
+                self.runs(job, *words, status=1, error=f"gate: cannot listen on port {words[-1]}\n")
             self.put("ibm866", "x\t0x41\n")
-            self.runs(*words, status=2, error="gate: index file index-ibm866.txt, line 1: BadPointer\n")
+            for job in "tcp", "serve":
+                self.runs(job, *words, status=2, error="gate: index file index-ibm866.txt, line 1: BadPointer\n")
 
     def test_the_first_faulty_file_ends_the_program(self):
         labels = self.folder / "labels.json"

@@ -197,7 +197,7 @@ fn serve<'a>(alloc: Global) -> Result<Command<'a>, Error> {
     );
     let command = command.arg(socket(alloc))?.arg(port(alloc))?;
     let command = command.arg(connections(alloc))?.arg(idle(alloc))?;
-    let place = ArgGroup::new(alloc, "place").args(&["socket", "port"])?;
+    let place = ArgGroup::new(alloc, "place").arg("socket")?.arg("port")?;
     Ok(command.group(place.required(true))?)
 }
 

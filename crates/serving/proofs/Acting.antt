@@ -47,8 +47,8 @@ own_leave c = and_true (c == c) true (same c) refl
 -- ---- what acts of one client lead to
 
 -- nothing happened
-pub still : ActsInARow → (c : ℕ) (old new : Hall) → new ≡ old → ByActsOf c old new
-still row c old new e = subst (λ h. ByActsOf c old h) (sym e) (record { acts = []; own = refl; did = row.none old })
+still : ActsInARow → (c : ℕ) (h : Hall) → ByActsOf c h h
+still row c h = record { acts = []; own = refl; did = row.none h }
 
 -- one step
 pub stepped : (answer : Advance) (c : ℕ) (old new : Hall) (received_old received_new sent_old sent_new : List ℕ) → Advanced answer c old new received_old received_new sent_old sent_new → ByActsOf c old new
@@ -63,13 +63,17 @@ then_acts row c old mid new acts own before did = record {
 }
 
 left_by : ActsInARow → (c : ℕ) (old mid new : Hall) (x : Option Client) → client_at mid c ≡ x → ByActsOf c old mid → (IsSome (client_at mid c) → Did mid (Leaves c ∷ []) new) → (client_at mid c ≡ None → new ≡ mid) → ByActsOf c old new
-left_by row c old mid new None e before left none = subst (λ h. ByActsOf c old h) (sym (none e)) before
-left_by row c old mid new (Some client) e before left none =
-    then_acts row c old mid new (Leaves c ∷ []) (own_leave c) before (left (ap is_some e))
+left_by row c old mid new None e before gone none = subst (λ h. ByActsOf c old h) (sym (none e)) before
+left_by row c old mid new (Some client) e before gone none =
+    then_acts row c old mid new (Leaves c ∷ []) (own_leave c) before (gone (ap is_some e))
 
 -- and then the client is gone
-pub gone : ActsInARow → (c : ℕ) (old mid new : Hall) → ByActsOf c old mid → (IsSome (client_at mid c) → Did mid (Leaves c ∷ []) new) → (client_at mid c ≡ None → new ≡ mid) → ByActsOf c old new
-gone row c old mid new before left none = left_by row c old mid new (client_at mid c) refl before left none
+pub then_left : ActsInARow → (c : ℕ) (old mid new : Hall) → ByActsOf c old mid → (IsSome (client_at mid c) → Did mid (Leaves c ∷ []) new) → (client_at mid c ≡ None → new ≡ mid) → ByActsOf c old new
+then_left row c old mid new before gone none = left_by row c old mid new (client_at mid c) refl before gone none
+
+-- the client is gone
+pub left : ActsInARow → (c : ℕ) (old new : Hall) → (IsSome (client_at old c) → Did old (Leaves c ∷ []) new) → (client_at old c ≡ None → new ≡ old) → ByActsOf c old new
+left row c old new gone none = then_left row c old old new (still row c old) gone none
 
 -- ---- what acts lead to
 

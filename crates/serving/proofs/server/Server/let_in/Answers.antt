@@ -1,4 +1,4 @@
-use Rattle.std.proofs.Common.{[], ◌∷◌, refl}
+use Rattle.std.proofs.Common.{[], ◌∷◌}
 use Rattle.sessions.specs.Sessions.{Joins}
 use Rattle.serving.proofs.Acting as acting
 use Rattle.serving.proofs.server.Server.let_in.Goals as goal
@@ -10,6 +10,5 @@ returns-in-Some-clause-acts c =
 pub returns-in-None-clause-acts : goal.returns-in-None-clause-acts
 returns-in-None-clause-acts c =
     let row = c.law_acts_in_a_row.ensures in
-    let none = acting.still row c.in-Ok.c c.join.new.self c.join.new.self refl in
-    let left = acting.gone row c.in-Ok.c _ _ _ none c.leave.ensures.left c.leave.ensures.none in
+    let left = acting.left row c.in-Ok.c _ _ c.leave.ensures.left c.leave.ensures.none in
     acting.after row _ _ _ (acting.did (Joins c.in-Ok.c ∷ []) _ _ c.in-Ok.ensures.joined) (acting.reached c.in-Ok.c _ _ left)

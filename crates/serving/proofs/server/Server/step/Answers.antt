@@ -9,4 +9,4 @@ returns-in-Waits-clause-acts c = acting.stepped _ c.args.c _ _ _ _ _ _ c.advance
 
 pub returns-in-Over-clause-acts : goal.returns-in-Over-clause-acts
 returns-in-Over-clause-acts c =
-    acting.gone c.law_acts_in_a_row.ensures c.args.c _ _ _ (acting.stepped _ c.args.c _ _ _ _ _ _ c.advance.ensures.step) c.leave.ensures.left c.leave.ensures.none
+    acting.then_left c.law_acts_in_a_row.ensures c.args.c _ _ _ (acting.stepped _ c.args.c _ _ _ _ _ _ c.advance.ensures.step) c.leave.ensures.left c.leave.ensures.none
