@@ -1,33 +1,59 @@
 """The client over Unix sockets, and over several servers."""
 import contextlib
+import io
 import os
+import re
 import socket
 import subprocess
 import tempfile
 import unittest
-from typing import Any, Iterator, List, Tuple
+from typing import Iterator, List, Tuple
 
 from gate import Fault, Fleet, Gate, Gone, Place
-from test_gate import BUILT, INDEXES, PROGRAM
+from test_gate import BUILT, INDEXES, PROGRAM, TOP
+
+
+@contextlib.contextmanager
+def listening() -> Iterator[str]:
+    """The path of a socket at which the program serves clients."""
+    with tempfile.TemporaryDirectory() as folder:
+        path = os.path.join(folder, "gate.sock")
+        with subprocess.Popen([PROGRAM, "serve", "--indexes", INDEXES, "--socket", path]) as program:
+            yield path
+            program.kill()
 
 
 @contextlib.contextmanager
 def at_a_socket() -> Iterator[Gate]:
-    """A connection to the program over a Unix socket, which it has as its standard streams."""
-    with tempfile.TemporaryDirectory() as folder, socket.socket(socket.AF_UNIX) as listener:
-        path = os.path.join(folder, "gate")
-        listener.bind(path)
-        listener.listen()
-        with Gate.connect(path=path) as gate:
-            accepted, _ = listener.accept()
-            program = subprocess.Popen([PROGRAM, "stdio", "--indexes", INDEXES], stdin=accepted.fileno(), stdout=accepted.fileno())
-            accepted.close()
-            yield gate
-        program.wait()
+    """A connection to the program at a socket."""
+    with listening() as path, Gate.connect(path=path) as gate:
+        yield gate
 
 
 @BUILT
 class Sockets(unittest.TestCase):
+    def test_the_two_clients_of_the_readme(self) -> None:
+        found = re.search(r"^```\n(with Gate\.connect.*?)^```$", (TOP / "README.md").read_text(encoding="utf-8"), re.MULTILINE | re.DOTALL)
+        assert found
+        with listening() as path, contextlib.redirect_stdout(io.StringIO()) as printed:
+            exec(found[1].replace("gate.sock", path), {"Gate": Gate})
+        self.assertEqual(printed.getvalue(), "caf\ufffd bleu\n")
+
+    def test_two_clients_that_edit_in_turn(self) -> None:
+        with listening() as path, Gate.connect(path=path) as first, Gate.connect(path=path) as second:
+            mine = first.open("d", "shift_jis", b"a\xffb")
+            yours = second.join("d")
+            edit = mine.splice(1, 1, b"")
+            with self.assertRaises(Fault) as refused:
+                yours.change("x", (0, 0))
+            self.assertEqual((refused.exception.name, refused.exception.members), ("Stale", {"rev": 1}))
+            yours.refresh()
+            yours.change("x", (0, 0))
+            mine.refresh()
+            mine.undo(mine.splice(0, 3, b"c"))
+            yours.refresh()
+            self.assertEqual((yours.bytes, yours.rev, edit.old), (b"xab", 4, b"\xff"))
+
     def test_a_document_over_a_socket(self) -> None:
         with at_a_socket() as gate:
             document = gate.open("d", "utf-8", b"a\xffb")
@@ -80,45 +106,43 @@ class Spreading(unittest.TestCase):
 
 @contextlib.contextmanager
 def three_servers() -> "Iterator[Tuple[List[Place], List[subprocess.Popen[bytes]]]]":
-    """Servers of two clients one after another, by their ports, with their processes."""
-    listeners = [socket.create_server(("127.0.0.1", 0)) for _ in range(3)]
-    ports: List[Any] = [it.getsockname()[1] for it in listeners]
-    for it in listeners:
-        it.close()
-    words = [PROGRAM, "tcp", "--indexes", INDEXES, "--serve", "2", "--port"]
-    programs = [subprocess.Popen([*words, str(port)]) for port in ports]
-    try:
-        yield ports, programs
-    finally:
-        for program in programs:
-            program.kill()
-            program.wait()
+    """Servers at sockets, by their paths, and one at a port, with their processes."""
+    with socket.create_server(("127.0.0.1", 0)) as it:
+        port = it.getsockname()[1]
+    with tempfile.TemporaryDirectory() as folder:
+        places: List[Place] = [os.path.join(folder, "one"), os.path.join(folder, "two"), port]
+        words = [PROGRAM, "serve", "--indexes", INDEXES]
+        programs = [subprocess.Popen([*words, "--port" if place == port else "--socket", str(place)]) for place in places]
+        try:
+            yield places, programs
+        finally:
+            for program in programs:
+                program.kill()
+                program.wait()
 
 
 @BUILT
 class Fleets(unittest.TestCase):
     def test_three_servers_of_which_one_dies(self) -> None:
-        names = [f"d{number}" for number in range(30)]
-        with three_servers() as (ports, programs):
-            with Fleet(ports) as first:
-                for name in names:
-                    first.open(name, "utf-8", name.encode()).splice(0, 0, b"the ")
-                self.assertEqual({first.place_of(name) for name in names}, set(ports))
-            with Fleet(ports[::-1]) as fleet:
-                documents = {name: fleet.join(name) for name in names}
-                before = {name: fleet.place_of(name) for name in names}
-                programs[1].kill()
-                programs[1].wait()
-                for name, document in documents.items():
-                    if before[name] == ports[1]:
-                        with self.assertRaises(Gone):
-                            document.refresh()
-                    else:
+        names = [f"d{number}" for number in range(60)]
+        with three_servers() as (places, programs), Fleet(places) as first, Fleet(places[::-1]) as fleet:
+            for name in names:
+                first.open(name, "utf-8", name.encode()).splice(0, 0, b"the ")
+            before = {name: fleet.place_of(name) for name in names}
+            self.assertEqual(set(before.values()), set(places))
+            documents = {name: fleet.join(name) for name in names}
+            programs[1].kill()
+            programs[1].wait()
+            for name, document in documents.items():
+                if before[name] == places[1]:
+                    with self.assertRaises(Gone):
                         document.refresh()
-                        self.assertEqual(document.bytes, b"the " + name.encode())
-                fleet.remove(ports[1])
-                for name in names:
-                    if before[name] == ports[1]:
-                        self.assertEqual(fleet.open(name, "utf-8", name.encode()).stat()["bytes"], len(name))
-                    else:
-                        self.assertEqual(fleet.place_of(name), before[name])
+                else:
+                    document.refresh()
+                    self.assertEqual(document.bytes, b"the " + name.encode())
+            fleet.remove(places[1])
+            for name in names:
+                if before[name] == places[1]:
+                    self.assertEqual(fleet.open(name, "utf-8", name.encode()).stat()["bytes"], len(name))
+                else:
+                    self.assertEqual(fleet.place_of(name), before[name])

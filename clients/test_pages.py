@@ -2,7 +2,7 @@
 
 A session is a fenced block whose lines are commands, each followed by its reply; a trace is one that begins with an
 event, and the block behind it what the trace prints. Each is played by a program of its own, over the small index files
-of examples/indexes."""
+of examples/indexes. A session of live clients is played by a test in tests/."""
 import json
 import os
 import pathlib
@@ -50,6 +50,10 @@ class Pages(unittest.TestCase):
     def test_the_first_session_is_the_file_that_readme_names(self):
         _, lines = next(sessions("README.md"))
         self.assertEqual((TOP / "examples" / "change.jsonl").read_text().splitlines(), lines[::2])
+
+    def test_the_session_of_two_clients_is_the_file_that_the_page_names(self):
+        block = re.search(r"^```\n(\d \{.*?)^```$", (TOP / "docs" / "PROTOCOL.md").read_text(encoding="utf-8"), re.MULTILINE | re.DOTALL)
+        self.assertEqual((TOP / "examples" / "two-clients.txt").read_text(encoding="utf-8"), block[1])
 
     def test_each_trace(self):
         found = traces("docs/PROTOCOL.md")
