@@ -20,11 +20,6 @@ LIMIT = 100
 # How many clients are served at once.
 PLACES = 16
 
-serves = unittest.skipUnless(
-    os.access(PROGRAM, os.X_OK) and subprocess.run([PROGRAM, "help", "serve"], stdout=subprocess.DEVNULL, stderr=subprocess.DEVNULL).returncode == 0,
-    f"the program {PROGRAM} serves no live clients",
-)
-
 
 def free_port():
     """A port of 127.0.0.1 on which nobody listens."""

@@ -6,8 +6,8 @@ import threading
 import time
 import unittest
 
-from program import TOP
-from serving import LIMIT, PLACES, Serving, at_most_files, connected, free_port, line, more_files, replayed, seconds_of, serves, usual
+from program import TOP, built
+from serving import LIMIT, PLACES, Serving, at_most_files, connected, free_port, line, more_files, replayed, seconds_of, usual
 
 # What documents that are edited by all are made of: characters, halves of characters, shifts and line ends.
 FRAGMENTS = {
@@ -22,8 +22,8 @@ FRAGMENTS = {
 ROUNDS, BURST = 120, 4
 
 # The document of a reply of 2 MB, how often a client asks for it, and by how many KiB the program's memory may grow for
-# the one that doesn't read: its one reply, and as much again.
-LARGE, REPLIES, ONE_REPLY = 1_500_000, 200, 2 * 2048
+# the one that doesn't read: by its one reply, with what a growing buffer and the allocator keep beside it.
+LARGE, REPLIES, ONE_REPLY = 1_500_000, 200, 4 * 2048
 
 # The seconds that a neighbour waits for a short reply, 95 of 100 times. On an idle machine it is a thousandth of that.
 PATIENCE = 0.25
@@ -288,7 +288,7 @@ class Together:
             self.assertEqual(neighbour.ask("stat", doc="d"), {"fault": "NoDocument"})
 
 
-@serves
+@built
 class AtASocket(Together, Serving):
     def place(self):
         return self.path
@@ -348,7 +348,7 @@ class AtASocket(Together, Serving):
             self.nobody_notices(server, clients, OUTSIDE)
 
 
-@serves
+@built
 class AtAPort(Together, Serving):
     def place(self):
         return free_port()

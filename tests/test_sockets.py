@@ -7,8 +7,8 @@ import subprocess
 import time
 import unittest
 
-from program import PROGRAM, SMALL
-from serving import LIMIT, Client, Server, Serving, free_port, line, serves
+from program import PROGRAM, SMALL, built
+from serving import LIMIT, Client, Server, Serving, free_port, line
 
 # The most bytes of a path: a socket's address has room for 107, and while the socket is made its name is longer.
 LONGEST_PATH = 96
@@ -48,7 +48,7 @@ def mode(path):
     return stat.S_IMODE(os.lstat(path).st_mode)
 
 
-@serves
+@built
 class Places(Serving):
     def listening(self, *words, **how):
         """A server at the path that lets clients in already."""

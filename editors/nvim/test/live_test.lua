@@ -1,12 +1,6 @@
 ---Editors that share documents at a socket, this one and others.
 local it = require('harness')
 
-vim.fn.system({ it.gate, 'help', 'serve' })
-if vim.v.shell_error ~= 0 then
-  io.stdout:write('live: skipped, the program serves no live clients\n')
-  return
-end
-
 local sockets = 0
 
 ---Another Neovim, in which calls of the harness are made by their names.
