@@ -1,7 +1,7 @@
 #!/usr/bin/env python3
 """Looks whether `legacy` finds in a tree of tree.py what was put there, and loses no byte of it.
 
-    bench/archives/verify.py [--gate GATE] [--indexes DIR] [--labels FILE] TOP
+    bench/archives/verify.py [--only NAME ..] [--gate GATE] [--indexes DIR] [--labels FILE] TOP
 
 TOP is tree.py's, made by the user who runs this. A line is printed for each thing that is looked at, and the status is 1
 where one of them isn't so. The tree is as it was afterwards; what runs write beside it is gone. Dask is left out where
@@ -29,6 +29,8 @@ ENVIRONMENT = {**os.environ, "PYTHONPATH": str(CLIENTS)}
 MOST = 10
 # How often a run is killed before it is let end.
 KILLS = 3
+# The words that are `legacy`'s own.
+PASSED_ON = ("gate", "indexes", "labels")
 
 
 class Seen(NamedTuple):
@@ -189,14 +191,17 @@ def main() -> int:
     """Looks at all, and returns the status."""
     parser = argparse.ArgumentParser(description="Look whether legacy finds in a tree what tree.py put there, and loses no byte of it.")
     parser.add_argument("top", metavar="TOP", type=pathlib.Path)
-    for word in "gate", "indexes", "labels":
+    parser.add_argument("--only", metavar="NAME", nargs="+", default=[], help="what is looked at, by words of its line")
+    for word in PASSED_ON:
         parser.add_argument(f"--{word}")
     words = parser.parse_args()
-    found = [f"--{name}={value}" for name, value in vars(words).items() if name != "top" and value]
+    found = [f"--{name}={value}" for name, value in vars(words).items() if name in PASSED_ON and value]
     failed = False
     with tempfile.TemporaryDirectory(dir=words.top) as work:
         it = Tree(words.top.resolve(), found, pathlib.Path(work).resolve())
         for about, look in LOOKS:
+            if words.only and not any(word in about for word in words.only):
+                continue
             since = time.monotonic()
             seen = look(it)
             state = "left out, without python3-distributed" if not seen else f"{len(seen.faults)} faults" if seen.faults else "so"
