@@ -19,6 +19,7 @@ import functools
 import hashlib
 import json
 import os
+import resource
 import select
 import socket
 import subprocess
@@ -96,9 +97,11 @@ class Gate:
         self._next, self._over = 0, False
 
     @classmethod
-    def start(cls, *words: Union[str, "os.PathLike[str]"]) -> "Gate":
-        """Starts the program with these words, and ends it with the connection."""
-        program = subprocess.Popen(words, stdin=subprocess.PIPE, stdout=subprocess.PIPE, bufsize=0)
+    def start(cls, *words: Union[str, "os.PathLike[str]"], memory: Optional[int] = None) -> "Gate":
+        """Starts the program with these words, and ends it with the connection. Where `memory` is given, it may have so many
+        MiB with all its documents: what would need more is refused as "OutOfMemory", and no document is lost."""
+        bound = None if memory is None else _bound(memory)
+        program = subprocess.Popen(words, stdin=subprocess.PIPE, stdout=subprocess.PIPE, bufsize=0, preexec_fn=bound)
         writing, reading = program.stdin, program.stdout
         assert writing and reading
         os.set_blocking(writing.fileno(), False)
@@ -474,6 +477,16 @@ class Fleet:
 
     def __exit__(self, *_: Any) -> None:
         self.close()
+
+
+def _bound(memory: int) -> Callable[[], None]:
+    """What a process does before it becomes the program, so that it has at most so many MiB of addresses; a lower bound that
+    is there already stays. One call of the system, so that it does no harm where there are threads."""
+    if memory < 1:
+        raise ValueError("memory takes MiB, a number from 1 on")
+    there = [it for it in resource.getrlimit(resource.RLIMIT_AS) if it != resource.RLIM_INFINITY]
+    most = min([memory << 20, *there])
+    return functools.partial(resource.setrlimit, resource.RLIMIT_AS, (most, most))
 
 
 def _connected(path: Union[str, "os.PathLike[str]"]) -> socket.socket:

@@ -2,7 +2,7 @@
 -- waiting for keys.
 local harness = require('harness')
 local ran, why = xpcall(function()
-  for _, name in ipairs({ 'parts_alone', 'files', 'undo', 'line_ends', 'refusals', 'writing', 'program', 'live' }) do
+  for _, name in ipairs({ 'parts_alone', 'files', 'undo', 'line_ends', 'refusals', 'writing', 'program', 'budget', 'live' }) do
     require(name .. '_test')
   end
 end, debug.traceback)

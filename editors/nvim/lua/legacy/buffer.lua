@@ -60,10 +60,15 @@ function Buffer.read(number, label, path, connect)
   path = (vim.uv or vim.loop).fs_realpath(path) or path
   local disk = file.read(path)
   local document = opened(connect, label, path, disk or '', settings)
+  local read, text = pcall(document.text, document)
+  if not read then
+    document:close()
+    error(text, 0)
+  end
   local self = setmetatable({
     number = number,
     document = document,
-    mirror = mirrors.new(document:text()),
+    mirror = mirrors.new(text),
     path = path,
     disk = disk,
     settings = settings,

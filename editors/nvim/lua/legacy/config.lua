@@ -7,6 +7,7 @@ local M = {}
 ---@field socket string|nil where a program listens that editors share; where it isn't given, each has its own
 ---@field labels string|nil the label file; where it isn't given, `encodings.json` in `indexes`, if it is there
 ---@field refused 'revert'|'mark' what becomes of text that the document can't have
+---@field memory integer|nil MiB that the program may have with all its documents
 ---@field timeout integer milliseconds to wait for a reply
 ---@field part integer bytes of a document that one command carries
 ---@field marks integer how many damaged places are shown
@@ -17,6 +18,7 @@ local defaults = {
   indexes = nil,
   labels = nil,
   socket = nil,
+  memory = nil,
   refused = 'revert',
   timeout = 60000,
   -- A command's line has room for 4,194,304 bytes, and base64 makes four of three.
@@ -29,6 +31,7 @@ local TYPES = {
   indexes = 'string',
   labels = 'string',
   socket = 'string',
+  memory = 'number',
   refused = 'string',
   timeout = 'number',
   part = 'number',
@@ -60,6 +63,9 @@ function M.setup(settings)
   end
   if settings and settings.refused and settings.refused ~= 'revert' and settings.refused ~= 'mark' then
     error("legacy: setting 'refused' is 'revert' or 'mark'", 0)
+  end
+  if settings and settings.memory and not (settings.memory >= 1 and settings.memory < 1e9) then
+    error("legacy: setting 'memory' is a number of MiB, from 1 on", 0)
   end
   given = settings or {}
 end

@@ -5,6 +5,7 @@ local uv = vim.uv or vim.loop
 ---@class legacy.Connection
 ---@field words string[] the command line
 ---@field timeout integer milliseconds to wait for the replies
+---@field memory integer|nil MiB that the program may have with all its documents
 ---@field ended boolean
 ---@field private replies string[] lines that came and that nobody took
 ---@field private begun string[] the parts of the line that has begun
@@ -34,9 +35,10 @@ end
 
 ---@param words string[]
 ---@param timeout integer
+---@param memory integer|nil
 ---@return legacy.Connection
-function Connection.new(words, timeout)
-  local self = setmetatable({ words = words, timeout = timeout, ended = false }, Connection)
+function Connection.new(words, timeout, memory)
+  local self = setmetatable({ words = words, timeout = timeout, memory = memory, ended = false }, Connection)
   self.replies, self.begun, self.complaint, self.sent, self.last = {}, {}, '', 0, {}
   return self
 end
@@ -56,15 +58,26 @@ function Connection:listen(pipe)
   end)
 end
 
+---The words that start the program within its memory: a shell bounds its own, and becomes it. What can't be run is left
+---alone, and so found out.
+---@private
+---@return string[]
+function Connection:bound()
+  if not self.memory or vim.fn.executable(self.words[1]) == 0 then
+    return self.words
+  end
+  return vim.list_extend({ 'sh', '-c', 'ulimit -v "$0" && exec "$@"', ('%d'):format(self.memory * 1024) }, self.words)
+end
+
 ---Starts the program, and returns its process; an error says why it doesn't start.
 ---@param streams table[] its standard streams that are pipes, the one for errors last
 ---@param options table
 ---@param ended fun()
 ---@return table
 function Connection:spawn(streams, options, ended)
-  local stderr = streams[#streams]
-  options.args, options.stdio = vim.list_slice(self.words, 2), options.stdio or streams
-  local process, why = uv.spawn(self.words[1], options, ended)
+  local stderr, words = streams[#streams], self:bound()
+  options.args, options.stdio = vim.list_slice(words, 2), options.stdio or streams
+  local process, why = uv.spawn(words[1], options, ended)
   if not process then
     for _, pipe in ipairs(streams) do
       pipe:close()
@@ -84,9 +97,10 @@ end
 ---Starts the program, for this connection alone; an error says why it doesn't start.
 ---@param words string[]
 ---@param timeout integer
+---@param memory integer|nil
 ---@return legacy.Connection
-function Connection.start(words, timeout)
-  local self = Connection.new(words, timeout)
+function Connection.start(words, timeout, memory)
+  local self = Connection.new(words, timeout, memory)
   local stdin, stdout, stderr = uv.new_pipe(false), uv.new_pipe(false), uv.new_pipe(false)
   self.process = self:spawn({ stdin, stdout, stderr }, {}, function()
     self.ended = true

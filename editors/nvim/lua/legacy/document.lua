@@ -18,8 +18,9 @@ local splicing = require('legacy.splices')
 local Document = {}
 Document.__index = Document
 
----Code points of the text, and bytes of the document, that one reply brings.
-local PAGE = 1000000
+---Code points of the text, and bytes of the document, that one reply brings, and the fewest that are asked for where the
+---program has no memory for more.
+local PAGE, FEWEST = 1000000, 256
 
 local named = 0
 
@@ -165,23 +166,45 @@ function Document:must(command)
   return reply
 end
 
----@return string the whole text in UTF-8
-function Document:text()
-  local length, pages = self:must({ op = 'stat' }).utf32, {}
-  for from = 0, length - 1, PAGE do
-    pages[#pages + 1] = self:must({ op = 'text', from = from, to = math.min(from + PAGE, length) }).text
+---Asks for all of a document by pages, smaller ones where the program has no memory for one.
+---@private
+---@param length integer
+---@param page fun(at: integer, count: integer): table the command that asks for one
+---@param content fun(reply: table): string
+---@return string
+function Document:pages(length, page, content)
+  local pages, at, most = {}, 0, PAGE
+  while at < length do
+    local count = math.min(most, length - at)
+    local command = page(at, count)
+    local reply = self:ask({ command })[1]
+    if not reply.fault then
+      pages[#pages + 1], at = content(reply), at + count
+    elseif reply.fault == 'OutOfMemory' and count > FEWEST then
+      most = math.ceil(count / 2)
+    else
+      error(('legacy: %s was refused: %s'):format(command.op, reply.fault), 0)
+    end
   end
   return table.concat(pages)
 end
 
+---@return string the whole text in UTF-8
+function Document:text()
+  return self:pages(self:must({ op = 'stat' }).utf32, function(at, count)
+    return { op = 'text', from = at, to = at + count }
+  end, function(reply)
+    return reply.text
+  end)
+end
+
 ---@return string the whole document, as the program has it
 function Document:source()
-  local length, pages = self:must({ op = 'stat' }).bytes, {}
-  for at = 0, length - 1, PAGE do
-    local page = self:must({ op = 'source', at = at, len = math.min(PAGE, length - at) })
-    pages[#pages + 1] = base64.decode(page.bytes)
-  end
-  return table.concat(pages)
+  return self:pages(self:must({ op = 'stat' }).bytes, function(at, count)
+    return { op = 'source', at = at, len = count }
+  end, function(reply)
+    return base64.decode(reply.bytes)
+  end)
 end
 
 ---Whether another editor has changed the document since the last reply.
@@ -259,11 +282,15 @@ function Document:splice(splices)
       from = from + #put
     until from >= #splice.put
   end
-  for _, reply in ipairs(#commands > 0 and self:ask(commands) or {}) do
+  for i, reply in ipairs(#commands > 0 and self:ask(commands) or {}) do
     if reply.fault == 'Stale' and self.shared then
       self.behind = true
       return false
     elseif reply.fault then
+      if i > 1 then
+        -- Those in front of it were made all the same. The program begins anew, with the bytes from before.
+        self.connection:stop()
+      end
       error('legacy: bytes were not put back: ' .. reply.fault, 0)
     end
     self.rev, self.encoding = reply.rev, reply.encoding

@@ -15,17 +15,19 @@ local connection
 ---@type table<integer, legacy.Buffer>
 local buffers = {}
 
----The one connection for all buffers, made where there is none, or where the program ended or other words are set.
+---The one connection for all buffers, made where there is none, or where the program ended, or other words or another
+---memory are set.
 ---@return legacy.Connection
 local function connect()
   local settings = config.get()
   local words = config.words(settings)
-  if connection and not connection.ended and not vim.deep_equal(connection.words, words) then
+  local is_as_set = connection and vim.deep_equal({ connection.words, connection.memory }, { words, settings.memory })
+  if connection and not connection.ended and not is_as_set then
     connection:stop()
   end
   if not connection or connection.ended then
-    connection = settings.socket and server.connect(words, settings.socket, settings.timeout)
-      or Connection.start(words, settings.timeout)
+    connection = settings.socket and server.connect(words, settings.socket, settings.timeout, settings.memory)
+      or Connection.start(words, settings.timeout, settings.memory)
   end
   return connection
 end

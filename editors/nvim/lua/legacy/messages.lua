@@ -73,6 +73,8 @@ function M.opening(reply, label, size, settings)
     return ('another editor has opened the file, in %s'):format(reply.given)
   elseif reply.fault == 'TooManyDocuments' then
     return 'the program has no room for another document'
+  elseif reply.fault == 'OutOfMemory' then
+    return 'the program has no memory left for the file'
   end
   return 'the program refuses the document: ' .. reply.fault
 end

@@ -62,9 +62,10 @@ end
 ---@param words string[] the command line that starts it
 ---@param path string
 ---@param timeout integer
+---@param memory integer|nil MiB that it may have where it is started
 ---@return legacy.Connection
-function M.connect(words, path, timeout)
-  local connection = Connection.new(words, timeout)
+function M.connect(words, path, timeout, memory)
+  local connection = Connection.new(words, timeout, memory)
   local pipe, why = connected(path)
   if not pipe and not (why:find('ENOENT') or why:find('ECONNREFUSED')) then
     error(("legacy: the socket '%s' can't be used (%s)"):format(path, why), 0)
