@@ -20,6 +20,7 @@ HAS_PYFUSE3 = has_pyfuse3(sys.executable)
 if HAS_PYFUSE3:
     import trio
     import trio.testing
+    from pyfuse3 import FUSEError
     from legacy.mount import questions, tree
     from legacy.mount.ahead import FILES, ROOM, Listing, Wanted
     from legacy.mount.operations import Operations
@@ -135,6 +136,32 @@ class Loop(unittest.TestCase):
         trio.run(main)
         self.assertEqual((len(taken), taken.count(b"s")), (count, count // 10))
 
+    def test_as_many_are_at_work_as_there_are_requests(self):
+        # Each request is answered only once all have been taken.
+        come, to = os.pipe()
+        self.addCleanup(os.close, come)
+        self.addCleanup(os.close, to)
+        taken = []
+
+        async def serve(requests, all_taken):
+            await requests.wait_readable(come)
+            taken.append(os.read(come, 1))
+            if len(taken) == 5:
+                all_taken.set()
+            await all_taken.wait()
+
+        async def main():
+            requests, all_taken = Requests(), trio.Event()
+            with trio.move_on_after(5):
+                async with trio.open_nursery() as nursery:
+                    for _ in range(5):
+                        nursery.start_soon(serve, requests, all_taken)
+                    await trio.testing.wait_all_tasks_blocked()
+                    os.write(to, b"12345")
+
+        trio.run(main)
+        self.assertEqual(len(taken), 5)
+
     def test_other_tasks_have_their_turn_between_requests_that_never_end(self):
         come, to = os.pipe()
         self.addCleanup(os.close, come)
@@ -241,8 +268,8 @@ class Everywhere(NamedTuple):
 
 @unittest.skipUnless(HAS_PYFUSE3, "this interpreter has no pyfuse3 (Debian's python3-pyfuse3)")
 @unittest.skipUnless(os.access(PROGRAM, os.X_OK), f"there is no program {PROGRAM}; rt ci builds it")
-class Pages(unittest.TestCase):
-    """When the kernel is told to keep the pages that it has of a file."""
+class InOrder(unittest.TestCase):
+    """Requests in an order in which they seldom come."""
 
     def played(self, play):
         """Plays requests to the mount of a folder."""
@@ -268,7 +295,30 @@ class Pages(unittest.TestCase):
             workers.close()
             os.close(source.descriptor)
 
-    def test_only_once_those_of_another_content_are_known_to_be_dropped(self):
+    def test_a_file_that_is_cut_while_the_end_of_another_program_is_seen_to(self):
+        async def play(path, operations, ino):
+            how, rejected, lock = os.O_WRONLY | os.O_TRUNC, path.with_name("f.rejected"), operations.tree.nodes[ino].lock
+            one = (await operations.open(ino, how, mock.Mock(pid=1))).fh
+            for call, words in (operations.write, (one, 0, "é".encode())), (operations.flush, (one,)):
+                with self.assertRaises(FUSEError):
+                    await call(*words)
+            self.assertEqual((path.read_bytes(), rejected.read_bytes()), (b"\xff", "é".encode()))
+            async with trio.open_nursery() as nursery:
+                await lock.acquire()
+                nursery.start_soon(operations.release, one)
+                await trio.testing.wait_all_tasks_blocked()
+                other = (await operations.open(ino, how, mock.Mock(pid=os.getpid()))).fh
+                lock.release()
+            # What the other program has written by now is nobody's text yet.
+            self.assertEqual((path.read_bytes(), rejected.exists()), (b"\xff", True))
+            await operations.write(other, 0, "\ufffda".encode())
+            await operations.flush(other)
+            await operations.release(other)
+            self.assertEqual((path.read_bytes(), rejected.exists()), (b"\xffa", True))
+
+        self.played(play)
+
+    def test_pages_are_kept_only_once_those_of_another_content_are_known_to_be_dropped(self):
         # Of two openings that are answered the second may be through first.
         async def play(path, operations, ino):
             found = []

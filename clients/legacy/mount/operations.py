@@ -236,18 +236,16 @@ class Operations(pyfuse3.Operations):  # type: ignore[misc]
     async def flush(self, fh: int) -> None:
         handle = self.handles[fh]
         handle.heard()
-        session = handle.node.session
-        if handle.descriptor is None and handle.writes and session and session.dirty and session.whole():
-            await self.saves.commit(handle.node, handle.thread)
+        if handle.descriptor is None and handle.writes:
+            await self.saves.flushed(handle.node, handle.thread)
 
     @guarded
     async def fsync(self, fh: int, datasync: bool) -> None:
         handle = self.handles[fh]
-        session = handle.node.session
         if handle.descriptor is not None:
             await trio.to_thread.run_sync(os.fsync, handle.descriptor)
-        elif session and session.dirty and session.whole():
-            await self.saves.commit(handle.node, handle.thread)
+        else:
+            await self.saves.flushed(handle.node, handle.thread)
 
     @guarded
     async def release(self, fh: int) -> None:

@@ -14,7 +14,7 @@ import logging
 import os
 import time
 import unicodedata
-from typing import Awaitable, Callable, Iterable, Iterator, List, NamedTuple, Optional, Sequence, Tuple
+from typing import Awaitable, Callable, Iterable, Iterator, List, NamedTuple, Optional, Sequence, Set, Tuple
 
 import trio
 
@@ -33,6 +33,8 @@ log = logging.getLogger("legacy.mount")
 LARGEST_TEXT = 3 * LARGEST + 3
 # How alike a text has to be, by lines, to what it is compared with.
 ALIKE = 0.3
+# How many bytes of a write are looked at in one go.
+LOOKED = 1 << 17
 # The most other contents, and bytes of them, that lines are looked for in.
 OTHERS, BYTES_OF_OTHERS = 40, 1 << 20
 BAD = "\ufffd"
@@ -64,7 +66,13 @@ class Saves:
         assert session and node.rule
         joined = handle.begun + content if handle.begun and handle.end == offset else content
         handle.begun, handle.end = begun(joined[-4:]), offset + len(content)
-        letters = set(letters_of(joined)) - {BAD}
+        letters: Set[str] = set()
+        for at in range(0, len(joined), LOOKED):
+            if at:
+                await trio.lowlevel.checkpoint()  # (others have their turn)
+            # (a character that begins in this part is in it as a whole)
+            letters |= letters_of(joined[at : at + LOOKED + 3])
+        letters.discard(BAD)
         while letters:
             lacking = await self._reader.lacking(letters, node.rule.label)
             if not lacking:
@@ -90,6 +98,14 @@ class Saves:
         """Saves what programs have written into a file. Raises `OSError` where it is refused."""
         async with node.lock:
             await self.commit_held(node, thread)
+
+    async def flushed(self, node: Node, thread: int) -> None:
+        """The same where a program closes a handle or wants its text on the disk, and this may be a text that is meant."""
+        if node.session and node.session.dirty:
+            async with node.lock:
+                # (another program may have cut it meanwhile)
+                if node.session and node.session.whole():
+                    await self.commit_held(node, thread)
 
     async def commit_held(self, node: Node, thread: int) -> None:
         """The same, by who holds the inode's lock."""
@@ -170,10 +186,13 @@ class Saves:
 
     async def ended(self, node: Node, thread: int) -> None:
         """The last program that had a file open for writing has closed it."""
-        try:
-            await self.commit(node, thread)
-        except OSError:
-            await self._put_back(node)
+        async with node.lock:
+            if node.writers:
+                return  # (another one goes on with it)
+            try:
+                await self.commit_held(node, thread)
+            except OSError:
+                await self._put_back(node)
         session = node.session
         if session is None or node.writers:
             return

@@ -33,12 +33,15 @@ class Requests:
         return bool(self._poll.poll(0))
 
     async def wait_readable(self, descriptor: int) -> None:
-        """Waits until there is a request."""
+        """Waits until there is a request. What is done with it may take long: so where no other task waits, the next one
+        does from now on."""
         while not self._over:
             if time.monotonic() > self._until:
                 await trio.lowlevel.checkpoint()
                 self._until = time.monotonic() + TURN
             elif self._is_there(descriptor):
+                if not self._waits:
+                    self._others.unpark()
                 return
             elif self._waits:
                 await self._others.park()
@@ -47,7 +50,7 @@ class Requests:
         raise trio.ClosedResourceError
 
     async def _wait(self, descriptor: int) -> None:
-        """Waits for all tasks. The next one goes on with it, since this one has a request then, which may take long."""
+        """Waits for all tasks."""
         self._waits = True
         try:
             await trio.lowlevel.wait_readable(descriptor)
