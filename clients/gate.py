@@ -48,6 +48,8 @@ READ, PIPE = 1 << 16, 1 << 20
 SET_PIPE_SIZE = getattr(fcntl, "F_SETPIPE_SZ", 1031)
 # The most entries of a page of errors or of lines.
 PAGE = 10_000
+# The fewest bytes that are read at once where `gate` has no memory for more.
+FEWEST = 256
 
 
 class Fault(Exception):
@@ -293,15 +295,15 @@ class Document:
         while True:
             found = self.stat()
             try:
-                reply = self._gate.ask("source", doc=self.name, at=0, len=found["bytes"])
+                content, rev = self._source(0, found["bytes"])
             except Fault as fault:
                 # (it was made shorter in between)
                 if fault.name != "OutOfRange":
                     raise
                 continue
-            if reply["rev"] == found["rev"]:
+            if rev == found["rev"]:
                 self._take(found)
-                self.bytes = base64.b64decode(reply["bytes"])
+                self.bytes = content
                 return
 
     def _take(self, reply: Members) -> Members:
@@ -325,7 +327,11 @@ class Document:
         fields = {"doc": self.name, "unit": unit, **_change(text, start, end)}
         plan = self._gate.send("plan", **fields)
         self._take(self._gate.ask("change", rev=self.rev, **fields))
-        reply = plan.get()
+        try:
+            reply = plan.get()
+        except Fault:
+            # (there was no memory for the plan, and the change is made all the same)
+            return self._made()
         return self._put(reply["at"], reply["del"], base64.b64decode(reply["bytes"]))
 
     def plan(self, text: str, start: Optional[Pair] = None, end: Optional[Pair] = None, unit: str = "utf-16") -> Tuple[Edit, bool]:
@@ -338,6 +344,10 @@ class Document:
         positions are those of the text that the ones before it leave. Returns one edit, of all bytes between the first
         that differs and the last."""
         self._take(self._gate.ask("changes", doc=self.name, rev=self.rev, unit=unit, changes=[_change(*it) for it in listed]))
+        return self._made()
+
+    def _made(self) -> Edit:
+        """The edit that was made, by all bytes as they are now."""
         return self._put(*_difference(self.bytes, self.source(0, self.stat()["bytes"])))
 
     def undo(self, edit: Edit) -> Edit:
@@ -357,8 +367,29 @@ class Document:
 
     def source(self, at: int = 0, count: Optional[int] = None) -> bytes:
         """The bytes as `gate` has them."""
-        count = len(self.bytes) - at if count is None else count
-        return base64.b64decode(self._gate.ask("source", doc=self.name, at=at, len=count)["bytes"])
+        return self._source(at, len(self.bytes) - at if count is None else count)[0]
+
+    def _source(self, at: int, count: int) -> Tuple[bytes, int]:
+        """Bytes as `gate` has them, and their revision: by parts, all of one revision, where it has no memory for one reply."""
+        parts: List[bytes] = []
+        have, rev, most = 0, None, count
+        while True:
+            try:
+                reply = self._gate.ask("source", doc=self.name, at=at + have, len=min(most, count - have))
+            except Fault as fault:
+                if fault.name != "OutOfMemory" or most <= FEWEST:
+                    raise
+                most //= 2
+                continue
+            if rev not in (None, reply["rev"]):
+                # (another client edited it in between)
+                parts, have, rev = [], 0, None
+                continue
+            rev = reply["rev"]
+            parts.append(base64.b64decode(reply["bytes"]))
+            have += len(parts[-1])
+            if have == count:
+                return b"".join(parts), rev
 
     def encode(self, label: str, begin: int = 0, end: Optional[int] = None, mode: str = "fatal") -> bytes:
         """The text from one code point to another, or to its end, in another encoding."""

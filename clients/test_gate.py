@@ -51,6 +51,34 @@ class Documents(unittest.TestCase):
         self.assertEqual(document.source(), b"A\x1b$B0!\x1b$B$\"\x1b(B")
         self.assertEqual(document.bytes, document.source())
 
+    def test_without_memory_for_a_reply_bytes_are_read_by_parts(self):
+        content, ask, edits = bytes(range(256)) * 8, self.gate.ask, [b"x"]
+        document, other = self.gate.open("d", "utf-8", content), self.gate.join("d")
+
+        def asked(op, **fields):
+            if op == "source" and fields["len"] > 700:
+                raise Fault({"fault": "OutOfMemory"})
+            if op == "source" and fields["at"] and edits:
+                other.splice(0, 1, edits.pop())
+            return ask(op, **fields)
+
+        with mock.patch.object(self.gate, "ask", asked):
+            self.assertEqual(document.source(), b"x" + content[1:])
+            with mock.patch("gate.FEWEST", 2000):
+                self.assertRaisesRegex(Fault, "OutOfMemory", document.source)
+            document.refresh()
+        self.assertEqual((document.bytes, document.rev), (b"x" + content[1:], 1))
+
+    def test_a_change_whose_plan_is_refused_is_made(self):
+        document, send = self.gate.open("d", "utf-8", b"a\xffb"), self.gate.send
+
+        def sent(op, **fields):
+            return send(op, **({**fields, "doc": "none"} if op == "plan" else fields))
+
+        with mock.patch.object(self.gate, "send", sent):
+            edit = document.change("xy", (0, 1), (0, 2))
+        self.assertEqual((edit.at, edit.old, edit.new, document.bytes, document.source()), (1, b"\xff", b"xy", b"axyb", b"axyb"))
+
     def test_undo_is_to_the_byte(self):
         # The text of the damaged byte is U+FFFD, whose bytes are others.
         document = self.gate.open("d", "utf-8", b"a\xffb")

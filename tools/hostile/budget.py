@@ -10,7 +10,6 @@ edits that were accepted, and where one is closed another takes its memory. A li
 Of the plugin the documents are UTF-8, and editors/nvim/test/budget_test.lua plays them. CI plays small ones
 (tests/test_budget.py)."""
 import argparse
-import binascii
 import contextlib
 import os
 import pathlib
@@ -29,8 +28,8 @@ from gate import Fault, Gate
 # What the documents are filled with, and the escapes that bring them into another state each.
 UNIT = b"\x1b\x24"
 ESCAPES = (b"\x1b(B", b"\x1b(J", b"\x1b(I", b"\x1b$B")
-# The most bytes that are put in or read at once, and the least that have to be readable.
-PART, LEAST = 1 << 20, 256
+# The most bytes that are put in at once.
+PART = 1 << 20
 INDEXES = TOP / "examples" / "indexes"
 NVIM = TOP / "editors" / "nvim"
 
@@ -60,7 +59,6 @@ class Player:
     def __init__(self, gate: Gate, size: int, documents: int):
         self.gate, self.size = gate, size
         self.accepted = self.refused = 0
-        self.part_read = PART
         self.documents = [Document(f"d{number}") for number in range(documents)]
 
     def edit(self, op: str, **fields: object) -> bool:
@@ -107,27 +105,10 @@ class Player:
 
     def read(self, it: Document) -> None:
         """Sees that a document has the bytes and the revision of the accepted edits, and that its text can be read."""
-        wanted = it.bytes()
-        found = self.gate.ask("stat", doc=it.name)
-        if (found["bytes"], found["rev"]) != (len(wanted), it.rev):
-            raise Fails(f"{it.name} has {found['bytes']} bytes at revision {found['rev']}, not {len(wanted)} at {it.rev}")
-        at = 0
-        while at < len(wanted):
-            piece = self.source(it, at, len(wanted) - at)
-            if piece != wanted[at : at + len(piece)]:
-                raise Fails(f"{it.name} has other bytes behind {at}")
-            at += len(piece)
-        self.gate.ask("text", doc=it.name, **{"from": 0, "to": min(found["utf32"], 100)})
-
-    def source(self, it: Document, at: int, most: int) -> bytes:
-        """Bytes from a place on, as many as there is memory for in a reply."""
-        while True:
-            try:
-                return binascii.a2b_base64(self.gate.ask("source", doc=it.name, at=at, len=min(self.part_read, most))["bytes"])
-            except Fault as fault:
-                if fault.name != "OutOfMemory" or self.part_read == LEAST:
-                    raise Fails(f"{it.name} can't be read at {at}: {fault}") from fault
-                self.part_read //= 2
+        found = self.gate.join(it.name)
+        if (found.bytes, found.rev) != (it.bytes(), it.rev):
+            raise Fails(f"{it.name} isn't as the accepted edits leave it: revision {found.rev}, not {it.rev}, and {len(found.bytes)} bytes")
+        found.text(0, 1)
 
     def close(self) -> None:
         """Closes the longest document, in whose place a short one is opened and edited."""
@@ -229,8 +210,8 @@ def play(way: str, program: pathlib.Path, memory: int, size: int, documents: int
             player = Player(gate, size, documents)
             player.play()
             (process,) = children() - others
-            return (f"{player.accepted} accepted, {player.refused} refused, {player.length() >> 10} KiB of documents read"
-                    f" by {player.part_read} bytes; {peaks(process)}")
+            return (f"{player.accepted} accepted, {player.refused} refused, {player.length() >> 10} KiB of documents"
+                    f" read; {peaks(process)}")
 
 
 def play_plugin(program: pathlib.Path, memory: int, size: int, documents: int) -> str:
