@@ -6,7 +6,7 @@ import unittest
 
 from program import PROGRAM, TOP, built
 
-SOURCE = TOP / "crates" / "gate" / "src" / "command_line.rt"
+SOURCE = TOP / "crates" / "command_line" / "src" / "form.rt"
 
 # Other places of the version and of the toolchain's logic: a file, and what is around it there.
 VERSION_PLACES = [

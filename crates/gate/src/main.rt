@@ -2,7 +2,6 @@
 #![tactic(auto)]
 
 mod beginning;
-mod command_line;
 mod failure;
 mod labels;
 mod perform;

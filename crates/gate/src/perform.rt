@@ -1,18 +1,18 @@
 //! All that the program does with its words.
 
 use crate::beginning::beginning;
-use crate::command_line::{Job, Listening, Sources, job_of};
 use crate::failure::Failure;
 use crate::labels::{labels_in, names};
 use crate::replay::replay;
 use crate::serve::{ServeFault, serve};
 use crate::stdio::serve_stdio;
 use crate::text_outlet::TextOutlet;
+use command_line::{Job, Limits, Listening, Place, Sources, job_of};
 use enc_names::Labels;
 use gateway::{Feed, Outlet};
 use index_files::indexes_in;
 use index_loader::Indexes;
-use serving::{Limits, Place, ServingFault, serve_clients};
+use serving::{ServingFault, serve_clients};
 use sessions::Sessions;
 use std::alloc::Global;
 use std::fs::{File, Files};
@@ -135,11 +135,23 @@ fn serve_live<'a, T: Files<File = File> + Net + Clock>(
 ) -> Result<(), Failure<'a>> {
     let (indexes, labels) = files_of(rt, alloc, sources)?;
     let mut sessions = Sessions::new(alloc, beginning(alloc, &indexes, labels));
-    match serve_clients(rt, alloc, &mut sessions, place, limits) {
+    let limits = serving::Limits {
+        clients: limits.clients,
+        idle: limits.idle,
+    };
+    match serve_clients(rt, alloc, &mut sessions, served_at(place), limits) {
         Ok(()) => Ok(()),
         Err(ServingFault::Listen) => Err(cannot_listen(place)),
         Err(ServingFault::Poll) => Err(Failure::Poll),
         Err(ServingFault::OutOfMemory) => Err(Failure::OutOfMemory),
+    }
+}
+
+/// The place that the words name, as the crate that serves there has it.
+fn served_at(place: Place<'_>) -> serving::Place<'_> {
+    match place {
+        Place::Path(path) => serving::Place::Path(path),
+        Place::Port(port) => serving::Place::Port(port),
     }
 }
 

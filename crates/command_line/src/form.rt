@@ -1,8 +1,8 @@
-//! The command line.
+//! The form of the command line, and the job that words of this form ask for.
 
+use crate::job::{Job, Limits, Listening, Place, Sources};
 use clap::error::ErrorKind;
 use clap::{Arg, ArgAction, ArgGroup, ArgMatches, Command, Error, value_parser};
-use serving::{Limits, Place};
 use std::alloc::Global;
 
 /// The version of the program and of what is packed beside it, with the identity of the toolchain that
@@ -21,40 +21,8 @@ const TCP: &str = "tcp";
 /// The command that serves live clients.
 const SERVE: &str = "serve";
 
-/// What the program is to do.
-#[derive(Clone, Copy)]
-pub enum Job<'a> {
-    /// Serve the standard streams without files.
-    Plain,
-    /// Serve the standard streams with these files.
-    Stdio(Sources<'a>),
-    /// Play the trace on standard input with these files.
-    Trace(Sources<'a>),
-    /// Serve connections over TCP with these files.
-    Tcp(Sources<'a>, Listening),
-    /// Serve live clients with these files, there and so long.
-    Serve(Sources<'a>, Place<'a>, Limits),
-}
-
-/// The files that the program is to read.
-#[derive(Clone, Copy)]
-pub struct Sources<'a> {
-    /// The folder of the index files.
-    pub indexes: &'a str,
-    /// The label file; without one the encodings' names are the labels.
-    pub labels: Option<&'a str>,
-}
-
-/// Where the program listens, and how many connections it serves.
-#[derive(Clone, Copy)]
-pub struct Listening {
-    /// The port on 127.0.0.1, from 1 on.
-    pub port: u16,
-    /// The number of connections, from 1 up to 1,000,000.
-    pub connections: u32,
-}
-
-/// The job of the words; the program's name isn't one of them.
+/// The job of the words; the program's name isn't one of them. The error is what `clap` says of words of another form, of a
+/// question for help or the version, and of memory that ran out.
 pub fn job_of(alloc: Global, words: &[String]) -> Result<Job<'_>, Error> {
     let mut command = command(alloc)?;
     let matches = command.try_get_matches_from_mut(words)?;
