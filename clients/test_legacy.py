@@ -12,6 +12,7 @@ import zipfile
 from unittest import mock
 
 import wheels
+from gate import Fault
 from legacy import __main__, __version__, finding
 
 CLIENTS = pathlib.Path(__file__).resolve().parent
@@ -170,6 +171,20 @@ class Finding(unittest.TestCase):
     def test_a_program_that_replies(self):
         with finding.Found(PROGRAM, TOP / "examples" / "indexes", None).start() as gate:
             self.assertEqual(gate.open("d", "shift_jis", b"\x82\xa0").text(), "あ")
+
+    @unittest.skipUnless(os.access(PROGRAM, os.X_OK), f"there is no program {PROGRAM}; rt ci builds it")
+    def test_a_program_whose_memory_is_bounded(self):
+        with finding.Found(PROGRAM, TOP / "examples" / "indexes", None, memory=40).start() as gate:
+            with self.assertRaisesRegex(Fault, "OutOfMemory"):
+                gate.open("d", "utf-8", bytes(16 << 20))
+            gate.ask("close", doc="d")
+            self.assertEqual(gate.open("d", "shift_jis", b"\x82\xa0").text(), "あ")
+
+    def test_memory_is_a_number_of_mib(self):
+        for wrong in "", "0", "-1", "1.5", "x", "1000000000":
+            _, said, status = run("check", f"--memory={wrong}", ".")
+            self.assertEqual(status, 2)
+            self.assertIn(f"argument --memory: {wrong} is no number of MiB from 1 on", said)
 
 
 class Installation(unittest.TestCase):

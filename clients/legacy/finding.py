@@ -23,16 +23,19 @@ class Missing(Exception):
 
 
 class Found(NamedTuple):
-    """The program, the folder of the index files, and the label file, if there is one."""
+    """The program, the folder of the index files, the label file, if there is one, and how many MiB of memory each program
+    may have with its documents, if that is bounded."""
 
     gate: str
     indexes: pathlib.Path
     labels: Optional[pathlib.Path]
+    memory: Optional[int] = None
 
     def words(self) -> List[str]:
-        """The command line that serves standard input."""
+        """The command line that serves standard input. Where memory is bounded, a shell bounds its own and becomes the program."""
         labels = ["--labels", str(self.labels)] if self.labels else []
-        return [self.gate, "stdio", "--indexes", str(self.indexes), *labels]
+        bound = ["/bin/sh", "-c", 'ulimit -v "$0" && exec "$@"', str(self.memory << 10)] if self.memory else []
+        return [*bound, self.gate, "stdio", "--indexes", str(self.indexes), *labels]
 
     def start(self) -> Gate:
         """Starts the program, which has read its files once this returns."""
@@ -47,7 +50,8 @@ class Found(NamedTuple):
             return started
         except (Gone, ValueError) as fault:
             started.close()
-            raise Missing(f"{self.gate} ended before it replied; its words were {' '.join(self.words()[1:])}") from fault
+            words = self.words()
+            raise Missing(f"{self.gate} ended before it replied; its words were {' '.join(words[words.index('stdio'):])}") from fault
         return started
 
 
@@ -59,6 +63,15 @@ def add_words(parser: argparse.ArgumentParser) -> None:
         "--indexes", metavar="DIR", type=pathlib.Path,
         help="the folder of the Standard's index files (default: GATE_INDEXES, else where tools/standard puts them)")
     add_labels(group)
+    group.add_argument(
+        "--memory", metavar="MIB", type=_memory,
+        help="the most memory that each gate has, with all its documents (default: GATE_MEMORY, where gate is as tools/install put it)")
+
+
+def _memory(word: str) -> int:
+    if not word.isdecimal() or not 1 <= int(word) < 10**9:
+        raise argparse.ArgumentTypeError(f"{word} is no number of MiB from 1 on")
+    return int(word)
 
 
 def add_labels(parser: "argparse._ActionsContainer") -> None:
@@ -107,7 +120,7 @@ def label_file(named: Optional[pathlib.Path], indexes: pathlib.Path) -> Optional
     return named or (beside if beside.is_file() else None)
 
 
-def find(words: argparse.Namespace = argparse.Namespace(gate=None, indexes=None, labels=None)) -> Found:
+def find(words: argparse.Namespace = argparse.Namespace(gate=None, indexes=None, labels=None, memory=None)) -> Found:
     """All that `add_words` names, from the words that were parsed; or what is found without any."""
     indexes = index_files(words.indexes)
-    return Found(program(words.gate), indexes, label_file(words.labels, indexes))
+    return Found(program(words.gate), indexes, label_file(words.labels, indexes), words.memory)

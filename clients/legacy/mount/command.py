@@ -74,7 +74,7 @@ def found_for_good(words: argparse.Namespace) -> Found:
     found = find(words)
     gate = os.path.abspath(found.gate) if os.sep in found.gate else found.gate
     labels = pathlib.Path(os.path.abspath(found.labels)) if found.labels else None
-    found = Found(gate, pathlib.Path(os.path.abspath(found.indexes)), labels)
+    found = found._replace(gate=gate, indexes=pathlib.Path(os.path.abspath(found.indexes)), labels=labels)
     found.start().close()
     return found
 
