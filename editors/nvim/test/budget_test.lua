@@ -71,7 +71,16 @@ it.test('documents that want more memory than the program may have', false, func
   it.same(it.written(path), text .. '\n')
 end)
 
-it.test('a budget that is none, and one that is too small', false, function()
+it.test('a program in the background that editors share', false, function()
+  it.settings({ socket = it.work .. '/bounded.socket', memory = memory })
+  it.open('utf-8', 'a\n')
+  local server = it.buffer().document.connection.server
+  local limits = it.read(('/proc/%d/limits'):format(server:get_pid()))
+  server:kill('sigkill')
+  it.same(tonumber(limits:match('Max address space +(%d+)')), memory * 1048576)
+end)
+
+it.test('a budget that is none, and a program that is none', false, function()
   for _, wrong in ipairs({ 0, -1, 1e9, 'a' }) do
     it.same(pcall(it.settings, { memory = wrong }), false)
   end
