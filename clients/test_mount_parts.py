@@ -21,7 +21,7 @@ if HAS_PYFUSE3:
     import trio
     import trio.testing
     from pyfuse3 import FUSEError
-    from legacy.mount import questions, tree
+    from legacy.mount import questions, tree, workers
     from legacy.mount.ahead import FILES, ROOM, Listing, Wanted
     from legacy.mount.operations import Operations
     from legacy.mount.reading import Reader
@@ -30,7 +30,6 @@ if HAS_PYFUSE3:
     from legacy.mount.tree import ROOT
     from legacy.mount.view import Options, View
     from legacy.mount.waiting import Requests
-    from legacy.mount.workers import Workers
 
 
 @unittest.skipIf(HAS_PYFUSE3 or not PYTHON, "this interpreter has pyfuse3, or none has")
@@ -279,20 +278,20 @@ class InOrder(unittest.TestCase):
     async def serve(self, folder, play):
         (folder / "f").write_bytes(b"\xff")
         words = [PROGRAM, "stdio", "--indexes", str(INDEXES)]
-        asked, workers = questions.Questions(words), Workers(words)
+        asked, long = questions.Questions(words), workers.Workers(words)
         source = below.Source(os.fsencode(folder))
-        reader = Reader(source, asked, workers, workers)
+        reader = Reader(source, asked, long, long)
 
         async def forget_pages(_):
             pass
 
         view = View(source, Everywhere(Rule("shift_jis", "this test")), reader, Options())
-        operations = Operations(view, Saves(reader, workers, Refusals(source, None), False, forget_pages))
+        operations = Operations(view, Saves(reader, long, Refusals(source, None), False, forget_pages))
         try:
             await play(folder / "f", operations, (await operations.lookup(ROOT, b"f")).st_ino)
         finally:
             asked.close()
-            workers.close()
+            long.close()
             os.close(source.descriptor)
 
     def test_a_file_that_is_cut_while_the_end_of_another_program_is_seen_to(self):
@@ -300,7 +299,7 @@ class InOrder(unittest.TestCase):
             how, rejected, lock = os.O_WRONLY | os.O_TRUNC, path.with_name("f.rejected"), operations.tree.nodes[ino].lock
             one = (await operations.open(ino, how, mock.Mock(pid=1))).fh
             for call, words in (operations.write, (one, 0, "é".encode())), (operations.flush, (one,)):
-                with self.assertRaises(FUSEError):
+                with self.assertRaises(FUSEError), self.assertLogs("legacy.mount"):
                     await call(*words)
             self.assertEqual((path.read_bytes(), rejected.read_bytes()), (b"\xff", "é".encode()))
             async with trio.open_nursery() as nursery:
@@ -341,6 +340,21 @@ class InOrder(unittest.TestCase):
             self.assertEqual(found, 2 * [False, False, True, True])
 
         self.played(play)
+
+
+@unittest.skipUnless(HAS_PYFUSE3, "this interpreter has no pyfuse3 (Debian's python3-pyfuse3)")
+@unittest.skipUnless(os.access(PROGRAM, os.X_OK), f"there is no program {PROGRAM}; rt ci builds it")
+class Idle(unittest.TestCase):
+    def test_a_process_that_has_had_nothing_to_do_is_ended_and_one_that_never_had_is_kept(self):
+        found = workers.Workers([PROGRAM, "stdio", "--indexes", str(INDEXES)])
+        self.addCleanup(found.close)
+        found.start()
+        with mock.patch.object(workers, "IDLE", 0.0):
+            self.assertFalse(found.look_after())
+            for _ in range(2):
+                self.assertEqual(tuple(found.do("lengths", b"a\xff", "shift_jis")), (4, 1))
+                self.assertTrue(found.look_after())
+                self.assertFalse(found.look_after())
 
 
 STAND_IN = """#!{python}

@@ -8,7 +8,7 @@ import os
 import pathlib
 import signal
 import sys
-from typing import TYPE_CHECKING, Callable, List, Sequence, Set
+from typing import TYPE_CHECKING, Callable, List, Set
 
 from legacy.finding import Found, Missing, add_words, find
 from legacy.mount.below import Source
@@ -147,7 +147,7 @@ def serve(words: argparse.Namespace, found: Found, mounted: Callable[[], None]) 
         print(f"legacy mount: {words.mountpoint} can't be mounted on", file=sys.stderr)
         return FAILED
     try:
-        trio.run(serve_until, operations, questions, (workers, for_small), mounted)
+        trio.run(serve_until, operations, questions, workers, for_small, mounted)
     finally:
         saves.unsaved(operations.tree.nodes.values())
         pyfuse3.close(unmount=True)
@@ -169,7 +169,8 @@ def fuse_options(words: argparse.Namespace) -> Set[str]:
     return set(pyfuse3.default_options) | chosen
 
 
-async def serve_until(operations: "Operations", questions: "Questions", workers: "Sequence[Workers]", mounted: Callable[[], None]) -> None:
+async def serve_until(operations: "Operations", questions: "Questions", workers: "Workers", for_small: "Workers",
+                      mounted: Callable[[], None]) -> None:
     """Serves the kernel until it is unmounted, or a signal comes."""
     import pyfuse3
     import trio
@@ -182,20 +183,21 @@ async def serve_until(operations: "Operations", questions: "Questions", workers:
                 pyfuse3.terminate()
                 # What is being saved still is; what takes too long is refused.
                 await trio.sleep(GRACE)
-                for it in workers:
+                for it in workers, for_small:
                     it.stop()
 
     async def looked_after() -> None:
         while True:
             await trio.sleep(PERIOD)
             questions.look_after()
-            for it in workers:
-                it.look_after()
+            for_small.look_after()
+            if workers.look_after():
+                workers.start()
 
     async def begun() -> None:
         await operations.mounted.wait()
         mounted()
-        workers[0].start()
+        workers.start()
         await trio.to_thread.run_sync(cleared, operations.source, cancellable=True)
 
     async with trio.open_nursery() as nursery:

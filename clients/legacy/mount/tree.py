@@ -56,7 +56,9 @@ class Session:
 
     def truncate(self, size: int) -> None:
         """Cuts the text, or fills it with zeros."""
-        data = self.text()
+        if self.data is None:
+            self.data = bytearray(self.below.utf8[:size])
+        data = self.data
         if size < len(data):
             del data[size:]
         else:

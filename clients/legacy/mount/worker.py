@@ -25,7 +25,8 @@ class Jobs:
 
     def __init__(self, words: Sequence[str]):
         self._words = words
-        self._gate: Optional[Gate] = None
+        # (so that it has read its files once the first job comes)
+        self._gate: Optional[Gate] = Gate.start(*words)
         self._last = Last()
 
     def text(self, raw: bytes, label: str) -> Text:

@@ -39,12 +39,13 @@ class Worker:
         for pipe in self._process.stdin, self._process.stdout:
             with contextlib.suppress(OSError):
                 fcntl.fcntl(pipe.fileno() if pipe else -1, SET_ROOM, ROOM)
-        self.since = time.monotonic()
+        self.since, self.used = time.monotonic(), False
 
     def do(self, name: str, given: Sequence[Any]) -> Any:
         """What the job returns or raises."""
         to, come = self._process.stdin, self._process.stdout
         assert to and come
+        self.used = True
         try:
             pickle.dump((name, given), to, pickle.HIGHEST_PROTOCOL)
             to.flush()
@@ -105,16 +106,17 @@ class Workers:
         raise Refused(errno.EIO, "the process that saves ended before it had an answer")
 
     def start(self) -> None:
-        """Starts one, so that the first job finds it."""
+        """Starts one, so that the next job finds it."""
         self._idle.append(Worker(self._words))
 
-    def look_after(self) -> None:
-        """Ends what has had nothing to do for long."""
-        for worker in list(self._idle):
-            if time.monotonic() - worker.since > IDLE:
-                with contextlib.suppress(ValueError):
-                    self._idle.remove(worker)
-                    worker.close()
+    def look_after(self) -> bool:
+        """Ends what has had nothing to do for long, with all that it holds, and returns whether something was."""
+        late = [it for it in self._idle if it.used and time.monotonic() - it.since > IDLE]
+        for worker in late:
+            with contextlib.suppress(ValueError):
+                self._idle.remove(worker)
+                worker.close()
+        return bool(late)
 
     def stop(self) -> None:
         """Ends those that are at work, and has no other begin: what they do is refused."""
