@@ -1,12 +1,15 @@
 //! What a document answers.
 
-use decoder_core::Meter;
+use decoder_core::{Meter, OutOfMemory};
 use enc_names::Place;
 use piece_rope::{Doc, DocFault, Lengths};
 
 /// A document, by the calls that are tried on it. What tries them is proved over these alone: over
 /// all that a `Doc` is it would take many times as long.
 pub trait Document: Drop {
+    /// `Doc::copy`.
+    fn copy(&self) -> Result<Self, OutOfMemory>;
+
     /// `Doc::lengths`.
     fn lengths(&self) -> Lengths;
 
@@ -23,7 +26,11 @@ pub trait Document: Drop {
     fn splice(&mut self, at: u64, del: u64, ins: &[u8], meter: &mut Meter) -> Result<(), DocFault>;
 }
 
-impl Document for Doc<'_> {
+impl<'i> Document for Doc<'i> {
+    fn copy(&self) -> Result<Doc<'i>, OutOfMemory> {
+        Doc::copy(self)
+    }
+
     fn lengths(&self) -> Lengths {
         Doc::lengths(self)
     }
@@ -49,13 +56,13 @@ impl Document for Doc<'_> {
 #[derive(Drop)]
 pub struct DocumentAnswers {
     /// `Doc::lengths`.
-    pub lengths: Lengths,
+    lengths: Lengths,
     /// `Doc::text` of all of it.
-    pub text: String,
+    text: String,
     /// `Doc::source` of all of it.
-    pub source: Vec<u8>,
+    source: Vec<u8>,
     /// `Doc::errors`, all of them.
-    pub errors: Vec<Place>,
+    errors: Vec<Place>,
 }
 
 /// What a document answers; `None` where a call is refused.
@@ -72,7 +79,45 @@ pub fn answers_of<D: Document>(doc: &D) -> Option<DocumentAnswers> {
     })
 }
 
+/// A part of what a document answers.
+#[derive(Clone, Copy)]
+pub enum Part {
+    /// `Doc::text`.
+    Text,
+    /// `Doc::source`.
+    Source,
+    /// `Doc::errors`.
+    Errors,
+}
+
 impl DocumentAnswers {
+    /// Whether the document answers a part of this.
+    pub fn has<D: Document>(&self, doc: &D, part: Part) -> Result<bool, DocFault> {
+        match part {
+            Part::Text => self.has_text(doc),
+            Part::Source => self.has_source(doc),
+            Part::Errors => self.has_errors(doc),
+        }
+    }
+
+    /// Whether the document has this text.
+    fn has_text<D: Document>(&self, doc: &D) -> Result<bool, DocFault> {
+        let text = doc.text(0, self.lengths.scalars)?;
+        Ok(text.as_str() == self.text.as_str())
+    }
+
+    /// Whether it has this source.
+    fn has_source<D: Document>(&self, doc: &D) -> Result<bool, DocFault> {
+        let source = doc.source(0, self.lengths.bytes)?;
+        Ok(source.as_slice() == self.source.as_slice())
+    }
+
+    /// Whether it has these errors.
+    fn has_errors<D: Document>(&self, doc: &D) -> Result<bool, DocFault> {
+        let errors = doc.errors(0, self.lengths.errors)?;
+        Ok(errors.as_slice() == self.errors.as_slice())
+    }
+
     /// Whether the document answers all this.
     pub fn are_of<D: Document>(&self, doc: &D) -> bool {
         match answers_of(doc) {

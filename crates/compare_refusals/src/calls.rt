@@ -12,16 +12,16 @@ mod traces;
 mod tree;
 
 use crate::documents::Opener;
-use crate::office::Office;
+use crate::office::{Desks, Office};
 use crate::outcome::TrialOutcome;
 use crate::tried::Tried;
 pub use changes::Changeable;
 use decoding::Decodes;
-use desks::Desks;
+pub use desks::Adopter;
 use encoding::Encodes;
 use pieces::Pieces;
 use std::alloc::Global;
-use traces::Players;
+pub use traces::Player;
 
 /// A call that allocates, beside those on documents of some pieces.
 #[derive(Clone, Copy)]
@@ -48,6 +48,8 @@ pub enum Call {
     EncodeFrom,
     /// `Piece::new`.
     NewPiece,
+    /// `Piece::copy`, which takes no memory.
+    CopyPiece,
     /// `Piece::compute`.
     Compute,
     /// `finish_of`.
@@ -56,6 +58,8 @@ pub enum Call {
     Reserve,
     /// `plan_change`.
     PlanChange,
+    /// `Doc::keeps`.
+    Keeps,
     /// `Doc::splice_kept`.
     SpliceKept,
     /// `Desk::new`, which takes no memory.
@@ -67,7 +71,7 @@ pub enum Call {
 }
 
 /// All of them, with their names, and how often each is to be refused at least.
-pub const CALLS: [(Call, &str, u64); 19] = [
+pub const CALLS: [(Call, &str, u64); 21] = [
     (Call::Names, "names", 1),
     (Call::FromJson, "from_json", 1),
     (Call::Parse, "parse", 1),
@@ -79,10 +83,12 @@ pub const CALLS: [(Call, &str, u64); 19] = [
     (Call::Encode, "encode", 1),
     (Call::EncodeFrom, "encode_from", 1),
     (Call::NewPiece, "Piece::new", 1),
+    (Call::CopyPiece, "Piece::copy", 0),
     (Call::Compute, "compute", 1),
     (Call::FinishOf, "finish_of", 1),
     (Call::Reserve, "reserve", 1),
     (Call::PlanChange, "plan_change", 1),
+    (Call::Keeps, "keeps", 1),
     (Call::SpliceKept, "splice_kept", 1),
     (Call::NewDesk, "Desk::new", 0),
     (Call::Adopt, "adopt", 1),
@@ -90,7 +96,7 @@ pub const CALLS: [(Call, &str, u64); 19] = [
 ];
 
 /// What the calls that need index files are made on.
-pub trait CallOffice: Decodes + Encodes + Pieces + Opener + Desks + Players {}
+pub trait CallOffice: Decodes + Encodes + Pieces + Opener + Desks {}
 
 impl CallOffice for Office<'_> {}
 
@@ -120,10 +126,12 @@ impl<O: CallOffice> Tried for CallTrial<'_, O> {
             Call::Encode => encoding::whole(alloc, office, budget),
             Call::EncodeFrom => encoding::from_state(alloc, office, budget),
             Call::NewPiece => pieces::new(alloc, budget),
+            Call::CopyPiece => pieces::copy(alloc, office, budget),
             Call::Compute => pieces::compute(alloc, office, budget),
             Call::FinishOf => pieces::finish(alloc, office, budget),
             Call::Reserve => tree::reserve(alloc, budget),
             Call::PlanChange => changes::plan(alloc, office, budget),
+            Call::Keeps => changes::keeps(alloc, office, budget),
             Call::SpliceKept => changes::splice_kept(alloc, office, budget),
             Call::NewDesk => desks::new(alloc, office, budget),
             Call::Adopt => desks::adopt(alloc, office, budget),

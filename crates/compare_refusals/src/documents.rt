@@ -1,11 +1,11 @@
 //! Calls on documents of some pieces.
 
-use crate::answers::{Document, DocumentAnswers, answers_of};
+use crate::answers::{Document, DocumentAnswers, Part, answers_of};
 use crate::budget::all_but;
 use crate::calls::Changeable;
 use crate::cases::{AT, Bytes};
 use crate::office::Office;
-use crate::outcome::{TrialOutcome, outcome_if};
+use crate::outcome::{TrialOutcome, outcome_if, refused_if};
 use crate::tried::Tried;
 use decoder_core::{Meter, meter};
 use enc_names::{Bom, Encoding};
@@ -17,23 +17,22 @@ use std::alloc::Global;
 pub enum DocumentCall {
     /// `Doc::open`.
     Open,
+    /// `Doc::copy`.
+    Copy,
     /// `Doc::splice`, by which the edit is taken back.
     Splice,
-    /// `Doc::text`.
-    Text,
-    /// `Doc::source`.
-    Source,
-    /// `Doc::errors`.
-    Errors,
+    /// One that gives a part of what it answers.
+    Answer(Part),
 }
 
 /// All of them, with their names.
-pub const DOCUMENT_CALLS: [(DocumentCall, &str); 5] = [
+pub const DOCUMENT_CALLS: [(DocumentCall, &str); 6] = [
     (DocumentCall::Open, "open"),
+    (DocumentCall::Copy, "Doc::copy"),
     (DocumentCall::Splice, "splice"),
-    (DocumentCall::Text, "text"),
-    (DocumentCall::Source, "source"),
-    (DocumentCall::Errors, "errors"),
+    (DocumentCall::Answer(Part::Text), "text"),
+    (DocumentCall::Answer(Part::Source), "source"),
+    (DocumentCall::Answer(Part::Errors), "errors"),
 ];
 
 /// What opens documents.
@@ -139,10 +138,9 @@ impl<O: Opener> Tried for DocumentTrial<'_, O> {
     fn tried(&self, budget: usize) -> Option<TrialOutcome> {
         match self.call {
             DocumentCall::Open => self.open(budget),
+            DocumentCall::Copy => self.copy(budget),
             DocumentCall::Splice => self.splice(budget),
-            DocumentCall::Text => self.text(budget),
-            DocumentCall::Source => self.source(budget),
-            DocumentCall::Errors => self.errors(budget),
+            DocumentCall::Answer(part) => self.answer(part, budget),
         }
     }
 }
@@ -160,44 +158,36 @@ impl<O: Opener> DocumentTrial<'_, O> {
         })
     }
 
-    /// `Doc::text`.
-    fn text(&self, budget: usize) -> Option<TrialOutcome> {
-        let wanted = &self.wanted.opened;
+    /// `Doc::copy`: where it is refused, the document is as before, and has a copy with memory.
+    fn copy(&self, budget: usize) -> Option<TrialOutcome> {
         let doc = self.source.open().ok()?;
         let room = all_but(self.source.alloc, budget)?;
-        let text = doc.text(0, wanted.lengths.scalars);
+        let copied = doc.copy();
         drop(room);
-        Some(match text {
-            Ok(text) => outcome_if(text.as_str() == wanted.text.as_str()),
-            Err(DocFault::OutOfMemory) if wanted.are_of(&doc) => TrialOutcome::Refused,
-            Err(_) => TrialOutcome::Wrong,
+        Some(match copied {
+            Ok(copy) => outcome_if(self.wanted.opened.are_of(&copy)),
+            Err(_) => refused_if(self.copied_later(&doc)),
         })
     }
 
-    /// `Doc::source`.
-    fn source(&self, budget: usize) -> Option<TrialOutcome> {
-        let wanted = &self.wanted.opened;
-        let doc = self.source.open().ok()?;
-        let room = all_but(self.source.alloc, budget)?;
-        let source = doc.source(0, wanted.lengths.bytes);
-        drop(room);
-        Some(match source {
-            Ok(source) => outcome_if(source.as_slice() == wanted.source.as_slice()),
-            Err(DocFault::OutOfMemory) if wanted.are_of(&doc) => TrialOutcome::Refused,
-            Err(_) => TrialOutcome::Wrong,
-        })
+    /// Whether the document and its copy with memory answer what is wanted.
+    fn copied_later(&self, doc: &O::Doc) -> bool {
+        match doc.copy() {
+            Ok(copy) => self.wanted.opened.are_of(doc) && self.wanted.opened.are_of(&copy),
+            Err(_) => false,
+        }
     }
 
-    /// `Doc::errors`.
-    fn errors(&self, budget: usize) -> Option<TrialOutcome> {
+    /// A call that gives a part of what the document answers.
+    fn answer(&self, part: Part, budget: usize) -> Option<TrialOutcome> {
         let wanted = &self.wanted.opened;
         let doc = self.source.open().ok()?;
         let room = all_but(self.source.alloc, budget)?;
-        let errors = doc.errors(0, wanted.lengths.errors);
+        let answered = wanted.has(&doc, part);
         drop(room);
-        Some(match errors {
-            Ok(errors) => outcome_if(errors.as_slice() == wanted.errors.as_slice()),
-            Err(DocFault::OutOfMemory) if wanted.are_of(&doc) => TrialOutcome::Refused,
+        Some(match answered {
+            Ok(same) => outcome_if(same),
+            Err(DocFault::OutOfMemory) => refused_if(wanted.are_of(&doc)),
             Err(_) => TrialOutcome::Wrong,
         })
     }

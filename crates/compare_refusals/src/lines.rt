@@ -2,8 +2,9 @@
 
 use crate::asked::{EventTaker, reply_to};
 use crate::budget::all_but;
+use crate::office::Desks;
 use crate::outcome::{TrialOutcome, outcome_if};
-use crate::play::{Starter, is_refusal, is_wanted, new_gateway};
+use crate::play::{is_wanted, new_gateway, outcome_of};
 use crate::tried::{Budgets, Tried};
 use gateway::ReplyLine;
 use std::alloc::Global;
@@ -92,18 +93,18 @@ pub const LINES: [TriedLine; 5] = [
 
 /// A line that is received under a budget.
 #[derive(Drop)]
-pub struct LineTrial<'a, S> {
+pub struct LineTrial<'a, D> {
     /// Where memory comes from.
     pub alloc: Global,
     /// What makes its gateway.
-    pub starter: &'a S,
+    pub desks: &'a D,
     /// The line.
     pub line: &'a TriedLine,
 }
 
-impl<S: Starter> Tried for LineTrial<'_, S> {
+impl<D: Desks> Tried for LineTrial<'_, D> {
     fn tried(&self, budget: usize) -> Option<TrialOutcome> {
-        let mut gateway = new_gateway(self.starter)?;
+        let mut gateway = new_gateway(self.alloc, self.desks)?;
         if !self.begins(&mut gateway) {
             return Some(TrialOutcome::Wrong);
         }
@@ -118,15 +119,15 @@ impl<S: Starter> Tried for LineTrial<'_, S> {
     }
 }
 
-impl<S: Starter> LineTrial<'_, S> {
+impl<D: Desks> LineTrial<'_, D> {
     /// Begins both lines, and says whether nothing was answered.
-    fn begins(&self, gateway: &mut S::Gateway) -> bool {
+    fn begins(&self, gateway: &mut D::Gateway) -> bool {
         let (front, _, _) = OTHER;
         is_replied(gateway, 2, front, "") && send(gateway, self.line.begun)
     }
 
     /// How the line comes out once its rest is sent.
-    fn ended(&self, gateway: &mut S::Gateway) -> TrialOutcome {
+    fn ended(&self, gateway: &mut D::Gateway) -> TrialOutcome {
         if send(gateway, self.line.rest) {
             self.outcome(&reply_to(gateway, 1, b"\n"))
         } else {
@@ -140,10 +141,7 @@ impl<S: Starter> LineTrial<'_, S> {
         if length > LONGEST {
             return outcome_if(is_wanted(reply, TOO_LONG));
         }
-        if is_refusal(reply) {
-            return TrialOutcome::Refused;
-        }
-        outcome_if(is_wanted(reply, NO_JSON))
+        outcome_of(reply, NO_JSON)
     }
 }
 

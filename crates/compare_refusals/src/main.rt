@@ -24,11 +24,12 @@ use budget::{Room, all_but_room};
 use calls::{CALLS, CallOffice, CallTrial};
 use cases::{CASES, DocumentCase, made, repeated};
 use documents::{DOCUMENT_CALLS, DocumentCall, DocumentSource, DocumentTrial, Opener, wanted_of};
+use index_loader::Indexes;
 use lines::{LINES, LineTrial};
-use office::Office;
+use office::{Desks, Office};
 use oracle::small_indexes;
 use outcome::Tally;
-use play::{Starter, StepTrial};
+use play::StepTrial;
 use report::print_outcome;
 use sessions::{SESSIONS, Session};
 use stack::has_stack;
@@ -98,13 +99,13 @@ fn try_documents<O: Opener>(rt: &HostRuntime, counts: bool, opener: &O) -> io::R
 }
 
 /// A session, each of its steps in turn.
-fn session_tally<S: Starter>(alloc: Global, starter: &S, session: &Session) -> Option<Tally> {
+fn session_tally<D: Desks>(alloc: Global, desks: &D, session: &Session) -> Option<Tally> {
     let mut total = Tally::new();
     let steps = session.steps;
     for number in 0..steps.len() {
         let trial = StepTrial {
             alloc,
-            starter,
+            desks,
             steps,
             number,
         };
@@ -114,63 +115,65 @@ fn session_tally<S: Starter>(alloc: Global, starter: &S, session: &Session) -> O
 }
 
 /// Tries the sessions, and says whether all came out as they have to.
-fn try_sessions<S: Starter>(rt: &HostRuntime, counts: bool, starter: &S) -> io::Result<bool> {
+fn try_sessions<D: Desks>(rt: &HostRuntime, counts: bool, desks: &D) -> io::Result<bool> {
     let mut all = true;
     for session in &SESSIONS {
-        let tally = session_tally(rt.alloc(), starter, session);
+        let tally = session_tally(rt.alloc(), desks, session);
         all = print_outcome(rt, counts, session.name, 1, tally)? && all;
     }
     Ok(all)
 }
 
 /// Tries the lines, and says whether all came out as they have to.
-fn try_lines<S: Starter>(rt: &HostRuntime, counts: bool, starter: &S) -> io::Result<bool> {
+fn try_lines<D: Desks>(rt: &HostRuntime, counts: bool, desks: &D) -> io::Result<bool> {
     let alloc = rt.alloc();
     let mut all = true;
     for line in &LINES {
-        let trial = LineTrial {
-            alloc,
-            starter,
-            line,
-        };
+        let trial = LineTrial { alloc, desks, line };
         let tally = tally_of(line.budgets, &trial);
         all = print_outcome(rt, counts, line.name, line.least, tally)? && all;
     }
     Ok(all)
 }
 
-/// Tries all once the stack that the calls need is there, and with no more memory than is left for them.
+/// Tries all over the small index files, once the stack that the calls need is there.
 fn try_all(rt: &HostRuntime, counts: bool) -> io::Result<bool> {
-    let (Some(indexes), Some(stack)) = (
-        small_indexes(rt.alloc()),
-        repeated(rt.alloc(), b"x", STACK),
-    ) else {
-        println!(rt; "out of memory")?;
-        return Ok(false);
+    let Some(stack) = repeated(rt.alloc(), b"x", STACK) else {
+        return lacking(rt, "memory");
     };
     if !has_stack(&stack) {
-        println!(rt; "out of stack")?;
-        return Ok(false);
+        return lacking(rt, "stack");
     }
+    match small_indexes(rt.alloc()) {
+        Some(indexes) => try_over(rt, counts, &indexes),
+        None => lacking(rt, "memory"),
+    }
+}
+
+/// Says what there is none of.
+fn lacking(rt: &HostRuntime, what: &str) -> io::Result<bool> {
+    println!(rt; "out of {what}")?;
+    Ok(false)
+}
+
+/// Tries all over these index files.
+fn try_over(rt: &HostRuntime, counts: bool, indexes: &Indexes) -> io::Result<bool> {
+    let alloc = rt.alloc();
+    try_in_room(rt, counts, &Office { alloc, indexes })
+}
+
+/// Tries all with no more memory than is left for it.
+fn try_in_room<O: CallOffice>(rt: &HostRuntime, counts: bool, office: &O) -> io::Result<bool> {
     let Some(Room { taken }) = all_but_room(rt.alloc()) else {
-        println!(rt; "out of memory")?;
-        return Ok(false);
+        return lacking(rt, "memory");
     };
-    let office = Office {
-        alloc: rt.alloc(),
-        indexes: &indexes,
-    };
-    let all = try_each(rt, counts, &office);
+    let all = try_each(rt, counts, office);
     drop(taken);
     all
 }
 
 /// Tries all.
-fn try_each<O: CallOffice + Starter>(
-    rt: &HostRuntime,
-    counts: bool,
-    office: &O,
-) -> io::Result<bool> {
+fn try_each<O: CallOffice>(rt: &HostRuntime, counts: bool, office: &O) -> io::Result<bool> {
     let calls = try_calls(rt, counts, office)?;
     let documents = try_documents(rt, counts, office)?;
     let sessions = try_sessions(rt, counts, office)?;

@@ -2,13 +2,11 @@
 
 use crate::asked::{EventTaker, Replies, asked, reply_to};
 use crate::budget::all_but;
-use crate::office::Office;
-use crate::outcome::TrialOutcome;
+use crate::office::{Desks, new_desk};
+use crate::outcome::{TrialOutcome, outcome_if};
 use crate::sessions::SessionStep;
 use crate::tried::Tried;
-use desk::Desk;
-use enc_names::Labels;
-use gateway::{Event, Gateway, ReplyLine};
+use gateway::{Event, ReplyLine};
 use std::alloc::Global;
 
 /// The reply where memory is refused.
@@ -17,28 +15,9 @@ const REFUSED: &[u8] = b"{\"fault\":\"OutOfMemory\"}\n";
 /// The connections that are open: two on which a session is played, and one on which is asked.
 const OPEN: [u8; 3] = [1, 2, 15];
 
-/// What makes gateways.
-pub trait Starter {
-    /// The gateways.
-    type Gateway: EventTaker;
-
-    /// A gateway without a document and with no connection open; `None` where memory is refused.
-    fn gateway(&self) -> Option<Self::Gateway>;
-}
-
-impl<'i> Starter for Office<'i> {
-    type Gateway = Gateway<'i>;
-
-    fn gateway(&self) -> Option<Gateway<'i>> {
-        let labels = Labels::names(self.alloc).ok()?;
-        let desk = Desk::new(self.alloc, self.indexes, labels).ok()?;
-        Some(Gateway::new(self.alloc, desk))
-    }
-}
-
 /// A gateway without a document, with connections 1, 2 and 15 open; `None` where memory is refused.
-pub fn new_gateway<S: Starter>(starter: &S) -> Option<S::Gateway> {
-    let mut gateway = starter.gateway()?;
+pub fn new_gateway<D: Desks>(alloc: Global, desks: &D) -> Option<D::Gateway> {
+    let mut gateway = desks.gateway(new_desk(alloc, desks)?);
     for connection in &OPEN {
         gateway.event(Event::Open(*connection)).ok()?;
     }
@@ -46,7 +25,7 @@ pub fn new_gateway<S: Starter>(starter: &S) -> Option<S::Gateway> {
 }
 
 /// Whether this is the reply of a line that is refused for memory.
-pub fn is_refusal(reply: &Option<ReplyLine>) -> bool {
+fn is_refusal(reply: &Option<ReplyLine>) -> bool {
     match reply {
         Some(reply) => reply.bytes() == REFUSED,
         None => false,
@@ -61,22 +40,31 @@ pub fn is_wanted(reply: &Option<ReplyLine>, wanted: &str) -> bool {
     }
 }
 
+/// How a line came out, by its reply, where this one is wanted.
+pub fn outcome_of(reply: &Option<ReplyLine>, wanted: &str) -> TrialOutcome {
+    if is_refusal(reply) {
+        TrialOutcome::Refused
+    } else {
+        outcome_if(is_wanted(reply, wanted))
+    }
+}
+
 /// A session of which one step is played under a budget.
 #[derive(Drop)]
-pub struct StepTrial<'a, S> {
+pub struct StepTrial<'a, D> {
     /// Where memory comes from.
     pub alloc: Global,
     /// What makes its gateway.
-    pub starter: &'a S,
+    pub desks: &'a D,
     /// The session.
     pub steps: &'a [SessionStep],
     /// The number of the step, from 0.
     pub number: usize,
 }
 
-impl<S: Starter> Tried for StepTrial<'_, S> {
+impl<D: Desks> Tried for StepTrial<'_, D> {
     fn tried(&self, budget: usize) -> Option<TrialOutcome> {
-        let mut gateway = new_gateway(self.starter)?;
+        let mut gateway = new_gateway(self.alloc, self.desks)?;
         let mut outcome = TrialOutcome::Same;
         for (number, step) in self.steps.iter().enumerate() {
             match self.played(&mut gateway, number, step, budget)? {
@@ -91,44 +79,40 @@ impl<S: Starter> Tried for StepTrial<'_, S> {
     }
 }
 
-impl<S: Starter> StepTrial<'_, S> {
+impl<D: Desks> StepTrial<'_, D> {
     /// How a step comes out. Where its line is refused, by the step itself or since bytes of it were
     /// dropped before, the documents have to be as before, and the line sent again has the reply.
     fn played(
         &self,
-        gateway: &mut S::Gateway,
+        gateway: &mut D::Gateway,
         number: usize,
         step: &SessionStep,
         budget: usize,
     ) -> Option<TrialOutcome> {
         let before = asked(self.alloc, gateway)?;
-        let reply = self.sent(gateway, number, step, budget)?;
-        if is_wanted(&reply, step.reply) {
-            return Some(TrialOutcome::Same);
+        match self.sent(gateway, number, step, budget)? {
+            TrialOutcome::Refused => later(self.alloc, gateway, &before, step),
+            outcome => Some(outcome),
         }
-        if !is_refusal(&reply) {
-            return Some(TrialOutcome::Wrong);
-        }
-        later(self.alloc, gateway, &before, step)
     }
 
-    /// Sends a step's bytes, under the budget if it is its turn, and returns the reply, if there is
-    /// one; `None` where memory is refused that is to be there.
+    /// Sends a step's bytes, under the budget if it is its turn, and says how its line comes out;
+    /// `None` where memory is refused that is to be there.
     fn sent(
         &self,
-        gateway: &mut S::Gateway,
+        gateway: &mut D::Gateway,
         number: usize,
         step: &SessionStep,
         budget: usize,
-    ) -> Option<Option<ReplyLine>> {
-        let bytes = step.bytes.as_bytes();
-        if number != self.number {
-            return Some(reply_to(gateway, step.connection, bytes));
-        }
-        let room = all_but(self.alloc, budget)?;
-        let reply = reply_to(gateway, step.connection, bytes);
+    ) -> Option<TrialOutcome> {
+        let room = if number == self.number {
+            Some(all_but(self.alloc, budget)?)
+        } else {
+            None
+        };
+        let reply = reply_to(gateway, step.connection, step.bytes.as_bytes());
         drop(room);
-        Some(reply)
+        Some(outcome_of(&reply, step.reply))
     }
 }
 

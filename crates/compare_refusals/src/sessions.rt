@@ -35,7 +35,7 @@ macro_rules! line {
 }
 
 /// The sessions.
-pub const SESSIONS: [Session; 8] = [
+pub const SESSIONS: [Session; 10] = [
     Session {
         name: "a byte order mark is taken away",
         steps: &MARK,
@@ -67,6 +67,14 @@ pub const SESSIONS: [Session; 8] = [
     Session {
         name: "a list refused at its end",
         steps: &REFUSED_LIST,
+    },
+    Session {
+        name: "a plan",
+        steps: &PLAN,
+    },
+    Session {
+        name: "diagnostics",
+        steps: &DIAGNOSTICS,
     },
 ];
 
@@ -233,5 +241,35 @@ const REFUSED_LIST: [SessionStep; 3] = [
     line!(
         "{\"id\":3,\"op\":\"text\",\"doc\":\"d\",\"from\":0,\"to\":5}\n",
         "{\"id\":3,\"rev\":0,\"text\":\"a\u{1F600}\\r\\nb\"}\n"
+    ),
+];
+
+const PLAN: [SessionStep; 3] = [
+    line!(
+        "{\"id\":0,\"op\":\"open\",\"doc\":\"d\",\"label\":\"utf-8\",\"bytes\":\"YfCfmIANCmI=\"}\n",
+        "{\"bom\":0,\"encoding\":\"UTF-8\",\"id\":0,\"rev\":0}\n"
+    ),
+    line!(
+        "{\"id\":4,\"op\":\"plan\",\"doc\":\"d\",\"range\":{\"start\":{\"line\":0,\"character\":1},\"end\":{\"line\":0,\"character\":3}},\"text\":\"x\"}\n",
+        "{\"at\":1,\"bytes\":\"eA==\",\"del\":4,\"id\":4,\"kept\":true,\"old\":\"8J+YgA==\",\"rev\":0}\n"
+    ),
+    line!(
+        "{\"id\":5,\"op\":\"change\",\"doc\":\"d\",\"rev\":0,\"range\":{\"start\":{\"line\":0,\"character\":1},\"end\":{\"line\":0,\"character\":3}},\"text\":\"x\"}\n",
+        "{\"at\":1,\"bom\":0,\"del\":4,\"encoding\":\"UTF-8\",\"id\":5,\"ins\":1,\"rev\":1}\n"
+    ),
+];
+
+const DIAGNOSTICS: [SessionStep; 3] = [
+    line!(
+        "{\"id\":1,\"op\":\"open\",\"doc\":\"d\",\"label\":\"iso-2022-jp\",\"bytes\":\"GyRCJBtB\"}\n",
+        "{\"bom\":0,\"encoding\":\"ISO-2022-JP\",\"id\":1,\"rev\":0}\n"
+    ),
+    line!(
+        "{\"id\":2,\"op\":\"diagnostics\",\"doc\":\"d\",\"from\":0,\"max\":10}\n",
+        "{\"diagnostics\":[[0,5,0,0,0,1],[5,5,0,1,0,2],[5,6,0,2,0,3]],\"id\":2,\"rev\":0,\"total\":3}\n"
+    ),
+    line!(
+        "{\"id\":5,\"op\":\"diagnostics\",\"doc\":\"d\",\"line\":0,\"max\":1}\n",
+        "{\"diagnostics\":[[0,5,0,0,0,1]],\"id\":5,\"rev\":0,\"total\":3}\n"
     ),
 ];

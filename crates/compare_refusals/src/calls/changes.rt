@@ -4,7 +4,7 @@ use crate::answers::{Document, DocumentAnswers, answers_of};
 use crate::budget::all_but;
 use crate::cases::repeated;
 use crate::documents::Opener;
-use crate::outcome::TrialOutcome;
+use crate::outcome::{TrialOutcome, outcome_if, refused_if};
 use decoder_core::{Meter, meter};
 use enc_names::Encoding;
 use piece_rope::{Doc, DocFault};
@@ -38,6 +38,9 @@ pub trait Changeable: Document {
     /// `plan_change`.
     fn planned(&self, alloc: Global) -> Result<Plan, ChangeFault>;
 
+    /// `Doc::keeps`, which says whether the planned change would be made.
+    fn keeps(&self, plan: &Plan, meter: &mut Meter) -> Result<bool, DocFault>;
+
     /// `Doc::splice_kept`, by which the planned change is made.
     fn make(&mut self, plan: &Plan, meter: &mut Meter) -> Result<(), DocFault>;
 }
@@ -45,6 +48,11 @@ pub trait Changeable: Document {
 impl Changeable for Doc<'_> {
     fn planned(&self, alloc: Global) -> Result<Plan, ChangeFault> {
         plan_change(alloc, self, Some(RANGE), Unit::Utf16, TEXT, &mut visits())
+    }
+
+    fn keeps(&self, plan: &Plan, meter: &mut Meter) -> Result<bool, DocFault> {
+        let ins = plan.ins.as_slice();
+        Doc::keeps(self, plan.at, plan.del, ins, plan.i, plan.j, TEXT, meter)
     }
 
     fn make(&mut self, plan: &Plan, meter: &mut Meter) -> Result<(), DocFault> {
@@ -88,6 +96,37 @@ fn planned_under<D: Changeable>(alloc: Global, doc: &D, budget: usize) -> Option
 fn is_same(plan: &Plan, wanted: &Plan) -> bool {
     (plan.at, plan.del, plan.i, plan.j) == (wanted.at, wanted.del, wanted.i, wanted.j)
         && plan.ins.as_slice() == wanted.ins.as_slice()
+}
+
+/// `Doc::keeps`: the document is as before.
+pub fn keeps<O: Opener>(alloc: Global, opener: &O, budget: usize) -> Option<TrialOutcome> {
+    let doc = opened(alloc, opener)?;
+    let plan = doc.planned(alloc).ok()?;
+    let before = answers_of(&doc)?;
+    let outcome = kept_under(alloc, &doc, &plan, budget)?;
+    Some(if before.are_of(&doc) {
+        outcome
+    } else {
+        TrialOutcome::Wrong
+    })
+}
+
+/// How it comes out under a budget whether the change would be made, as it would be with memory.
+fn kept_under<D: Changeable>(
+    alloc: Global,
+    doc: &D,
+    plan: &Plan,
+    budget: usize,
+) -> Option<TrialOutcome> {
+    let room = all_but(alloc, budget)?;
+    let first = doc.keeps(plan, &mut meter());
+    drop(room);
+    let wanted = doc.keeps(plan, &mut meter()).ok()?;
+    Some(match first {
+        Ok(kept) => outcome_if(kept && wanted),
+        Err(DocFault::OutOfMemory) => refused_if(wanted),
+        Err(_) => TrialOutcome::Wrong,
+    })
 }
 
 /// What the change leads to.

@@ -1,30 +1,18 @@
 //! Desks.
 
 use crate::budget::all_but;
-use crate::office::Office;
+use crate::office::{Desks, new_desk};
 use crate::outcome::{TrialOutcome, outcome_if};
 use desk::ops::Stat;
 use desk::{Command, Desk, Fault, Reply};
 use enc_names::{Bom, Encoding, Labels};
 use std::alloc::Global;
 
-/// The bytes of the document that is adopted.
-const BYTES: &[u8] = b"text \x82\xA0 \x82";
+/// The name, bytes and revision of the document that is adopted.
+const ADOPTED: (&str, &[u8], u64) = ("adopted", b"text \x82\xA0 \x82", 7);
 
-/// The revision at which it is adopted.
-const REVISION: u64 = 7;
-
-/// The length of the other document, which is on the desk before.
-const OTHER: u64 = 3;
-
-/// What makes desks.
-pub trait Desks {
-    /// The desks.
-    type Desk: Adopter;
-
-    /// `Desk::new`.
-    fn desk(&self, labels: Labels) -> Option<Self::Desk>;
-}
+/// Those of the other document, which is on the desk before; traces ask about it.
+const OTHER: (&str, &[u8], u64) = ("d", b"\xE2\x82A", 0);
 
 /// A desk, by the calls that are tried on it.
 pub trait Adopter: Drop {
@@ -38,21 +26,15 @@ pub trait Adopter: Drop {
     fn stat(&mut self, doc: &str) -> Option<(u64, u64)>;
 }
 
-impl<'i> Desks for Office<'i> {
-    type Desk = Desk<'i>;
-
-    fn desk(&self, labels: Labels) -> Option<Desk<'i>> {
-        Desk::new(self.alloc, self.indexes, labels).ok()
-    }
-}
-
 impl Adopter for Desk<'_> {
     fn adopts_other(&mut self) -> Result<(), Fault> {
-        self.adopt("other", Encoding::Utf8, Bom::Sniff, b"abc", 1)
+        let (name, bytes, revision) = OTHER;
+        self.adopt(name, Encoding::Utf8, Bom::Sniff, bytes, revision)
     }
 
     fn adopts(&mut self) -> Result<(), Fault> {
-        self.adopt("adopted", Encoding::ShiftJis, Bom::Sniff, BYTES, REVISION)
+        let (name, bytes, revision) = ADOPTED;
+        self.adopt(name, Encoding::ShiftJis, Bom::Sniff, bytes, revision)
     }
 
     fn stat(&mut self, doc: &str) -> Option<(u64, u64)> {
@@ -63,23 +45,23 @@ impl Adopter for Desk<'_> {
     }
 }
 
-/// The desk with one document; `None` where memory is refused.
-fn with_other<D: Desks>(alloc: Global, desks: &D) -> Option<D::Desk> {
-    let labels = Labels::names(alloc).ok()?;
-    let mut desk = desks.desk(labels)?;
+/// A desk with the other document; `None` where memory is refused.
+pub fn desk_with_other<D: Desks>(alloc: Global, desks: &D) -> Option<D::Desk> {
+    let mut desk = new_desk(alloc, desks)?;
     desk.adopts_other().ok()?;
     Some(desk)
 }
 
-/// Whether the desk has the other document alone, as it was.
-fn has_other_alone<D: Adopter>(desk: &mut D) -> bool {
-    desk.stat("other") == Some((OTHER, 1)) && desk.stat("adopted").is_none()
+/// Whether the desk has the other document, as it was.
+fn has_other<D: Adopter>(desk: &mut D) -> bool {
+    let (name, bytes, revision) = OTHER;
+    desk.stat(name) == Some((bytes.len() as u64, revision))
 }
 
-/// Whether the desk has both documents.
-fn has_both<D: Adopter>(desk: &mut D) -> bool {
-    desk.stat("other") == Some((OTHER, 1))
-        && desk.stat("adopted") == Some((BYTES.len() as u64, REVISION))
+/// Whether the desk has the document that is adopted.
+fn has_adopted<D: Adopter>(desk: &mut D) -> bool {
+    let (name, bytes, revision) = ADOPTED;
+    desk.stat(name) == Some((bytes.len() as u64, revision))
 }
 
 /// `Desk::new`, which takes no memory.
@@ -89,20 +71,20 @@ pub fn new<D: Desks>(alloc: Global, desks: &D, budget: usize) -> Option<TrialOut
     let first = desks.desk(labels);
     drop(room);
     Some(match first {
-        Some(mut desk) => outcome_if(is_empty(&mut desk) && desk.adopts().is_ok()),
+        Some(mut desk) => outcome_if(is_usable(&mut desk)),
         None => TrialOutcome::Refused,
     })
 }
 
-/// Whether the desk has neither document.
-fn is_empty<D: Adopter>(desk: &mut D) -> bool {
-    desk.stat("other").is_none() && desk.stat("adopted").is_none()
+/// Whether the desk has neither document, and adopts one of them.
+fn is_usable<D: Adopter>(desk: &mut D) -> bool {
+    desk.stat(OTHER.0).is_none() && desk.stat(ADOPTED.0).is_none() && desk.adopts().is_ok()
 }
 
 /// `Desk::adopt`: where it is refused, the desk has no document of that name, and the other is as it
 /// was.
 pub fn adopt<D: Desks>(alloc: Global, desks: &D, budget: usize) -> Option<TrialOutcome> {
-    let mut desk = with_other(alloc, desks)?;
+    let mut desk = desk_with_other(alloc, desks)?;
     adopted_under(alloc, &mut desk, budget)
 }
 
@@ -112,15 +94,17 @@ fn adopted_under<D: Adopter>(alloc: Global, desk: &mut D, budget: usize) -> Opti
     let adopted = desk.adopts();
     drop(room);
     Some(match adopted {
-        Ok(()) if has_both(desk) => TrialOutcome::Same,
-        Err(Fault::OutOfMemory) if has_other_alone(desk) => adopted_later(desk),
+        Ok(()) if has_adopted(desk) && has_other(desk) => TrialOutcome::Same,
+        Err(Fault::OutOfMemory) if desk.stat(ADOPTED.0).is_none() && has_other(desk) => {
+            adopted_later(desk)
+        }
         _ => TrialOutcome::Wrong,
     })
 }
 
 /// How the adoption comes out with memory.
 fn adopted_later<D: Adopter>(desk: &mut D) -> TrialOutcome {
-    if desk.adopts().is_ok() && has_both(desk) {
+    if desk.adopts().is_ok() && has_adopted(desk) && has_other(desk) {
         TrialOutcome::Refused
     } else {
         TrialOutcome::Wrong

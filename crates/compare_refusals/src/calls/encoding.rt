@@ -2,7 +2,7 @@
 
 use crate::budget::all_but;
 use crate::office::Office;
-use crate::outcome::TrialOutcome;
+use crate::outcome::{TrialOutcome, outcome_if};
 use enc_names::Encoding;
 use encoders::{EncodeFault, EncodeMode, encode};
 use iso2022jp::{FromFault, OutputState, encode_from};
@@ -54,11 +54,16 @@ pub fn whole<E: Encodes>(alloc: Global, encodes: &E, budget: usize) -> Option<Tr
     let first = encodes.whole(&text);
     drop(room);
     let wanted = encodes.whole(&text).ok()?;
-    Some(match first {
-        Ok(bytes) if bytes.as_slice() == wanted.as_slice() => TrialOutcome::Same,
+    Some(outcome_of(first, &wanted))
+}
+
+/// How it came out, beside the bytes with memory.
+fn outcome_of(first: Result<Vec<u8>, EncodeFault>, wanted: &[u8]) -> TrialOutcome {
+    match first {
+        Ok(bytes) => outcome_if(bytes.as_slice() == wanted),
         Err(EncodeFault::OutOfMemory) => TrialOutcome::Refused,
-        _ => TrialOutcome::Wrong,
-    })
+        Err(_) => TrialOutcome::Wrong,
+    }
 }
 
 /// `encode_from`.

@@ -3,7 +3,7 @@
 use crate::budget::all_but;
 use crate::cases::repeated;
 use crate::office::Office;
-use crate::outcome::{TrialOutcome, outcome_if};
+use crate::outcome::{TrialOutcome, outcome_if, refused_if};
 use crate::tried::{Known, known_under};
 use decoder_core::meter;
 use enc_names::{Bom, Encoding};
@@ -67,6 +67,13 @@ pub trait Decodable: Drop {
 
     /// Whether it has these bytes, and remembers nothing.
     fn is_fresh(&self, bytes: &[u8]) -> bool;
+
+    /// Has it remember what it decodes to; `None` where memory is refused.
+    fn remember(&mut self) -> Option<()>;
+
+    /// `Piece::copy`, and whether the copy has these bytes and remembers what the piece does; `None`
+    /// where memory is refused.
+    fn is_copied(&self, bytes: &[u8]) -> Option<bool>;
 }
 
 /// What was decoded, beside what is decoded with memory.
@@ -113,6 +120,18 @@ impl Decodable for PieceOfDecoder<'_> {
         let remembers = self.piece.peek(start_of(&self.decoder)).is_some();
         self.piece.bytes() == bytes && !remembers
     }
+
+    fn remember(&mut self) -> Option<()> {
+        let decoded = self.computed()?;
+        self.piece.install(start_of(&self.decoder), decoded);
+        Some(())
+    }
+
+    fn is_copied(&self, bytes: &[u8]) -> Option<bool> {
+        let copy = self.piece.copy().ok()?;
+        let remembers = copy.peek(start_of(&self.decoder)).is_some();
+        Some(copy.bytes() == bytes && remembers)
+    }
 }
 
 impl Alike for Decoded {
@@ -147,14 +166,38 @@ fn computed_under<D: Decodable>(alloc: Global, piece: &D, budget: usize) -> Opti
     Some(outcome_of(first, &wanted))
 }
 
+/// `Piece::copy`, which takes no memory.
+pub fn copy<P: Pieces>(alloc: Global, pieces: &P, budget: usize) -> Option<TrialOutcome> {
+    let bytes = bytes_of(alloc)?;
+    let mut piece = pieces.piece(&bytes)?;
+    piece.remember()?;
+    let room = all_but(alloc, budget)?;
+    let copied = piece.is_copied(&bytes);
+    drop(room);
+    Some(match copied {
+        Some(same) => outcome_if(same),
+        None => refused_if(piece.is_copied(&bytes) == Some(true)),
+    })
+}
+
 /// `finish_of`, in the state behind the piece.
 pub fn finish<P: Pieces>(alloc: Global, pieces: &P, budget: usize) -> Option<TrialOutcome> {
     let piece = pieces.piece(&bytes_of(alloc)?)?;
     let decoded = piece.computed()?;
+    finished_under(alloc, &piece, &decoded, budget)
+}
+
+/// How the end of the bytes comes out under a budget.
+fn finished_under<D: Decodable>(
+    alloc: Global,
+    piece: &D,
+    decoded: &D::Decoded,
+    budget: usize,
+) -> Option<TrialOutcome> {
     let room = all_but(alloc, budget)?;
-    let first = piece.finished(&decoded);
+    let first = piece.finished(decoded);
     drop(room);
-    let wanted = piece.finished(&decoded)?;
+    let wanted = piece.finished(decoded)?;
     Some(outcome_of(first, &wanted))
 }
 

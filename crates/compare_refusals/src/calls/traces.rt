@@ -2,10 +2,9 @@
 
 use crate::asked::EventTaker;
 use crate::budget::all_but;
-use crate::office::Office;
-use crate::outcome::TrialOutcome;
-use desk::Desk;
-use enc_names::{Bom, Encoding, Labels};
+use crate::calls::desks::desk_with_other;
+use crate::office::Desks;
+use crate::outcome::{TrialOutcome, refused_if};
 use gateway::{Event, Gateway, MemFeed, MemOutlet, TraceFault, trace};
 use std::alloc::Global;
 
@@ -26,27 +25,6 @@ const REFUSED: [&[u8]; 3] = [
     b"1 {\"fault\":\"OutOfMemory\"}\n1 {\"fault\":\"OutOfMemory\"}\n",
 ];
 
-/// What makes gateways that play the trace.
-pub trait Players {
-    /// The gateways.
-    type Gateway: Player;
-
-    /// A gateway with a document; `None` where memory is refused.
-    fn with_document(&self) -> Option<Self::Gateway>;
-}
-
-impl<'i> Players for Office<'i> {
-    type Gateway = Gateway<'i>;
-
-    fn with_document(&self) -> Option<Gateway<'i>> {
-        let labels = Labels::names(self.alloc).ok()?;
-        let mut desk = Desk::new(self.alloc, self.indexes, labels).ok()?;
-        desk.adopt("d", Encoding::Utf8, Bom::Sniff, b"\xE2\x82A", 0)
-            .ok()?;
-        Some(Gateway::new(self.alloc, desk))
-    }
-}
-
 /// A gateway that plays the trace.
 pub trait Player: EventTaker {
     /// `trace`.
@@ -61,8 +39,8 @@ impl Player for Gateway<'_> {
 
 /// `trace`: where it breaks off, or a question is refused, what was printed is right so far, and the
 /// same trace is played to its end with memory.
-pub fn play<P: Players>(alloc: Global, players: &P, budget: usize) -> Option<TrialOutcome> {
-    let mut gateway = players.with_document()?;
+pub fn play<D: Desks>(alloc: Global, desks: &D, budget: usize) -> Option<TrialOutcome> {
+    let mut gateway = desks.gateway(desk_with_other(alloc, desks)?);
     played_under(alloc, &mut gateway, budget)
 }
 
@@ -72,15 +50,22 @@ fn played_under<P: Player>(alloc: Global, gateway: &mut P, budget: usize) -> Opt
     let room = all_but(alloc, budget)?;
     let ended = gateway.played(alloc, &mut output);
     drop(room);
-    let printed = output.bytes();
-    Some(match ended {
-        Ok(()) if printed == OUTPUT => TrialOutcome::Same,
-        Ok(()) if REFUSED.contains(&printed) => played_later(alloc, gateway),
-        Err(TraceFault::OutOfMemory | TraceFault::Write) if begins_right(printed) => {
-            played_later(alloc, gateway)
-        }
-        _ => TrialOutcome::Wrong,
+    let outcome = outcome_of(ended, output.bytes());
+    drop(output);
+    Some(match outcome {
+        TrialOutcome::Refused => played_later(alloc, gateway),
+        _ => outcome,
     })
+}
+
+/// How the trace came out, by what it printed.
+fn outcome_of(ended: Result<(), TraceFault>, printed: &[u8]) -> TrialOutcome {
+    match ended {
+        Ok(()) if printed == OUTPUT => TrialOutcome::Same,
+        Ok(()) => refused_if(REFUSED.contains(&printed)),
+        Err(TraceFault::OutOfMemory | TraceFault::Write) => refused_if(begins_right(printed)),
+        Err(_) => TrialOutcome::Wrong,
+    }
 }
 
 /// Whether this is right as far as it goes.
