@@ -21,7 +21,7 @@ if HAS_PYFUSE3:
     import trio
     import trio.testing
     from pyfuse3 import FUSEError
-    from legacy.mount import questions, tree, workers
+    from legacy.mount import ahead, questions, tree, workers
     from legacy.mount.ahead import FILES, ROOM, Listing, Wanted
     from legacy.mount.operations import Operations
     from legacy.mount.reading import Reader
@@ -232,6 +232,28 @@ class Ahead(unittest.TestCase):
         self.assertEqual(self.begun(listing, 2), [])
         self.assertEqual(self.begun(listing, 4 * FILES), [parts[4], parts[3]])
         self.assertEqual(self.begun(listing, 4 * FILES - 1), [parts[2]])
+
+    def test_whoever_waits_goes_on_whatever_becomes_of_it(self):
+        for fault in Refused(errno.EIO, "gate ended"), OSError(errno.ENOMEM, "no process"), KeyError("a fault"):
+            with mock.patch("legacy.mount.ahead.log") as log:
+                self.assertEqual(trio.run(self.wait_for_a_fault, fault), [True])
+            self.assertEqual(log.exception.called, isinstance(fault, KeyError))
+
+    async def wait_for_a_fault(self, fault):
+        of = ahead.Ahead(mock.Mock(), mock.Mock(do=mock.Mock(side_effect=fault)), mock.Mock())
+        listing, waited = of.listing(b"d"), []
+        for number in range(4):
+            listing.add(Wanted(b"d/%d" % number, "shift_jis"), 1)
+        async with trio.open_nursery() as nursery:
+            nursery.start_soon(of.serve)
+            with trio.move_on_after(5):
+                for number in range(4):
+                    coming = of.read(b"d/%d" % number)
+                    if coming:
+                        await coming.wait()
+                        waited.append(coming.is_set())
+            nursery.cancel_scope.cancel()
+        return waited
 
     def test_large_ones_are_fewer(self):
         listing = self.listing(4, ROOM // 2)

@@ -1,6 +1,7 @@
 """Small texts decoded ahead of need. Who lists a folder and then reads two of its files is about to read them all, as a
 search does: so what lies beside the second one is decoded meanwhile, many files at a time, by processes of their own."""
 import collections
+import logging
 from typing import Callable, Dict, Iterator, List, NamedTuple, Optional, Set
 
 import trio
@@ -8,7 +9,8 @@ import trio
 from legacy.mount.below import Source
 from legacy.mount.snapshots import Snapshot
 from legacy.mount.workers import Workers
-from legacy.saving import Refused
+
+log = logging.getLogger("legacy.mount")
 
 # The most files that are decoded together, and the most bytes of one, and about of all.
 FILES, SMALL, ROOM = 32, 1 << 16, 1 << 20
@@ -95,13 +97,19 @@ class Ahead:
     async def serve(self) -> None:
         """Decodes what is wanted, one part after the other."""
         async for part in self._from:
-            files = [(self._source.full(it.path), it.label) for it in part]
             try:
-                for it, content in zip(part, await trio.to_thread.run_sync(self._workers.do, "texts", files)):
-                    if content:
-                        found, raw, text = content
-                        self._keep(Snapshot(found, raw, it.label, text))
-            except Refused:
-                pass  # (whoever reads it is told why)
-            for it in part:
-                self._coming.pop(it.path).set()
+                await self._decode(part)
+            except OSError:
+                pass  # (whoever reads one of them is told why)
+            except Exception:
+                log.exception("decoding ahead failed; this is a fault of the mount")
+            finally:
+                for it in part:
+                    self._coming.pop(it.path).set()
+
+    async def _decode(self, part: Part) -> None:
+        files = [(self._source.full(it.path), it.label) for it in part]
+        for it, content in zip(part, await trio.to_thread.run_sync(self._workers.do, "texts", files)):
+            if content:
+                found, raw, text = content
+                self._keep(Snapshot(found, raw, it.label, text))

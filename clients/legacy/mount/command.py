@@ -192,7 +192,8 @@ async def serve_until(operations: "Operations", questions: "Questions", workers:
             questions.look_after()
             for_small.look_after()
             if workers.look_after():
-                workers.start()
+                with contextlib.suppress(OSError):  # (it is tried again where one is needed)
+                    workers.start()
 
     async def begun() -> None:
         await operations.mounted.wait()
