@@ -215,7 +215,8 @@ class Gate:
             self._waiting.extend(replies)
             # (where the other end is gone, whoever reads finds out)
             with contextlib.suppress(ConnectionError):
-                self._write(b"".join(parts))
+                for part in _together(parts):
+                    self._write(part)
         return replies
 
     def send_open(self, name: str, label: str, content: bytes, bom: str = "sniff", room: int = ROOM) -> List[Reply]:
@@ -538,6 +539,19 @@ def _begun(op: str, fields: Members) -> List[bytes]:
     for key, it in content.items():
         parts += [b',"%b":"' % key.encode(), _base64(it), b'"']
     return parts
+
+
+def _together(parts: Sequence[bytes]) -> Iterator[bytes]:
+    """The parts of lines as they are written: short ones as one, and a long one by itself, so that it isn't copied again."""
+    begun: List[bytes] = []
+    for it in parts:
+        if len(it) < READ:
+            begun.append(it)
+        else:
+            yield b"".join(begun)
+            yield it
+            begun = []
+    yield b"".join(begun)
 
 
 def _all_members(replies: Sequence[Reply]) -> List[Members]:
