@@ -16,6 +16,8 @@ from gate import Fault, Gate, Gone
 CHECKOUT = pathlib.Path(__file__).resolve().parent.parent.parent / "gate"
 # A file that each folder of the Standard's index files has.
 AN_INDEX = "index-jis0208.txt"
+# What a shell does that takes KiB and the words of a program. (What isn't limited is no number.)
+BOUND = '[ "$(ulimit -v)" -le "$0" ] 2>/dev/null || ulimit -v "$0" && exec "$@"'
 
 
 class Missing(Exception):
@@ -32,9 +34,10 @@ class Found(NamedTuple):
     memory: Optional[int] = None
 
     def words(self) -> List[str]:
-        """The command line that serves standard input. Where memory is bounded, a shell bounds its own and becomes the program."""
+        """The command line that serves standard input. Where memory is bounded, a shell bounds its own, if that isn't lower
+        already, and becomes the program."""
         labels = ["--labels", str(self.labels)] if self.labels else []
-        bound = ["/bin/sh", "-c", 'ulimit -v "$0" && exec "$@"', str(self.memory << 10)] if self.memory else []
+        bound = ["/bin/sh", "-c", BOUND, str(self.memory << 10)] if self.memory else []
         return [*bound, self.gate, "stdio", "--indexes", str(self.indexes), *labels]
 
     def start(self) -> Gate:

@@ -24,6 +24,7 @@ TOP = pathlib.Path(__file__).resolve().parent.parent.parent
 sys.path.insert(0, str(TOP / "clients"))
 
 from gate import Fault, Gate
+from legacy.finding import Found
 
 # What the documents are filled with, and the escapes that bring them into another state each.
 UNIT = b"\x1b\x24"
@@ -181,11 +182,16 @@ def by_client(program: pathlib.Path, folder: pathlib.Path, memory: int) -> Gate:
     return Gate.start(program, "stdio", "--indexes", INDEXES, memory=memory)
 
 
+def by_legacy(program: pathlib.Path, folder: pathlib.Path, memory: int) -> Gate:
+    return Found(str(program), INDEXES, None, memory).start()
+
+
 # The ways in which a program is started that this one speaks to.
 WAYS: Dict[str, Callable[[pathlib.Path, pathlib.Path, int], Gate]] = {
     "./gate": by_checkout,
     "tools/install": by_installed,
     "clients/gate.py": by_client,
+    "legacy": by_legacy,
 }
 PLUGIN = "editors/nvim"
 

@@ -58,15 +58,18 @@ function Connection:listen(pipe)
   end)
 end
 
----The words that start the program within its memory: a shell bounds its own, and becomes it. What can't be run is left
----alone, and so found out.
+---What a shell does that takes KiB and the words of a program. (What isn't limited is no number.)
+local BOUND = '[ "$(ulimit -v)" -le "$0" ] 2>/dev/null || ulimit -v "$0" && exec "$@"'
+
+---The words that start the program within its memory: a shell bounds its own, if that isn't lower already, and becomes it.
+---What can't be run is left alone, and so found out.
 ---@private
 ---@return string[]
 function Connection:bound()
   if not self.memory or vim.fn.executable(self.words[1]) == 0 then
     return self.words
   end
-  return vim.list_extend({ 'sh', '-c', 'ulimit -v "$0" && exec "$@"', ('%d'):format(self.memory * 1024) }, self.words)
+  return vim.list_extend({ 'sh', '-c', BOUND, ('%d'):format(self.memory * 1024) }, self.words)
 end
 
 ---Starts the program, and returns its process; an error says why it doesn't start.
