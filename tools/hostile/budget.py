@@ -197,7 +197,9 @@ PLUGIN = "editors/nvim"
 
 
 def children() -> Set[str]:
-    return set(pathlib.Path(f"/proc/self/task/{os.getpid()}/children").read_text(encoding="ascii").split())
+    """The processes that this one has started, where the system says which these are."""
+    path = pathlib.Path(f"/proc/self/task/{os.getpid()}/children")
+    return set(path.read_text(encoding="ascii").split()) if path.exists() else set()
 
 
 def peaks(process: str) -> str:
@@ -215,9 +217,8 @@ def play(way: str, program: pathlib.Path, memory: int, size: int, documents: int
         with WAYS[way](program, folder, memory) as gate:
             player = Player(gate, size, documents)
             player.play()
-            (process,) = children() - others
-            return (f"{player.accepted} accepted, {player.refused} refused, {player.length() >> 10} KiB of documents"
-                    f" read; {peaks(process)}")
+            counts = f"{player.accepted} accepted, {player.refused} refused, {player.length() >> 10} KiB of documents read"
+            return "; ".join([counts, *map(peaks, children() - others)])
 
 
 def play_plugin(program: pathlib.Path, memory: int, size: int, documents: int) -> str:
