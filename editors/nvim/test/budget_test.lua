@@ -7,15 +7,17 @@ local Document = require('legacy.document')
 local numbers = os.getenv('LEGACY_TEST_BUDGET') or '24 524288 16'
 local memory, size, count = unpack(vim.tbl_map(tonumber, vim.split(numbers, ' ')))
 
+---Documents beside that of the buffer.
 ---@param connection legacy.Connection
 ---@return legacy.Document[]
 local function opened(connection)
   local documents = {}
-  for i = 1, count do
-    documents[i] = assert(Document.open(function()
+  for i = 1, count - 1 do
+    documents[i] = Document.open(function()
       return connection
-    end, 'utf-8', '', 3000000))
+    end, 'utf-8', '', 3000000)
   end
+  it.same(#documents, count - 1)
   return documents
 end
 
