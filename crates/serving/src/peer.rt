@@ -47,6 +47,8 @@ pub struct Peer {
     may_read: bool,
     /// Whether a write may be taken.
     may_write: bool,
+    /// Whether the system reports room for writing. It would else report each reply that the client reads.
+    is_room_watched: bool,
     /// Whether the client will send no more, so that no further report comes before the end is read.
     hung_up: bool,
     /// Whether the end was read, or a call failed.
@@ -64,6 +66,7 @@ impl Peer {
             socket,
             may_read: true,
             may_write: true,
+            is_room_watched: false,
             hung_up: false,
             over: false,
             received: History::Empty,
@@ -73,13 +76,32 @@ impl Peer {
 
     /// Has the socket watched. One over TCP sends each reply at once.
     pub fn watch(&mut self, registry: &Registry, token: Token) -> io::Result<()> {
-        let both = Interest::READABLE | Interest::WRITABLE;
         match &mut self.socket {
-            Socket::Unix(stream) => stream.register(registry, token, both),
+            Socket::Unix(stream) => stream.register(registry, token, Interest::READABLE),
             Socket::Tcp(stream) => {
                 let _ = stream.set_nodelay(true);
-                stream.register(registry, token, both)
+                stream.register(registry, token, Interest::READABLE)
             }
+        }
+    }
+
+    /// Has room for writing watched where a write waits for it, and no more where none does.
+    pub fn watch_room(&mut self, registry: &Registry, token: Token) -> io::Result<()>
+        ensures read { self.new.may_read ≡ self.old.may_read }
+        ensures write { self.new.may_write ≡ self.old.may_write }
+    {
+        if self.is_room_watched != self.may_write {
+            return Ok(());
+        }
+        self.is_room_watched = !self.may_write;
+        let interest = if self.may_write {
+            Interest::READABLE
+        } else {
+            Interest::READABLE | Interest::WRITABLE
+        };
+        match &mut self.socket {
+            Socket::Unix(stream) => stream.reregister(registry, token, interest),
+            Socket::Tcp(stream) => stream.reregister(registry, token, interest),
         }
     }
 

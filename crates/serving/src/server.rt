@@ -166,6 +166,13 @@ impl Server {
                 true
             }
             Advance::Waits => {
+                if peer
+                    .watch_room(self.poll.registry(), Token(c as usize))
+                    .is_err()
+                {
+                    sessions.leave(c);
+                    return true;
+                }
                 self.peers.put(c, peer);
                 false
             }
