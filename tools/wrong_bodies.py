@@ -199,7 +199,7 @@ class Trial:
         """What the prover says of these functions of a copy, whose names it may know several functions by."""
         if not functions:
             return ""
-        names = {it: [it.name] for it in functions}
+        names = {it: [f"{it.owner}::{it.name}"] for it in functions}
         while True:
             said = self.ran(folder, sorted({name for it in names.values() for name in it}))
             several = SEVERAL.search(said)
