@@ -31,12 +31,12 @@ class Stretches(unittest.TestCase):
             (b"", []), (b"ab\ncd", [(0, 5)]), (b"\xff\n", []), (b"ab\n\xff\nab", [(5, 7)]), (b"\xff\nab\ncd\nef\xff", [(5, 8)]),
             (b"\xffab\ncd\nef", [(4, 9)]), (b"\xffabcdef", []), (b"abcdef\xff", []),
         ]:
-            with self.subTest(content), mock.patch.object(ascii, "BLOCK", 2):
+            with self.subTest(content), mock.patch.multiple(ascii, BLOCK=2, SHORTEST=1):
                 found = list(ascii.stretches(content))
                 self.assertEqual(found, expected)
 
     def test_what_is_left(self):
-        with mock.patch.object(ascii, "BLOCK", 2):
+        with mock.patch.multiple(ascii, BLOCK=2, SHORTEST=1):
             rest = ascii.Rest(b"ab\r\n\xff\nab\ncd\nef\xffg", "Shift_JIS")
         self.assertEqual((rest.content, rest.bom, rest.taken), (b"\xff\nab\nef\xffg", "keep", 7))
         self.assertEqual([rest.before(at) for at in (0, 4, 5, 7)], [(4, 1), (4, 1), (7, 2), (7, 2)])
@@ -47,7 +47,7 @@ class Rows(unittest.TestCase):
     def test_they_are_those_of_the_whole_files(self):
         draw = random.Random(63)
         shorter = 0
-        with finding.Found(PROGRAM, INDEXES, None).start() as gate, mock.patch.object(ascii, "BLOCK", 4):
+        with finding.Found(PROGRAM, INDEXES, None).start() as gate, mock.patch.multiple(ascii, BLOCK=4, SHORTEST=1):
             for number in range(4000):
                 content, label = drawn(draw), LABELS[number % len(LABELS)]
                 item = Item("a", len(content), 0, label)

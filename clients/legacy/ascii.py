@@ -9,8 +9,9 @@ from typing import Iterator, List, Tuple
 
 from legacy.ends import Ends, ends_of
 
-# Stretches are looked for by so many bytes at a time, so that a file without any costs little.
-BLOCK = 512
+# Stretches are looked for by so many bytes at a time, so that a file without any costs little, and one of fewer than so many
+# would cost more than it saves.
+BLOCK, SHORTEST = 512, 1024
 MARKS = (codecs.BOM_UTF8, codecs.BOM_UTF16_BE, codecs.BOM_UTF16_LE)
 # The encodings in which a byte of ASCII may be something else, and what it has to be in ISO-2022-JP for that.
 OTHERS = ("UTF-16LE", "UTF-16BE", "replacement", "ISO-2022-JP")
@@ -39,7 +40,7 @@ def _lines(content: bytes, begin: int, end: int) -> Iterator[Tuple[int, int]]:
     """The lines that are in a run of ASCII, if it has any."""
     first = content.find(b"\n", begin, end) + 1 if begin else 0
     last = end if end == len(content) else content.rfind(b"\n", begin, end) + 1
-    if first < last and (first or not begin):
+    if last - first >= SHORTEST and (first or not begin):
         yield first, last
 
 
