@@ -6,8 +6,8 @@ use enc_names::Setting;
 use oracle::{PlacedText, WalkedText};
 use piece_rope::Doc;
 use position_map::{
-    PosFault, Position, Unit, byte_to_scalar, convert, first_error_from, line, line_count,
-    nth_diagnostic, scalar_to_place, to_offset, to_position,
+    Diagnostic, PosFault, Position, Unit, byte_to_scalar, convert, first_error_from, line,
+    line_count, list_diagnostics, scalar_to_place, to_offset, to_position,
 };
 use rand::rngs::SmallRng;
 use std::alloc::Global;
@@ -16,13 +16,17 @@ use sum_tree::visits;
 /// The units.
 const UNITS: [Unit; 3] = [Unit::Utf8, Unit::Utf16, Unit::Utf32];
 
-/// The most nodes that the call for an error with its positions may visit in a document of any
-/// length.
-const MOST_FOR_ERROR: u64 = 180;
+/// How many errors are asked for at once.
+const PAGE: usize = 20;
+
+/// The most nodes that the call for errors with their positions may visit for each of them, in a
+/// document of any length.
+const MOST_FOR_ERROR: u64 = 90;
 
 /// A document, what it has to answer, and what was compared so far.
 #[derive(Drop)]
 struct Comparison<'a> {
+    alloc: Global,
     doc: &'a Doc<'a>,
     plain: &'a WalkedText,
     tally: &'a mut CallTally,
@@ -46,7 +50,7 @@ impl Comparison<'_> {
         }
         for n in &spots.errors {
             for unit in &UNITS {
-                self.error(*n, *unit);
+                self.errors(*n, *unit);
             }
         }
     }
@@ -87,15 +91,32 @@ impl Comparison<'_> {
         self.tally.count(same, None, visits.visited());
     }
 
-    /// The error of this number. Its visits are not among those that all calls are held to.
-    fn error(&mut self, n: u64, unit: Unit) {
+    /// The errors from this number on. Their visits are not among those that all calls are held to.
+    fn errors(&mut self, n: u64, unit: Unit) {
         let mut visits = visits();
-        let found = nth_diagnostic(self.doc, n, unit, &mut visits);
-        let same = found == self.plain.nth_diagnostic(n, unit);
-        let few = visits.visited() <= MOST_FOR_ERROR;
-        let fault = none_found(found.is_some());
+        let found = list_diagnostics(self.alloc, self.doc, n, PAGE as u64, unit, &mut visits);
+        let Ok(found) = found else {
+            self.tally.count(false, None, 0);
+            return;
+        };
+        let same = self.are_errors(&found, n, unit);
+        let few = visits.visited() <= MOST_FOR_ERROR.saturating_mul(found.len() as u64);
+        let first = found.first().copied();
+        let fault = none_found(first.is_some());
         self.tally.count(same && few, fault, 0);
-        self.tally.pass_error(found);
+        self.tally.pass_error(first);
+    }
+
+    /// Whether these are the errors from this number on, as many as were asked for or all.
+    fn are_errors(&self, found: &[Diagnostic], n: u64, unit: Unit) -> bool {
+        let mut number = n;
+        for diagnostic in found {
+            if self.plain.nth_diagnostic(number, unit) != Some(*diagnostic) {
+                return false;
+            }
+            number = number.saturating_add(1);
+        }
+        found.len() == PAGE || self.plain.nth_diagnostic(number, unit).is_none()
     }
 
     /// Code points by bytes, and bytes by code points.
@@ -165,6 +186,7 @@ pub fn compare(
     let spots = Spots::of(alloc, rng, doc)?;
     tally.pass(spots.borders, spots.cut);
     let mut comparison = Comparison {
+        alloc,
         doc,
         plain: &plain,
         tally,

@@ -1,15 +1,14 @@
 -- The errors of a document, piece by piece.
-use Rattle.std.proofs.Common.{ℕ, ◌≡◌, refl, sym, ap, subst, ◌∙◌, zero, suc, ◌+◌, ◌-◌, ◌<◌, ◌≤◌, inl, inr, Bool, true, false, cond, nat_lt, nat_le, List, [], ◌∷◌, ◌++◌, length, length-append, map, append-nil, arith, Some, None, Ok}
-use Rattle.position_map.specs.declared.diagnostic.Diagnostic.{Diagnostic}
+use Rattle.std.proofs.Common.{ℕ, ◌≡◌, refl, sym, ap, subst, ◌∙◌, ◌+◌, ◌<◌, ◌≤◌, inl, inr, Bool, true, false, cond, nat_lt, nat_le, List, [], ◌∷◌, ◌++◌, length, length-append, map, arith, Ok}
 use Rattle.position_map.specs.Diagnostics.{place_in}
-use Rattle.position_map.proofs.Words.{slice_get, option_map, length-map, map-append, count_by-le-length, slice_get-map, nat_tests, Place, Item, One}
+use Rattle.position_map.proofs.Words.{length-map, map-append, count_by-le-length, nat_tests, Item, One}
 use Rattle.position_map.proofs.Words.{Two, Error, Placed, item_code_points, code_points, error_place, error_places, Document, decoded, text_of}
 use Rattle.position_map.proofs.Words.{decoded_text, errors_of, decoded_errors, AreEnded, IsMade, AreMade, Ended, Outcome, Sum, joined, total_of}
 use Rattle.position_map.proofs.Words.{all_scalars, is_an_error, Scalar, measure, Position, TextUnit, ErrorAt, error_if, errors_from, all_errors}
-use Rattle.position_map.proofs.Words.{diagnostic_at, diagnostics_of, error_scalars, scalar_of, errors_in_sum, place_of, IsPlaced, position}
-use Rattle.position_map.proofs.Words.{position_of, Pieced, by_le, same_some, none_some, map_some, map_none, same_ok}
-use Rattle.position_map.proofs.Chains.{item_some, not_here, IsCutAround, cut_around}
-use Rattle.position_map.proofs.ErrorRuns.{below, below-append, below-yes, below-no, cond-append, error_scalars-length, get-front, get-back}
+use Rattle.position_map.proofs.Words.{diagnostic_at, diagnostics_of, error_scalars, scalar_of, IsPlaced, position}
+use Rattle.position_map.proofs.Words.{position_of, Pieced, by_le, same_ok}
+use Rattle.position_map.proofs.Chains.{item_some, IsCutAround, cut_around}
+use Rattle.position_map.proofs.ErrorRuns.{below, below-append, below-yes, below-no, cond-append, error_scalars-length}
 use Rattle.position_map.proofs.Items.{IsPieced, items_of, counted, piece_count}
 
 -- the errors of items are those of the document
@@ -110,11 +109,6 @@ numbers-within low high n (p ∷ ps) l h =
     subst (AreWithin low high) (sym (numbers-cons n p ps))
     (within-cond low high n (is_an_error p.item) (numbers w ps) l (omega (arith, h, size, some)) (numbers-within low high w ps (omega (arith, l)) (omega (arith, h, size))))
 
-within-get : (low high : ℕ) (ss : List ℕ) (k s : ℕ) → AreWithin low high ss → slice_get ss k ≡ Some s → s < high
-within-get low high [] k s w e = absurd (none_some e)
-within-get low high (x ∷ ss) zero s w e = let same : x ≡ s = same_some e in omega (arith, w.1, same)
-within-get low high (x ∷ ss) (suc k) s w e = within-get low high ss k s w.2 e
-
 cond-few : (b : Bool) (n k : ℕ) (ss : List ℕ) → length ss ≤ k → length (cond b (n ∷ ss) ss) ≤ k + 1
 cond-few true n k ss h = omega (arith, h)
 cond-few false n k ss h = omega (arith, h)
@@ -139,11 +133,6 @@ below-none : (m high : ℕ) (ss : List ℕ) → AreWithin m high ss → below m 
 below-none m high [] w = refl
 below-none m high (s ∷ ss) w = omega (arith, below-no m s ss w.0, below-none m high ss w.2)
 
--- an error's code point is in the text
-pub number-within : (d : Document) (n s : ℕ) → Some s ≡ slice_get (map scalar_of (all_errors d)) n → s < length (text_of d)
-unfolding decoded_text
-number-within d n s e = within-get 0 (length (text_of d)) (numbers 0 (decoded d).items) n s (numbers-within 0 (length (text_of d)) 0 (decoded d).items (omega arith) (omega arith)) (sym e)
-
 numbers-in_text : (d : Document) → length (map scalar_of (all_errors d)) ≤ length (text_of d)
 unfolding decoded_text
 numbers-in_text d = numbers-few 0 (decoded d).items
@@ -157,31 +146,11 @@ module _ (measured : Sum → ℕ) (d : Pieced) (n : ℕ) (s : Sum) (o : Outcome)
       ∙ ap (λ t. numbers 0 c.left ++ t) (numbers-append s.scalars c.here c.rest)
       ∙ ap (λ t. numbers 0 c.left ++ (t ++ numbers (s.scalars + length (code_points c.here)) c.rest)) (numbers-ended s.bytes s.scalars c.here o.items c.own.items)
 
-  errors-left : length (numbers 0 c.left) ≡ s.errors
+  pub errors-left : length (numbers 0 c.left) ≡ s.errors
   errors-left = made-errors p.front 0 0 c.left c.before ∙ sym (ap (λ (v : Sum). v.errors) p.sum)
 
-  none-behind : measured (joined s o.sum) ≤ n → c.rest ≡ []
+  pub none-behind : measured (joined s o.sum) ≤ n → c.rest ≡ []
   none-behind l = elim p.high [ inl e ↦ subst (AreMade (s.bytes + o.sum.bytes) c.rest) e c.behind | inr g ↦ absurd (omega (arith, l, g)) ]
-
-get-own : (xs ys : List ℕ) (k : ℕ) → (length xs ≤ k → ys ≡ []) → slice_get (xs ++ ys) k ≡ slice_get xs k
-get-own xs ys k h = by_le (length xs) k (λ le. rw (h le, append-nil xs) refl) (λ lt. get-front xs ys k lt)
-
--- error `n` is found in its piece
-pub number-placed : (d : Pieced) (n : ℕ) (s : Sum) (o : Outcome) → (p : IsPlaced errors_in_sum d n s o) → IsPieced d
-    → slice_get (error_scalars s.scalars o.items) (n - s.errors) ≡ slice_get (map scalar_of (all_errors d.doc)) n
-number-placed d n s o p w =
-    let c = cut_around errors_in_sum d n s o p w in
-    let errors = errors-left errors_in_sum d n s o p c in
-    let here = error_scalars s.scalars o.items in
-    let more = numbers (s.scalars + length (code_points c.here)) c.rest in
-    let low : length (numbers 0 c.left) ≤ n = omega (arith, errors, p.low) in
-    let size : length here ≡ o.sum.errors = error_scalars-length s.scalars o.items ∙ sym o.summed.errors in
-    let none : length here ≤ n - s.errors → more ≡ [] = λ l. let past : s.errors + o.sum.errors ≤ n = omega (arith, l, size, p.low) in
-    ap (numbers (s.scalars + length (code_points c.here))) (none-behind errors_in_sum d n s o p c past) in
-    sym (ap (λ ss. slice_get ss n) (around-numbers errors_in_sum d n s o p c)
-    ∙ get-back (numbers 0 c.left) (here ++ more) n low
-    ∙ ap (λ m. slice_get (here ++ more) (n - m)) errors
-    ∙ get-own here more (n - s.errors) none)
 
 -- no more code points are in front of a piece and in it than in the text
 pub placed-room : (measured : Sum → ℕ) (d : Pieced) (n : ℕ) (s : Sum) (o : Outcome) → IsPlaced measured d n s o → IsPieced d → s.scalars + all_scalars o.items ≤ length (text_of d.doc)
@@ -215,69 +184,9 @@ numbers-before d n s o p w =
 pub numbers-room : (d : Pieced) (n : ℕ) (s : Sum) (o : Outcome) → (p : IsPlaced (measure Scalar) d n s o) → IsPieced d → s.errors + below n (error_scalars s.scalars o.items) ≤ length (text_of d.doc)
 numbers-room d n s o p w = omega (arith, numbers-before d n s o p w, count_by-le-length (λ (x : ℕ). nat_lt x n) (map scalar_of (all_errors d.doc)), numbers-in_text d.doc)
 
--- an error's place is that of its code point
-abbrev IsPlaceOf : ErrorAt → ℕ → List Placed → Type 0
-IsPlaceOf e n ps = (n ≤ e.scalar) × (place_of ps (e.scalar - n) ≡ Some e.place)
-
-place-later : (p : Placed) (n : ℕ) (ps : List Placed) (e : ErrorAt) → IsPlaceOf e (n + length (item_code_points p.item)) ps → IsPlaceOf e n (p ∷ ps)
-place-later p n ps e w =
-    let size = length (item_code_points p.item) in
-    let at : e.scalar - n - size ≡ e.scalar - (n + size) = omega arith in
-    (omega (arith, w.0), not_here (e.scalar - n) size (Some (record { from = p.from; to = p.to })) (place_of ps (e.scalar - n - size)) (omega (arith, w.0)) ∙ ap (place_of ps) at ∙ w.1)
-
-error-here : (i : Item) (from to n k : ℕ) (ps : List Placed) (e : ErrorAt)
-    → ((j : ℕ) → slice_get (errors_from (n + length (item_code_points i)) ps) j ≡ Some e → IsPlaceOf e (n + length (item_code_points i)) ps)
-    → slice_get (errors_from n (record { item = i; from = from; to = to } ∷ ps)) k ≡ Some e → IsPlaceOf e n (record { item = i; from = from; to = to } ∷ ps)
-error-here (One c) from to n k ps e more h = place-later (record { item = One c; from = from; to = to }) n ps e (more k h)
-error-here (Two a b) from to n k ps e more h = place-later (record { item = Two a b; from = from; to = to }) n ps e (more k h)
-error-here Error from to n (suc k) ps e more h = place-later (record { item = Error; from = from; to = to }) n ps e (more k h)
-error-here Error from to n zero ps e more h =
-    let x : ErrorAt = record { place = record { from = from; to = to }; scalar = n } in
-    let same : x ≡ e = same_some h in
-    let number : n ≡ e.scalar = ap scalar_of same in
-    let t : nat_lt (e.scalar - n) 1 ≡ true = grind (arith, nat_tests, number) in
-    (omega (arith, number), rw t (ap (λ (y : ErrorAt). Some y.place) same))
-
-error-place : (n : ℕ) (ps : List Placed) (k : ℕ) (e : ErrorAt) → slice_get (errors_from n ps) k ≡ Some e → IsPlaceOf e n ps
-error-place n [] k e h = absurd (none_some h)
-error-place n (p ∷ ps) k e h = error-here p.item p.from p.to n k ps e (λ j x. error-place (n + length (item_code_points p.item)) ps j e x) h
-
-position-alone : (text : List ℕ) (unit : TextUnit) (s : ℕ) (p : Position) → Ok p ≡ position_of text unit s → s ≤ length text → p ≡ position text unit s
+-- the position of an offset within the text
+pub position-alone : (text : List ℕ) (unit : TextUnit) (s : ℕ) (p : Position) → Ok p ≡ position_of text unit s → s ≤ length text → p ≡ position text unit s
 unfolding position_of
 position-alone text unit s p e h =
     let t : nat_le s (length text) ≡ true = grind (arith, nat_tests) in
     same_ok (e ∙ rw t refl)
-
--- an error has a place
-pub some-place : (d : Document) (n s : ℕ) → Some s ≡ slice_get (map scalar_of (all_errors d)) n → None ≡ place_of (decoded d).items s → ⊥
-some-place d n s e none =
-    let w = map_some scalar_of (slice_get (all_errors d) n) s (sym (e ∙ slice_get-map scalar_of (all_errors d) n)) in
-    let here = error-place 0 (decoded d).items n w.0 w.1 in
-    let number : s ≡ w.0.scalar - 0 = omega (arith, w.2) in
-    none_some (none ∙ ap (place_of (decoded d).items) number ∙ here.1)
-
--- what is shown of an error
-pub shown : (d : Document) (unit : TextUnit) (n s : ℕ) (x : Diagnostic) → Some s ≡ slice_get (map scalar_of (all_errors d)) n → Some x.place ≡ place_of (decoded d).items s
-    → Ok x.range.start ≡ position_of (text_of d) unit s → Ok x.range.end ≡ position_of (text_of d) unit (s + 1) → Some x ≡ slice_get (diagnostics_of d unit) n
-unfolding diagnostics_of
-shown d unit n s x e at start end =
-    let text = text_of d in
-    let w = map_some scalar_of (slice_get (all_errors d) n) s (sym (e ∙ slice_get-map scalar_of (all_errors d) n)) in
-    let found = w.0 in
-    let here = error-place 0 (decoded d).items n found w.1 in
-    let number : s ≡ found.scalar - 0 = omega (arith, w.2) in
-    let place : x.place ≡ found.place = same_some (at ∙ ap (place_of (decoded d).items) number ∙ here.1) in
-    let within = number-within d n s e in
-    let first : x.range.start ≡ position text unit found.scalar = position-alone text unit s x.range.start start (omega (arith, within)) ∙ ap (position text unit) (sym w.2) in
-    let last : x.range.end ≡ position text unit (found.scalar + 1) = position-alone text unit (s + 1) x.range.end end (omega (arith, within)) ∙ ap (λ m. position text unit (m + 1)) (sym w.2) in
-    ap (λ (p : Place). Some (record { place = p; range = x.range })) place
-    ∙ ap (λ (p : Position). Some (record { place = found.place; range = record { start = p; end = x.range.end } })) first
-    ∙ ap (λ (p : Position). Some (record { place = found.place; range = record { start = position text unit found.scalar; end = p } })) last
-    ∙ sym (slice_get-map (diagnostic_at text unit) (all_errors d) n ∙ ap (option_map (diagnostic_at text unit)) w.1)
-
--- nothing is shown behind the last error
-pub not-shown : (d : Document) (unit : TextUnit) (n : ℕ) → None ≡ slice_get (map scalar_of (all_errors d)) n → None ≡ slice_get (diagnostics_of d unit) n
-unfolding diagnostics_of
-not-shown d unit n e =
-    let none = map_none scalar_of (slice_get (all_errors d) n) (sym (e ∙ slice_get-map scalar_of (all_errors d) n)) in
-    sym (slice_get-map (diagnostic_at (text_of d) unit) (all_errors d) n ∙ ap (option_map (diagnostic_at (text_of d) unit)) none)

@@ -1,6 +1,6 @@
 -- The code points of errors among the runs of a piece.
-use Rattle.std.proofs.Common.{ℕ, ℤ, subst, ◌≡◌, refl, sym, ap, ◌∙◌, zero, suc, ◌+◌, ◌-◌, ◌<◌, ◌≤◌, ◌⊎◌, inl, inr, Bool, true, false, cond, nat_lt, min, pos, ◌-ℤ◌, List, [], ◌∷◌, ◌++◌, length, drop, get_or, arith, Some, count_by}
-use Rattle.position_map.proofs.Words.{unary_clauses, slice_get, nat_tests, at_drop_more, count_by-le-length, sum_by-append, sum_by-cons, one_if}
+use Rattle.std.proofs.Common.{ℕ, ℤ, subst, ◌≡◌, refl, sym, ap, ◌∙◌, zero, suc, ◌+◌, ◌-◌, ◌<◌, ◌≤◌, ◌⊎◌, inl, inr, Bool, true, false, cond, nat_lt, min, pos, ◌-ℤ◌, List, [], ◌∷◌, ◌++◌, length, drop, get_or, arith, count_by}
+use Rattle.position_map.proofs.Words.{slice_get, nat_tests, at_drop_more, count_by-le-length, sum_by-append, sum_by-cons, one_if}
 use Rattle.position_map.proofs.Words.{Ended, all_scalars, errors_in, ItemKind, AsciiOne, AsciiError, RomanError, KatakanaError, Jis0208Error, Run}
 use Rattle.position_map.proofs.Words.{item_of_kind, items_of_run, items_of_runs, items_until, error_scalars, by_test, by_le}
 
@@ -46,13 +46,8 @@ get-front [] ys n l = absurd (omega (arith, l))
 get-front (x ∷ xs) ys zero l = refl
 get-front (x ∷ xs) ys (suc n) l = get-front xs ys n (omega (arith, l))
 
-pub get-back : {X : Type 0} (xs ys : List X) (n : ℕ) → length xs ≤ n → slice_get (xs ++ ys) n ≡ slice_get ys (n - length xs)
-get-back [] ys n l = let e : n ≡ n - 0 = omega arith in ap (λ (k : ℕ). slice_get ys k) e
-get-back (x ∷ xs) ys zero l = absurd (omega (arith, l))
-get-back (x ∷ xs) ys (suc n) l = let e : n - length xs ≡ suc n - length (x ∷ xs) = omega arith in get-back xs ys n (omega (arith, l)) ∙ ap (λ (k : ℕ). slice_get ys k) e
-
 -- items that are all errors, each of one code point, or of which none is
-abbrev AreAlike : Bool → List Ended → Type 0
+abbrev pub AreAlike : Bool → List Ended → Type 0
 AreAlike b [] = Unit {0}
 AreAlike b (e ∷ es) = (e.error ≡ b) × (e.error ≡ true → e.scalars ≡ 1) × AreAlike b es
 
@@ -73,7 +68,7 @@ until-alike kind step last z (suc n) =
     alike-snoc (item_of_kind kind z).error (items_until kind step (last -ℤ pos step) n) (item_of_kind kind last)
     (until-alike kind step (last -ℤ pos step) z n) refl (error_one kind last)
 
-either_run : (r : Run) → AreAlike true (items_of_run r) ⊎ AreAlike false (items_of_run r)
+pub either_run : (r : Run) → AreAlike true (items_of_run r) ⊎ AreAlike false (items_of_run r)
 either_run r =
     let w = until-alike r.kind r.step r.last r.last (suc r.more) in
     by_test (item_of_kind r.kind r.last).error (λ t. inl (subst (λ b. AreAlike b (items_of_run r)) t w)) (λ t. inr (subst (λ b. AreAlike b (items_of_run r)) t w))
@@ -82,11 +77,6 @@ either_run r =
 errors-count : (es : List Ended) → AreAlike true es → (errors_in es ≡ length es) × (all_scalars es ≡ length es)
 errors-count [] h = (refl, refl)
 errors-count (e ∷ es) h = let w = errors-count es h.2 in (omega (arith, ap one_if h.0, w.0), omega (arith, h.1 h.0, w.1))
-
-errors-get : (n : ℕ) (es : List Ended) (k : ℕ) → AreAlike true es → k < length es → slice_get (error_scalars n es) k ≡ Some (n + k)
-errors-get n [] k h l = absurd (omega (arith, l))
-errors-get n (e ∷ es) zero h l = rw h.0 (simp unary_clauses)
-errors-get n (e ∷ es) (suc k) h l = let to : n + e.scalars + k ≡ n + suc k = omega (arith, h.1 h.0) in rw h.0 (errors-get (n + e.scalars) es k h.2 (omega (arith, l)) ∙ ap (λ (m : ℕ). Some m) to)
 
 below-step : (m s : ℕ) (ss : List ℕ) (k : ℕ) → below m ss ≡ min k (m - (s + 1)) → below m (s ∷ ss) ≡ min (suc k) (m - s)
 below-step m s ss k e = by_le m s (λ h. omega (arith, below-no m s ss h, e, h)) (λ h. omega (arith, below-yes m s ss h, e, h))
@@ -102,17 +92,10 @@ others-none : (n : ℕ) (es : List Ended) → AreAlike false es → error_scalar
 others-none n [] h = refl
 others-none n (e ∷ es) h = rw h.0 (others-none (n + e.scalars) es h.2)
 
-others-count : (n : ℕ) (r : Run) → AreAlike false (items_of_run r) → errors_in (items_of_run r) ≡ 0
+pub others-count : (n : ℕ) (r : Run) → AreAlike false (items_of_run r) → errors_in (items_of_run r) ≡ 0
 others-count n r h = sym (error_scalars-length n (items_of_run r)) ∙ ap length (others-none n (items_of_run r) h)
 
 -- the errors of a run
-run-get : (n k : ℕ) (r : Run) → k < errors_in (items_of_run r) → slice_get (error_scalars n (items_of_run r)) k ≡ Some (n + k)
-run-get n k r l =
-    elim (either_run r) [
-      | inl h ↦ errors-get n (items_of_run r) k h (omega (arith, l, (errors-count (items_of_run r) h).0))
-      | inr h ↦ absurd (omega (arith, l, others-count n r h))
-    ]
-
 run-below : (m n : ℕ) (r : Run) → below m (error_scalars n (items_of_run r)) ≡ min (errors_in (items_of_run r)) (m - n)
 run-below m n r =
     elim (either_run r) [
@@ -153,19 +136,6 @@ module _ (rs : List Run) (i : ℕ) (l : i < length rs) where
     errors-next =
         at_drop_more (λ (v : List Run). error_scalars n (items_of_runs v)) rs i no_run l
         ∙ error_scalars-append n (run_at rs i) (items_of_runs (drop (i + 1) rs))
-
-    -- the error is in this run
-    pub found-here : (k : ℕ) → k < errors_in (run_at rs i) → Some (n + k) ≡ slice_get (error_scalars n (items_of_runs (drop i rs))) k
-    found-here k h =
-        sym (ap (λ (ss : List ℕ). slice_get ss k) errors-next ∙ get-front (error_scalars n (run_at rs i)) rest k (omega (arith, error_scalars-length n (run_at rs i), h))
-        ∙ run-get n k (get_or rs i no_run) h)
-
-    -- or behind it
-    pub found-next : (k : ℕ) → errors_in (run_at rs i) ≤ k
-        → slice_get rest (k - errors_in (run_at rs i)) ≡ slice_get (error_scalars n (items_of_runs (drop i rs))) k
-    found-next k h =
-        let size = error_scalars-length n (run_at rs i) in
-        sym (ap (λ (ss : List ℕ). slice_get ss k) errors-next ∙ get-back (error_scalars n (run_at rs i)) rest k (omega (arith, size, h)) ∙ ap (λ (m : ℕ). slice_get rest (k - m)) size)
 
     -- the errors of this run that are counted, and those behind it
     pub below-next : (m : ℕ) → below m (error_scalars n (items_of_runs (drop i rs))) ≡ min (errors_in (run_at rs i)) (m - n) + below m rest

@@ -16,42 +16,56 @@ apart [] back c none h = h
 apart (x ∷ xs) back c none h =
     by_test (is_mark false x) (λ t. absurd (omega (arith, none, ap one_if t))) (λ t. let y : (x == lf) ≡ false = grind (arith, nat_tests) in rw y (and-false (c == cr)))
 
--- the start of the line that the front part of a cut ends on
-record IsNear (u : TextUnit) (text : List ℕ) (x : TextCut) (line : List ℕ) : Type 0 where
-  start : Point
-  is : IsLineStart u text (x.before.marks + marks x.before.cr_last (chars x.front.now)) start
-  units : start.units + width u line ≡ sum_in u x.before + width u (chars x.front.now)
+-- the start of the line that a text ends on, which takes so many units of these
+pub record IsBegun (u : TextUnit) (text : List ℕ) (number line whole : ℕ) : Type 0 where
+  pub start : Point
+  pub is : IsLineStart u text number start
+  pub units : start.units + line ≡ whole
 
-near_start : (u : TextUnit) (text : List ℕ) (offset : ℕ) (x : TextCut) (line : List ℕ) → IsCutAt text offset x → IsLastLine (chars x.front.now) line
-    → (ends_cr x.before.cr_last (chars x.front.now) && begins_lf (chars x.rest.now)) ≡ false → IsNear u text x line
-near_start u text offset x line k e off =
-    let w = k.is in
-    let s = x.before in
-    let part = chars x.front.now in
-    let g = w.front ++ e.front in
+-- the line that a part of a text ends on, where a CR LF isn't cut behind it
+pub last_begins : (u : TextUnit) (text a part b line : List ℕ) → text ≡ (a ++ part) ++ b → IsLastLine part line → (ends_cr false (a ++ part) && begins_lf b) ≡ false
+    → IsBegun u text (marks false (a ++ part)) (width u line) (width u (a ++ part))
+last_begins u text a part b line cut e off =
+    let g = a ++ e.front in
     let head = g ++ e.c ∷ [] in
-    let whole : w.front ++ part ≡ g ++ e.c ∷ line = ap (λ t. w.front ++ t) e.split ∙ sym (append_assoc w.front e.front (e.c ∷ line)) in
-    let split : text ≡ g ++ e.c ∷ (line ++ w.back) = w.split ∙ ap (λ t. t ++ w.back) whole ∙ append_assoc g (e.c ∷ line) w.back in
-    let at_head : text ≡ head ++ (line ++ w.back) = split ∙ sym (append_assoc g (e.c ∷ []) (line ++ w.back)) in
-    let parts : w.front ++ part ≡ head ++ line = whole ∙ sym (append_assoc g (e.c ∷ []) line) in
-    let ends : ends_cr s.cr_last part ≡ ends_cr (e.c == cr) line = ap (ends_cr s.cr_last) e.split ∙ ends_cr-append s.cr_last e.front (e.c ∷ line) in
-    let at : offset ≡ length (w.front ++ part) = omega (arith, w.sum.scalars, k.at, length-append w.front part) in
-    let begins : begins_lf (chars x.rest.now) ≡ begins_lf w.back = k.next ∙ ap begins_lf (ap (drop offset) w.split ∙ drop_at (w.front ++ part) w.back offset (sym at)) in
-    let whole_end : (ends_cr (e.c == cr) line && begins_lf w.back) ≡ false =
-    ap (λ t. t && begins_lf w.back) (sym ends) ∙ ap (λ t. ends_cr s.cr_last part && t) (sym begins) ∙ off in
-    let number : marks false head ≡ s.marks + marks s.cr_last part =
-    omega (arith, marks-append false head line, marks-flag_le (ends_cr false head) line, e.none, ap (marks false) parts, marks-append false w.front part, w.sum.marks, ap (λ f. marks f part) w.sum.cr_last) in
+    let whole : a ++ part ≡ g ++ e.c ∷ line = ap (λ t. a ++ t) e.split ∙ sym (append_assoc a e.front (e.c ∷ line)) in
+    let split : text ≡ g ++ e.c ∷ (line ++ b) = cut ∙ ap (λ t. t ++ b) whole ∙ append_assoc g (e.c ∷ line) b in
+    let at_head : text ≡ head ++ (line ++ b) = split ∙ sym (append_assoc g (e.c ∷ []) (line ++ b)) in
+    let parts : a ++ part ≡ head ++ line = whole ∙ sym (append_assoc g (e.c ∷ []) line) in
+    let ends : ends_cr false (a ++ part) ≡ ends_cr (e.c == cr) line = ap (ends_cr false) whole ∙ ends_cr-append false g (e.c ∷ line) in
+    let whole_end : (ends_cr (e.c == cr) line && begins_lf b) ≡ false = ap (λ t. t && begins_lf b) (sym ends) ∙ off in
+    let number : marks false head ≡ marks false (a ++ part) = omega (arith, marks-append false head line, marks-flag_le (ends_cr false head) line, e.none, ap (marks false) parts) in
     let len : length head ≡ length g + 1 = length-append g (e.c ∷ []) in
     let p : Point = record { scalars = length head; units = width u head } in
     record {
       start = p;
       is = record {
-        point = point-from u text head (line ++ w.back) p at_head refl refl;
-        is = ap (λ t. option_map start_of (slice_get (lines_of t) (s.marks + marks s.cr_last part))) split
-            ∙ ap (λ j. option_map start_of (slice_get (lines_of (g ++ e.c ∷ (line ++ w.back))) j)) (sym number)
-            ∙ line_begins g e.c (line ++ w.back) e.is (apart line w.back e.c e.none whole_end) ∙ ap Some (sym len);
+        point = point-from u text head (line ++ b) p at_head refl refl;
+        is = ap (λ t. option_map start_of (slice_get (lines_of t) (marks false (a ++ part)))) split
+            ∙ ap (λ j. option_map start_of (slice_get (lines_of (g ++ e.c ∷ (line ++ b))) j)) (sym number)
+            ∙ line_begins g e.c (line ++ b) e.is (apart line b e.c e.none whole_end) ∙ ap Some (sym len);
       };
-      units = omega (arith, sum_width u w.front w.items s w.sum, width-append u w.front part, ap (width u) parts, width-append u head line);
+      units = omega (arith, ap (width u) parts, width-append u head line);
+    }
+
+-- the start of the line that the front part of a cut ends on
+near_start : (u : TextUnit) (text : List ℕ) (offset : ℕ) (x : TextCut) (line : List ℕ) → IsCutAt text offset x → IsLastLine (chars x.front.now) line
+    → (ends_cr x.before.cr_last (chars x.front.now) && begins_lf (chars x.rest.now)) ≡ false
+    → IsBegun u text (x.before.marks + marks x.before.cr_last (chars x.front.now)) (width u line) (sum_in u x.before + width u (chars x.front.now))
+near_start u text offset x line k e off =
+    let w = k.is in
+    let s = x.before in
+    let part = chars x.front.now in
+    let at : offset ≡ length (w.front ++ part) = omega (arith, w.sum.scalars, k.at, length-append w.front part) in
+    let begins : begins_lf (chars x.rest.now) ≡ begins_lf w.back = k.next ∙ ap begins_lf (ap (drop offset) w.split ∙ drop_at (w.front ++ part) w.back offset (sym at)) in
+    let ends : ends_cr s.cr_last part ≡ ends_cr false (w.front ++ part) = ap (λ f. ends_cr f part) w.sum.cr_last ∙ sym (ends_cr-append false w.front part) in
+    let whole : (ends_cr false (w.front ++ part) && begins_lf w.back) ≡ false = ap (λ t. t && begins_lf w.back) (sym ends) ∙ ap (λ t. ends_cr s.cr_last part && t) (sym begins) ∙ off in
+    let b = last_begins u text w.front part w.back line w.split e whole in
+    let number : marks false (w.front ++ part) ≡ s.marks + marks s.cr_last part = omega (arith, marks-append false w.front part, w.sum.marks, ap (λ f. marks f part) w.sum.cr_last) in
+    record {
+      start = b.start;
+      is = subst (λ j. IsLineStart u text j b.start) number b.is;
+      units = omega (arith, b.units, sum_width u w.front w.items s w.sum, width-append u w.front part);
     }
 
 -- the position of an offset whose line begins in its piece

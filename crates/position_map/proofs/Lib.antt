@@ -24,3 +24,6 @@ pub mod Escaping
 pub mod ErrorRuns
 pub mod ErrorPieces
 pub mod ErrorLines
+pub mod ErrorPlaces
+pub mod Reaching
+pub mod Listing

@@ -13,7 +13,7 @@ pub marks-few : (f : Bool) (cs : List ℕ) → marks f cs ≤ length cs
 marks-few f [] = omega arith
 marks-few f (c ∷ cs) = let le : one_if (is_mark f c) ≤ 1 = grind (arith, nat_tests) in omega (arith, le, marks-few (c == cr) cs)
 
-on_here : (u : TextUnit) (text a b : List ℕ) (offset : ℕ) → text ≡ a ++ b → offset ≡ length a → (ends_cr false a && begins_lf b) ≡ false
+pub on_here : (u : TextUnit) (text a b : List ℕ) (offset : ℕ) → text ≡ a ++ b → offset ≡ length a → (ends_cr false a && begins_lf b) ≡ false
     → IsOnLine u text offset (record { line = marks false a; units = width u a })
 on_here u text a b offset split at flag =
     let begun_at : begun (length a) (lines_of (a ++ b)) ≡ marks false a + 1 = omega (arith, lines_begun a b, ap one_if flag) in

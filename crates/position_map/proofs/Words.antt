@@ -71,5 +71,6 @@ unfoldable pub use Rattle.position_map.specs.Places.{scalar_of_byte}
 pub use Rattle.position_map.specs.Placing.{bom_of, IsChained, last_to, HasItem, IsPlaced}
 pub use Rattle.position_map.specs.Whole.{Pieced, AreAllPieces, AreAtLeast, AreAtMost, pieces_most}
 pub use Rattle.position_map.specs.ErrorScalars.{scalar_of, error_scalars}
-pub use Rattle.position_map.specs.Diagnostics.{ErrorAt, all_errors, error_if, errors_from, diagnostic_at}
+pub use Rattle.position_map.specs.declared.error_at.ErrorAt.{ErrorAt}
+pub use Rattle.position_map.specs.Diagnostics.{all_errors, error_if, errors_from, diagnostic_at}
 unfoldable pub use Rattle.position_map.specs.Diagnostics.{errors_before_line, diagnostics_of}

@@ -4,15 +4,11 @@ use Rattle.enc_names.specs.declared.place.Place.{Place}
 use Rattle.piece_rope.specs.Decode.{Item, Error, Placed, item_code_points}
 use Rattle.piece_rope.specs.Document.{Document, decoded, text_of}
 use Rattle.position_map.specs.declared.diagnostic.Diagnostic.{Diagnostic}
+use Rattle.position_map.specs.declared.error_at.ErrorAt.{ErrorAt}
 use Rattle.position_map.specs.declared.unit.Unit.{Unit as TextUnit}
 use Rattle.position_map.specs.Positions.{position, line_at}
 
--- An error: its place in the bytes, and the number of its code point, which is U+FFFD. Two errors may be at one byte, so only this number says which
--- code point of the text is the error's.
-pub record ErrorAt : Type 0 where
-  pub place : Place
-  pub scalar : ℕ
-
+-- an item's error, if it is one
 abbrev pub error_if : Item → ErrorAt → List ErrorAt
 error_if Error e = e ∷ []
 error_if item e = []

@@ -1,6 +1,7 @@
 pub mod Along
 pub mod Cuts
 pub mod Diagnostics
+pub mod ErrorPlaces
 pub mod ErrorScalars
 pub mod Found
 pub mod Fronts
@@ -16,5 +17,6 @@ pub mod Plan
 pub mod PlanExamples
 pub mod Points
 pub mod Positions
+pub mod Reaching
 pub mod Whole
 pub mod Widths

@@ -94,7 +94,7 @@ pub(crate) fn line_after<'d>(
 }
 
 // What is behind so many code points, or nothing.
-fn rest_behind(text: &str, n: u64) -> &str
+pub(crate) fn rest_behind(text: &str, n: u64) -> &str
     ensures { IsRestBehind (chars text.now) n (chars result.now) }
 {
     match split_at_scalar(text, n as usize) {

@@ -85,7 +85,7 @@ pub fn scalar_to_place(doc: &Doc<'_>, n: u64, visits: &mut Visits) -> Option<Pla
 }
 
 // The place of code point `n`.
-pub(crate) fn place_at(parts: &Parts<'_, '_>, n: u64, visits: &mut Visits) -> Option<Place>
+fn place_at(parts: &Parts<'_, '_>, n: u64, visits: &mut Visits) -> Option<Place>
     ensures place { result ≡ place_of (decoded parts.now.doc).items n }
     ensures most { (d : ℕ) → length parts.now.pieces < 2 ^ d → visits.new ≤ visits.old + 2 * (d + 2) }
     ensures kept { visits.old ≤ visits.new }
@@ -119,7 +119,7 @@ fn start_of(parts: &Parts<'_, '_>, before: Sum, here: &Outcome, k: u64, visits: 
 }
 
 // The byte at which the last item of so many code points in front ends, or the text begins.
-fn last_end(parts: &Parts<'_, '_>, count: u64, visits: &mut Visits) -> u64
+pub(crate) fn last_end(parts: &Parts<'_, '_>, count: u64, visits: &mut Visits) -> u64
     ensures end { (front back : List Outcome) (ps : List Placed) → parts.now.pieces ≡ front ++ back → (total_of front).scalars ≡ count → AreMade 0 ps front
         → result ≡ last_to (bom_of parts.now) ps }
     ensures most { (d : ℕ) → length parts.now.pieces < 2 ^ d → visits.new ≤ visits.old + (d + 2) }

@@ -41,12 +41,7 @@ pub fn to_position(
 }
 
 // The position of an offset within the text. Mostly its line begins in its piece.
-pub(crate) fn position_at(
-    parts: &Parts<'_, '_>,
-    unit: Unit,
-    offset: u64,
-    visits: &mut Visits,
-) -> Position
+fn position_at(parts: &Parts<'_, '_>, unit: Unit, offset: u64, visits: &mut Visits) -> Position
     requires { offset ≤ length (text_of parts.now.doc) }
     ensures position { Ok result ≡ position_of (text_of parts.now.doc) unit offset }
     ensures most { (d : ℕ) → length parts.now.pieces < 2 ^ d → visits.new ≤ visits.old + 3 * (d + 2) }

@@ -1,8 +1,7 @@
 //! The op `diagnostics`.
-ghost use Rattle.std.specs.Prelude.{◌≡◌, ℕ, ◌+◌, ◌*◌, ◌^◌, ◌<◌, ◌≤◌, length, IfOk, refl};
-ghost use Rattle.position_map.specs.Whole.{pieces_most};
+ghost use Rattle.std.specs.Prelude.{◌≡◌, refl};
 ghost use Rattle.desk.specs.Commands.{ListsDiagnostics};
-ghost use Rattle.desk.specs.Diagnostics.{diagnostics_page, diagnostics_reply, first_error};
+ghost use Rattle.desk.specs.Diagnostics.{diagnostics_reply, first_error};
 
 use crate::fault::Fault;
 use crate::open_document::OpenDocument;
@@ -12,8 +11,8 @@ use crate::question::Question;
 use crate::reply::ReplyList;
 use enc_names::Labels;
 use piece_rope::{Doc, Visits};
-use position_map::{Diagnostic, Unit, first_error_from, law_diagnostics, nth_diagnostic};
-use std::alloc::{AllocError, Global};
+use position_map::{Diagnostic, Unit, first_error_from, list_diagnostics};
+use std::alloc::Global;
 use sum_tree::visits;
 
 /// Returns a page of a document's errors with their positions (LSP 3.17, "Diagnostic").
@@ -55,7 +54,7 @@ impl Question for Diagnostics<'_> {
         if from > total {
             return Err(Fault::OutOfRange);
         }
-        let page = page(alloc, document, self.unit, from, self.max, &mut visits)?;
+        let page = list_diagnostics(alloc, document, from, self.max, self.unit, &mut visits)?;
         Ok(Reply::Diagnostics(DiagnosticsReply {
             rev: opened.revision,
             total,
@@ -72,28 +71,4 @@ fn first_error(document: &Doc<'_>, start: PageStart, visits: &mut Visits) -> u64
         PageStart::Number(number) => number,
         PageStart::Line(line) => first_error_from(document, line, visits),
     }
-}
-
-/// At most `max` errors of a document from number `from` on.
-fn page(
-    alloc: Global,
-    document: &Doc<'_>,
-    unit: Unit,
-    from: u64,
-    max: u64,
-    visits: &mut Visits,
-) -> Result<Vec<Diagnostic>, AllocError>
-    ensures page { IfOk result (λ page. page.items ≡ diagnostics_page document.now unit from max) }
-    ensures most { IfOk result (λ page. (d : ℕ) → pieces_most document.now < 2 ^ d → visits.new ≤ visits.old + length page.items * (10 * d + 20)) }
-{
-    law_diagnostics(document, unit);
-    let count = max.min(document.lengths().errors.saturating_sub(from));
-    let mut page = Vec::with_capacity(alloc, count as usize)?;
-    'errors: for number in 0..count {
-        let Some(diagnostic) = nth_diagnostic(document, from + number, unit, visits) else {
-            return Ok(page);
-        };
-        page.push(diagnostic)?;
-    }
-    Ok(page)
 }

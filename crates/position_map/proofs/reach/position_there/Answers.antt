@@ -1,0 +1,6 @@
+use Rattle.std.proofs.Common.{refl}
+use Rattle.position_map.proofs.Reaching.{position-there}
+use Rattle.position_map.proofs.reach.position_there.Goals as goal
+
+pub returns : goal.returns
+returns c = λ unit text l. position-there unit text c.args.at.now _ l refl c.saturating_sub.ensures
