@@ -1,5 +1,5 @@
 -- What was delivered before, and what is delivered next.
-use Rattle.std.proofs.Common.{ℕ, ◌+◌, ◌≤◌, ◌≢◌, List, [], ◌∷◌, ◌++◌, Option, Err, refl, sym, ap, ◌∙◌, subst, append_assoc}
+use Rattle.std.proofs.Common.{◌≡◌, ℕ, ◌+◌, ◌≤◌, ◌≢◌, List, [], ◌∷◌, ◌++◌, Option, Err, refl, sym, ap, ◌∙◌, subst, append_assoc}
 use Rattle.connections.proofs.Prelude.{Appends-trans, Appends-nil, Consumes-trans, Consumes-nil, Consumes-kept, Keeps, Office, IsOpen, Delivered}
 use Rattle.connections.proofs.Prelude.{DeliveredUntil, Pumped, PumpedUntil, Pumps, Serves, Breaks, most_reads, IsReadUp, Traffic, RunFault, NotFree}
 use Rattle.connections.proofs.Prelude.{Read, Write, TooManyReads}
@@ -59,30 +59,37 @@ Delivered-DeliveredUntil c a b t u v x y z p q = record {
 
 -- ---- bytes that were read
 
-pub Pumped-nil : (c : ℕ) (t : Traffic) (l m x : Option (List ℕ)) → IsOpen t c → Keeps l m → Pumped c t t l m x x
-Pumped-nil c t l m x is_open kept = record {
+pub Pumped-nil : (c : ℕ) (t : Traffic) (h k : List ℕ) (l m x : Option (List ℕ)) → IsOpen t c → k ≡ h ++ [] → Keeps l m → Pumped c t t h k l m x x
+Pumped-nil c t h k l m x is_open none kept = record {
   read = [];
+  received = none;
   consumes = Consumes-kept l l m [] (Consumes-nil l) kept;
   delivered = Delivered-nil c t x is_open;
 }
 
-pub Pumped-trans : (c : ℕ) (t u v : Traffic) (l m n x y z : Option (List ℕ)) → Pumped c t u l m x y → Pumped c u v m n y z → Pumped c t v l n x z
-Pumped-trans c t u v l m n x y z p q = record {
+pub received-trans : (h i k a b : List ℕ) → i ≡ h ++ a → k ≡ i ++ b → k ≡ h ++ (a ++ b)
+received-trans h i k a b p q = q ∙ ap (λ l. l ++ b) p ∙ append_assoc h a b
+
+pub Pumped-trans : (c : ℕ) (t u v : Traffic) (h i k : List ℕ) (l m n x y z : Option (List ℕ)) → Pumped c t u h i l m x y → Pumped c u v i k m n y z → Pumped c t v h k l n x z
+Pumped-trans c t u v h i k l m n x y z p q = record {
   read = p.read ++ q.read;
+  received = received-trans h i k p.read q.read p.received q.received;
   consumes = Consumes-trans l m n p.read q.read p.consumes q.consumes;
   delivered = Delivered-trans c p.read q.read t u v x y z p.delivered q.delivered;
 }
 
-Pumped-PumpedUntil : (c : ℕ) (t u v : Traffic) (l m n x y z : Option (List ℕ)) → Pumped c t u l m x y → PumpedUntil c u v m n y z → PumpedUntil c t v l n x z
-Pumped-PumpedUntil c t u v l m n x y z p q = record {
+Pumped-PumpedUntil : (c : ℕ) (t u v : Traffic) (h i k : List ℕ) (l m n x y z : Option (List ℕ)) → Pumped c t u h i l m x y → PumpedUntil c u v i k m n y z
+    → PumpedUntil c t v h k l n x z
+Pumped-PumpedUntil c t u v h i k l m n x y z p q = record {
   read = p.read ++ q.read;
+  received = received-trans h i k p.read q.read p.received q.received;
   consumes = Consumes-trans l m n p.read q.read p.consumes q.consumes;
   delivered = Delivered-DeliveredUntil c p.read q.read t u v x y z p.delivered q.delivered;
 }
 
-pub Pumped-Err : (A B : Type 0) (f : RunFault) (c : ℕ) (t u v : Traffic) (l m n x y z : Option (List ℕ)) → Pumped c t u l m x y → Pumps {A = A} (Err f) c u v m n y z
-    → Pumps {A = B} (Err f) c t v l n x z
-Pumped-Err A B NotFree = λ c t u v l m n x y z p q. q
+pub Pumped-Err : (A B : Type 0) (f : RunFault) (c : ℕ) (t u v : Traffic) (h i k : List ℕ) (l m n x y z : Option (List ℕ)) → Pumped c t u h i l m x y
+    → Pumps {A = A} (Err f) c u v i k m n y z → Pumps {A = B} (Err f) c t v h k l n x z
+Pumped-Err A B NotFree = λ c t u v h i k l m n x y z p q. q
 Pumped-Err A B Read = Pumped-trans
 Pumped-Err A B Write = Pumped-PumpedUntil
 Pumped-Err A B TooManyReads = Pumped-trans

@@ -15,7 +15,7 @@ pub record Closed (t u : Traffic) (c : ℕ) : Type 0 where
 
 -- ---- between the two
 
-module _ (c : ℕ) (t u v w : Traffic) (l m x y : Option (List ℕ)) (opened : Opened t u c) (closed : Closed v w c) where
+module _ (c : ℕ) (t u v w : Traffic) (h k : List ℕ) (l m x y : Option (List ℕ)) (opened : Opened t u c) (closed : Closed v w c) where
   others : SameOthers u v c → SameOthers t w c
   others delivered d ne =
       ap (λ s. line_at s d) closed.is ∙ get_or-set_other v.lines c d None None ne ∙ delivered d ne
@@ -34,10 +34,11 @@ module _ (c : ℕ) (t u v w : Traffic) (l m x y : Option (List ℕ)) (opened : O
   moved : (P : Office → Office → Type 0) → P u.office v.office → P t.office w.office
   moved P p = subst (λ n. P t.office n) (sym (ap (λ s. s.office) closed.is)) (subst (λ o. P o v.office) (ap (λ s. s.office) opened.is) p)
 
-  ran : Pumped c u v l m x y → Ran c t w l m x y
+  ran : Pumped c u v h k l m x y → Ran c t w h k l m x y
   ran p = record {
     read = p.read;
     out = p.delivered.out;
+    received = p.received;
     consumes = p.consumes;
     appends = p.delivered.appends;
     serves = moved (λ o n. Serves o (complete [] p.read) p.delivered.out n) (p.delivered.serves [] begun);
@@ -45,10 +46,11 @@ module _ (c : ℕ) (t u v w : Traffic) (l m x y : Option (List ℕ)) (opened : O
     others = others p.delivered.others;
   }
 
-  ran_until : PumpedUntil c u v l m x y → RanUntil c t w l m x y
+  ran_until : PumpedUntil c u v h k l m x y → RanUntil c t w h k l m x y
   ran_until p = record {
     read = p.read;
     out = p.delivered.out;
+    received = p.received;
     consumes = p.consumes;
     appends = p.delivered.appends;
     breaks = moved (λ o n. Breaks o (complete [] p.read) p.delivered.out n) (p.delivered.breaks [] begun);
@@ -56,7 +58,7 @@ module _ (c : ℕ) (t u v w : Traffic) (l m x y : Option (List ℕ)) (opened : O
     others = others p.delivered.others;
   }
 
-  pub runs : {A : Type 0} (r : Result A RunFault) → Pumps r c u v l m x y → RunGives r c t w l m x y
+  pub runs : {A : Type 0} (r : Result A RunFault) → Pumps r c u v h k l m x y → RunGives r c t w h k l m x y
   runs (Ok _) = ran
   runs (Err NotFree) = λ no. absurd no
   runs (Err Read) = ran

@@ -1,5 +1,5 @@
 -- A connection that is open, and what a run has done so far on it; nothing of the latter has to be believed.
-use Rattle.std.specs.Prelude.{◌≡◌, ℕ, List, Option, Some, None, Result, Ok, Err, take}
+use Rattle.std.specs.Prelude.{◌≡◌, ℕ, List, ◌++◌, Option, Some, None, Result, Ok, Err, take}
 use Rattle.std.specs.Io.KnownBytes.{Consumes, Appends}
 use Rattle.devices.specs.declared.reading.Progress.{Progress}
 use Rattle.devices.specs.declared.reading.Progress.TheVariants.{More, End}
@@ -56,24 +56,26 @@ DeliversFront (Ok n) c bytes old new before after = Delivered c (take n bytes) o
 DeliversFront (Err e) c bytes old new before after = DeliveredUntil c bytes old new before after
 
 -- bytes were read and delivered
-pub record Pumped (c : ℕ) (old new : Traffic) (left rest before after : Option (List ℕ)) : Type 0 where
+pub record Pumped (c : ℕ) (old new : Traffic) (had has : List ℕ) (left rest before after : Option (List ℕ)) : Type 0 where
   pub read : List ℕ
+  pub received : has ≡ had ++ read
   pub consumes : Consumes left rest read
   pub delivered : Delivered c read old new before after
 
 -- bytes were read, and delivering them broke off
-pub record PumpedUntil (c : ℕ) (old new : Traffic) (left rest before after : Option (List ℕ)) : Type 0 where
+pub record PumpedUntil (c : ℕ) (old new : Traffic) (had has : List ℕ) (left rest before after : Option (List ℕ)) : Type 0 where
   pub read : List ℕ
+  pub received : has ≡ had ++ read
   pub consumes : Consumes left rest read
   pub delivered : DeliveredUntil c read old new before after
 
 -- pumping, by its answer, which is never NotFree
-abbrev pub Pumps : {A : Type 0} → Result A RunFault → ℕ → Traffic → Traffic → Option (List ℕ) → Option (List ℕ) → Option (List ℕ) → Option (List ℕ) → Type 0
-Pumps (Ok x) c old new left rest before after = Pumped c old new left rest before after
-Pumps (Err NotFree) c old new left rest before after = ⊥
-Pumps (Err Read) c old new left rest before after = Pumped c old new left rest before after
-Pumps (Err Write) c old new left rest before after = PumpedUntil c old new left rest before after
-Pumps (Err TooManyReads) c old new left rest before after = Pumped c old new left rest before after
+abbrev pub Pumps : {A : Type 0} → Result A RunFault → ℕ → Traffic → Traffic → List ℕ → List ℕ → Option (List ℕ) → Option (List ℕ) → Option (List ℕ) → Option (List ℕ) → Type 0
+Pumps (Ok x) c old new had has left rest before after = Pumped c old new had has left rest before after
+Pumps (Err NotFree) c old new had has left rest before after = ⊥
+Pumps (Err Read) c old new had has left rest before after = Pumped c old new had has left rest before after
+Pumps (Err Write) c old new had has left rest before after = PumpedUntil c old new had has left rest before after
+Pumps (Err TooManyReads) c old new had has left rest before after = Pumped c old new had has left rest before after
 
 abbrev pub progress_ends_of : Result Progress RunFault → ℕ
 progress_ends_of (Ok More) = 0

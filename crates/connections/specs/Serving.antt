@@ -34,10 +34,11 @@ pub record Breaks (old : Office) (lines : List (List ℕ)) (out : List ℕ) (new
 abbrev pub SameOthers : Traffic → Traffic → ℕ → Type 0
 SameOthers old new c = (d : ℕ) → d ≢ c → line_at new d ≡ line_at old d
 
--- Bytes were read on connection c, the replies to their complete lines were written, and c is closed.
-pub record Ran (c : ℕ) (old new : Traffic) (left rest before after : Option (List ℕ)) : Type 0 where
+-- Bytes were read on connection c, which is what the reader's reads returned, the replies to their complete lines were written, and c is closed.
+pub record Ran (c : ℕ) (old new : Traffic) (had has : List ℕ) (left rest before after : Option (List ℕ)) : Type 0 where
   pub read : List ℕ
   pub out : List ℕ
+  pub received : has ≡ had ++ read
   pub consumes : Consumes left rest read
   pub appends : Appends before after out
   pub serves : Serves old.office (complete [] read) out new.office
@@ -45,9 +46,10 @@ pub record Ran (c : ℕ) (old new : Traffic) (left rest before after : Option (L
   pub others : SameOthers old new c
 
 -- Bytes were read on connection c, the writing of the replies to their complete lines broke off, and c is closed.
-pub record RanUntil (c : ℕ) (old new : Traffic) (left rest before after : Option (List ℕ)) : Type 0 where
+pub record RanUntil (c : ℕ) (old new : Traffic) (had has : List ℕ) (left rest before after : Option (List ℕ)) : Type 0 where
   pub read : List ℕ
   pub out : List ℕ
+  pub received : has ≡ had ++ read
   pub consumes : Consumes left rest read
   pub appends : Appends before after out
   pub breaks : Breaks old.office (complete [] read) out new.office
@@ -55,12 +57,12 @@ pub record RanUntil (c : ℕ) (old new : Traffic) (left rest before after : Opti
   pub others : SameOthers old new c
 
 -- what a run does, by its answer
-abbrev pub RunGives : {A : Type 0} → Result A RunFault → ℕ → Traffic → Traffic → Option (List ℕ) → Option (List ℕ) → Option (List ℕ) → Option (List ℕ) → Type 0
-RunGives (Ok x) c old new left rest before after = Ran c old new left rest before after
-RunGives (Err NotFree) c old new left rest before after = new ≡ old
-RunGives (Err Read) c old new left rest before after = Ran c old new left rest before after
-RunGives (Err Write) c old new left rest before after = RanUntil c old new left rest before after
-RunGives (Err TooManyReads) c old new left rest before after = Ran c old new left rest before after
+abbrev pub RunGives : {A : Type 0} → Result A RunFault → ℕ → Traffic → Traffic → List ℕ → List ℕ → Option (List ℕ) → Option (List ℕ) → Option (List ℕ) → Option (List ℕ) → Type 0
+RunGives (Ok x) c old new had has left rest before after = Ran c old new had has left rest before after
+RunGives (Err NotFree) c old new had has left rest before after = new ≡ old
+RunGives (Err Read) c old new had has left rest before after = Ran c old new had has left rest before after
+RunGives (Err Write) c old new had has left rest before after = RanUntil c old new had has left rest before after
+RunGives (Err TooManyReads) c old new had has left rest before after = Ran c old new had has left rest before after
 
 -- ---- the devices' numbers, by a run's answer
 

@@ -36,7 +36,8 @@ pub fn run<R: Feed, W: Outlet>(
 ) -> Result<(), RunFault>
     ensures not_free { (result ≡ Err RunFault.NotFree) ↔ IsSome (gate_fault gateway.old.lines (Opening c)) }
     ensures untouched { result ≡ Err RunFault.NotFree → (reader.new ≡ reader.old) × (writer.new ≡ writer.old) }
-    ensures runs { RunGives result c gateway.old gateway.new (R.left reader.old) (R.left reader.new) (W.written writer.old) (W.written writer.new) }
+    ensures runs { RunGives result c gateway.old gateway.new (R.received reader.old) (R.received reader.new)
+        (R.left reader.old) (R.left reader.new) (W.written writer.old) (W.written writer.new) }
     ensures end { OnOk result (IsAtEnd (R.left reader.new)) }
     ensures ends { R.ends reader.new ≡ R.ends reader.old + ends_of result }
     ensures reads { IsReadUp result (R.reads reader.old) (R.reads reader.new) }
@@ -81,7 +82,8 @@ fn pump<R: Feed, W: Outlet>(
     writer: &mut W,
 ) -> Result<(), RunFault>
     requires { IsOpen gateway.old c }
-    ensures pumps { Pumps result c gateway.old gateway.new (R.left reader.old) (R.left reader.new) (W.written writer.old) (W.written writer.new) }
+    ensures pumps { Pumps result c gateway.old gateway.new (R.received reader.old) (R.received reader.new)
+        (R.left reader.old) (R.left reader.new) (W.written writer.old) (W.written writer.new) }
     ensures end { OnOk result (IsAtEnd (R.left reader.new)) }
     ensures ends { R.ends reader.new ≡ R.ends reader.old + ends_of result }
     ensures reads { IsReadUp result (R.reads reader.old) (R.reads reader.new) }
@@ -109,7 +111,8 @@ fn read_once<R: Feed, W: Outlet>(
 ) -> Result<Progress, RunFault>
     requires open { IsOpen gateway.old c }
     requires room { 0 < length buffer.old }
-    ensures pumps { Pumps result c gateway.old gateway.new (R.left reader.old) (R.left reader.new) (W.written writer.old) (W.written writer.new) }
+    ensures pumps { Pumps result c gateway.old gateway.new (R.received reader.old) (R.received reader.new)
+        (R.left reader.old) (R.left reader.new) (W.written writer.old) (W.written writer.new) }
     ensures end { IfOk result (λ progress. EndsAt progress (R.left reader.new)) }
     ensures ends { R.ends reader.new ≡ R.ends reader.old + progress_ends_of result }
     ensures reads { R.reads reader.new ≡ R.reads reader.old + 1 }

@@ -1,5 +1,5 @@
 -- What calls of a device do to its bytes and its numbers.
-use Rattle.std.specs.Prelude.{◌≡◌, ℕ, ◌+◌, ◌<◌, ◌==◌, ◌&&◌, nat_lt, List, ◌++◌, length, Option, Result, Ok, Err, if◌then◌else◌}
+use Rattle.std.specs.Prelude.{◌≡◌, ℕ, ◌+◌, ◌<◌, ◌==◌, ◌&&◌, nat_lt, List, [], ◌++◌, length, take, Option, Result, Ok, Err, if◌then◌else◌}
 use Rattle.std.specs.Io.KnownBytes.{Appends}
 use Rattle.devices.specs.declared.count.Count.{Count, fold-Count}
 use Rattle.devices.specs.declared.count.Count.TheOpen.{Count-F}
@@ -25,6 +25,11 @@ failures_after (Err e) n = n + 1
 abbrev pub ends_after : {E : Type 0} → Result ℕ E → List ℕ → ℕ → ℕ
 ends_after (Ok n) room ends = if (n == 0) && nat_lt 0 (length room) then ends + 1 else ends
 ends_after (Err e) room ends = ends
+
+-- the bytes that a read returned
+abbrev pub read_bytes : {E : Type 0} → Result ℕ E → List ℕ → List ℕ
+read_bytes (Ok n) buf = take n buf
+read_bytes (Err e) buf = []
 
 -- a front of the bytes was appended, and not all of them
 abbrev pub AppendsPart : Option (List ℕ) → Option (List ℕ) → List ℕ → Type 0

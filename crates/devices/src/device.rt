@@ -1,10 +1,11 @@
 //! What is read from and written to.
 //!
-//! Contracts see a device's bytes, where they are known, and, without a limit, how often it was
-//! called and how often it failed. The numbers exist for contracts alone: they take no memory.
-ghost use Rattle.std.specs.Prelude.{◌≡◌, ℕ, ◌+◌, ◌<◌, ◌≤◌, List, length, Option, IfOk, OnOk, OnErr};
+//! Contracts see the bytes that a device's reads returned or its writes took and, without a limit,
+//! how often it was called and how often it failed. These exist for contracts alone: they take no
+//! memory. What is still to be read they see where that is known, as of memory.
+ghost use Rattle.std.specs.Prelude.{◌≡◌, ℕ, ◌+◌, ◌<◌, ◌≤◌, ◌++◌, List, length, Option, IfOk, OnOk, OnErr};
 ghost use Rattle.std.specs.Io.KnownBytes.{ReadConsumes, WriteAppends, Appends};
-ghost use Rattle.devices.specs.Devices.{failures_after, ends_after, AppendsPart};
+ghost use Rattle.devices.specs.Devices.{failures_after, ends_after, read_bytes, AppendsPart};
 
 /// A device failed, and did nothing else.
 #[derive(Clone, Copy, PartialEq, Eq, Debug)]
@@ -12,6 +13,9 @@ pub struct Failed;
 
 /// What bytes are read from.
 pub trait Feed {
+    /// The bytes that its reads returned.
+    ghost received: { Self → List ℕ };
+
     /// The bytes that are still to be read, where they are known.
     ghost left: { Self → Option (List ℕ) };
 
@@ -28,6 +32,7 @@ pub trait Feed {
     /// end.
     fn read(&mut self, buf: &mut [u8]) -> Result<usize, Failed>
         ensures bound { IfOk result (λ n. n ≤ length buf.new) }
+        ensures received { received self.new ≡ received self.old ++ read_bytes result buf.new }
         ensures bytes { ReadConsumes (left self.old) (left self.new) result buf.new }
         ensures reads { reads self.new ≡ reads self.old + 1 }
         ensures ends { ends self.new ≡ ends_after result buf.new (ends self.old) }
@@ -36,7 +41,7 @@ pub trait Feed {
 
 /// What bytes are written to.
 pub trait Outlet {
-    /// The bytes that were written, where they are known.
+    /// The bytes that its writes took, where they are known, as of each device here.
     ghost written: { Self → Option (List ℕ) };
 
     /// How often it was written to.

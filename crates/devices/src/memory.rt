@@ -1,15 +1,18 @@
 //! Devices over memory.
 ghost use Rattle.std.specs.Prelude.{◌≡◌, Some, []};
 ghost use Rattle.devices.specs.Devices.{counted};
+ghost use Rattle.devices.specs.Histories.{bytes_of};
 
 use crate::count::Count;
 use crate::device::{Failed, Feed, Outlet};
+use crate::history::History;
 use std::alloc::Global;
 
 /// A slice to read from. It never fails.
 #[derive(Drop)]
 pub struct MemFeed<'a> {
     rest: &'a [u8],
+    received: History,
     reads: Count,
     ends: Count,
 }
@@ -17,12 +20,14 @@ pub struct MemFeed<'a> {
 impl<'a> MemFeed<'a> {
     /// The device from which these bytes are read, and then the end.
     pub fn new(bytes: &'a [u8]) -> MemFeed<'a>
+        ensures received { ⟦<MemFeed<'a> as Feed>⟧.received result ≡ [] }
         ensures left { ⟦<MemFeed<'a> as Feed>⟧.left result ≡ Some bytes.now }
         ensures reads { ⟦<MemFeed<'a> as Feed>⟧.reads result ≡ 0 }
         ensures ends { ⟦<MemFeed<'a> as Feed>⟧.ends result ≡ 0 }
     {
         MemFeed {
             rest: bytes,
+            received: History::Empty,
             reads: Count::Never,
             ends: Count::Never,
         }
@@ -30,6 +35,8 @@ impl<'a> MemFeed<'a> {
 }
 
 impl<'a> Feed for MemFeed<'a> {
+    ghost received = { λ d. bytes_of d.received };
+
     ghost left = { λ d. Some d.rest.now };
 
     ghost reads = { λ d. counted d.reads };
@@ -45,6 +52,7 @@ impl<'a> Feed for MemFeed<'a> {
             self.ends.next();
         }
         buf[..n].copy_from_slice(&self.rest[..n]);
+        self.received.extend(&buf[..n]);
         self.rest = &self.rest[n..];
         Ok(n)
     }

@@ -1,15 +1,19 @@
-//! Devices over std's readers and writers.
-ghost use Rattle.std.specs.Prelude.{◌≡◌};
+//! Devices over std's readers and writers. They record what the reads returned and what the writes
+//! took, so that contracts know the bytes of a stream of the system too.
+ghost use Rattle.std.specs.Prelude.{◌≡◌, [], Some};
 ghost use Rattle.devices.specs.Devices.{counted};
+ghost use Rattle.devices.specs.Histories.{bytes_of};
 
 use crate::count::Count;
 use crate::device::{Failed, Feed, Outlet};
+use crate::history::History;
 use std::io::{Read, Write};
 
 /// A device over a reader. A read fails where the reader returns an error.
 #[derive(Drop)]
 pub struct FromRead<R> {
     reader: R,
+    received: History,
     reads: Count,
     ends: Count,
     failures: Count,
@@ -18,6 +22,7 @@ pub struct FromRead<R> {
 impl<R: Read> FromRead<R> {
     /// The device over `reader`, with no reads yet.
     pub fn new(reader: R) -> FromRead<R>
+        ensures received { ⟦<FromRead<R> as Feed>⟧.received result ≡ [] }
         ensures left { ⟦<FromRead<R> as Feed>⟧.left result ≡ R.remaining reader }
         ensures reads { ⟦<FromRead<R> as Feed>⟧.reads result ≡ 0 }
         ensures ends { ⟦<FromRead<R> as Feed>⟧.ends result ≡ 0 }
@@ -25,6 +30,7 @@ impl<R: Read> FromRead<R> {
     {
         FromRead {
             reader,
+            received: History::Empty,
             reads: Count::Never,
             ends: Count::Never,
             failures: Count::Never,
@@ -33,6 +39,8 @@ impl<R: Read> FromRead<R> {
 }
 
 impl<R: Read> Feed for FromRead<R> {
+    ghost received = { λ d. bytes_of d.received };
+
     ghost left = { λ d. R.remaining d.reader };
 
     ghost reads = { λ d. counted d.reads };
@@ -45,6 +53,7 @@ impl<R: Read> Feed for FromRead<R> {
         self.reads.next();
         match self.reader.read(buf) {
             Ok(n) => {
+                self.received.extend(&buf[..n]);
                 if n == 0 && !buf.is_empty() {
                     self.ends.next();
                 }
@@ -63,6 +72,7 @@ impl<R: Read> Feed for FromRead<R> {
 #[derive(Drop)]
 pub struct ToWrite<W> {
     writer: W,
+    taken: History,
     writes: Count,
     failures: Count,
 }
@@ -70,12 +80,13 @@ pub struct ToWrite<W> {
 impl<W: Write> ToWrite<W> {
     /// The device over `writer`, with no writes yet.
     pub fn new(writer: W) -> ToWrite<W>
-        ensures written { ⟦<ToWrite<W> as Outlet>⟧.written result ≡ W.contents writer }
+        ensures written { ⟦<ToWrite<W> as Outlet>⟧.written result ≡ Some [] }
         ensures writes { ⟦<ToWrite<W> as Outlet>⟧.writes result ≡ 0 }
         ensures failures { ⟦<ToWrite<W> as Outlet>⟧.failures result ≡ 0 }
     {
         ToWrite {
             writer,
+            taken: History::Empty,
             writes: Count::Never,
             failures: Count::Never,
         }
@@ -83,7 +94,7 @@ impl<W: Write> ToWrite<W> {
 }
 
 impl<W: Write> Outlet for ToWrite<W> {
-    ghost written = { λ d. W.contents d.writer };
+    ghost written = { λ d. Some (bytes_of d.taken) };
 
     ghost writes = { λ d. counted d.writes };
 
@@ -92,7 +103,10 @@ impl<W: Write> Outlet for ToWrite<W> {
     fn write(&mut self, buf: &[u8]) -> Result<usize, Failed> {
         self.writes.next();
         match self.writer.write(buf) {
-            Ok(n) if n > 0 || buf.is_empty() => Ok(n),
+            Ok(n) if n > 0 || buf.is_empty() => {
+                self.taken.extend(&buf[..n]);
+                Ok(n)
+            }
             _ => {
                 self.failures.next();
                 Err(Failed)

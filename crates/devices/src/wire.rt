@@ -1,13 +1,13 @@
 //! A device of which no call waits.
 ghost use Rattle.std.specs.Prelude.{◌≡◌, ℕ, ◌<◌, ◌≤◌, ◌++◌, List, length, take, IfOk, OnErr};
-ghost use Rattle.devices.specs.Wires.{arrived_count, arrived, taken_count};
+ghost use Rattle.devices.specs.Wires.{arrived_count, arrived, ArrivesSome, taken_count};
 
 use crate::device::Failed;
 
 /// What a read of a wire found.
 #[derive(Clone, Copy, PartialEq, Eq, Debug)]
 pub enum Arrival {
-    /// This number of bytes.
+    /// This number of bytes, at least one.
     Bytes(usize),
     /// No byte yet.
     NotYet,
@@ -36,6 +36,7 @@ pub trait Wire {
     /// Reads bytes into the front of `buf`.
     fn read(&mut self, buf: &mut [u8]) -> Result<Arrival, Failed>
         ensures bound { arrived_count result ≤ length buf.new }
+        ensures some { IfOk result ArrivesSome }
         ensures received { received self.new ≡ received self.old ++ arrived result buf.new }
         ensures sent { sent self.new ≡ sent self.old }
         ensures empty { IfOk result (λ arrival. arrival ≡ Arrival.NotYet → is_empty self.new) }

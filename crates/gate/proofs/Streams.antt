@@ -8,8 +8,8 @@ use Rattle.gateway.specs.declared.traces.fault.TraceFault.{TraceFault}
 use Rattle.gate.specs.Serving.{Served}
 use Rattle.gate.specs.Replaying.{Replayed}
 
-pub served : {A : Type 0} (a : Result A RunFault) (b t new : Traffic) (w x y z : Option (List ℕ)) → t ≡ b → RunGives a 0 t new w x y z → Served a b w x y z
-served a b t new w x y z is ran = record { new = new; runs = subst (λ s. RunGives a 0 s new w x y z) is ran }
+pub served : {A : Type 0} (a : Result A RunFault) (b t new : Traffic) (h k : List ℕ) (w x y z : Option (List ℕ)) → t ≡ b → RunGives a 0 t new h k w x y z → Served a b h k w x y z
+served a b t new h k w x y z is ran = record { new = new; runs = subst (λ s. RunGives a 0 s new h k w x y z) is ran }
 
-pub replayed : {A : Type 0} (a : Result A TraceFault) (b t new : Traffic) (w x y z : Option (List ℕ)) → t ≡ b → Traces a t new w x y z → Replayed a b w x y z
-replayed a b t new w x y z is played = record { new = new; traces = subst (λ s. Traces a s new w x y z) is played }
+pub replayed : {A : Type 0} (a : Result A TraceFault) (b t new : Traffic) (h k : List ℕ) (w x y z : Option (List ℕ)) → t ≡ b → Traces a t new h k w x y z → Replayed a b h k w x y z
+replayed a b t new h k w x y z is played = record { new = new; traces = subst (λ s. Traces a s new h k w x y z) is played }

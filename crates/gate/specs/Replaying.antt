@@ -18,6 +18,6 @@ trace_answer (Err OutOfMemory) = Err fault.OutOfMemory
 trace_answer (Err failure) = Err (fault.BadLine 0)
 
 -- the trace, and the gateway after it
-pub record Replayed {A : Type 0} (answer : Result A TraceFault) (old : Traffic) (left rest before after : Option (List ℕ)) : Type 0 where
+pub record Replayed {A : Type 0} (answer : Result A TraceFault) (old : Traffic) (had has : List ℕ) (left rest before after : Option (List ℕ)) : Type 0 where
   pub new : Traffic
-  pub traces : Traces answer old new left rest before after
+  pub traces : Traces answer old new had has left rest before after

@@ -29,6 +29,6 @@ run_answer (Err TooManyReads) = Err fault.TooManyReads
 run_answer (Err failure) = Err fault.NotFree
 
 -- the run on connection 0, and the gateway behind it
-pub record Served {A : Type 0} (answer : Result A RunFault) (old : Traffic) (left rest before after : Option (List ℕ)) : Type 0 where
+pub record Served {A : Type 0} (answer : Result A RunFault) (old : Traffic) (had has : List ℕ) (left rest before after : Option (List ℕ)) : Type 0 where
   pub new : Traffic
-  pub runs : RunGives answer 0 old new left rest before after
+  pub runs : RunGives answer 0 old new had has left rest before after

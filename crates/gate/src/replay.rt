@@ -26,7 +26,7 @@ pub fn replay<'a, R: Feed, W: Outlet>(
     input: &mut R,
     output: &mut W,
 ) -> Result<(), Failure<'a>>
-    ensures replays { Replayed (trace_answer result) (beginning indexes.now labels)
+    ensures replays { Replayed (trace_answer result) (beginning indexes.now labels) (R.received input.old) (R.received input.new)
         (R.left input.old) (R.left input.new) (W.written output.old) (W.written output.new) }
     ensures end { OnOk result (IsAtEnd (R.left input.new)) }
     ensures ends { EndsOnce (trace_answer result) (R.ends input.old) (R.ends input.new) }

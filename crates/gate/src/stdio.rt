@@ -27,7 +27,7 @@ pub fn serve_stdio<'a, R: Feed, W: Outlet>(
     output: &mut W,
 ) -> Result<(), Failure<'a>>
     ensures is_free { run_answer result ≢ Err NotFree }
-    ensures runs { Served (run_answer result) (beginning indexes.now labels)
+    ensures runs { Served (run_answer result) (beginning indexes.now labels) (R.received input.old) (R.received input.new)
         (R.left input.old) (R.left input.new) (W.written output.old) (W.written output.new) }
     ensures end { OnOk result (IsAtEnd (R.left input.new)) }
     ensures ends { R.ends input.new ≡ R.ends input.old + ends_of (run_answer result) }

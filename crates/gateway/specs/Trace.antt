@@ -193,9 +193,10 @@ TracesText (Err Write) read rest old new before after = StopsInPrint [] read (λ
 TracesText (Err TooManyReads) read rest old new before after = PlaysLines (complete [] read) old new before after
 TracesText (Err OutOfMemory) read rest old new before after = StopsForMemory [] read old new before after
 
--- text was read and played
-abbrev pub Traces : {A : Type 0} → Result A TraceFault → Traffic → Traffic → Option (List ℕ) → Option (List ℕ) → Option (List ℕ) → Option (List ℕ) → Type 0
-Traces r old new left rest before after = (read : List ℕ) × Consumes left rest read × TracesText r read rest old new before after
+-- text was read, which is what the reader's reads returned, and played
+abbrev pub Traces : {A : Type 0} → Result A TraceFault → Traffic → Traffic → List ℕ → List ℕ → Option (List ℕ) → Option (List ℕ) → Option (List ℕ) → Option (List ℕ) → Type 0
+Traces r old new had has left rest before after =
+    (read : List ℕ) × (has ≡ had ++ read) × Consumes left rest read × TracesText r read rest old new before after
 
 -- ---- the devices' numbers, by a trace's answer
 

@@ -121,23 +121,25 @@ FeedsAll (Err f) bytes old new before after was is = FeedStops f bytes old new b
 -- ---- reads of a trace
 
 -- bytes were read and fed
-pub record ReadsOn (old new : Traffic) (left rest before after : Option (List ℕ)) (was is : TracePlace) : Type 0 where
+pub record ReadsOn (old new : Traffic) (had has : List ℕ) (left rest before after : Option (List ℕ)) (was is : TracePlace) : Type 0 where
   pub read : List ℕ
+  pub received : has ≡ had ++ read
   pub consumes : Consumes left rest read
   pub feeds : Feeds read old new before after was is
 
 -- bytes were read, and feeding them stopped
-pub record ReadStops (f : TraceFault) (old new : Traffic) (left rest before after : Option (List ℕ)) (was : TracePlace) : Type 0 where
+pub record ReadStops (f : TraceFault) (old new : Traffic) (had has : List ℕ) (left rest before after : Option (List ℕ)) (was : TracePlace) : Type 0 where
   pub read : List ℕ
+  pub received : has ≡ had ++ read
   pub consumes : Consumes left rest read
   pub stops : FeedStops f read old new before after was
 
 -- by the answer
-abbrev pub ReadsBy : {A : Type 0} → Result A TraceFault → Traffic → Traffic → Option (List ℕ) → Option (List ℕ) → Option (List ℕ) → Option (List ℕ) → TracePlace → TracePlace → Type 0
-ReadsBy (Ok x) old new left rest before after was is = ReadsOn old new left rest before after was is
-ReadsBy (Err fault.Read) old new left rest before after was is = ReadsOn old new left rest before after was is
-ReadsBy (Err fault.TooManyReads) old new left rest before after was is = ReadsOn old new left rest before after was is
-ReadsBy (Err f) old new left rest before after was is = ReadStops f old new left rest before after was
+abbrev pub ReadsBy : {A : Type 0} → Result A TraceFault → Traffic → Traffic → List ℕ → List ℕ → Option (List ℕ) → Option (List ℕ) → Option (List ℕ) → Option (List ℕ) → TracePlace → TracePlace → Type 0
+ReadsBy (Ok x) old new had has left rest before after was is = ReadsOn old new had has left rest before after was is
+ReadsBy (Err fault.Read) old new had has left rest before after was is = ReadsOn old new had has left rest before after was is
+ReadsBy (Err fault.TooManyReads) old new had has left rest before after was is = ReadsOn old new had has left rest before after was is
+ReadsBy (Err f) old new had has left rest before after was is = ReadStops f old new had has left rest before after was
 
 -- how many of the reads reported the end: of one read, and of all
 abbrev pub read_ends : Result Progress TraceFault → ℕ

@@ -37,7 +37,8 @@ pub fn trace<R: Feed, W: Outlet>(
     reader: &mut R,
     writer: &mut W,
 ) -> Result<(), TraceFault>
-    ensures traces { Traces result gateway.old gateway.new (R.left reader.old) (R.left reader.new) (W.written writer.old) (W.written writer.new) }
+    ensures traces { Traces result gateway.old gateway.new (R.received reader.old) (R.received reader.new)
+        (R.left reader.old) (R.left reader.new) (W.written writer.old) (W.written writer.new) }
     ensures end { OnOk result (IsAtEnd (R.left reader.new)) }
     ensures ends { EndsOnce result (R.ends reader.old) (R.ends reader.new) }
     ensures reads { IsReadSoFar result (R.reads reader.old) (R.reads reader.new) }

@@ -25,6 +25,8 @@ impl<'a> StoppingFeed<'a> {
 }
 
 impl<'a> Feed for StoppingFeed<'a> {
+    ghost received = { λ d. ⟦<MemFeed<'a> as Feed>⟧.received d.bytes };
+
     ghost left = { λ d. ⟦<MemFeed<'a> as Feed>⟧.left d.bytes };
 
     ghost reads = { λ d. ⟦<MemFeed<'a> as Feed>⟧.reads d.bytes + ⟦<MemFeed<'a> as Feed>⟧.reads d.failed };

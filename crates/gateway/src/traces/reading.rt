@@ -20,7 +20,8 @@ pub(super) fn read_lines<R: Feed, W: Outlet>(
     writer: &mut W,
 ) -> Result<(), TraceFault>
     requires { place.old.number ≡ 1 }
-    ensures reads_by { ReadsBy result gateway.old gateway.new (R.left reader.old) (R.left reader.new) (W.written writer.old) (W.written writer.new) place.old place.new }
+    ensures reads_by { ReadsBy result gateway.old gateway.new (R.received reader.old) (R.received reader.new)
+        (R.left reader.old) (R.left reader.new) (W.written writer.old) (W.written writer.new) place.old place.new }
     ensures end { OnOk result (IsAtEnd (R.left reader.new)) }
     ensures ends { R.ends reader.new ≡ R.ends reader.old + all_read_ends result }
     ensures reads { IsReadSoFar result (R.reads reader.old) (R.reads reader.new) }
@@ -50,7 +51,8 @@ fn read_once<R: Feed, W: Outlet>(
 ) -> Result<Progress, TraceFault>
     requires room { 0 < length buffer.old }
     requires number { place.old.number + length buffer.old < 2 ^ 64 }
-    ensures reads_by { ReadsBy result gateway.old gateway.new (R.left reader.old) (R.left reader.new) (W.written writer.old) (W.written writer.new) place.old place.new }
+    ensures reads_by { ReadsBy result gateway.old gateway.new (R.received reader.old) (R.received reader.new)
+        (R.left reader.old) (R.left reader.new) (W.written writer.old) (W.written writer.new) place.old place.new }
     ensures end { IfOk result (λ progress. EndsAt progress (R.left reader.new)) }
     ensures ends { R.ends reader.new ≡ R.ends reader.old + read_ends result }
     ensures reads { R.reads reader.new ≡ R.reads reader.old + 1 }

@@ -3,7 +3,7 @@ use Rattle.connections.proofs.serve.pump.Given as goal
 
 abbrev pub invariant-loop : goal.invariant-loop
 invariant-loop g l = record {
-  pumped : Pumped l.c l.initial.gateway l.gateway (g.R.Feed.left l.initial.reader) (g.R.Feed.left l.reader)
+  pumped : Pumped l.c l.initial.gateway l.gateway (g.R.Feed.received l.initial.reader) (g.R.Feed.received l.reader) (g.R.Feed.left l.initial.reader) (g.R.Feed.left l.reader)
       (g.W.Outlet.written l.initial.writer) (g.W.Outlet.written l.writer);
   ends : g.R.Feed.ends l.reader ≡ g.R.Feed.ends l.initial.reader;
   reads : g.R.Feed.reads l.reader ≡ g.R.Feed.reads l.initial.reader + l.counter;

@@ -3,7 +3,7 @@ use Rattle.gateway.proofs.traces.reading.read_lines.Given as goal
 
 abbrev pub invariant-loop : goal.invariant-loop
 invariant-loop g l = record {
-  on : ReadsOn l.initial.gateway l.gateway (g.R.Feed.left l.initial.reader) (g.R.Feed.left l.reader)
+  on : ReadsOn l.initial.gateway l.gateway (g.R.Feed.received l.initial.reader) (g.R.Feed.received l.reader) (g.R.Feed.left l.initial.reader) (g.R.Feed.left l.reader)
       (g.W.Outlet.written l.initial.writer) (g.W.Outlet.written l.writer) l.initial.place l.place;
   number : l.place.number ≤ 1 + 4096 * l.counter;
   ends : g.R.Feed.ends l.reader ≡ g.R.Feed.ends l.initial.reader;
