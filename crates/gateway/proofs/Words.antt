@@ -1,8 +1,11 @@
 -- Words of a trace line.
-use Rattle.std.proofs.Common.{◌≡◌, ◌≢◌, ℕ, zero, suc, ◌+◌, ◌<◌, ◌==◌, Bool, true, false, List, [], ◌∷◌, length, take, drop, slice_index, MatchOption, Option, None, Some, if◌then◌else◌, refl, sym, ap, ◌∙◌, arith}
+use Rattle.std.proofs.Common.{◌≡◌, ◌≢◌, ℕ, zero, suc, ◌+◌, ◌<◌, ◌==◌, Bool, true, false, List, [], ◌∷◌, length, take, drop, slice_index, MatchOption, Option, None, Some, Result, Ok, Err, if◌then◌else◌, refl, sym, ap, ◌∙◌, subst, arith}
 use Rattle.gateway.proofs.Prelude.{decimal, bytes_eq, before_space, after_space, number_below, number_in}
 use Rattle.std.proofs.lemmas.Bool.{false_from_ne_true}
-use Rattle.std.proofs.lemmas.Fmt.{decimal_injective}
+use Rattle.std.proofs.lemmas.Fmt.{decimal_injective, parse-decimal, IsAscii-decimal}
+use Rattle.std.proofs.lemmas.Str.{IsUtf8-from_ascii}
+use Rattle.std.specs.Str.{IsUtf8}
+use Rattle.std.specs.Str.Parse.{ParsesUnsigned}
 use Rattle.std.proofs.lemmas.Slice.Eq.{bytes_eq-Decides}
 use Rattle.memchr.specs.Find.{IsFirstByte, is_byte}
 
@@ -56,6 +59,25 @@ found_below n (suc k) word small most is =
 pub no_number : (word : List ℕ) → ((m : ℕ) → m < 256 → bytes_eq (decimal m) word ≡ false) → None ≡ number_in word
 unfolding number_in
 no_number word h = sym (none_below 256 word h)
+
+-- a word that a number is written as is a text, and parses as that number
+parses : {E : Type 0} (word : List ℕ) (r : Result ℕ E) (m : ℕ) → m < 256 → ParsesUnsigned 8 10 word r → bytes_eq (decimal m) word ≡ true → r ≡ Ok m
+parses word r m small gives is = parse-decimal 8 m word r (omega arith) (omega arith) (sym (written_as m word is)) gives
+
+pub no_text : (word : List ℕ) → ¬ IsUtf8 word → None ≡ number_in word
+no_text word other =
+    no_number word (λ m small. false_from_ne_true _ (λ is. other (subst IsUtf8 (written_as m word is) (IsUtf8-from_ascii (decimal m) (IsAscii-decimal m (omega arith))))))
+
+pub not_parsed : {E : Type 0} (word : List ℕ) (e : E) → ParsesUnsigned 8 10 word (Err e) → None ≡ number_in word
+not_parsed word e gives = no_number word (λ m small. false_from_ne_true _ (λ is. let never = parses word (Err e) m small gives is in cc))
+
+same_number : (E : Type 0) (n m : ℕ) → ◌≡◌ {A = Result ℕ E} (Ok n) (Ok m) → n ≡ m
+same_number E n m e = cc
+
+pub other_parsed : {E : Type 0} (word : List ℕ) (r : Result ℕ E) (n : ℕ) → r ≡ Ok n → ParsesUnsigned 8 10 word r → bytes_eq (decimal n) word ≡ false → None ≡ number_in word
+other_parsed {E} word r n parsed gives different = no_number word (λ m small. false_from_ne_true _ (λ is.
+    let one = same_number E n m (sym parsed ∙ parses word r m small gives is) in
+    let never : false ≡ true = sym different ∙ ap (λ k. bytes_eq (decimal k) word) one ∙ is in cc))
 
 pub this_number : (n : ℕ) (word : List ℕ) → n < 256 → bytes_eq (decimal n) word ≡ true → Some n ≡ number_in word
 unfolding number_in

@@ -10,12 +10,10 @@ use base64::engine::general_purpose::STANDARD;
 use itoa::Buffer;
 use memchr::memchr;
 use std::alloc::{AllocError, Global};
+use std::str;
 
 /// The most bytes of a line that isn't skipped, its line feed left out.
 pub(super) const TRACE_LIMIT: usize = 6_291_456;
-
-/// How many numbers a trace may name: 0 to 255.
-const NUMBERS: u16 = 256;
 
 /// An event of a trace, on the connection of this number.
 #[derive(Drop)]
@@ -95,20 +93,22 @@ fn decoded(alloc: Global, text: &[u8]) -> Result<Option<Vec<u8>>, AllocError>
     }
 }
 
-/// The number whose decimal digits the word is, without leading zeros.
+/// The number whose decimal digits the word is. A sign and leading zeros are parsed too, but the number
+/// isn't written so.
 fn number(word: &[u8]) -> Option<u8>
     ensures { result ≡ number_in word.now }
 {
-    for n in 0..NUMBERS {
-        if is_decimal(n, word) {
-            return Some(n as u8);
-        }
-    }
-    None
+    let Ok(text) = str::from_utf8(word) else {
+        return None;
+    };
+    let Ok(n) = u8::from_str_radix(text, 10) else {
+        return None;
+    };
+    if is_decimal(n, word) { Some(n) } else { None }
 }
 
 /// Whether the word is this number in decimal.
-fn is_decimal(n: u16, word: &[u8]) -> bool
+fn is_decimal(n: u8, word: &[u8]) -> bool
     ensures { result ≡ bytes_eq (decimal n) word.now }
 {
     Buffer::new().format(n).as_bytes() == word
