@@ -1,2 +1,1 @@
-mod FreeConnection
 mod Streams

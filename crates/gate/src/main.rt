@@ -6,7 +6,6 @@ mod failure;
 mod labels;
 mod perform;
 mod replay;
-mod serve;
 mod stdio;
 mod text_outlet;
 

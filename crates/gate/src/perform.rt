@@ -4,30 +4,31 @@ use crate::beginning::beginning;
 use crate::failure::Failure;
 use crate::labels::{labels_in, names};
 use crate::replay::replay;
-use crate::serve::{ServeFault, serve};
 use crate::stdio::serve_stdio;
 use crate::text_outlet::TextOutlet;
 use command_line::{Job, Limits, Listening, Place, Sources, job_of};
 use enc_names::Labels;
-use gateway::{Feed, Outlet};
+use gateway::{CONNECTIONS, Feed, Outlet};
 use index_files::indexes_in;
 use index_loader::Indexes;
-use serving::{ServingFault, serve_clients};
+use serving::{Refusal, ServingFault, serve_clients};
 use sessions::Sessions;
 use std::alloc::Global;
 use std::fs::{File, Files};
-use std::net::{Net, TcpListener, TcpStream};
+use std::net::Net;
 use std::time::Clock;
 
 /// Runs the program's words, with `input` as standard input, `output` as standard output and
 /// `error` as standard error, and returns the exit status. The program's name isn't one of the
 /// words. A text that can't be written to `error` changes no status.
-pub fn perform<
-    T: Files<File = File> + Net<Listener = TcpListener, Stream = TcpStream> + Clock,
-    R: Feed,
-    W: Outlet,
-    E: Outlet,
->(rt: &T, alloc: Global, words: &[String], input: &mut R, output: &mut W, error: &mut E) -> u8 {
+pub fn perform<T: Files<File = File> + Net + Clock, R: Feed, W: Outlet, E: Outlet>(
+    rt: &T,
+    alloc: Global,
+    words: &[String],
+    input: &mut R,
+    output: &mut W,
+    error: &mut E,
+) -> u8 {
     match attempt(rt, alloc, words, input, output) {
         Ok(()) => 0,
         Err(failure) => {
@@ -38,12 +39,7 @@ pub fn perform<
 }
 
 /// Reads the command line first, then the files, and then serves.
-fn attempt<
-    'a,
-    T: Files<File = File> + Net<Listener = TcpListener, Stream = TcpStream> + Clock,
-    R: Feed,
-    W: Outlet,
->(
+fn attempt<'a, T: Files<File = File> + Net + Clock, R: Feed, W: Outlet>(
     rt: &T,
     alloc: Global,
     words: &'a [String],
@@ -58,8 +54,13 @@ fn attempt<
         Job::Plain => serve_plain(alloc, input, output)?,
         Job::Stdio(sources) => serve_input(rt, alloc, sources, input, output)?,
         Job::Trace(sources) => replay_input(rt, alloc, sources, input, output)?,
-        Job::Tcp(sources, listening) => listen(rt, alloc, sources, listening)?,
-        Job::Serve(sources, place, limits) => serve_live(rt, alloc, sources, place, limits)?,
+        Job::Tcp(sources, listening) => {
+            let place = Place::Port(listening.port);
+            serve_live(rt, alloc, sources, place, one_by_one(listening))?
+        }
+        Job::Serve(sources, place, limits) => {
+            serve_live(rt, alloc, sources, place, at_once(limits))?
+        }
     }
     Ok(())
 }
@@ -104,26 +105,6 @@ fn replay_input<'a, T: Files, R: Feed, W: Outlet>(
     replay(alloc, &indexes, labels, input, output)
 }
 
-/// Listens on a port of 127.0.0.1, and serves connections over the files that are named, from no
-/// document on.
-#[inline(never)]
-fn listen<'a, T: Files + Net<Listener = TcpListener, Stream = TcpStream>>(
-    rt: &T,
-    alloc: Global,
-    sources: Sources<'a>,
-    listening: Listening,
-) -> Result<(), Failure<'a>> {
-    let (indexes, labels) = files_of(rt, alloc, sources)?;
-    let mut gateway = beginning(alloc, &indexes, labels);
-    let Ok(listener) = TcpListener::bind(rt, ("127.0.0.1", listening.port)) else {
-        return Err(Failure::CannotListen(listening.port));
-    };
-    match serve(&listener, &mut gateway, listening.connections) {
-        Ok(()) => Ok(()),
-        Err(ServeFault::Accept) => Err(Failure::Accept),
-    }
-}
-
 /// Serves live clients over the files that are named, from no document on.
 #[inline(never)]
 fn serve_live<'a, T: Files<File = File> + Net + Clock>(
@@ -131,19 +112,36 @@ fn serve_live<'a, T: Files<File = File> + Net + Clock>(
     alloc: Global,
     sources: Sources<'a>,
     place: Place<'a>,
-    limits: Limits,
+    limits: serving::Limits,
 ) -> Result<(), Failure<'a>> {
     let (indexes, labels) = files_of(rt, alloc, sources)?;
     let mut sessions = Sessions::new(alloc, beginning(alloc, &indexes, labels));
-    let limits = serving::Limits {
-        clients: limits.clients,
-        idle: limits.idle,
-    };
     match serve_clients(rt, alloc, &mut sessions, served_at(place), limits) {
         Ok(()) => Ok(()),
         Err(ServingFault::Listen) => Err(cannot_listen(place)),
+        Err(ServingFault::Accept) => Err(Failure::Accept),
         Err(ServingFault::Poll) => Err(Failure::Poll),
         Err(ServingFault::OutOfMemory) => Err(Failure::OutOfMemory),
+    }
+}
+
+/// One client after another, so many in all, until one can't be let in.
+fn one_by_one(listening: Listening) -> serving::Limits {
+    serving::Limits {
+        places: 1,
+        clients: Some(listening.connections),
+        idle: None,
+        refusal: Refusal::End,
+    }
+}
+
+/// As many clients at once as there are connections.
+fn at_once(limits: Limits) -> serving::Limits {
+    serving::Limits {
+        places: CONNECTIONS as u8,
+        clients: limits.clients,
+        idle: limits.idle,
+        refusal: Refusal::Retry,
     }
 }
 

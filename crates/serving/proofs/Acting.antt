@@ -1,11 +1,12 @@
 -- Acts in a row.
-use Rattle.std.proofs.Common.{◌≡◌, ℕ, ◌==◌, Bool, true, false, ◌&&◌, List, [], ◌∷◌, ◌++◌, Option, None, Some, refl, ap, subst, sym, arith}
+use Rattle.std.proofs.Common.{◌≡◌, ◌≢◌, ℕ, ◌==◌, Bool, true, false, ◌&&◌, List, [], ◌∷◌, ◌++◌, Option, None, Some, refl, ap, ◌∙◌, subst, sym, inl, inr, arith}
 use Rattle.std.specs.Option.{IsSome, is_some}
 use Rattle.sessions.specs.Sessions.{Client, Hall, client_at, Act, Joins, Sends, Asks, Gets, Leaves, Did}
-use Rattle.sessions.specs.Advances.{is_step_of, are_steps_of, Advanced}
+use Rattle.sessions.specs.Advances.{is_step_of, are_steps_of, Advanced, Moves}
 use Rattle.sessions.specs.Reaching.{ActsInARow}
 use Rattle.sessions.specs.declared.sessions.Advance.{Advance}
-use Rattle.serving.specs.Acting.{is_act_of, are_acts_of, ByActsOf, ByActs}
+use Rattle.sessions.specs.declared.sessions.Advance.TheVariants.{Moved}
+use Rattle.serving.specs.Acting.{is_act_of, are_acts_of, ByActsOf, ActedOf, ByActs}
 
 -- ---- acts of one client
 
@@ -66,6 +67,17 @@ left_by : ActsInARow → (c : ℕ) (old mid new : Hall) (x : Option Client) → 
 left_by row c old mid new None e before gone none = subst (λ h. ByActsOf c old h) (sym (none e)) before
 left_by row c old mid new (Some client) e before gone none =
     then_acts row c old mid new (Leaves c ∷ []) (own_leave c) before (gone (ap is_some e))
+
+moves_some : (c : ℕ) (acts : List Act) → Moves c acts → acts ≢ []
+moves_some c acts (inl gets) none = let never = sym gets.1 ∙ none in cc
+moves_some c acts (inr (inl asks)) none = let never = sym asks ∙ none in cc
+moves_some c acts (inr (inr sends)) none = let never = sym sends.1 ∙ none in cc
+
+-- one step that moved
+pub acted : (answer : Advance) (c : ℕ) (old new : Hall) (received_old received_new sent_old sent_new : List ℕ) → Advanced answer c old new received_old received_new sent_old sent_new → answer ≡ Moved
+    → ActedOf c old new
+acted answer c old new received_old received_new sent_old sent_new step is =
+    record { acts = step.acts; some = moves_some c step.acts (step.moved is); own = acts_of_steps c step.acts step.own; did = step.did }
 
 -- and then the client is gone
 pub then_left : ActsInARow → (c : ℕ) (old mid new : Hall) → ByActsOf c old mid → (IsSome (client_at mid c) → Did mid (Leaves c ∷ []) new) → (client_at mid c ≡ None → new ≡ mid) → ByActsOf c old new

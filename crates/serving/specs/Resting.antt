@@ -1,14 +1,15 @@
--- When a server has nothing to do but wait: each client waits for its socket, and whoever isn't let in has to wait.
+-- When a server has nothing to do but wait: each client waits for its socket, and whoever isn't let in has to wait. And what it means that a client doesn't.
 use Rattle.std.specs.Prelude.{◌≡◌, ◌≢◌, ◌⊎◌, ℕ, ◌<◌, ◌≤◌, true, false, Option, None, Some, IsSome, slice_index_or}
 use Rattle.std.specs.Duration.{as_nanos}
 use Rattle.connections.specs.Events.{connections}
-use Rattle.sessions.specs.Sessions.{Client, Hall, client_at}
+use Rattle.sessions.specs.Sessions.{AreTaken, Client, Hall, client_at}
 use Rattle.sessions.specs.Advances.{Rests}
 use Rattle.serving.specs.declared.peer.Peer.{Peer}
 use Rattle.serving.specs.declared.peers.Peers.{Peers}
 use Rattle.serving.specs.declared.server.Next.{Next}
-use Rattle.serving.specs.declared.server.Next.TheVariants.{Wait, End}
+use Rattle.serving.specs.declared.server.Next.TheVariants.{Wait, End, GiveUp}
 use Rattle.serving.specs.declared.server.Server.{Server}
+use Rattle.serving.specs.Acting.{ActedOf}
 
 -- ---- clients
 
@@ -30,14 +31,19 @@ pub record OthersKept (c : ℕ) (old_peers new_peers : Peers) (old new : Hall) :
   pub clients : (d : ℕ) → d ≢ c → client_at new d ≡ client_at old d
   pub peers : (d : ℕ) → d ≢ c → peer_at new_peers d ≡ peer_at old_peers d
 
--- ---- who isn't let in
+-- A client made progress: it sent, was answered or left, or its socket is gone. So a server can't go round for nothing.
+abbrev pub Progresses : ℕ → Peers → Peers → Hall → Hall → Type 0
+Progresses c old_peers new_peers old new = ActedOf c old new ⊎ (IsSome (peer_at old_peers c) × (peer_at new_peers c ≡ None))
 
-abbrev pub IsFull : Hall → Type 0
-IsFull h = (c : ℕ) → c < connections → IsSome (client_at h c)
+-- no client has a socket
+abbrev pub AreNone : Peers → Type 0
+AreNone peers = (c : ℕ) → c < connections → peer_at peers c ≡ None
+
+-- ---- who isn't let in
 
 -- None waits at the listener, no more are to come, one is to be tried again, or each place is taken.
 abbrev pub NoMore : Server → Hall → Type 0
-NoMore server h = (server.is_asked ≡ false) ⊎ (server.left ≡ Some 0) ⊎ (server.is_refused ≡ true) ⊎ IsFull h
+NoMore server h = (server.is_asked ≡ false) ⊎ (server.left ≡ Some 0) ⊎ (server.is_refused ≡ true) ⊎ AreTaken server.places h
 
 -- nothing can be done before the system reports something new
 pub record AllRest (server : Server) (h : Hall) : Type 0 where
@@ -51,3 +57,4 @@ abbrev pub WaitsAtMost : ℕ → Next → Type 0
 WaitsAtMost most (Wait (Some time)) = as_nanos time ≤ most
 WaitsAtMost most (Wait None) = ⊥
 WaitsAtMost most End = Unit {0}
+WaitsAtMost most GiveUp = Unit {0}

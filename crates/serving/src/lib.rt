@@ -12,4 +12,4 @@ mod socket_file;
 
 pub use listener::Place;
 pub use serve::{ServingFault, serve_clients};
-pub use server::Limits;
+pub use server::{Limits, Refusal};

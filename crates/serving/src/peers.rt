@@ -1,7 +1,7 @@
 //! The sockets of the clients, by their numbers.
-ghost use Rattle.std.specs.Prelude.{◌≡◌, ◌<◌, None, Some, length, slice_set};
+ghost use Rattle.std.specs.Prelude.{◌≡◌, ◌<◌, None, Some, length, slice_set, true};
 ghost use Rattle.connections.specs.Events.{connections};
-ghost use Rattle.serving.specs.Resting.{peer_at};
+ghost use Rattle.serving.specs.Resting.{AreNone, peer_at};
 
 use crate::peer::Peer;
 use connections::CONNECTIONS;
@@ -25,8 +25,15 @@ impl Peers {
     }
 
     /// Whether no client is connected.
-    pub fn are_none(&self) -> bool {
-        self.peers.iter().all(|peer| peer.is_none())
+    pub fn are_none(&self) -> bool
+        ensures { result ≡ true → AreNone self.now }
+    {
+        for c in 0..CONNECTIONS {
+            if self.peers[c].is_some() {
+                return false;
+            }
+        }
+        true
     }
 
     /// Takes the socket at a number out, if there is one.

@@ -6,7 +6,7 @@ use crate::server::{Limits, Server};
 use sessions::{Sessions, law_acts_in_a_row};
 use std::alloc::Global;
 use std::fs::{File, Files};
-use std::io::{self, ErrorKind};
+use std::io::{Error, ErrorKind};
 use std::net::Net;
 use std::time::Clock;
 
@@ -15,18 +15,21 @@ use std::time::Clock;
 pub enum ServingFault {
     /// The place can't be listened at, or another server listens there.
     Listen,
+    /// A client can't be let in, and none is tried again.
+    Accept,
     /// The system doesn't report what is new.
     Poll,
     /// Memory ran out before the first client.
     OutOfMemory,
 }
 
-/// Serves clients at a place, up to as many at once as there are connections; others wait. A socket's
-/// file is removed at the end, but for one by a signal.
+/// Serves clients at a place, as many at once as the limits say; others wait. A socket's file is removed
+/// at the end, but for one by a signal.
 ///
 /// # Errors
 ///
-/// It can't listen there, and has left all as it was; or the system reports no events.
+/// It can't listen there, and has left all as it was; a client can't be let in, where that ends it; or
+/// the system reports no events.
 pub fn serve_clients<R: Files<File = File> + Net + Clock>(
     rt: &R,
     alloc: Global,
@@ -43,13 +46,10 @@ pub fn serve_clients<R: Files<File = File> + Net + Clock>(
     };
     let served = match Server::new(rt, alloc, &mut listener, limits) {
         Ok(server) => run(rt, &listener, sessions, server),
-        Err(error) => Err(error),
+        Err(error) => Err(fault_of(&error, ServingFault::Poll)),
     };
     listener.close(rt, place);
-    match served {
-        Ok(()) => Ok(()),
-        Err(error) => Err(fault_of(&error, ServingFault::Poll)),
-    }
+    served
 }
 
 /// Runs a server to its end.
@@ -58,7 +58,7 @@ fn run<K: Clock>(
     listener: &Listener,
     sessions: &mut Sessions<'_>,
     server: Server,
-) -> io::Result<()>
+) -> Result<(), ServingFault>
     ensures acts { ByActs sessions.old sessions.new }
 {
     let mut server = server;
@@ -66,7 +66,7 @@ fn run<K: Clock>(
 }
 
 /// What an error of the system is: memory ran out, or else this.
-fn fault_of(error: &io::Error, other: ServingFault) -> ServingFault {
+pub fn fault_of(error: &Error, other: ServingFault) -> ServingFault {
     match error.kind() {
         ErrorKind::OutOfMemory => ServingFault::OutOfMemory,
         _ => other,

@@ -1,15 +1,16 @@
 //! The loop: who takes a step, and when there is nothing to do but wait.
-ghost use Rattle.std.specs.Prelude.{◌≡◌, ◌⊎◌, ◌*◌, ◌<◌, ◌≤◌, true, false, IfOk, IsNone};
+ghost use Rattle.std.specs.Prelude.{◌≡◌, ◌≢◌, ◌⊎◌, ◌*◌, ◌<◌, ◌≤◌, true, false, IfOk, OnOk, IsNone};
 ghost use Rattle.std.specs.Duration.{as_nanos};
 ghost use Rattle.connections.specs.Events.{connections};
 ghost use Rattle.sessions.specs.Sessions.{client_at};
 ghost use Rattle.serving.specs.declared.server.TheConstants.{RETRY_SECONDS};
 ghost use Rattle.serving.specs.Acting.{ByActs, ByActsOf};
-ghost use Rattle.serving.specs.Resting.{AllRest, NoMore, OthersKept, RestBelow, RestsOn, WaitsAtMost, peer_at};
+ghost use Rattle.serving.specs.Resting.{AllRest, AreNone, NoMore, OthersKept, Progresses, RestBelow, RestsOn, WaitsAtMost, peer_at};
 
 use crate::listener::Listener;
 use crate::peer::Peer;
 use crate::peers::Peers;
+use crate::serve::{ServingFault, fault_of};
 use connections::CONNECTIONS;
 use mio::{Events, Poll, Token};
 use sessions::{Advance, JoinFault, Sessions, law_acts_in_a_row};
@@ -30,13 +31,27 @@ const ROUNDS: u32 = 4;
 /// After how many seconds a client that couldn't be let in is let in again.
 const RETRY_SECONDS: u64 = 1;
 
-/// When a server ends by itself. Without a limit it goes on until a signal ends it.
+/// How many clients a server has, and when it ends by itself. Without a limit it goes on until a signal
+/// ends it.
 #[derive(Clone, Copy)]
 pub struct Limits {
-    /// How many clients it serves.
+    /// How many clients it serves at once; of more than there are connections, so many.
+    pub places: u8,
+    /// How many clients it serves in all.
     pub clients: Option<u32>,
     /// How many seconds it waits without a client.
     pub idle: Option<u32>,
+    /// What follows where a client can't be let in although there is a place.
+    pub refusal: Refusal,
+}
+
+/// What follows where a client can't be let in although there is a place, as without a free descriptor.
+#[derive(Clone, Copy)]
+pub enum Refusal {
+    /// The client is tried again within a second.
+    Retry,
+    /// Serving ends.
+    End,
 }
 
 /// What the loop does after its rounds.
@@ -45,6 +60,8 @@ enum Next {
     Wait(Option<Duration>),
     /// Ends.
     End,
+    /// Ends since a client can't be let in.
+    GiveUp,
 }
 
 /// The sockets of the clients that are connected, and what is known of those that wait.
@@ -57,6 +74,10 @@ pub struct Server {
     is_asked: bool,
     /// Whether one waits that couldn't be let in although there is a place.
     is_refused: bool,
+    /// How many clients it serves at once.
+    places: u8,
+    /// What follows where one can't be let in.
+    refusal: Refusal,
     /// How many more clients are let in, if there is a limit.
     left: Option<u32>,
     /// How long no client may be there, if there is a limit.
@@ -82,20 +103,24 @@ impl Server {
             peers: Peers::new(),
             is_asked: true,
             is_refused: false,
+            places: limits.places,
+            refusal: limits.refusal,
             left: limits.clients,
             idle: seconds(limits.idle),
             alone_since: None,
         })
     }
 
-    /// Serves until the last client has gone, or none has come for too long.
+    /// Serves until the last client has gone, or none has come for too long. It is given up after
+    /// 2^64 - 1 waits.
     pub fn run<K: Clock>(
         &mut self,
         clock: &K,
         listener: &Listener,
         sessions: &mut Sessions<'_>,
-    ) -> io::Result<()>
+    ) -> Result<(), ServingFault>
         ensures acts { ByActs sessions.old sessions.new }
+        ensures end { OnOk result (AreNone self.new.peers) }
     {
         law_acts_in_a_row();
         for _ in 0..u64::MAX {
@@ -103,9 +128,10 @@ impl Server {
             match self.next(clock, busy)? {
                 Next::Wait(most) => self.wait(most)?,
                 Next::End => return Ok(()),
+                Next::GiveUp => return Err(ServingFault::Accept),
             }
         }
-        Ok(())
+        Err(ServingFault::Poll)
     }
 
     /// Goes round until nothing moves, or often enough to ask the system what is new. Returns whether
@@ -152,6 +178,7 @@ impl Server {
     fn step(&mut self, sessions: &mut Sessions<'_>, c: u8) -> bool
         requires { c < connections }
         ensures acts { ByActsOf c sessions.old sessions.new }
+        ensures moved { result ≡ true → Progresses c self.old.peers self.new.peers sessions.old sessions.new }
         ensures rests { result ≡ false → RestsOn (client_at sessions.new c) (peer_at self.new.peers c) }
         ensures others { result ≡ false → OthersKept c self.old.peers self.new.peers sessions.old sessions.new }
         ensures no_more { result ≡ false → NoMore self.old sessions.old → NoMore self.new sessions.new }
@@ -194,7 +221,7 @@ impl Server {
         if !self.is_asked || matches!(self.left, Some(0)) {
             return false;
         }
-        let c = match sessions.join() {
+        let c = match sessions.join(self.places) {
             Ok(c) => c,
             Err(JoinFault::Full) => return false,
             Err(JoinFault::OutOfMemory) => {
@@ -255,13 +282,19 @@ impl Server {
         }
     }
 
-    /// What to do after rounds. Nobody waits where something may still move.
-    fn next<K: Clock>(&mut self, clock: &K, busy: bool) -> io::Result<Next>
+    /// What to do after rounds. Nobody waits where something may still move, and it ends by itself only
+    /// where no client is there.
+    fn next<K: Clock>(&mut self, clock: &K, busy: bool) -> Result<Next, ServingFault>
         ensures awake { busy ≡ true → IfOk result (WaitsAtMost 0) }
         ensures again { self.old.is_refused ≡ true → IfOk result (WaitsAtMost (RETRY_SECONDS * 1_000_000_000)) }
+        ensures end { IfOk result (λ next. next ≡ Next.End → AreNone self.old.peers) }
+        ensures peers { self.new.peers ≡ self.old.peers }
     {
         if busy {
             return Ok(Next::Wait(Some(Duration::from_secs(0))));
+        }
+        if self.is_refused && matches!(self.refusal, Refusal::End) {
+            return Ok(Next::GiveUp);
         }
         if !self.peers.are_none() {
             return Ok(self.patience());
@@ -277,10 +310,13 @@ impl Server {
 
     /// What to do where no client is there, and none may be for so long. Time is read off the clock,
     /// since a wait ends early where the process was stopped in it.
-    fn next_alone<K: Clock>(&mut self, clock: &K, idle: Duration) -> io::Result<Next>
+    fn next_alone<K: Clock>(&mut self, clock: &K, idle: Duration) -> Result<Next, ServingFault>
         ensures again { self.old.is_refused ≡ true → IfOk result (WaitsAtMost (RETRY_SECONDS * 1_000_000_000)) }
+        ensures peers { self.new.peers ≡ self.old.peers }
     {
-        let now = Instant::now(clock)?;
+        let Ok(now) = Instant::now(clock) else {
+            return Err(ServingFault::Poll);
+        };
         let since = self.alone_since.unwrap_or(now);
         self.alone_since = Some(since);
         let rest = idle.saturating_sub(now.saturating_duration_since(since));
@@ -297,6 +333,7 @@ impl Server {
     /// a limit.
     fn patience(&self) -> Next
         ensures again { self.now.is_refused ≡ true → WaitsAtMost (RETRY_SECONDS * 1_000_000_000) result }
+        ensures goes_on { result ≢ Next.End }
     {
         if self.is_refused {
             Next::Wait(Some(retry()))
@@ -306,8 +343,10 @@ impl Server {
     }
 
     /// Waits until something is new, at most so long, and notes what is.
-    fn wait(&mut self, most: Option<Duration>) -> io::Result<()> {
-        self.poll.poll(&mut self.events, most)?;
+    fn wait(&mut self, most: Option<Duration>) -> Result<(), ServingFault> {
+        if let Err(error) = self.poll.poll(&mut self.events, most) {
+            return Err(fault_of(&error, ServingFault::Poll));
+        }
         for event in self.events.iter() {
             if event.token() == LISTENER {
                 self.is_asked = true;

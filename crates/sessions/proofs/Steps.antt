@@ -1,6 +1,6 @@
 -- One act, as a call makes it.
 use Rattle.std.proofs.Common.{lt-ltb, set-set, eq-eqb, ◌≢◌, zero, suc}
-use Rattle.std.proofs.lemmas.List.{take-append-drop}
+use Rattle.std.proofs.lemmas.List.{take-append-drop, length-take}
 use Rattle.devices.specs.declared.reading.TheConstants.{READ_BUFFER}
 use Rattle.sessions.specs.Advances.{Advanced, Moves, are_steps_of}
 use Rattle.sessions.specs.Reaching.{came, went}
@@ -195,9 +195,9 @@ module _ (answer : Advance) (c : ℕ) (old new : Hall) (received_old received_ne
       advanced (Gets c bytes ∷ []) (rw here refl) (λ m. inl (bytes, refl, some m)) did (received ∙ sym (append-nil received_old))
       (sent ∙ ap (λ l. sent_old ++ l) (sym (rw here (append-nil bytes))))
 
-  pub advance_sends : (bytes : List ℕ) → Did old (Sends c bytes ∷ []) new → received_new ≡ received_old ++ bytes → sent_new ≡ sent_old → Advanced answer c old new received_old received_new sent_old sent_new
-  advance_sends bytes did received sent =
-      advanced (Sends c bytes ∷ []) (rw here refl) (λ _. inr (inr (bytes, refl))) did (received ∙ ap (λ l. received_old ++ l) (sym (rw here (append-nil bytes))))
+  pub advance_sends : (bytes : List ℕ) → (answer ≡ Moved → bytes ≢ []) → Did old (Sends c bytes ∷ []) new → received_new ≡ received_old ++ bytes → sent_new ≡ sent_old → Advanced answer c old new received_old received_new sent_old sent_new
+  advance_sends bytes some did received sent =
+      advanced (Sends c bytes ∷ []) (rw here refl) (λ m. inr (inr (bytes, refl, some m))) did (received ∙ ap (λ l. received_old ++ l) (sym (rw here (append-nil bytes))))
       (sent ∙ sym (append-nil sent_old))
 
 -- ---- what a call finds is what its caller promised
@@ -234,3 +234,7 @@ pub take_some : (n : ℕ) (xs : List ℕ) → n ≢ 0 → xs ≢ [] → take n x
 take_some zero xs some more e = some refl
 take_some (suc n) [] some more e = more refl
 take_some (suc n) (x ∷ xs) some more e = cc
+
+-- so many bytes of a buffer, at least one, are some
+pub found_some : (n : ℕ) (xs : List ℕ) → 0 < n → n ≤ length xs → take n xs ≢ []
+found_some n xs some within e = let count = length-take n xs in let none : length (take n xs) ≡ 0 = ap length e in omega (arith, some, within, count, none)

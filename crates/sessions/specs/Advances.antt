@@ -6,9 +6,9 @@ use Rattle.sessions.specs.declared.sessions.Advance.{Advance}
 use Rattle.sessions.specs.declared.sessions.Advance.TheVariants.{Moved}
 use Rattle.sessions.specs.Reaching.{came, went}
 
--- A step moved: bytes went to the client, or what came from it was taken, or it was read from.
+-- A step moved: bytes went to the client, or what came from it was taken, or bytes came from it.
 abbrev pub Moves : ℕ → List Act → Type 0
-Moves c acts = ((bytes : List ℕ) × (acts ≡ Gets c bytes ∷ []) × (bytes ≢ [])) ⊎ (acts ≡ Asks c ∷ []) ⊎ ((bytes : List ℕ) × (acts ≡ Sends c bytes ∷ []))
+Moves c acts = ((bytes : List ℕ) × (acts ≡ Gets c bytes ∷ []) × (bytes ≢ [])) ⊎ (acts ≡ Asks c ∷ []) ⊎ ((bytes : List ℕ) × (acts ≡ Sends c bytes ∷ []) × (bytes ≢ []))
 
 -- client c sends, asks or gets: it doesn't connect or go, and nothing happens to another
 abbrev pub is_step_of : ℕ → Act → Bool

@@ -1,5 +1,5 @@
 -- The clients of a gateway, and what happens to them.
-use Rattle.std.specs.Option.{is_some}
+use Rattle.std.specs.Option.{IsSome, is_some}
 use Rattle.std.specs.Prelude.{◌≡◌, ℕ, ◌<◌, ◌≤◌, List, [], ◌∷◌, ◌++◌, length, drop, Option, Some, None, slice_set}
 use Rattle.devices.specs.declared.reading.TheConstants.{READ_BUFFER}
 use Rattle.connections.specs.Traffic.{Traffic, Received}
@@ -95,6 +95,10 @@ Did old acts new = (es : List Happening) × (replies : List Numbered) × ActAll 
 -- acts led from one hall to the other
 abbrev pub Reaches : Hall → Hall → Type 0
 Reaches old new = (acts : List Act) × Did old acts new
+
+-- Of the first so many numbers each has a client.
+abbrev pub AreTaken : ℕ → Hall → Type 0
+AreTaken places h = (c : ℕ) → c < connections → c < places → IsSome (client_at h c)
 
 -- the client at a number
 pub record Present (h : Hall) (c : ℕ) (client : Client) : Type 0 where

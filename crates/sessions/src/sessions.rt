@@ -1,7 +1,7 @@
 //! The clients of a gateway.
 ghost use Rattle.std.specs.Prelude.{◌≡◌, ◌≢◌, ◌⊎◌, ℕ, ◌<◌, ◌≤◌, List, [], ◌∷◌, length, take, None, Some, Err, replicate, IfOk, OnErr, MatchOption, IsSome, option_map};
 ghost use Rattle.connections.specs.Events.{connections, at_number};
-ghost use Rattle.sessions.specs.Sessions.{Client, Hall, client_at, fresh_client, Joins, Sends, Asks, Gets, Leaves, Did, Present};
+ghost use Rattle.sessions.specs.Sessions.{AreTaken, Client, Hall, client_at, fresh_client, Joins, Sends, Asks, Gets, Leaves, Did, Present};
 ghost use Rattle.sessions.specs.Advances.{Advanced, Rests};
 
 use crate::session::Session;
@@ -14,7 +14,7 @@ use std::marker::Model;
 /// Why a client isn't let in.
 #[derive(Clone, Copy, PartialEq, Eq, Debug)]
 pub enum JoinFault {
-    /// All connections are taken.
+    /// All places are taken.
     Full,
     /// Memory ran out.
     OutOfMemory,
@@ -77,12 +77,15 @@ impl<'i> Sessions<'i> {
         }
     }
 
-    /// The lowest number at which there is no client.
-    fn vacancy(&self) -> Option<u8>
-        ensures { MatchOption result ((c : ℕ) → c < connections → IsSome (client_at self.now c))
-            (λ c. (c < connections) × (client_at self.now c ≡ None)) }
+    /// The lowest number below `places` at which there is no client.
+    fn vacancy(&self, places: u8) -> Option<u8>
+        ensures { MatchOption result (AreTaken places self.now)
+            (λ c. (c < connections) × (client_at self.now c ≡ None) × (c < places)) }
     {
         for c in 0..CONNECTIONS as u8 {
+            if c >= places {
+                return None;
+            }
             if self.slots.at(c).is_none() {
                 return Some(c);
             }
@@ -90,13 +93,14 @@ impl<'i> Sessions<'i> {
         None
     }
 
-    /// Lets a client in, and returns its number.
-    pub fn join(&mut self) -> Result<u8, JoinFault>
+    /// Lets a client in at one of the first `places` numbers, and returns its number.
+    pub fn join(&mut self, places: u8) -> Result<u8, JoinFault>
         ensures joined { IfOk result (λ c. Did self.old (Joins c ∷ []) self.new) }
+        ensures below { IfOk result (λ c. c < places) }
         ensures refused { OnErr result (self.new ≡ self.old) }
-        ensures full { result ≡ Err JoinFault.Full → (c : ℕ) → c < connections → IsSome (client_at self.old c) }
+        ensures full { result ≡ Err JoinFault.Full → AreTaken places self.old }
     {
-        let Some(c) = self.vacancy() else {
+        let Some(c) = self.vacancy(places) else {
             return Err(JoinFault::Full);
         };
         let Ok(session) = Session::new(self.alloc) else {
