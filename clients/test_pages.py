@@ -51,9 +51,9 @@ class Pages(unittest.TestCase):
         _, lines = next(sessions("README.md"))
         self.assertEqual((TOP / "examples" / "change.jsonl").read_text().splitlines(), lines[::2])
 
-    def test_the_session_of_two_clients_is_the_file_that_the_page_names(self):
-        block = re.search(r"^```\n(\d \{.*?)^```$", (TOP / "docs" / "PROTOCOL.md").read_text(encoding="utf-8"), re.MULTILINE | re.DOTALL)
-        self.assertEqual((TOP / "examples" / "two-clients.txt").read_text(encoding="utf-8"), block[1])
+    def test_the_sessions_of_two_clients_are_the_files_that_the_page_names(self):
+        blocks = re.findall(r"^```\n(\d \{.*?)^```$", (TOP / "docs" / "PROTOCOL.md").read_text(encoding="utf-8"), re.MULTILINE | re.DOTALL)
+        self.assertEqual([(TOP / "examples" / it).read_text(encoding="utf-8") for it in ("two-clients.txt", "what-came-since.txt")], blocks[:2])
 
     def test_each_trace(self):
         found = traces("docs/PROTOCOL.md")

@@ -174,15 +174,16 @@ class Together:
         for (command, reply), again in zip(rows, replayed([command for command, _ in rows])):
             self.assertEqual((command, without_number(reply)), (command, without_number(again)))
 
-    def test_the_session_of_two_clients(self):
-        """Each line of the example begins with its client's number; commands and replies alternate."""
-        lines = [it.split(" ", 1) for it in (TOP / "examples" / "two-clients.txt").read_text(encoding="utf-8").splitlines()]
-        with self.clients(self.server(), 2) as clients:
-            for (number, command), (same, reply) in zip(lines[::2], lines[1::2]):
-                self.assertEqual(number, same)
-                client = clients[int(number) - 1]
-                client.send(command.encode() + b"\n")
-                self.assertEqual(client.replies.readline().decode(), reply + "\n")
+    def test_the_sessions_of_two_clients(self):
+        """Each line of an example begins with its client's number; commands and replies alternate."""
+        for example in ("two-clients.txt", "what-came-since.txt"):
+            lines = [it.split(" ", 1) for it in (TOP / "examples" / example).read_text(encoding="utf-8").splitlines()]
+            with self.subTest(example), self.clients(self.server(), 2) as clients:
+                for (number, command), (same, reply) in zip(lines[::2], lines[1::2]):
+                    self.assertEqual(number, same)
+                    client = clients[int(number) - 1]
+                    client.send(command.encode() + b"\n")
+                    self.assertEqual(client.replies.readline().decode(), reply + "\n")
 
     def test_a_document_of_one_client_is_there_for_another(self):
         with self.clients(self.server(), 2) as (one, other):

@@ -70,6 +70,19 @@ def by_parts(size, last):
     return b"\n".join(lines), b"\n".join(replies[:-1] + [last or replies[-1]])
 
 
+def since(rev, more=b""):
+    return b'{"id":1,"op":"since","doc":"kept","rev":%s%s}' % (rev, more)
+
+
+def after_edits(count, rev, last):
+    """Lines that open a document, edit it so many times and ask what came since a revision, and their replies, of which the
+    last is given."""
+    splices = [b'{"id":1,"op":"splice","doc":"new","rev":%d,"at":0,"del":0,"bytes":""}' % it for it in range(count)]
+    lines = [opens(b"4oJB"), *splices, since(b"%d" % rev).replace(b"kept", b"new")]
+    replies = [OPENED_1.replace(b'"rev":0', b'"rev":%d' % it) for it in range(count + 1)]
+    return b"\n".join(lines), b"\n".join([*replies, last])
+
+
 def zeros(count):
     return base64.b64encode(b"\0" * count)
 
@@ -137,6 +150,14 @@ LINES = [
     ("a mark kept at 100 levels", opens(b"77u/", more=b',"bom":%s"keep"%s' % (b"[" * 100, b"]" * 100)), bad("bom", 1)),
     ("a mark of null, beside base64 that is none", opens(b"Q", more=b',"bom":null'), bad("bom", 1)),
     ("a mark kept, in an encoding that isn't the mark's", opens(b"77u/", label=b"utf-16be", more=b',"bom":"keep"'), b'{"bom":0,"encoding":"UTF-16BE","id":1,"rev":0}'),
+    ("a revision that is to come", since(b"1"), fault(b"OutOfRange")),
+    ("a revision of 2^53 - 1, in units of a megabyte", since(b"9007199254740991", b',"unit":"%s"' % (b"utf-8" * (1 << 18))), bad("unit", 1)),
+    ("a revision of 2^53", since(b"9007199254740992"), bad("rev", 1)),
+    ("a revision of -0", since(b"-0"), bad("rev", 1)),
+    ("positions in bytes", since(b"0", b',"unit":"byte"'), bad("unit", 1)),
+    ("positions at 100 levels", since(b"0", b',"unit":%s"utf-8"%s' % (b"[" * 100, b"]" * 100)), bad("unit", 1)),
+    ("what came since 1,024 edits", *after_edits(1024, 0, b'{"at":0,"del":0,"id":1,"ins":0,"rev":1024}')),
+    ("what came since 1,025 edits", *after_edits(1025, 0, b'{"fault":"Forgotten","id":1,"rev":1}')),
     ("a list of 1,001 changes", changes(b'{"text":"x"}', 1001), bad("changes", 1)),
     ("a list of a million numbers", changes(b"0", 1000000), bad("changes", 1)),
     ("a list of 1,000 changes, of which the last is none", changes(b'{"text":"x"}', 999, b"{}"), bad("changes", 1)),

@@ -73,6 +73,13 @@ impl Fields {
         )
     }
 
+    fn since(self, alloc: Global, more: &str) -> Result<String, AllocError> {
+        let Fields { id, doc, rev, .. } = self;
+        format!(in alloc;
+            "{{\"id\":{id},\"op\":\"since\",\"doc\":\"{doc}\",\"rev\":{rev}{more}}}\n"
+        )
+    }
+
     /// The range of a change, in its first line.
     fn range(self, alloc: Global) -> Result<String, AllocError> {
         let Fields { at, del, .. } = self;
@@ -112,6 +119,9 @@ const BOMS: [&'static str; 4] = [
     ",\"bom\":null",
 ];
 
+/// What a `since` may say of a unit: nothing, or one.
+const UNITS: [&'static str; 2] = ["", ",\"unit\":\"utf-16\""];
+
 /// A line with its line feed that is no command.
 fn no_command(alloc: Global, rng: &mut SmallRng) -> Result<String, AllocError> {
     let line = one_of(rng, &["\n", "[]\r\n", "{\"id\":1}\n", "{\"id\":\n"]);
@@ -121,7 +131,7 @@ fn no_command(alloc: Global, rng: &mut SmallRng) -> Result<String, AllocError> {
 /// A line with its line feed. Most of them are commands that can be accepted.
 pub fn line(alloc: Global, rng: &mut SmallRng, id: u64) -> Result<String, AllocError> {
     let fields = Fields::drawn(rng, id);
-    match up_to(rng, 11) {
+    match up_to(rng, 13) {
         0 | 1 => {
             let label = one_of(rng, &["utf-8", "utf-16le", "big5", "none"]);
             fields.open(alloc, label, one_of(rng, &BOMS))
@@ -131,7 +141,8 @@ pub fn line(alloc: Global, rng: &mut SmallRng, id: u64) -> Result<String, AllocE
         4 => fields.text(alloc),
         5 => fields.source(alloc),
         6 => no_command(alloc, rng),
-        7 | 8 => fields.change(
+        7 | 8 => fields.since(alloc, one_of(rng, &UNITS)),
+        9 | 10 => fields.change(
             alloc,
             one_of(rng, &["", "x", "\\uFEFFx", "\\u00E9", "\\u8A9E"]),
         ),

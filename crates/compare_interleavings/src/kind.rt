@@ -1,6 +1,8 @@
 //! What events and replies were, as they are counted.
 ghost use Rattle.std.specs.Prelude.{◌≡◌, ◌≤◌, true, slice_index};
 
+use memchr::memchr;
+
 /// What an event or a reply was.
 #[derive(Clone, Copy)]
 pub enum EventKind {
@@ -14,13 +16,15 @@ pub enum EventKind {
     Changed,
     /// An edit that named another revision.
     Stale,
+    /// A splice since a revision was asked for, and answered.
+    Since,
 }
 
 /// How many there have to be of each kind.
-const LEAST: [u64; 5] = [100, 1000, 100, 100, 100];
+const LEAST: [u64; 6] = [100, 1000, 100, 100, 100, 100];
 
 /// Counts of events and of replies.
-pub type Tally = oracle::Tally<5>;
+pub type Tally = oracle::Tally<6>;
 
 /// Counts a reply.
 pub fn count_reply(tally: &mut Tally, reply: &[u8]) {
@@ -29,10 +33,23 @@ pub fn count_reply(tally: &mut Tally, reply: &[u8]) {
         tally.count(EventKind::Accepted as usize);
     }
     if reply.starts_with(b"{\"at\"") {
-        tally.count(EventKind::Changed as usize);
+        tally.count(with_splice(reply) as usize);
     }
     if reply.starts_with(b"{\"fault\":\"Stale\"") {
         tally.count(EventKind::Stale as usize);
+    }
+}
+
+/// What a reply with a splice answers: a change has the byte order mark's length as its second member.
+fn with_splice(reply: &[u8]) -> EventKind {
+    let second = match memchr(b',', reply) {
+        Some(comma) => reply.get(comma..).unwrap_or(reply),
+        None => reply,
+    };
+    if second.starts_with(b",\"bom\"") {
+        EventKind::Changed
+    } else {
+        EventKind::Since
     }
 }
 
@@ -43,6 +60,7 @@ pub fn is_telling(tally: &Tally) -> bool
     ensures accepted { result ≡ true → 100 ≤ slice_index tally.now.seen 2 }
     ensures changed { result ≡ true → 100 ≤ slice_index tally.now.seen 3 }
     ensures stale { result ≡ true → 100 ≤ slice_index tally.now.seen 4 }
+    ensures since { result ≡ true → 100 ≤ slice_index tally.now.seen 5 }
 {
     tally.is_telling(&LEAST)
 }

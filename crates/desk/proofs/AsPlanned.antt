@@ -3,7 +3,7 @@ use Rattle.std.proofs.Common.{◌≡◌, ◌≢◌, ℕ, ◌+◌, ◌<◌, Bool,
 use Rattle.desk.proofs.Prelude.{Some, None, Err, Option, Result, chars, length-drop, length-take-le, nat_tests, get, Files, Document, decoded}
 use Rattle.desk.proofs.Prelude.{first_of, is_kept, kept_fault, spliced, splice_fault, DocFault, planned, ChangeFault, Plan, Range, TextUnit}
 use Rattle.desk.proofs.Prelude.{is_accepted, unless_kept, made, made_unless, carried_out, changed, alone, change_reply, change_effect, asked_of}
-use Rattle.desk.proofs.Prelude.{ChangesText, Plans, Office, Answers, effect_of, Entry, reply_of, entry, document_of, max_number, unless, Applied}
+use Rattle.desk.proofs.Prelude.{ChangesText, Plans, Office, Answers, effect_of, Entry, reply_of, edited_entry, untouched_by, change_leaves, document_of, max_number, unless, Applied}
 use Rattle.desk.proofs.Prelude.{put_applied, raised, Effect, of_document, replied, foretold, with_plan, plan_reply, ChangeCause, Fault, OutOfMemory}
 use Rattle.desk.proofs.Prelude.{NotKept, Reply, Refused, Change}
 use Rattle.desk.specs.AsPlanned.{IsMadeAsPlanned, PlansForetellChanges, RefusedPlansRefuseChanges}
@@ -40,8 +40,8 @@ module _ (indexes : Files) (unit : TextUnit) (range : Option Range) (text : List
 
   -- the change, at the revision now, by what is planned
   change-by : (h : Entry) → h.revision < max_number
-      → change_effect indexes h.revision unit range text h ≡ put_applied h change_reply (alone (carried_out (document_of indexes h) (chars text) (planned (document_of indexes h) range unit (chars text))))
-  change-by h lt = ap (put_applied h change_reply) (now h (alone (changed unit range text (document_of indexes h))) lt)
+      → change_effect indexes h.revision unit range text h ≡ put_applied h change_leaves change_reply (alone (carried_out (document_of indexes h) (chars text) (planned (document_of indexes h) range unit (chars text))))
+  change-by h lt = ap (put_applied h change_leaves change_reply) (now h (alone (changed unit range text (document_of indexes h))) lt)
 
 -- ---- a change that is planned
 
@@ -68,12 +68,12 @@ module _ (o p : Office) (doc : List ℕ) (unit : TextUnit) (range : Option Range
   abbrev Here : Document
   Here = document_of o.indexes h
 
-  effect-by : (r : Result (Applied Plan) ChangeCause) → changed unit range text Here ≡ r → effect_of o (asked_of doc (ChangesText h.revision unit range text)) ≡ put_applied h change_reply (alone r)
+  effect-by : (r : Result (Applied Plan) ChangeCause) → changed unit range text Here ≡ r → effect_of o (asked_of doc (ChangesText h.revision unit range text)) ≡ put_applied h change_leaves change_reply (alone r)
   effect-by r e =
       ap (λ f. of_document f (change_effect o.indexes h.revision unit range text)) found ∙ change-by o.indexes unit range text h lt
-      ∙ ap (λ x. put_applied h change_reply (alone x)) e
+      ∙ ap (λ x. put_applied h change_leaves change_reply (alone x)) e
 
-  says-by : (r : Result (Applied Plan) ChangeCause) → changed unit range text Here ≡ r → reply ≡ (put_applied h change_reply (alone r)).reply
+  says-by : (r : Result (Applied Plan) ChangeCause) → changed unit range text Here ≡ r → reply ≡ (put_applied h change_leaves change_reply (alone r)).reply
   says-by r e = sym (reply_is o p (asked_of doc (ChangesText h.revision unit range text)) reply answers ne) ∙ ap (λ (t : Effect). t.reply) (effect-by r e)
 
   as-planned : (plan : Plan) → kept_fault Here plan.at plan.del plan.ins plan.i plan.j ≡ None → changed unit range text Here ≡ Ok (made Here plan)
@@ -82,13 +82,13 @@ module _ (o p : Office) (doc : List ℕ) (unit : TextUnit) (range : Option Range
       let c = asked_of doc (ChangesText h.revision unit range text) in
       let says = says-by (Ok (made Here plan)) e in
       let count = sym (told-length o.indexes h (chars text) plan faultless) in
-      let after : Entry = raised h (made Here plan).document in
+      let after : Entry = raised h (made Here plan).document (change_leaves plan (length h.bytes)) in
       let d = document_of o.indexes after in record {
         before = h;
         after = after;
         found = found;
         old = ap (λ (n : ℕ). take n (drop plan.at h.bytes)) count;
-        leaves = ap (λ (n : ℕ). entry h.setting (spliced h.bytes plan.at n plan.ins) (h.revision + 1)) count;
+        leaves = ap (λ (n : ℕ). edited_entry h (spliced h.bytes plan.at n plan.ins) (h.revision + 1) (untouched_by plan.at n (length h.bytes))) count;
         held = held_here o p c reply answers (ap is_accepted says) ∙ ap (λ (t : Effect). held_after (get o.documents doc) t.move) (effect-by (Ok (made Here plan)) e);
         says = says ∙ ap (λ (n : ℕ). Change (record { at = plan.at; bom = (decoded d).bom; del = n; encoding = (decoded d).encoding; ins = length plan.ins; rev = h.revision + 1 })) count;
       }
@@ -135,4 +135,4 @@ refused_plans_refuse_changes o q p doc unit range text fault h reply asked other
     let is = sym (ap (λ f. (of_document f (λ k. replied (plan_reply o.indexes k unit range text))).reply) found) ∙ reply_is o q c (Refused fault) asked (λ e. let no : fault ≡ OutOfMemory = cc in other no) in
     let here = subst (λ (x : Office). Answers x (asked_of doc (ChangesText h.revision unit range text)) reply p) (sym same) answers in
     says-by o p doc unit range text h found lt reply here ne _ refl
-    ∙ ap (λ x. (put_applied h change_reply x).reply) (refused-plan d h.revision (chars text) (planned d range unit (chars text)) fault is)
+    ∙ ap (λ x. (put_applied h change_leaves change_reply x).reply) (refused-plan d h.revision (chars text) (planned d range unit (chars text)) fault is)

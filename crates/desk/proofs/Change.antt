@@ -1,12 +1,13 @@
 -- The row of the op `change`.
-use Rattle.std.proofs.Common.{◌≡◌, ◌≢◌, ℕ, Bool, false, List, refl, sym, ap, ◌∙◌, arith, Some, None, Ok, Err, Option, Result, chars}
+use Rattle.std.proofs.Common.{◌≡◌, ◌≢◌, ◌≤◌, ◌+◌, ℕ, Bool, false, List, length, refl, sym, ap, ◌∙◌, subst, arith, Some, None, Ok, Err, Option, Result, chars}
 use Rattle.desk.proofs.Prelude.{LabelTable, Encoding, Files, encoded_in, bytes_only, EncodeFault, Document, decoded, kept_fault, splice_fault}
 use Rattle.desk.proofs.Prelude.{range_fault, output_at, DocFault, put_in, planned, replacing, ChangeFault, Plan, Range, TextUnit, made, made_unless}
-use Rattle.desk.proofs.Prelude.{carried_out, changed, alone, change_reply, plan_fault, ChangesText, Entry, document_of, Applied, edited_by}
-use Rattle.desk.proofs.Prelude.{with_planned, with_change, ChangeCause, Fault}
+use Rattle.desk.proofs.Prelude.{carried_out, changed, alone, change_reply, plan_fault, ChangesText, Entry, document_of, Applied}
+use Rattle.desk.proofs.Prelude.{with_planned, with_change, ChangeCause, Fault, nat_tests, change_leaves, Leaves, untouched_by}
 use Rattle.decoder_core.specs.declared.fault.Unencodable.{Unencodable as NoBytes}
 use Rattle.encoders.specs.Steps.{Put}
-use Rattle.desk.proofs.Edits.{keeps-edited, answered-edited, continues-edited}
+use Rattle.desk.proofs.Edits.{Goes, keeps-edited, answered-edited, continues-edited}
+use Rattle.desk.proofs.Logs.{splice-leaves}
 use Rattle.desk.proofs.Row.{IsRow, Decided, Caused, Keeps, Answered, by-document}
 
 -- ---- a change that is accepted
@@ -87,6 +88,20 @@ leaves d unit range text x ok =
     let is = changed-ok d unit range text x ok in
     ap (λ (y : Applied Plan). y.document) (sym is.left) ∙ ap (λ (r : Result Plan ChangeFault). record d { bytes = with_planned d.bytes r }) (sym is.is_plan)
 
+-- and what is as it was
+change-fits : (d : Document) (text : List ℕ) (plan : Plan) → plan_fault d text plan ≡ None → plan.at + plan.del ≤ length d.bytes
+unfolding splice_fault
+change-fits d text plan e = grind (arith, nat_tests)
+
+pub change-leaves : (d : Document) (unit : TextUnit) (range : Option Range) (text : List ℕ) (x : Applied Plan) → changed unit range text d ≡ Ok x
+    → Leaves d.bytes (with_change d.indexes d.setting unit range text d.bytes) (change_leaves x.done (length d.bytes))
+change-leaves d unit range text x ok =
+    let is = changed-ok d unit range text x ok in
+    let plan = x.done in
+    let left = splice-leaves d.bytes plan.at plan.del plan.ins (change-fits d (chars text) plan is.faultless) in
+    let bytes = ap (λ (y : Applied Plan). y.document.bytes) is.left ∙ ap (λ (e : Document). e.bytes) (leaves d unit range text x ok) in
+    subst (λ b. Leaves d.bytes b (untouched_by plan.at plan.del (length d.bytes))) bytes left
+
 pub alone-ok : (r : Result (Applied Plan) ChangeCause) (x : Applied Plan) → alone r ≡ Ok x → r ≡ Ok x
 alone-ok (Ok y) x e = let same = e in cc
 alone-ok (Err cause) x e = cc
@@ -95,19 +110,23 @@ module _ (indexes : Files) (labels : LabelTable) (rev : ℕ) (unit : TextUnit) (
   apply : Document → Result (Applied Plan) Fault
   apply d = alone (changed unit range text d)
 
-  continues : (h : Entry) (x : Applied Plan) → apply (document_of indexes h) ≡ Ok x
-      → (x.document.setting ≡ h.setting) × (edited_by indexes h.setting h.bytes (ChangesText rev unit range text) ≡ x.document.bytes)
+  goes : (h : Entry) (x : Applied Plan) → apply (document_of indexes h) ≡ Ok x
+      → Goes indexes h (ChangesText rev unit range text) x (change_leaves x.done (length h.bytes))
   unfolding apply
-  continues h x ok =
-      let is = leaves (document_of indexes h) unit range text x (alone-ok _ x ok) in
-      (ap (λ (d : Document). d.setting) is, sym (ap (λ (d : Document). d.bytes) is))
+  goes h x ok =
+      let changed-is = alone-ok _ x ok in
+      let is = leaves (document_of indexes h) unit range text x changed-is in record {
+        setting = ap (λ (d : Document). d.setting) is;
+        bytes = sym (ap (λ (d : Document). d.bytes) is);
+        leaves = change-leaves (document_of indexes h) unit range text x changed-is;
+      }
 
   pub row : IsRow indexes labels (ChangesText rev unit range text)
   unfolding apply
   row = record {
-    keeps = λ place found. by-document Keeps found _ (λ e. refl) (λ h. keeps-edited indexes h rev change_reply (λ x d r. refl) apply);
+    keeps = λ place found. by-document Keeps found _ (λ e. refl) (λ h. keeps-edited indexes h rev change_leaves change_reply (λ x d r. refl) apply);
     answered = λ place found. by-document Answered found _ (λ e. cc) (λ h.
-        answered-edited indexes h rev change_reply (λ x d r. refl) apply (decided-alone _ (possible-changed (document_of indexes h) unit range text)));
-    continues = λ place h. continues-edited indexes h rev change_reply (λ x d r. refl) apply (ChangesText rev unit range text) refl refl (continues h);
+        answered-edited indexes h rev change_leaves change_reply (λ x d r. refl) apply (decided-alone _ (possible-changed (document_of indexes h) unit range text)));
+    continues = λ place h. continues-edited indexes h rev change_leaves change_reply (λ x d r. refl) apply (ChangesText rev unit range text) refl refl (goes h);
     placed = λ o found. refl;
   }

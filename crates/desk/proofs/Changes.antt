@@ -1,67 +1,92 @@
 -- The op `changes`: lists of changes, and its row.
-use Rattle.std.proofs.Common.{◌≡◌, ℕ, ◌+◌, List, [], ◌∷◌, refl, sym, ap, ◌∙◌, Ok, Err, Result}
-use Rattle.desk.proofs.Prelude.{LabelTable, Files, Document, DocFault, ChangeFault, Plan, TextUnit, changed, then_rest, changed_all, changes_reply}
-use Rattle.desk.proofs.Prelude.{TextChange, MakesChanges, Entry, document_of, Applied, edited_by, with_changes, ChangeCause, Fault}
-use Rattle.desk.proofs.Change.{Possible, possible-changed, leaves}
-use Rattle.desk.proofs.Edits.{keeps-edited, answered-edited, continues-edited}
+use Rattle.std.proofs.Common.{◌≡◌, ℕ, List, [], ◌∷◌, length, refl, sym, ap, ◌∙◌, subst, Ok, Err, Result}
+use Rattle.desk.proofs.Prelude.{LabelTable, Files, Document, DocFault, ChangeFault, Plan, TextUnit, changed, change_leaves, then_rest, one_more}
+use Rattle.desk.proofs.Prelude.{none_made, changed_all, changed_from_none, changes_leave, changes_reply, MadeChanges, Leaves, TextChange, MakesChanges}
+use Rattle.desk.proofs.Prelude.{Entry, document_of, Applied, with_changes, ChangeCause, Fault}
+use Rattle.desk.proofs.Change.{Possible, possible-changed, leaves, change-leaves}
+use Rattle.desk.proofs.Edits as edits
+use Rattle.desk.proofs.Logs.{all-untouched-leave, both-leave}
 use Rattle.desk.proofs.Row.{IsRow, Decided, Keeps, Answered, by-document}
 
 -- ---- memory is no cause
 
-abbrev DecidedAll : Result (Applied ℕ) Fault → Type 0
+abbrev DecidedAll : Result (Applied MadeChanges) Fault → Type 0
 DecidedAll r = Decided (λ x. Unit {0}) r
 
-decided-then : (n : ℕ) (rest : Document → Result (Applied ℕ) Fault) (r : Result (Applied Plan) ChangeCause) → Possible r → ((d : Document) → DecidedAll (rest d))
-    → DecidedAll (then_rest n rest r)
-decided-then n rest (Ok x) p q = q x.document
-decided-then n rest (Err (ChangeCause.Plan ChangeFault.OutOfMemory)) p q = absurd p
-decided-then n rest (Err (ChangeCause.Splice DocFault.OutOfMemory)) p q = absurd p
-decided-then n rest (Err cause) p q = tt
+decided-then : (made : MadeChanges) (n : ℕ) (rest : MadeChanges → Document → Result (Applied MadeChanges) Fault) (r : Result (Applied Plan) ChangeCause) → Possible r
+    → ((more : MadeChanges) (d : Document) → DecidedAll (rest more d)) → DecidedAll (then_rest made n rest r)
+decided-then made n rest (Ok x) p q = q (one_more made n x.done) x.document
+decided-then made n rest (Err (ChangeCause.Plan ChangeFault.OutOfMemory)) p q = absurd p
+decided-then made n rest (Err (ChangeCause.Splice DocFault.OutOfMemory)) p q = absurd p
+decided-then made n rest (Err cause) p q = tt
 
-decided-all : (unit : TextUnit) (n : ℕ) (cs : List TextChange) (d : Document) → DecidedAll (changed_all unit n cs d)
-decided-all unit n [] d = tt
-decided-all unit n (c ∷ cs) d = decided-then n (changed_all unit (n + 1) cs) _ (possible-changed d unit c.range c.text) (decided-all unit (n + 1) cs)
+decided-all : (unit : TextUnit) (made : MadeChanges) (cs : List TextChange) (d : Document) → DecidedAll (changed_all unit made cs d)
+decided-all unit made [] d = tt
+decided-all unit made (c ∷ cs) d =
+    decided-then made (length d.bytes) (λ more. changed_all unit more cs) _ (possible-changed d unit c.range c.text) (λ more e. decided-all unit more cs e)
 
 -- ---- what an accepted list leaves
 
 -- the first change, and what the rest leaves of its document
-pub record Goes (unit : TextUnit) (n : ℕ) (c : TextChange) (cs : List TextChange) (d : Document) (x : Applied ℕ) : Type 0 where
+pub record Goes (unit : TextUnit) (before : MadeChanges) (c : TextChange) (cs : List TextChange) (d : Document) (x : Applied MadeChanges) : Type 0 where
   pub first : Applied Plan
   pub made : changed unit c.range c.text d ≡ Ok first
-  pub rest : changed_all unit (n + 1) cs first.document ≡ Ok x
+  pub rest : changed_all unit (one_more before (length d.bytes) first.done) cs first.document ≡ Ok x
 
-goes-by : (unit : TextUnit) (n : ℕ) (c : TextChange) (cs : List TextChange) (d : Document) (x : Applied ℕ) (r : Result (Applied Plan) ChangeCause)
-    → changed unit c.range c.text d ≡ r → then_rest n (changed_all unit (n + 1) cs) r ≡ Ok x → Goes unit n c cs d x
-goes-by unit n c cs d x (Ok first) is e = record { first = first; made = is; rest = e }
-goes-by unit n c cs d x (Err cause) is e = cc
+goes-by : (unit : TextUnit) (made : MadeChanges) (c : TextChange) (cs : List TextChange) (d : Document) (x : Applied MadeChanges) (r : Result (Applied Plan) ChangeCause)
+    → changed unit c.range c.text d ≡ r → then_rest made (length d.bytes) (λ more. changed_all unit more cs) r ≡ Ok x → Goes unit made c cs d x
+goes-by unit made c cs d x (Ok first) is e = record { first = first; made = is; rest = e }
+goes-by unit made c cs d x (Err cause) is e = cc
 
-pub goes : (unit : TextUnit) (n : ℕ) (c : TextChange) (cs : List TextChange) (d : Document) (x : Applied ℕ) → changed_all unit n (c ∷ cs) d ≡ Ok x → Goes unit n c cs d x
-goes unit n c cs d x e = goes-by unit n c cs d x _ refl e
+pub goes : (unit : TextUnit) (made : MadeChanges) (c : TextChange) (cs : List TextChange) (d : Document) (x : Applied MadeChanges) → changed_all unit made (c ∷ cs) d ≡ Ok x
+    → Goes unit made c cs d x
+goes unit made c cs d x e = goes-by unit made c cs d x _ refl e
 
 -- the setting stays, and the bytes are those of the changes one after another
-pub leaves_all : (unit : TextUnit) (n : ℕ) (cs : List TextChange) (d : Document) (x : Applied ℕ) → changed_all unit n cs d ≡ Ok x
+pub leaves_all : (unit : TextUnit) (made : MadeChanges) (cs : List TextChange) (d : Document) (x : Applied MadeChanges) → changed_all unit made cs d ≡ Ok x
     → x.document ≡ record d { bytes = with_changes d.indexes d.setting unit cs d.bytes }
-leaves_all unit n [] d x e = let same = e in cc
-leaves_all unit n (c ∷ cs) d x e =
-    let by = goes unit n c cs d x e in
-    leaves_all unit (n + 1) cs by.first.document x by.rest
+leaves_all unit made [] d x e = let same = e in cc
+leaves_all unit made (c ∷ cs) d x e =
+    let by = goes unit made c cs d x e in
+    leaves_all unit (one_more made (length d.bytes) by.first.done) cs by.first.document x by.rest
     ∙ ap (λ (y : Document). record y { bytes = with_changes y.indexes y.setting unit cs y.bytes }) (leaves d unit c.range c.text by.first by.made)
+
+-- and what is as it was since some bytes, of which the changes that were made left these
+pub untouched_all : (unit : TextUnit) (made : MadeChanges) (cs : List TextChange) (d : Document) (x : Applied MadeChanges) (bytes : List ℕ) → changed_all unit made cs d ≡ Ok x
+    → Leaves bytes d.bytes made.untouched → Leaves bytes x.document.bytes x.done.untouched
+untouched_all unit made [] d x bytes e left =
+    let is : x ≡ record { document = d; done = made } = let same = e in cc in
+    subst (λ (y : Applied MadeChanges). Leaves bytes y.document.bytes y.done.untouched) (sym is) left
+untouched_all unit made (c ∷ cs) d x bytes e left =
+    let by = goes unit made c cs d x e in
+    let one = change-leaves d unit c.range c.text by.first by.made in
+    let to = ap (λ (y : Document). y.bytes) (leaves d unit c.range c.text by.first by.made) in
+    let one_there = subst (λ b. Leaves d.bytes b (change_leaves by.first.done (length d.bytes))) (sym to) one in
+    untouched_all unit (one_more made (length d.bytes) by.first.done) cs by.first.document x bytes by.rest
+    (both-leave bytes d.bytes by.first.document.bytes made.untouched (change_leaves by.first.done (length d.bytes)) left one_there)
 
 -- ---- the row
 
 module _ (indexes : Files) (labels : LabelTable) (rev : ℕ) (unit : TextUnit) (cs : List TextChange) where
-  continues : (h : Entry) (x : Applied ℕ) → changed_all unit 0 cs (document_of indexes h) ≡ Ok x
-      → (x.document.setting ≡ h.setting) × (edited_by indexes h.setting h.bytes (MakesChanges rev unit cs) ≡ x.document.bytes)
-  continues h x ok =
-      let is = leaves_all unit 0 cs (document_of indexes h) x ok in
-      (ap (λ (d : Document). d.setting) is, sym (ap (λ (d : Document). d.bytes) is))
+  goes-on : (h : Entry) (x : Applied MadeChanges) → changed_from_none unit cs (document_of indexes h) ≡ Ok x
+      → edits.Goes indexes h (MakesChanges rev unit cs) x (changes_leave x.done (length h.bytes))
+  goes-on h x ok =
+      let none = none_made (length h.bytes) in
+      let is = leaves_all unit none cs (document_of indexes h) x ok in
+      let bytes = ap (λ (d : Document). d.bytes) is in record {
+        setting = ap (λ (d : Document). d.setting) is;
+        bytes = sym bytes;
+        leaves = subst (λ b. Leaves h.bytes b x.done.untouched) bytes (untouched_all unit none cs (document_of indexes h) x h.bytes ok (all-untouched-leave h.bytes));
+      }
 
   pub row : IsRow indexes labels (MakesChanges rev unit cs)
   row = record {
     keeps = λ place found. by-document Keeps found _ (λ e. refl) (λ h.
-        keeps-edited indexes h rev changes_reply (λ x d r. refl) (changed_all unit 0 cs));
+        edits.keeps-edited indexes h rev changes_leave changes_reply (λ x d r. refl) (changed_from_none unit cs));
     answered = λ place found. by-document Answered found _ (λ e. cc) (λ h.
-        answered-edited indexes h rev changes_reply (λ x d r. refl) (changed_all unit 0 cs) (decided-all unit 0 cs (document_of indexes h)));
-    continues = λ place h. continues-edited indexes h rev changes_reply (λ x d r. refl) (changed_all unit 0 cs) (MakesChanges rev unit cs) refl refl (continues h);
+        edits.answered-edited indexes h rev changes_leave changes_reply (λ x d r. refl) (changed_from_none unit cs)
+        (decided-all unit (none_made (length h.bytes)) cs (document_of indexes h)));
+    continues = λ place h.
+        edits.continues-edited indexes h rev changes_leave changes_reply (λ x d r. refl) (changed_from_none unit cs) (MakesChanges rev unit cs) refl refl (goes-on h);
     placed = λ o found. refl;
   }

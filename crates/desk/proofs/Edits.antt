@@ -1,9 +1,10 @@
 -- What the edits have in common: their steps, and their rows.
-use Rattle.std.proofs.Common.{◌≡◌, ◌≢◌, ℕ, ◌+◌, ◌&&◌, ◌==◌, true, false, nat_le, nat_lt, List, length, refl, sym, ap, ◌∙◌, subst, arith}
+use Rattle.std.proofs.Common.{◌≡◌, ◌≢◌, ℕ, ◌+◌, ◌&&◌, ◌==◌, true, false, nat_le, nat_lt, List, [], ◌∷◌, length, refl, sym, ap, ◌∙◌, subst, arith}
 use Rattle.desk.proofs.Prelude.{IfOk, OnErr, Some, None, Ok, Err, Result, nat_tests, lookup, set_value, Files, Document, spliced, document_limit}
 use Rattle.desk.proofs.Prelude.{splice_fault, is_accepted, reports_change, Ask, IsOutcome, outcome, Entry, reply_of, document_of, max_number, Applied}
 use Rattle.desk.proofs.Prelude.{put_applied, at_revision, edited, Makes, Effect, of_document, Puts, edited_by, is_edit, named_by, AllOpened, entry_of}
-use Rattle.desk.proofs.Prelude.{raised, IsIdle, Option, ◌<◌, ◌≤◌, names, Fault, NoDocument, OutOfMemory, OpenDocument, Reply, Refused}
+use Rattle.desk.proofs.Prelude.{IsIdle, Option, ◌<◌, ◌≤◌, names, Fault, NoDocument, OutOfMemory, OpenDocument, Reply, Refused}
+use Rattle.desk.proofs.Prelude.{Leaves, logged, Untouched}
 use Rattle.std.proofs.lemmas.Map.Steps.{set_value_same}
 use Rattle.std.specs.FinMap as finite
 use Rattle.desk.proofs.Names.{at_text, entry_none, entry_some, names_updated, opened_found, Map, Updates}
@@ -80,16 +81,22 @@ idle_document indexes k is =
     let by : Files → Option (List ℕ) → Document = λ i e. record { indexes = i; setting = k.document.setting; bytes = k.document.bytes; earlier = e } in
     ap (λ i. by i k.document.earlier) is.files ∙ ap (λ e. by indexes e) is.idle
 
-pub edit_made : {A : Type 0} (k : OpenDocument) (rev names_rev : ℕ) (apply : Document → Result (Applied A) Fault) (answer : A → Document → ℕ → Reply) (made : A) (d : Document) (reply : Reply)
+pub edit_made : {A : Type 0} (k : OpenDocument) (rev names_rev : ℕ) (apply : Document → Result (Applied A) Fault) (leaves : A → ℕ → Untouched) (answer : A → Document → ℕ → Reply)
+    (made : A) (d : Document) (u : Untouched) (log : List Untouched) (reply : Reply)
     → k.document.earlier ≡ None → rev ≡ names_rev → Passes (entry_of k) rev → apply k.document ≡ Ok (record { document = d; done = made })
-    → reply ≡ answer made d (k.revision + 1)
-    → edited k.document.indexes names_rev apply answer (entry_of k) ≡ record { reply = reply; move = Puts (raised (entry_of k) d) }
-edit_made k rev names_rev apply answer made d reply idle same may applies replies =
+    → u ≡ leaves made (length k.document.bytes) → log ≡ logged k.log u → reply ≡ answer made d (k.revision + 1)
+    → edited k.document.indexes names_rev apply leaves answer (entry_of k)
+    ≡ record { reply = reply; move = Puts (record { setting = d.setting; bytes = d.bytes; revision = k.revision + 1; log = log }) }
+edit_made k rev names_rev apply leaves answer made d u log reply idle same may applies left logs replies =
     let h = entry_of k in
     let held = document_of k.document.indexes h in
     let here = idle_document k.document.indexes k (record { files = refl; idle = idle }) in
-    let effect_by : Reply → Effect = λ r. record { reply = r; move = Puts (raised h d) } in
-    ap (put_applied h answer) (passed h names_rev (apply held) (rw same at may) ∙ ap apply (sym here) ∙ applies) ∙ ap effect_by (sym replies)
+    let effect_by : Reply → List Untouched → Effect = λ r l.
+    record { reply = r; move = Puts (record { setting = d.setting; bytes = d.bytes; revision = k.revision + 1; log = l }) } in
+    ap (put_applied h leaves answer) (passed h names_rev (apply held) (rw same at may) ∙ ap apply (sym here) ∙ applies)
+    ∙ ap (λ v. effect_by (answer made d (k.revision + 1)) (logged k.log v)) (sym left)
+    ∙ ap (effect_by (answer made d (k.revision + 1))) (sym logs)
+    ∙ ap (λ r. effect_by r log) (sym replies)
 
 -- ---- an edit that is accepted
 
@@ -111,42 +118,56 @@ accepts reply e = refl
 never-memory : (reply : Reply) → reports_change reply ≡ true → reply ≢ Refused OutOfMemory
 never-memory reply e is = let never : false ≡ true = ap reports_change (sym is) ∙ e in cc
 
+-- what an edit that is accepted leaves of an entry
+pub record Goes (indexes : Files) (h : Entry) (ask : Ask) {A : Type 0} (x : Applied A) (u : Untouched) : Type 0 where
+  pub setting : x.document.setting ≡ h.setting
+  pub bytes : edited_by indexes h.setting h.bytes ask ≡ x.document.bytes
+  pub leaves : Leaves h.bytes (edited_by indexes h.setting h.bytes ask) u
+
 -- an edit of an entry, whose accepted reply reports a change
-module _ {A : Type 0} (indexes : Files) (h : Entry) (rev : ℕ) (reply : A → Document → ℕ → Reply) (reports : (x : A) (d : Document) (r : ℕ) → reports_change (reply x d r) ≡ true)
+module _ {A : Type 0} (indexes : Files) (h : Entry) (rev : ℕ) (leaves : A → ℕ → Untouched) (reply : A → Document → ℕ → Reply) (reports : (x : A) (d : Document) (r : ℕ) → reports_change (reply x d r) ≡ true)
     (apply : Document → Result (Applied A) Fault) where
-  keeps-put : (r : Result (Applied A) Fault) → Keeps (put_applied h reply r)
+  keeps-put : (r : Result (Applied A) Fault) → Keeps (put_applied h leaves reply r)
   keeps-put (Ok x) = λ e. let never : true ≡ false = sym (reports x.done x.document (h.revision + 1)) ∙ e in cc
   keeps-put (Err f) = λ e. refl
 
-  pub keeps-edited : Keeps (edited indexes rev apply reply h)
+  pub keeps-edited : Keeps (edited indexes rev apply leaves reply h)
   keeps-edited = keeps-put (at_revision h rev (apply (document_of indexes h)))
 
   abbrev Possible : Result (Applied A) Fault → Type 0
   Possible r = Decided (λ x. Unit {0}) r
 
-  answered-put : (r : Result (Applied A) Fault) → Possible r → Answered (put_applied h reply r)
+  answered-put : (r : Result (Applied A) Fault) → Possible r → Answered (put_applied h leaves reply r)
   answered-put (Ok x) p = never-memory (reply x.done x.document (h.revision + 1)) (reports x.done x.document (h.revision + 1))
   answered-put (Err OutOfMemory) p = absurd p
   answered-put (Err f) p = λ e. cc
 
-  pub answered-edited : Possible (apply (document_of indexes h)) → Answered (edited indexes rev apply reply h)
+  pub answered-edited : Possible (apply (document_of indexes h)) → Answered (edited indexes rev apply leaves reply h)
   answered-edited p =
       answered-put (at_revision h rev (apply (document_of indexes h)))
       (decided-if (λ x. Unit {0}) (rev == h.revision) _ _ (decided-if (λ x. Unit {0}) (nat_lt h.revision max_number) _ _ p tt) tt)
 
   -- it is one more of the edits in the document's life
   module _ (ask : Ask) (asks : is_edit ask ≡ true) (named : named_by ask ≡ Some rev)
-      (leaves : (x : Applied A) → apply (document_of indexes h) ≡ Ok x → (x.document.setting ≡ h.setting) × (edited_by indexes h.setting h.bytes ask ≡ x.document.bytes)) where
-    continues-put : (r : Result (Applied A) Fault) → at_revision h rev (apply (document_of indexes h)) ≡ r → ContinuesBy indexes h ask (put_applied h reply r)
+      (goes : (x : Applied A) → apply (document_of indexes h) ≡ Ok x → Goes indexes h ask x (leaves x.done (length h.bytes))) where
+    continues-put : (r : Result (Applied A) Fault) → at_revision h rev (apply (document_of indexes h)) ≡ r → ContinuesBy indexes h ask (put_applied h leaves reply r)
     continues-put (Ok x) e =
         let ok = at_revision-ok h rev (apply (document_of indexes h)) x e in
-        let left = leaves x ok.1 in
+        let went = goes x ok.1 in
         let answer = reply x.done x.document (h.revision + 1) in
         let report = reports x.done x.document (h.revision + 1) in (
           ap (λ b. b && is_accepted answer) asks ∙ accepts answer report,
-          record { setting = left.0; revision = omega arith; named = (named ∙ ap Some ok.0, tt); bytes = sym left.1 },
+          record {
+            setting = went.setting;
+            revision = omega arith;
+            named = (named ∙ ap Some ok.0, tt);
+            bytes = sym went.bytes;
+            left = leaves x.done (length h.bytes) ∷ [];
+            each = (went.leaves, tt);
+            log = refl;
+          },
         )
     continues-put (Err f) e = continues-refused indexes h ask f
 
-    pub continues-edited : ContinuesBy indexes h ask (edited indexes rev apply reply h)
+    pub continues-edited : ContinuesBy indexes h ask (edited indexes rev apply leaves reply h)
     continues-edited = continues-put (at_revision h rev (apply (document_of indexes h))) refl

@@ -1,9 +1,10 @@
 -- What an accepted change leaves, and an accepted list of changes.
-use Rattle.std.proofs.Common.{◌≡◌, ℕ, ◌+◌, ◌<◌, ◌==◌, nat_lt, Bool, true, List, [], ◌∷◌, refl, sym, ap, ◌∙◌, subst, arith, Some, None, Ok, Err, chars}
+use Rattle.std.proofs.Common.{◌≡◌, ℕ, ◌+◌, ◌<◌, ◌==◌, nat_lt, Bool, true, List, [], ◌∷◌, length, refl, sym, ap, ◌∙◌, subst, arith, Some, None, Ok, Err, chars}
 use Rattle.desk.proofs.Prelude.{Option, Result, lt-ltb, eq-eqb, get, Files, Document, text_of, document, first_of, is_kept, kept_fault}
-use Rattle.desk.proofs.Prelude.{spliced_document, replaced, DocFault, Plan, TextUnit, is_accepted, unless_kept, made, changed, alone, change_reply}
-use Rattle.desk.proofs.Prelude.{change_effect, plan_fault, then_rest, changed_all, changes_reply, changes_effect, asked_of, ChangesText, TextChange}
-use Rattle.desk.proofs.Prelude.{MakesChanges, effect_of, Entry, entry, document_of, max_number, Applied, put_applied, raised, at_revision, edited}
+use Rattle.desk.proofs.Prelude.{spliced_document, replaced, DocFault, Plan, TextUnit, is_accepted, unless_kept, made, changed, alone, change_leaves, change_reply}
+use Rattle.desk.proofs.Prelude.{change_effect, plan_fault, then_rest, one_more, none_made, changed_all, changed_from_none, changes_leave, changes_reply, changes_effect}
+use Rattle.desk.proofs.Prelude.{MadeChanges, Untouched, asked_of, ChangesText, TextChange}
+use Rattle.desk.proofs.Prelude.{MakesChanges, effect_of, Entry, document_of, max_number, Applied, put_applied, raised, at_revision, edited}
 use Rattle.desk.proofs.Prelude.{Effect, of_document, Move, Puts, Stays, ChangeCause, Fault, Reply}
 use Rattle.desk.specs.KeptText.{ChangesKeepText, Rewrites, RewritesAll, ListsKeepText, EachAccepted, ListsAreTheirChanges}
 use Rattle.desk.proofs.Apart.{same_bytes}
@@ -26,16 +27,16 @@ text-kept d text plan e =
 
 -- ---- an edit that is accepted, as it is decided
 
-record Decided {A : Type 0} (indexes : Files) (apply : Document → Result (Applied A) Fault) (found : Option Entry) (move : Move) : Type 0 where
+record Decided {A : Type 0} (indexes : Files) (apply : Document → Result (Applied A) Fault) (leaves : A → ℕ → Untouched) (found : Option Entry) (move : Move) : Type 0 where
   before : Entry
   applied : Applied A
   is_found : found ≡ Some before
   is_applied : apply (document_of indexes before) ≡ Ok applied
-  held : held_after found move ≡ Some (raised before applied.document)
+  held : held_after found move ≡ Some (raised before applied.document (leaves applied.done (length before.bytes)))
 
-module _ {A : Type 0} (indexes : Files) (rev : ℕ) (apply : Document → Result (Applied A) Fault) (reply : A → Document → ℕ → Reply) where
-  decided-put : (h : Entry) (r : Result (Applied A) Fault) → at_revision h rev (apply (document_of indexes h)) ≡ r → is_accepted (put_applied h reply r).reply ≡ true
-      → Decided indexes apply (Some h) (put_applied h reply r).move
+module _ {A : Type 0} (indexes : Files) (rev : ℕ) (apply : Document → Result (Applied A) Fault) (leaves : A → ℕ → Untouched) (reply : A → Document → ℕ → Reply) where
+  decided-put : (h : Entry) (r : Result (Applied A) Fault) → at_revision h rev (apply (document_of indexes h)) ≡ r → is_accepted (put_applied h leaves reply r).reply ≡ true
+      → Decided indexes apply leaves (Some h) (put_applied h leaves reply r).move
   decided-put h (Ok x) e is = record {
     before = h;
     applied = x;
@@ -45,23 +46,24 @@ module _ {A : Type 0} (indexes : Files) (rev : ℕ) (apply : Document → Result
   }
   decided-put h (Err f) e is = cc
 
-  decided-by : (found : Option Entry) → (let t = of_document found (edited indexes rev apply reply) in is_accepted t.reply ≡ true → Decided indexes apply found t.move)
+  decided-by : (found : Option Entry) → (let t = of_document found (edited indexes rev apply leaves reply) in is_accepted t.reply ≡ true → Decided indexes apply leaves found t.move)
   decided-by None = λ is. cc
   decided-by (Some h) = decided-put h _ refl
 
 pub law_changes_keep_text : ChangesKeepText
 law_changes_keep_text o p doc rev unit range text reply answers e =
     let c = asked_of doc (ChangesText rev unit range text) in
-    let by = decided-by o.indexes rev (λ d. alone (changed unit range text d)) change_reply (get o.documents doc) (accepted_here o p c reply answers e) in
+    let by = decided-by o.indexes rev (λ d. alone (changed unit range text d)) change_leaves change_reply (get o.documents doc) (accepted_here o p c reply answers e) in
     let d = document_of o.indexes by.before in
     let is = changed-ok d unit range text by.applied (alone-ok _ by.applied by.is_applied) in
     let plan = by.applied.done in record {
       before = by.before;
       plan = plan;
-      after = raised by.before (made d plan).document;
+      after = raised by.before (made d plan).document (change_leaves plan (length by.before.bytes));
       found = by.is_found;
       is_plan = is.is_plan;
-      held = held_here o p c reply answers e ∙ by.held ∙ ap (λ (x : Applied Plan). Some (raised by.before x.document)) (sym is.left);
+      held = held_here o p c reply answers e ∙ by.held
+          ∙ ap (λ (x : Applied Plan). Some (raised by.before x.document (change_leaves plan (length by.before.bytes)))) (sym is.left);
       leaves = refl;
       kept = text-kept d (chars text) plan is.faultless;
     }
@@ -78,30 +80,36 @@ rewrites unit c d x ok =
       kept = ap text_of same ∙ text-kept d (chars c.text) x.done is.faultless;
     }
 
-rewrites_all : (unit : TextUnit) (n : ℕ) (cs : List TextChange) (d : Document) (x : Applied ℕ) → changed_all unit n cs d ≡ Ok x → RewritesAll unit cs d x.document
-rewrites_all unit n [] d x e = let same = e in cc
-rewrites_all unit n (c ∷ cs) d x e =
-    let by = goes unit n c cs d x e in (by.first.document, rewrites unit c d by.first by.made, rewrites_all unit (n + 1) cs by.first.document x by.rest)
+rewrites_all : (unit : TextUnit) (so_far : MadeChanges) (cs : List TextChange) (d : Document) (x : Applied MadeChanges) → changed_all unit so_far cs d ≡ Ok x
+    → RewritesAll unit cs d x.document
+rewrites_all unit so_far [] d x e = let same = e in cc
+rewrites_all unit so_far (c ∷ cs) d x e =
+    let by = goes unit so_far c cs d x e in (
+      by.first.document,
+      rewrites unit c d by.first by.made,
+      rewrites_all unit (one_more so_far (length d.bytes) by.first.done) cs by.first.document x by.rest,
+    )
 
--- an entry with this document's setting and bytes has the document, where no edit of it is under way
-again : (indexes : Files) (d : Document) (rev : ℕ) → d.indexes ≡ indexes → d.earlier ≡ None → document_of indexes (entry d.setting d.bytes rev) ≡ d
-again indexes d rev e idle = ap (λ i. document i d.setting d.bytes) (sym e) ∙ idle-is d idle
+-- this document's setting and bytes have the document, where no edit of it is under way
+again : (indexes : Files) (d : Document) → d.indexes ≡ indexes → d.earlier ≡ None → document indexes d.setting d.bytes ≡ d
+again indexes d e idle = ap (λ i. document i d.setting d.bytes) (sym e) ∙ idle-is d idle
 
 pub law_lists_keep_text : ListsKeepText
 law_lists_keep_text o p doc rev unit cs reply answers e =
     let c = asked_of doc (MakesChanges rev unit cs) in
-    let by = decided-by o.indexes rev (changed_all unit 0 cs) changes_reply (get o.documents doc) (accepted_here o p c reply answers e) in
+    let by = decided-by o.indexes rev (changed_from_none unit cs) changes_leave changes_reply (get o.documents doc) (accepted_here o p c reply answers e) in
     let d = document_of o.indexes by.before in
     let x = by.applied in
-    let left = leaves_all unit 0 cs d x by.is_applied in
+    let none = none_made (length by.before.bytes) in
+    let left = leaves_all unit none cs d x by.is_applied in
     let files : x.document.indexes ≡ o.indexes = ap (λ (y : Document). y.indexes) left in
     let idle : x.document.earlier ≡ None = ap (λ (y : Document). y.earlier) left in record {
       before = by.before;
-      after = raised by.before x.document;
+      after = raised by.before x.document x.done.untouched;
       found = by.is_found;
       held = held_here o p c reply answers e ∙ by.held;
       revision = refl;
-      rewritten = subst (RewritesAll unit cs d) (sym (again o.indexes x.document (by.before.revision + 1) files idle)) (rewrites_all unit 0 cs d x by.is_applied);
+      rewritten = subst (RewritesAll unit cs d) (sym (again o.indexes x.document files idle)) (rewrites_all unit none cs d x by.is_applied);
     }
 
 -- ---- a list is its changes
@@ -115,7 +123,8 @@ now h answer lt =
 
 -- a change that puts an entry
 put-by : (h k : Entry) (reply : Reply) (r : Result (Applied Plan) ChangeCause)
-    → put_applied h change_reply (alone r) ≡ record { reply = reply; move = Puts k } → (x : Applied Plan) × (r ≡ Ok x) × (k ≡ raised h x.document)
+    → put_applied h change_leaves change_reply (alone r) ≡ record { reply = reply; move = Puts k }
+    → (x : Applied Plan) × (r ≡ Ok x) × (k ≡ raised h x.document (change_leaves x.done (length h.bytes)))
 put-by h k reply (Ok x) e = (x, refl, grind arith)
 put-by h k reply (Err cause) e = let moves : Stays ≡ Puts k = ap (λ (t : Effect). t.move) e in cc
 
@@ -124,40 +133,44 @@ module _ (indexes : Files) (unit : TextUnit) where
   Doc h = document_of indexes h
 
   step : (h : Entry) → h.revision < max_number → (c : TextChange)
-      → change_effect indexes h.revision unit c.range c.text h ≡ put_applied h change_reply (alone (changed unit c.range c.text (Doc h)))
-  step h lt c = ap (put_applied h change_reply) (now h (alone (changed unit c.range c.text (Doc h))) lt)
+      → change_effect indexes h.revision unit c.range c.text h ≡ put_applied h change_leaves change_reply (alone (changed unit c.range c.text (Doc h)))
+  step h lt c = ap (put_applied h change_leaves change_reply) (now h (alone (changed unit c.range c.text (Doc h))) lt)
 
-  each : (n : ℕ) (cs : List TextChange) (h : Entry) (x : Applied ℕ) → h.revision < max_number → changed_all unit n cs (Doc h) ≡ Ok x
-      → EachAccepted indexes h.revision unit cs h (entry x.document.setting x.document.bytes h.revision)
-  each n [] h x lt e =
-      let is : x ≡ record { document = Doc h; done = n } = let same = e in cc in
-      ap (λ (y : Applied ℕ). entry y.document.setting y.document.bytes h.revision) is
-  each n (c ∷ cs) h x lt e =
-      let by = goes unit n c cs (Doc h) x e in
+  each : (so_far : MadeChanges) (cs : List TextChange) (h : Entry) (x : Applied MadeChanges) → h.revision < max_number → changed_all unit so_far cs (Doc h) ≡ Ok x
+      → EachAccepted indexes h.revision unit cs h (record h { setting = x.document.setting; bytes = x.document.bytes })
+  each so_far [] h x lt e =
+      let is : x ≡ record { document = Doc h; done = so_far } = let same = e in cc in
+      ap (λ (y : Applied MadeChanges). record h { setting = y.document.setting; bytes = y.document.bytes }) is
+  each so_far (c ∷ cs) h x lt e =
+      let by = goes unit so_far c cs (Doc h) x e in
       let y = by.first in
-      let k = raised h y.document in
-      let g = entry y.document.setting y.document.bytes h.revision in
+      let k = raised h y.document (change_leaves y.done (length h.bytes)) in
+      let g : Entry = record k { revision = h.revision; log = h.log } in
       let left = leaves (Doc h) unit c.range c.text y by.made in
-      let found : Doc g ≡ y.document = again indexes y.document h.revision (ap (λ (d : Document). d.indexes) left) (ap (λ (d : Document). d.earlier) left) in (
+      let found : Doc g ≡ y.document = again indexes y.document (ap (λ (d : Document). d.indexes) left) (ap (λ (d : Document). d.earlier) left) in
+      let more = one_more so_far (length h.bytes) y.done in (
         change_reply y.done y.document (h.revision + 1),
         k,
-        step h lt c ∙ ap (λ r. put_applied h change_reply (alone r)) by.made,
-        each (n + 1) cs g x lt (ap (changed_all unit (n + 1) cs) found ∙ by.rest),
+        step h lt c ∙ ap (λ r. put_applied h change_leaves change_reply (alone r)) by.made,
+        each more cs g x lt (ap (changed_all unit more cs) found ∙ by.rest),
       )
 
-  all : (n : ℕ) (cs : List TextChange) (h last : Entry) → h.revision < max_number → EachAccepted indexes h.revision unit cs h last
-      → (x : Applied ℕ) × (changed_all unit n cs (Doc h) ≡ Ok x)
-  all n [] h last lt e = (record { document = Doc h; done = n }, refl)
-  all n (c ∷ cs) h last lt e =
+  all : (so_far : MadeChanges) (cs : List TextChange) (h last : Entry) → h.revision < max_number → EachAccepted indexes h.revision unit cs h last
+      → (x : Applied MadeChanges) × (changed_all unit so_far cs (Doc h) ≡ Ok x)
+  all so_far [] h last lt e = (record { document = Doc h; done = so_far }, refl)
+  all so_far (c ∷ cs) h last lt e =
       let k = e.1 in
       let by = put-by h k e.0 _ (sym (step h lt c) ∙ e.2) in
-      let g : Entry = record k { revision = h.revision } in
-      let rest = all (n + 1) cs g last lt e.3 in
+      let g : Entry = record k { revision = h.revision; log = h.log } in
+      let more = one_more so_far (length h.bytes) by.0.done in
+      let rest = all more cs g last lt e.3 in
       let left = leaves (Doc h) unit c.range c.text by.0 by.1 in
       let files = ap (λ (d : Document). d.indexes) left in
       let idle = ap (λ (d : Document). d.earlier) left in
-      let found : Doc g ≡ by.0.document = ap (λ (m : Entry). document_of indexes (record m { revision = h.revision })) by.2 ∙ again indexes by.0.document h.revision files idle in
-      (rest.0, ap (then_rest n (changed_all unit (n + 1) cs)) by.1 ∙ ap (changed_all unit (n + 1) cs) (sym found) ∙ rest.1)
+      let found : Doc g ≡ by.0.document = ap (λ (m : Entry). document indexes m.setting m.bytes) by.2 ∙ again indexes by.0.document files idle in (
+        rest.0,
+        ap (then_rest so_far (length h.bytes) (λ m. changed_all unit m cs)) by.1 ∙ ap (changed_all unit more cs) (sym found) ∙ rest.1,
+      )
 
 same_entry : (found : Option Entry) (h k : Entry) → found ≡ Some h → found ≡ Some k → h ≡ k
 same_entry found h k e f = let same : Some h ≡ Some k = sym e ∙ f in cc
@@ -165,21 +178,24 @@ same_entry found h k e f = let same : Some h ≡ Some k = sym e ∙ f in cc
 pub law_lists_are_their_changes : ListsAreTheirChanges
 law_lists_are_their_changes o p doc unit cs reply before found lt answers ne =
     let c = asked_of doc (MakesChanges before.revision unit cs) in
-    let apply = changed_all unit 0 cs in
-    let here : effect_of o c ≡ put_applied before changes_reply (apply (document_of o.indexes before)) =
-    ap (λ f. of_document f (changes_effect o.indexes before.revision unit cs)) found ∙ ap (put_applied before changes_reply) (now before (apply (document_of o.indexes before)) lt) in (
+    let apply = changed_from_none unit cs in
+    let none = none_made (length before.bytes) in
+    let here : effect_of o c ≡ put_applied before changes_leave changes_reply (apply (document_of o.indexes before)) =
+    ap (λ f. of_document f (changes_effect o.indexes before.revision unit cs)) found
+    ∙ ap (put_applied before changes_leave changes_reply) (now before (apply (document_of o.indexes before)) lt) in (
       λ e.
-          let by = decided-by o.indexes before.revision apply changes_reply (get o.documents doc) (accepted_here o p c reply answers e) in
+          let by = decided-by o.indexes before.revision apply changes_leave changes_reply (get o.documents doc) (accepted_here o p c reply answers e) in
           let same = same_entry (get o.documents doc) by.before before by.is_found found in
           let x = by.applied in
           let is : apply (document_of o.indexes before) ≡ Ok x = ap (λ h. apply (document_of o.indexes h)) (sym same) ∙ by.is_applied in (
-            entry x.document.setting x.document.bytes before.revision,
-            each o.indexes unit 0 cs before x lt is,
-            held_here o p c reply answers e ∙ by.held ∙ ap (λ h. Some (raised h x.document)) same,
+            record before { setting = x.document.setting; bytes = x.document.bytes },
+            x.done.untouched,
+            each o.indexes unit none cs before x lt is,
+            held_here o p c reply answers e ∙ by.held ∙ ap (λ h. Some (raised h x.document x.done.untouched)) same,
           ),
       λ last each_is.
-          let x = all o.indexes unit 0 cs before last lt each_is in
+          let x = all o.indexes unit none cs before last lt each_is in
           let is : reply ≡ changes_reply x.0.done x.0.document (before.revision + 1) =
-          sym (reply_is o p c reply answers ne) ∙ ap (λ (t : Effect). t.reply) (here ∙ ap (put_applied before changes_reply) x.1) in
+          sym (reply_is o p c reply answers ne) ∙ ap (λ (t : Effect). t.reply) (here ∙ ap (put_applied before changes_leave changes_reply) x.1) in
           ap is_accepted is,
     )

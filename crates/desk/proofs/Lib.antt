@@ -12,6 +12,8 @@ mod Errors
 mod KeptText
 mod Lines
 mod Lives
+mod LivesSince
+mod Logs
 mod Moves
 mod Names
 mod Offset
@@ -24,6 +26,7 @@ mod Prelude
 mod Row
 mod Rows
 mod Several
+mod Since
 mod Source
 mod Splice
 mod Stat

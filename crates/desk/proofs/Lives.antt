@@ -3,7 +3,8 @@ use Rattle.std.proofs.Common.{◌≡◌, ◌≢◌, ℕ, ◌+◌, ◌&&◌, Bool
 use Rattle.desk.proofs.Prelude.{is_some, Some, Ok, Err, Result, bytes_eq, nat_list_cmp_total, get, Setting, Files, is_accepted, Ask, Asked, Office}
 use Rattle.desk.proofs.Prelude.{Answers, effect, has_place, effect_of, Adopts, Entry, Move, Puts, Stays, Goes, edited_by, is_edit, Act, Commanded}
 use Rattle.desk.proofs.Prelude.{Adopted, Acts, is_close, edit_in, edits_of, ends_life, edited_by_all, NameFrom, IsLife, Lives, adopted, Fault}
-use Rattle.desk.proofs.Prelude.{OutOfMemory, NameTaken, Reply, Refused}
+use Rattle.desk.proofs.Prelude.{OutOfMemory, NameTaken, Reply, Refused, LeaveEach, logged_all, Untouched}
+use Rattle.desk.proofs.Logs.{logged-append}
 use Rattle.std.specs.FinMap as finite
 use Rattle.desk.proofs.Moves.{held_after, at_name, test, reply_is, held_is}
 use Rattle.desk.proofs.Apart.{same_bytes}
@@ -13,7 +14,15 @@ use Rattle.desk.proofs.Rows as rows
 -- ---- lives, one behind the other
 
 pub life-nil : (indexes : Files) (h : Entry) → IsLife indexes h [] h
-life-nil indexes h = record { setting = refl; revision = omega arith; named = tt; bytes = refl }
+life-nil indexes h = record {
+  setting = refl;
+  revision = omega arith;
+  named = tt;
+  bytes = refl;
+  left = [];
+  each = tt;
+  log = refl;
+}
 
 names-append : (r : ℕ) (es fs : List Ask) → NameFrom r es → NameFrom (r + length es) fs → NameFrom r (es ++ fs)
 names-append r [] fs p q = subst (λ n. NameFrom n fs) (omega arith) q
@@ -24,6 +33,13 @@ edited-append : (indexes : Files) (setting : Setting) (bytes : List ℕ) (es fs 
 edited-append indexes setting bytes [] fs = refl
 edited-append indexes setting bytes (e ∷ es) fs = edited-append indexes setting (edited_by indexes setting bytes e) es fs
 
+each-append : (indexes : Files) (setting : Setting) (bytes : List ℕ) (es fs : List Ask) (us vs : List Untouched) → LeaveEach indexes setting bytes es us
+    → LeaveEach indexes setting (edited_by_all indexes setting bytes es) fs vs → LeaveEach indexes setting bytes (es ++ fs) (us ++ vs)
+each-append indexes setting bytes [] fs [] vs p q = q
+each-append indexes setting bytes (e ∷ es) fs (u ∷ us) vs p q = (p.0, each-append indexes setting (edited_by indexes setting bytes e) es fs us vs p.1 q)
+each-append indexes setting bytes [] fs (u ∷ us) vs p q = absurd p
+each-append indexes setting bytes (e ∷ es) fs [] vs p q = absurd p
+
 life-trans : (indexes : Files) (h k m : Entry) (es fs : List Ask) → IsLife indexes h es k → IsLife indexes k fs m → IsLife indexes h (es ++ fs) m
 life-trans indexes h k m es fs p q = record {
   setting = q.setting ∙ p.setting;
@@ -31,6 +47,10 @@ life-trans indexes h k m es fs p q = record {
   named = names-append h.revision es fs p.named (subst (λ r. NameFrom r fs) p.revision q.named);
   bytes = q.bytes ∙ ap (λ b. edited_by_all indexes k.setting b fs) p.bytes ∙ ap (λ s. edited_by_all indexes s (edited_by_all indexes h.setting h.bytes es) fs) p.setting
       ∙ sym (edited-append indexes h.setting h.bytes es fs);
+  left = p.left ++ q.left;
+  each = each-append indexes h.setting h.bytes es fs p.left q.left p.each
+      (subst (λ s. LeaveEach indexes s (edited_by_all indexes h.setting h.bytes es) fs q.left) p.setting (subst (λ b. LeaveEach indexes k.setting b fs q.left) p.bytes q.each));
+  log = q.log ∙ ap (λ l. logged_all l q.left) p.log ∙ sym (logged-append h.log p.left q.left);
 }
 
 -- ---- one act

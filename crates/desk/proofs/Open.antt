@@ -3,7 +3,7 @@ use Rattle.desk.proofs.Prelude.{◌≡◌, ℕ, Bool, true, false, List, length,
 use Rattle.desk.proofs.Prelude.{subst, LabelTable, lookup_in, setting_of, Bom, Encoding, Setting, Files, has_files, document_limit, open_fault}
 use Rattle.desk.proofs.Prelude.{is_accepted, asked_of, Opens, Office, Outcome, Answers, IsOutcome, has_place, outcome, Adopts, Entry, Names}
 use Rattle.desk.proofs.Prelude.{edit_reply, put, with_bytes, base64_bytes, done, admitted, opened, Shelf, Fault, Reply, Refused}
-use Rattle.desk.proofs.Prelude.{◌<◌, rules, DocFault, named, fault_of, Gives, unless, entry, OutOfMemory}
+use Rattle.desk.proofs.Prelude.{◌<◌, rules, DocFault, named, fault_of, Gives, unless, entry}
 use Rattle.desk.specs.Desk.{max_documents}
 use Rattle.desk.specs.declared.ops.Reply.TheVariants.{Edited}
 use Rattle.desk.specs.declared.reply.EditedReply.{EditedReply}

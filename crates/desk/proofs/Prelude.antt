@@ -42,28 +42,33 @@ pub use Rattle.position_map.specs.declared.unit.Unit.{Unit as TextUnit}
 pub use Rattle.position_map.specs.declared.unit.Unit.TheVariants.{Utf8, Utf16, Utf32}
 pub use Rattle.desk.specs.Accepted.{is_accepted, reports_change, OnlyChangesChange, RefusalsChangeNothing, MemoryIsNeverWanted}
 pub use Rattle.desk.specs.Apart.{Exchange, Follows, NoneWanting, place_at, asks_of, replies_of, DocumentsAreApart}
-pub use Rattle.desk.specs.Change.{unless_kept, made, made_unless, carried_out, changed, alone, change_reply, change_effect, plan_fault, change_fault}
-pub use Rattle.desk.specs.Changes.{then_rest, changed_all, changes_reply, changes_effect}
+pub use Rattle.desk.specs.Change.{unless_kept, made, made_unless, carried_out, changed, alone, change_leaves, change_reply, change_effect, plan_fault}
+pub use Rattle.desk.specs.Change.{change_fault}
+pub use Rattle.desk.specs.Changes.{then_rest, one_more, none_made, changed_all, changed_from_none, changes_leave, changes_reply, changes_effect}
 pub use Rattle.desk.specs.Close.{closed}
 pub use Rattle.desk.specs.Commands.{Ask, asked_of, Asked, ChangesText, Plans, Opens, Closes, TextChange, MakesChanges, ListsDiagnostics, Encodes}
-pub use Rattle.desk.specs.Commands.{ListsErrors, ListsLines, FindsOffset, FindsPlace, FindsPosition, Splices, Reads, ReadsBytes, Measures, change_of}
+pub use Rattle.desk.specs.Commands.{ListsErrors, ListsLines, FindsOffset, FindsPlace, FindsPosition, TellsSince, Splices, Reads, ReadsBytes, Measures, change_of}
 pub use Rattle.desk.specs.Desk.{Office, Outcome, Answers, IsOutcome, effect, has_place, outcome, effect_of, Adopts, moved, answer_of}
 pub use Rattle.desk.specs.Diagnostics.{diagnostics_page, diagnostics_reply, first_error}
 pub use Rattle.desk.specs.Documents.{Entry, Names, Gives, reply_of, entry, document_of, fault_of, max_number, unless, edit_reply, unless_fault}
-pub use Rattle.desk.specs.Documents.{unless_position_fault}
+pub use Rattle.desk.specs.Documents.{unless_position_fault, edited_entry}
 pub use Rattle.desk.specs.Edits.{Applied, put_applied, raised, at_revision, edited, Makes, Applies, OnlyBytes}
 pub use Rattle.desk.specs.Effects.{Effect, of_document, replied, refused, Move, put, with_bytes, base64_bytes, Puts, Stays, Goes}
 pub use Rattle.desk.specs.Lines.{line_of, page_of, lines_reply}
 pub use Rattle.desk.specs.Lives.{OpensBegin, AdoptionsBegin, ClosesEnd, edited_by, with_planned, with_change, with_changes, is_edit, named_by, Act}
 pub use Rattle.desk.specs.Lives.{Commanded, Adopted, Acts, is_close, edit_in, edits_of, ends_life, edited_by_all, NameFrom, IsLife, Lives, done}
-pub use Rattle.desk.specs.Lives.{with_spliced}
+pub use Rattle.desk.specs.Lives.{with_spliced, LeaveEach, LeadsSince, SinceLeads}
+pub use Rattle.desk.specs.Log.{Leads, Leaves, last_of, log_length, logged, logged_all, all_leave, patch_of, untouched_by}
 pub use Rattle.desk.specs.Open.{admitted, opened, adopted}
 pub use Rattle.desk.specs.OpenDocuments.{AllOpened, entry_of, names, IsIdle}
 pub use Rattle.desk.specs.Plan.{foretold, with_plan, plan_reply}
 pub use Rattle.desk.specs.Shelf.{Shelf}
+pub use Rattle.desk.specs.Since.{patch_since, since_reply, with_range, range_around}
 pub use Rattle.desk.specs.declared.change_cause.ChangeCause.{ChangeCause}
 pub use Rattle.desk.specs.declared.fault.Fault.{Fault}
 pub use Rattle.desk.specs.declared.fault.Fault.TheVariants.{NoDocument, OutOfMemory, NotKept, NameTaken, OutOfRange, Malformed}
 pub use Rattle.desk.specs.declared.open_document.OpenDocument.{OpenDocument}
 pub use Rattle.desk.specs.declared.ops.Reply.{Reply}
+pub use Rattle.desk.specs.declared.ops.changes.MadeChanges.{MadeChanges}
+pub use Rattle.desk.specs.declared.untouched.Untouched.{Untouched}
 pub use Rattle.desk.specs.declared.ops.Reply.TheVariants.{Refused, Change, Closed, Diagnostics}

@@ -1,7 +1,7 @@
 -- The rows of the desk's table, and what follows from them for each command.
 use Rattle.desk.proofs.Prelude.{◌≡◌, false, sym, ap, ◌∙◌, get, LabelTable, Files, reports_change, OnlyChangesChange, RefusalsChangeNothing}
 use Rattle.desk.proofs.Prelude.{MemoryIsNeverWanted, Ask, Asked, ChangesText, Plans, Opens, Closes, MakesChanges, ListsDiagnostics, Encodes}
-use Rattle.desk.proofs.Prelude.{ListsErrors, ListsLines, FindsOffset, FindsPlace, FindsPosition, Splices, Reads, ReadsBytes, Measures, Office}
+use Rattle.desk.proofs.Prelude.{ListsErrors, ListsLines, FindsOffset, FindsPlace, FindsPosition, TellsSince, Splices, Reads, ReadsBytes, Measures, Office}
 use Rattle.desk.proofs.Prelude.{Outcome, Answers, IsOutcome, has_place, moved, answer_of, Names, OutOfMemory, Reply, Refused}
 use Rattle.desk.proofs.Row.{IsRow}
 
@@ -21,6 +21,7 @@ row indexes labels (ListsLines from max) = Rattle.desk.proofs.Lines.row indexes 
 row indexes labels (FindsPosition offset unit) = Rattle.desk.proofs.Position.row indexes labels offset unit
 row indexes labels (FindsOffset line character unit) = Rattle.desk.proofs.Offset.row indexes labels line character unit
 row indexes labels (FindsPlace unit value) = Rattle.desk.proofs.Place.row indexes labels unit value
+row indexes labels (TellsSince rev unit) = Rattle.desk.proofs.Since.row indexes labels rev unit
 row indexes labels Measures = Rattle.desk.proofs.Stat.row indexes labels
 
 -- ---- what changes nothing

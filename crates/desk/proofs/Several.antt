@@ -1,7 +1,7 @@
 -- Lists of changes, made while an edit of several parts is under way: that changes nothing but what the document can come back to.
-use Rattle.desk.proofs.Prelude.{◌≡◌, ℕ, ◌+◌, List, [], ◌∷◌, None, Ok, Err, Option, Result, chars, sym, refl, ap, ◌∙◌, arith, Encoding, Document}
+use Rattle.desk.proofs.Prelude.{◌≡◌, ℕ, List, [], ◌∷◌, length, None, Ok, Err, Option, Result, chars, sym, refl, ap, ◌∙◌, arith, Encoding, Document}
 use Rattle.desk.proofs.Prelude.{decoded, begun, settled, put_in, planned, replacing, ChangeFault, Plan, Range, TextUnit, carried_out, changed}
-use Rattle.desk.proofs.Prelude.{then_rest, changed_all, TextChange, Applied, Applies, OnlyBytes, ChangeCause, Fault, OutOfMemory}
+use Rattle.desk.proofs.Prelude.{then_rest, one_more, none_made, changed_all, changed_from_none, MadeChanges, TextChange, Applied, Applies, OnlyBytes, ChangeCause, Fault, OutOfMemory}
 use Rattle.piece_rope.specs.Decode.{OutputState}
 
 -- what an edit left, of a document that can come back to these bytes
@@ -27,30 +27,33 @@ module _ (d : Document) (e : Option (List ℕ)) where
   changed-as : (unit : TextUnit) (range : Option Range) (text : List ℕ) → changed unit range text beside ≡ with_earlier e (changed unit range text d)
   changed-as unit range text = ap (carried_out beside (chars text)) (planned-as range unit (chars text)) ∙ carried-as (chars text) (planned d range unit (chars text))
 
-then-as : (e : Option (List ℕ)) (n : ℕ) (rest : Document → Result (Applied ℕ) Fault) → ((d : Document) → rest (record d { earlier = e }) ≡ with_earlier e (rest d))
-    → (r : Result (Applied Plan) ChangeCause) → then_rest n rest (with_earlier e r) ≡ with_earlier e (then_rest n rest r)
-then-as e n rest same r = grind (arith, same)
+then-as : (e : Option (List ℕ)) (made : MadeChanges) (n : ℕ) (rest : MadeChanges → Document → Result (Applied MadeChanges) Fault)
+    → ((more : MadeChanges) (d : Document) → rest more (record d { earlier = e }) ≡ with_earlier e (rest more d))
+    → (r : Result (Applied Plan) ChangeCause) → then_rest made n rest (with_earlier e r) ≡ with_earlier e (then_rest made n rest r)
+then-as e made n rest same (Ok x) = same (one_more made n x.done) x.document
+then-as e made n rest same (Err cause) = refl
 
-all-as : (unit : TextUnit) (n : ℕ) (cs : List TextChange) (d : Document) (e : Option (List ℕ)) → changed_all unit n cs (record d { earlier = e }) ≡ with_earlier e (changed_all unit n cs d)
-all-as unit n [] d e = refl
-all-as unit n (c ∷ cs) d e =
-    ap (then_rest n (changed_all unit (n + 1) cs)) (changed-as d e unit c.range c.text)
-    ∙ then-as e n (changed_all unit (n + 1) cs) (λ x. all-as unit (n + 1) cs x e) (changed unit c.range c.text d)
+all-as : (unit : TextUnit) (made : MadeChanges) (cs : List TextChange) (d : Document) (e : Option (List ℕ))
+    → changed_all unit made cs (record d { earlier = e }) ≡ with_earlier e (changed_all unit made cs d)
+all-as unit made [] d e = refl
+all-as unit made (c ∷ cs) d e =
+    ap (then_rest made (length d.bytes) (λ more. changed_all unit more cs)) (changed-as d e unit c.range c.text)
+    ∙ then-as e made (length d.bytes) (λ more. changed_all unit more cs) (λ more x. all-as unit more cs x e) (changed unit c.range c.text d)
 
 pub idle-is : (d : Document) → d.earlier ≡ None → record d { earlier = None } ≡ d
 idle-is d idle = ap (λ (e : Option (List ℕ)). record d { earlier = e }) (sym idle)
 
 -- a list that was begun leaves, or is refused, as one that wasn't
 module _ (unit : TextUnit) (cs : List TextChange) (old : Document) (idle : old.earlier ≡ None) where
-  begun-all : changed_all unit 0 cs old ≡ with_earlier None (changed_all unit 0 cs (begun old))
-  begun-all = ap (changed_all unit 0 cs) (sym (idle-is old idle)) ∙ all-as unit 0 cs (begun old) None
+  begun-all : changed_from_none unit cs old ≡ with_earlier None (changed_from_none unit cs (begun old))
+  begun-all = ap (changed_from_none unit cs) (sym (idle-is old idle)) ∙ all-as unit (none_made (length old.bytes)) cs (begun old) None
 
-  pub list-made : (new : Document) (n : ℕ) → changed_all unit 0 cs (begun old) ≡ Ok (record { document = new; done = n })
-      → changed_all unit 0 cs old ≡ Ok (record { document = settled new; done = n })
-  list-made new n e = begun-all ∙ ap (with_earlier None) e
+  pub list-made : (new : Document) (made : MadeChanges) → changed_from_none unit cs (begun old) ≡ Ok (record { document = new; done = made })
+      → changed_from_none unit cs old ≡ Ok (record { document = settled new; done = made })
+  list-made new made e = begun-all ∙ ap (with_earlier None) e
 
   pub list-refused : (fault : Fault) (left back d : Document) (ts : List TextChange) → ts ≡ cs → d ≡ begun old
-      → Applies (changed_all unit 0 ts d) (Err fault) left → Applies (changed_all unit 0 cs old) (Err fault) back
+      → Applies (changed_from_none unit ts d) (Err fault) left → Applies (changed_from_none unit cs old) (Err fault) back
   list-refused OutOfMemory left back d ts same is a = tt
   list-refused fault left back d ts same is a = begun-all ∙ ap (with_earlier None) (rw (same, is) at a)
 

@@ -1,11 +1,12 @@
 -- The row of the op `splice`.
-use Rattle.std.proofs.Common.{◌≡◌, ℕ, List, refl, sym, ap, ◌∙◌, subst, Some, None, Ok, Option}
+use Rattle.std.proofs.Common.{◌≡◌, ℕ, List, length, refl, sym, ap, ◌∙◌, subst, Some, None, Ok, Option}
 use Rattle.desk.proofs.Prelude.{LabelTable, Files, Document, splice_fault, DocFault, asked_of, Splices, Office, Answers, IsOutcome, outcome, Entry}
-use Rattle.desk.proofs.Prelude.{document_of, unless, Applied, of_document, with_bytes, base64_bytes, edited_by, with_spliced, Shelf, Reply}
-use Rattle.desk.proofs.Prelude.{Err, Applies, named, fault_of, spliced_document}
-use Rattle.desk.specs.Splice.{spliced, splice_reply, splice_effect}
+use Rattle.desk.proofs.Prelude.{document_of, unless, Applied, of_document, with_bytes, base64_bytes, with_spliced, Shelf, Reply}
+use Rattle.desk.proofs.Prelude.{Err, Applies, named, fault_of, spliced_document, Leaves, untouched_by}
+use Rattle.desk.specs.Splice.{spliced, splice_leaves, splice_reply, splice_effect}
 use Rattle.std.specs.FinMap as finite
-use Rattle.desk.proofs.Edits.{caused-splice, keeps-edited, answered-edited, continues-edited}
+use Rattle.desk.proofs.Edits.{Goes, caused-splice, keeps-edited, answered-edited, continues-edited}
+use Rattle.desk.proofs.Logs.{splice-leaves, within}
 use Rattle.desk.proofs.Row.{IsRow, ContinuesBy, decided-unless, Keeps, Answered, by-bytes, by-document}
 
 -- a splice whose bytes are read
@@ -33,29 +34,33 @@ splice_refused d new at del ins cause e = rw e refl
 -- ---- the row
 
 -- what an accepted splice leaves
-left : (fault : Option DocFault) (x k : Applied (Unit {0})) → unless fault x ≡ Ok k → x.document ≡ k.document
-left None x k e = let same : x ≡ k = cc in ap (λ (y : Applied (Unit {0})). y.document) same
+left : (fault : Option DocFault) (x k : Applied (Unit {0})) → unless fault x ≡ Ok k → (fault ≡ None) × (x.document ≡ k.document)
+left None x k e = let same : x ≡ k = cc in (refl, ap (λ (y : Applied (Unit {0})). y.document) same)
 left (Some f) x k e = cc
 
 module _ (indexes : Files) (labels : LabelTable) (rev at del : ℕ) (text : List ℕ) where
-  leaves : (h : Entry) (ins : List ℕ) → base64_bytes text ≡ Some ins → (x : Applied (Unit {0})) → spliced at del ins (document_of indexes h) ≡ Ok x
-      → (x.document.setting ≡ h.setting) × (edited_by indexes h.setting h.bytes (Splices rev at del text) ≡ x.document.bytes)
-  leaves h ins e x ok =
+  goes : (h : Entry) (ins : List ℕ) → base64_bytes text ≡ Some ins → (x : Applied (Unit {0})) → spliced at del ins (document_of indexes h) ≡ Ok x
+      → Goes indexes h (Splices rev at del text) x (splice_leaves at del x.done (length h.bytes))
+  goes h ins e x ok =
       let is = left (splice_fault h.bytes at del ins) _ x ok in
-      (ap (λ (d : Document). d.setting) (sym is), ap (with_spliced h.bytes at del) e ∙ ap (λ (d : Document). d.bytes) is)
+      let bytes = ap (with_spliced h.bytes at del) e in record {
+        setting = ap (λ (d : Document). d.setting) (sym is.1);
+        bytes = bytes ∙ ap (λ (d : Document). d.bytes) is.1;
+        leaves = subst (λ b. Leaves h.bytes b (untouched_by at del (length h.bytes))) (sym bytes) (splice-leaves h.bytes at del ins (within h.bytes at del ins is.0));
+      }
 
   continues : (h : Entry) (bytes : Option (List ℕ)) → base64_bytes text ≡ bytes
       → ContinuesBy indexes h (Splices rev at del text) (with_bytes bytes (λ ins. splice_effect indexes rev at del ins h))
   continues h None e = refl
   continues h (Some ins) e =
-      continues-edited indexes h rev splice_reply (λ x d r. refl) (spliced at del ins) (Splices rev at del text) refl refl (leaves h ins e)
+      continues-edited indexes h rev (splice_leaves at del) splice_reply (λ x d r. refl) (spliced at del ins) (Splices rev at del text) refl refl (goes h ins e)
 
   pub row : IsRow indexes labels (Splices rev at del text)
   row = record {
     keeps = λ place found. by-bytes Keeps (base64_bytes text) _ (λ e. refl) (λ ins. by-document Keeps found _ (λ e. refl) (λ h.
-        keeps-edited indexes h rev splice_reply (λ x d r. refl) (spliced at del ins)));
+        keeps-edited indexes h rev (splice_leaves at del) splice_reply (λ x d r. refl) (spliced at del ins)));
     answered = λ place found. by-bytes Answered (base64_bytes text) _ (λ e. cc) (λ ins. by-document Answered found _ (λ e. cc) (λ h.
-        answered-edited indexes h rev splice_reply (λ x d r. refl) (spliced at del ins)
+        answered-edited indexes h rev (splice_leaves at del) splice_reply (λ x d r. refl) (spliced at del ins)
         (decided-unless (λ x. Unit {0}) (splice_fault h.bytes at del ins) _ (caused-splice h.bytes at del ins) tt)));
     continues = λ place h. continues h (base64_bytes text) refl;
     placed = λ o found. refl;

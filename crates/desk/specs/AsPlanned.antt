@@ -7,7 +7,8 @@ use Rattle.position_map.specs.declared.position.Range.{Range}
 use Rattle.position_map.specs.declared.unit.Unit.{Unit as TextUnit}
 use Rattle.desk.specs.Commands.{asked_of, ChangesText, Plans}
 use Rattle.desk.specs.Desk.{Office, Answers}
-use Rattle.desk.specs.Documents.{Entry, entry, document_of, max_number}
+use Rattle.desk.specs.Documents.{Entry, edited_entry, document_of, max_number}
+use Rattle.desk.specs.Log.{untouched_by}
 use Rattle.desk.specs.declared.fault.Fault.{Fault}
 use Rattle.desk.specs.declared.fault.Fault.TheVariants.{NotKept, OutOfMemory}
 use Rattle.desk.specs.declared.ops.plan.PlanReply.{PlanReply}
@@ -20,7 +21,8 @@ pub record IsMadeAsPlanned (o : Office) (doc : List ℕ) (plan : PlanReply) (rep
   pub after : Entry
   pub found : get o.documents doc ≡ Some before
   pub old : plan.old ≡ take (length plan.old) (drop plan.at before.bytes)
-  pub leaves : after ≡ entry before.setting (spliced before.bytes plan.at (length plan.old) plan.bytes) (plan.rev + 1)
+  pub leaves : after ≡ edited_entry before (spliced before.bytes plan.at (length plan.old) plan.bytes) (plan.rev + 1)
+      (untouched_by plan.at (length plan.old) (length before.bytes))
   pub held : get p.documents doc ≡ Some after
   pub says : let d = document_of o.indexes after in
       reply ≡ Change (record { at = plan.at; bom = (decoded d).bom; del = length plan.old; encoding = (decoded d).encoding; ins = length plan.bytes; rev = plan.rev + 1 })

@@ -15,12 +15,14 @@ use Rattle.position_map.specs.Plan.{planned}
 use Rattle.desk.specs.Documents.{Entry, fault_of}
 use Rattle.desk.specs.Edits.{Applied, edited}
 use Rattle.desk.specs.Effects.{Effect}
+use Rattle.desk.specs.Log.{untouched_by}
 use Rattle.desk.specs.declared.change_cause.ChangeCause.{ChangeCause}
 use Rattle.desk.specs.declared.change_cause.ChangeCause.TheVariants as because
 use Rattle.desk.specs.declared.fault.Fault.{Fault}
 use Rattle.desk.specs.declared.fault.Fault.TheVariants.{OutOfRange, SplitsCharacter, SplitsItem, NoEncoder, Unencodable, OutOfMemory}
 use Rattle.desk.specs.declared.ops.Reply.{Reply}
 use Rattle.desk.specs.declared.ops.Reply.TheVariants.{Change}
+use Rattle.desk.specs.declared.untouched.Untouched.{Untouched}
 
 -- the refusal for the cause that a change isn't planned
 abbrev pub change_fault : ChangeFault → Fault
@@ -69,13 +71,17 @@ abbrev pub alone : {A : Type 0} → Result A ChangeCause → Result A Fault
 alone (Ok x) = Ok x
 alone (Err cause) = Err (cause_fault cause)
 
+-- what its splice leaves of n bytes
+abbrev pub change_leaves : Plan → ℕ → Untouched
+change_leaves plan n = untouched_by plan.at plan.del n
+
 -- the splice that was made, with the number of bytes put in, and the document after it
 abbrev pub change_reply : Plan → Document → ℕ → Reply
 change_reply plan d rev =
     Change (record { at = plan.at; bom = (decoded d).bom; del = plan.del; encoding = (decoded d).encoding; ins = length plan.ins; rev = rev })
 
 abbrev pub change_effect : Files → ℕ → TextUnit → Option Range → List ℕ → Entry → Effect
-change_effect indexes rev unit range text = edited indexes rev (λ d. alone (changed unit range text d)) change_reply
+change_effect indexes rev unit range text = edited indexes rev (λ d. alone (changed unit range text d)) change_leaves change_reply
 
 -- ---- what the code answers
 

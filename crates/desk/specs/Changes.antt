@@ -1,22 +1,25 @@
 -- A list of changes of a document's text, each on the result of the one before (LSP 3.17, "DidChangeTextDocumentParams").
-use Rattle.std.specs.Prelude.{ℕ, ◌+◌, List, [], ◌∷◌, Result, Ok, Err}
+use Rattle.std.specs.Prelude.{ℕ, ◌+◌, List, [], ◌∷◌, length, Result, Ok, Err}
 use Rattle.index_loader.specs.Files.{Files}
 use Rattle.piece_rope.specs.declared.fault.DocFault.TheVariants as splice
 use Rattle.piece_rope.specs.Document.{Document, decoded}
 use Rattle.position_map.specs.declared.change_fault.ChangeFault.TheVariants as plan
 use Rattle.position_map.specs.declared.plan.Plan.{Plan}
 use Rattle.position_map.specs.declared.unit.Unit.{Unit as TextUnit}
-use Rattle.desk.specs.Change.{changed}
+use Rattle.desk.specs.Change.{changed, change_leaves}
 use Rattle.desk.specs.Commands.{TextChange}
 use Rattle.desk.specs.Documents.{Entry}
 use Rattle.desk.specs.Edits.{Applied, edited}
 use Rattle.desk.specs.Effects.{Effect}
+use Rattle.desk.specs.Log.{all_untouched, both_untouched}
 use Rattle.desk.specs.declared.change_cause.ChangeCause.{ChangeCause}
 use Rattle.desk.specs.declared.change_cause.ChangeCause.TheVariants as because
 use Rattle.desk.specs.declared.fault.Fault.{Fault}
 use Rattle.desk.specs.declared.fault.Fault.TheVariants.{InChange, OutOfMemory}
 use Rattle.desk.specs.declared.ops.Reply.{Reply}
 use Rattle.desk.specs.declared.ops.Reply.TheVariants.{Changes}
+use Rattle.desk.specs.declared.ops.changes.MadeChanges.{MadeChanges}
+use Rattle.desk.specs.declared.untouched.Untouched.{Untouched}
 
 -- the refusal of a list, by the number of its first change that is refused, and the cause
 abbrev pub in_change : ℕ → ChangeCause → Fault
@@ -24,20 +27,35 @@ in_change n (because.Plan plan.OutOfMemory) = OutOfMemory
 in_change n (because.Splice splice.OutOfMemory) = OutOfMemory
 in_change n cause = InChange n cause
 
--- the changes behind number n, where that one is made
-abbrev pub then_rest : ℕ → (Document → Result (Applied ℕ) Fault) → Result (Applied Plan) ChangeCause → Result (Applied ℕ) Fault
-then_rest n rest (Ok x) = rest x.document
-then_rest n rest (Err cause) = Err (in_change n cause)
+-- no change was made of a document of n bytes
+abbrev pub none_made : ℕ → MadeChanges
+none_made n = record { count = 0; untouched = all_untouched n }
 
--- What changes leave, made one after another and counted on from n, or why the first of them that can't be made is refused.
-abbrev pub changed_all : TextUnit → ℕ → List TextChange → Document → Result (Applied ℕ) Fault
-changed_all unit n [] d = Ok (record { document = d; done = n })
-changed_all unit n (c ∷ cs) d = then_rest n (changed_all unit (n + 1) cs) (changed unit c.range c.text d)
+-- one more was made, of n bytes
+abbrev pub one_more : MadeChanges → ℕ → Plan → MadeChanges
+one_more made n plan = record { count = made.count + 1; untouched = both_untouched made.untouched (change_leaves plan n) }
+
+-- the changes behind those that were made, where the next one is made of n bytes
+abbrev pub then_rest : MadeChanges → ℕ → (MadeChanges → Document → Result (Applied MadeChanges) Fault) → Result (Applied Plan) ChangeCause → Result (Applied MadeChanges) Fault
+then_rest made n rest (Ok x) = rest (one_more made n x.done) x.document
+then_rest made n rest (Err cause) = Err (in_change made.count cause)
+
+-- What changes leave, made one after another behind those that were made, or why the first of them that can't be made is refused.
+abbrev pub changed_all : TextUnit → MadeChanges → List TextChange → Document → Result (Applied MadeChanges) Fault
+changed_all unit made [] d = Ok (record { document = d; done = made })
+changed_all unit made (c ∷ cs) d = then_rest made (length d.bytes) (λ more. changed_all unit more cs) (changed unit c.range c.text d)
+
+-- a whole list
+abbrev pub changed_from_none : TextUnit → List TextChange → Document → Result (Applied MadeChanges) Fault
+changed_from_none unit changes d = changed_all unit (none_made (length d.bytes)) changes d
+
+abbrev pub changes_leave : MadeChanges → ℕ → Untouched
+changes_leave made n = made.untouched
 
 -- the number of changes, and the document after the last of them
-abbrev pub changes_reply : ℕ → Document → ℕ → Reply
-changes_reply n d rev = Changes (record { applied = n; bom = (decoded d).bom; encoding = (decoded d).encoding; rev = rev })
+abbrev pub changes_reply : MadeChanges → Document → ℕ → Reply
+changes_reply made d rev = Changes (record { applied = made.count; bom = (decoded d).bom; encoding = (decoded d).encoding; rev = rev })
 
 -- one edit, whatever their number
 abbrev pub changes_effect : Files → ℕ → TextUnit → List TextChange → Entry → Effect
-changes_effect indexes rev unit changes = edited indexes rev (changed_all unit 0 changes) changes_reply
+changes_effect indexes rev unit changes = edited indexes rev (changed_from_none unit changes) changes_leave changes_reply

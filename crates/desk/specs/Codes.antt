@@ -10,13 +10,20 @@ use Rattle.index_loader.specs.Exceptions.{ExceptionTable}
 use Rattle.index_loader.specs.Files.{Files}
 use Rattle.index_loader.specs.Pairs.{Pairs}
 use Rattle.desk.specs.Documents.{Entry, Names}
+use Rattle.desk.specs.declared.untouched.Untouched.{Untouched}
 use Rattle.desk.specs.Shelf.{Shelf}
 use Rattle.desk.specs.Desk.{Office}
 
+abbrev pub untouched_code : Coded Untouched
+untouched_code =
+    code_by (ℕ × (ℕ × ℕ)) (coded× coded_ℕ (coded× coded_ℕ coded_ℕ))
+    (λ u. (u.before, (u.front, u.back))) (λ p. record { before = p.0; front = p.1.0; back = p.1.1 }) (λ _. refl)
+
 abbrev pub entry_code : Coded Entry
 entry_code =
-    code_by (Setting × (List ℕ × ℕ)) (coded× setting_row.coded (coded× (coded_list coded_ℕ) coded_ℕ))
-    (λ h. (h.setting, (h.bytes, h.revision))) (λ p. record { setting = p.0; bytes = p.1.0; revision = p.1.1 }) (λ _. refl)
+    code_by (Setting × (List ℕ × (ℕ × List Untouched)))
+    (coded× setting_row.coded (coded× (coded_list coded_ℕ) (coded× coded_ℕ (coded_list untouched_code))))
+    (λ h. (h.setting, (h.bytes, (h.revision, h.log)))) (λ p. record { setting = p.0; bytes = p.1.0; revision = p.1.1.0; log = p.1.1.1 }) (λ _. refl)
 
 abbrev pub names_code : Coded Names
 names_code = map.code (coded_list coded_ℕ) entry_code

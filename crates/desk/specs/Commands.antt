@@ -5,7 +5,7 @@ use Rattle.position_map.specs.declared.position.Range.{Range}
 use Rattle.position_map.specs.declared.unit.Unit.{Unit as TextUnit}
 use Rattle.encoders.specs.declared.mode.EncodeMode.{EncodeMode}
 use Rattle.desk.specs.declared.ops.Command.{Command}
-use Rattle.desk.specs.declared.ops.Command.TheVariants.{Open, Close, Splice, Change, Changes, Plan, Text, Source, Encode, Errors, Diagnostics, Lines, Position, Offset, Place, Stat}
+use Rattle.desk.specs.declared.ops.Command.TheVariants.{Open, Close, Splice, Change, Changes, Plan, Text, Source, Encode, Errors, Diagnostics, Lines, Position, Offset, Place, Since, Stat}
 use Rattle.desk.specs.declared.ops.changes.ContentChange.{ContentChange}
 use Rattle.desk.specs.declared.page_start.PageStart.{PageStart}
 use Rattle.desk.specs.declared.place_unit.PlaceUnit.{PlaceUnit}
@@ -50,6 +50,8 @@ pub data Ask : Type 0 where
   FindsOffset : ℕ → ℕ → TextUnit → Ask
   -- unit value
   FindsPlace : PlaceUnit → ℕ → Ask
+  -- rev unit
+  TellsSince : ℕ → Option TextUnit → Ask
   Measures : Ask
 
 -- the name of a document, and what is asked there
@@ -76,4 +78,5 @@ asked (Lines c) = asked_of c.doc.now (ListsLines c.from c.max)
 asked (Position c) = asked_of c.doc.now (FindsPosition c.offset c.unit)
 asked (Offset c) = asked_of c.doc.now (FindsOffset c.line c.character c.unit)
 asked (Place c) = asked_of c.doc.now (FindsPlace c.unit c.value)
+asked (Since c) = asked_of c.doc.now (TellsSince c.rev c.unit)
 asked (Stat c) = asked_of c.doc.now Measures

@@ -4,7 +4,7 @@ use Rattle.std.specs.FinMap.{get, insert, remove, len}
 use Rattle.enc_names.specs.declared.setting.Setting.{Setting}
 use Rattle.enc_names.specs.Labels.{LabelTable, lookup_in}
 use Rattle.index_loader.specs.Files.{Files}
-use Rattle.desk.specs.Commands.{Ask, Asked, Opens, Closes, Splices, ChangesText, MakesChanges, Plans, Reads, ReadsBytes, Encodes, ListsErrors, ListsDiagnostics, ListsLines, FindsPosition, FindsOffset, FindsPlace, Measures}
+use Rattle.desk.specs.Commands.{Ask, Asked, Opens, Closes, Splices, ChangesText, MakesChanges, Plans, Reads, ReadsBytes, Encodes, ListsErrors, ListsDiagnostics, ListsLines, FindsPosition, FindsOffset, FindsPlace, TellsSince, Measures}
 use Rattle.desk.specs.Documents.{Entry, Names}
 use Rattle.desk.specs.Effects.{Move, Stays, Puts, Goes, Effect, replied, of_document, base64_bytes, with_bytes}
 use Rattle.desk.specs.Open.{opened, adopted}
@@ -22,6 +22,7 @@ use Rattle.desk.specs.Lines.{lines_reply}
 use Rattle.desk.specs.Position.{position_reply}
 use Rattle.desk.specs.Offset.{offset_reply}
 use Rattle.desk.specs.Place.{place_reply}
+use Rattle.desk.specs.Since.{since_reply}
 use Rattle.desk.specs.Stat.{stat_reply}
 use Rattle.desk.specs.declared.fault.Fault.{Fault}
 use Rattle.desk.specs.declared.fault.Fault.TheVariants.{OutOfMemory}
@@ -59,6 +60,7 @@ effect indexes labels place found (ListsLines from max) = of_document found (λ 
 effect indexes labels place found (FindsPosition offset unit) = of_document found (λ h. replied (position_reply indexes h offset unit))
 effect indexes labels place found (FindsOffset line character unit) = of_document found (λ h. replied (offset_reply indexes h line character unit))
 effect indexes labels place found (FindsPlace unit value) = of_document found (λ h. replied (place_reply indexes h unit value))
+effect indexes labels place found (TellsSince rev unit) = of_document found (λ h. replied (since_reply indexes h rev unit))
 effect indexes labels place found Measures = of_document found (λ h. replied (Ok (stat_reply indexes h)))
 
 -- ---- what a command answers and leaves

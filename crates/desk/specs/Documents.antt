@@ -1,5 +1,5 @@
 -- The documents of the desk, and what its ops have in common.
-use Rattle.std.specs.Prelude.{◌≡◌, ℕ, ◌^◌, ◌-◌, List, Option, Some, None, Result, Ok, Err}
+use Rattle.std.specs.Prelude.{◌≡◌, ℕ, ◌^◌, ◌-◌, List, [], Option, Some, None, Result, Ok, Err}
 use Rattle.std.specs.Ordering.{nat_cmp}
 use Rattle.std.specs.Cmp.Lexicographic.{slice_cmp}
 use Rattle.std.specs.FinMap.{FinMap}
@@ -10,19 +10,27 @@ use Rattle.piece_rope.specs.declared.fault.DocFault.TheVariants as cause
 use Rattle.piece_rope.specs.Document.{Document, decoded, document}
 use Rattle.position_map.specs.declared.fault.PosFault.{PosFault}
 use Rattle.position_map.specs.declared.fault.PosFault.TheVariants as position
+use Rattle.desk.specs.Log.{logged}
 use Rattle.desk.specs.declared.fault.Fault.{Fault}
 use Rattle.desk.specs.declared.fault.Fault.TheVariants.{NoIndex, OutOfRange, SplitsCharacter, TooLarge, NotKept, OutOfMemory}
 use Rattle.desk.specs.declared.ops.Reply.{Reply}
 use Rattle.desk.specs.declared.ops.Reply.TheVariants.{Edited, Refused}
+use Rattle.desk.specs.declared.untouched.Untouched.{Untouched}
 
--- what is held at a name: nothing derived
+-- what is held at a name: nothing derived, and what each of the last edits left as it was
 pub record Entry : Type 0 where
   pub setting : Setting
   pub bytes : List ℕ
   pub revision : ℕ
+  pub log : List Untouched
 
+-- without an edit
 abbrev pub entry : Setting → List ℕ → ℕ → Entry
-entry setting bytes revision = record { setting = setting; bytes = bytes; revision = revision }
+entry setting bytes revision = record { setting = setting; bytes = bytes; revision = revision; log = [] }
+
+-- with the bytes of an edit, at this revision
+abbrev pub edited_entry : Entry → List ℕ → ℕ → Untouched → Entry
+edited_entry h bytes revision u = record h { bytes = bytes; revision = revision; log = logged h.log u }
 
 -- names, as UTF-8 bytes, with what is held at them
 abbrev pub Names : Type 0

@@ -1,12 +1,14 @@
 -- What the edits of a document have in common: what each does to a document without a name, and under which revision it does so.
-use Rattle.std.specs.Prelude.{◌≡◌, ℕ, ◌+◌, ◌==◌, nat_lt, if◌then◌else◌, Result, Ok, Err}
+use Rattle.std.specs.Prelude.{◌≡◌, ℕ, ◌+◌, ◌==◌, length, nat_lt, if◌then◌else◌, Result, Ok, Err}
 use Rattle.index_loader.specs.Files.{Files}
 use Rattle.piece_rope.specs.Document.{Document}
-use Rattle.desk.specs.Documents.{Entry, entry, document_of, max_number}
+use Rattle.desk.specs.Documents.{Entry, document_of, max_number}
 use Rattle.desk.specs.Effects.{Effect, Puts, refused}
+use Rattle.desk.specs.Log.{logged}
 use Rattle.desk.specs.declared.fault.Fault.{Fault}
 use Rattle.desk.specs.declared.fault.Fault.TheVariants.{Stale, RevisionsSpent, OutOfMemory}
 use Rattle.desk.specs.declared.ops.Reply.{Reply}
+use Rattle.desk.specs.declared.untouched.Untouched.{Untouched}
 
 -- the document that an edit leaves, and what the edit did
 pub record Applied (A : Type 0) : Type 0 where
@@ -24,18 +26,19 @@ at_revision h rev answer =
 abbrev pub OnlyBytes : Document → Document → Type 0
 OnlyBytes old new = new ≡ record old { bytes = new.bytes }
 
--- the document that an edit left, at the next revision
-abbrev pub raised : Entry → Document → Entry
-raised h d = entry d.setting d.bytes (h.revision + 1)
+-- the document that an edit left, at the next revision, and what the edit left of the bytes before
+abbrev pub raised : Entry → Document → Untouched → Entry
+raised h d u = record { setting = d.setting; bytes = d.bytes; revision = h.revision + 1; log = logged h.log u }
 
--- it is put, with the reply to the edit, or the edit is refused
-abbrev pub put_applied : {A : Type 0} → Entry → (A → Document → ℕ → Reply) → Result (Applied A) Fault → Effect
-put_applied h reply (Ok x) = record { reply = reply x.done x.document (h.revision + 1); move = Puts (raised h x.document) }
-put_applied h reply (Err fault) = refused fault
+-- It is put, with the reply to the edit, or the edit is refused. What was done says what it leaves of so many bytes.
+abbrev pub put_applied : {A : Type 0} → Entry → (A → ℕ → Untouched) → (A → Document → ℕ → Reply) → Result (Applied A) Fault → Effect
+put_applied h leaves reply (Ok x) =
+    record { reply = reply x.done x.document (h.revision + 1); move = Puts (raised h x.document (leaves x.done (length h.bytes))) }
+put_applied h leaves reply (Err fault) = refused fault
 
 -- an edit that names this revision, by what it does to a document
-abbrev pub edited : {A : Type 0} → Files → ℕ → (Document → Result (Applied A) Fault) → (A → Document → ℕ → Reply) → Entry → Effect
-edited indexes rev apply reply h = put_applied h reply (at_revision h rev (apply (document_of indexes h)))
+abbrev pub edited : {A : Type 0} → Files → ℕ → (Document → Result (Applied A) Fault) → (A → ℕ → Untouched) → (A → Document → ℕ → Reply) → Entry → Effect
+edited indexes rev apply leaves reply h = put_applied h leaves reply (at_revision h rev (apply (document_of indexes h)))
 
 -- ---- what the code answers
 

@@ -1,5 +1,5 @@
 -- What an accepted change leaves: the planned bytes, and the old text with the range replaced.
-use Rattle.std.specs.Prelude.{◌≡◌, ◌≢◌, ◌<◌, ℕ, ◌+◌, true, List, [], ◌∷◌, Option, Some, Ok}
+use Rattle.std.specs.Prelude.{◌≡◌, ◌≢◌, ◌<◌, ℕ, ◌+◌, true, List, [], ◌∷◌, length, Option, Some, Ok}
 use Rattle.std.specs.FinMap.{get}
 use Rattle.std.specs.Str.{chars}
 use Rattle.index_loader.specs.Files.{Files}
@@ -10,14 +10,16 @@ use Rattle.position_map.specs.declared.position.Range.{Range}
 use Rattle.position_map.specs.declared.unit.Unit.{Unit as TextUnit}
 use Rattle.position_map.specs.Plan.{planned}
 use Rattle.desk.specs.Accepted.{is_accepted}
-use Rattle.desk.specs.Change.{change_effect}
+use Rattle.desk.specs.Change.{change_effect, change_leaves}
 use Rattle.desk.specs.Commands.{asked_of, ChangesText, MakesChanges, TextChange}
 use Rattle.desk.specs.Desk.{Office, Answers}
-use Rattle.desk.specs.Documents.{Entry, entry, document_of, max_number}
+use Rattle.desk.specs.Documents.{Entry, edited_entry, document_of, max_number}
 use Rattle.desk.specs.Effects.{Puts}
+use Rattle.desk.specs.Log.{logged}
 use Rattle.desk.specs.declared.fault.Fault.TheVariants.{OutOfMemory}
 use Rattle.desk.specs.declared.ops.Reply.{Reply}
 use Rattle.desk.specs.declared.ops.Reply.TheVariants.{Refused}
+use Rattle.desk.specs.declared.untouched.Untouched.{Untouched}
 
 -- The document at the name, the splice planned for its range, and what is held afterwards. Decoded from scratch, the new bytes have the old
 -- text with the code points of the range replaced.
@@ -28,7 +30,7 @@ pub record Replaces (o : Office) (doc : List ℕ) (unit : TextUnit) (range : Opt
   pub found : get o.documents doc ≡ Some before
   pub is_plan : planned (document_of o.indexes before) range unit (chars text) ≡ Ok plan
   pub held : get p.documents doc ≡ Some after
-  pub leaves : after ≡ entry before.setting (spliced before.bytes plan.at plan.del plan.ins) (before.revision + 1)
+  pub leaves : after ≡ edited_entry before (spliced before.bytes plan.at plan.del plan.ins) (before.revision + 1) (change_leaves plan (length before.bytes))
   pub kept : text_of (document_of o.indexes after) ≡ replaced (text_of (document_of o.indexes before)) plan.i plan.j (chars text)
 
 abbrev pub ChangesKeepText : Type 0
@@ -63,18 +65,20 @@ abbrev pub ListsKeepText : Type 0
 ListsKeepText = (o p : Office) (doc : List ℕ) (rev : ℕ) (unit : TextUnit) (changes : List TextChange) (reply : Reply)
     → Answers o (asked_of doc (MakesChanges rev unit changes)) reply p → is_accepted reply ≡ true → ReplacesAll o doc unit changes p
 
--- Each change in its turn, asked for by itself at this revision, is accepted, and puts an entry whose document the next one finds.
+-- Each change in its turn, asked for by itself at this revision and with this log, is accepted, and puts an entry whose document the next one
+-- finds.
 abbrev pub EachAccepted : Files → ℕ → TextUnit → List TextChange → Entry → Entry → Type 0
 EachAccepted indexes rev unit [] h last = last ≡ h
 EachAccepted indexes rev unit (c ∷ cs) h last =
     (reply : Reply) × (k : Entry) × (change_effect indexes rev unit c.range c.text h ≡ record { reply = reply; move = Puts k })
-    × EachAccepted indexes rev unit cs (record k { revision = rev }) last
+    × EachAccepted indexes rev unit cs (record k { revision = rev; log = h.log }) last
 
 -- A list that names the revision now, where this can be raised, is accepted exactly where each change in its turn is; and then it leaves
--- what they leave, one revision later.
+-- what they leave, one revision later, and is one edit of the log.
 abbrev pub ListsAreTheirChanges : Type 0
 ListsAreTheirChanges = (o p : Office) (doc : List ℕ) (unit : TextUnit) (changes : List TextChange) (reply : Reply) (before : Entry)
     → get o.documents doc ≡ Some before → before.revision < max_number
     → Answers o (asked_of doc (MakesChanges before.revision unit changes)) reply p → reply ≢ Refused OutOfMemory
-    → (is_accepted reply ≡ true → (last : Entry) × EachAccepted o.indexes before.revision unit changes before last × (get p.documents doc ≡ Some (record last { revision = before.revision + 1 })))
+    → (is_accepted reply ≡ true → (last : Entry) × (u : Untouched) × EachAccepted o.indexes before.revision unit changes before last
+    × (get p.documents doc ≡ Some (record last { revision = before.revision + 1; log = logged before.log u })))
     × ((last : Entry) → EachAccepted o.indexes before.revision unit changes before last → is_accepted reply ≡ true)

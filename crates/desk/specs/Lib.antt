@@ -16,6 +16,7 @@ pub mod Errors
 pub mod KeptText
 pub mod Lines
 pub mod Lives
+pub mod Log
 pub mod Offset
 pub mod Open
 pub mod OpenDocuments
@@ -23,6 +24,7 @@ pub mod Place
 pub mod Plan
 pub mod Position
 pub mod Shelf
+pub mod Since
 pub mod Source
 pub mod Splice
 pub mod Stat

@@ -1,5 +1,5 @@
 -- Lives of a document: from its open or adoption to its close, with each accepted edit.
-use Rattle.std.specs.Prelude.{◌≡◌, ℕ, ◌+◌, ◌&&◌, Bool, true, false, List, [], ◌∷◌, ◌++◌, length, if◌then◌else◌, Option, Some, None, Result, Ok, Err}
+use Rattle.std.specs.Prelude.{◌≡◌, ◌≤◌, ◌<◌, ℕ, ◌+◌, ◌-◌, ◌&&◌, Bool, true, false, List, [], ◌∷◌, ◌++◌, length, if◌then◌else◌, Option, Some, None, Result, Ok, Err}
 use Rattle.std.specs.Str.{bytes_eq, chars}
 use Rattle.std.specs.FinMap.{get}
 use Rattle.enc_names.specs.declared.bom.Bom.{Bom}
@@ -20,8 +20,13 @@ use Rattle.desk.specs.Commands.{Ask, Asked, asked_of, Opens, Closes, Splices, Ch
 use Rattle.desk.specs.Desk.{Office, Answers, Adopts}
 use Rattle.desk.specs.Documents.{Entry, entry}
 use Rattle.desk.specs.Effects.{base64_bytes}
+use Rattle.desk.specs.Log.{Leads, Leaves, log_length, logged_all}
+use Rattle.desk.specs.Since.{patch_since}
 use Rattle.desk.specs.declared.fault.Fault.{Fault}
+use Rattle.desk.specs.declared.fault.Fault.TheVariants.{Forgotten}
 use Rattle.desk.specs.declared.ops.Reply.{Reply}
+use Rattle.desk.specs.declared.untouched.Patch.{Patch}
+use Rattle.desk.specs.declared.untouched.Untouched.{Untouched}
 
 -- ---- what happens to a desk
 
@@ -114,16 +119,39 @@ abbrev pub NameFrom : ℕ → List Ask → Type 0
 NameFrom r [] = Unit {0}
 NameFrom r (e ∷ es) = (named_by e ≡ Some r) × NameFrom (r + 1) es
 
--- The entry is the one of the beginning with the edits applied in their order, each once, and each named the revision that it found.
+-- Each edit leaves this of the bytes that it finds.
+abbrev pub LeaveEach : Files → Setting → List ℕ → List Ask → List Untouched → Type 0
+LeaveEach indexes setting bytes [] [] = Unit {0}
+LeaveEach indexes setting bytes (e ∷ es) (u ∷ us) =
+    Leaves bytes (edited_by indexes setting bytes e) u × LeaveEach indexes setting (edited_by indexes setting bytes e) es us
+LeaveEach indexes setting bytes es us = ⊥
+
+-- The entry is the one of the beginning with the edits applied in their order, each once, and each named the revision that it found. The log
+-- has what the last of them left.
 pub record IsLife (indexes : Files) (begin : Entry) (edits : List Ask) (now : Entry) : Type 0 where
   pub setting : now.setting ≡ begin.setting
   pub revision : now.revision ≡ begin.revision + length edits
   pub named : NameFrom begin.revision edits
   pub bytes : now.bytes ≡ edited_by_all indexes begin.setting begin.bytes edits
+  pub left : List Untouched
+  pub each : LeaveEach indexes begin.setting begin.bytes edits left
+  pub log : now.log ≡ logged_all begin.log left
 
 abbrev pub Lives : Type 0
 Lives = (d : List ℕ) (o p : Office) (acts : List Act) (begin : Entry) → get o.documents d ≡ Some begin → ActsAll o acts p → Lasts d acts
     → (now : Entry) × (get p.documents d ≡ Some now) × IsLife o.indexes begin (edits_of d acts) now
+
+-- ---- what is told since a revision
+
+-- So many edits after an entry, the splice told since its revision leads from its bytes to those now, where the log can have them all, and
+-- otherwise the revision is forgotten, and the oldest that isn't is named.
+pub record LeadsSince (begin now : Entry) (edits : ℕ) : Type 0 where
+  pub known : edits ≤ log_length → (patch : Patch) × (patch_since now begin.revision ≡ Ok patch) × Leads begin.bytes now.bytes patch
+  pub forgotten : log_length < edits → patch_since now begin.revision ≡ Err (Forgotten (now.revision - log_length))
+
+abbrev pub SinceLeads : Type 0
+SinceLeads = (d : List ℕ) (o p : Office) (acts : List Act) (begin : Entry) → get o.documents d ≡ Some begin → ActsAll o acts p → Lasts d acts
+    → (now : Entry) × (get p.documents d ≡ Some now) × LeadsSince begin now (length (edits_of d acts))
 
 -- ---- where lives begin and end
 

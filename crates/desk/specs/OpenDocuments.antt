@@ -11,7 +11,7 @@ use Rattle.desk.specs.Documents.{Entry, Names}
 
 -- an open document, without its index files
 abbrev pub entry_of : OpenDocument → Entry
-entry_of k = record { setting = k.document.setting; bytes = k.document.bytes; revision = k.revision }
+entry_of k = record { setting = k.document.setting; bytes = k.document.bytes; revision = k.revision; log = k.log }
 
 -- what was opened, without its index files, or why nothing was
 abbrev pub opened_entry : Result OpenDocument Fault → Result Entry Fault

@@ -6,15 +6,20 @@ use Rattle.piece_rope.specs.Edits.{splice_fault, spliced_document}
 use Rattle.desk.specs.Documents.{Entry, edited_reply, unless}
 use Rattle.desk.specs.Edits.{Applied, edited}
 use Rattle.desk.specs.Effects.{Effect}
+use Rattle.desk.specs.Log.{untouched_by}
 use Rattle.desk.specs.declared.fault.Fault.{Fault}
 use Rattle.desk.specs.declared.ops.Reply.{Reply}
+use Rattle.desk.specs.declared.untouched.Untouched.{Untouched}
 
 -- the bytes given in the place of `del` bytes from `at` on, unless what they replace isn't there or the document would be too large
 abbrev pub spliced : ℕ → ℕ → List ℕ → Document → Result (Applied (Unit {0})) Fault
 spliced at del ins d = unless (splice_fault d.bytes at del ins) (record { document = spliced_document d at del ins; done = tt })
 
+abbrev pub splice_leaves : ℕ → ℕ → Unit {0} → ℕ → Untouched
+splice_leaves at del done n = untouched_by at del n
+
 abbrev pub splice_reply : Unit {0} → Document → ℕ → Reply
 splice_reply done d rev = edited_reply d rev
 
 abbrev pub splice_effect : Files → ℕ → ℕ → ℕ → List ℕ → Entry → Effect
-splice_effect indexes rev at del ins = edited indexes rev (spliced at del ins) splice_reply
+splice_effect indexes rev at del ins = edited indexes rev (spliced at del ins) (splice_leaves at del) splice_reply

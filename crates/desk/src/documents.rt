@@ -116,7 +116,7 @@ impl<'i> Documents<'i> {
     /// Makes an edit of the document of this name.
     pub fn edit<E: Edit>(&mut self, alloc: Global, name: &str, edit: &E) -> Result<Reply, Fault>
         ensures step { IsOutcome
-            (outcome self.old.named name.now (of_document (map.get self.old.named name.now) (edited self.old.indexes (E.named edit.now) (E.applied edit.now) E.answer)))
+            (outcome self.old.named name.now (of_document (map.get self.old.named name.now) (edited self.old.indexes (E.named edit.now) (E.applied edit.now) (E.leaves edit.now) E.answer)))
             (reply_of result) self.old.named self.new.named }
         ensures indexes { self.new.indexes ≡ self.old.indexes }
     {

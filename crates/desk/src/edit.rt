@@ -5,15 +5,17 @@ ghost use Rattle.desk.specs.Accepted.{is_accepted};
 ghost use Rattle.desk.specs.Edits.{Applied, Applies};
 ghost use Rattle.desk.specs.declared.fault.Fault.{Fault};
 ghost use Rattle.desk.specs.declared.ops.Reply.{Reply};
+ghost use Rattle.desk.specs.declared.untouched.Untouched.{Untouched};
 
 use crate::fault::Fault;
 use crate::ops::Reply;
+use crate::untouched::Untouched;
 use piece_rope::Doc;
 use std::alloc::Global;
 
-/// An edit. It knows a document and neither its name nor its revision, which `OpenDocument::edit`
-/// checks and raises. Contracts see the revision that it names, what it does to a document, and
-/// its reply.
+/// An edit. It knows a document and neither its name, its revision nor its log, which
+/// `OpenDocument::edit` checks, raises and adds to. Contracts see the revision that it names, what it
+/// does to a document, what it leaves of the bytes there, and its reply.
 pub trait Edit {
     /// What the edit did, as far as its reply says it.
     type Done: Drop;
@@ -21,6 +23,8 @@ pub trait Edit {
     ghost named: { Self → ℕ };
 
     ghost applied: { Self → Document → Result (Applied Self.Done) Fault };
+
+    ghost leaves: { Self → Self.Done → ℕ → Untouched };
 
     ghost answer: { Self.Done → Document → ℕ → Reply };
 
@@ -36,6 +40,10 @@ pub trait Edit {
         ensures indexes { document.new.indexes ≡ document.old.indexes }
         ensures idle { document.new.earlier ≡ None }
         ensures err { OnErr result (document.new ≡ document.old) };
+
+    /// What the edit left as it was, of so many bytes.
+    fn untouched(&self, done: &Self::Done, before: u32) -> Untouched
+        ensures { result ≡ leaves self.now done.now before };
 
     /// The reply to the edit that left this document, at this revision.
     fn reply(&self, done: &Self::Done, document: &Doc<'_>, rev: u64) -> Reply

@@ -3,7 +3,7 @@ ghost use Rattle.desk.specs.Apart.{DocumentsAreApart};
 ghost use Rattle.desk.specs.AsPlanned.{PlansForetellChanges, RefusedPlansRefuseChanges};
 ghost use Rattle.desk.specs.Accepted.{OnlyChangesChange, RefusalsChangeNothing, MemoryIsNeverWanted};
 ghost use Rattle.desk.specs.KeptText.{ChangesKeepText, ListsAreTheirChanges, ListsKeepText};
-ghost use Rattle.desk.specs.Lives.{OpensBegin, AdoptionsBegin, ClosesEnd, Lives};
+ghost use Rattle.desk.specs.Lives.{OpensBegin, AdoptionsBegin, ClosesEnd, Lives, SinceLeads};
 
 /// A refused command changes nothing; and the definition itself never refuses for lack of memory.
 pub fn law_refusals_change_nothing()
@@ -13,12 +13,18 @@ pub fn law_refusals_change_nothing()
 {}
 
 /// From its open or adoption to its close a document has each accepted edit once and in order,
-/// and each was made to the revision that it named.
+/// each was made to the revision that it named, and the log has what the last of them left.
 pub fn law_lives_have_each_edit_once()
     ensures opens { OpensBegin }
     ensures adoptions { AdoptionsBegin }
     ensures closes { ClosesEnd }
     ensures lives { Lives }
+{}
+
+/// From its open or adoption to its close a document tells by the op `since` a splice that leads from
+/// its bytes at an earlier revision to those now, unless more edits were accepted since than a log has.
+pub fn law_since_leads()
+    ensures { SinceLeads }
 {}
 
 /// An accepted change leaves the bytes of the splice planned for its range, whose text, decoded from

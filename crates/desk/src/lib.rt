@@ -10,6 +10,7 @@ mod edit;
 mod fault;
 mod laws;
 mod line;
+mod log;
 mod max_number;
 mod open_document;
 pub mod ops;
@@ -18,13 +19,14 @@ mod place_unit;
 mod question;
 mod reply;
 mod text_mode;
+mod untouched;
 
 pub use change_cause::ChangeCause;
 pub use desk::Desk;
 pub use fault::Fault;
 pub use laws::{
     law_changes_keep_text, law_documents_are_apart, law_lives_have_each_edit_once,
-    law_plans_foretell_changes, law_refusals_change_nothing,
+    law_plans_foretell_changes, law_refusals_change_nothing, law_since_leads,
 };
 pub use line::Line;
 pub use max_number::MAX_NUMBER;
@@ -33,3 +35,4 @@ pub use page_start::PageStart;
 pub use place_unit::PlaceUnit;
 pub use reply::{BytesReply, EditedReply, ReplyList, ReplyText};
 pub use text_mode::TextMode;
+pub use untouched::Patch;

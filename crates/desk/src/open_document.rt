@@ -1,5 +1,5 @@
-//! One open document and its revision. What it answers to an op is in that op's file.
-ghost use Rattle.std.specs.Prelude.{◌≡◌, true, Ok, None, IfOk, OnErr};
+//! One open document, its revision and its last edits. What it answers to an op is in that op's file.
+ghost use Rattle.std.specs.Prelude.{◌≡◌, true, length, Ok, None, IfOk, OnErr};
 ghost use Rattle.piece_rope.specs.Edits.{open_fault};
 ghost use Rattle.desk.specs.Accepted.{is_accepted};
 ghost use Rattle.desk.specs.Documents.{Gives, edited_reply, entry, unless};
@@ -9,6 +9,7 @@ ghost use Rattle.desk.specs.declared.ops.Reply.TheVariants.{Edited};
 
 use crate::edit::Edit;
 use crate::fault::Fault;
+use crate::log::Log;
 use crate::max_number::MAX_NUMBER;
 use crate::ops::Reply;
 use crate::reply::EditedReply;
@@ -18,13 +19,15 @@ use index_loader::Indexes;
 use piece_rope::Doc;
 use std::alloc::Global;
 
-/// A document and its revision.
+/// A document, its revision and its last edits.
 #[derive(Drop)]
 pub struct OpenDocument<'i> {
     /// The document as it is now.
     pub document: Doc<'i>,
     /// The revision at which it was opened or adopted, and one more for each accepted edit.
     pub revision: u64,
+    /// What each of the last edits left as it was.
+    pub log: Log,
 }
 
 impl<'i> OpenDocument<'i> {
@@ -40,19 +43,24 @@ impl<'i> OpenDocument<'i> {
         ensures idle { IfOk result (IsIdle indexes.now) }
     {
         let (given, bom) = (setting.given, setting.bom);
+        let log = Log::new(alloc)?;
         match Doc::open(alloc, indexes, given, bom, bytes, &mut meter()) {
-            Ok(document) => Ok(OpenDocument { document, revision }),
+            Ok(document) => Ok(OpenDocument {
+                document,
+                revision,
+                log,
+            }),
             Err(cause) => Err(Fault::from(cause)),
         }
     }
 }
 
 impl OpenDocument<'_> {
-    /// Makes an edit and raises the revision by one, or changes nothing.
+    /// Makes an edit, raises the revision by one and adds the edit to the log, or changes nothing.
     pub fn edit<E: Edit>(&mut self, alloc: Global, edit: &E) -> Result<Reply, Fault>
         requires { self.old.document.earlier ≡ None }
         ensures step { Makes
-            (edited self.old.document.indexes (E.named edit.now) (E.applied edit.now) E.answer (entry_of self.old))
+            (edited self.old.document.indexes (E.named edit.now) (E.applied edit.now) (E.leaves edit.now) E.answer (entry_of self.old))
             result (entry_of self.new) }
         ensures accepted { IfOk result (λ reply. is_accepted reply ≡ true) }
         ensures indexes { self.new.document.indexes ≡ self.old.document.indexes }
@@ -60,8 +68,10 @@ impl OpenDocument<'_> {
         ensures err { OnErr result (self.new ≡ self.old) }
     {
         self.check_revision(edit.rev())?;
+        let before = byte_count(&self.document);
         let done = edit.apply(alloc, &mut self.document)?;
         self.revision += 1;
+        self.log.push(edit.untouched(&done, before));
         Ok(edit.reply(&done, &self.document, self.revision))
     }
 
@@ -77,6 +87,14 @@ impl OpenDocument<'_> {
         }
         Ok(())
     }
+}
+
+/// How many bytes a document has, which fits in 32 bits (`Doc::law_bounds`).
+pub(crate) fn byte_count(document: &Doc<'_>) -> u32
+    ensures { result ≡ length document.now.bytes }
+{
+    document.law_bounds();
+    document.lengths().bytes as u32
 }
 
 /// What is replied to an open or a splice that left this document, at this revision.

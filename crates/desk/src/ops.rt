@@ -15,6 +15,7 @@ mod open;
 mod place;
 mod plan;
 mod position;
+mod since;
 mod source;
 mod splice;
 mod stat;
@@ -35,6 +36,7 @@ pub use open::Open;
 pub use place::{Place, PlaceReply};
 pub use plan::{Plan, PlanReply};
 pub use position::{Position, PositionReply};
+pub use since::{Since, SinceReply};
 pub use source::Source;
 pub use splice::Splice;
 pub use stat::{Stat, StatReply};
@@ -73,6 +75,8 @@ pub enum Command<'a> {
     Offset(Offset<'a>),
     /// Returns an offset in all units, and the place of the code point there.
     Place(Place<'a>),
+    /// Returns the splice that leads from an earlier revision to the one now.
+    Since(Since<'a>),
     /// Returns how long a document and its text are.
     Stat(Stat<'a>),
 }
@@ -110,6 +114,8 @@ pub enum Reply {
     Offset(OffsetReply),
     /// An offset in each unit, and the place of the code point there.
     Place(PlaceReply),
+    /// The splice since a revision.
+    Since(SinceReply),
     /// How long a document and its text are.
     Stat(StatReply),
     /// The command was refused, and changed nothing.
@@ -140,6 +146,7 @@ impl Desk<'_> {
             Command::Position(position) => self.ask(position.doc, position),
             Command::Offset(offset) => self.ask(offset.doc, offset),
             Command::Place(place) => self.ask(place.doc, place),
+            Command::Since(since) => self.ask(since.doc, since),
             Command::Stat(stat) => self.ask(stat.doc, stat),
         }
     }

@@ -19,11 +19,12 @@ use Rattle.desk.specs.Lines.{lines_reply}
 use Rattle.desk.specs.Offset.{offset_reply}
 use Rattle.desk.specs.Place.{place_reply}
 use Rattle.desk.specs.Position.{position_reply}
-use Rattle.document_tests.specs.Session.{truncated, pair_and_cr_lf}
-use Rattle.desk.specs.declared.fault.Fault.TheVariants.{OutOfRange, SplitsCharacter}
+use Rattle.desk.specs.Since.{since_reply}
+use Rattle.document_tests.specs.Session.{truncated, edited_twice, pair_and_cr_lf}
+use Rattle.desk.specs.declared.fault.Fault.TheVariants.{OutOfRange, Forgotten, SplitsCharacter}
 use Rattle.desk.specs.declared.page_start.PageStart.TheVariants.{Line}
 use Rattle.desk.specs.declared.place_unit.PlaceUnit.TheVariants.{Byte, Text}
-use Rattle.desk.specs.declared.ops.Reply.TheVariants.{Stat, Diagnostics, Lines, Position, Offset, Place}
+use Rattle.desk.specs.declared.ops.Reply.TheVariants.{Stat, Diagnostics, Lines, Position, Offset, Place, Since}
 
 pub stat_worked : stat_reply no_files pair_and_cr_lf ≡ Stat (record { rev = 0; given = Utf8; encoding = Utf8; bom = 0; bytes = 8; errors = 0; lines = 2; utf8 = 8; utf16 = 6; utf32 = 5 })
 unfolding decoded_text decoded_errors decode run turns lines_of
@@ -60,3 +61,19 @@ past_worked = refl
 pub shown_worked : diagnostics_reply no_files truncated (Line 0) 10 Utf16 ≡ Ok (Diagnostics (record { rev = 0; total = 1; diagnostics = record { place = record { from = 0; to = 2 }; range = record { start = record { line = 0; character = 0 }; end = record { line = 0; character = 1 } } } ∷ [] }))
 unfolding decoded_text decoded_errors decode run turns number_fault lines_of diagnostics_of errors_before_line
 shown_worked = refl
+
+pub since_now_worked : since_reply no_files edited_twice 7 None ≡ Ok (Since (record { patch = record { at = 0; del = 0; ins = 0 }; range = None; rev = 7 }))
+since_now_worked = refl
+
+pub since_last_worked : since_reply no_files edited_twice 6 (Some Utf16) ≡ Ok (Since (record { patch = record { at = 1; del = 0; ins = 1 }; range = Some (record { start = record { line = 0; character = 0 }; end = record { line = 0; character = 1 } }); rev = 7 }))
+unfolding decoded_text decode run turns scalar_of_byte lines_of position_of
+since_last_worked = refl
+
+pub since_both_worked : since_reply no_files edited_twice 5 None ≡ Ok (Since (record { patch = record { at = 0; del = 0; ins = 2 }; range = None; rev = 7 }))
+since_both_worked = refl
+
+pub forgotten_worked : since_reply no_files edited_twice 4 None ≡ Err (Forgotten 5)
+forgotten_worked = refl
+
+pub later_worked : since_reply no_files edited_twice 8 (Some Utf16) ≡ Err OutOfRange
+later_worked = refl

@@ -19,9 +19,10 @@ use Rattle.piece_rope.specs.Edits.{open_fault, splice_fault, range_fault, number
 use Rattle.desk.specs.Close.{closed}
 use Rattle.desk.specs.Commands.{Asked, Opens, Closes, Splices, Reads, ListsErrors}
 use Rattle.desk.specs.Desk.{Office, Outcome, max_documents, outcome, answer_of, has_place}
-use Rattle.desk.specs.Documents.{Entry, Names, entry, edit_reply}
+use Rattle.desk.specs.Documents.{Entry, Names, edited_entry, edit_reply}
 use Rattle.desk.specs.Effects.{Puts, base64_bytes, with_bytes, replied, refused, put, of_document}
 use Rattle.desk.specs.Errors.{errors_reply}
+use Rattle.desk.specs.Log.{untouched_by}
 use Rattle.desk.specs.Open.{admitted, opened}
 use Rattle.document_tests.specs.Session.{a, replies_to, office_without_files, truncated, session, session_replies}
 use Rattle.desk.specs.Splice.{splice_effect}
@@ -46,7 +47,7 @@ no_bytes = refl
 -- ---- what is held, and what it decodes to
 
 abbrev completed : Entry
-completed = entry (setting_of Utf8 Sniff) (0xE2 ∷ 0x82 ∷ 0xAC ∷ 0x41 ∷ []) 1
+completed = edited_entry truncated (0xE2 ∷ 0x82 ∷ 0xAC ∷ 0x41 ∷ []) 1 (untouched_by 2 0 3)
 
 truncated_edit : edit_reply no_files truncated ≡ Edited (record { bom = 0; encoding = Utf8; rev = 0 })
 unfolding decode

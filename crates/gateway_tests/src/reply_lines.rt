@@ -5,7 +5,7 @@ ghost use Rattle.line_protocol.specs.Replies.{reply_text, refusal_text};
 ghost use Rattle.desk.specs.declared.change_cause.ChangeCause.TheVariants.{Plan};
 ghost use Rattle.desk.specs.declared.fault.Fault.TheVariants as fault;
 ghost use Rattle.position_map.specs.declared.change_fault.ChangeFault.TheVariants as change_fault;
-ghost use Rattle.desk.specs.declared.ops.Reply.TheVariants.{Edited, Change, Changes, Closed, Text, Errors, Diagnostics, Lines, Position, Offset, Stat, Refused};
+ghost use Rattle.desk.specs.declared.ops.Reply.TheVariants.{Edited, Change, Changes, Closed, Text, Errors, Diagnostics, Lines, Position, Offset, Since, Stat, Refused};
 ghost use Rattle.desk.specs.declared.ops.Reply.TheVariants as replies;
 ghost use Rattle.line_protocol.specs.declared.request.field.Field.TheVariants as field;
 ghost use Rattle.line_protocol.specs.declared.request.refusal.Refusal.TheVariants as refusal;
@@ -55,6 +55,12 @@ fn replies_on_positions()
         ≡ codes "{\"id\":1,\"place\":[0,2],\"rev\":0,\"utf16\":0,\"utf32\":0,\"utf8\":0}\n" }
     ensures end { reply_text 2 (replies.Place (record { rev = 0; place = None; utf8 = 4; utf16 = 2; utf32 = 2 }))
         ≡ codes "{\"id\":2,\"place\":null,\"rev\":0,\"utf16\":2,\"utf32\":2,\"utf8\":4}\n" }
+    ensures since { reply_text 5 (Since (record { patch = record { at = 3; del = 1; ins = 2 }; range = None; rev = 7 }))
+        ≡ codes "{\"at\":3,\"del\":1,\"id\":5,\"ins\":2,\"rev\":7}\n" }
+    ensures ranged { reply_text 5 (Since (record { patch = record { at = 3; del = 1; ins = 2 }; range = Some (record { start = record { line = 0; character = 3 }; end = record { line = 1; character = 0 } }); rev = 7 }))
+        ≡ codes "{\"at\":3,\"del\":1,\"end\":{\"character\":0,\"line\":1},\"id\":5,\"ins\":2,\"rev\":7,\"start\":{\"character\":3,\"line\":0}}\n" }
+    ensures forgotten { reply_text 5 (Refused (fault.Forgotten 976))
+        ≡ codes "{\"fault\":\"Forgotten\",\"id\":5,\"rev\":976}\n" }
     ensures splits { reply_text 4 (Refused fault.SplitsCharacter) ≡ codes "{\"fault\":\"SplitsCharacter\",\"id\":4}\n" }
 {}
 

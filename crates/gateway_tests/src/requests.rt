@@ -1,7 +1,7 @@
 //! Worked lines: their requests, computed on the definition.
 ghost use Rattle.std.specs.Prelude.{◌≡◌, ◌∷◌, [], codes, Ok, Err, Some, None};
 ghost use Rattle.enc_names.specs.declared.bom.Bom.TheVariants.{Sniff, Keep};
-ghost use Rattle.desk.specs.Commands.{asked_of, Opens, Closes, Splices, ChangesText, MakesChanges, Plans, Reads, ReadsBytes, Encodes, ListsErrors, ListsDiagnostics, ListsLines, FindsPosition, FindsOffset, FindsPlace, Measures};
+ghost use Rattle.desk.specs.Commands.{asked_of, Opens, Closes, Splices, ChangesText, MakesChanges, Plans, Reads, ReadsBytes, Encodes, ListsErrors, ListsDiagnostics, ListsLines, FindsPosition, FindsOffset, FindsPlace, TellsSince, Measures};
 ghost use Rattle.line_protocol.specs.Request.{request_of_line, position_of, range_of, text_change};
 ghost use Rattle.position_map.specs.declared.unit.Unit.TheVariants.{Utf8, Utf16, Utf32};
 ghost use Rattle.desk.specs.declared.page_start.PageStart.TheVariants as page_start;
@@ -49,6 +49,14 @@ fn commands_of_positions()
     ensures byte { request_of_line (codes
         "{\"id\":4,\"op\":\"place\",\"doc\":\"d\",\"unit\":\"byte\",\"value\":2}")
         ≡ Ok (4, asked_of (codes "d") (FindsPlace place_unit.Byte 2)) }
+    ensures since { request_of_line (codes "{\"id\":5,\"op\":\"since\",\"doc\":\"d\",\"rev\":7}")
+        ≡ Ok (5, asked_of (codes "d") (TellsSince 7 None)) }
+    ensures ranged { request_of_line (codes
+        "{\"id\":5,\"op\":\"since\",\"doc\":\"d\",\"rev\":7,\"unit\":\"utf-16\"}")
+        ≡ Ok (5, asked_of (codes "d") (TellsSince 7 (Some Utf16))) }
+    ensures null_range { request_of_line (codes
+        "{\"id\":5,\"op\":\"since\",\"doc\":\"d\",\"rev\":7,\"unit\":null}")
+        ≡ Err (BadRequest (Some 5) field.Unit) }
     ensures stat { request_of_line (codes "{\"id\":1,\"op\":\"stat\",\"doc\":\"d\"}")
         ≡ Ok (1, asked_of (codes "d") Measures) }
     ensures no_unit { request_of_line (codes

@@ -42,3 +42,11 @@ list-line front back key d line text last e l =
     ∙ ap (λ (t : List ℕ). (t ++ more) ++ 10 ∷ []) e
     ∙ ap (λ (t : List ℕ). t ++ 10 ∷ []) (line-parts (front_text false front) (comma_if (is_later false front)) (quoted key) (compact_text d) more)
     ∙ ap (λ (t : List ℕ). (123 ∷ t) ++ 10 ∷ []) (sym (front-then false front (member key d (members_of back))))
+
+-- ---- a position
+
+-- what is written one behind the other is the object's text
+pub point-parts : (before character first line second : List ℕ)
+    → (((((before ++ 123 ∷ []) ++ (comma_if false ++ (character ++ 58 ∷ []))) ++ first) ++ (comma_if true ++ (line ++ 58 ∷ []))) ++ second) ++ 125 ∷ []
+    ≡ before ++ 123 ∷ (comma_if false ++ (character ++ 58 ∷ (first ++ (comma_if true ++ (line ++ 58 ∷ (second ++ 125 ∷ []))))))
+point-parts before character first line second = simp append_assoc

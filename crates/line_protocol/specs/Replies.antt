@@ -9,7 +9,7 @@ use Rattle.base64.specs.GeneralPurpose.{encode_of}
 use Rattle.enc_names.specs.Names.{name_of}
 use Rattle.enc_names.specs.declared.place.Place.{Place}
 use Rattle.desk.specs.declared.fault.Fault.{Fault}
-use Rattle.desk.specs.declared.fault.Fault.TheVariants.{BadBase64, NoDocument, NameTaken, UnknownLabel, NoIndex, TooManyDocuments, Stale, RevisionsSpent, OutOfRange, SplitsCharacter, SplitsItem, NoEncoder, Unencodable, TooLarge, NotKept, InChange, Malformed, OutOfMemory}
+use Rattle.desk.specs.declared.fault.Fault.TheVariants.{BadBase64, NoDocument, NameTaken, UnknownLabel, NoIndex, TooManyDocuments, Stale, RevisionsSpent, OutOfRange, Forgotten, SplitsCharacter, SplitsItem, NoEncoder, Unencodable, TooLarge, NotKept, InChange, Malformed, OutOfMemory}
 use Rattle.desk.specs.Change.{cause_fault}
 use Rattle.desk.specs.declared.ops.change.ChangeReply.{ChangeReply}
 use Rattle.desk.specs.declared.ops.changes.ChangesReply.{ChangesReply}
@@ -20,15 +20,19 @@ use Rattle.desk.specs.declared.ops.offset.OffsetReply.{OffsetReply}
 use Rattle.desk.specs.declared.ops.place.PlaceReply.{PlaceReply}
 use Rattle.desk.specs.declared.ops.plan.PlanReply.{PlanReply}
 use Rattle.desk.specs.declared.ops.position.PositionReply.{PositionReply}
+use Rattle.desk.specs.declared.ops.since.SinceReply.{SinceReply}
 use Rattle.desk.specs.declared.ops.stat.StatReply.{StatReply}
 use Rattle.desk.specs.declared.ops.text.TextReply.{TextReply}
 use Rattle.desk.specs.declared.reply.BytesReply.{BytesReply}
 use Rattle.desk.specs.declared.reply.EditedReply.{EditedReply}
 use Rattle.desk.specs.declared.ops.Reply.{Reply}
 use Rattle.desk.specs.declared.line.Line.{Line}
-use Rattle.desk.specs.declared.ops.Reply.TheVariants.{Edited, Change, Changes, Closed, Text, Bytes, Errors, Diagnostics, Lines, Position, Offset, Stat, Refused}
+use Rattle.desk.specs.declared.ops.Reply.TheVariants.{Edited, Change, Changes, Closed, Text, Bytes, Errors, Diagnostics, Lines, Position, Offset, Since, Stat, Refused}
 use Rattle.desk.specs.declared.ops.Reply.TheVariants as replies
+use Rattle.desk.specs.declared.untouched.Patch.{Patch}
 use Rattle.position_map.specs.declared.diagnostic.Diagnostic.{Diagnostic}
+use Rattle.position_map.specs.declared.position.Position.{Position as TextPosition}
+use Rattle.position_map.specs.declared.position.Range.{Range}
 use Rattle.line_protocol.specs.declared.request.field.Field.{Field}
 use Rattle.line_protocol.specs.declared.request.field.Field.TheVariants as field
 use Rattle.line_protocol.specs.declared.request.refusal.Refusal.{Refusal}
@@ -88,6 +92,10 @@ diagnostic_data x =
 abbrev pub place_or_null : Option Place → Data
 place_or_null None = null
 place_or_null (Some p) = place_data p
+
+-- a line and the units on it
+abbrev pub point_data : TextPosition → Data
+point_data p = object (member (codes "character") (whole p.character) (member (codes "line") (whole p.line) no_members))
 
 abbrev pub edited_data : ℕ → EditedReply → Data
 edited_data id r =
@@ -156,6 +164,24 @@ found_place_data id r =
     object (member (codes "id") (whole id) (member (codes "place") (place_or_null r.place) (member (codes "rev") (whole r.rev)
     (member (codes "utf16") (whole r.utf16) (member (codes "utf32") (whole r.utf32) (member (codes "utf8") (whole r.utf8) no_members))))))
 
+abbrev pub patch_data : ℕ → ℕ → Patch → Data
+patch_data id rev p =
+    object (member (codes "at") (whole p.at) (member (codes "del") (whole p.del) (member (codes "id") (whole id)
+    (member (codes "ins") (whole p.ins) (member (codes "rev") (whole rev) no_members)))))
+
+abbrev pub ranged_patch_data : ℕ → ℕ → Patch → Range → Data
+ranged_patch_data id rev p range =
+    object (member (codes "at") (whole p.at) (member (codes "del") (whole p.del) (member (codes "end") (point_data range.end)
+    (member (codes "id") (whole id) (member (codes "ins") (whole p.ins) (member (codes "rev") (whole rev)
+    (member (codes "start") (point_data range.start) no_members)))))))
+
+abbrev pub patch_data_in : ℕ → ℕ → Patch → Option Range → Data
+patch_data_in id rev p None = patch_data id rev p
+patch_data_in id rev p (Some range) = ranged_patch_data id rev p range
+
+abbrev pub since_data : ℕ → SinceReply → Data
+since_data id r = patch_data_in id r.rev r.patch r.range
+
 abbrev pub stat_data : ℕ → StatReply → Data
 stat_data id r =
     object (member (codes "bom") (whole r.bom) (member (codes "bytes") (whole r.bytes) (member (codes "encoding") (string (name_of r.encoding))
@@ -210,6 +236,7 @@ plain_reason id TooManyDocuments = reason (codes "TooManyDocuments") (Some id) n
 plain_reason id (Stale rev) = reason (codes "Stale") (Some id) (with_number (codes "rev") rev no_members)
 plain_reason id RevisionsSpent = reason (codes "RevisionsSpent") (Some id) no_members
 plain_reason id OutOfRange = reason (codes "OutOfRange") (Some id) no_members
+plain_reason id (Forgotten rev) = reason (codes "Forgotten") (Some id) (with_number (codes "rev") rev no_members)
 plain_reason id SplitsCharacter = reason (codes "SplitsCharacter") (Some id) no_members
 plain_reason id SplitsItem = reason (codes "SplitsItem") (Some id) no_members
 plain_reason id NoEncoder = reason (codes "NoEncoder") (Some id) no_members
@@ -265,6 +292,7 @@ reply_data id (Lines r) = lines_data id r
 reply_data id (Position r) = position_data id r
 reply_data id (Offset r) = offset_data id r
 reply_data id (replies.Place r) = found_place_data id r
+reply_data id (Since r) = since_data id r
 reply_data id (Stat r) = stat_data id r
 reply_data id (Refused f) = reason_data (fault_reason id f)
 

@@ -11,7 +11,7 @@ use Rattle.serde_json.specs.declared.value.Value.{Value}
 use Rattle.enc_names.specs.Json.{json_of}
 use Rattle.enc_names.specs.declared.bom.Bom.{Bom}
 use Rattle.enc_names.specs.declared.bom.Bom.TheVariants.{Sniff, Keep}
-use Rattle.desk.specs.Commands.{Asked, TextChange, asked_of, Opens, Closes, Splices, ChangesText, MakesChanges, Plans, Reads, ReadsBytes, Encodes, ListsErrors, ListsDiagnostics, ListsLines, FindsPosition, FindsOffset, FindsPlace, Measures, asked}
+use Rattle.desk.specs.Commands.{Asked, TextChange, asked_of, Opens, Closes, Splices, ChangesText, MakesChanges, Plans, Reads, ReadsBytes, Encodes, ListsErrors, ListsDiagnostics, ListsLines, FindsPosition, FindsOffset, FindsPlace, TellsSince, Measures, asked}
 use Rattle.desk.specs.Documents.{max_number}
 use Rattle.desk.specs.declared.ops.Command.{Command}
 use Rattle.position_map.specs.declared.position.Position.{Position}
@@ -130,6 +130,14 @@ as_place_unit text = if bytes_eq text (codes "byte") then Some Byte else option_
 -- what the value of `place` counts, which has to be there
 abbrev pub place_unit_at : Data → Option PlaceUnit
 place_unit_at d = option_and_then as_place_unit (text_at d (codes "unit"))
+
+abbrev pub or_none : Option Data → Option (Option TextUnit)
+or_none None = Some None
+or_none (Some d) = option_map Some (option_and_then as_unit (as_str d))
+
+-- the unit of positions, of which none are wanted where it is absent
+abbrev pub optional_unit_at : Data → Option (Option TextUnit)
+optional_unit_at d = or_none (get (codes "unit") d)
 
 -- ---- where a page of errors begins
 
@@ -312,6 +320,13 @@ place_command d = do
   value ← need field.Value (number_at d (codes "value") max_number)
   Ok (asked_of doc (FindsPlace unit value))
 
+abbrev pub since_command : Data → Result Asked Field
+since_command d = do
+  doc ← need field.Doc (name_at d)
+  rev ← need field.Rev (number_at d (codes "rev") max_number)
+  unit ← need field.Unit (optional_unit_at d)
+  Ok (asked_of doc (TellsSince rev unit))
+
 abbrev pub stat_command : Data → Result Asked Field
 stat_command d = do
   doc ← need field.Doc (name_at d)
@@ -338,8 +353,9 @@ command_of d id op =
     else (if bytes_eq op (codes "position") then with_id id (position_command d)
     else (if bytes_eq op (codes "offset") then with_id id (offset_command d)
     else (if bytes_eq op (codes "place") then with_id id (place_command d)
+    else (if bytes_eq op (codes "since") then with_id id (since_command d)
     else (if bytes_eq op (codes "stat") then with_id id (stat_command d)
-    else Err (UnknownOp id))))))))))))))))
+    else Err (UnknownOp id)))))))))))))))))
 
 -- the request in an object: its number and its command
 abbrev pub request_of : Data → Result (ℕ × Asked) Refusal

@@ -4,12 +4,12 @@ use denote.Ref.{Bor}
 use Rattle.json.specs.Print.{quoted}
 use Rattle.serde_json.specs.Data.{Data, null, string, Members, no_members, member}
 use Rattle.serde_json.specs.Written.{comma_if, compact_text}
-use Rattle.line_protocol.specs.Replies.{whole, place_data, merged, Reason}
+use Rattle.line_protocol.specs.Replies.{whole, place_data, point_data, merged, Reason}
 use Rattle.line_protocol.specs.declared.reply_line.reasons.Reason.{Reason as WrittenReason}
 use Rattle.line_protocol.specs.declared.reply_line.reasons.More.{More}
 use Rattle.line_protocol.specs.declared.reply_line.reasons.More.TheVariants.{NoMore, One, Two}
 use Rattle.line_protocol.specs.declared.reply_line.members.Content.{Content}
-use Rattle.line_protocol.specs.declared.reply_line.members.Content.TheVariants.{Number, Small, Text, At, Nothing}
+use Rattle.line_protocol.specs.declared.reply_line.members.Content.TheVariants.{Number, Small, Text, At, Point, Nothing}
 use Rattle.serde.specs.Event.{Log, Logs, field_key}
 use Rattle.serde.specs.declared.name.Case.TheVariants.{AsIs}
 use Rattle.serde_json.specs.Events.{SendsValue}
@@ -36,6 +36,7 @@ content_data (Number n) = whole n
 content_data (Small n) = whole n
 content_data (Text t) = string t.now
 content_data (At place) = place_data place
+content_data (Point position) = point_data position
 content_data Nothing = null
 
 abbrev pub members_of : MemberList → Members
@@ -47,6 +48,7 @@ content_is_plain (Number n) = true
 content_is_plain (Small n) = true
 content_is_plain (Text t) = all_plain t.now
 content_is_plain (At place) = true
+content_is_plain (Point position) = true
 content_is_plain Nothing = true
 
 abbrev pub are_plain : MemberList → Bool
@@ -69,7 +71,7 @@ is_later later [] = later
 is_later later (m ∷ ms) = true
 
 -- the most bytes of the name of a field and of that of an encoding; of a number of 64 bits and of 32, of a list of numbers, of a place, which
--- is two of them, and of `null`
+-- is two of them, of a position, and of `null`
 abbrev pub name_room : ℕ
 name_room = 20
 
@@ -88,6 +90,9 @@ numbers_room ns = 2 + 21 * length ns
 abbrev pub place_room : ℕ
 place_room = 44
 
+abbrev pub point_room : ℕ
+point_room = 63
+
 -- of an entry of a list, which is six numbers at most
 abbrev pub entry_room : ℕ
 entry_room = 128
@@ -101,6 +106,7 @@ content_room (Number n) = number_room
 content_room (Small n) = small_room
 content_room (Text t) = length t.now + 2
 content_room (At place) = place_room
+content_room (Point position) = point_room
 content_room Nothing = null_room
 
 -- at most so many bytes, with a comma before each member and the closing bracket

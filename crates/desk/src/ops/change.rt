@@ -3,7 +3,7 @@ ghost use Rattle.std.specs.Prelude.{◌≡◌, OnErr};
 ghost use Rattle.desk.specs.Commands.{asked_of, ChangesText};
 ghost use Rattle.desk.specs.Desk.{Answers};
 ghost use Rattle.desk.specs.Documents.{reply_of};
-ghost use Rattle.desk.specs.Change.{MakesChange, alone, changed, change_reply};
+ghost use Rattle.desk.specs.Change.{MakesChange, alone, changed, change_leaves, change_reply};
 ghost use Rattle.desk.specs.Edits.{OnlyBytes};
 
 use crate::change_cause::ChangeCause;
@@ -11,6 +11,7 @@ use crate::desk::Desk;
 use crate::edit::Edit;
 use crate::fault::Fault;
 use crate::ops::Reply;
+use crate::untouched::Untouched;
 use decoder_core::meter;
 use enc_names::Encoding;
 use piece_rope::Doc;
@@ -67,6 +68,8 @@ impl Edit for Change<'_> {
 
     ghost applied = { λ c d. alone (changed c.unit c.range c.text.now d) };
 
+    ghost leaves = { λ _. change_leaves };
+
     ghost answer = { change_reply };
 
     fn rev(&self) -> u64 {
@@ -76,6 +79,10 @@ impl Edit for Change<'_> {
     fn apply(&self, alloc: Global, document: &mut Doc<'_>) -> Result<Plan, Fault> {
         let plan = make_change(alloc, document, self.unit, self.range, self.text)?;
         Ok(plan)
+    }
+
+    fn untouched(&self, done: &Plan, before: u32) -> Untouched {
+        Untouched::by_splice(done.at, done.del, before)
     }
 
     fn reply(&self, done: &Plan, document: &Doc<'_>, rev: u64) -> Reply {

@@ -1,19 +1,21 @@
 //! The op `changes`.
-ghost use Rattle.std.specs.Prelude.{◌≡◌, ◌≤◌, length, map, OnErr};
+ghost use Rattle.std.specs.Prelude.{◌≡◌, ◌<◌, ◌≤◌, ◌^◌, length, map, OnErr};
 ghost use Rattle.desk.specs.Commands.{MakesChanges, asked_of, change_of};
 ghost use Rattle.desk.specs.Desk.{Answers};
 ghost use Rattle.desk.specs.Documents.{reply_of};
-ghost use Rattle.desk.specs.Changes.{changed_all, changes_reply};
+ghost use Rattle.desk.specs.Changes.{changed_from_none, changes_leave, changes_reply, one_more};
 ghost use Rattle.desk.specs.Edits.{Applies, OnlyBytes};
 
 use crate::desk::Desk;
 use crate::edit::Edit;
 use crate::fault::Fault;
+use crate::open_document::byte_count;
 use crate::ops::Reply;
 use crate::ops::change::make_change;
+use crate::untouched::Untouched;
 use enc_names::Encoding;
 use piece_rope::Doc;
-use position_map::{Range, Unit};
+use position_map::{Plan, Range, Unit};
 use std::alloc::Global;
 
 /// One change of a list.
@@ -39,6 +41,29 @@ pub struct Changes<'a> {
     pub changes: Vec<ContentChange<'a>>,
 }
 
+/// How many changes were made one behind the other, and what they left as it was.
+#[derive(Clone, Copy)]
+pub struct MadeChanges {
+    /// How many changes were made.
+    pub count: u64,
+    /// What they all left.
+    pub untouched: Untouched,
+}
+
+impl MadeChanges {
+    /// With one more, which was made of so many bytes.
+    fn and(self, plan: &Plan, before: u32) -> MadeChanges
+        requires { self.count < 2 ^ 63 }
+        ensures { result ≡ one_more self before plan.now }
+    {
+        let untouched = Untouched::by_splice(plan.at, plan.del, before);
+        MadeChanges {
+            count: self.count + 1,
+            untouched: self.untouched.and(untouched),
+        }
+    }
+}
+
 /// The reply to a list of changes.
 #[derive(Clone, Copy)]
 pub struct ChangesReply {
@@ -62,12 +87,13 @@ impl Desk<'_> {
 }
 
 impl Edit for Changes<'_> {
-    /// How many changes were made.
-    type Done = u64;
+    type Done = MadeChanges;
 
     ghost named = { λ c. c.rev };
 
-    ghost applied = { λ c. changed_all c.unit 0 (map change_of c.changes.items) };
+    ghost applied = { λ c. changed_from_none c.unit (map change_of c.changes.items) };
+
+    ghost leaves = { λ _. changes_leave };
 
     ghost answer = { changes_reply };
 
@@ -77,7 +103,7 @@ impl Edit for Changes<'_> {
 
     // One change is made or refused as a whole. Of more, those before one that is refused are taken
     // back.
-    fn apply(&self, alloc: Global, document: &mut Doc<'_>) -> Result<u64, Fault> {
+    fn apply(&self, alloc: Global, document: &mut Doc<'_>) -> Result<MadeChanges, Fault> {
         let changes = self.changes.as_slice();
         if changes.len() <= 1 {
             return make_changes(alloc, document, self.unit, changes);
@@ -91,9 +117,13 @@ impl Edit for Changes<'_> {
         made
     }
 
-    fn reply(&self, done: &u64, document: &Doc<'_>, rev: u64) -> Reply {
+    fn untouched(&self, done: &MadeChanges, _: u32) -> Untouched {
+        done.untouched
+    }
+
+    fn reply(&self, done: &MadeChanges, document: &Doc<'_>, rev: u64) -> Reply {
         Reply::Changes(ChangesReply {
-            applied: *done,
+            applied: done.count,
             bom: document.bom_len(),
             encoding: document.encoding(),
             rev,
@@ -101,22 +131,27 @@ impl Edit for Changes<'_> {
     }
 }
 
-/// Makes changes one after another, up to the first that is refused, and counts them.
+/// Makes changes one after another, up to the first that is refused.
 fn make_changes(
     alloc: Global,
     document: &mut Doc<'_>,
     unit: Unit,
     changes: &[ContentChange<'_>],
-) -> Result<u64, Fault>
-    ensures step { Applies (changed_all unit 0 (map change_of changes.now) document.old) result document.new }
+) -> Result<MadeChanges, Fault>
+    ensures step { Applies (changed_from_none unit (map change_of changes.now) document.old) result document.new }
     ensures kept { OnlyBytes document.old document.new }
     ensures few { length changes.now ≤ 1 → OnErr result (document.new ≡ document.old) }
 {
-    'changes: for (number, change) in changes.iter().enumerate() {
-        let number = number as u64;
-        if let Err(cause) = make_change(alloc, document, unit, change.range, change.text) {
-            return Err(Fault::in_change(number, cause));
+    let mut made = MadeChanges {
+        count: 0,
+        untouched: Untouched::all(byte_count(document)),
+    };
+    'changes: for change in changes {
+        let before = byte_count(document);
+        match make_change(alloc, document, unit, change.range, change.text) {
+            Ok(plan) => made = made.and(&plan, before),
+            Err(cause) => return Err(Fault::in_change(made.count, cause)),
         }
     }
-    Ok(changes.len() as u64)
+    Ok(made)
 }

@@ -3,7 +3,7 @@ ghost use Rattle.std.specs.Prelude.{◌≡◌};
 ghost use Rattle.desk.specs.Commands.{asked_of, Splices};
 ghost use Rattle.desk.specs.Desk.{Answers};
 ghost use Rattle.desk.specs.Documents.{reply_of};
-ghost use Rattle.desk.specs.Splice.{spliced, splice_reply};
+ghost use Rattle.desk.specs.Splice.{spliced, splice_leaves, splice_reply};
 
 use crate::base64_text::bytes_of;
 use crate::desk::Desk;
@@ -11,6 +11,7 @@ use crate::edit::Edit;
 use crate::fault::Fault;
 use crate::open_document::edited_reply;
 use crate::ops::Reply;
+use crate::untouched::Untouched;
 use decoder_core::meter;
 use piece_rope::Doc;
 use std::alloc::Global;
@@ -62,6 +63,8 @@ impl Edit for ReadSplice<'_> {
 
     ghost applied = { λ s. spliced s.at s.del s.ins.now };
 
+    ghost leaves = { λ s. splice_leaves s.at s.del };
+
     ghost answer = { splice_reply };
 
     fn rev(&self) -> u64 {
@@ -71,6 +74,10 @@ impl Edit for ReadSplice<'_> {
     fn apply(&self, _: Global, document: &mut Doc<'_>) -> Result<(), Fault> {
         document.splice(self.at, self.del, self.ins, &mut meter())?;
         Ok(())
+    }
+
+    fn untouched(&self, _: &(), before: u32) -> Untouched {
+        Untouched::by_splice(self.at, self.del, before)
     }
 
     fn reply(&self, _: &(), document: &Doc<'_>, rev: u64) -> Reply {

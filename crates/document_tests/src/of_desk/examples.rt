@@ -9,11 +9,12 @@ ghost use Rattle.desk.specs.Lines.{lines_reply};
 ghost use Rattle.desk.specs.Offset.{offset_reply};
 ghost use Rattle.desk.specs.Place.{place_reply};
 ghost use Rattle.desk.specs.Position.{position_reply};
-ghost use Rattle.document_tests.specs.Session.{truncated, pair_and_cr_lf};
-ghost use Rattle.desk.specs.declared.fault.Fault.TheVariants.{OutOfRange, SplitsCharacter};
+ghost use Rattle.desk.specs.Since.{since_reply};
+ghost use Rattle.document_tests.specs.Session.{truncated, edited_twice, pair_and_cr_lf};
+ghost use Rattle.desk.specs.declared.fault.Fault.TheVariants.{OutOfRange, Forgotten, SplitsCharacter};
 ghost use Rattle.desk.specs.declared.page_start.PageStart.TheVariants.{Line};
 ghost use Rattle.desk.specs.declared.place_unit.PlaceUnit.TheVariants.{Byte, Text};
-ghost use Rattle.desk.specs.declared.ops.Reply.TheVariants.{Stat, Diagnostics, Lines, Position, Offset, Place};
+ghost use Rattle.desk.specs.declared.ops.Reply.TheVariants.{Stat, Diagnostics, Lines, Position, Offset, Place, Since};
 
 /// `a`, U+1F600, CR, LF, `b` in UTF-8.
 fn pair_and_cr_lf()
@@ -30,4 +31,14 @@ fn truncated_sequence()
     ensures end { place_reply no_files truncated Byte 3 ≡ Ok (Place (record { rev = 0; place = None; utf8 = 4; utf16 = 2; utf32 = 2 })) }
     ensures past { place_reply no_files truncated Byte 4 ≡ Err OutOfRange }
     ensures shown { diagnostics_reply no_files truncated (Line 0) 10 Utf16 ≡ Ok (Diagnostics (record { rev = 0; total = 1; diagnostics = record { place = record { from = 0; to = 2 }; range = record { start = record { line = 0; character = 0 }; end = record { line = 0; character = 1 } } } ∷ [] })) }
+{}
+
+/// UTF-8 `41`, then `E2 41`, then `E2 82 41`: what came in last ends inside of the error, and what came in since the first
+/// revision is all of it.
+fn edited_twice()
+    ensures now { since_reply no_files edited_twice 7 None ≡ Ok (Since (record { patch = record { at = 0; del = 0; ins = 0 }; range = None; rev = 7 })) }
+    ensures last { since_reply no_files edited_twice 6 (Some Utf16) ≡ Ok (Since (record { patch = record { at = 1; del = 0; ins = 1 }; range = Some (record { start = record { line = 0; character = 0 }; end = record { line = 0; character = 1 } }); rev = 7 })) }
+    ensures both { since_reply no_files edited_twice 5 None ≡ Ok (Since (record { patch = record { at = 0; del = 0; ins = 2 }; range = None; rev = 7 })) }
+    ensures forgotten { since_reply no_files edited_twice 4 None ≡ Err (Forgotten 5) }
+    ensures later { since_reply no_files edited_twice 8 (Some Utf16) ≡ Err OutOfRange }
 {}

@@ -3,13 +3,14 @@ ghost use Rattle.std.specs.Prelude.{◌≡◌, ◌≤◌, ◌+◌, ◌++◌, ◌
 ghost use Rattle.serde_json.specs.Data.{object};
 ghost use Rattle.serde_json.specs.Written.{compact_text, comma_if, members_text};
 ghost use Rattle.json.specs.Print.{quoted};
-ghost use Rattle.line_protocol.specs.Writing.{all_plain, members_of, are_plain, room_of, content_data, content_is_plain, content_room, front_text, is_later, number_room, numbers_room, place_room, small_room, IsNext};
+ghost use Rattle.line_protocol.specs.Writing.{all_plain, members_of, are_plain, room_of, content_data, content_is_plain, content_room, front_text, is_later, number_room, numbers_room, place_room, point_room, small_room, IsNext};
 ghost use Rattle.line_protocol.specs.Inline.{IsShortLine};
-ghost use Rattle.line_protocol.specs.Replies.{whole, numbers_data, place_data, merged};
+ghost use Rattle.line_protocol.specs.Replies.{whole, numbers_data, place_data, point_data, merged};
 
 use crate::reply_line::short_text::{CAPACITY, ShortText};
 use enc_names::Place;
 use itoa::Buffer;
+use position_map::Position;
 
 /// The value of a member.
 #[derive(Clone, Copy)]
@@ -22,6 +23,8 @@ pub(super) enum Content<'a> {
     Text(&'a str),
     /// The two ends of a place, as a list.
     At(Place),
+    /// A line and the units on it, as an object.
+    Point(Position),
     /// `null`.
     Nothing,
 }
@@ -144,6 +147,7 @@ fn put(line: &mut ShortText, later: bool, key: &str, content: Content<'_>)
         Content::Small(number) => put_small(line, number),
         Content::Text(text) => line.quote(text),
         Content::At(place) => put_place(line, place),
+        Content::Point(position) => put_point(line, position),
         Content::Nothing => line.extend(b"null"),
     }
 }
@@ -173,6 +177,20 @@ fn put_place(line: &mut ShortText, place: Place)
     ensures room { length line.new ≤ length line.old + place_room }
 {
     put_numbers(line, &[place.from, place.to])
+}
+
+/// Appends a position as an object.
+fn put_point(line: &mut ShortText, position: Position)
+    requires { length line.old + point_room ≤ CAPACITY }
+    ensures text { line.new ≡ line.old ++ compact_text (point_data position) }
+    ensures room { length line.new ≤ length line.old + point_room }
+{
+    line.push(b'{');
+    put_key(line, false, "character");
+    put_number(line, position.character);
+    put_key(line, true, "line");
+    put_number(line, position.line);
+    line.push(b'}');
 }
 
 /// Appends a list of numbers.

@@ -79,6 +79,7 @@ impl Reason {
             Fault::Stale { rev } => ("Stale", More::One("rev", Content::Number(rev))),
             Fault::RevisionsSpent => ("RevisionsSpent", More::NoMore),
             Fault::OutOfRange => ("OutOfRange", More::NoMore),
+            Fault::Forgotten { rev } => ("Forgotten", More::One("rev", Content::Number(rev))),
             Fault::SplitsCharacter => ("SplitsCharacter", More::NoMore),
             Fault::SplitsItem => ("SplitsItem", More::NoMore),
             Fault::NoEncoder => ("NoEncoder", More::NoMore),

@@ -3,14 +3,17 @@ ghost use Rattle.std.specs.Prelude.{◌≡◌, ◌≤◌, false, length, IsTrue,
 ghost use Rattle.enc_names.specs.Names.{name_of};
 ghost use Rattle.line_protocol.specs.Writing.{all_plain, encoding_room};
 ghost use Rattle.line_protocol.specs.Inline.{IsShortLine, is_short};
-ghost use Rattle.line_protocol.specs.Replies.{edited_data, change_data, changes_data, closed_data, position_data, offset_data, found_place_data, stat_data, reply_data};
+ghost use Rattle.line_protocol.specs.Replies.{edited_data, change_data, changes_data, closed_data, position_data, offset_data, found_place_data, patch_data, ranged_patch_data, since_data, stat_data, reply_data};
 
 use crate::reply_line::members::{Content, line};
 use crate::reply_line::reasons::Reason;
 use crate::reply_line::short_text::ShortText;
-use desk::ops::{ChangeReply, ChangesReply, OffsetReply, PlaceReply, PositionReply, StatReply};
-use desk::{EditedReply, Reply};
+use desk::ops::{
+    ChangeReply, ChangesReply, OffsetReply, PlaceReply, PositionReply, SinceReply, StatReply,
+};
+use desk::{EditedReply, Patch, Reply};
 use enc_names::Encoding;
+use position_map::Range;
 
 /// The line of a reply that takes no memory; none for a reply that does.
 pub(super) fn line_of(id: u64, reply: &Reply) -> Option<ShortText>
@@ -25,6 +28,7 @@ pub(super) fn line_of(id: u64, reply: &Reply) -> Option<ShortText>
         Reply::Position(reply) => Some(position(id, reply)),
         Reply::Offset(reply) => Some(offset(id, reply)),
         Reply::Place(reply) => Some(place(id, reply)),
+        Reply::Since(reply) => Some(since(id, reply)),
         Reply::Stat(reply) => Some(stat(id, reply)),
         Reply::Refused { fault } => Some(Reason::of_fault(id, *fault).line()),
         Reply::Plan(_)
@@ -121,6 +125,44 @@ fn place(id: u64, reply: &PlaceReply) -> ShortText
         ("utf16", Content::Number(reply.utf16)),
         ("utf32", Content::Number(reply.utf32)),
         ("utf8", Content::Number(reply.utf8)),
+    ])
+}
+
+/// The splice since a revision, with its range where one is wanted.
+fn since(id: u64, reply: &SinceReply) -> ShortText
+    ensures { IsShortLine (since_data id reply.now) result }
+{
+    match reply.range {
+        Some(range) => ranged_patch(id, reply.rev, reply.patch, range),
+        None => patch(id, reply.rev, reply.patch),
+    }
+}
+
+/// A splice.
+fn patch(id: u64, rev: u64, patch: Patch) -> ShortText
+    ensures { IsShortLine (patch_data id rev patch) result }
+{
+    line(&[
+        ("at", Content::Small(patch.at)),
+        ("del", Content::Small(patch.del)),
+        ("id", Content::Number(id)),
+        ("ins", Content::Small(patch.ins)),
+        ("rev", Content::Number(rev)),
+    ])
+}
+
+/// A splice with the range of its text.
+fn ranged_patch(id: u64, rev: u64, patch: Patch, range: Range) -> ShortText
+    ensures { IsShortLine (ranged_patch_data id rev patch range) result }
+{
+    line(&[
+        ("at", Content::Small(patch.at)),
+        ("del", Content::Small(patch.del)),
+        ("end", Content::Point(range.end)),
+        ("id", Content::Number(id)),
+        ("ins", Content::Small(patch.ins)),
+        ("rev", Content::Number(rev)),
+        ("start", Content::Point(range.start)),
     ])
 }
 

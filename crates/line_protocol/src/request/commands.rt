@@ -2,7 +2,7 @@
 ghost use Rattle.std.specs.Prelude.{◌≡◌, map, option_map};
 ghost use Rattle.serde_json.specs.View.{view};
 ghost use Rattle.desk.specs.Commands.{change_of};
-ghost use Rattle.line_protocol.specs.Request.{changes_at, open_command, close_command, splice_command, change_command, text_command, source_command, encode_command, errors_command, diagnostics_command, lines_command, position_command, offset_command, place_command, stat_command, changes_command, plan_command, request_of, command_asked, IsRequest};
+ghost use Rattle.line_protocol.specs.Request.{changes_at, open_command, close_command, splice_command, change_command, text_command, source_command, encode_command, errors_command, diagnostics_command, lines_command, position_command, offset_command, place_command, since_command, stat_command, changes_command, plan_command, request_of, command_asked, IsRequest};
 ghost use Rattle.line_protocol.specs.declared.request.refusal.Refusal.TheVariants.{BadRequest};
 
 use crate::request::change_list::change_list;
@@ -60,6 +60,7 @@ pub fn parse_request(alloc: Global, value: &Value) -> Result<(u64, Command<'_>),
         "position" => position(value),
         "offset" => offset(value),
         "place" => place(value),
+        "since" => since(value),
         "stat" => stat(value),
         _ => return Err(Refusal::UnknownOp { id }),
     };
@@ -291,6 +292,16 @@ fn place(value: &Value) -> Result<Command<'_>, Field>
         unit,
         value: named,
     }))
+}
+
+/// The command `since`, or the first faulty field.
+fn since(value: &Value) -> Result<Command<'_>, Field>
+    ensures { command_asked result ≡ since_command (view value.now) }
+{
+    let doc = need!(Field::Doc, fields::name(value));
+    let rev = need!(Field::Rev, fields::number(value, "rev", MAX_NUMBER));
+    let unit = need!(Field::Unit, fields::optional_unit(value));
+    Ok(Command::Since(ops::Since { doc, rev, unit }))
 }
 
 /// The command `stat`, or the first faulty field.

@@ -1,7 +1,7 @@
 //! The fields of an object, each by its kind. An absent field and one of another kind are alike.
 ghost use Rattle.std.specs.Prelude.{◌≡◌, option_map};
 ghost use Rattle.serde_json.specs.View.{view};
-ghost use Rattle.line_protocol.specs.Request.{number_at, text_at, name_at, bom_at, text_mode_at, encode_mode_at, as_unit, unit_at, place_unit_at, page_start_at, position_at, range_at};
+ghost use Rattle.line_protocol.specs.Request.{number_at, text_at, name_at, bom_at, text_mode_at, encode_mode_at, as_unit, unit_at, optional_unit_at, place_unit_at, page_start_at, position_at, range_at};
 
 use crate::request::field::Field;
 use desk::{MAX_NUMBER, PageStart, PlaceUnit, TextMode};
@@ -101,6 +101,17 @@ pub(super) fn unit(value: &Value) -> Option<Unit>
         return Some(Unit::Utf16);
     };
     named_unit(unit.as_str()?)
+}
+
+/// The unit of positions, of which none are wanted where it is absent.
+pub(super) fn optional_unit(value: &Value) -> Option<Option<Unit>>
+    ensures { result ≡ optional_unit_at (view value.now) }
+{
+    let Some(unit) = value.get("unit") else {
+        return Some(None);
+    };
+    let unit = named_unit(unit.as_str()?)?;
+    Some(Some(unit))
 }
 
 /// What a value counts: bytes of the document, or units of its text.

@@ -12,5 +12,8 @@ returns c = record {
   offset = refl;
   place = refl;
   end = refl;
+  since = refl;
+  ranged = refl;
+  forgotten = refl;
   splits = refl;
 }

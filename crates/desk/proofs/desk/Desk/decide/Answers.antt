@@ -46,5 +46,8 @@ returns-in-Offset c = rw c.in-Offset.is c.ask-in-Offset.ensures
 pub returns-in-Place : goal.returns-in-Place
 returns-in-Place c = rw c.in-Place.is c.ask-in-Place.ensures
 
+pub returns-in-Since : goal.returns-in-Since
+returns-in-Since c = rw c.in-Since.is c.ask-in-Since.ensures
+
 pub returns-in-Stat : goal.returns-in-Stat
 returns-in-Stat c = rw c.in-Stat.is c.ask-in-Stat.ensures

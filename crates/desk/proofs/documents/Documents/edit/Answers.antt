@@ -18,5 +18,5 @@ pub returns-clause-step : goal.returns-clause-step
 returns-clause-step g c =
     let holds = c.get_mut.follows.holds c.edit.new.self in rw (← c.self.view_is)
     (edited_here c.self.inside.named (c.get_mut.follows.lender c.edit.new.self) c.args.name.now c.self.inside.indexes.now
-    (λ indexes. edited indexes (g.E.Edit.named c.args.edit.now) (g.E.Edit.applied c.args.edit.now) g.E.Edit.answer)
+    (λ indexes. edited indexes (g.E.Edit.named c.args.edit.now) (g.E.Edit.applied c.args.edit.now) (g.E.Edit.leaves c.args.edit.now) g.E.Edit.answer)
     c.in-Some.found.now c.edit.new.self c.in-Some.ensures.value c.self.invariant c.edit.result c.edit.ensures.step c.edit.ensures.accepted c.edit.ensures.err holds.0 (holds.3 (search rules)))
