@@ -3,12 +3,15 @@ import errno
 import mmap
 import os
 import shutil
+import struct
 import subprocess
 import sys
 import time
 import unittest
 
 from mounts import BYTES, EDITED, TEXT, Ruled, edited, until
+
+CAPABILITY = "security.capability"
 
 
 class Views(Ruled):
@@ -54,6 +57,19 @@ class Views(Ruled):
         self.assertEqual(os.listdir(self.shown), [])
         self.assertFalse((self.shown / ".git").exists())
         self.refuses(errno.EACCES, (self.shown / ".hg").mkdir)
+
+    def test_a_write_takes_a_program_s_capabilities_away(self):
+        path, value = self.file("f.bin"), struct.pack("<5I", 0x0200_0000, 1 << 10, 0, 0, 0)
+        try:
+            os.setxattr(self.below / "f.bin", CAPABILITY, value)
+        except PermissionError:
+            self.skipTest("this user may not give any")
+        self.assertEqual(os.getxattr(path, CAPABILITY), value)
+        with open(path, "r+b") as file:
+            self.refuses(errno.ENODATA, os.getxattr, path, CAPABILITY)
+            file.write(b"x")
+        self.refuses(errno.ENODATA, os.getxattr, path, CAPABILITY)
+        self.refuses(errno.ENODATA, os.getxattr, self.below / "f.bin", CAPABILITY)
 
     def test_changes_below_are_seen(self):
         self.file()

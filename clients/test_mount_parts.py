@@ -1,5 +1,7 @@
 """Parts of `legacy mount` that no program sees alone. They need no mount, but some need pyfuse3 and trio."""
+import contextlib
 import errno
+import io
 import os
 import pathlib
 import subprocess
@@ -10,10 +12,12 @@ import unittest
 from typing import NamedTuple
 from unittest import mock
 
+from legacy.documents import LARGE
 from legacy.mount import below
 from legacy.mount.below import Place, Store, read_at
+from legacy.mount.sending import Content, Kept, Receiver, Sender
 from legacy.rules import Rule
-from legacy.saving import Refused
+from legacy.saving import Known, Refused
 from mounts import INDEXES, PROGRAM, PYTHON, has_pyfuse3
 
 HAS_PYFUSE3 = has_pyfuse3(sys.executable)
@@ -83,6 +87,27 @@ class Below(unittest.TestCase):
 
     def test_a_save_that_needn_t_wait_for_the_disk(self):
         self.assertEqual(self.synced(False) + self.synced(False, links=2), [])
+
+    def test_the_bytes_of_what_is_replaced_are_freed_behind_the_renaming(self):
+        # The system would free them within, and meanwhile let nobody list the folder.
+        (self.folder / "f").write_bytes(b"before")
+        old, rename, held = (self.folder / "f").stat().st_ino, os.rename, []
+
+        def noted(*words, **named):
+            held.append(self.is_held(old))
+            rename(*words, **named)
+
+        with mock.patch("os.rename", noted):
+            Store(lambda: None, None, False).put(self.place, b"after")
+        self.assertEqual((held, self.is_held(old)), ([True], False))
+
+    def is_held(self, inode):
+        """Whether a descriptor of this process leads to a file."""
+        found = []
+        for it in os.listdir("/proc/self/fd"):
+            with contextlib.suppress(OSError):
+                found.append(os.stat(f"/proc/self/fd/{it}").st_ino)
+        return inode in found
 
     def test_a_content_is_read_with_the_signature_that_it_had_throughout(self):
         (self.folder / "f").write_bytes(b"one")
@@ -259,6 +284,44 @@ class Ahead(unittest.TestCase):
         listing = self.listing(4, ROOM // 2)
         self.begun(listing, 0)
         self.assertEqual(self.begun(listing, 1), [(0, 1), (2, 3)])
+
+
+class Sent(unittest.TestCase):
+    """What a process that saves is sent."""
+
+    def test_a_large_content_that_it_keeps_once_more_as_a_number(self):
+        kept, known = Kept(), Known(b"a" * LARGE, "a" * LARGE, "Shift_JIS", 0)
+        kept.keep(7, known)
+        sent = io.BytesIO()
+        Sender(sent, set(kept.of)).dump(("save", [Content(7, known.raw, None), Content(8, b"b", None)]))
+        self.assertLess(len(sent.getvalue()), 1000)
+        sent.seek(0)
+        name, (one, other) = Receiver(sent, kept).load()
+        self.assertIs(one, known)
+        self.assertEqual((name, other), ("save", Content(8, b"b", None)))
+
+    def test_it_keeps_the_last_two_that_are_large(self):
+        kept = Kept()
+        for number, size in (1, LARGE), (2, LARGE), (3, 1), (1, LARGE), (4, LARGE):
+            kept.keep(number, Known(b"a" * size, "a" * size, "Shift_JIS", 0))
+        self.assertEqual(list(kept.of), [1, 4])
+
+    @unittest.skipUnless(HAS_PYFUSE3, "this interpreter has no pyfuse3 (Debian's python3-pyfuse3)")
+    @unittest.skipUnless(os.access(PROGRAM, os.X_OK), f"there is no program {PROGRAM}; rt ci builds it")
+    def test_saves_one_after_the_other_with_what_it_keeps(self):
+        found = workers.Workers([PROGRAM, "stdio", "--indexes", str(INDEXES)])
+        self.addCleanup(found.close)
+        raw = b"".join(b"%06d \x82\xa0\xff\r\n" % number for number in range(LARGE // 12 + 1))
+        contents = [Content(0, raw, found.do("text", raw, "shift_jis", 0))]
+        # (a line is edited, and taken back by what it was before)
+        edits = [(b"000007 \x82\xa0\xff", b"000007 \x82\xa0"), (b"000009", b"edited"), (b"000007 \x82\xa0", b"000007 \x82\xa0\xff")]
+        for number, (old, new) in enumerate(edits, 1):
+            old_text, new_text = (it.replace(b"\x82\xa0", "あ".encode()).replace(b"\xff", "\ufffd".encode()) for it in (old, new))
+            before, utf8 = contents[-1], contents[-1].text.utf8.replace(old_text, new_text, 1)
+            made, how = found.do("save", "shift_jis", before, utf8, contents[:-1], number)
+            self.assertTrue(made == before.raw.replace(old, new, 1), number)
+            self.assertEqual(how, "the difference")
+            contents.append(Content(number, made, before.text._replace(utf8=utf8)))
 
 
 @unittest.skipUnless(HAS_PYFUSE3, "this interpreter has no pyfuse3 (Debian's python3-pyfuse3)")

@@ -1,6 +1,5 @@
 """Edited texts saved into legacy bytes, over the program as it was built: crates/gate/out/gate, or the one that the
 variable GATE names."""
-import base64
 import collections
 import errno
 import os
@@ -232,14 +231,14 @@ class Open(OverGate):
 
 
 class Falsified(Reply):
-    """A reply whose text, in UTF-8, is another one than `gate` sent."""
+    """A reply whose text is another one than `gate` sent."""
 
     def __init__(self, gate, reply):
         super().__init__(gate)
         self.reply = reply
 
     def get(self):
-        return {**self.reply.get(), "bytes": base64.b64encode(b"x" * len(base64.b64decode(self.reply.get()["bytes"]))).decode()}
+        return {**self.reply.get(), "text": "x" * len(self.reply.get()["text"])}
 
 
 @BUILT
@@ -248,7 +247,7 @@ class Trust(OverGate):
         base = read(self.gate, "shift_jis", b"a\xff")
         send = self.gate.send
         with mock.patch.object(
-                self.gate, "send", lambda op, **fields: Falsified(self.gate, send(op, **fields)) if op == "encode" else send(op, **fields)):
+                self.gate, "send", lambda op, **fields: Falsified(self.gate, send(op, **fields)) if op == "text" else send(op, **fields)):
             with self.assertRaises(Refused) as refused:
                 save(self.gate, "shift_jis", base, "b\ufffd")
         self.assertEqual(refused.exception.errno, errno.EILSEQ)

@@ -17,11 +17,11 @@ _NUMBERS = itertools.count()
 class Document:
     """A document of `gate`. What is sent is waited for only at the end."""
 
-    def __init__(self, gate: Gate, label: str, raw: bytes):
+    def __init__(self, gate: Gate, label: str, raw: bytes, bom: str = "sniff"):
         self.gate, self.label, self.name = gate, label, f"saving-{next(_NUMBERS)}"
         # Its bytes, or None behind edits of which nobody has said yet what they led to.
         self.raw: Optional[bytes] = raw
-        self._parts = gate.send_open(self.name, label, raw)
+        self._parts = gate.send_open(self.name, label, raw, bom)
         self._rev = len(self._parts) - 1
 
     def edit(self, op: str, **fields: object) -> Reply:
@@ -40,16 +40,15 @@ class Document:
             it.get()
         self._parts = []
 
-    def pages(self, count: int, op: str = "text", **fields: object) -> Iterator[Reply]:
-        """The text, or what else an op gives of it, by pages, one being asked for while another is looked at; the first is
-        asked for at once."""
+    def pages(self, count: int) -> Iterator[Reply]:
+        """The text by pages, one being asked for while another is looked at; the first is asked for at once."""
         ranges = ({"from": at, "to": min(at + PAGE, count)} for at in range(0, count, PAGE))
-        asked = [self.ask(op, **fields, **it) for it in itertools.islice(ranges, 1)]
-        return self._pages(asked, op, fields, ranges)
+        asked = [self.ask("text", **it) for it in itertools.islice(ranges, 1)]
+        return self._pages(asked, ranges)
 
-    def _pages(self, asked: List[Reply], op: str, fields: Dict[str, object], ranges: Iterator[Dict[str, int]]) -> Iterator[Reply]:
+    def _pages(self, asked: List[Reply], ranges: Iterator[Dict[str, int]]) -> Iterator[Reply]:
         for it in ranges:
-            asked.append(self.ask(op, **fields, **it))
+            asked.append(self.ask("text", **it))
             yield asked.pop(0)
         yield from asked
 

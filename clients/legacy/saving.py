@@ -286,7 +286,7 @@ class _Saving:
                 else:
                     reply = document.edit("changes", unit=UNIT, changes=[it.fields(self.new) for it in listed])
                 sent.append((reply, listed))
-            stat, pages = document.ask("stat"), document.pages(len(self.new), "encode", label="UTF-8")
+            stat, pages = document.ask("stat"), document.pages(len(self.new))
             document.opened()
             for reply, listed in sent:
                 self._accepted(reply, listed)
@@ -304,9 +304,9 @@ class _Saving:
             raise self._rejected(it.edit, it.new_start + fault.members.get("index", 0), fault) from fault
 
     def _is_new(self, pages: Iterator[Reply]) -> bool:
-        """Whether the text that `gate` has, as it gives it in UTF-8, is the new one, which is as long."""
-        wanted = (self.new[at : at + PAGE].encode() for at in range(0, len(self.new), PAGE))
-        return all([base64.b64decode(reply.get()["bytes"]) == page for reply, page in zip(pages, wanted)])
+        """Whether the text that `gate` has is the new one, which is as long."""
+        wanted = (self.new[at : at + PAGE] for at in range(0, len(self.new), PAGE))
+        return all([reply.get()["text"] == page for reply, page in zip(pages, wanted)])
 
     def _rejected(self, edit: Optional[Edit], at: int, fault: Fault) -> _Rejected:
         refused = _refused(fault, self.base.encoding, self.new[at : at + 1])
@@ -396,8 +396,8 @@ def _lists(changes: Iterator[_Change], most: int) -> Iterator[List[_Change]]:
 def _spliced(raw: bytes, plans: List[Reply]) -> bytes:
     """The bytes with what was planned, one change after the other."""
     for it in plans:
-        plan = it.get()
-        raw = raw[: plan["at"]] + base64.b64decode(plan["bytes"]) + raw[plan["at"] + plan["del"] :]
+        plan, view = it.get(), memoryview(raw)
+        raw = b"".join([view[: plan["at"]], base64.b64decode(plan["bytes"]), view[plan["at"] + plan["del"] :]])
     return raw
 
 

@@ -189,7 +189,8 @@ class Store(NamedTuple):
                 return False
             self._finish(file)
             self.check()
-            os.rename(new.name, place.name, src_dir_fd=place.folder, dst_dir_fd=place.folder)
+            with lingering(place):
+                os.rename(new.name, place.name, src_dir_fd=place.folder, dst_dir_fd=place.folder)
         except BaseException:
             new.unlink()
             raise
@@ -220,6 +221,16 @@ class Store(NamedTuple):
             os.utime(file, ns=(self.modified, self.modified))
         if self.sync:
             os.fsync(file)
+
+
+@contextlib.contextmanager
+def lingering(place: Place) -> Iterator[None]:
+    """Has the bytes of what is at a place, if anything is, freed only behind what takes its name away. While a name is taken
+    by another file the system lets nobody list the folder, and to free some MiB may take it long."""
+    with contextlib.ExitStack() as held:
+        with contextlib.suppress(FileNotFoundError):
+            held.callback(os.close, place.open(os.O_PATH))
+        yield
 
 
 @contextlib.contextmanager

@@ -25,6 +25,8 @@ FUSEError = pyfuse3.FUSEError
 # The flags of an open that mean nothing below: the kernel has looked at them, or they ask for aligned buffers.
 NOT_BELOW = os.O_CREAT | os.O_EXCL | os.O_APPEND | os.O_NOFOLLOW | os.O_DIRECT
 OWN = b"user.gate."
+# The attribute that makes a program of a file with more rights than its user's.
+CAPABILITY = b"security.capability"
 
 
 def guarded(call: Callable[..., Awaitable[Any]]) -> Callable[..., Awaitable[Any]]:
@@ -433,6 +435,9 @@ class Operations(pyfuse3.Operations):  # type: ignore[misc]
     @guarded
     async def getxattr(self, ino: int, name: bytes, ctx: Any) -> bytes:
         node = self.tree.nodes[ino]
+        if name == CAPABILITY and node.writers:
+            # (asked before each write, which takes them away, if there are any: so does the one below)
+            raise FUSEError(errno.ENODATA)
         if name.startswith(OWN):
             own = await self.view.own(node, name[len(OWN):])
             if own is not None:

@@ -52,7 +52,8 @@ class Reader:
     async def _read(self, path: bytes, found: Signature, label: str) -> Snapshot:
         fits(found.size)
         found, raw = await self._in_thread_if(found.size > SMALL, self.source.read, path)
-        snapshot = Snapshot(found, raw, label, await self.text(raw, label))
+        snapshot = Snapshot(found, raw, label, None)
+        snapshot.text = await self.text(snapshot)
         if settled(found):
             self.keep(snapshot)
         return snapshot
@@ -70,7 +71,7 @@ class Reader:
         found = self.past.of(path, label)
         for it in found:
             if it.text is None:
-                it.text = await self.text(it.raw, label)
+                it.text = await self.text(it)
         return found
 
     def keep(self, snapshot: Snapshot) -> None:
@@ -78,16 +79,17 @@ class Reader:
         self.shelf.put(snapshot)
         self.sizes.put(snapshot.signature, snapshot.label, len(snapshot.utf8))
 
-    async def text(self, raw: bytes, label: str) -> Text:
-        """The text of these bytes."""
+    async def text(self, of: Snapshot) -> Text:
+        """What a content says."""
+        raw, label = of.raw, of.label
         if label == CHARSET_UTF_8:
-            return Text(CHARSET.sub(rb"\1utf-8", raw), "UTF-8", 0)
+            return text_of_charset(raw)
         encoding = await self._questions.encoding(label)
         if own_text(raw, encoding):
             return Text(raw, encoding, 0)
         if len(raw) <= self._questions.longest:
             return await self._questions.text(raw, label)
-        found: Text = await trio.to_thread.run_sync(self._workers.do, "text", raw, label)
+        found: Text = await trio.to_thread.run_sync(self._workers.do, "text", raw, label, of.number)
         return found
 
     async def size(self, path: bytes, label: str, found: os.stat_result) -> Tuple[Signature, int]:
@@ -106,7 +108,7 @@ class Reader:
     async def lengths(self, raw: bytes, label: str) -> Lengths:
         """How long the text of these bytes is, and how many errors it has."""
         if label == CHARSET_UTF_8:
-            return Lengths(len((await self.text(raw, label)).utf8), 0)
+            return Lengths(len(text_of_charset(raw).utf8), 0)
         if own_text(raw, await self._questions.encoding(label)):
             return Lengths(len(raw), 0)
         if len(raw) <= self._questions.longest:
@@ -124,6 +126,11 @@ class Reader:
 
     async def _in_thread_if(self, long: bool, call: Callable[..., Any], *words: Any) -> Any:
         return await trio.to_thread.run_sync(call, *words) if long else call(*words)
+
+
+def text_of_charset(raw: bytes) -> Text:
+    """What a file that says which charset others have is shown as."""
+    return Text(CHARSET.sub(rb"\1utf-8", raw), "UTF-8", 0)
 
 
 def fits(size: int) -> None:

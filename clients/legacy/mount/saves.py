@@ -21,7 +21,8 @@ import trio
 from legacy.mount.below import Place, Signature, Source, Store, read_at, signature
 from legacy.mount.reading import Reader
 from legacy.mount.refusals import Refusals, program_of, shown
-from legacy.mount.snapshots import LARGEST, Snapshot, Text, letters_of, lines_of, own_text
+from legacy.mount.sending import Content
+from legacy.mount.snapshots import LARGEST, Snapshot, Text, letters_of, lines_of, numbers, own_text
 from legacy.mount.tree import Handle, Node, Session, begun
 from legacy.mount.workers import Workers
 from legacy.saving import Refused
@@ -43,10 +44,11 @@ Where = Callable[[], Tuple[bytes, bytes]]
 
 
 class Made(NamedTuple):
-    """The bytes for a text, and how they were made."""
+    """The bytes for a text, how they were made, and the content's number."""
 
     raw: bytes
     how: str
+    number: int
 
 
 class Saves:
@@ -127,7 +129,7 @@ class Saves:
             self._refusals.reject(path, content, node.refusal, program_of(thread))
             raise
         text = await self._text_of(made.raw, content, rule.label)
-        session.below = node.shown = Snapshot(stored, made.raw, rule.label, text)
+        session.below = node.shown = Snapshot(stored, made.raw, rule.label, text, made.number)
         self._reader.keep(session.below)
         session.saved, node.refusal = version, ""
         node.sent, node.below = stored, stored.inode
@@ -143,12 +145,12 @@ class Saves:
         if (base is None or not base.raw) and content:
             base = await self._likest(path, rule, content)
         if base is not None and base.utf8 == content:
-            return Made(base.raw, "unchanged")
+            return Made(base.raw, "unchanged", base.number)
         mark = getattr(rule, "mark", b"")
         if base is None:
             encoding = await self._reader.encoding(rule.label)
             if not mark and own_text(content, encoding):
-                return Made(content, "its own text")
+                return Made(content, "its own text", next(numbers))
             base = Snapshot(Signature(0, 0, 0, 0, 0), mark, rule.label, Text(b"", encoding, len(mark)))
         pool = [*self._reader.past.of(path, rule.label), *own]
         if not base.raw:
@@ -173,9 +175,10 @@ class Saves:
         return found
 
     async def _by_worker(self, rule: Rule, base: Snapshot, content: bytes, pool: Sequence[Snapshot]) -> Made:
-        others = [(it.raw, it.text) for it in pool]
-        made = await trio.to_thread.run_sync(self._workers.do, "save", rule.label, (base.raw, base.text), content, others)
-        return Made(*made)
+        of, *others = [Content(it.number, it.raw, it.text) for it in (base, *pool)]
+        number = next(numbers)
+        raw, how = await trio.to_thread.run_sync(self._workers.do, "save", rule.label, of, content, others, number)
+        return Made(raw, how, number)
 
     async def _likest(self, path: bytes, rule: Rule, content: bytes) -> Optional[Snapshot]:
         """What a new text was made from, if anything: what was at its path, or else what was read of late."""
@@ -248,10 +251,12 @@ class Saves:
             except Refused as refused:
                 self._refusals.reject(new, content, str(refused), program_of(thread))
                 raise
-            came.unlink()
+            # (in a thread: the system frees its bytes)
+            await trio.to_thread.run_sync(came.unlink)
         if base:
             self._reader.past.put(new, base)
-        await self._becomes(node, rule, Snapshot(stored, made.raw, rule.label, await self._text_of(made.raw, content, rule.label)), base)
+        text = await self._text_of(made.raw, content, rule.label)
+        await self._becomes(node, rule, Snapshot(stored, made.raw, rule.label, text, made.number), base)
         self._refusals.accept(new, program_of(thread))
         log.info("%s: saved by renaming %s (%s), %.1f ms", shown(new), shown(path), made.how, 1000 * (time.monotonic() - began))
 

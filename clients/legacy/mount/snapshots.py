@@ -1,9 +1,11 @@
 """What a file says: its bytes as they were read, and their text in UTF-8; and which of that is kept."""
 import collections
 import functools
+import itertools
 import zlib
 from typing import Dict, FrozenSet, Iterator, List, NamedTuple, Optional, Tuple
 
+from legacy.ascii import plain
 from legacy.mount.below import Signature
 
 # The most bytes of a document of gate.
@@ -15,6 +17,9 @@ SOME_LINES = 4096
 
 
 ASCII = bytes(range(128))
+
+# What numbers contents.
+numbers = itertools.count()
 
 
 class Lengths(NamedTuple):
@@ -33,10 +38,12 @@ class Text(NamedTuple):
 
 
 class Snapshot:
-    """A file as it was read, by its rule's label. Of one that was about to go the text is made when it is wanted."""
+    """A file as it was read, by its rule's label. Of one that was about to go the text is made when it is wanted. `number` is
+    the content's, by which other processes know it."""
 
-    def __init__(self, signature: Signature, raw: bytes, label: str, text: Optional[Text]):
+    def __init__(self, signature: Signature, raw: bytes, label: str, text: Optional[Text], number: Optional[int] = None):
         self.signature, self.raw, self.label, self.text = signature, raw, label, text
+        self.number = next(numbers) if number is None else number
 
     @property
     def utf8(self) -> bytes:
@@ -63,8 +70,7 @@ def own_text(raw: bytes, encoding: str) -> bool:
         except UnicodeDecodeError:
             return False
         return not raw.startswith(b"\xef\xbb\xbf")
-    return raw.isascii() and not encoding.startswith("UTF-16") and encoding != "replacement" and (
-        encoding != "ISO-2022-JP" or not any(it in raw for it in b"\x0e\x0f\x1b"))
+    return plain(raw, encoding)
 
 
 def letters_of(utf8: bytes) -> FrozenSet[str]:

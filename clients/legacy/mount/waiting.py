@@ -14,7 +14,7 @@ import trio
 TURN = 0.002
 
 
-class Requests:
+class Requests(trio.abc.Instrument):  # type: ignore[misc]
     """The kernel's requests, of one mount. Between the end of `wait_readable` and the reading of the request no other task
     runs; so what is there is still there."""
 
@@ -30,18 +30,16 @@ class Requests:
         if descriptor != self._known:
             self._poll.register(descriptor, select.POLLIN)
             self._known = descriptor
+            trio.lowlevel.add_instrument(self)
         return bool(self._poll.poll(0))
 
     async def wait_readable(self, descriptor: int) -> None:
-        """Waits until there is a request. What is done with it may take long: so where no other task waits, the next one
-        does from now on."""
+        """Waits until there is a request."""
         while not self._over:
             if time.monotonic() > self._until:
                 await trio.lowlevel.checkpoint()
                 self._until = time.monotonic() + TURN
             elif self._is_there(descriptor):
-                if not self._waits:
-                    self._others.unpark()
                 return
             elif self._waits:
                 await self._others.park()
@@ -60,6 +58,10 @@ class Requests:
             self._others.unpark_all()
         finally:
             self._waits = False
+
+    def after_task_step(self, task: Any) -> None:
+        """Whoever took a request has to wait for something else, so another task waits for the next one."""
+        if self._others and not self._waits:
             self._others.unpark()
 
 

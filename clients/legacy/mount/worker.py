@@ -1,23 +1,23 @@
 """A process of the mount that decodes and saves what is long, with a `gate` of its own: neither that work, nor what it
 takes of the interpreter, holds up the loop that serves the kernel.
 
-Standard input has jobs, pickled: each the name of a call of `Jobs` and its words. Standard output has for each what the
-call returns, or the `Refused` that it raises."""
+Standard input has jobs, pickled (sending.py): each the name of a call of `Jobs` and its words. Standard output has for each
+what the call returns, or the `Refused` that it raises, and the numbers of the contents that the process keeps."""
 import contextlib
 import errno
 import pickle
 import sys
-from typing import Callable, List, Optional, Sequence, Tuple, TypeVar
+from typing import Callable, List, Optional, Sequence, Tuple, TypeVar, Union
 
 from gate import Fault, Gate, Gone
 from legacy.documents import Last
 from legacy.mount.below import Signature, settled, steady
+from legacy.mount.sending import Content, Kept, Receiver
 from legacy.mount.snapshots import Lengths, Text
-from legacy.saving import Known, Refused, read, read_all, save
+from legacy.mount.together import Together
+from legacy.saving import Known, Refused, read, save
 
 Found = TypeVar("Found")
-# Bytes, and their text if that is at hand.
-Content = Tuple[bytes, Optional[Text]]
 
 
 class Jobs:
@@ -28,17 +28,20 @@ class Jobs:
         # (so that it has read its files once the first job comes)
         self._gate: Optional[Gate] = Gate.start(*words)
         self._last = Last()
+        self.kept, self._together = Kept(), Together()
 
-    def text(self, raw: bytes, label: str) -> Text:
-        """The text of these bytes."""
-        return self._with(lambda gate: text_of(read(gate, label, raw, self._last)))
+    def text(self, raw: bytes, label: str, number: int) -> Text:
+        """The text of the content of a number."""
+        found = self._with(lambda gate: read(gate, label, raw, self._last))
+        self.kept.keep(number, found)
+        return text_of(found)
 
     def texts(self, files: Sequence[Tuple[bytes, str]]) -> List[Optional[Tuple[Signature, bytes, Text]]]:
         """What small files have now, each by its label; nothing of one that isn't there, or that may still change under the
         same signature."""
         found = [content_of(path) for path, _ in files]
         contents = [(label, it[1]) for it, (_, label) in zip(found, files) if it]
-        texts = self._with(lambda gate: iter([text_of(it) for it in read_all(gate, contents)]))
+        texts = self._with(lambda gate: iter(self._together.texts(gate, contents)))
         return [(*it, next(texts)) if it else None for it in found]
 
     def lengths(self, raw: bytes, label: str) -> Lengths:
@@ -51,15 +54,20 @@ class Jobs:
 
         return self._with(counted)
 
-    def save(self, label: str, base: Content, utf8: bytes, others: Sequence[Content]) -> Tuple[bytes, str]:
-        """The bytes of a text, where what is known of them is a base and other contents; and how they came about."""
+    def save(self, label: str, base: Union[Content, Known], utf8: bytes, others: Sequence[Union[Content, Known]], number: int) -> Tuple[bytes, str]:
+        """The bytes of a text, where what is known of them is a base and other contents; and how they came about. The content
+        that they are has a number."""
         new = decoded(utf8)
 
-        def saved(gate: Gate) -> Tuple[bytes, str]:
+        def saved(gate: Gate) -> Tuple[Known, Known]:
             old, *more = [known(gate, label, it) for it in (base, *others)]
-            return save(gate, label, old, new, more, self._last).raw, "unchanged" if old.text == new else "the difference"
+            return old, save(gate, label, old, new, more, self._last)
 
-        return self._with(saved)
+        old, made = self._with(saved)
+        if isinstance(base, Content):
+            self.kept.keep(base.number, old)
+        self.kept.keep(number, made)
+        return made.raw, "unchanged" if made is old else "the difference"
 
     def _with(self, job: Callable[[Gate], Found]) -> Found:
         """Does a job with `gate`, and once more with a new one where that ended."""
@@ -90,9 +98,11 @@ def text_of(known: Known) -> Text:
     return Text(known.text.encode(), known.encoding, known.bom)
 
 
-def known(gate: Gate, label: str, content: Content) -> Known:
+def known(gate: Gate, label: str, content: Union[Content, Known]) -> Known:
     """What a text is compared with."""
-    raw, text = content
+    if isinstance(content, Known):
+        return content
+    _, raw, text = content
     return Known(raw, text.utf8.decode(), text.encoding, text.bom) if text else read(gate, label, raw)
 
 
@@ -111,7 +121,7 @@ def main(words: List[str]) -> None:
     jobs = Jobs(words)
     with contextlib.suppress(EOFError, KeyboardInterrupt):
         while True:
-            name, given = pickle.load(sys.stdin.buffer)
+            name, given = Receiver(sys.stdin.buffer, jobs.kept).load()
             outcome: Tuple[str, object]
             try:
                 outcome = "returned", getattr(jobs, name)(*given)
@@ -120,7 +130,7 @@ def main(words: List[str]) -> None:
             except Exception as fault:
                 outcome = "refused", (errno.EIO, f"{type(fault).__name__}: {fault}")
             del given
-            pickle.dump(outcome, sys.stdout.buffer, pickle.HIGHEST_PROTOCOL)
+            pickle.dump((*outcome, set(jobs.kept.of)), sys.stdout.buffer, pickle.HIGHEST_PROTOCOL)
             sys.stdout.buffer.flush()
             del outcome
 

@@ -13,6 +13,7 @@ import time
 from typing import Any, List, Sequence, Set
 
 from legacy.mount.questions import SET_ROOM
+from legacy.mount.sending import Sender
 from legacy.saving import Refused
 
 # The most of them at once.
@@ -40,6 +41,8 @@ class Worker:
             with contextlib.suppress(OSError):
                 fcntl.fcntl(pipe.fileno() if pipe else -1, SET_ROOM, ROOM)
         self.since, self.used = time.monotonic(), False
+        # The numbers of the contents that it keeps.
+        self._kept: Set[int] = set()
 
     def do(self, name: str, given: Sequence[Any]) -> Any:
         """What the job returns or raises."""
@@ -47,11 +50,11 @@ class Worker:
         assert to and come
         self.used = True
         try:
-            pickle.dump((name, given), to, pickle.HIGHEST_PROTOCOL)
+            Sender(to, self._kept).dump((name, given))
             to.flush()
             if not select.select([come], [], [], PATIENCE)[0]:
                 self._process.kill()
-            outcome, found = pickle.load(come)
+            outcome, found, self._kept = pickle.load(come)
         except (OSError, EOFError, pickle.UnpicklingError) as fault:
             raise Gone() from fault
         self.since = time.monotonic()

@@ -1,0 +1,297 @@
+#!/usr/bin/env python3
+"""Measures `legacy mount` and prints a table: what each row took in seconds, of several rounds the fastest and the middle
+one, and what it is to take at most; and the processor time of the mount's processes and of the program, in the middle.
+
+    bench/mount.py [--rounds N] [--files N] [--only WORD ..] [--keep FOLDER]
+
+`gate` and the index files are those that the command `legacy` finds; ripgrep and sed are Debian's. Each round has a mount of
+its own. What programs save is compared with the bytes that are to be there. A row that has something to do with one of the
+words is measured, or each one. Files are made in a folder for temporary ones, or in one that is kept and taken again."""
+import argparse
+import contextlib
+import os
+import pathlib
+import random
+import shutil
+import statistics
+import subprocess
+import sys
+import tempfile
+import time
+from typing import Callable, Dict, Iterator, List, NamedTuple, Sequence, Tuple
+
+CLIENTS = pathlib.Path(__file__).resolve().parent.parent / "clients"
+sys.path.insert(0, str(CLIENTS))
+from legacy import finding  # noqa: E402
+from mounts import WHY, Mount  # noqa: E402
+
+RULE = ["-e", "*.txt=shift_jis", "--no-attributes"]
+TICK = os.sysconf("SC_CLK_TCK")
+LARGEST = 1 << 24
+# Words of lines, with bytes that no encoder gives and with damage.
+WORDS = [it.encode("cp932") for it in "計画 資料 図書館 これは 東京都 お知らせ について ください ﾃｽﾄ 第１章".split()] + [
+    b"note", b"see page 12", b"(1998)", b"item", b"\x87\x90", b"\xed\x40"]
+DAMAGE = [b"\xff", b"\x82", b"\xa0"]
+RARE = "図書館"
+
+
+class Row(NamedTuple):
+    """What is measured, and what it is to be at most."""
+
+    name: str
+    most: float
+    unit: str = "s"
+
+
+SEARCHES = Row("rg over {files} files, first", 5.5), Row("the same again", 1.5)
+SED = {2: Row("sed -i of a line in 2 MiB", 0.25), 16: Row("sed -i of a line in 16 MiB", 1.5)}
+COLD = {2: Row("sed -i of a line in 2 MiB, not read before", 0.25), 16: Row("sed -i of a line in 16 MiB, not read before", 1.5)}
+WORD = Row("sed -i of a word in each line of 16 MiB", 10)
+BESIDE = "{call} of {where} beside a save of 16 MiB, the longest"
+PLACES = "the same folder", "another one"
+CALLS: Dict[str, Callable[[pathlib.Path], object]] = {
+    "ls": lambda path: os.listdir(path.parent), "stat": lambda path: path.stat(), "cat": lambda path: path.read_bytes()}
+LATEST = {(call, where): Row(BESIDE.format(call=call, where=where), 50, "ms") for where in PLACES for call in CALLS}
+MEMORY = Row("memory of a process at most, in saves of 16 MiB", 400, "MiB")
+
+
+class Sample(NamedTuple):
+    """What a row took once, and the processor time of the mount's processes and of the program."""
+
+    value: float
+    mount: float = 0.0
+    program: float = 0.0
+
+
+class Table:
+    """What was measured."""
+
+    def __init__(self) -> None:
+        self._of: Dict[Row, List[Sample]] = {}
+
+    def add(self, row: Row, sample: Sample) -> None:
+        """Adds a sample, and shows it."""
+        self._of.setdefault(row, []).append(sample)
+        print(f"  {row.name}: {sample.value:.3f} {row.unit}, processor {sample.mount:.2f} + {sample.program:.2f}", file=sys.stderr)
+
+    def lines(self) -> Iterator[str]:
+        """The table."""
+        yield "| | asked | best | middle | mount's processor | program's |"
+        yield "|---|---:|---:|---:|---:|---:|"
+        for row, samples in self._of.items():
+            values = [it.value for it in samples]
+            digits = 2 if row.unit == "s" else 0
+            shown = [f"{it:.{digits}f} {row.unit}" for it in (min(values), statistics.median(values))]
+            times = [f"{statistics.median(it):.2f}" for it in ([it.mount for it in samples], [it.program for it in samples])]
+            yield f"| {row.name} | {row.most:g} {row.unit} | {' | '.join([*shown, *times])} |"
+
+
+def made_lines(draw: random.Random) -> List[bytes]:
+    """Some lines of Shift_JIS, of 60 bytes or so, each with the word that is replaced."""
+    found = []
+    for _ in range(500):
+        parts = [draw.choice(WORDS) for _ in range(draw.randrange(4, 9))]
+        if draw.random() < 0.02:
+            parts.append(draw.choice(DAMAGE) + b"!")
+        found.append(b" ".join([WORDS[0], *parts]))
+    return found
+
+
+def content(draw: random.Random, lines: Sequence[bytes], size: int, feed: bytes) -> bytes:
+    """A text of some size; each line has a number, so that no two are equal."""
+    parts: List[bytes] = []
+    length = 0
+    while length < size:
+        parts.append(b"%07d %b%b" % (len(parts), draw.choice(lines), feed))
+        length += len(parts[-1])
+    return b"".join(parts)[:size].rpartition(feed)[0] + feed
+
+
+def tree(folder: pathlib.Path, files: int) -> None:
+    """So many small files in folders of a hundred; some are ASCII, some end in no line feed."""
+    draw = random.Random(59)
+    lines = made_lines(draw)
+    for number in range(files):
+        path = folder / f"{number // 100:03}" / f"{number:05}.txt"
+        path.parent.mkdir(parents=True, exist_ok=True)
+        text = content(draw, lines, draw.randrange(600, 4000), b"\r\n" if number % 3 else b"\n")
+        if number % 20 == 7:
+            text = b"ASCII alone, of which gate isn't asked\n" * (len(text) // 40)
+        path.write_bytes(text.rstrip(b"\r\n") if number % 20 == 3 else text)
+
+
+@contextlib.contextmanager
+def mounted(source: pathlib.Path, *words: str) -> Iterator[Mount]:
+    """A mount of a folder over the Standard's index files."""
+    found = finding.find()
+    labels = ["--labels", str(found.labels)] if found.labels else []
+    mount = Mount(*RULE, *words, "--indexes", str(found.indexes), *labels, source=source, program=found.gate)
+    try:
+        # (the process that saves has begun)
+        time.sleep(1.0)
+        yield mount
+    finally:
+        mount.end()
+        shutil.rmtree(mount.kept)
+
+
+def processes(top: int) -> List[int]:
+    """A process and those below it."""
+    parents: Dict[int, List[int]] = {}
+    for it in filter(str.isdecimal, os.listdir("/proc")):
+        with contextlib.suppress(OSError):
+            fields = pathlib.Path("/proc", it, "stat").read_text().rpartition(")")[2].split()
+            parents.setdefault(int(fields[1]), []).append(int(it))
+    found = [top]
+    for it in found:
+        found += parents.get(it, [])
+    return found
+
+
+def processor(top: int) -> float:
+    """The seconds of processor time that a process has had and those below it, ended ones too."""
+    ticks = 0
+    for it in processes(top):
+        with contextlib.suppress(OSError):
+            fields = pathlib.Path(f"/proc/{it}/stat").read_text().rpartition(")")[2].split()
+            ticks += sum(map(int, fields[11:15]))
+    return ticks / TICK
+
+
+def peaks(top: int) -> Dict[int, Tuple[str, float]]:
+    """The most memory that each process has held, in MiB."""
+    found = {}
+    for it in processes(top):
+        with contextlib.suppress(OSError, StopIteration):
+            lines = pathlib.Path(f"/proc/{it}/status").read_text().splitlines()
+            words = pathlib.Path(f"/proc/{it}/cmdline").read_bytes().split(b"\0")
+            name = "saves" if b"legacy.mount.worker" in words else "answers" if b"mount" in words else "gate"
+            found[it] = name, next(int(line.split()[1]) / 1024 for line in lines if line.startswith("VmHWM:"))
+    return found
+
+
+def timed(mount: Mount, words: Sequence[object]) -> Sample:
+    """What a program takes in a mount."""
+    before, began = processor(mount.process.pid), time.monotonic()
+    with subprocess.Popen(list(map(str, words)), stdout=subprocess.DEVNULL) as program:
+        _, status, used = os.wait4(program.pid, 0)
+        program.returncode = os.waitstatus_to_exitcode(status)
+    took = time.monotonic() - began
+    if program.returncode:
+        raise SystemExit(f"status {program.returncode}: {' '.join(map(str, words))}\n{mount.log()}")
+    # (what the kernel tells the mount behind the program's end is the program's too)
+    time.sleep(0.3)
+    return Sample(took, processor(mount.process.pid) - before, used.ru_utime + used.ru_stime)
+
+
+def searched(table: Table, source: pathlib.Path, files: int) -> None:
+    """The rows of a search over many files."""
+    with mounted(source) as mount:
+        for row in SEARCHES:
+            table.add(row._replace(name=row.name.format(files=f"{files:,}")), timed(mount, ["rg", "-c", RARE, mount.point]))
+
+
+def same(path: pathlib.Path, wanted: bytes, what: str) -> None:
+    """Ends where a file doesn't have the bytes that it is to have."""
+    if path.read_bytes() != wanted:
+        raise SystemExit(f"{what}: {path} has other bytes than it is to have")
+
+
+def edited(table: Table, source: pathlib.Path, mega: int, raw: bytes, cold: bool) -> None:
+    """The rows of one line that is edited, twice, the second time back."""
+    path = source / "large.txt"
+    path.write_bytes(raw)
+    number = b"%07d" % (raw.count(b"\n") // 2)
+    with mounted(source) as mount:
+        if not cold:
+            (mount.point / path.name).read_bytes()
+        for old, new in [(number, b"edited!")] if cold else [(number, b"edited!"), (b"edited!", number)]:
+            sample = timed(mount, ["sed", "-i", f"s/^{old.decode()} /{new.decode()} /", mount.point / path.name])
+            table.add((COLD if cold else SED)[mega], sample)
+            same(path, raw.replace(old, new) if old == number else raw, "sed -i")
+
+
+def replaced(table: Table, source: pathlib.Path, raw: bytes) -> None:
+    """The row of a word that is replaced in each line."""
+    path = source / "large.txt"
+    path.write_bytes(raw)
+    with mounted(source) as mount:
+        (mount.point / path.name).read_bytes()
+        table.add(WORD, timed(mount, ["sed", "-i", f"s/ {WORDS[0].decode('cp932')} / 企画 /", mount.point / path.name]))
+        same(path, raw.replace(b" %b " % WORDS[0], " 企画 ".encode("cp932")), "sed -i of each line")
+
+
+def beside(table: Table, source: pathlib.Path, raw: bytes, memory: bool) -> None:
+    """The rows of what others wait for while a text is saved, and of memory."""
+    path, number = source / "large.txt", b"%07d" % (raw.count(b"\n") // 2)
+    path.write_bytes(raw)
+    (source / "other").mkdir(exist_ok=True)
+    places = dict(zip(PLACES, [source, source / "other"]))
+    for it in places.values():
+        (it / "small.txt").write_bytes(raw[:2000])
+    with mounted(source) as mount:
+        text = (mount.point / path.name).read_bytes().replace(number, b"edited!")
+        copy = mount.kept / "text"
+        copy.write_bytes(text)
+        longest = dict.fromkeys(LATEST, 0.0)
+        before = processor(mount.process.pid)
+        with subprocess.Popen(["sh", "-c", 'cat "$0" > "$1"', copy, mount.point / path.name]) as saving:
+            while saving.poll() is None:
+                for (call, where), worst in longest.items():
+                    began = time.monotonic()
+                    CALLS[call](mount.point / places[where].relative_to(source) / "small.txt")
+                    longest[call, where] = max(worst, 1000 * (time.monotonic() - began))
+                time.sleep(0.002)
+        took = processor(mount.process.pid) - before
+        same(path, raw.replace(number, b"edited!"), "a save in place")
+        found = peaks(mount.process.pid)
+    for key, row in LATEST.items():
+        table.add(row, Sample(longest[key], took))
+    print("  " + ", ".join(f"{name} {size:.0f} MiB" for name, size in found.values()), file=sys.stderr)
+    if memory:
+        table.add(MEMORY, Sample(max(size for _, size in found.values())))
+
+
+def main() -> None:
+    parser = argparse.ArgumentParser(description="Measures legacy mount.")
+    parser.add_argument("--rounds", type=int, default=3)
+    parser.add_argument("--files", type=int, default=10_000)
+    parser.add_argument("--only", nargs="*", default=[], help="words of which a row has one")
+    parser.add_argument("--keep", type=pathlib.Path, help="the folder for the files")
+    words = parser.parse_args()
+    if WHY:
+        raise SystemExit(WHY)
+    with contextlib.ExitStack() as held:
+        top = words.keep or pathlib.Path(held.enter_context(tempfile.TemporaryDirectory()))
+        measure(top, words.rounds, words.files, words.only)
+
+
+def measure(top: pathlib.Path, rounds: int, files: int, only: Sequence[str]) -> None:
+    """Measures the rows that are asked for."""
+    def wanted(*rows: Row) -> bool:
+        return not only or any(word in row.name for word in only for row in rows)
+
+    small, large = top / f"files-{files}", top / "large"
+    if wanted(*SEARCHES) and not small.exists():
+        tree(small, files)
+    large.mkdir(parents=True, exist_ok=True)
+    draw = random.Random(16)
+    raws = {mega: content(draw, made_lines(draw), (mega << 20) - 100_000, b"\r\n") for mega in SED}
+    table = Table()
+    for number in range(rounds):
+        print(f"round {number + 1} of {rounds}, load {os.getloadavg()[0]:.1f}", file=sys.stderr)
+        if wanted(*SEARCHES):
+            searched(table, small, files)
+        for mega, raw in raws.items():
+            for cold, row in (False, SED[mega]), (True, COLD[mega]):
+                if wanted(row):
+                    edited(table, large, mega, raw, cold)
+        if wanted(WORD):
+            replaced(table, large, raws[16])
+        if wanted(MEMORY, *LATEST.values()):
+            beside(table, large, raws[16], True)
+    print("\n".join(table.lines()))
+
+
+if __name__ == "__main__":
+    main()
