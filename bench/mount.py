@@ -28,10 +28,10 @@ from mounts import WHY, Mount  # noqa: E402
 RULE = ["-e", "*.txt=shift_jis", "--no-attributes"]
 TICK = os.sysconf("SC_CLK_TCK")
 LARGEST = 1 << 24
-# Words of lines, with bytes that no encoder gives and with damage.
+# Words of lines, those with bytes that no encoder gives, and damage.
 WORDS = [it.encode("cp932") for it in "計画 資料 図書館 これは 東京都 お知らせ について ください ﾃｽﾄ 第１章".split()] + [
-    b"note", b"see page 12", b"(1998)", b"item", b"\x87\x90", b"\xed\x40"]
-DAMAGE = [b"\xff", b"\x82", b"\xa0"]
+    b"note", b"see page 12", b"(1998)", b"item"]
+DUPLICATES, DAMAGE = [b"\x87\x90", b"\xed\x40"], [b"\xff!", b"\x82!", b"\xa0!"]
 RARE = "図書館"
 
 
@@ -45,6 +45,7 @@ class Row(NamedTuple):
 
 SEARCHES = Row("rg over {files} files, first", 5.5), Row("the same again", 1.5)
 SED = {2: Row("sed -i of a line in 2 MiB", 0.25), 16: Row("sed -i of a line in 16 MiB", 1.5)}
+BACK = {2: Row("taken back, 2 MiB", 0.25), 16: Row("taken back, 16 MiB", 1.5)}
 COLD = {2: Row("sed -i of a line in 2 MiB, not read before", 0.25), 16: Row("sed -i of a line in 16 MiB, not read before", 1.5)}
 WORD = Row("sed -i of a word in each line of 16 MiB", 10)
 BESIDE = "{call} of {where} beside a save of 16 MiB, the longest"
@@ -87,12 +88,12 @@ class Table:
 
 
 def made_lines(draw: random.Random) -> List[bytes]:
-    """Some lines of Shift_JIS, of 60 bytes or so, each with the word that is replaced."""
+    """Some lines of Shift_JIS, of 60 bytes or so, each with the word that is replaced; in one of ten are bytes that no encoder
+    gives, in one of a hundred is damage."""
     found = []
-    for _ in range(500):
+    for number in range(500):
         parts = [draw.choice(WORDS) for _ in range(draw.randrange(4, 9))]
-        if draw.random() < 0.02:
-            parts.append(draw.choice(DAMAGE) + b"!")
+        parts += [draw.choice(DUPLICATES)] * (number % 10 == 3) + [draw.choice(DAMAGE)] * (number % 100 == 4)
         found.append(b" ".join([WORDS[0], *parts]))
     return found
 
@@ -198,17 +199,18 @@ def same(path: pathlib.Path, wanted: bytes, what: str) -> None:
 
 
 def edited(table: Table, source: pathlib.Path, mega: int, raw: bytes, cold: bool) -> None:
-    """The rows of one line that is edited, twice, the second time back."""
+    """The rows of one line that is edited, and taken back."""
     path = source / "large.txt"
     path.write_bytes(raw)
     number = b"%07d" % (raw.count(b"\n") // 2)
     with mounted(source) as mount:
         if not cold:
             (mount.point / path.name).read_bytes()
-        for old, new in [(number, b"edited!")] if cold else [(number, b"edited!"), (b"edited!", number)]:
-            sample = timed(mount, ["sed", "-i", f"s/^{old.decode()} /{new.decode()} /", mount.point / path.name])
-            table.add((COLD if cold else SED)[mega], sample)
-            same(path, raw.replace(old, new) if old == number else raw, "sed -i")
+        for old, new, rows in (number, b"edited!", COLD if cold else SED), (b"edited!", number, BACK):
+            if rows is not BACK or not cold:
+                sample = timed(mount, ["sed", "-i", f"s/^{old.decode()} /{new.decode()} /", mount.point / path.name])
+                table.add(rows[mega], sample)
+                same(path, raw if rows is BACK else raw.replace(old, new), "sed -i")
 
 
 def replaced(table: Table, source: pathlib.Path, raw: bytes) -> None:
@@ -217,7 +219,7 @@ def replaced(table: Table, source: pathlib.Path, raw: bytes) -> None:
     path.write_bytes(raw)
     with mounted(source) as mount:
         (mount.point / path.name).read_bytes()
-        table.add(WORD, timed(mount, ["sed", "-i", f"s/ {WORDS[0].decode('cp932')} / 企画 /", mount.point / path.name]))
+        table.add(WORD, timed(mount, ["sed", "-i", f"s/ {WORDS[0].decode('cp932')} / 企画 /g", mount.point / path.name]))
         same(path, raw.replace(b" %b " % WORDS[0], " 企画 ".encode("cp932")), "sed -i of each line")
 
 
@@ -283,8 +285,8 @@ def measure(top: pathlib.Path, rounds: int, files: int, only: Sequence[str]) -> 
         if wanted(*SEARCHES):
             searched(table, small, files)
         for mega, raw in raws.items():
-            for cold, row in (False, SED[mega]), (True, COLD[mega]):
-                if wanted(row):
+            for cold, rows in (False, (SED[mega], BACK[mega])), (True, (COLD[mega],)):
+                if wanted(*rows):
                     edited(table, large, mega, raw, cold)
         if wanted(WORD):
             replaced(table, large, raws[16])

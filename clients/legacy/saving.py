@@ -24,6 +24,7 @@ from gate import Fault, Gate, Reply
 from legacy.arrangement import LETTERS, Content, Run, arranged
 from legacy.difference import BAD, Difference, Range, joined
 from legacy.documents import PAGE, Document, Last, opened
+from legacy.excerpts import Part, behind_feeds, excerpt, part
 from legacy.lines import Lines, blocks, starts_after
 from legacy.sequences import Edit
 
@@ -175,11 +176,15 @@ class _Saving:
             yield anywhere, True
         yield here, True
 
+    def _typed(self, it: Difference) -> List[str]:
+        """The lines that were typed, as it seems, and aren't ASCII: some of them, and one more where there are more."""
+        typed = (it.new_lines[n] for hunk in it.hunks for n in range(hunk.new_start, hunk.new_end))
+        return list(itertools.islice((line for line in typed if not line.isascii()), SOME + 1))
+
     def _has_known_lines(self, it: Difference, letters: int) -> bool:
         """Whether it may be that a line was moved, copied or restored, or is like one that is gone."""
-        typed = (it.new_lines[n] for hunk in it.hunks for n in range(hunk.new_start, hunk.new_end))
-        wanted = list(itertools.islice((line for line in typed if not line.isascii()), SOME + 1))
-        if len(wanted) > SOME or any(len(line) > SHORT for line in wanted):
+        wanted = self._typed(it)
+        if not _are_few(wanted):
             return letters <= LETTERS or self._has_equal_lines(it)
         gone = (it.lines[n] for hunk in it.hunks for n in range(hunk.start, hunk.end))
         return bool(wanted) and (len(it.hunks) > 1 and not all(map(str.isascii, gone)) or any(
@@ -196,6 +201,35 @@ class _Saving:
 
     def _arranged(self, it: Difference, anywhere: bool) -> Optional[_Start]:
         """The known lines of which the new text is made, or None where those of the base, as they are, are best."""
+        wanted = self._typed(it)
+        parts = self._parts(it, wanted) if self.one_form and not anywhere and _are_few(wanted) else None
+        return self._arranged_of(it, parts) if parts else self._arranged_whole(it, anywhere)
+
+    def _parts(self, it: Difference, wanted: Sequence[str]) -> Optional[List[Part]]:
+        """The lines of the base that differ, and of all others those that are wanted, the newest last; or None where these
+        aren't easily found."""
+        base, tail = self.base, len(it.old) - it.tail
+        start = behind_feeds(base.raw, it.old.count("\n", 0, it.head), base.bom)
+        end = behind_feeds(base.raw, len(it.lines) - 1, start) if it.tail else len(base.raw)
+        places = [*((known, 0, len(known.text)) for known in self.others), (base, 0, it.head), (base, tail, len(it.old))]
+        around = [excerpt(known.text, known.raw, known.bom, wanted, *ends) for known, *ends in places]
+        found = [part(it.lines, base.raw, start, end), *filter(None, around)]
+        return found if len(found) == len(places) + 1 and len(found[0].starts) == len(it.lines.starts) else None
+
+    def _arranged_of(self, it: Difference, parts: Sequence[Part]) -> Optional[_Start]:
+        """What is between the ends that are as they were, made of the lines of these parts."""
+        runs = arranged([Content(it.lines, ()) for it in parts], it.new_lines, it.hunks, True, False, self.same)
+        if runs is None:
+            return None
+        found = [(_text(parts[run.content].lines, run), parts[run.content].raws(run.first, run.last))
+                 if run.content < len(parts) else _literal(it.new_lines, run) for run in runs]
+        starts = parts[0].starts
+        raw = b"".join([self.base.raw[: starts[0]], b"\n".join(raw for _, raw in found), self.base.raw[starts[-1] - 1 :]])
+        text = "".join([it.old[: it.head], "\n".join(text for text, _ in found), it.old[len(it.old) - it.tail :]])
+        return _Start(raw, text, self.new)
+
+    def _arranged_whole(self, it: Difference, anywhere: bool) -> Optional[_Start]:
+        """The same by tables of all lines."""
         tables = [table for table in map(_table, [self.base, *self.others]) if table]
         if not tables or tables[0].of is not self.base:
             return None
@@ -329,6 +363,11 @@ class _Change(NamedTuple):
         (line, character), (last, behind) = self.start, self.end
         place = {"start": {"line": line, "character": character}, "end": {"line": last, "character": behind}}
         return {"range": place, "text": new[self.new_start : self.new_end]}
+
+
+def _are_few(lines: Sequence[str]) -> bool:
+    """Whether lines are few and short enough to be looked for one by one."""
+    return len(lines) <= SOME and all(len(line) <= SHORT for line in lines)
 
 
 def _has_letters(lines: Lines, hashes: Set[int]) -> bool:
