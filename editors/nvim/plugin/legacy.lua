@@ -21,7 +21,7 @@ vim.api.nvim_create_autocmd('BufReadCmd', {
   group = group,
   pattern = 'legacy://*',
   nested = true,
-  command = "execute v:lua.require'legacy'.read(str2nr(expand('<abuf>')), expand('<amatch>'))",
+  command = "execute v:lua.require'legacy'.read(str2nr(expand('<abuf>')), expand('<amatch>'), v:cmdbang)",
 })
 
 vim.api.nvim_create_autocmd('BufWriteCmd', {

@@ -1,8 +1,14 @@
 -- Runs all tests and ends Neovim, with a status that is 0 where none failed. An error outside a test would leave it
 -- waiting for keys.
 local harness = require('harness')
+
+local TESTS = {
+  'parts_alone', 'files', 'undo', 'line_ends', 'refusals', 'writing', 'program', 'budget', 'live', 'places', 'undo_others',
+  'typing',
+}
+
 local ran, why = xpcall(function()
-  for _, name in ipairs({ 'parts_alone', 'files', 'undo', 'line_ends', 'refusals', 'writing', 'program', 'budget', 'live' }) do
+  for _, name in ipairs(TESTS) do
     require(name .. '_test')
   end
 end, debug.traceback)

@@ -1,7 +1,9 @@
 ---Base64, differences and the mirror of a text, without the program.
 local base64 = require('legacy.base64')
 local diff = require('legacy.diff')
+local merge = require('legacy.merge')
 local mirrors = require('legacy.mirror')
+local past = require('legacy.past')
 local splicing = require('legacy.splices')
 local it = require('harness')
 
@@ -103,4 +105,138 @@ it.test('splices made together', false, function()
     it.same(splicing.made(old, splices), bytes)
     it.same(splicing.made(bytes, back), old)
   end
+end)
+
+it.test('the splice between two lists of bytes, and its parts', false, function()
+  math.randomseed(9)
+  local pool = { 'a\n', 'b\n', '\n', 'c', '\0', ('x'):rep(5000) }
+  local function bytes()
+    local list = {}
+    for i = 1, math.random(0, 8) do
+      list[i] = pool[math.random(#pool)]
+    end
+    return table.concat(list)
+  end
+  for _ = 1, 2000 do
+    local old, new = bytes(), bytes()
+    local splice = splicing.between(old, new)
+    it.same(splicing.made(old, { splice }), new)
+    it.same(splicing.made(old, splicing.parts({ at = 0, gone = old, put = new })), new)
+    it.same(splicing.made(old, splicing.parts(splice)), new)
+  end
+  local function parts(gone, put)
+    return vim.tbl_map(function(part)
+      return { part.at, part.gone, part.put }
+    end, splicing.parts({ at = 10, gone = gone, put = put }))
+  end
+  it.same(parts('a\nb\nc\nd', 'x\nb\nc\nyz'), { { 10, 'a', 'x' }, { 16, 'd', 'yz' } })
+  it.same(parts('b\n', 'a\nb\nc\n'), { { 10, '', 'a\n' }, { 14, '', 'c\n' } })
+end)
+
+---Random edits of a text by letters of one sort, that of the last place first.
+local function random_edits(text, lines, letters)
+  local edits, last = {}, #text
+  while last >= 0 and math.random(4) > 1 do
+    local to = math.random(0, last)
+    local from = math.max(to - math.random(0, 3), 0)
+    local put = {}
+    for i = 1, math.random(from < to and 0 or 1, 2) do
+      put[i] = table.remove(letters)
+    end
+    local row, column = diff.locate(lines, 0, from)
+    local end_row, end_column = diff.locate(lines, 0, to)
+    edits[#edits + 1] = { row = row, column = column, end_row = end_row, end_column = end_column, text = table.concat(put) }
+    last = from - 1
+  end
+  return edits
+end
+
+local function letters_of(first)
+  local list = {}
+  for i = 1, 20 do
+    list[i] = string.char(first + i)
+  end
+  return list
+end
+
+-- Whatever two editors do to a text: what one put in is all there, and beside it the text is that of the other one alone,
+-- but for what was taken out.
+it.test('edits of two editors together', false, function()
+  math.randomseed(13)
+  for _ = 1, 5000 do
+    local text = ('abc\ndef\n\nghij'):sub(1, math.random(0, 14))
+    local old = vim.split(text, '\n', { plain = true })
+    local theirs, mine = random_edits(text, old, letters_of(64)), random_edits(text, old, letters_of(32))
+    local ours, yours = mirrors.made(old, mine), mirrors.made(old, theirs)
+    local both = table.concat(mirrors.made(ours, (merge.moved(old, theirs, mine, ours))), '\n')
+    ours, yours = table.concat(ours, '\n'), table.concat(yours, '\n')
+    local function without(what, gone, from)
+      local text_left = what:gsub(gone, '')
+      return (text_left:gsub('%l', function(letter)
+        return from:find(letter, 1, true) and letter or ''
+      end):gsub('\n', ''))
+    end
+    local why = vim.inspect({ text, theirs, mine, both })
+    it.same(without(both, '[!-4]', ours), without(yours, '[!-4]', ours), why)
+    it.same(without(both, '[A-T]', yours), without(ours, '[A-T]', yours), why)
+  end
+  local function meets(theirs, mine)
+    local function edit(it)
+      return { row = 0, column = it[1], end_row = 0, end_column = it[2], text = it[3] }
+    end
+    local lines = mirrors.made({ 'abcdef' }, { edit(mine) })
+    local edits, met = merge.moved({ 'abcdef' }, { edit(theirs) }, { edit(mine) }, lines)
+    return { mirrors.made(lines, edits)[1], met }
+  end
+  it.same(meets({ 1, 2, 'X' }, { 1, 2, 'Y' }), { 'aXYcdef', true })
+  it.same(meets({ 1, 1, 'X' }, { 1, 1, 'Y' }), { 'aYXbcdef', false })
+  it.same(meets({ 1, 4, '' }, { 2, 3, 'Y' }), { 'aYef', true })
+  it.same(meets({ 2, 2, 'X' }, { 1, 4, '' }), { 'aXef', true })
+  it.same(meets({ 1, 3, '' }, { 2, 4, '' }), { 'aef', false })
+  it.same(meets({ 0, 1, 'X' }, { 1, 2, 'Y' }), { 'XYcdef', false })
+end)
+
+-- One's own edits put in capitals, another's digits: taking back the own ones leaves all digits.
+it.test('own edits taken back among those of another', false, function()
+  math.randomseed(17)
+  local undone, refused = 0, 0
+  for _ = 1, 1000 do
+    local bytes, own = 'abcdefghijklmnopqrstuvwxyz', past.new()
+    local function splice(put)
+      local from = math.random(0, #bytes)
+      local gone = bytes:sub(from + 1, from + math.random(0, 2))
+      bytes = bytes:sub(1, from) .. put .. bytes:sub(from + #gone + 1)
+      return { at = from, gone = gone, put = put, grown = { 0, 0 } }
+    end
+    for step = 1, math.random(8) do
+      if math.random(2) == 1 then
+        own:add('undo', { splice(string.char(64 + step)), splice(string.char(64 + step)) }, step)
+      else
+        own:arrive(splice(tostring(step)))
+      end
+    end
+    local group = own:next('undo')
+    while group do
+      local digits = bytes:gsub('%D', '')
+      if group.met then
+        refused = refused + 1
+        own:drop('undo')
+      elseif math.random(5) == 1 then
+        own:refuse('undo')
+      else
+        for i = #group.splices, 1, -1 do
+          local each = group.splices[i]
+          it.same(bytes:sub(each.at + 1, each.at + #each.gone), each.gone, 'what is taken back is there')
+          bytes = splicing.made(bytes, { each })
+        end
+        own:drop('undo')
+        undone = undone + 1
+      end
+      for digit in digits:gmatch('.') do
+        it.same(bytes:find(digit, 1, true) ~= nil, true, "another's digit stays")
+      end
+      group = own:next('undo')
+    end
+  end
+  it.same({ undone > 1000, refused > 100 }, { true, true })
 end)

@@ -1,12 +1,14 @@
 ---A buffer that shows a document: it is read, each edit goes to the program, and it is written.
 local Document = require('legacy.document')
 local History = require('legacy.history')
+local Sharing = require('legacy.sharing')
 local config = require('legacy.config')
 local diagnostics = require('legacy.diagnostics')
 local diff = require('legacy.diff')
 local file = require('legacy.file')
 local messages = require('legacy.messages')
 local mirrors = require('legacy.mirror')
+local splicing = require('legacy.splices')
 
 local api = vim.api
 
@@ -16,26 +18,36 @@ local api = vim.api
 ---@field mirror legacy.Mirror the text that the document has
 ---@field path string where it is written
 ---@field refusals legacy.Refusal[] what the buffer has and the document can't
----@field private history legacy.History
----@field private written string|nil when the file was written, as far as that was noticed
----@field private settings legacy.Settings
----@field private disk string|nil the file's bytes when it was last read or written
----@field private window integer how many changes go out together
----@field private dirty boolean whether the buffer was edited since the last look
----@field private busy boolean
----@field private planned boolean
+---@field history legacy.History
+---@field sharing legacy.Sharing|nil where other editors may have the document too
+---@field disk string|nil the file's bytes when it was last read or written
+---@field dirty boolean whether the buffer was edited since the last look
+---@field busy boolean whether the plugin itself is at work on it
 ---@field closed boolean whether the buffer shows the document no more
+---@field private settings legacy.Settings
+---@field private window integer how many changes go out together
+---@field private planned boolean
 ---@field private edits integer how often the damaged places were to be shown anew
+---@field private awaited boolean|nil whether they will be
 ---@field private hint { row: integer, column: integer }|nil where the only edit since the last look began
 local Buffer = {}
 Buffer.__index = Buffer
 
 local MOST_IN_FLIGHT = 256
 
----Milliseconds between two looks at what other editors did, and how often an edit is made anew that they were before.
-local LOOK, TRIES = 250, 10
+---How often an edit is made anew that other editors were before.
+local TRIES = 10
+
+---Milliseconds until damaged places are shown anew, and how often they are put off while edits go on.
+local REST, LONGEST = 100, 5
 
 ---Opens a document, by the name that editors use where the label isn't known.
+---@param connect fun(quietly: boolean|nil): legacy.Connection|nil
+---@param label string
+---@param path string
+---@param bytes string
+---@param settings legacy.Settings
+---@return legacy.Document
 local function opened(connect, label, path, bytes, settings)
   local name = settings.socket and vim.fn.sha256(path) or nil
   local document, refusal = Document.open(connect, label, bytes, settings.part, name)
@@ -49,17 +61,33 @@ local function opened(connect, label, path, bytes, settings)
   return document
 end
 
+---Makes a document's bytes those of its file, whatever others did.
+---@param document legacy.Document
+---@param bytes string
+local function renew(document, bytes)
+  for _ = 1, TRIES do
+    if document.bytes == bytes or document:splice({ splicing.between(document.bytes, bytes) }) then
+      return
+    end
+    document:refresh()
+  end
+end
+
 ---Reads a file into a buffer.
 ---@param number integer
 ---@param label string
 ---@param path string
----@param connect fun(): legacy.Connection
+---@param connect fun(quietly: boolean|nil): legacy.Connection|nil
+---@param anew boolean whether what others did to the document is dropped
 ---@return legacy.Buffer
-function Buffer.read(number, label, path, connect)
+function Buffer.read(number, label, path, connect, anew)
   local settings = config.get()
   path = (vim.uv or vim.loop).fs_realpath(path) or path
   local disk = file.read(path)
   local document = opened(connect, label, path, disk or '', settings)
+  if anew then
+    renew(document, disk or '')
+  end
   local read, text = pcall(document.text, document)
   if not read then
     document:close()
@@ -84,9 +112,9 @@ function Buffer.read(number, label, path, connect)
   self:attach()
   self:show()
   if document.shared then
-    self:watch()
+    self.sharing = Sharing.new(self)
     if self:is_unwritten() then
-      messages.warn('another editor has opened the file, and made edits that it has not written')
+      messages.warn('another editor made edits that it has not written')
     end
   end
   return self
@@ -106,7 +134,7 @@ function Buffer:fill()
   options.modified = self:is_unwritten()
 end
 
----@private
+---@return table what `undotree()` returns
 function Buffer:undo_tree()
   return api.nvim_buf_call(self.number, vim.fn.undotree)
 end
@@ -158,75 +186,29 @@ end
 function Buffer:close()
   if not self.closed then
     self.closed = true
-    self.document:close()
-  end
-end
-
----Looks from time to time at what other editors did.
----@private
-function Buffer:watch()
-  local timer = (vim.uv or vim.loop).new_timer()
-  timer:start(LOOK, LOOK, vim.schedule_wrap(function()
-    if not self.closed and api.nvim_buf_is_loaded(self.number) then
-      pcall(self.look, self)
-    elseif not timer:is_closing() then
-      timer:close()
+    if self.sharing then
+      self.sharing:close()
+    else
+      self.document:close()
     end
-  end))
-end
-
----Takes in what other editors did, and sends what was edited here meanwhile. A program that ended is not started for it.
-function Buffer:look()
-  if self.busy or self.document.connection.ended or self:is_inserting() then
-    return
   end
-  if self.document:has_moved() then
-    self.dirty = true
-    self:sync()
-  elseif not self.dirty then
-    self:notice_write()
-  end
-end
-
----Whether text is being inserted: that of other editors comes in behind it, since undo couldn't be kept apart.
----@private
----@return boolean
-function Buffer:is_inserting()
-  local mode = api.nvim_get_mode().mode
-  return api.nvim_get_current_buf() == self.number and mode:find('^n?[iR]') ~= nil
 end
 
 ---Whether the document has other bytes than the file, as it was last read or written.
----@private
 ---@return boolean
 function Buffer:is_unwritten()
   return self.document.bytes ~= (self.disk or '')
 end
 
----Notices that another editor has written what the document has.
----@private
-function Buffer:notice_write()
-  local stat = (vim.uv or vim.loop).fs_stat(self.path)
-  local written = stat and ('%d.%09d'):format(stat.mtime.sec, stat.mtime.nsec)
-  if written ~= self.written and vim.bo[self.number].modified then
-    self.written = written
-    self:is_written(file.read(self.path))
-  end
-end
-
----Where the file has the document's bytes, all is written.
----@private
+---The file has these bytes, as an editor of the document has read or written them.
 ---@param there string|nil
-function Buffer:is_written(there)
-  if there == self.document.bytes then
-    self.disk = there
-    vim.bo[self.number].modified = #self.refusals > 0
-  end
+function Buffer:was_written(there)
+  self.disk = there
+  vim.bo[self.number].modified = #self.refusals > 0 or self:is_unwritten()
 end
 
 ---The buffer's text as lines, like those of a mirror. One empty line is an empty text where Neovim says so, or where
 ---the text is empty already: after undo Neovim has forgotten it.
----@private
 ---@return string[]
 function Buffer:lines()
   local lines = api.nvim_buf_get_lines(self.number, 0, -1, true)
@@ -244,29 +226,35 @@ function Buffer:sync()
   if self.busy or not self.dirty then
     return
   end
-  self.busy = true
   local hint, tries = self.hint, TRIES
   self.hint = nil
-  local done, why = pcall(function()
+  self:guarded(function()
     repeat
       self.dirty = false
       self:keep_format()
       self:follow_undo()
       local refusals = self:send(hint)
       if self.document.behind then
-        self:take_in()
+        self.sharing:take_in()
       else
         self:settle(refusals)
       end
       hint, tries = nil, tries - 1
     until not self.dirty or #self.refusals > 0 or self.document.behind or tries == 0
   end)
+  self:show_soon()
+end
+
+---Does what changes the buffer, and is no edit.
+---@param call fun()
+function Buffer:guarded(call)
+  self.busy = true
+  local done, why = pcall(call)
   self.busy = false
   if not done then
     self.dirty = true
     error(why, 0)
   end
-  self:show_soon()
 end
 
 ---The document's line ends are its own: a buffer with another 'fileformat' would hide what they are.
@@ -294,6 +282,8 @@ function Buffer:follow_undo()
     splices[i] = step.taken
   end
   if not self.document:splice(splices) then
+    self:set_lines(self.mirror.lines)
+    messages.warn('not undone: another editor has edited meanwhile; undo again')
     return
   end
   for _, step in ipairs(steps) do
@@ -375,8 +365,12 @@ function Buffer:send_edits(edits)
         table.insert(refusals, 1, { row = edit.row, reason = reason, fault = reply.fault })
       else
         local rows = self.mirror:rows(edit)
+        reply.grown = self.mirror:growth(rows)
         self.mirror:replace(rows)
         self.history:record({ taken = reply, rows = rows })
+        if self.sharing then
+          self.sharing.undoing:edited()
+        end
         warn_of_copy(edit.text)
       end
     end
@@ -387,29 +381,6 @@ function Buffer:send_edits(edits)
     first = first + #decided
   end
   return refusals
-end
-
----Takes in what other editors did: their lines come into the buffer, and what was edited here stays, to be sent again,
----where it is in other lines; else it is kept in a register. Undo doesn't lead back behind it.
----@private
-function Buffer:take_in()
-  self.dirty = true
-  if self:is_inserting() then
-    return
-  end
-  local old, mine = self.mirror.lines, self:lines()
-  self.mirror, self.refusals = mirrors.new(self.document:refresh()), {}
-  local merged, lost = diff.merged(old, mine, self.mirror.lines)
-  if lost then
-    vim.fn.setreg('"', lost, 'l')
-    messages.warn('taken back, and put into the unnamed register: another editor changed the same lines')
-  end
-  self:without_undo(function(options)
-    options.fileformat = self.mirror.line_end == '\r\n' and 'dos' or 'unix'
-    self:set_lines(merged)
-  end)
-  self.dirty = not vim.deep_equal(merged, self.mirror.lines)
-  vim.bo[self.number].modified = self.dirty or self:is_unwritten()
 end
 
 ---@private
@@ -453,13 +424,14 @@ function Buffer:set_lines(lines)
 end
 
 ---Changes the buffer with no way back: undo forgets what was before.
----@private
 ---@param change fun(options: table)
 function Buffer:without_undo(change)
   local options = vim.bo[self.number]
   local levels = options.undolevels
   options.undolevels = -1
   change(options)
+  -- Neovim forgets at an edit, even if it changes nothing.
+  api.nvim_buf_set_lines(self.number, 0, 0, true, {})
   options.undolevels = levels
   self.history = History.new(self:undo_tree().seq_cur)
 end
@@ -467,55 +439,85 @@ end
 ---Shows the damaged places.
 function Buffer:show()
   local damage, total = self.document:damage(self.settings.marks)
+  if not damage or not total then
+    return
+  end
   vim.b[self.number].legacy_encoding = self.document.encoding
   vim.b[self.number].legacy_damaged = total
   diagnostics.set(self.number, damage, self.mirror, self.document.encoding, self.refusals)
 end
 
----Shows them once edits rest, since each costs the program a look.
----@private
+---Shows them once edits rest, since each costs the program a look, or have gone on for long.
 function Buffer:show_soon()
   self.edits = self.edits + 1
-  local edits = self.edits
-  vim.defer_fn(function()
-    if edits == self.edits and not self.closed and api.nvim_buf_is_loaded(self.number) then
-      pcall(self.show, self)
+  if self.awaited then
+    return
+  end
+  self.awaited = true
+  local edits, times = self.edits, 0
+  local function wait()
+    vim.defer_fn(function()
+      times = times + 1
+      if edits ~= self.edits and times < LONGEST then
+        edits = self.edits
+        wait()
+        return
+      end
+      self.awaited = false
+      -- (a program that ended is not started for it)
+      if not self.closed and api.nvim_buf_is_loaded(self.number) and not self.document.connection.ended then
+        pcall(self.show, self)
+      end
+    end, REST)
+  end
+  wait()
+end
+
+---The document's bytes, once all that was edited here is in it.
+---@private
+---@param forced boolean
+---@return string
+function Buffer:settled(forced)
+  for _ = 1, self.sharing and TRIES or 1 do
+    if self.sharing then
+      self.sharing:look()
     end
-  end, 100)
+    self:sync()
+    if self.document.behind then
+      error("legacy: not written: another editor changed the document, which can't come in now", 0)
+    elseif #self.refusals > 0 and not forced then
+      error(('legacy: not written: %s (add ! to leave it out)'):format(self.refusals[1].reason), 0)
+    end
+    local bytes = self.document:source()
+    if bytes == self.document.bytes then
+      return bytes
+    end
+  end
+  error("legacy: not written: the program's bytes aren't those that were kept here", 0)
 end
 
 ---Writes the document's bytes to its file, or to another one.
 ---@param path string|nil
 ---@param forced boolean
 function Buffer:write(path, forced)
-  if self.document.shared then
-    self:look()
-  end
-  self:sync()
-  if self.document.behind then
-    error('legacy: not written: another editor changed the document, which comes in behind Insert mode', 0)
-  end
-  if #self.refusals > 0 and not forced then
-    error(('legacy: not written: %s (add ! to leave it out)'):format(self.refusals[1].reason), 0)
-  end
+  local bytes = self:settled(forced)
   local own = not path or path == self.path
   path = path or self.path
   if not forced then
     local there = file.read(path)
-    if own and there ~= self.disk and not (self.document.shared and there == self.document.bytes) then
+    local is_known = there == self.disk or self.sharing and (there == bytes or self.sharing:is_written())
+    if own and not is_known then
       error('legacy: not written: the file has changed since it was read (add ! to overwrite it)', 0)
     elseif not own and there then
       error('legacy: not written: the file exists (add ! to overwrite it)', 0)
     end
   end
-  local bytes = self.document:source()
-  if bytes ~= self.document.bytes then
-    error("legacy: not written: the program's bytes aren't those that were kept here", 0)
-  end
   file.write(path, bytes)
   if own then
-    self.disk = bytes
-    vim.bo[self.number].modified = #self.refusals > 0
+    self:was_written(bytes)
+    if self.sharing then
+      self.sharing:written()
+    end
   end
 end
 

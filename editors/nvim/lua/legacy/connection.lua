@@ -2,12 +2,19 @@
 ---order. Writes are queued and replies are read as they come, so any number of commands can be in flight.
 local uv = vim.uv or vim.loop
 
+---A command that was sent.
+---@class legacy.Sent
+---@field id integer
+---@field line string|nil its reply, once it came
+---@field call fun(reply: table)|nil what is called with it, where little of Neovim can be used (|api-fast|)
+
 ---@class legacy.Connection
 ---@field words string[] the command line
 ---@field timeout integer milliseconds to wait for the replies
 ---@field memory integer|nil MiB that the program may have with all its documents
 ---@field ended boolean
----@field private replies string[] lines that came and that nobody took
+---@field is_older boolean|nil whether the program is from before it had `since`
+---@field private waiting legacy.Sent[] what was sent and has no reply yet, in order
 ---@field private begun string[] the parts of the line that has begun
 ---@field private complaint string what the program wrote to standard error
 ---@field private sent integer how many commands were sent
@@ -15,15 +22,31 @@ local uv = vim.uv or vim.loop
 ---@field private process table|nil the program, where it is this connection's own
 ---@field private stdin table where commands go
 ---@field server table|nil the program in the background, where it was started for this connection
+---@field path string|nil where it listens
 local Connection = {}
 Connection.__index = Connection
+
+---Hands a reply to the command that has waited longest.
+---@private
+---@param line string
+function Connection:arrived(line)
+  local sent = table.remove(self.waiting, 1)
+  if not sent then
+    self:stop()
+    return
+  end
+  sent.line = line
+  if sent.call then
+    sent.call(vim.json.decode(line))
+  end
+end
 
 ---@param data string
 function Connection:receive(data)
   local from, feed = 1, data:find('\n', 1, true)
   while feed do
     self.begun[#self.begun + 1] = data:sub(from, feed - 1)
-    self.replies[#self.replies + 1] = table.concat(self.begun)
+    self:arrived(table.concat(self.begun))
     self.begun = {}
     from = feed + 1
     feed = data:find('\n', from, true)
@@ -39,7 +62,7 @@ end
 ---@return legacy.Connection
 function Connection.new(words, timeout, memory)
   local self = setmetatable({ words = words, timeout = timeout, memory = memory, ended = false }, Connection)
-  self.replies, self.begun, self.complaint, self.sent, self.last = {}, {}, '', 0, {}
+  self.waiting, self.begun, self.complaint, self.sent, self.last = {}, {}, '', 0, {}
   return self
 end
 
@@ -143,53 +166,70 @@ function Connection:later(command)
   end)
 end
 
+---Sends commands, behind those that were left for later.
+---@private
+---@param commands table[]
+---@param call fun(reply: table)|nil what is called with the reply to each
+---@return legacy.Sent[] all that was sent
+---@return integer how many of these were left for later
+function Connection:send(commands, call)
+  local before = #self.last
+  local all, lines, sent = vim.list_extend(self.last, commands), {}, {}
+  self.last = {}
+  for i, command in ipairs(all) do
+    self.sent = self.sent + 1
+    command.id = self.sent
+    lines[i] = vim.json.encode(command) .. '\n'
+    sent[i] = { id = command.id, call = i > before and call or nil }
+  end
+  vim.list_extend(self.waiting, sent)
+  if #lines > 0 and not self.stdin:is_closing() then
+    self.stdin:write(lines)
+  end
+  return sent, before
+end
+
+---Sends a command, and calls with its reply once it is there. Where the connection ends before, nothing is called. It may be
+---called, and calls, where little of Neovim can be used, so that who waits for keys notices nothing.
+---@param command table
+---@param call fun(reply: table)
+function Connection:tell(command, call)
+  self:send({ command }, call)
+end
+
 ---Sends all commands, and returns their replies.
 ---@param commands table[]
 ---@return table[]
 function Connection:ask(commands)
-  local before = #self.last
-  local all = vim.list_extend(self.last, commands)
-  self.last = {}
-  local lines = {}
-  for i, command in ipairs(all) do
-    command.id = self.sent + i
-    lines[i] = vim.json.encode(command) .. '\n'
-  end
-  if #all == 0 then
+  local sent, before = self:send(commands)
+  local last = sent[#sent]
+  if not last then
     return {}
   end
-  if not self.stdin:is_closing() then
-    self.stdin:write(lines)
-  end
   local done = vim.wait(self.timeout, function()
-    return #self.replies >= #all or self.ended
+    return last.line ~= nil or self.ended
   end, 20, true)
-  if not done or #self.replies < #all then
+  if not last.line then
     self:fail(done)
   end
-  return self:take(all, before)
+  local replies = {}
+  for i = before + 1, #sent do
+    replies[i - before] = self:reply(sent[i])
+  end
+  return replies
 end
 
----Takes the replies to commands, and returns those behind the first ones.
+---The reply to a command.
 ---@private
----@param commands table[]
----@param before integer
----@return table[]
-function Connection:take(commands, before)
-  local replies = {}
-  for i, command in ipairs(commands) do
-    local reply = vim.json.decode(self.replies[i])
-    if reply.id and reply.id ~= command.id then
-      self:stop()
-      error(('legacy: a reply to command %d came in place of %d'):format(reply.id, command.id), 0)
-    end
-    if i > before then
-      replies[i - before] = reply
-    end
+---@param sent legacy.Sent
+---@return table
+function Connection:reply(sent)
+  local reply = vim.json.decode(sent.line)
+  if reply.id and reply.id ~= sent.id then
+    self:stop()
+    error(('legacy: a reply to command %d came in place of %d'):format(reply.id, sent.id), 0)
   end
-  self.replies = vim.list_slice(self.replies, #commands + 1)
-  self.sent = self.sent + #commands
-  return replies
+  return reply
 end
 
 ---Ends the program after a reply that didn't come, and says so: what it would still answer belongs to nothing.

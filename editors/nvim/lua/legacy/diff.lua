@@ -21,7 +21,7 @@ end
 ---@param old string[]
 ---@param new string[]
 ---@return legacy.Hunk[]
-local function compare(old, new)
+function M.compare(old, new)
   local hunks = {}
   local function joined(list)
     return #list > 0 and table.concat(list, '\n') .. '\n' or ''
@@ -39,7 +39,7 @@ end
 ---@param new string[]
 ---@param hint integer|nil a row before which nothing differs: of equal lines the first ones needn't be the same
 ---@return legacy.Hunk|nil
-local function group_of(old, new, hint)
+function M.group(old, new, hint)
   local most = math.min(#old, #new)
   local first, last = 0, 0
   while first < most and first < (hint or most) and old[first + 1] == new[first + 1] do
@@ -54,14 +54,14 @@ end
 
 ---@return legacy.Hunk[]
 local function hunks_of(old, new, hint)
-  local group = group_of(old, new, hint)
+  local group = M.group(old, new, hint)
   if not group or group.count <= 1 or group.new_count <= 1 then
     return { group }
   end
   local row = group.row
   local lines = vim.list_slice(old, row + 1, row + group.count)
   local new_lines = vim.list_slice(new, row + 1, row + group.new_count)
-  local hunks = compare(lines, new_lines)
+  local hunks = M.compare(lines, new_lines)
   for _, it in ipairs(hunks) do
     it.row, it.new_row = it.row + row, it.new_row + row
   end
@@ -127,7 +127,7 @@ local function replacements(old, new, most, coarse)
   local list, new_list = code_points(out), code_points(came)
   local starts, new_starts = starts_of(list), starts_of(new_list)
   local found = {}
-  for i, it in ipairs(compare(list, new_list)) do
+  for i, it in ipairs(M.compare(list, new_list)) do
     local from, to = new_starts[it.new_row], new_starts[it.new_row + it.new_count]
     found[i] = { head + starts[it.row], head + starts[it.row + it.count], came:sub(from + 1, to) }
   end
@@ -137,7 +137,7 @@ end
 ---@param row integer of the first line
 ---@param offset integer in bytes from there, an LF behind each line
 ---@return integer, integer
-local function locate(lines, row, offset)
+function M.locate(lines, row, offset)
   while offset > #lines[row + 1] do
     offset = offset - #lines[row + 1] - 1
     row = row + 1
@@ -168,8 +168,8 @@ local function add(edits, old, new, it, hint, coarse)
   end
   local text, new_text = text_of(old, row, count), text_of(new, new_row, new_count)
   for _, replacement in ipairs(replacements(text, new_text, most, coarse)) do
-    local from_row, column = locate(old, row, replacement[1])
-    local end_row, end_column = locate(old, row, replacement[2])
+    local from_row, column = M.locate(old, row, replacement[1])
+    local end_row, end_column = M.locate(old, row, replacement[2])
     edits[#edits + 1] = {
       row = from_row, column = column, end_row = end_row, end_column = end_column, text = replacement[3],
     }
@@ -217,35 +217,12 @@ function M.edits(old, new, hint, coarse)
   return reversed
 end
 
----What two lists of lines that were made from the same are together. Where both differ from it in lines that meet, it is
----the other one, and those of the first are returned as well.
----@param old string[]
----@param one string[]
----@param other string[]
----@return string[] lines
----@return string[]|nil lost
-function M.merged(old, one, other)
-  local mine, theirs = group_of(old, one, nil), group_of(old, other, nil)
-  if not mine or not theirs or vim.deep_equal(one, other) then
-    return mine and one or other
-  end
-  local row = mine.row
-  if theirs.row + theirs.count <= mine.row and mine.row + mine.count > theirs.row then
-    row = row + theirs.new_count - theirs.count
-  elseif mine.row + mine.count > theirs.row then
-    return other, vim.list_slice(one, mine.new_row + 1, mine.new_row + mine.new_count)
-  end
-  local lines = vim.list_slice(other, 1, row)
-  vim.list_extend(lines, one, mine.new_row + 1, mine.new_row + mine.new_count)
-  return vim.list_extend(lines, other, row + mine.count + 1)
-end
-
 ---The one range in which two lists of lines differ, or nil.
 ---@param old string[]
 ---@param new string[]
 ---@return legacy.Edit|nil
 function M.span(old, new)
-  local edits, group = {}, group_of(old, new, nil)
+  local edits, group = {}, M.group(old, new, nil)
   if group then
     add(edits, old, new, group, nil, true)
   end

@@ -10,10 +10,13 @@ local splicing = require('legacy.splices')
 ---@field encoding string the encoding in force
 ---@field shared boolean whether other editors may have it too
 ---@field own boolean whether it was opened here
----@field behind boolean whether another editor has changed it, so that no edit is accepted before `refresh`
----@field private rev integer
+---@field behind boolean whether another editor has changed it, so that no edit is accepted before that is taken in
+---@field apart boolean whether the bytes are not those of the revision, but from before it was joined
+---@field unsure boolean|nil whether all is to be read anew
+---@field rev integer
+---@field on_joined fun()|nil what is called when it was opened, or joined, on another connection
 ---@field private part integer bytes that one command carries
----@field private connect fun(): legacy.Connection
+---@field private connect fun(quietly: boolean|nil): legacy.Connection|nil
 ---@field private connection legacy.Connection
 local Document = {}
 Document.__index = Document
@@ -33,7 +36,8 @@ end
 
 ---Opens a document of these bytes, or joins the one that is open by the name that is given. Returns nil and the reply
 ---where it is refused.
----@param connect fun(): legacy.Connection returns the connection that lives
+---@param connect fun(quietly: boolean|nil): legacy.Connection|nil returns the connection that lives, or quietly one that
+---needn't be started
 ---@param label string
 ---@param bytes string
 ---@param part integer
@@ -41,7 +45,7 @@ end
 ---@return legacy.Document|nil, table|nil
 function Document.open(connect, label, bytes, part, name)
   local self = setmetatable({ label = label, bytes = bytes, part = part, connect = connect }, Document)
-  self.name, self.shared, self.behind = name or new_name(), name ~= nil, false
+  self.name, self.shared, self.behind, self.apart = name or new_name(), name ~= nil, false, false
   local refusal = self:send(connect())
   if refusal then
     return nil, refusal
@@ -84,6 +88,7 @@ function Document:send(connection)
   end
   local last = replies[#replies]
   self.connection, self.rev, self.encoding, self.own = connection, last.rev, last.encoding, true
+  self.behind, self.apart = self.unsure or false, false
 end
 
 ---Joins the document that another editor has opened, if it is in the same encoding: what the label names is seen by an
@@ -103,7 +108,8 @@ function Document:join(connection)
   elseif stat.given ~= opened.encoding then
     return { fault = 'OtherEncoding', given = stat.given }
   end
-  self.connection, self.rev, self.encoding, self.own, self.behind = connection, stat.rev, stat.encoding, false, true
+  self.connection, self.rev, self.encoding, self.own = connection, stat.rev, stat.encoding, false
+  self.behind, self.apart = true, true
 end
 
 ---Opens the document on a connection that hasn't got it.
@@ -113,6 +119,8 @@ function Document:reopen(connection)
   local refusal = self:send(connection)
   if refusal then
     error("legacy: the document can't be opened again: " .. refusal.fault, 0)
+  elseif self.on_joined then
+    self.on_joined()
   end
 end
 
@@ -199,24 +207,65 @@ function Document:text()
 end
 
 ---@return string the whole document, as the program has it
+---@return integer the revision at the beginning
 function Document:source()
-  return self:pages(self:must({ op = 'stat' }).bytes, function(at, count)
+  local stat = self:must({ op = 'stat' })
+  return self:pages(stat.bytes, function(at, count)
     return { op = 'source', at = at, len = count }
   end, function(reply)
     return base64.decode(reply.bytes)
+  end),
+    stat.rev
+end
+
+---What was done to the document since a revision. A program from before there was `since` says only whether something was.
+---@param rev integer
+---@return table
+function Document:since(rev)
+  local op = self.connection.is_older and 'stat' or 'since'
+  local reply = self:ask({ { op = op, rev = rev, unit = 'utf-8' } })[1]
+  if reply.fault == 'UnknownOp' then
+    self.connection.is_older = true
+    return self:since(rev)
+  elseif op == 'stat' and reply.rev ~= rev then
+    return { fault = 'Forgotten' }
+  end
+  return reply
+end
+
+---Asks whether another editor has changed the document, and calls with the answer, as `tell` of a connection does.
+---@param call fun(moved: boolean)
+function Document:watch(call)
+  local rev = self.rev
+  local op = self.connection.is_older and 'stat' or 'since'
+  self.connection:tell({ op = op, doc = self.name, rev = rev }, function(reply)
+    call(reply.fault ~= nil or reply.rev ~= rev or self.behind)
   end)
 end
 
----Whether another editor has changed the document since the last reply.
----@return boolean
-function Document:has_moved()
-  local stat = self:must({ op = 'stat' })
-  self.behind = self.behind or stat.rev ~= self.rev or stat.bytes ~= #self.bytes
-  return self.behind
+---Opens or joins the document at a server that was started anew, where one listens.
+---@return boolean whether it did
+function Document:revive()
+  local connection = self.connect(true)
+  if not connection or connection == self.connection then
+    return false
+  end
+  self:reopen(connection)
+  return true
 end
 
----Takes the document as another editor has left it.
+---Takes the document as another editor has left it, with what it is now.
+---@param bytes string
+---@param rev integer
+---@param encoding string
+function Document:is_now(bytes, rev, encoding)
+  self.bytes, self.rev, self.encoding = bytes, rev, encoding
+  self.behind, self.apart, self.unsure = false, false, false
+end
+
+---Reads the document anew.
 ---@return string its text in UTF-8
+---@return table what `stat` says of it
 function Document:refresh()
   local bytes, text, before, now
   repeat
@@ -224,8 +273,8 @@ function Document:refresh()
     bytes, text = self:source(), self:text()
     now = self:must({ op = 'stat' })
   until now.rev == before.rev and now.bytes == #bytes
-  self.bytes, self.rev, self.encoding, self.behind = bytes, now.rev, now.encoding, false
-  return text
+  self:is_now(bytes, now.rev, now.encoding)
+  return text, now
 end
 
 ---Asks for changes of the text, all in flight, each behind its plan, which has the bytes that go out and come in.
@@ -264,11 +313,15 @@ function Document:change(changes)
 end
 
 ---Replaces bytes by bytes, one splice after another, all in flight. Where another editor was first, it says no, and the
----document is `behind`.
+---document is `behind`; those of a shared one are made as one splice, so that all or none is made.
 ---@param splices legacy.Splice[]
 ---@return boolean
 function Document:splice(splices)
+  local bytes = splicing.made(self.bytes, splices)
   local commands = {}
+  if self.shared and #splices > 0 then
+    splices = { splicing.between(self.bytes, bytes) }
+  end
   for _, splice in ipairs(splices) do
     local from = 0
     repeat
@@ -284,7 +337,7 @@ function Document:splice(splices)
   end
   for i, reply in ipairs(#commands > 0 and self:ask(commands) or {}) do
     if reply.fault == 'Stale' and self.shared then
-      self.behind = true
+      self.behind, self.apart = true, i > 1
       return false
     elseif reply.fault then
       if i > 1 then
@@ -295,21 +348,24 @@ function Document:splice(splices)
     end
     self.rev, self.encoding = reply.rev, reply.encoding
   end
-  self.bytes = splicing.made(self.bytes, splices)
+  self.bytes = bytes
   return true
 end
 
 ---@param most integer
----@return integer[][], integer the first damaged places, and how many there are: of each the first byte and the one
----behind the last, and line and character, in bytes of UTF-8, where its U+FFFD begins and where it ends
+---@return integer[][]|nil, integer|nil the first damaged places, and how many there are, or nil where another editor has
+---changed the document: of each the first byte and the one behind the last, and line and character, in bytes of UTF-8,
+---where its U+FFFD begins and where it ends
 function Document:damage(most)
   local page = self:must({ op = 'diagnostics', from = 0, max = math.min(most, 10000), unit = 'utf-8' })
-  return page.diagnostics, page.total
+  if page.rev == self.rev then
+    return page.diagnostics, page.total
+  end
 end
 
----Closes the document, at the latest before the next command. One that another editor opened stays open.
+---Closes the document, at the latest before the next command.
 function Document:close()
-  if self.own and not self.connection.ended then
+  if self.connection and not self.connection.ended then
     self.connection:later({ op = 'close', doc = self.name })
   end
 end

@@ -1,9 +1,10 @@
 ---What undo and redo lead back to, as bytes. Text is not enough: U+FFFD, or a character that has several sequences of
 ---bytes, doesn't say which were there. Each state of Neovim's undo tree has the steps that made it from its parent.
+local splicing = require('legacy.splices')
 
 ---One accepted change or splice, which can be made in both directions.
 ---@class legacy.Step
----@field taken legacy.Splice
+---@field taken legacy.OwnSplice
 ---@field rows legacy.Rows
 
 ---@class legacy.State
@@ -85,11 +86,48 @@ function History:record(step)
   if last and goes_on(last, step) then
     local put, from = last.taken.put, step.taken.at - last.taken.at
     last.taken.put = put:sub(1, from) .. step.taken.put .. put:sub(from + #step.taken.gone + 1)
+    for i, by in ipairs(step.taken.grown) do
+      last.taken.grown[i] = last.taken.grown[i] + by
+    end
     last.rows.lines_put = step.rows.lines_put
     return
   end
-  local taken = { at = step.taken.at, gone = step.taken.gone, put = step.taken.put }
-  steps[#steps + 1] = { taken = taken, rows = step.rows }
+  steps[#steps + 1] = { taken = vim.deepcopy(step.taken), rows = step.rows }
+end
+
+---Whether all that was edited since the root is taken back.
+---@return boolean
+function History:at_root()
+  return self.current == self.root
+end
+
+---What was edited from the root to the current state, and then what undo took back and redo makes again: of each state
+---its splices.
+---@param tree table what `undotree()` returns
+---@return { key: integer, splices: legacy.OwnSplice[] }[]
+---@return { key: integer, splices: legacy.OwnSplice[] }[]
+function History:splices(tree)
+  local function of(key)
+    return {
+      key = key,
+      splices = vim.tbl_map(function(step)
+        return step.taken
+      end, self.states[key].steps),
+    }
+  end
+  local made, undone, key = {}, {}, self.current
+  while key do
+    table.insert(made, 1, of(key))
+    key = self.states[key].parent
+  end
+  local ahead = false
+  for _, entry in ipairs(tree.entries) do
+    ahead = ahead or entry.curhead ~= nil
+    if ahead and self.states[entry.seq] then
+      undone[#undone + 1] = of(entry.seq)
+    end
+  end
+  return made, undone
 end
 
 ---@param step legacy.Step
@@ -97,7 +135,7 @@ end
 local function reversed(step)
   local taken, rows = step.taken, step.rows
   return {
-    taken = { at = taken.at, gone = taken.put, put = taken.gone },
+    taken = splicing.inverse(taken),
     rows = { row = rows.row, lines_gone = rows.lines_put, lines_put = rows.lines_gone },
   }
 end

@@ -1,6 +1,7 @@
 ---Edits files in legacy encodings through `gate`, so that no byte changes but those of the edits.
 local Buffer = require('legacy.buffer')
 local Connection = require('legacy.connection')
+local Sharing = require('legacy.sharing')
 local config = require('legacy.config')
 local messages = require('legacy.messages')
 local server = require('legacy.server')
@@ -17,8 +18,9 @@ local buffers = {}
 
 ---The one connection for all buffers, made where there is none, or where the program ended, or other words or another
 ---memory are set.
----@return legacy.Connection
-local function connect()
+---@param quietly boolean|nil whether only a server is connected to that listens
+---@return legacy.Connection|nil
+local function connect(quietly)
   local settings = config.get()
   local words = config.words(settings)
   local is_as_set = connection and vim.deep_equal({ connection.words, connection.memory }, { words, settings.memory })
@@ -26,8 +28,11 @@ local function connect()
     connection:stop()
   end
   if not connection or connection.ended then
-    connection = settings.socket and server.connect(words, settings.socket, settings.timeout, settings.memory)
-      or Connection.start(words, settings.timeout, settings.memory)
+    if settings.socket then
+      connection = server.connect(words, settings.socket, settings.timeout, settings.memory, quietly)
+    elseif not quietly then
+      connection = Connection.start(words, settings.timeout, settings.memory)
+    end
   end
   return connection
 end
@@ -96,15 +101,18 @@ end
 ---Reads the file of a name into a buffer.
 ---@param number integer
 ---@param name string
+---@param bang integer 1 where the command had a !
 ---@return string
-function M.read(number, name)
-  if buffers[number] then
-    buffers[number]:close()
+function M.read(number, name, bang)
+  local before = buffers[number]
+  if before then
+    before:close()
     buffers[number] = nil
   end
+  Sharing.finish()
   local command, why = command_of(function()
     local label, path = parts(name)
-    buffers[number] = Buffer.read(number, label, path, connect)
+    buffers[number] = Buffer.read(number, label, path, connect, before and bang == 1)
   end)
   if why then
     unread, vim.v.errmsg = why, ''
@@ -148,6 +156,7 @@ function M.leave()
     for _, buffer in pairs(buffers) do
       buffer:close()
     end
+    Sharing.finish()
     pcall(connection.ask, connection, {})
   end
 end

@@ -79,6 +79,22 @@ function M.opening(reply, label, size, settings)
   return 'the program refuses the document: ' .. reply.fault
 end
 
+---How many other editors have a file open.
+---@param number integer
+---@return string
+function M.others(number)
+  if number == 0 then
+    return 'no other editor has the file open any more'
+  end
+  return number == 1 and 'another editor has the file open' or ('%d other editors have the file open'):format(number)
+end
+
+---Shows a message.
+---@param text string
+function M.tell(text)
+  vim.api.nvim_echo({ { 'legacy: ' .. text } }, true, {})
+end
+
 ---Shows a warning.
 ---@param text string
 function M.warn(text)

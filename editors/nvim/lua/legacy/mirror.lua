@@ -60,6 +60,36 @@ function Mirror:display()
   return M.display(self.lines)
 end
 
+---How many bytes of UTF-8 some lines have, with the line ends between them.
+---@param lines string[]
+---@return integer
+function Mirror:size(lines)
+  local size = (#lines - 1) * #self.line_end
+  for _, line in ipairs(lines) do
+    size = size + #line
+  end
+  return size
+end
+
+---How many code points some lines have, with the line ends between them.
+---@param lines string[]
+---@return integer
+function Mirror:code_points(lines)
+  local number = (#lines - 1) * #self.line_end
+  for _, line in ipairs(lines) do
+    number = number + count(line, '[^\128-\191]')
+  end
+  return number
+end
+
+---By how much some lines in place of others make the text grow: in bytes of UTF-8, and in code points.
+---@param rows legacy.Rows
+---@return integer[]
+function Mirror:growth(rows)
+  local gone, put = rows.lines_gone, rows.lines_put
+  return { self:size(put) - self:size(gone), self:code_points(put) - self:code_points(gone) }
+end
+
 ---Whether a place lies between CR and LF, which the program takes for one line end.
 ---@private
 function Mirror:inside_line_end(row, column)
@@ -148,6 +178,18 @@ local function move(lines, behind, by)
       lines[i] = nil
     end
   end
+end
+
+---What edits make of some lines.
+---@param lines string[]
+---@param edits legacy.Edit[] that of the last place first
+---@return string[]
+function M.made(lines, edits)
+  local mirror = setmetatable({ lines = vim.list_slice(lines), line_end = '\n', returns = 0 }, Mirror)
+  for _, edit in ipairs(edits) do
+    mirror:replace(mirror:rows(edit))
+  end
+  return mirror.lines
 end
 
 ---@param rows legacy.Rows

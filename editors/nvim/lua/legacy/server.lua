@@ -26,6 +26,19 @@ local function connected(path)
   return nil, why or 'ETIMEDOUT'
 end
 
+---Calls where a server listens at a path, and waits for nothing.
+---@param path string
+---@param call fun()
+function M.find(path, call)
+  local pipe = uv.new_pipe(false)
+  pipe:connect(path, function(fault)
+    pipe:close()
+    if not fault then
+      call()
+    end
+  end)
+end
+
 ---Starts a server that lives on when this editor ends, and connects to who listens first: where two editors start at
 ---once, one of two servers is refused the place.
 ---@param connection legacy.Connection
@@ -63,14 +76,17 @@ end
 ---@param path string
 ---@param timeout integer
 ---@param memory integer|nil MiB that it may have where it is started
----@return legacy.Connection
-function M.connect(words, path, timeout, memory)
+---@param quietly boolean|nil whether none is started, and nothing said
+---@return legacy.Connection|nil
+function M.connect(words, path, timeout, memory, quietly)
   local connection = Connection.new(words, timeout, memory)
   local pipe, why = connected(path)
-  if not pipe and not (why:find('ENOENT') or why:find('ECONNREFUSED')) then
+  if not pipe and quietly then
+    return nil
+  elseif not pipe and not (why:find('ENOENT') or why:find('ECONNREFUSED')) then
     error(("legacy: the socket '%s' can't be used (%s)"):format(path, why), 0)
   end
-  connection.stdin = pipe or started(connection, path)
+  connection.stdin, connection.path = pipe or started(connection, path), path
   connection:listen(connection.stdin)
   return connection
 end

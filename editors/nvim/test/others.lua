@@ -1,0 +1,87 @@
+---Other Neovims, which share documents with this one at a socket.
+local it = require('harness')
+
+local M = {}
+
+local sockets = 0
+
+---Settings of a socket at which nobody listens yet.
+---@return table
+function M.settings()
+  sockets = sockets + 1
+  return { socket = ('%s/socket%d'):format(it.work, sockets) }
+end
+
+---Another Neovim, in which calls of the harness are made by their names.
+---@param settings table
+function M.editor(settings)
+  local words = { vim.v.progpath, '--clean', '-n', '--headless', '--embed' }
+  vim.list_extend(words, { '--cmd', 'set runtimepath=' .. vim.o.runtimepath })
+  vim.list_extend(words, { '--cmd', ('lua package.path = %q'):format(package.path) })
+  local channel = vim.fn.jobstart(words, { rpc = true })
+  local other = {}
+  function other.lua(code, ...)
+    return vim.rpcrequest(channel, 'nvim_exec_lua', code, { ... })
+  end
+  function other.call(name, ...)
+    return other.lua('return require("harness")[...](select(2, ...))', name, ...)
+  end
+  function other.edit(label, path)
+    other.lua('vim.cmd(...)', ('silent LegacyEdit %s %s'):format(label, path))
+  end
+  function other.input(keys)
+    vim.rpcrequest(channel, 'nvim_input', keys)
+  end
+  ---Keys, once those before are done.
+  function other.type(keys)
+    other.input(keys)
+    vim.rpcrequest(channel, 'nvim_eval', '1')
+  end
+  function other.shows(lines)
+    it.same(vim.wait(20000, function()
+      return vim.deep_equal(other.call('lines'), lines)
+    end, 20), true, vim.inspect(other.call('lines')))
+  end
+  function other.quit()
+    -- (it may have quit before)
+    pcall(vim.rpcnotify, channel, 'nvim_command', 'qall!')
+    vim.fn.jobwait({ channel }, 20000)
+  end
+  function other.kill()
+    vim.loop.kill(vim.fn.jobpid(channel), 'sigkill')
+    vim.fn.jobwait({ channel }, 20000)
+  end
+  other.call('settings', settings)
+  return other
+end
+
+---That this editor comes to show lines.
+function M.shows(lines)
+  it.same(vim.wait(20000, function()
+    return vim.deep_equal(it.lines(), lines)
+  end, 20), true, vim.inspect(it.lines()))
+end
+
+---Runs a test of this editor and another one at a socket of their own, at which this one has started the server.
+---@param name string
+---@param label string
+---@param bytes string
+---@param call fun(other: table, path: string, server: table)
+function M.together(name, label, bytes, call)
+  it.test(name, not label:find('^utf'), function()
+    local settings = M.settings()
+    it.settings(settings)
+    local path = it.open(label, bytes)
+    local server = it.buffer().document.connection.server
+    local other = M.editor(settings)
+    local done, why = xpcall(function()
+      other.edit(label, path)
+      call(other, path, server)
+    end, debug.traceback)
+    other.quit()
+    server:kill('sigkill')
+    assert(done, why)
+  end)
+end
+
+return M
