@@ -1,6 +1,7 @@
 #!/usr/bin/env python3
 """Measures `legacy mount` and prints a table: what each row took in seconds, of several rounds the fastest and the middle
-one, and what it is to take at most; and the processor time of the mount's processes and of the program, in the middle.
+one, and what it is to take at most; and, in the middle, the processor time of the process that answers the kernel, of those
+that decode and save beside it, each with a `gate`, and of the program.
 
     bench/mount.py [--rounds N] [--files N] [--only WORD ..] [--keep FOLDER]
 
@@ -56,11 +57,22 @@ LATEST = {(call, where): Row(BESIDE.format(call=call, where=where), 50, "ms") fo
 MEMORY = Row("memory of a process at most, in saves of 16 MiB", 400, "MiB")
 
 
+class Spent(NamedTuple):
+    """Seconds of processor time, of the process that answers the kernel and of those below it."""
+
+    answers: float = 0.0
+    saves: float = 0.0
+
+    def since(self, before: "Spent") -> "Spent":
+        """What was spent since then."""
+        return Spent(self.answers - before.answers, self.saves - before.saves)
+
+
 class Sample(NamedTuple):
-    """What a row took once, and the processor time of the mount's processes and of the program."""
+    """What a row took once, and the processor time of the mount and of the program."""
 
     value: float
-    mount: float = 0.0
+    mount: Spent = Spent()
     program: float = 0.0
 
 
@@ -73,17 +85,18 @@ class Table:
     def add(self, row: Row, sample: Sample) -> None:
         """Adds a sample, and shows it."""
         self._of.setdefault(row, []).append(sample)
-        print(f"  {row.name}: {sample.value:.3f} {row.unit}, processor {sample.mount:.2f} + {sample.program:.2f}", file=sys.stderr)
+        times = " + ".join(f"{it:.2f}" for it in (*sample.mount, sample.program))
+        print(f"  {row.name}: {sample.value:.3f} {row.unit}, processor {times}", file=sys.stderr)
 
     def lines(self) -> Iterator[str]:
         """The table."""
-        yield "| | asked | best | middle | mount's processor | program's |"
-        yield "|---|---:|---:|---:|---:|---:|"
+        yield "| | asked | best | middle | answers | decodes and saves | program |"
+        yield "|---|---:|---:|---:|---:|---:|---:|"
         for row, samples in self._of.items():
             values = [it.value for it in samples]
             digits = 2 if row.unit == "s" else 0
             shown = [f"{it:.{digits}f} {row.unit}" for it in (min(values), statistics.median(values))]
-            times = [f"{statistics.median(it):.2f}" for it in ([it.mount for it in samples], [it.program for it in samples])]
+            times = [f"{statistics.median(it):.2f}" for it in zip(*((*it.mount, it.program) for it in samples))]
             yield f"| {row.name} | {row.most:g} {row.unit} | {' | '.join([*shown, *times])} |"
 
 
@@ -149,14 +162,15 @@ def processes(top: int) -> List[int]:
     return found
 
 
-def processor(top: int) -> float:
-    """The seconds of processor time that a process has had and those below it, ended ones too."""
-    ticks = 0
+def processor(top: int) -> Spent:
+    """The processor time that a process has had and those below it, ended ones too."""
+    ticks = []
     for it in processes(top):
         with contextlib.suppress(OSError):
-            fields = pathlib.Path(f"/proc/{it}/stat").read_text().rpartition(")")[2].split()
-            ticks += sum(map(int, fields[11:15]))
-    return ticks / TICK
+            user, system, *ended = map(int, pathlib.Path(f"/proc/{it}/stat").read_text().rpartition(")")[2].split()[11:15])
+            ticks.append((user + system, sum(ended)))
+    own, *others = ticks
+    return Spent(own[0] / TICK, (own[1] + sum(map(sum, others))) / TICK)
 
 
 def peaks(top: int) -> Dict[int, Tuple[str, float]]:
@@ -182,7 +196,7 @@ def timed(mount: Mount, words: Sequence[object]) -> Sample:
         raise SystemExit(f"status {program.returncode}: {' '.join(map(str, words))}\n{mount.log()}")
     # (what the kernel tells the mount behind the program's end is the program's too)
     time.sleep(0.3)
-    return Sample(took, processor(mount.process.pid) - before, used.ru_utime + used.ru_stime)
+    return Sample(took, processor(mount.process.pid).since(before), used.ru_utime + used.ru_stime)
 
 
 def searched(table: Table, source: pathlib.Path, files: int) -> None:
@@ -244,7 +258,7 @@ def beside(table: Table, source: pathlib.Path, raw: bytes, memory: bool) -> None
                     CALLS[call](mount.point / places[where].relative_to(source) / "small.txt")
                     longest[call, where] = max(worst, 1000 * (time.monotonic() - began))
                 time.sleep(0.002)
-        took = processor(mount.process.pid) - before
+        took = processor(mount.process.pid).since(before)
         same(path, raw.replace(number, b"edited!"), "a save in place")
         found = peaks(mount.process.pid)
     for key, row in LATEST.items():

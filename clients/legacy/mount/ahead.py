@@ -91,7 +91,7 @@ class Ahead:
                 self._to.send_nowait(part)
             except trio.WouldBlock:
                 break
-            self._coming.update((it.path, trio.Event()) for it in part)
+            self._coming.update(dict.fromkeys((it.path for it in part), trio.Event()))
         return coming
 
     async def serve(self) -> None:
@@ -105,7 +105,7 @@ class Ahead:
                 log.exception("decoding ahead failed; this is a fault of the mount")
             finally:
                 for it in part:
-                    self._coming.pop(it.path).set()
+                    self._coming.pop(it.path).set()  # (one for all)
 
     async def _decode(self, part: Part) -> None:
         files = [(self._source.full(it.path), it.label) for it in part]

@@ -114,15 +114,17 @@ class Operations(pyfuse3.Operations):  # type: ignore[misc]
     async def readdir(self, fh: int, start: int, token: Any) -> None:
         node, entries, texts = self.folders[fh]
         for number, name in enumerate(entries[start:], start + 1):
-            with contextlib.suppress(FileNotFoundError):
-                path = node.path + b"/" + name if node.path else name
+            path = node.path + b"/" + name if node.path else name
+            try:
                 found = self.source.stat(path)
-                entry = self.tree.at(path, found)
-                if not pyfuse3.readdir_reply(token, name, await self.view.attributes(entry, found, lazily=True), number):
-                    break
-                entry.lookups += 1
-                if entry.rule and found.st_size <= SMALL and not self.view.is_known(entry.rule, found):
-                    texts.add(Wanted(path, entry.rule.label), found.st_size)
+            except FileNotFoundError:
+                continue
+            entry = self.tree.at(path, found)
+            if not pyfuse3.readdir_reply(token, name, await self.view.attributes(entry, found, lazily=True), number):
+                break
+            entry.lookups += 1
+            if entry.rule and found.st_size <= SMALL and not self.view.is_known(entry, entry.rule):
+                texts.add(Wanted(path, entry.rule.label), found.st_size)
 
     @guarded
     async def releasedir(self, fh: int) -> None:

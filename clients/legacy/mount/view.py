@@ -187,9 +187,9 @@ class View:
                 node.shown, node.below = snapshot, snapshot.signature.inode
                 return
 
-    def is_known(self, rule: Rule, found: os.stat_result) -> bool:
-        """Whether the text of a file needs no decoding."""
-        return rule == AS_SHOWN or self.reader.shelf.has(signature(found), rule.label)
+    def is_known(self, node: Node, rule: Rule) -> bool:
+        """Whether the text of a file, as the kernel was just told of it, needs no decoding."""
+        return node.told is not None and self.reader.shelf.has(node.told, rule.label) or rule == AS_SHOWN
 
     def owned(self, path: bytes, ctx: Any) -> None:
         """Gives what was made to whoever asked for it, where the mount is root's."""

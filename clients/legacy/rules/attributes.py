@@ -29,10 +29,14 @@ class Pattern:
         self._inside = glob[1:] if glob.startswith("/") else glob
         # A file of attributes may list thousands of files by their names.
         self._is_text = not re.search(r"[*?[\\]|/$", glob)
+        # Most say how a name ends.
+        self._end = glob[1:] if re.fullmatch(r"\*[^*?[\\/]+", glob) else None
         self._expression: Optional["re.Pattern[str]"] = None
 
     def matches(self, path: str) -> bool:
         """Whether it matches a file."""
+        if self._end is not None:
+            return path.endswith(self._end)
         subject = path if self._of_paths else path.rpartition("/")[2]
         if self._is_text:
             return subject == self._inside

@@ -17,6 +17,8 @@ from legacy.rules.repositories import Repositories
 # Names that programs give to files of their own: hidden ones, backups, swap and lock files, and refused texts of the
 # mount. A pattern counts for them where it is such a name itself, as `.*.txt` is.
 SPECIAL = re.compile(r"^\.|^#.*#$|^4913$|~$|\.rejected$")
+# How such a name begins or ends. (An LF may follow.)
+FIRST, LAST = ".#4", "~d\n"
 # What a word has in place of a label to say that files are bytes.
 BYTES = "bytes"
 
@@ -30,6 +32,12 @@ class Rule(NamedTuple):
     label: str
     origin: str
     mark: bytes = b""
+
+
+def is_special(path: bytes) -> bool:
+    """Whether a path ends in a name that programs give to files of their own."""
+    name = os.fsdecode(path.rpartition(b"/")[2])
+    return (name[:1] in FIRST or name[-1:] in LAST) and SPECIAL.search(name) is not None
 
 
 def to_stderr(text: str) -> None:
@@ -56,7 +64,7 @@ class Rules:
         self._patience, self._turn, self._until = patience, 0, 0.0
         self._words = [
             (Pattern(os.fsencode(glob).decode("latin-1")), Named(None if label == BYTES else label, f"-e {glob}={label}", glob))
-            for glob, label in words]
+            for glob, label in reversed(words)]
         self._default = Named(default, "--default", "*") if default else None
         for named in [*(named for _, named in self._words), self._default]:
             if named and named.name and not encoding_of(named.name, self._labels):
@@ -71,7 +79,7 @@ class Rules:
         raw = os.fsencode(path)
         if time.monotonic() >= self._until:
             self.refresh()
-        special = SPECIAL.search(os.fsdecode(os.path.basename(raw))) is not None
+        special = is_special(raw)
         for source in self._sources:
             named = source(raw, self._turn)
             if named and (not special or SPECIAL.search(named.glob.rpartition("/")[2])):
@@ -85,7 +93,10 @@ class Rules:
 
     def _by_words(self, path: bytes, _: int) -> Optional[Named]:
         text = path.decode("latin-1")
-        return next((named for pattern, named in reversed(self._words) if pattern.matches(text)), None)
+        for pattern, named in self._words:
+            if pattern.matches(text):
+                return named
+        return None
 
     def _rule(self, named: Named) -> Optional[Rule]:
         if named not in self._kept:
