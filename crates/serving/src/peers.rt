@@ -1,5 +1,5 @@
 //! The sockets of the clients, by their numbers.
-ghost use Rattle.std.specs.Prelude.{◌≡◌, ◌<◌, None, Some, length, slice_set, true};
+ghost use Rattle.std.specs.Prelude.{◌≡◌, ◌<◌, None, Some, length, slice_set, true, false};
 ghost use Rattle.connections.specs.Events.{connections};
 ghost use Rattle.serving.specs.Resting.{AreNone, peer_at};
 
@@ -34,6 +34,14 @@ impl Peers {
             }
         }
         true
+    }
+
+    /// Whether there is a socket at a number.
+    pub fn has(&self, c: u8) -> bool
+        requires { c < connections }
+        ensures { result ≡ false → peer_at self.now c ≡ None }
+    {
+        self.peers[c as usize].is_some()
     }
 
     /// Takes the socket at a number out, if there is one.

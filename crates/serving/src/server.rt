@@ -184,6 +184,10 @@ impl Server {
         ensures no_more { result ≡ false → NoMore self.old sessions.old → NoMore self.new sessions.new }
     {
         law_acts_in_a_row();
+        // (most numbers have no client, and each is looked at for each command)
+        if !self.peers.has(c) {
+            return false;
+        }
         let Some(mut peer) = self.peers.take(c) else {
             return false;
         };

@@ -37,6 +37,8 @@ pub struct Sessions<'i> {
     gateway: Gateway<'i>,
     slots: Slots,
     alloc: Global,
+    /// What is read into; one for all, so that none has to be cleared for each read.
+    buffer: [u8; READ_BUFFER],
 }
 
 impl<'i> Model for Sessions<'i> {
@@ -59,6 +61,7 @@ impl Drop for Sessions<'_> {
             gateway: _,
             slots: _,
             alloc: _,
+            buffer: _,
         } = self;
     }
 }
@@ -74,6 +77,7 @@ impl<'i> Sessions<'i> {
             gateway,
             slots: Slots::new(),
             alloc,
+            buffer: [0; READ_BUFFER],
         }
     }
 
@@ -201,8 +205,7 @@ impl<'i> Sessions<'i> {
         ensures rests { result ≡ Advance.Waits → Rests (client_at self.new c) (W.is_empty wire.new) (W.is_full wire.new) }
         ensures over { result ≡ Advance.Over → (client_at self.old c ≡ None) ⊎ W.is_over wire.new }
     {
-        let mut buffer = [0; READ_BUFFER];
-        let count = match wire.read(&mut buffer) {
+        let count = match wire.read(&mut self.buffer) {
             Ok(Arrival::Bytes(count)) => count,
             Ok(Arrival::NotYet) => return Advance::Waits,
             Ok(Arrival::End) => return Advance::Over,
@@ -211,7 +214,7 @@ impl<'i> Sessions<'i> {
         let Some(mut session) = self.slots.take(c) else {
             unreachable!()
         };
-        session.receive(&buffer[..count]);
+        session.receive(&self.buffer[..count]);
         self.slots.put(c, Some(session));
         Advance::Moved
     }
