@@ -4,6 +4,7 @@ import errno
 import io
 import os
 import pathlib
+import random
 import subprocess
 import sys
 import tempfile
@@ -13,7 +14,7 @@ from typing import NamedTuple
 from unittest import mock
 
 from legacy.documents import LARGE
-from legacy.mount import below
+from legacy.mount import below, letters
 from legacy.mount.below import Place, Store, read_at
 from legacy.mount.sending import Content, Kept, Receiver, Sender
 from legacy.rules import Rule
@@ -284,6 +285,22 @@ class Ahead(unittest.TestCase):
         listing = self.listing(4, ROOM // 2)
         self.begun(listing, 0)
         self.assertEqual(self.begun(listing, 1), [(0, 1), (2, 3)])
+
+
+class Encodable(unittest.TestCase):
+    """The characters that an encoding is known to have."""
+
+    def test_those_of_a_text_that_are_not_known(self):
+        draw, every = random.Random(7), [chr(it) for it in (*range(0x80, 0x800), *range(0x3000, 0x3100), 0xE000, 0xFFFD, 0x1F600, 0x2A6D6)]
+        with mock.patch.object(letters, "WORTH", 2000):
+            found = letters.Letters()
+            for _ in range(200):
+                text = "".join(draw.choices(every[: draw.randrange(1, len(every) + 1)], k=200)) + "ASCII\n"
+                unknown = found.unknown(text.encode())
+                self.assertEqual(unknown, set(text) - found.known - set(map(chr, range(128))))
+                found.known.update(draw.sample(sorted(unknown), len(unknown) // 2))
+        self.assertIsNotNone(found._passed)
+        self.assertEqual((found.unknown(b"ASCII"), found.unknown(b"\xe3\x81A")), (set(), set()))
 
 
 class Sent(unittest.TestCase):

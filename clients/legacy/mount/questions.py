@@ -14,6 +14,7 @@ from typing import Any, AsyncIterator, Awaitable, Callable, Dict, List, Optional
 import trio
 
 from gate import Fault, Gone
+from legacy.mount.letters import Letters
 from legacy.mount.snapshots import Lengths, Text
 from legacy.saving import Refused
 
@@ -89,7 +90,7 @@ class Questions:
         self._answering: List[Answering] = []
         self._turns = itertools.count()
         self._encodings: Dict[str, str] = {}
-        self._encodable: Dict[str, Set[str]] = {}
+        self._letters: Dict[str, Letters] = {}
         self.longest = SHORT
 
     @contextlib.asynccontextmanager
@@ -158,9 +159,13 @@ class Questions:
 
         return await self._with(read)
 
+    def letters(self, label: str) -> Letters:
+        """The characters that the encoding is known to have."""
+        return self._letters.setdefault(label, Letters())
+
     async def lacking(self, letters: Set[str], label: str) -> Optional[str]:
         """One of these characters for which the encoding has no bytes, if there is one."""
-        known = self._encodable.setdefault(label, set())
+        known = self.letters(label).known
         asked = "".join(letters - known)
         if asked:
             whole = b'{"id":0,"op":"encode","doc":"q","from":0,"to":%d,"label":"%b"}' % (len(asked), label.encode())

@@ -116,6 +116,10 @@ class Reader:
         found: Lengths = await trio.to_thread.run_sync(self._workers.do, "lengths", raw, label)
         return found
 
+    def unknown(self, utf8: bytes, label: str) -> Set[str]:
+        """The characters of a text that aren't ASCII, but for those that the encoding is known to have."""
+        return self._questions.letters(label).unknown(utf8)
+
     async def lacking(self, letters: Set[str], label: str) -> str:
         """One of these characters for which an encoding has no bytes, or nothing."""
         return await self._questions.lacking(letters, label) or ""

@@ -22,7 +22,7 @@ from legacy.mount.below import Place, Signature, Source, Store, read_at, signatu
 from legacy.mount.reading import Reader
 from legacy.mount.refusals import Refusals, program_of, shown
 from legacy.mount.sending import Content
-from legacy.mount.snapshots import LARGEST, Snapshot, Text, letters_of, lines_of, numbers, own_text
+from legacy.mount.snapshots import LARGEST, Snapshot, Text, lines_of, numbers, own_text
 from legacy.mount.tree import Handle, Node, Session, begun
 from legacy.mount.workers import Workers
 from legacy.saving import Refused
@@ -73,7 +73,7 @@ class Saves:
             if at:
                 await trio.lowlevel.checkpoint()  # (others have their turn)
             # (a character that begins in this part is in it as a whole)
-            letters |= letters_of(joined[at : at + LOOKED + 3])
+            letters |= self._reader.unknown(joined[at : at + LOOKED + 3], node.rule.label)
         letters.discard(BAD)
         while letters:
             lacking = await self._reader.lacking(letters, node.rule.label)

@@ -15,9 +15,6 @@ KEPT = 64 << 20
 # How many lines of a text it is compared by, about.
 SOME_LINES = 4096
 
-
-ASCII = bytes(range(128))
-
 # What numbers contents.
 numbers = itertools.count()
 
@@ -71,11 +68,6 @@ def own_text(raw: bytes, encoding: str) -> bool:
             return False
         return not raw.startswith(b"\xef\xbb\xbf")
     return plain(raw, encoding)
-
-
-def letters_of(utf8: bytes) -> FrozenSet[str]:
-    """The characters of a text that aren't ASCII; what isn't UTF-8 is passed over."""
-    return frozenset() if utf8.isascii() else frozenset(utf8.translate(None, ASCII).decode(errors="ignore"))
 
 
 def lines_of(utf8: bytes) -> FrozenSet[bytes]:
