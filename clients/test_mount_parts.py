@@ -8,6 +8,7 @@ import random
 import subprocess
 import sys
 import tempfile
+import threading
 import time
 import unittest
 from typing import NamedTuple
@@ -27,7 +28,7 @@ if HAS_PYFUSE3:
     import trio.testing
     from pyfuse3 import FUSEError
     from legacy.mount import ahead, questions, tree, workers
-    from legacy.mount.ahead import FILES, ROOM, Listing, Wanted
+    from legacy.mount.ahead import FILES, ROOM, SMALL, Listing, Wanted
     from legacy.mount.operations import Operations
     from legacy.mount.reading import Reader
     from legacy.mount.refusals import Refusals
@@ -95,20 +96,12 @@ class Below(unittest.TestCase):
         old, rename, held = (self.folder / "f").stat().st_ino, os.rename, []
 
         def noted(*words, **named):
-            held.append(self.is_held(old))
+            held.append(is_held(old))
             rename(*words, **named)
 
         with mock.patch("os.rename", noted):
             Store(lambda: None, None, False).put(self.place, b"after")
-        self.assertEqual((held, self.is_held(old)), ([True], False))
-
-    def is_held(self, inode):
-        """Whether a descriptor of this process leads to a file."""
-        found = []
-        for it in os.listdir("/proc/self/fd"):
-            with contextlib.suppress(OSError):
-                found.append(os.stat(f"/proc/self/fd/{it}").st_ino)
-        return inode in found
+        self.assertEqual((held, is_held(old)), ([True], False))
 
     def test_a_content_is_read_with_the_signature_that_it_had_throughout(self):
         (self.folder / "f").write_bytes(b"one")
@@ -358,6 +351,15 @@ class Nodes(unittest.TestCase):
             self.assertEqual((found, node.born), (temporary, False))
 
 
+def is_held(inode):
+    """Whether a descriptor of this process leads to a file."""
+    found = []
+    for it in os.listdir("/proc/self/fd"):
+        with contextlib.suppress(OSError):
+            found.append(os.stat(f"/proc/self/fd/{it}").st_ino)
+    return inode in found
+
+
 class Everywhere(NamedTuple):
     """Rules of which one holds for all files."""
 
@@ -416,6 +418,29 @@ class InOrder(unittest.TestCase):
             await operations.flush(other)
             await operations.release(other)
             self.assertEqual((path.read_bytes(), rejected.exists()), (b"\xffa", True))
+
+        self.played(play)
+
+    def test_many_bytes_are_freed_by_a_thread_once_they_have_no_name(self):
+        async def play(path, operations, _):
+            held, closed, close = [], [], os.close
+            large, other, context = path.with_name("large"), path.with_name("other"), mock.Mock(pid=1)
+
+            def noted(call):
+                return lambda *words, **named: (held.append(is_held(inode)), call(*words, **named))[1]
+
+            def ends(file):
+                closed.append(threading.current_thread() is threading.main_thread())
+                close(file)
+
+            for call, words in (operations.unlink, (b"large",)), (operations.rename, (b"other", ROOT, b"large", 0)):
+                large.write_bytes(b"a" * (SMALL + 1))
+                other.write_bytes(b"\xff")
+                inode = large.stat().st_ino
+                with mock.patch("os.unlink", noted(os.unlink)), mock.patch("os.rename", noted(os.rename)), mock.patch("os.close", ends):
+                    await call(ROOT, *words, context)
+                self.assertFalse(is_held(inode))
+            self.assertEqual((held, closed, large.read_bytes()), ([True, True], [False, False], b"\xff"))
 
         self.played(play)
 

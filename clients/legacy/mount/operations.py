@@ -5,7 +5,7 @@ import functools
 import logging
 import os
 import stat
-from typing import Any, Awaitable, Callable, Dict, List, NamedTuple, Optional, Sequence, Tuple
+from typing import Any, AsyncIterator, Awaitable, Callable, Dict, List, NamedTuple, Optional, Sequence, Tuple
 
 import pyfuse3
 import trio
@@ -344,7 +344,19 @@ class Operations(pyfuse3.Operations):  # type: ignore[misc]
                 await self.saves.renamed(node, where, rule, over, ctx.pid)
                 self.tree.moved(*where())
             else:
-                self.renamed(node, *where(), rule)
+                async with self.freed_behind(new):
+                    self.renamed(node, *where(), rule)
+
+    @contextlib.asynccontextmanager
+    async def freed_behind(self, path: bytes) -> AsyncIterator[None]:
+        """Has a thread free the bytes of what is at a path, if these are many, once it has lost its name: that takes long."""
+        found = self.view.at(path)
+        held = os.open(self.source.full(path), os.O_PATH | os.O_NOFOLLOW) if found and found.st_size > SMALL else None
+        try:
+            yield
+        finally:
+            if held is not None:
+                await trio.to_thread.run_sync(os.close, held)
 
     def renamed(self, node: Node, path: bytes, new: bytes, rule: Optional[Rule]) -> None:
         """A file gets another name, and keeps its bytes and its form."""
@@ -372,10 +384,11 @@ class Operations(pyfuse3.Operations):  # type: ignore[misc]
             rule = node.rule if node else self.tree.form(path, self.source.stat(path))
             if rule:
                 self.reader.leaves(path, rule.label)
-            os.unlink(self.source.full(path))
-            self.tree.drop_form(path)
-            if node:
-                self.tree.gone(node)
+            async with self.freed_behind(path):
+                os.unlink(self.source.full(path))
+                self.tree.drop_form(path)
+                if node:
+                    self.tree.gone(node)
 
     @guarded
     @changes
