@@ -33,6 +33,8 @@ from gate import Gate  # noqa: E402
 SIZE, WHOLE = 65_536, 100_000
 # How many commands a single client sends, and how many each of many.
 ALONE, EACH = 20_000, 50_000
+# How many edits of a document `gate` knows.
+LOG = 1_024
 # How many clients there are, and how often a neighbour asks beside one that asks for whole texts.
 CLIENTS, ASKED = 16, 5_000
 
@@ -131,6 +133,19 @@ def stats(connect: Connecting) -> float:
     with connect() as talk:
         talk.ask(opening(SIZE))
         return microseconds(talk, [STAT] * ALONE)[ALONE // 2]
+
+
+def sinces(behind: int) -> Callable[[Connecting], float]:
+    """Microseconds of the question what was done since a revision, with so many edits behind it, by the median."""
+
+    def call(connect: Connecting) -> float:
+        with connect() as talk:
+            talk.ask(opening(SIZE))
+            for rev in range(behind):
+                talk.ask(command("splice", rev=rev, at=rev, bytes="YQ==", **{"del": 0}))
+            return microseconds(talk, [command("since", rev=0)] * ALONE)[ALONE // 2]
+
+    return call
 
 
 def splices(connect: Connecting) -> float:
@@ -233,16 +248,20 @@ def started(count: int, call: Callable[..., None], *words: object) -> Iterator[L
 
 
 class Measure(NamedTuple):
-    """What is measured, of a program that has just begun, whether pipes do for it, and whether more is better."""
+    """What is measured, of a program that has just begun, whether pipes do for it, whether more is better, and whether the
+    peer can it."""
 
     name: str
     call: Callable[[Connecting], float]
     by_pipes: bool = False
     is_rate: bool = False
+    by_peer: bool = True
 
 
 MEASURES = [
     Measure("`stat`, one client, in microseconds", stats, by_pipes=True),
+    Measure("`since` the last edit, one client, in microseconds", sinces(1), by_pipes=True, by_peer=False),
+    Measure("`since` the edit 1,024 before, in microseconds", sinces(LOG), by_pipes=True, by_peer=False),
     Measure("`splice` in 64 KiB, one client, in microseconds", splices, by_pipes=True),
     Measure("the same by clients/gate.py", splices_in_python, by_pipes=True),
     Measure("sixteen clients, 50,000 commands each in flight, in thousands a second", together, is_rate=True),
@@ -272,7 +291,7 @@ def main() -> None:
         found: List[List[float]] = [[] for _ in programs]
         for _ in range(chosen.times):
             for figures, (name, program) in zip(found, programs):
-                if measure.by_pipes or not name.endswith("pipes"):
+                if (measure.by_pipes or not name.endswith("pipes")) and (measure.by_peer or not name.startswith("peer")):
                     with program() as connect:
                         figures.append(measure.call(connect))
         best = max if measure.is_rate else min

@@ -8,8 +8,8 @@
         pathlib.Path("letter.txt").write_bytes(letter.bytes)
 
 `Gate` sends commands and hands out replies, over a program that it starts, a Unix socket or TCP; `Document` is one
-document with its bytes beside it, so that an edit can be taken back to the byte; `Fleet` spreads documents over several
-servers. docs/PROTOCOL.md says what each command does."""
+document with its bytes beside it, so that an edit can be taken back to the byte, and what other clients of a live server
+do to it can be taken in; `Fleet` spreads documents over several servers. docs/PROTOCOL.md says what each command does."""
 import base64
 import binascii
 import collections
@@ -20,12 +20,13 @@ import hashlib
 import json
 import os
 import resource
+import secrets
 import select
 import socket
 import subprocess
 import threading
 import time
-from typing import Any, Callable, Deque, Dict, Iterator, List, Optional, Sequence, Tuple, Union
+from typing import Any, Callable, Deque, Dict, Iterable, Iterator, List, Optional, Sequence, Tuple, Union
 
 # What a reply or a refusal says, by the names that docs/PROTOCOL.md has.
 Members = Dict[str, Any]
@@ -59,6 +60,16 @@ class Fault(Exception):
         self.name = reply["fault"]
         self.members = {key: value for key, value in reply.items() if key not in ("fault", "id")}
         super().__init__(" ".join([self.name, *(f"{key}={value}" for key, value in self.members.items())]))
+
+
+class Conflict(Fault):
+    """An edit that was `Stale` and isn't moved: `mine` is what was asked for, and `theirs` what other clients did in between,
+    which the copy has now; both are edits of the bytes that it had. They meet the same bytes, or the text that was to be
+    replaced is another since, or `theirs` is `anew`."""
+
+    def __init__(self, rev: int, mine: "Edit", theirs: "Edit"):
+        super().__init__({"fault": "Stale", "rev": rev})
+        self.mine, self.theirs = mine, theirs
 
 
 class Gone(Exception):
@@ -249,7 +260,7 @@ class Gate:
 
     def join(self, name: str) -> "Document":
         """A document that is open, as another client has left it."""
-        return Document._joined(self, name)
+        return Document.join(self, name)
 
     def close(self) -> None:
         """Ends the connection, and a program that was started for it."""
@@ -268,15 +279,44 @@ class Gate:
 
 
 class Edit:
-    """An accepted edit: at byte `at` the bytes `old` went out and `new` came in."""
+    """An edit that was made: at byte `at` the bytes `old` went out and `new` came in. Where `anew` is true, the copy was read
+    anew, and this is all that differs: what was done isn't known."""
 
-    def __init__(self, at: int, old: bytes, new: bytes):
-        self.at, self.old, self.new = at, old, new
+    def __init__(self, at: int, old: bytes, new: bytes, anew: bool = False):
+        self.at, self.old, self.new, self.anew = at, old, new, anew
+
+    def moves(self, at: int, count: int) -> Optional[int]:
+        """Where `count` bytes from `at` on are once this edit was made: in front of it they stay, behind it they move. None
+        where both have a byte in common, where one puts bytes in between two of the other's, or where this is `anew`. Of
+        two that put bytes in at one place, the one that was accepted first stays in front, whoever asks."""
+        if self.anew:
+            return None
+        if at >= self.at + len(self.old):
+            return at + len(self.new) - len(self.old)
+        return at if at + count <= self.at else None
+
+    def behind(self, later: Iterable["Edit"]) -> Optional["Edit"]:
+        """This edit where it is once later ones were made, so that it can be undone; None where one of them met its bytes."""
+        at: Optional[int] = self.at
+        for edit in later:
+            at = None if at is None else edit.moves(at, len(self.new))
+        return None if at is None else Edit(at, self.old, self.new)
 
 
 class Document:
     """A document of `gate`: its bytes, revision, encoding in force and the length of its byte order mark, which is 0
-    where a mark is kept as text, as they are now."""
+    where a mark is kept as text, as they were when this client last edited it or caught up.
+
+    Other clients of a live server may edit it too. `catch_up` takes in what they did. An edit names places of this copy, at
+    the revision `rev`; where others were first, it catches up and moves. The copy is kept in bytes, which are what an edit
+    replaces: so it is right in every encoding, also where an edit changes how the bytes behind it are decoded.
+
+    Questions are answered of the document as it is now. Once an answer was of another revision than the copy, nobody knows
+    of which of the two the places of an edit are, and it is refused as `Stale`: so catch up, and ask then."""
+
+    # What is called with each edit of others as the copy takes it in, by `catch_up` or before an edit that moves: what keeps
+    # edits of its own, to undo them, has it move them.
+    listener: Optional[Callable[[Edit], None]] = None
 
     def __init__(self, gate: Gate, name: str, label: str, content: bytes, bom: str = "sniff", room: int = ROOM):
         self._gate, self.name, self.bytes = gate, name, content
@@ -284,17 +324,17 @@ class Document:
             self._take(reply.get())
 
     @classmethod
-    def _joined(cls, gate: Gate, name: str) -> "Document":
+    def join(cls, gate: Gate, name: str) -> "Document":
+        """A document that is open, as another client has left it."""
         document = cls.__new__(cls)
         document._gate, document.name = gate, name
         document.refresh()
         return document
 
     def refresh(self) -> None:
-        """Takes the document as it is now: another client may have edited it, as `Stale` says. Edits from before can't be
-        undone then."""
+        """Takes the document as it is now, by all of its bytes. Edits from before can't be undone then."""
         while True:
-            found = self.stat()
+            found = self._gate.ask("stat", doc=self.name)
             try:
                 content, rev = self._source(0, found["bytes"])
             except Fault as fault:
@@ -307,8 +347,61 @@ class Document:
                 self.bytes = content
                 return
 
+    def catch_up(self) -> List[Edit]:
+        """Takes in what was done since this copy's revision, and returns it as edits of the copy: none, or one from the first
+        byte that was edited to the last. Where more was done than `gate` keeps, or the document was closed and another
+        opened under its name, the copy is read anew, and the edit is `anew`. Another document is known by a revision that
+        is lower, or by a length to which the edit doesn't lead; where neither tells, it isn't known."""
+        edits = self._caught_up()
+        for edit in edits:
+            if self.listener:
+                self.listener(edit)
+        return edits
+
+    def _caught_up(self) -> List[Edit]:
+        while True:
+            try:
+                found = self._gate.ask("since", doc=self.name, rev=self.rev)
+                if found["rev"] == self.rev:
+                    self._ahead = False
+                    return []
+                stat = self._gate.send("stat", doc=self.name)
+                new, rev = self._source(found["at"], found["ins"])
+                now = stat.get()
+            except Fault as fault:
+                if fault.name == "Forgotten":
+                    return [self._anew()]
+                if fault.name != "OutOfRange":
+                    raise
+                if self._gate.ask("stat", doc=self.name)["rev"] < self.rev:
+                    return [self._anew()]
+                # (it was made shorter in between)
+                continue
+            if found["rev"] == rev == now["rev"]:
+                if len(self.bytes) - found["del"] + found["ins"] != now["bytes"]:
+                    return [self._anew()]
+                self._take(now)
+                return [self._put(found["at"], found["del"], new)]
+
+    def _anew(self) -> Edit:
+        """Reads the copy anew, and returns what differs."""
+        before = self.bytes
+        self.refresh()
+        at, count, new = _difference(before, self.bytes)
+        return Edit(at, before[at : at + count], new, anew=True)
+
     def _take(self, reply: Members) -> Members:
         self.rev, self.encoding, self.bom = reply["rev"], reply["encoding"], reply["bom"]
+        # (whether an answer was of another revision)
+        self._ahead = False
+        return reply
+
+    def _ask(self, op: str, **fields: Any) -> Members:
+        """The answer to a question of someone who may go by it."""
+        return self._answer(self._gate.ask(op, doc=self.name, **fields))
+
+    def _answer(self, reply: Members) -> Members:
+        self._ahead = self._ahead or reply["rev"] != self.rev
         return reply
 
     def _put(self, at: int, count: int, new: bytes) -> Edit:
@@ -317,58 +410,151 @@ class Document:
         return edit
 
     def splice(self, at: int, count: int, new: bytes) -> Edit:
-        """Replaces `count` bytes from `at` on, and returns the edit."""
-        self._take(self._gate.ask("splice", doc=self.name, rev=self.rev, at=at, bytes=new, **{"del": count}))
-        return self._put(at, count, new)
+        """Replaces `count` bytes from `at` on, and returns the edit. Where others were first, catches up, and replaces these
+        bytes where they are now, or raises `Conflict`."""
+        mine = Edit(at, self.bytes[at : at + count], new)
+        while True:
+            try:
+                self._take(self._gate.ask("splice", doc=self.name, rev=self.rev, at=mine.at, bytes=new, **{"del": count}))
+                return self._put(mine.at, count, new)
+            except Fault as fault:
+                mine, _ = self._moved(mine, fault)
 
     def change(self, text: str, start: Optional[Pair] = None, end: Optional[Pair] = None, unit: str = "utf-16") -> Edit:
         """Replaces the text from one position, a line and a character, to another; without positions the whole text.
         Returns the edit. A change of the whole text encodes all of it anew, and so bytes that nobody meant: send the
-        smallest range that differs."""
-        fields = {"doc": self.name, "unit": unit, **_change(text, start, end)}
+        smallest range that differs.
+
+        Where others were first, catches up, and replaces the same text where it is now, or raises `Conflict`. Where it was
+        is asked of a document of this copy's bytes, which is open meanwhile: so it costs what opening the document did, and
+        is rare where one catches up first. A change of the whole text is `Stale` then."""
+        try:
+            return self._change(_change(text, start, end), unit)
+        except Fault as fault:
+            if start is None or fault.name != "Stale" or self._ahead:
+                raise
+            stale = fault
+        mine, replaced = self._meant(stale, text, start, start if end is None else end, unit)
+        while True:
+            mine, theirs = self._moved(mine, stale)
+            try:
+                where = self._range(mine, replaced, unit)
+                if where:
+                    return self._change(_change(text, *where), unit)
+            except Fault as fault:
+                stale = fault
+            else:
+                raise Conflict(self.rev, mine, theirs) from stale
+
+    def _change(self, change: Members, unit: str) -> Edit:
+        """Makes a change of this copy's revision."""
+        fields = {"doc": self.name, "unit": unit, **change}
         plan = self._gate.send("plan", **fields)
-        self._take(self._gate.ask("change", rev=self.rev, **fields))
+        made = self._gate.ask("change", rev=self.rev, **fields)
         try:
             reply = plan.get()
         except Fault:
             # (there was no memory for the plan, and the change is made all the same)
-            return self._made()
+            return self._caught_up()[0]
+        self._take(made)
         return self._put(reply["at"], reply["del"], base64.b64decode(reply["bytes"]))
+
+    def _meant(self, stale: Fault, text: str, start: Pair, end: Pair, unit: str) -> Tuple[Edit, str]:
+        """What a change would have done to this copy's bytes, and the text that it would have replaced."""
+        name = secrets.token_hex(16)
+        try:
+            before = self._gate.open(name, self.encoding, self.bytes, "sniff" if self.bom else "keep")
+        except Fault:
+            # (no room for one more; of several parts the first may be there)
+            self._gate.send("close", doc=name)
+            raise stale from None
+        with before:
+            mine, _ = before.plan(text, start, end, unit)
+            return mine, before.text(before.offset(start, unit), before.offset(end, unit))
+
+    def _moved(self, mine: Edit, fault: Fault) -> Tuple[Edit, Edit]:
+        """An edit that was refused because others were first, where it is now, and what they did. Raises all other refusals."""
+        if fault.name != "Stale" or self._ahead:
+            raise fault
+        theirs = Edit(0, b"", b"")
+        for theirs in self.catch_up():
+            at = theirs.moves(mine.at, len(mine.old))
+            if at is None:
+                raise Conflict(self.rev, mine, theirs) from fault
+            mine = Edit(at, mine.old, mine.new)
+        return mine, theirs
+
+    def _range(self, mine: Edit, replaced: str, unit: str) -> Optional[Tuple[Pair, Pair]]:
+        """The positions of an edit's bytes, if they have the text that is to be replaced."""
+        begin, end = (it["utf32"] for it in self._now("place", "value", [mine.at, mine.at + len(mine.old)], unit="byte"))
+        text = self._now("text", "to", [end], **{"from": begin})[0]["text"]
+        offsets = [max(begin - 1, 0), begin, max(end - 1, 0), end]
+        found = [(it["line"], it["character"]) for it in self._now("position", "offset", offsets, unit=unit)]
+        # (between CR and LF there is no position but that in front of both, which does for what is put in)
+        is_cut = begin < end and (begin > 0 and found[0] == found[1] or found[2] == found[3])
+        return None if is_cut or text != replaced else (found[1], found[3])
+
+    def _now(self, op: str, field: str, values: Sequence[int], **fields: Any) -> List[Members]:
+        """Answers of this copy's revision; `Stale` where the document has another by now."""
+        try:
+            replies = list(self._gate.ask_all(op, field, values, doc=self.name, **fields))
+        except Fault as fault:
+            # (it was made shorter in between)
+            replies = [self._gate.ask("stat", doc=self.name)]
+            if fault.name != "OutOfRange" or replies[0]["rev"] == self.rev:
+                raise
+        for it in replies:
+            if it["rev"] != self.rev:
+                raise Fault({"fault": "Stale", "rev": it["rev"]})
+        return replies
 
     def plan(self, text: str, start: Optional[Pair] = None, end: Optional[Pair] = None, unit: str = "utf-16") -> Tuple[Edit, bool]:
         """The edit that `change` would make, and whether it would: where not, it would be refused as "NotKept"."""
-        reply = self._gate.ask("plan", doc=self.name, unit=unit, **_change(text, start, end))
+        reply = self._ask("plan", unit=unit, **_change(text, start, end))
         return Edit(reply["at"], base64.b64decode(reply["old"]), base64.b64decode(reply["bytes"])), reply["kept"]
 
     def changes(self, listed: Sequence[Change], unit: str = "utf-16") -> Edit:
         """Makes changes in one command, as an editor lists them, or none of them: each is what `change` takes, and its
         positions are those of the text that the ones before it leave. Returns one edit, of all bytes between the first
-        that differs and the last."""
-        self._take(self._gate.ask("changes", doc=self.name, rev=self.rev, unit=unit, changes=[_change(*it) for it in listed]))
-        return self._made()
-
-    def _made(self) -> Edit:
-        """The edit that was made, by all bytes as they are now."""
-        return self._put(*_difference(self.bytes, self.source(0, self.stat()["bytes"])))
+        that was edited and the last, also of those that others edited right behind it. Where they were first, it is `Stale`."""
+        self._gate.ask("changes", doc=self.name, rev=self.rev, unit=unit, changes=[_change(*it) for it in listed])
+        return self._caught_up()[0]
 
     def undo(self, edit: Edit) -> Edit:
-        """Takes the last edit back, by the bytes that were there: their text, put in again, may have others. Returns
-        the edit that this is, whose undoing is the redo."""
+        """Takes an edit back, by the bytes that were there: their text, put in again, may have others. It is the last one of
+        the copy, or one moved `behind` all later ones, as `catch_up` returns them. Returns the edit that this is, whose
+        undoing is the redo."""
         return self.splice(edit.at, len(edit.new), edit.old)
 
     def stat(self) -> Members:
         """The document's lengths, as `gate` has them."""
-        return self._gate.ask("stat", doc=self.name)
+        return self._ask("stat")
 
     def text(self, begin: int = 0, end: Optional[int] = None, mode: str = "replacement") -> str:
         """The text from one code point to another, or to its end. An error is U+FFFD, or in mode "fatal" a refusal."""
-        end = self.stat()["utf32"] if end is None else end
-        text: str = self._gate.ask("text", doc=self.name, mode=mode, **{"from": begin, "to": end})["text"]
+        text: str = self._of_text("text", begin, end, mode=mode)["text"]
         return text
+
+    def _of_text(self, op: str, begin: int, end: Optional[int], **fields: Any) -> Members:
+        """The answer of the text from one code point to another, or to its end, as one revision has it."""
+        while end is None:
+            found = self.stat()
+            try:
+                reply = self._ask(op, **{"from": begin, "to": found["utf32"]}, **fields)
+            except Fault as fault:
+                # (it was made shorter in between)
+                if fault.name != "OutOfRange" or begin > found["utf32"]:
+                    raise
+                continue
+            if reply["rev"] == found["rev"]:
+                return reply
+        return self._ask(op, **{"from": begin, "to": end}, **fields)
 
     def source(self, at: int = 0, count: Optional[int] = None) -> bytes:
         """The bytes as `gate` has them."""
-        return self._source(at, len(self.bytes) - at if count is None else count)[0]
+        content, rev = self._source(at, len(self.bytes) - at if count is None else count)
+        self._answer({"rev": rev})
+        return content
 
     def _source(self, at: int, count: int) -> Tuple[bytes, int]:
         """Bytes as `gate` has them, and their revision: by parts, all of one revision, where it has no memory for one reply."""
@@ -394,9 +580,7 @@ class Document:
 
     def encode(self, label: str, begin: int = 0, end: Optional[int] = None, mode: str = "fatal") -> bytes:
         """The text from one code point to another, or to its end, in another encoding."""
-        end = self.stat()["utf32"] if end is None else end
-        reply = self._gate.ask("encode", doc=self.name, label=label, mode=mode, **{"from": begin, "to": end})
-        return base64.b64decode(reply["bytes"])
+        return base64.b64decode(self._of_text("encode", begin, end, label=label, mode=mode)["bytes"])
 
     def errors(self) -> List[Pair]:
         """The places of all errors, each the first byte and the one behind the last."""
@@ -410,7 +594,7 @@ class Document:
         if line is None:
             found = self._pages("diagnostics", "total", most, unit=unit)
         else:
-            found = self._gate.ask("diagnostics", doc=self.name, line=line, max=PAGE if most is None else most, unit=unit)["diagnostics"]
+            found = self._ask("diagnostics", line=line, max=PAGE if most is None else most, unit=unit)["diagnostics"]
         return [((it[0], it[1]), (it[2], it[3]), (it[4], it[5])) for it in found]
 
     def lines(self) -> List[Pair]:
@@ -421,30 +605,30 @@ class Document:
         found: List[List[int]] = []
         while True:
             room = PAGE if most is None else min(PAGE, most - len(found))
-            page = self._gate.ask(op, doc=self.name, max=room, **{"from": len(found)}, **fields)
+            page = self._ask(op, max=room, **{"from": len(found)}, **fields)
             found += page[op]
             if len(found) >= page[total] or len(found) == most:
                 return found
 
     def position(self, offset: int, unit: str = "utf-16") -> Pair:
         """The line and the character of an offset in code points."""
-        reply = self._gate.ask("position", doc=self.name, offset=offset, unit=unit)
+        reply = self._ask("position", offset=offset, unit=unit)
         return reply["line"], reply["character"]
 
     def offset(self, position: Pair, unit: str = "utf-16") -> int:
         """The offset in code points of a line and a character."""
-        offset: int = self._gate.ask("offset", doc=self.name, unit=unit, **_position(position))["offset"]
+        offset: int = self._ask("offset", unit=unit, **_position(position))["offset"]
         return offset
 
     def place(self, value: int, unit: str = "byte") -> Members:
         """The offset that a value names, in each unit, and the place of the code point there, or None."""
-        return self._gate.ask("place", doc=self.name, unit=unit, value=value)
+        return self._ask("place", unit=unit, value=value)
 
     def spans(self, ranges: Sequence[Pair]) -> Iterator[Pair]:
         """Where the bytes of the code points from one to another begin and end, for each range of one at least."""
         # (the end is that of the last one, since behind the text's last one there is no place)
         asked = [it for begin, end in ranges for it in (begin, end - 1)]
-        places = (it["place"] for it in self._gate.ask_all("place", "value", asked, doc=self.name, unit="utf-32"))
+        places = (self._answer(it)["place"] for it in self._gate.ask_all("place", "value", asked, doc=self.name, unit="utf-32"))
         return ((first[0], last[1]) for first, last in zip(places, places))
 
     def span(self, begin: int, end: int) -> Pair:
@@ -596,7 +780,15 @@ def _change(text: str, start: Optional[Pair] = None, end: Optional[Pair] = None)
 
 def _difference(old: bytes, new: bytes) -> Tuple[int, int, bytes]:
     """Where two contents begin to differ, how many bytes of the old one do, and which those of the new one are."""
-    at = len(os.path.commonprefix([old, new]))
-    left = min(len(old), len(new)) - at
-    same = len(os.path.commonprefix([old[len(old) - left :][::-1], new[len(new) - left :][::-1]]))
+    at = _alike(old, new)
+    same = _alike(old[at:][::-1], new[at:][::-1])
     return at, len(old) - at - same, new[at : len(new) - same]
+
+
+def _alike(one: bytes, other: bytes) -> int:
+    """With how many bytes both contents begin."""
+    low, high = 0, min(len(one), len(other))
+    while low < high:
+        middle = (low + high + 1) // 2
+        low, high = (middle, high) if one[low:middle] == other[low:middle] else (low, middle - 1)
+    return low

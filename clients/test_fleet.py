@@ -14,13 +14,22 @@ from test_gate import BUILT, INDEXES, PROGRAM, TOP
 
 
 @contextlib.contextmanager
-def listening() -> Iterator[str]:
-    """The path of a socket at which the program serves clients."""
+def served() -> "Iterator[Tuple[str, subprocess.Popen[bytes]]]":
+    """The path of a socket at which the program serves clients, and its process."""
     with tempfile.TemporaryDirectory() as folder:
         path = os.path.join(folder, "gate.sock")
         with subprocess.Popen([PROGRAM, "serve", "--indexes", INDEXES, "--socket", path]) as program:
-            yield path
-            program.kill()
+            try:
+                yield path, program
+            finally:
+                program.kill()
+
+
+@contextlib.contextmanager
+def listening() -> Iterator[str]:
+    """The path of a socket at which the program serves clients."""
+    with served() as (path, _):
+        yield path
 
 
 @contextlib.contextmanager
@@ -39,21 +48,6 @@ class Sockets(unittest.TestCase):
             exec(found[1].replace("gate.sock", path), {"Gate": Gate})
         self.assertEqual(printed.getvalue(), "caf\ufffd bleu\n")
 
-    def test_two_clients_that_edit_in_turn(self) -> None:
-        with listening() as path, Gate.connect(path=path) as first, Gate.connect(path=path) as second:
-            mine = first.open("d", "shift_jis", b"a\xffb")
-            yours = second.join("d")
-            edit = mine.splice(1, 1, b"")
-            with self.assertRaises(Fault) as refused:
-                yours.change("x", (0, 0))
-            self.assertEqual((refused.exception.name, refused.exception.members), ("Stale", {"rev": 1}))
-            yours.refresh()
-            yours.change("x", (0, 0))
-            mine.refresh()
-            mine.undo(mine.splice(0, 3, b"c"))
-            yours.refresh()
-            self.assertEqual((yours.bytes, yours.rev, edit.old), (b"xab", 4, b"\xff"))
-
     def test_a_document_over_a_socket(self) -> None:
         with at_a_socket() as gate:
             document = gate.open("d", "utf-8", b"a\xffb")
@@ -66,9 +60,6 @@ class Sockets(unittest.TestCase):
             yours = gate.join("d")
             self.assertEqual((yours.bytes, yours.rev, yours.encoding, yours.bom), (b"abc", 0, "Shift_JIS", 0))
             yours.splice(1, 1, b"")
-            with self.assertRaises(Fault) as refused:
-                mine.splice(3, 0, b"d")
-            self.assertEqual(refused.exception.name, "Stale")
             mine.refresh()
             edit = mine.splice(2, 0, b"d")
             self.assertEqual((mine.bytes, mine.rev), (b"acd", 2))
