@@ -18,6 +18,8 @@ from test_gate import BUILT
 LOG = 1024
 # The seconds for which two clients type at random in each encoding; GATE_TYPING=60 is a minute.
 TYPING = float(os.environ.get("GATE_TYPING", "2"))
+# The seconds that each thinks at most, between what it sees and what it types.
+THINKING = 0.002
 # The encodings in which they do, what Python calls each, and a character that it and the small index files have.
 ENCODINGS = [
     ("utf-8", "utf-8", "あ"), ("shift_jis", "shift_jis", "あ"), ("iso-2022-jp", "iso2022_jp", "あ"), ("utf-16le", "utf-16-le", "😀"),
@@ -85,19 +87,31 @@ class Pair(NamedTuple):
         return content
 
 
-@contextlib.contextmanager
-def two(content: bytes, label: str = "utf-8") -> Iterator[Pair]:
-    with listening() as path, Gate.connect(path=path) as gate, Gate.connect(path=path) as other:
-        mine = gate.open("d", label, content)
-        yield Pair(mine, Document.join(other, "d"), gate, other)
-
-
 def shown(edits: List[Edit]) -> List[Tuple[Any, ...]]:
     return [(it.at, it.old, it.new, it.anew) for it in edits]
 
 
 @BUILT
 class Together(unittest.TestCase):
+    @classmethod
+    def setUpClass(cls) -> None:
+        cls.served = served()
+        cls.path, _ = cls.served.__enter__()
+
+    @classmethod
+    def tearDownClass(cls) -> None:
+        cls.served.__exit__(None, None, None)
+
+    @contextlib.contextmanager
+    def two(self, content: bytes, label: str = "utf-8") -> Iterator[Pair]:
+        with Gate.connect(path=self.path) as gate, Gate.connect(path=self.path) as other:
+            mine = gate.open("d", label, content)
+            try:
+                yield Pair(mine, Document.join(other, "d"), gate, other)
+            finally:
+                with contextlib.suppress(Fault):
+                    gate.ask("close", doc="d")
+
     def refused(self, call: Callable[[], Any], name: str = "Stale") -> Dict[str, Any]:
         with self.assertRaises(Fault) as refused:
             call()
@@ -111,7 +125,7 @@ class Together(unittest.TestCase):
         return refused.exception
 
     def test_a_copy_takes_in_what_another_client_does(self) -> None:
-        with two(b"one\ntwo\n") as (mine, yours, _, _):
+        with self.two(b"one\ntwo\n") as (mine, yours, _, _):
             self.assertEqual(shown(yours.catch_up()), [])
             mine.splice(3, 1, b"")
             self.assertEqual(shown(yours.catch_up()), [(3, b"\n", b"", False)])
@@ -124,13 +138,13 @@ class Together(unittest.TestCase):
             self.assertEqual((shown(yours.catch_up()), yours.rev), ([(0, b"", b"", False)], 4))
 
     def test_edits_far_apart_are_one(self) -> None:
-        with two(b"0123456789") as (mine, yours, _, _):
+        with self.two(b"0123456789") as (mine, yours, _, _):
             mine.splice(8, 1, b"xy")
             mine.splice(2, 2, b"")
             self.assertEqual(shown(yours.catch_up()), [(2, b"2345678", b"4567xy", False)])
 
     def test_a_mark_that_comes_changes_the_encoding_of_the_copy(self) -> None:
-        with two(b"a\x80", "windows-1252") as (mine, yours, _, _):
+        with self.two(b"a\x80", "windows-1252") as (mine, yours, _, _):
             mine.splice(0, 0, b"\xef\xbb\xbf")
             yours.catch_up()
             self.assertEqual((yours.encoding, yours.bom, yours.bytes), ("UTF-8", 3, b"\xef\xbb\xbfa\x80"))
@@ -141,7 +155,7 @@ class Together(unittest.TestCase):
     def test_where_an_edit_changes_how_bytes_behind_it_are_decoded_the_copy_is_right(self) -> None:
         rows = [("iso-2022-jp", b'A\x1b$B$"$"\x1b(B', 1, 3, b""), ("utf-16le", b"a\0b\0c\0", 0, 0, b"x"), ("shift_jis", b"\x82\xa0AB", 1, 1, b"")]
         for label, content, at, count, new in rows:
-            with self.subTest(label), two(content, label) as both:
+            with self.subTest(label), self.two(content, label) as both:
                 text = both.yours.text()
                 both.mine.splice(at, count, new)
                 both.yours.splice(len(content), 0, b"A")
@@ -160,7 +174,7 @@ class Together(unittest.TestCase):
             (("", (1, 0), (1, 1)), ((1, 1), (1, 1)), "y", "ab\nydあe"), (("い", (1, 0), (1, 2)), ((1, 9), (9, 9)), "y", "ab\nいあey"),
         ]
         for theirs, (start, end), text, wanted in rows:
-            with self.subTest(theirs=theirs, start=start, end=end), two("ab\ncdあe".encode()) as both:
+            with self.subTest(theirs=theirs, start=start, end=end), self.two("ab\ncdあe".encode()) as both:
                 both.mine.change(*theirs)
                 edit = both.yours.change(text, start, end)
                 self.assertEqual(both.agree().decode(), wanted)
@@ -170,7 +184,7 @@ class Together(unittest.TestCase):
 
     def test_of_two_that_put_something_in_at_one_place_the_first_one_stays_in_front(self) -> None:
         for label, text in ("utf-8", "é"), ("iso-2022-jp", "あ"), ("shift_jis", "亜"), ("utf-16le", "😀"):
-            with self.subTest(label), two("ab".encode("utf-16-le" if label == "utf-16le" else "ascii"), label) as both:
+            with self.subTest(label), self.two("ab".encode("utf-16-le" if label == "utf-16le" else "ascii"), label) as both:
                 first, second = both.mine.change(text, (0, 1)), both.yours.change("x", (0, 1))
                 both.mine.change("y", (0, 1))
                 both.agree()
@@ -178,7 +192,7 @@ class Together(unittest.TestCase):
                 self.assertLess(first.at, second.at)
 
     def test_a_splice_that_comes_too_late_moves(self) -> None:
-        with two(b"0123456789") as both:
+        with self.two(b"0123456789") as both:
             both.mine.splice(2, 1, b"abc")
             self.assertEqual(shown([both.yours.splice(5, 2, b"x")]), [(7, b"56", b"x", False)])
             both.mine.splice(0, 1, b"")
@@ -186,7 +200,7 @@ class Together(unittest.TestCase):
             self.refused(lambda: both.yours.splice(9, 9, b""), "OutOfRange")
 
     def test_edits_that_meet_are_given_to_the_caller(self) -> None:
-        with two("ab\ncdあe".encode()) as both:
+        with self.two("ab\ncdあe".encode()) as both:
             both.mine.change("XYZ", (0, 1), (1, 1))
             for call in (lambda: both.yours.change("y", (0, 0), (0, 2))), (lambda: both.yours.splice(0, 2, b"y")):
                 both.yours.refresh()
@@ -200,31 +214,31 @@ class Together(unittest.TestCase):
             self.assertEqual(both.agree(), "yYZdあe".encode())
 
     def test_a_text_that_is_another_since_is_not_replaced(self) -> None:
-        with two(b'A\x1b$B$"$"\x1b(B', "iso-2022-jp") as both:
+        with self.two(b'A\x1b$B$"$"\x1b(B', "iso-2022-jp") as both:
             both.mine.splice(1, 3, b"")
             found = self.conflict(lambda: both.yours.change("x", (0, 2), (0, 3)))
             self.assertEqual(shown([found.mine, found.theirs]), [(3, b'$"', b"\x1b(Bx", False), (1, b"\x1b$B", b"", False)])
             self.assertEqual(both.agree(), b'A$"$"\x1b(B')
 
     def test_between_cr_and_lf(self) -> None:
-        with two(b"a\nb") as both:
+        with self.two(b"a\nb") as both:
             both.mine.change("\r", (0, 1))
             self.conflict(lambda: both.yours.change("", (0, 1), (1, 0)))
             self.assertEqual(both.agree(), b"a\r\nb")
-        with two(b"a\nb") as both:
+        with self.two(b"a\nb") as both:
             both.mine.change("\r", (0, 1))
             both.yours.change("x", (0, 1))
             self.assertEqual(both.agree(), b"ax\r\nb")
 
     def test_a_refusal_of_a_change_that_came_too_late(self) -> None:
-        with two(b"ab", "windows-1252") as both:
+        with self.two(b"ab", "windows-1252") as both:
             both.mine.splice(0, 0, b"x")
             self.refused(lambda: both.yours.change("あ", (0, 1)), "Unencodable")
             both.yours.change("€", (0, 1))
             self.assertEqual(both.agree(), b"xa\x80b")
 
     def test_a_change_of_the_whole_text_and_a_list_are_stale(self) -> None:
-        with two(b"ab") as both:
+        with self.two(b"ab") as both:
             both.mine.splice(0, 0, b"x")
             self.assertEqual(self.refused(lambda: both.yours.change("y")), {"rev": 1})
             self.assertEqual(self.refused(lambda: both.yours.changes([("y", (0, 0))])), {"rev": 1})
@@ -237,7 +251,7 @@ class Together(unittest.TestCase):
             lambda it: it.plan("", (0, 0)), lambda it: it.encode("utf-16le"), lambda it: it.diagnostics(0),
         ]
         for call in asked:
-            with two(b"ab") as both:
+            with self.two(b"ab") as both:
                 both.mine.splice(0, 0, b"x")
                 call(both.yours)
                 for edit in (lambda: both.yours.change("y", (0, 1))), (lambda: both.yours.splice(1, 0, b"y")):
@@ -247,18 +261,19 @@ class Together(unittest.TestCase):
                 self.assertEqual(both.agree(), b"xyab")
 
     def test_where_there_is_no_room_for_one_document_more(self) -> None:
-        with two(b"ab") as both:
-            for number in range(63):
-                both.gate.open(str(number), "utf-8", b"")
+        with self.two(b"ab") as both:
+            others = [both.gate.open(str(number), "utf-8", b"") for number in range(63)]
             both.mine.splice(0, 0, b"x")
             self.assertEqual(self.refused(lambda: both.yours.change("y", (0, 1))), {"rev": 1})
-            both.gate.ask("close", doc="0")
+            others.pop().close()
             both.yours.change("y", (0, 1))
             self.assertEqual(both.agree(), b"xayb")
-            both.gate.open("0", "utf-8", b"")
+            # (the document that it opened for a moment is closed)
+            for it in [*others, both.gate.open("one more", "utf-8", b"")]:
+                it.close()
 
     def test_who_listens_hears_what_comes_whoever_takes_it_in(self) -> None:
-        with two(b"0123456789") as both:
+        with self.two(b"0123456789") as both:
             heard: List[Edit] = []
             both.yours.listener = heard.append
             for at in range(4):
@@ -274,13 +289,13 @@ class Together(unittest.TestCase):
 
     def test_the_last_edits_are_remembered_and_older_ones_said_to_be_forgotten(self) -> None:
         for count, anew in (LOG, False), (LOG + 1, True):
-            with two(b"ab") as both:
+            with self.two(b"ab") as both:
                 for rev in range(0, count):
                     both.gate.send("splice", doc="d", rev=rev, at=1 + rev, bytes=b"x", **{"del": 0})
                 both.mine.refresh()
                 self.assertEqual(shown(both.yours.catch_up()), [(1, b"", b"x" * count, anew)])
                 self.assertEqual((both.yours.rev, both.agree()), (count, b"a" + b"x" * count + b"b"))
-        with two(b"ab") as both:
+        with self.two(b"ab") as both:
             for rev in range(LOG + 1):
                 both.gate.send("splice", doc="d", rev=rev, at=0, bytes=b"", **{"del": 0})
             both.mine.refresh()
@@ -288,7 +303,7 @@ class Together(unittest.TestCase):
             self.assertEqual(shown([found.mine, found.theirs]), [(2, b"", b"x", False), (2, b"", b"", True)])
 
     def test_a_document_that_was_closed(self) -> None:
-        with two(b"ab") as (mine, yours, _, _):
+        with self.two(b"ab") as (mine, yours, _, _):
             mine.close()
             calls: List[Callable[[], Any]] = [yours.catch_up, yours.refresh, lambda: yours.splice(0, 0, b""), lambda: yours.change("x", (0, 0))]
             for call in calls:
@@ -301,7 +316,7 @@ class Together(unittest.TestCase):
             (2, b"abd", 0, True), (2, b"abd", 1, True), (1, b"ab", 2, True), (1, b"abd", LOG + 2, True), (2, b"abd", 2, False), (1, b"abd", 2, False),
         ]
         for before, content, behind, is_known in rows:
-            with self.subTest(before=before, content=content, behind=behind), two(b"abc") as (mine, yours, gate, _):
+            with self.subTest(before=before, content=content, behind=behind), self.two(b"abc") as (mine, yours, gate, _):
                 for _ in range(before):
                     mine.splice(0, 0, b"")
                 yours.catch_up()
@@ -315,7 +330,7 @@ class Together(unittest.TestCase):
                     self.assertEqual((yours.bytes, yours.rev), (content, behind))
 
     def test_an_edit_of_another_document_under_the_name(self) -> None:
-        with two(b"abc") as (mine, yours, gate, _):
+        with self.two(b"abc") as (mine, yours, gate, _):
             mine.splice(0, 0, b"")
             yours.catch_up()
             mine.close()
@@ -347,7 +362,7 @@ class Together(unittest.TestCase):
         for name, commands, call, made in calls:
             for number in range(commands):
                 for new in b"W0", b"":
-                    with self.subTest(name, number=number, new=new), two("0\naあb\n0".encode()) as both:
+                    with self.subTest(name, number=number, new=new), self.two("0\naあb\n0".encode()) as both:
                         both.mine.splice(2, 0, b"X")
                         with self.meanwhile(both, number, lambda: both.mine.splice(0, 1, new)):
                             call(both.yours)
@@ -390,8 +405,9 @@ class Typist:
         self.last = self.last and self.last.behind([later])
 
     def step(self) -> None:
-        if self.rng.random() < 0.5:
+        if self.rng.random() < 0.8:
             self.document.catch_up()
+        time.sleep(self.rng.random() * THINKING)
         rows = self.document.bytes.decode(self.codec).split("\n")
         row = self.rng.randrange(min(len(rows), self.rng.choice([4, len(rows)])))
         ours = rows[row].startswith("~")
@@ -469,6 +485,7 @@ class Typing(unittest.TestCase):
         return [reading.recv() for reading, _ in pipes]
 
     def test_two_processes_type_at_random_into_one_document(self) -> None:
+        moved = 0
         for label, codec, character in ENCODINGS:
             with self.subTest(label), listening() as path, Gate.connect(path=path) as gate:
                 begin = f"~{character * 20}\n".encode(codec) * 3
@@ -481,8 +498,9 @@ class Typing(unittest.TestCase):
                 rows = document.bytes.decode(codec).split("\n")
                 self.assertEqual(sorted(marks), sorted(row for row in rows if row and not row.startswith("~")))
                 self.assertEqual(document.errors(), [])
-                for it in typed:
-                    self.assertGreater(min(len(it.marks), it.moved), 0)
+                moved += sum(it.moved for it in typed)
+                self.assertTrue(all(it.marks for it in typed))
+        self.assertGreater(moved, 0)
 
     def no_edit_is_lost(self, begin: bytes, document: Document, typed: List[Typed]) -> None:
         """Each revision is one edit of one of the two, and all edits in their order lead to the document."""
