@@ -26,7 +26,7 @@ import socket
 import subprocess
 import threading
 import time
-from typing import Any, Callable, Deque, Dict, Iterable, Iterator, List, Optional, Sequence, Tuple, Union
+from typing import Any, AnyStr, Callable, Deque, Dict, Iterable, Iterator, List, Optional, Sequence, Tuple, Union
 
 # What a reply or a refusal says, by the names that docs/PROTOCOL.md has.
 Members = Dict[str, Any]
@@ -387,7 +387,7 @@ class Document:
         """Reads the copy anew, and returns what differs."""
         before = self.bytes
         self.refresh()
-        at, count, new = _difference(before, self.bytes)
+        at, count, new = difference(before, self.bytes)
         return Edit(at, before[at : at + count], new, anew=True)
 
     def _take(self, reply: Members) -> Members:
@@ -778,15 +778,15 @@ def _change(text: str, start: Optional[Pair] = None, end: Optional[Pair] = None)
     return {"text": text, **where}
 
 
-def _difference(old: bytes, new: bytes) -> Tuple[int, int, bytes]:
-    """Where two contents begin to differ, how many bytes of the old one do, and which those of the new one are."""
+def difference(old: AnyStr, new: AnyStr) -> Tuple[int, int, AnyStr]:
+    """Where two contents, or two texts, begin to differ, how much of the old one does, and what the new one has there."""
     at = _alike(old, new)
     same = _alike(old[at:][::-1], new[at:][::-1])
     return at, len(old) - at - same, new[at : len(new) - same]
 
 
-def _alike(one: bytes, other: bytes) -> int:
-    """With how many bytes both contents begin."""
+def _alike(one: AnyStr, other: AnyStr) -> int:
+    """How far both begin alike."""
     low, high = 0, min(len(one), len(other))
     while low < high:
         middle = (low + high + 1) // 2

@@ -455,7 +455,7 @@ class Typist:
         return it
 
 
-def typing(path: str, name: str, codec: str, character: str, both: multiprocessing.synchronize.Barrier, said: "multiprocessing.connection.Connection") -> None:
+def type_at_random(path: str, name: str, codec: str, character: str, both: multiprocessing.synchronize.Barrier, said: "multiprocessing.connection.Connection") -> None:
     """A process that types for a while, and says in the end what it did."""
     with Gate.connect(path=path) as gate:
         typist = Typist(gate.join("d"), name, codec, character)
@@ -475,7 +475,7 @@ class Typing(unittest.TestCase):
         """What two processes did that typed at once."""
         barrier, pipes = multiprocessing.Barrier(2), [multiprocessing.Pipe(duplex=False) for _ in range(2)]
         for name, (_, into) in zip("ab", pipes):
-            process = multiprocessing.Process(target=typing, args=(path, name, codec, character, barrier, into), daemon=True)
+            process = multiprocessing.Process(target=type_at_random, args=(path, name, codec, character, barrier, into), daemon=True)
             process.start()
             self.addCleanup(process.join)
             self.addCleanup(process.kill)

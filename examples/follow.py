@@ -13,19 +13,10 @@ import sys
 import time
 
 sys.path.insert(0, str(pathlib.Path(__file__).resolve().parent.parent / "clients"))
-from gate import Fault, Gate, Gone
+from gate import Fault, Gate, Gone, difference
 
 # How often the server is asked, in seconds, and the most characters of a text that are printed.
 PAUSE, SHOWN = 0.1, 40
-
-
-def alike(one, other):
-    """With how many characters both texts begin."""
-    low, high = 0, min(len(one), len(other))
-    while low < high:
-        middle = (low + high + 1) // 2
-        low, high = (middle, high) if one[low:middle] == other[low:middle] else (low, middle - 1)
-    return low
 
 
 def shown(text):
@@ -35,10 +26,9 @@ def shown(text):
 
 def described(old, new):
     """Where a text became another, and what stood there before and since."""
-    at = alike(old, new)
-    behind = alike(old[at:][::-1], new[at:][::-1])
-    lines = new[:at].replace("\r\n", "\n").replace("\r", "\n").split("\n")
-    return f"{len(lines)}:{len(lines[-1]) + 1}: {shown(old[at : len(old) - behind])} -> {shown(new[at : len(new) - behind])}"
+    at, count, since = difference(old, new)
+    lines = old[:at].replace("\r\n", "\n").replace("\r", "\n").split("\n")
+    return f"{len(lines)}:{len(lines[-1]) + 1}: {shown(old[at : at + count])} -> {shown(since)}"
 
 
 def text_of(document, edits):
