@@ -232,11 +232,7 @@ class Gate:
 
     def send_open(self, name: str, label: str, content: bytes, bom: str = "sniff", room: int = ROOM) -> List[Reply]:
         """Sends what opens a document, by parts where a line hasn't room for it, and returns the reply to each part."""
-        sent = [self.send("open", doc=name, label=label, bytes=content[:room], bom=bom)]
-        for rev, at in enumerate(range(room, len(content), room)):
-            part = content[at : at + room]
-            sent.append(self.send("splice", doc=name, rev=rev, at=at, bytes=part, **{"del": 0}))
-        return sent
+        return [self._send([it])[0] for it in _opening(name, label, content, bom, room)]
 
     def ask(self, op: str, **fields: Any) -> Members:
         """Sends a command, and returns the members of its reply. Raises `Fault` for a refusal."""
@@ -426,8 +422,8 @@ class Document:
         smallest range that differs.
 
         Where others were first, catches up, and replaces the same text where it is now, or raises `Conflict`. Where it was
-        is asked of a document of this copy's bytes, which is open meanwhile: so it costs what opening the document did, and
-        is rare where one catches up first. A change of the whole text is `Stale` then."""
+        is asked of a document of this copy's bytes, which is open for that moment: so it costs what opening the document
+        did, and is rare where one catches up first. A change of the whole text is `Stale` then."""
         try:
             return self._change(_change(text, start, end), unit)
         except Fault as fault:
@@ -461,16 +457,26 @@ class Document:
 
     def _meant(self, stale: Fault, text: str, start: Pair, end: Pair, unit: str) -> Tuple[Edit, str]:
         """What a change would have done to this copy's bytes, and the text that it would have replaced."""
-        name = secrets.token_hex(16)
+        asked: List[Tuple[str, Members]] = [("plan", _change(text, start, end)), ("offset", _position(start)), ("offset", _position(end))]
+        plan, first, last = self._before(stale, [(op, {"unit": unit, **fields}) for op, fields in asked])
+        where = {"from": first["offset"], "to": last["offset"]}
+        replaced = "" if where["from"] == where["to"] else self._before(stale, [("text", where)])[0]["text"]
+        return _planned(plan), replaced
+
+    def _before(self, stale: Fault, asked: Sequence[Tuple[str, Members]]) -> List[Members]:
+        """Answers of this copy's revision, by a document of its bytes. It is opened, asked and closed by one write: a client
+        would have to be killed just then to leave it open."""
+        name, bom = secrets.token_hex(16), "sniff" if self.bom else "keep"
+        opening = list(_opening(name, self.encoding, self.bytes, bom, ROOM))
+        lines = [*opening, *(_begun(op, {"doc": name, **fields}) for op, fields in asked), _begun("close", {"doc": name})]
+        replies = self._gate._send(lines)
         try:
-            before = self._gate.open(name, self.encoding, self.bytes, "sniff" if self.bom else "keep")
+            for it in replies[: len(opening)]:
+                it.get()
         except Fault:
-            # (no room for one more; of several parts the first may be there)
-            self._gate.send("close", doc=name)
+            # (there is no room for one document more)
             raise stale from None
-        with before:
-            mine, _ = before.plan(text, start, end, unit)
-            return mine, before.text(before.offset(start, unit), before.offset(end, unit))
+        return [it.get() for it in replies[len(opening) : -1]]
 
     def _moved(self, mine: Edit, fault: Fault) -> Tuple[Edit, Edit]:
         """An edit that was refused because others were first, where it is now, and what they did. Raises all other refusals."""
@@ -511,7 +517,7 @@ class Document:
     def plan(self, text: str, start: Optional[Pair] = None, end: Optional[Pair] = None, unit: str = "utf-16") -> Tuple[Edit, bool]:
         """The edit that `change` would make, and whether it would: where not, it would be refused as "NotKept"."""
         reply = self._ask("plan", unit=unit, **_change(text, start, end))
-        return Edit(reply["at"], base64.b64decode(reply["old"]), base64.b64decode(reply["bytes"])), reply["kept"]
+        return _planned(reply), reply["kept"]
 
     def changes(self, listed: Sequence[Change], unit: str = "utf-16") -> Edit:
         """Makes changes in one command, as an editor lists them, or none of them: each is what `change` takes, and its
@@ -725,6 +731,13 @@ def _begun(op: str, fields: Members) -> List[bytes]:
     return parts
 
 
+def _opening(name: str, label: str, content: bytes, bom: str, room: int) -> Iterator[List[bytes]]:
+    """What opens a document, by so many bytes a line: the parts of each line, up to its `id`."""
+    yield _begun("open", {"doc": name, "label": label, "bytes": content[:room], "bom": bom})
+    for rev, at in enumerate(range(room, len(content), room)):
+        yield _begun("splice", {"doc": name, "rev": rev, "at": at, "del": 0, "bytes": content[at : at + room]})
+
+
 def _together(parts: Sequence[bytes]) -> Iterator[bytes]:
     """The parts of lines as they are written: short ones as one, and a long one by itself, so that it isn't copied again."""
     begun: List[bytes] = []
@@ -776,6 +789,11 @@ def _position(position: Pair) -> Dict[str, int]:
 def _change(text: str, start: Optional[Pair] = None, end: Optional[Pair] = None) -> Members:
     where = {} if start is None else {"range": {"start": _position(start), "end": _position(end or start)}}
     return {"text": text, **where}
+
+
+def _planned(reply: Members) -> Edit:
+    """The edit that a plan says."""
+    return Edit(reply["at"], base64.b64decode(reply["old"]), base64.b64decode(reply["bytes"]))
 
 
 def difference(old: AnyStr, new: AnyStr) -> Tuple[int, int, AnyStr]:

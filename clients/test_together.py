@@ -338,35 +338,40 @@ class Together(unittest.TestCase):
             found = self.conflict(lambda: yours.splice(0, 1, b"x"))
             self.assertEqual(shown([found.theirs]), [(2, b"c", b"", True)])
 
-    def meanwhile(self, both: Pair, number: int, edit: Callable[[], Any]) -> "contextlib.AbstractContextManager[Any]":
-        """What has `mine` make an edit in front of the command of this number, counted from 0, that `yours` sends."""
-        send, left = both.other._send, [number]
+    def with_an_edit(self, number: int, new: bytes, call: Callable[[Document], Any], made: Callable[[bytes], bytes]) -> bool:
+        """Has another client edit the front in front of so many commands of a call, counted from 0, looks at what comes of
+        both, and returns whether the call has so many."""
+        with self.two("0\naあb\n0".encode()) as both:
+            both.mine.splice(2, 0, b"X")
+            send, left = both.other._send, [number]
 
-        def sent(lines: Any) -> Any:
-            if left[0] == 0:
-                edit()
-            left[0] -= 1
-            return send(lines)
+            def sent(lines: Any) -> Any:
+                if left[0] == 0:
+                    both.mine.splice(0, 1, new)
+                left[0] -= 1
+                return send(lines)
 
-        return mock.patch.object(both.other, "_send", sent)
+            with mock.patch.object(both.other, "_send", sent):
+                call(both.yours)
+            front = new if left[0] < 0 else b"0"
+            self.assertEqual(both.agree(), made(front + "\nXaあb\n0".encode()))
+            return left[0] < 0
 
     def test_whenever_another_edit_comes(self) -> None:
         """In front of each command that a call sends, another client makes the document longer, or shorter."""
-        calls: List[Tuple[str, int, Callable[[Document], Any], Callable[[bytes], bytes]]] = [
-            ("catch_up", 3, Document.catch_up, lambda it: it), ("refresh", 2, Document.refresh, lambda it: it),
-            ("text", 2, lambda it: self.assertIn(it.text(), ("0\nXaあb\n0", "W0\nXaあb\n0", "\nXaあb\n0")), lambda it: it),
-            ("splice", 5, lambda it: it.splice(2, 1, b"A"), lambda it: it.replace(b"a", b"A")),
-            ("change", 14, lambda it: it.change("Aい", (1, 0), (1, 2)), lambda it: it.replace("aあ".encode(), "Aい".encode())),
-            ("change", 14, lambda it: it.change("c", (1, 3)), lambda it: it.replace(b"b", b"bc")),
+        calls: List[Tuple[str, Callable[[Document], Any], Callable[[bytes], bytes]]] = [
+            ("catch_up", Document.catch_up, lambda it: it), ("refresh", Document.refresh, lambda it: it),
+            ("text", lambda it: self.assertIn(it.text(), ("0\nXaあb\n0", "W0\nXaあb\n0", "\nXaあb\n0")), lambda it: it),
+            ("splice", lambda it: it.splice(2, 1, b"A"), lambda it: it.replace(b"a", b"A")),
+            ("change", lambda it: it.change("Aい", (1, 0), (1, 2)), lambda it: it.replace("aあ".encode(), "Aい".encode())),
+            ("change", lambda it: it.change("c", (1, 3)), lambda it: it.replace(b"b", b"bc")),
         ]
-        for name, commands, call, made in calls:
-            for number in range(commands):
-                for new in b"W0", b"":
-                    with self.subTest(name, number=number, new=new), self.two("0\naあb\n0".encode()) as both:
-                        both.mine.splice(2, 0, b"X")
-                        with self.meanwhile(both, number, lambda: both.mine.splice(0, 1, new)):
-                            call(both.yours)
-                        self.assertEqual(both.agree(), made(new + "\nXaあb\n0".encode()))
+        for name, call, made in calls:
+            for new in b"W0", b"":
+                number = 0
+                while self.with_an_edit(number, new, call, made):
+                    number += 1
+                self.assertGreater(number, 1, (name, new))
 
     def test_a_server_that_goes_away(self) -> None:
         with served() as (path, program), Gate.connect(path=path) as gate:
