@@ -284,7 +284,7 @@ class Edit:
     def moves(self, at: int, count: int) -> Optional[int]:
         """Where `count` bytes from `at` on are once this edit was made: in front of it they stay, behind it they move. None
         where both have a byte in common, where one puts bytes in between two of the other's, or where this is `anew`. Of
-        two that put bytes in at one place, the one that was accepted first stays in front, whoever asks."""
+        two that put bytes in at one place, this one, which was accepted first, stays in front, whoever asks."""
         if self.anew:
             return None
         if at >= self.at + len(self.old):

@@ -230,6 +230,17 @@ class Together(unittest.TestCase):
             both.yours.change("x", (0, 1))
             self.assertEqual(both.agree(), b"ax\r\nb")
 
+    def test_a_late_change_by_parts_with_a_mark_that_is_found_or_kept(self) -> None:
+        content = b"\xef\xbb\xbf" + "aあbc".encode()
+        for bom, place in ("sniff", (0, 1)), ("keep", (0, 2)):
+            with self.subTest(bom), Gate.connect(path=self.path) as gate, Gate.connect(path=self.path) as other:
+                with gate.open("d", "utf-8", content, bom=bom) as mine, mock.patch("gate.ROOM", 4):
+                    yours = other.join("d")
+                    mine.splice(3, 1, b"XY")
+                    edit = yours.change("い", place, (place[0], place[1] + 1))
+                    self.assertEqual(shown([edit]), [(5, "あ".encode(), "い".encode(), False)])
+                    self.assertEqual(mine.source(0, 10), b"\xef\xbb\xbf" + "XYいbc".encode())
+
     def test_a_refusal_of_a_change_that_came_too_late(self) -> None:
         with self.two(b"ab", "windows-1252") as both:
             both.mine.splice(0, 0, b"x")
