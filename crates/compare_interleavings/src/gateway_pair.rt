@@ -2,8 +2,10 @@
 
 use crate::client::Client;
 use crate::failure::PlayFailure;
-use crate::kind::{EventKind, Tally, count_reply};
+use crate::kind::{EventKind, Tally, count_reply, kind_of};
 use crate::numbers::up_to;
+use crate::versions::{Versions, base64_in, doc_in, leads, number_in};
+use base64::engine::general_purpose::STANDARD;
 use desk::Desk;
 use enc_names::Labels;
 use gateway::{CONNECTIONS, Event, GateFault, Gateway, Out};
@@ -31,6 +33,7 @@ pub struct GatewayPair<G> {
     compared: G,
     in_order: G,
     clients: Vec<Client>,
+    versions: Versions,
     /// What happened so far.
     pub tally: Tally,
     alloc: Global,
@@ -74,6 +77,7 @@ impl<G: Answerer> GatewayPair<G> {
             compared,
             in_order,
             clients: closed_clients(alloc)?,
+            versions: Versions::new(alloc),
             tally: Tally::new(),
             alloc,
         })
@@ -189,10 +193,71 @@ impl<G: Answerer> GatewayPair<G> {
             Ok(out) => out.reply,
             Err(_) => None,
         };
+        let (doc, rev) = (doc_in(&client.begun), number_in(&client.begun, b"\"rev\":"));
         client.begun.clear();
         count_reply(&mut self.tally, reply);
         match wanted {
-            Some(wanted) if wanted.bytes() == reply => Ok(()),
+            Some(wanted) if wanted.bytes() == reply => self.leads(doc, rev, reply),
+            _ => Err(PlayFailure::Different),
+        }
+    }
+
+    /// The bytes behind an open or an edit are noted; what `since` tells has to lead to those now.
+    fn leads(&mut self, doc: Option<u8>, rev: u64, reply: &[u8]) -> Result<(), PlayFailure> {
+        let (Some(doc), Some(kind)) = (doc, kind_of(reply)) else {
+            return Ok(());
+        };
+        match kind {
+            EventKind::Accepted | EventKind::Changed => {
+                let bytes = self.source(doc)?;
+                self.versions
+                    .put(doc, number_in(reply, b"\"rev\":"), bytes)?;
+                Ok(())
+            }
+            EventKind::Since => {
+                let bytes = self.source(doc)?;
+                match self.versions.of(doc, rev) {
+                    Some(old) if leads(old, &bytes, reply) => Ok(()),
+                    _ => Err(PlayFailure::Different),
+                }
+            }
+            _ => Ok(()),
+        }
+    }
+
+    /// The bytes of a document as they are now.
+    fn source(&mut self, doc: u8) -> Result<Vec<u8>, PlayFailure> {
+        let (alloc, name) = (self.alloc, char::from(doc));
+        let stat = format!(in alloc; "{{\"id\":0,\"op\":\"stat\",\"doc\":\"{name}\"}}\n")?;
+        let len = self.ask(&stat, b"\"bytes\":")?;
+        let line = format!(in alloc;
+            "{{\"id\":0,\"op\":\"source\",\"doc\":\"{name}\",\"at\":0,\"len\":{len}}}\n"
+        )?;
+        match self.in_order.answer(Event::Bytes(0, line.as_bytes())) {
+            Ok(
+                Out {
+                    reply: Some(reply),
+                    ..
+                },
+            ) => {
+                let text = base64_in(reply.bytes());
+                STANDARD
+                    .decode(alloc, text)
+                    .map_err(|_| PlayFailure::Different)
+            }
+            _ => Err(PlayFailure::Different),
+        }
+    }
+
+    /// The number behind a key in the reply to a question.
+    fn ask(&mut self, line: &str, key: &[u8]) -> Result<u64, PlayFailure> {
+        match self.in_order.answer(Event::Bytes(0, line.as_bytes())) {
+            Ok(
+                Out {
+                    reply: Some(reply),
+                    ..
+                },
+            ) => Ok(number_in(reply.bytes(), key)),
             _ => Err(PlayFailure::Different),
         }
     }

@@ -29,15 +29,23 @@ pub type Tally = oracle::Tally<6>;
 /// Counts a reply.
 pub fn count_reply(tally: &mut Tally, reply: &[u8]) {
     tally.count(EventKind::Line as usize);
+    if let Some(kind) = kind_of(reply) {
+        tally.count(kind as usize);
+    }
+}
+
+/// What a reply answers, if it is one that is counted.
+pub fn kind_of(reply: &[u8]) -> Option<EventKind> {
     if reply.starts_with(b"{\"bom\"") {
-        tally.count(EventKind::Accepted as usize);
+        return Some(EventKind::Accepted);
     }
     if reply.starts_with(b"{\"at\"") {
-        tally.count(with_splice(reply) as usize);
+        return Some(with_splice(reply));
     }
     if reply.starts_with(b"{\"fault\":\"Stale\"") {
-        tally.count(EventKind::Stale as usize);
+        return Some(EventKind::Stale);
     }
+    None
 }
 
 /// What a reply with a splice answers: a change has the byte order mark's length as its second member.

@@ -1,7 +1,7 @@
 //! A trace from the standard input, whose replies are printed. Then events of sixteen connections,
 //! interleaved at random and cut anywhere: every reply has to be that of one desk that takes the
-//! lines one at a time, in the order of their line feeds. The program ends with status 1 where one is
-//! another.
+//! lines one at a time, in the order of their line feeds, and what `since` tells has to lead from the
+//! bytes at the revision named to those now. The program ends with status 1 where one is another.
 #![tactic(auto)]
 
 mod client;
@@ -11,6 +11,7 @@ mod gateway_pair;
 mod kind;
 mod numbers;
 mod replay;
+mod versions;
 
 use failure::PlayFailure;
 use gateway::{FromRead, ToWrite};
