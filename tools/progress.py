@@ -12,9 +12,10 @@ KEPT = TOP / "crates" / "gate" / "out" / "seconds.json"
 
 # Seconds of a first time, on four processors of 2.5 GHz with nothing else to do.
 FIRST_TIME = {
-    "sum_tree": 150, "enc_names": 70, "index_loader": 140, "lane_ascii": 70, "lane_utf": 60, "decoder_core": 125, "multibyte_decoders": 60,
-    "iso2022jp": 80, "encoders": 90, "codec": 170, "state_memo": 165, "piece_rope": 285, "position_map": 195, "desk": 240, "devices": 40,
-    "line_protocol": 340, "connections": 160, "gateway": 255, "index_files": 50, "gate": 360}
+    "sum_tree": 210, "enc_names": 85, "index_loader": 170, "lane_ascii": 60, "lane_utf": 70, "decoder_core": 260, "multibyte_decoders": 80,
+    "iso2022jp": 70, "encoders": 70, "codec": 160, "state_memo": 150, "piece_rope": 230, "position_map": 210, "desk": 240, "devices": 45,
+    "line_protocol": 305, "connections": 110, "sessions": 150, "serving": 255, "gateway": 230, "index_files": 70, "command_line": 195,
+    "gate": 350}
 
 
 def say(text: str) -> None:
