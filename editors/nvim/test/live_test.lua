@@ -195,6 +195,29 @@ for _, row in ipairs({
   end)
 end
 
+-- Of a long document only the lines come that another edited.
+for label, line in pairs({
+  ['utf-8'] = 'a\255\n', shift_jis = '\147\250\129\n', ['utf-16le'] = 'a\0\n\0', ['iso-2022-jp'] = 'x\27$BF|\27(B\n',
+}) do
+  others.together('lines that are fetched in ' .. label, label, line:rep(200), function(other)
+    local connection, most = it.buffer().document.connection, 0
+    local ask = connection.ask
+    connection.ask = function(self, commands)
+      for _, command in ipairs(commands) do
+        most = math.max(most, command.op == 'text' and command.to - command.from or 0)
+      end
+      return ask(self, commands)
+    end
+    other.call('keys', '100Goabc<Esc>')
+    wait(function()
+      return it.lines()[101] == 'abc'
+    end)
+    connection.ask = nil
+    it.same({ most > 0, most < 20 }, { true, true }, most .. ' code points')
+    it.agree('this one')
+  end)
+end
+
 together('what one writes is written for the other too', 'a\n', function(other, path)
   other.call('keys', 'rb')
   shows({ 'b' })
@@ -297,6 +320,28 @@ together('a document that another client closed is opened again', 'a\255\nb\n', 
   shows({ 'x\239\191\189', 'y' })
   it.agree('this one')
   other.call('agree', 'the other')
+end)
+
+together('a document that another client opened anew is read anew before it is written', 'a\nb\n', function(other, path)
+  vim.o.hidden = true
+  local number = vim.api.nvim_get_current_buf()
+  it.keys('rx')
+  other.shows({ 'x', 'b' })
+  other.lua('vim.o.hidden = true; vim.cmd("enew")')
+  vim.cmd('enew')
+  vim.wait(300)
+  other.lua([[
+    local document = require('legacy').buffer(1).document
+    document.connection:ask({
+      { op = 'close', doc = document.name },
+      { op = 'open', doc = document.name, label = 'utf-8', bytes = 'egpjCg==' },
+      { op = 'splice', doc = document.name, rev = 0, at = 0, del = 0, bytes = '' },
+    })
+  ]])
+  vim.cmd('buffer ' .. number)
+  it.same(it.written(path), 'z\nc\n')
+  it.same(it.lines(), { 'z', 'c' })
+  it.agree('this one')
 end)
 
 together('a server that was killed is started again', 'a\255\nb\n', function(other, _, server)

@@ -488,9 +488,12 @@ function Buffer:settled(forced)
     elseif #self.refusals > 0 and not forced then
       error(('legacy: not written: %s (add ! to leave it out)'):format(self.refusals[1].reason), 0)
     end
-    local bytes = self.document:source()
+    local bytes, rev = self.document:source()
     if bytes == self.document.bytes then
       return bytes
+    elseif self.sharing and rev == self.document.rev then
+      -- It is another document, which another client opened by this name.
+      self.document.behind, self.document.unsure = true, true
     end
   end
   error("legacy: not written: the program's bytes aren't those that were kept here", 0)
