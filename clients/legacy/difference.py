@@ -278,7 +278,7 @@ class _Letters:
         i, j, k, l = it
         if i == j or k == l:
             return [it] if i < j or k < l else []
-        if self._is_plain(it):
+        if j - i == l - k == 1 or self._is_plain(it):
             return [it]
         a, b = self.old[i:j], self.new[k:l]
         self.left -= len(a) + len(b) + len(a) * len(b) // PAIRS_A_UNIT
