@@ -245,7 +245,7 @@ end)
 
 together('a file that another program changed', 'a\n', function(other, path)
   it.keys('rb')
-  it.said('the file has changed; :edit! reads it anew', function()
+  it.said('the file has changed: :edit! reads it anew', function()
     it.write(path, 'c\n')
     wait(function()
       return vim.fn.execute('messages'):find('has changed', 1, true) ~= nil
@@ -383,7 +383,9 @@ together('a server that another has started again is found', 'a\255\nb\n', funct
   vim.wait(1500)
   it.same(it.buffer().document.connection.ended, true, 'an editor that only shows does not start it')
   other.call('keys', 'GAc<Esc>')
+  vim.fn.setreg('"', 'mine')
   shows({ 'x\239\191\189', 'bc' })
+  it.same(vim.fn.getreg('"'), 'mine', 'nothing was lost')
   wait(function()
     return vim.b.legacy_others == 1
   end)

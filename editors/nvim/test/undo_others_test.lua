@@ -68,7 +68,7 @@ others.together('an edit in which another edited is not undone', 'utf-8', 'a\nb\
   end)
   press('u')
   it.same(it.lines(), { 'ahelXlo', 'b' })
-  it.said('another editor has changed this text since', function()
+  it.said('another editor has changed this text', function()
     press('u')
   end)
   it.same(it.lines(), { 'ahelXlo', 'b' })

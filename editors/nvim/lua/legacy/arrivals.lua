@@ -158,6 +158,7 @@ function M.take(document, mirror, rev, bytes)
   end
   is_other = is_other or document.apart
   local text, sums = document:refresh()
+  is_other = is_other and not document:began_as(bytes)
   local splice = splicing.between(bytes, document.bytes)
   return { splice = splice, text = text, is_other = is_other, rev = sums.rev, sums = sums }
 end

@@ -233,6 +233,20 @@ function Document:since(rev)
   return reply
 end
 
+---Whether the document was opened with some bytes, and no edit since then but those that it tells: who had these bytes has
+---lost nothing.
+---@param bytes string
+---@return boolean
+function Document:began_as(bytes)
+  local parts = math.max(math.ceil(#bytes / self.part), 1)
+  local since = self:since(parts - 1)
+  if since.rev ~= self.rev or not since.ins then
+    return false
+  end
+  local at, put = since.at, self.bytes:sub(since.at + 1, since.at + since.ins)
+  return self.bytes == bytes:sub(1, at) .. put .. bytes:sub(at + since.del + 1)
+end
+
 ---Asks whether another editor has changed the document, and calls with the answer, as `tell` of a connection does.
 ---@param call fun(moved: boolean)
 function Document:watch(call)

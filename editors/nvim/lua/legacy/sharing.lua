@@ -332,7 +332,7 @@ local function keep(old, new)
   local group = diff.group(old, new, nil)
   if group and group.count > 0 then
     vim.fn.setreg('"', vim.list_slice(old, group.row + 1, group.row + group.count), 'l')
-    messages.warn('another editor opened the document anew; the lines that differed here are in the unnamed register')
+    messages.warn('another editor opened it anew; lines that differed are in register "')
   end
 end
 
@@ -401,7 +401,7 @@ function Sharing:notice_file()
     self.suspect = stamp
     return
   else
-    messages.warn('the file has changed; :edit! reads it anew, for all, and :write! overwrites it')
+    messages.warn('the file has changed: :edit! reads it anew, :write! overwrites it')
   end
   self.stamp = stamp
 end

@@ -104,7 +104,7 @@ function Undoing:step(which)
       return
     elseif group.met then
       self.past:drop(which)
-      messages.warn(('no %s: another editor has changed this text since; the next %s leads on'):format(which, which))
+      messages.warn(('no %s: another editor has changed this text; the next %s leads on'):format(which, which))
       return
     elseif self:make(which, group) then
       return
@@ -158,7 +158,7 @@ function Undoing:show(which, splices, before, bytes)
   local is_sound = arrival.rev ~= rev or self:is_sound(arrival, before, splices)
   if not is_sound and document:splice({ splicing.between(made, bytes) }) then
     self.past:refuse(which)
-    messages.warn(('no %s: beside what another editor put in, it would be read as another text'):format(which))
+    messages.warn(('no %s: what another editor put in would be read as another text'):format(which))
     return true
   end
   self.past:drop(which)
