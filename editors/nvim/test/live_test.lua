@@ -251,6 +251,9 @@ together('a file that another program changed', 'a\n', function(other, path)
       return vim.fn.execute('messages'):find('has changed', 1, true) ~= nil
     end)
   end)
+  wait(function()
+    return other.lua([[return vim.fn.execute('messages')]]):find('has changed', 1, true) ~= nil
+  end, 'the other is told too')
   it.same(it.failure('write'):match('the file has changed since it was read'), 'the file has changed since it was read')
   vim.cmd('silent edit!')
   it.same({ it.lines(), vim.bo.modified }, { { 'c' }, false })

@@ -204,7 +204,7 @@ end
 ---@param there string|nil
 function Buffer:was_written(there)
   self.disk = there
-  vim.bo[self.number].modified = #self.refusals > 0 or self:is_unwritten()
+  vim.bo[self.number].modified = self.dirty or #self.refusals > 0 or self:is_unwritten()
 end
 
 ---The buffer's text as lines, like those of a mirror. One empty line is an empty text where Neovim says so, or where

@@ -21,6 +21,7 @@ local api = vim.api
 ---@field private said integer how many others there were when that was said
 ---@field private asked legacy.Connection|nil where a question is under way
 ---@field private stamp string|nil what the file was when it was looked at
+---@field private there string|nil its bytes then
 ---@field private suspect string|nil what it was when nobody had said that he wrote it
 ---@field private autocmds integer[]
 ---@field private trouble string|nil what went wrong last
@@ -356,7 +357,7 @@ function Sharing:show(arrival)
   buffer.mirror = mirror
   self:change(edits, select(2, mirrors.display(merged)))
   buffer.dirty = #mine > 0
-  vim.bo[number].modified = buffer.dirty or buffer:is_unwritten()
+  buffer:was_written(buffer.document.bytes == self.there and self.there or buffer.disk)
   if met then
     messages.warn('another editor changed the same text; what both put in is there')
   end
@@ -403,7 +404,7 @@ function Sharing:notice_file()
   else
     messages.warn('the file has changed: :edit! reads it anew, :write! overwrites it')
   end
-  self.stamp = stamp
+  self.stamp, self.there = stamp, there
 end
 
 ---Whether the file is as an editor of this document wrote it.
