@@ -54,7 +54,7 @@ PLACES = "the same folder", "another one"
 CALLS: Dict[str, Callable[[pathlib.Path], object]] = {
     "ls": lambda path: os.listdir(path.parent), "stat": lambda path: path.stat(), "cat": lambda path: path.read_bytes()}
 LATEST = {(call, where): Row(BESIDE.format(call=call, where=where), 50, "ms") for where in PLACES for call in CALLS}
-MEMORY = Row("memory of a process at most, in saves of 16 MiB", 400, "MiB")
+MEMORY = Row("memory of a process at most, in that save", 400, "MiB")
 
 
 class Spent(NamedTuple):
@@ -228,17 +228,20 @@ def edited(table: Table, source: pathlib.Path, mega: int, raw: bytes, cold: bool
 
 
 def replaced(table: Table, source: pathlib.Path, raw: bytes) -> None:
-    """The row of a word that is replaced in each line."""
+    """The row of a word that is replaced in each line, and of memory."""
     path = source / "large.txt"
     path.write_bytes(raw)
     with mounted(source) as mount:
         (mount.point / path.name).read_bytes()
         table.add(WORD, timed(mount, ["sed", "-i", f"s/ {WORDS[0].decode('cp932')} / 企画 /g", mount.point / path.name]))
         same(path, raw.replace(b" %b " % WORDS[0], " 企画 ".encode("cp932")), "sed -i of each line")
+        found = peaks(mount.process.pid)
+    print("  " + ", ".join(f"{name} {size:.0f} MiB" for name, size in found.values()), file=sys.stderr)
+    table.add(MEMORY, Sample(max(size for _, size in found.values())))
 
 
-def beside(table: Table, source: pathlib.Path, raw: bytes, memory: bool) -> None:
-    """The rows of what others wait for while a text is saved, and of memory."""
+def beside(table: Table, source: pathlib.Path, raw: bytes) -> None:
+    """The rows of what others wait for while a text is saved."""
     path, number = source / "large.txt", b"%07d" % (raw.count(b"\n") // 2)
     path.write_bytes(raw)
     (source / "other").mkdir(exist_ok=True)
@@ -260,12 +263,8 @@ def beside(table: Table, source: pathlib.Path, raw: bytes, memory: bool) -> None
                 time.sleep(0.002)
         took = processor(mount.process.pid).since(before)
         same(path, raw.replace(number, b"edited!"), "a save in place")
-        found = peaks(mount.process.pid)
     for key, row in LATEST.items():
         table.add(row, Sample(longest[key], took))
-    print("  " + ", ".join(f"{name} {size:.0f} MiB" for name, size in found.values()), file=sys.stderr)
-    if memory:
-        table.add(MEMORY, Sample(max(size for _, size in found.values())))
 
 
 def main() -> None:
@@ -302,10 +301,10 @@ def measure(top: pathlib.Path, rounds: int, files: int, only: Sequence[str]) -> 
             for cold, rows in (False, (SED[mega], BACK[mega])), (True, (COLD[mega],)):
                 if wanted(*rows):
                     edited(table, large, mega, raw, cold)
-        if wanted(WORD):
+        if wanted(WORD, MEMORY):
             replaced(table, large, raws[16])
-        if wanted(MEMORY, *LATEST.values()):
-            beside(table, large, raws[16], True)
+        if wanted(*LATEST.values()):
+            beside(table, large, raws[16])
     print("\n".join(table.lines()))
 
 
