@@ -107,6 +107,7 @@ class Following(unittest.TestCase):
         program = self.follow("menu", self.path)
         self.says(program, "menu: 11 bytes, UTF-8, revision 1")
         program.send_signal(signal.SIGSTOP)
+        os.waitid(os.P_PID, program.pid, os.WSTOPPED)
         menu.close()
         self.gate.open("menu", "utf-8", b"the two")
         program.send_signal(signal.SIGCONT)
