@@ -1,28 +1,59 @@
-"""tools/build and what it says of its progress, with a command of these tests in the place of the toolchain's."""
+"""tools/build, in which order it has crates proved and what it says of that, with commands of these tests in the place of the
+toolchain's."""
 import json
 import os
 import pathlib
 import shutil
+import signal
 import subprocess
+import sys
 import tempfile
+import time
 import unittest
 
 from program import TOP
 
+sys.path.insert(0, str(TOP / "tools"))
+from schedule import FIRST, FURTHER, Schedule, Turn
+
 CRATES = "low:\nside:\nhigh: low memchr\nother: high\ngate: high side\n"
 
-# Says of each crate what the toolchain would: that it was proved before, where the variable KNOWN names it, not proved, where
-# BAD does, else that it is proved now. Then the program is there.
+# Proves what it is asked to, and notes its words. Where a crate is named by the variable BAD, it isn't proved; by HANDLES, it
+# takes a handle; by KILLED, its check is killed, but for one by itself; by LONG, it goes on in a process of its own.
+RATTLE = r"""#!/usr/bin/env python3
+import os, pathlib, signal, sys, time
+name = sys.argv[sys.argv.index("--crate-name") + 1]
+of = lambda word: sys.argv[sys.argv.index(word) + 1]
+its = lambda variable: name in os.environ.get(variable, "").split()
+with open(os.environ["WORDS"], "a") as it:
+    it.write(f"{name} {of('--jobs')}\n")
+assert pathlib.Path("src").exists() and not pathlib.Path("must-fail").exists()
+for word, nexts in zip(sys.argv, sys.argv[1:]):
+    library = nexts.partition("=")[2]
+    assert word != "--extern" or pathlib.Path(library).exists() or "/kit/rlibs/" in library, nexts
+if its("LONG"):
+    pathlib.Path(os.environ["WORDS"] + ".long").write_text(str(os.getpid()))
+    os.fork()
+    time.sleep(60)
+if its("KILLED") and of("--jobs") != "1":
+    os.kill(os.getpid(), signal.SIGKILL)
+if its("BAD"):
+    print(f"error: {name}\nlogic=not-proved")
+    sys.exit(1)
+path = pathlib.Path(of("-o"))
+path.write_text("built") if path.suffix == ".o" else path.mkdir()
+handles = " main=Threads" if its("HANDLES") else " main=Net" if name == "gate" else ""
+print(f"fn {name}::f: proved\nlogic=proved functions=1{handles} sum=0 native=nat,char,string logic-built=trusted libraries-built=trusted statements=trusted")
+"""
+
+# What is linked prints the words of the program's session.
+LINK = """#!/bin/bash
+while [ "$1" != -o ]; do shift; done
+printf '#!/bin/bash\\ntr a-z A-Z\\n' > "$2"; chmod +x "$2"
+"""
+
 RT = """#!/bin/bash
-echo "$*: $(cut -d: -f1 crates.txt | xargs)" >> "$RT_WORDS"
-for name in $(cut -d: -f1 crates.txt); do
-  [ -e "crates/$name/src.rt" ] && [ ! -e "crates/$name/must-fail" ] || exit 3
-  case " $KNOWN " in *" $name "*) echo "rt: $name is kept: an earlier run"; continue ;; esac
-  case " $BAD " in *" $name "*) echo "error: $name"; echo "rt: $name NOT PROVED"; exit 1 ;; esac
-  echo "rt: $name proved"
-done
-mkdir crates/gate/out
-echo built > crates/gate/out/gate
+case "$*" in doc) echo "$(dirname "$0")/kit/START-HERE.md" ;; version) echo kit ;; *) exit 3 ;; esac
 """
 
 
@@ -32,53 +63,146 @@ class Build(unittest.TestCase):
         self.addCleanup(kept.cleanup)
         self.top = pathlib.Path(kept.name)
         shutil.copytree(TOP / "tools", self.top / "tools", ignore=shutil.ignore_patterns("__pycache__"))
-        (self.top / "crates.txt").write_text(CRATES)
-        (self.top / "HANDLES").touch()
+        for path, text in ("crates.txt", CRATES), ("HANDLES", "Handles allowed: Net.\n"):
+            (self.top / path).write_text(text)
         for line in CRATES.splitlines():
-            folder = self.top / "crates" / line.partition(":")[0]
-            for name in "out", "must-fail":
-                (folder / name).mkdir(parents=True)
-            (folder / "src.rt").touch()
-        (self.top / "rt").write_text(RT)
-        (self.top / "rt").chmod(0o755)
+            name = line.partition(":")[0]
+            for part in "src", "must-fail":
+                (self.top / "crates" / name / part).mkdir(parents=True)
+            (self.source(name)).write_text(name)
+        (self.top / "crates/gate/stdin").write_text("reply\n")
+        (self.top / "crates/gate/stdout").write_text("REPLY\n")
+        (self.top / "kit" / "bin").mkdir(parents=True)
+        for path, text in ("rt", RT), ("kit/bin/rattle", RATTLE), ("kit/bin/rattle-link", LINK):
+            (self.top / path).write_text(text)
+            (self.top / path).chmod(0o755)
         self.out = self.top / "crates" / "gate" / "out"
+        self.words = self.top / "words"
 
-    def builds(self, status=0, known="", bad=""):
-        """Runs it, and returns what it says; the toolchain is run once, over the program's crates."""
-        words = self.top / "words"
-        words.write_text("")
-        environment = {**os.environ, "PATH": f"{self.top}:{os.environ['PATH']}", "RT_WORDS": str(words), "KNOWN": known, "BAD": bad}
-        ran = subprocess.run([self.top / "tools" / "build"], env=environment, stdout=subprocess.PIPE, stderr=subprocess.PIPE)
-        self.assertEqual((ran.returncode, ran.stdout), (status, b""), ran.stderr)
-        self.assertEqual(words.read_text(), "ci: low side high gate\n")
-        return ran.stderr.decode()
+    def source(self, crate):
+        return self.top / "crates" / crate / "src" / ("main.rt" if crate == "gate" else "lib.rt")
+
+    def starts(self, **variables):
+        environment = {**os.environ, "PATH": f"{self.top}:{os.environ['PATH']}", "WORDS": str(self.words), "RT_JOBS": "4", **variables}
+        return subprocess.Popen([self.top / "tools" / "build"], env=environment, stdout=subprocess.PIPE, stderr=subprocess.PIPE)
+
+    def builds(self, status=0, **variables):
+        """Runs it, and returns what it says, and which crates were proved by how many processors."""
+        self.words.write_text("")
+        ran = self.starts(**variables)
+        printed, said = ran.communicate()
+        self.assertEqual((ran.returncode, printed), (status, b""), said)
+        return said.decode(), self.words.read_text().splitlines()
 
     def test_each_crate_is_named_with_its_time(self):
-        said = self.builds()
-        for at, name in enumerate(("low", "side", "high"), 1):
-            self.assertRegex(said, rf"(?m)^gate: {name} is proved, in 0:0\d; {at} of 4, about \d+ min for the rest$")
+        said, proved = self.builds()
+        self.assertRegex(said, r"\Agate: proving 4 crates; about \d+ min\n")
+        for name in "low", "side", "high":
+            self.assertRegex(said, rf"(?m)^gate: {name} is proved, in 0:0\d; [123] of 4, about \d+ min for the rest$")
         self.assertRegex(said, r"gate: gate is proved, in 0:0\d; 4 of 4, all are\n\Z")
-        self.assertEqual((self.out / "gate").read_text(), "built\n")
+        self.assertEqual({it.split()[0] for it in proved}, {"low", "side", "high", "gate"})
+        self.assertLess({"low 4", "gate 4"}, set(proved))
+        self.assertTrue(os.access(self.out / "gate", os.X_OK))
         self.assertEqual(sorted(json.loads((self.out / "seconds.json").read_text())), ["gate", "high", "low", "side"])
 
-    def test_last_time_is_said_and_what_was_proved_before_leaves_it(self):
-        seconds = {"low": 100, "side": 7, "high": 161.4, "gate": 300}
-        kept = self.out / "seconds.json"
-        kept.write_text(json.dumps(seconds))
-        said = self.builds(known="low side high").splitlines()
-        self.assertRegex(said[0], r"^gate: proving 4 crates; about 9 min")
-        self.assertEqual(said[3], "gate: high was proved before; 3 of 4, about 5 min for the rest")
-        self.assertRegex(said[4], r"^gate: gate is proved, in 0:0\d, 5:00 last time; 4 of 4, all are$")
-        self.assertEqual({**json.loads(kept.read_text()), "gate": 300}, seconds)
-        kept.write_text("[1")
+    def test_what_has_not_changed_is_not_proved_again(self):
         self.builds()
+        self.assertEqual(self.builds(), ("", []))
+        self.source("high").write_text("other")
+        said, proved = self.builds()
+        self.assertEqual(proved, ["high 4", "gate 4"])
+        self.assertRegex(said, r"\Agate: proving 2 of 4 crates, as the others were proved before; about \d+ min\n")
+        for path in self.top / "crates.txt", self.source("other"):
+            path.write_text(path.read_text() + "\n")
+            self.assertEqual(self.builds(), ("", []))
+        (self.out / "gate").unlink()
+        self.assertEqual(self.builds()[1], ["gate 4"])
+        (self.top / "rt").write_text(RT.replace("echo kit", "echo another"))
+        self.assertEqual(len(self.builds()[1]), 4)
+
+    def test_last_time_is_said(self):
+        kept = self.out / "seconds.json"
+        for seconds in {"low": 100, "side": 7, "high": 161.4, "gate": 300}, [1]:
+            self.out.mkdir(exist_ok=True)
+            kept.write_text(json.dumps(seconds))
+            self.source("low").write_text(str(seconds))
+            said, _ = self.builds()
+            if seconds != [1]:
+                self.assertRegex(said, r"\Agate: proving 4 crates; about 9 min\n")
+                self.assertRegex(said, r"gate: gate is proved, in 0:0\d, 5:00 last time; 4 of 4, all are\n\Z")
 
     def test_what_fails_is_shown_and_no_program_is_put_in_place(self):
+        self.out.mkdir()
         (self.out / "gate").write_text("older")
-        said = self.builds(status=1, bad="high")
+        said, _ = self.builds(status=1, BAD="high")
         self.assertIn("error: high\n", said)
+        self.assertIn("gate: high is not proved: the prover refuses it\n", said)
+        self.assertIn("gate: high is not proved: it takes handles that HANDLES doesn't allow: Threads\n", self.builds(status=1, HANDLES="high")[0])
+        (self.top / "crates/gate/stdout").write_text("another\n")
+        said, proved = self.builds(status=1)
+        self.assertIn("high 4", proved)
+        self.assertIn("gate: gate is proved, but as it was compiled it replies otherwise than its session says\n", said)
         self.assertEqual((self.out / "gate").read_text(), "older")
         self.assertFalse((self.out / "gate.ready").exists())
+
+    def test_a_check_that_was_killed_is_made_once_more_by_itself(self):
+        said, proved = self.builds(KILLED="low")
+        self.assertEqual([it for it in proved if it.startswith("low")], ["low 4", "low 1"])
+        self.assertIn("the check of low was ended, most likely for want of memory", said)
+        self.assertIn("; 4 of 4, all are\n", said)
+
+    def test_nothing_is_left_running_where_it_is_stopped(self):
+        for number in signal.SIGTERM, signal.SIGINT, signal.SIGKILL:
+            with self.subTest(number):
+                long = pathlib.Path(f"{self.words}.long")
+                long.unlink(missing_ok=True)
+                ran = self.starts(LONG="low")
+                while not long.exists() or not long.read_text():
+                    time.sleep(0.05)
+                checks = pathlib.Path(f"/proc/{long.read_text()}")
+                ran.send_signal(number)
+                ran.communicate()
+                self.assertEqual(ran.returncode, {signal.SIGTERM: 143, signal.SIGINT: 130}.get(number, -9))
+                for _ in range(100):
+                    if not checks.exists() or "Z" in (checks / "stat").read_text().rpartition(")")[2].split()[0]:
+                        break
+                    time.sleep(0.05)
+                else:
+                    self.fail("its check is running still")
+
+
+class Order(unittest.TestCase):
+    """The schedule of crates of which `a`, `b` and `c` wait for one another in a row, and `d` and `e` for none."""
+
+    def turns(self, lanes, memory, left="abcde", running=(), lone=()):
+        libraries = {"a": [], "b": ["a"], "c": ["b"], "d": [], "e": []}
+        schedule = Schedule(libraries, {"a": 100.0, "b": 100.0, "c": 100.0, "d": 90.0, "e": 30.0}, lanes, memory)
+        left, running = list(left), list(running)
+        while True:
+            turn = schedule.next(left, running, lone)
+            if not turn:
+                return [(it.crate, it.jobs) for it in running]
+            left.remove(turn.crate)
+            running.append(turn)
+
+    def test_the_row_comes_first_and_others_beside_it(self):
+        self.assertEqual(self.turns(4, 1e12), [("a", 4), ("d", 1), ("e", 1)])
+        self.assertEqual(self.turns(2, 1e12), [("a", 2), ("d", 1)])
+        self.assertEqual(self.turns(1, 1e12), [("a", 1)])
+
+    def test_what_the_row_waits_for_is_not_put_beside_it(self):
+        self.assertEqual(self.turns(4, 1e12, "d", [Turn("c", 4)]), [("c", 4)])
+        self.assertEqual(self.turns(4, 1e12, "e", [Turn("b", 4)]), [("b", 4), ("e", 1)])
+
+    def test_memory_bounds_them_but_one_always_begins(self):
+        self.assertEqual(self.turns(4, FIRST + 3 * FURTHER), [("a", 4)])
+        self.assertEqual(self.turns(4, FIRST + FURTHER), [("a", 2)])
+        self.assertEqual(self.turns(4, 0.0), [("a", 1)])
+        self.assertEqual(self.turns(4, 2 * FIRST + 3 * FURTHER), [("a", 4), ("d", 1)])
+
+    def test_one_that_was_killed_is_alone(self):
+        self.assertEqual(self.turns(4, 1e12, lone="a"), [("a", 1)])
+        self.assertEqual(self.turns(4, 1e12, "acde", [Turn("b", 4)], lone="a"), [("b", 4)])
 
 
 if __name__ == "__main__":

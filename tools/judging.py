@@ -1,13 +1,13 @@
 """CI's judge over a copy of crates, and beside it their wrong bodies: those of a crate as soon as its libraries are proved."""
-import os
 import pathlib
 import re
 import threading
 from concurrent.futures import Future, ThreadPoolExecutor
-from typing import Dict, List, NamedTuple
+from typing import Callable, Dict, List, NamedTuple
 
 from crates import below
 from rooms import Judge, proved
+from schedule import processors
 from wrong_bodies import Trial
 
 # The last line of the judge.
@@ -34,45 +34,29 @@ def say(text: str) -> None:
         print(text, flush=True)
 
 
-class Judging:
-    """The judge over the crates that are laid out in `room`, and beside it, a crate a lane, trials of the wrong bodies in
-    `edits`, of which each crate's libraries are among those."""
+class Trials:
+    """Trials of the wrong bodies in `edits`, a crate a lane, each crate's as soon as the libraries that it stands on are
+    proved, which are in the folders that `place` gives."""
 
-    def __init__(self, room: pathlib.Path, edits: Dict[str, List[pathlib.Path]]) -> None:
-        self.room, self.edits = room, edits
+    def __init__(self, edits: Dict[str, List[pathlib.Path]], place: Callable[[str], pathlib.Path]) -> None:
+        self.edits, self.place = edits, place
         self.lacking = {it: set(below(it)) for it in edits}
         self.trials: Dict[str, "Future[Count]"] = {}
-        self.lanes = ThreadPoolExecutor(int(os.environ.get("RT_JOBS") or os.cpu_count() or 1))
+        self.lanes = ThreadPoolExecutor(processors())
 
     def tried(self, crate: str) -> Count:
         counts = [Count(0, 0)]
-        for it in Trial(crate, self.edits[crate], self.room).tried():
+        for it in Trial(crate, self.edits[crate], {name: self.place(name) for name in below(crate)}).tried():
             say(f"wrong body {crate}/{it.edit.name}: {'refused' if it.refused else 'NOT REFUSED'}: {it.said}")
             counts.append(Count(1, 0) if it.refused else Count(0, 1))
         return total(counts)
 
-    def begin(self, crate: str = "") -> None:
-        """Begins the trials for which the library of this crate was the last that lacked, or that need none."""
+    def begin(self, *crates: str) -> None:
+        """Begins the trials for which the libraries of these crates were the last that lacked, or that need none."""
         for it, names in self.lacking.items():
-            names.discard(crate)
+            names.difference_update(crates)
             if not names and it not in self.trials:
                 self.trials[it] = self.lanes.submit(self.tried, it)
-
-    def crates(self) -> Count:
-        """What the judge says of the crates, which is printed but for its last line."""
-        judge, last = Judge(self.room), ""
-        for line in judge.lines():
-            done = proved(line)
-            if done:
-                self.begin(done[0])
-            if last:
-                say(last)
-            last = line.decode(errors="replace").rstrip("\n")
-        ended = ENDED.match(last)
-        if not ended:
-            say(last)
-            return Count(0, 1)
-        return Count(int(ended[1]), max(int(ended[2]), int(judge.status != 0)))
 
     def bodies(self) -> Count:
         """What came of the trials, once they have ended. Where a library isn't proved, they fail."""
@@ -81,6 +65,30 @@ class Judging:
             say(f"{it}: its wrong bodies weren't tried, since libraries of its aren't proved: {' '.join(sorted(names))}")
         lost = Count(0, sum(len(self.edits[it]) for it in untried))
         return total([lost, *(it.result() for it in self.trials.values())])
+
+
+class Judging(Trials):
+    """The judge over the crates that are laid out in `room`, and beside it trials over the libraries that it proves."""
+
+    def __init__(self, room: pathlib.Path, edits: Dict[str, List[pathlib.Path]]) -> None:
+        super().__init__(edits, lambda crate: room / "crates" / crate / "out" / "rlib")
+        self.room = room
+
+    def crates(self) -> Count:
+        """What the judge says of the crates, which is printed but for its last line."""
+        judge, last = Judge(self.room), ""
+        for line in judge.lines():
+            done = proved(line)
+            if done:
+                self.begin(done)
+            if last:
+                say(last)
+            last = line.decode(errors="replace").rstrip("\n")
+        ended = ENDED.match(last)
+        if not ended:
+            say(last)
+            return Count(0, 1)
+        return Count(int(ended[1]), max(int(ended[2]), int(judge.status != 0)))
 
 
 def edits_in(folder: pathlib.Path) -> List[pathlib.Path]:

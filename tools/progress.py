@@ -3,85 +3,98 @@ import json
 import os
 import sys
 import time
-from typing import Dict, List
+from typing import Callable, Dict, List
 
-from crates import TOP, own_libraries
+from crates import TOP
+from schedule import Schedule, Turn, seconds
 
 # Where the seconds of last time are kept.
 KEPT = TOP / "crates" / "gate" / "out" / "seconds.json"
 
-# Seconds of a first time, on four processors of 2.5 GHz with nothing else to do.
-FIRST_TIME = {
-    "sum_tree": 210, "enc_names": 85, "index_loader": 170, "lane_ascii": 60, "lane_utf": 70, "decoder_core": 260, "multibyte_decoders": 80,
-    "iso2022jp": 70, "encoders": 70, "codec": 160, "state_memo": 150, "piece_rope": 230, "position_map": 210, "desk": 240, "devices": 45,
-    "line_protocol": 305, "connections": 110, "sessions": 150, "serving": 255, "gateway": 230, "index_files": 70, "command_line": 195,
-    "gate": 350}
+# Seconds that each crate takes by one processor of 2.5 GHz.
+WORK = {
+    "sum_tree": 185, "enc_names": 80, "index_loader": 195, "lane_ascii": 46, "lane_utf": 60, "decoder_core": 250, "multibyte_decoders": 78,
+    "iso2022jp": 64, "encoders": 68, "codec": 160, "state_memo": 230, "piece_rope": 335, "position_map": 235, "desk": 205, "devices": 40,
+    "line_protocol": 255, "connections": 85, "sessions": 90, "serving": 130, "gateway": 115, "index_files": 58, "command_line": 150,
+    "gate": 200}
+# How much longer a check takes that stands back behind another.
+BESIDE = 1.6
 
 
 def say(text: str) -> None:
     print(f"gate: {text}", file=sys.stderr, flush=True)
 
 
-def clock(seconds: float) -> str:
+def clock(time_taken: float) -> str:
     """Minutes and seconds."""
-    return f"{round(seconds) // 60}:{round(seconds) % 60:02}"
+    return f"{round(time_taken) // 60}:{round(time_taken) % 60:02}"
 
 
 def kept() -> Dict[str, float]:
     """The seconds that each crate took when it was last proved here."""
     try:
         found = json.loads(KEPT.read_text(encoding="utf-8"))
-        return {str(name): float(seconds) for name, seconds in found.items()}
+        return {str(name): float(taken) for name, taken in found.items()}
     except (OSError, ValueError, AttributeError, TypeError):
         return {}
 
 
 class Progress:
-    """How far a build of these crates has come, which begins now. A crate's time runs from when its libraries are proved."""
+    """How far the proofs of these crates have come, which begin now: of those that are left, the others being proved."""
 
-    def __init__(self, names: List[str]) -> None:
-        libraries = own_libraries()
-        self.libraries = {name: libraries[name] for name in names}
-        self.last, self.began = kept(), time.monotonic()
-        self.ended: Dict[str, float] = {}
-        self.taken: Dict[str, float] = {}  # of those that weren't proved before
-        say(f"proving {len(names)} crates; about {self.minutes()}, or less where some were proved before")
+    def __init__(self, crates: List[str], left: List[str], schedule: Callable[[Dict[str, float]], Schedule]) -> None:
+        self.schedule = schedule({it: WORK.get(it, 120.0) for it in left})
+        self.count, self.left = len(crates), list(left)
+        self.running: Dict[str, Turn] = {}
+        self.began: Dict[str, float] = {}
+        self.last = kept()
+        self.taken: Dict[str, float] = {}
+        self.thought = 0.0  # how long those that are proved by now were thought to take
+        how = f"{len(left)} of {self.count} crates, as the others were proved before" if len(left) < self.count else f"{self.count} crates"
+        if left:
+            say(f"proving {how}; about {self.minutes()}")
 
-    def spent(self, name: str) -> float:
-        """The seconds since a crate could begin, 0 while it can't."""
-        below = [self.ended.get(it) for it in self.libraries[name]]
-        ready = [it for it in below if it is not None]
-        return time.monotonic() - max([self.began, *ready]) if len(ready) == len(below) else 0.0
-
-    def expected(self, name: str) -> float:
+    def expected(self, turn: Turn) -> float:
         """The seconds that a crate is thought to take, at the pace of last time."""
-        return max(1.0, self.last.get(name, FIRST_TIME.get(name, 120.0)))
+        first_time = seconds(self.schedule.work[turn.crate], turn.jobs) * (BESIDE if turn.beside else 1.0)
+        return max(1.0, self.last.get(turn.crate, first_time))
 
     def minutes(self) -> str:
-        """How long the rest may take: the longest row of crates that wait for one another, or what all processors share,
-        whichever is more, at the pace of the crates that were proved by now."""
-        pace = sum(self.taken.values()) / sum(map(self.expected, self.taken)) if self.taken else 1.0
-        rest: Dict[str, float] = {}
-        row: Dict[str, float] = {}
-        for name, libraries in self.libraries.items():
-            if name not in self.ended:
-                rest[name] = max(0.0, self.expected(name) * pace - self.spent(name))
-                row[name] = rest[name] + max((row.get(it, 0.0) for it in libraries), default=0.0)
-        return f"{max(1, round(max(sum(rest.values()) / (os.cpu_count() or 1), *row.values(), 0.0) / 60))} min"
+        """How long the rest may take, if it goes on as the schedule has it, at the pace of the crates that were proved by now."""
+        pace, now = sum(self.taken.values()) / self.thought if self.thought else 1.0, 0.0
+        ends = {it: max(1.0, pace * self.expected(it) + self.began[it.crate] - time.monotonic()) for it in self.running.values()}
+        left = list(self.left)
+        while True:
+            turn = self.schedule.next(left, ends)
+            if turn:
+                left.remove(turn.crate)
+                ends[turn] = now + pace * self.expected(turn)
+            elif ends:
+                first = min(ends, key=lambda it: ends[it])
+                now = ends.pop(first)
+            else:
+                return f"{max(1, round(now / 60))} min"
 
-    def end(self, name: str, was_proved: bool) -> None:
-        """Says that a crate is done with, and keeps how long it took, unless it was proved before."""
-        seconds = self.spent(name)
-        self.ended[name] = time.monotonic()
-        if was_proved:
-            how = "was proved before"
-        else:
-            last = f", {clock(self.last[name])} last time" if name in self.last else ""
-            how = f"is proved, in {clock(seconds)}{last}"
-            self.taken[name] = round(seconds, 1)
-            self.keep()
-        rest = f"about {self.minutes()} for the rest" if len(self.ended) < len(self.libraries) else "all are"
-        say(f"{name} {how}; {len(self.ended)} of {len(self.libraries)}, {rest}")
+    def begin(self, turn: Turn) -> None:
+        self.left.remove(turn.crate)
+        self.running[turn.crate], self.began[turn.crate] = turn, time.monotonic()
+
+    def again(self, crate: str) -> None:
+        """Says that a crate's check was ended from outside, and is to be made once more."""
+        self.left.append(crate)
+        del self.running[crate]
+        say(f"the check of {crate} was ended, most likely for want of memory; it is made once more, with nothing beside it")
+
+    def end(self, crate: str) -> None:
+        """Says that a crate is proved, and keeps how long it took."""
+        turn, took = self.running.pop(crate), time.monotonic() - self.began[crate]
+        self.thought += self.expected(turn)
+        last = f", {clock(self.last[crate])} last time" if crate in self.last else ""
+        self.taken[crate] = round(took, 1)
+        self.keep()
+        open_still = len(self.left) + len(self.running)
+        rest = f"about {self.minutes()} for the rest" if open_still else "all are"
+        say(f"{crate} is proved, in {clock(took)}{last}; {self.count - open_still} of {self.count}, {rest}")
 
     def keep(self) -> None:
         KEPT.parent.mkdir(exist_ok=True)

@@ -1,15 +1,15 @@
-"""A repository of some crates alone, without their wrong bodies, and what CI's judge, `rt ci`, says of it."""
+"""A repository of some crates alone, without their wrong bodies, what CI's judge, `rt ci`, says of it, and the program that is made there."""
 import os
 import pathlib
 import re
 import shutil
 import subprocess
-from typing import Iterator, List, Optional, Tuple
+from typing import Iterator, List, Optional
 
 from crates import TOP, libraries
 
 # What the judge says of a crate that it is done with.
-PROVED = re.compile(rb"rt: (\w+) (proved|is kept: )")
+PROVED = re.compile(rb"rt: (\w+) (?:proved|is kept: )")
 
 
 def lay_out(room: pathlib.Path, crates: List[str]) -> None:
@@ -23,10 +23,10 @@ def lay_out(room: pathlib.Path, crates: List[str]) -> None:
         shutil.copytree(TOP / "crates" / name, room / "crates" / name, ignore=shutil.ignore_patterns("out", "must-fail"))
 
 
-def proved(line: bytes) -> Optional[Tuple[str, bool]]:
-    """The crate that a line of the judge says is proved, and whether it was so before."""
+def proved(line: bytes) -> Optional[str]:
+    """The crate that a line of the judge says is proved, now or, by a kit that keeps proofs between runs, before."""
     found = PROVED.match(line)
-    return (found[1].decode(), found[2] != b"proved") if found else None
+    return found[1].decode() if found else None
 
 
 class Judge:
@@ -47,12 +47,20 @@ class Judge:
         self.status = judge.returncode
 
 
-def take(room: pathlib.Path, program: str, began: float) -> None:
-    """Puts a program where it is looked for, with the time at which its sources were copied: whole, and also where the one
-    before it is running."""
+def take(room: pathlib.Path, program: str, began: float, made_from: str = "") -> None:
+    """Puts a program where it is looked for, whole, and also where the one before it is running, with a sum of what it was
+    made from, and the time at which that was copied."""
     out = TOP / "crates" / program / "out"
     out.mkdir(exist_ok=True)
+    (out / f"{program}.sum").unlink(missing_ok=True)
     shutil.copy(room / "crates" / program / "out" / program, out / f"{program}.new")
     os.replace(out / f"{program}.new", out / program)
-    (out / f"{program}.ready").touch()
-    os.utime(out / f"{program}.ready", (began, began))
+    (out / f"{program}.sum").write_text(made_from, encoding="utf-8")
+    ready(program, began)
+
+
+def ready(program: str, since: float) -> None:
+    """Notes that the program is that of the sources that were there at this time."""
+    file = TOP / "crates" / program / "out" / f"{program}.ready"
+    file.touch()
+    os.utime(file, (since, since))

@@ -5,15 +5,15 @@ the prover checks these functions and what they call, and no more. A proof stand
 calls, and not on their bodies: so one wrong body can't have another refused. An edit is refused where the prover refuses
 a function that it turns, for a reason of that function's own, and not since one that it calls isn't proved. Whatever
 isn't seen to be refused so is tried alone: first by these functions, then by a check of the whole crate."""
-import functools
 import pathlib
 import re
 import shutil
 import subprocess
 import tempfile
-from typing import Iterator, List, NamedTuple, Optional, Sequence, Set, Tuple
+from typing import Dict, Iterator, List, NamedTuple, Optional, Sequence, Set, Tuple
 
-from crates import TOP, below, libraries, own_libraries
+import prover
+from crates import TOP
 
 # What a crate is made of.
 PARTS = ("src", "specs", "proofs")
@@ -111,12 +111,6 @@ def function_at(text: str, at: int, module: str) -> List[Function]:
     return []
 
 
-@functools.lru_cache(maxsize=None)
-def kit() -> pathlib.Path:
-    """The toolchain's folder: that of the page that its command names first."""
-    return pathlib.Path(subprocess.run(["rt", "doc"], stdout=subprocess.PIPE, check=True).stdout.decode().strip()).parent
-
-
 class Tried(NamedTuple):
     """What came of an edit: whether the prover refused it, and its words."""
 
@@ -126,21 +120,12 @@ class Tried(NamedTuple):
 
 
 class Trial:
-    """The wrong bodies of one crate, over the libraries that it stands on, which are built in the folders of `room`."""
+    """The wrong bodies of one crate, over the libraries that it stands on, each built in the folder that is named of it."""
 
-    def __init__(self, crate: str, edits: List[pathlib.Path], room: pathlib.Path) -> None:
-        self.crate, self.edits, toolchain = crate, edits, kit()
-        built = {it: room / "crates" / it / "out" / "rlib" for it in below(crate)}
-        root = "main.rt" if (TOP / "crates" / crate / "src" / "main.rt").exists() else "lib.rt"
-        own = own_libraries()[crate]
+    def __init__(self, crate: str, edits: List[pathlib.Path], built: Dict[str, pathlib.Path]) -> None:
+        self.crate, self.edits = crate, edits
         # (behind the proofs, for which most else waits)
-        self.words = ["nice", "-n19", str(toolchain / "bin" / "rattle"), "check", "--crate-name", crate, f"src/{root}", "-L", f"dependency={toolchain}/rlibs"]
-        for it in ["std", *(it for it in libraries()[crate] if it not in own)]:
-            self.words += ["--extern", f"{it}={toolchain}/rlibs/{it}.rlib"]
-        for it, folder in built.items():
-            self.words += ["--extern", f"{it}={folder}/{it}.rlib"] if it in own else []
-            self.words += ["-L", f"dependency={folder}"]
-        self.words += ["--antt-project", f"{toolchain}/rattle/logic/antt-project.json", "--logic-built", f"{toolchain}/logic_built", "--jobs", "1"]
+        self.words = ["nice", "-n19", *prover.words("check", crate, built), "--jobs", "1"]
 
     def tried(self) -> Iterator[Tried]:
         """Tries each edit, together where it can be."""

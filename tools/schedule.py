@@ -1,0 +1,92 @@
+"""Which crate is proved next, and by how many processors.
+
+How long all takes is decided by the longest row of crates that wait for one another. So of this row one crate at a time is
+proved by all processors that a check gains from, and in what it leaves of them, beside it, crates that the row can wait
+for: by one processor each, which costs least, and behind the first where both want one."""
+import os
+import pathlib
+import re
+from typing import Collection, Dict, List, NamedTuple, Optional
+
+# What more processors don't make faster, in shares of a check by one; and what each of them costs more.
+ALONE, DEARER = 0.18, 0.07
+# The most processors that a check gains from.
+MOST = 4
+# The memory that is free for a check by one processor, and for each further one: more than any here was seen to take.
+FIRST, FURTHER = 3.2e9, 0.8e9
+# The limit of the control group, and what it holds, in the two versions of Linux.
+GROUPS = (
+    ("/sys/fs/cgroup/memory.max", "/sys/fs/cgroup/memory.stat", r"anon (\d+)"),
+    ("/sys/fs/cgroup/memory/memory.limit_in_bytes", "/sys/fs/cgroup/memory/memory.stat", r"total_rss (\d+)"))
+
+
+class Turn(NamedTuple):
+    """A crate to be proved now, and by how many processors; `beside` the first of the row, behind which it stands back."""
+
+    crate: str
+    jobs: int
+    beside: bool = False
+
+    @property
+    def memory(self) -> float:
+        return FIRST + FURTHER * (self.jobs - 1)
+
+
+def number(path: str, form: str) -> Optional[int]:
+    """A number that a file of the system has, if it has one."""
+    try:
+        found = re.search(form, pathlib.Path(path).read_text(encoding="utf-8"))
+    except OSError:
+        return None
+    return int(found[1]) if found else None
+
+
+def free() -> float:
+    """The memory that can be used, in bytes."""
+    found = [1024.0 * (number("/proc/meminfo", r"MemAvailable:\s+(\d+)") or 0)]
+    for limit, held, form in GROUPS:
+        most, taken = number(limit, r"^(\d+)"), number(held, form)
+        found += [most - taken] if most is not None and taken is not None else []
+    return 0.85 * min(found)
+
+
+def processors() -> int:
+    """The processors to use: those that this may run on, or as many as RT_JOBS says."""
+    named = os.environ.get("RT_JOBS", "")
+    return max(1, int(named) if named.isdigit() else len(os.sched_getaffinity(0)))
+
+
+def seconds(work: float, jobs: int) -> float:
+    """How long a check takes by so many processors that takes this long by one."""
+    return work * (ALONE + (1 - ALONE) / jobs) * (1 + DEARER * (jobs - 1))
+
+
+class Schedule:
+    """The order for these crates, lowest first, by the libraries among them that each waits for and the seconds that each
+    takes by one processor."""
+
+    def __init__(self, libraries: Dict[str, List[str]], work: Dict[str, float], lanes: int, memory: float) -> None:
+        self.libraries, self.work, self.lanes, self.memory = libraries, work, lanes, memory
+        self.most = min(lanes, MOST)
+        # The longest row that begins with each.
+        self.row: Dict[str, float] = {}
+        for name in reversed(list(libraries)):
+            behind = [self.row[it] for it, those in libraries.items() if name in those]
+            self.row[name] = seconds(work[name], self.most) + max(behind, default=0.0)
+
+    def next(self, left: Collection[str], running: Collection[Turn], lone: Collection[str] = ()) -> Optional[Turn]:
+        """What begins now beside what is running, of the crates that are left; one that is `lone` is proved by itself, by
+        one processor."""
+        waited = {*left, *(it.crate for it in running)}
+        ready = sorted((it for it in left if not waited.intersection(self.libraries[it])), key=lambda it: -self.row[it])
+        room = self.memory - sum(it.memory for it in running)
+        if not ready or (running and (ready[0] in lone or any(it.crate in lone for it in running))):
+            return None
+        if not any(not it.beside for it in running):
+            jobs = 1 if ready[0] in lone else max(1, min(self.most, int(1 + (room - FIRST) / FURTHER)))
+            return Turn(ready[0], jobs) if not running or room >= FIRST else None
+        if len(running) >= self.lanes or room < FIRST:
+            return None
+        longest = max(self.row[it] for it in waited)
+        spare = (it for it in ready if it not in lone and self.work[it] <= longest - self.row[it])
+        return next((Turn(it, 1, beside=True) for it in spare), None)
