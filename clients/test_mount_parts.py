@@ -18,6 +18,7 @@ from legacy.documents import LARGE
 from legacy.mount import below, letters
 from legacy.mount.below import Place, Store, read_at
 from legacy.mount.sending import Content, Kept, Receiver, Sender
+from legacy.mount.snapshots import PART, SOME_LINES, Snapshot, Text, lines_of, own_text
 from legacy.rules import Rule
 from legacy.saving import Known, Refused
 from mounts import INDEXES, PROGRAM, PYTHON, has_pyfuse3
@@ -33,9 +34,10 @@ if HAS_PYFUSE3:
     from legacy.mount.reading import Reader
     from legacy.mount.refusals import Refusals
     from legacy.mount.saves import Saves
-    from legacy.mount.tree import ROOT
+    from legacy.mount.tree import ROOT, TRIES, Session
     from legacy.mount.view import Options, View
     from legacy.mount.waiting import Requests
+    from legacy.mount.written import LONG, Written
 
 
 @unittest.skipIf(HAS_PYFUSE3 or not PYTHON, "this interpreter has pyfuse3, or none has")
@@ -115,6 +117,22 @@ class Below(unittest.TestCase):
         with mock.patch.object(below, "signature", changed):
             found, content = below.steady(os.fsencode(self.folder / "f"))
         self.assertEqual((content, found), (b"two", signature((self.folder / "f").stat())))
+
+
+class Parts(unittest.TestCase):
+    """What is found out of a text part by part."""
+
+    def test_whether_bytes_are_their_own_text(self):
+        text = "あé\n".encode() * (PART // 3)
+        for raw, wanted in (text, True), (text + b"\xe3", False), (b"\xef\xbb\xbf" + text, False), (b"\xff" + text, False), (b"", True):
+            self.assertEqual(own_text(raw, "UTF-8"), wanted)
+
+    def test_the_lines_of_a_text(self):
+        few = [b"%d " % number + b"a" * (number % 1000) for number in range(SOME_LINES // 2)]
+        self.assertGreater(len(b"\n".join(few)), 3 * PART)
+        for it in b"\n".join(few), b"\n \n".join(few[1:] + few[:1]), b"\n" + b"\n".join(few) + b"\n":
+            self.assertTrue(lines_of(it) == set(few))
+        self.assertEqual((lines_of(b""), lines_of(b"\n\n")), (set(), set()))
 
 
 @unittest.skipUnless(HAS_PYFUSE3, "this interpreter has no pyfuse3 (Debian's python3-pyfuse3)")
@@ -223,6 +241,59 @@ class Loop(unittest.TestCase):
 
         trio.run(main)
         self.assertEqual(len(ended), 3)
+
+
+@unittest.skipUnless(HAS_PYFUSE3, "this interpreter has no pyfuse3 (Debian's python3-pyfuse3)")
+class Texts(unittest.TestCase):
+    """What programs make of a text."""
+
+    def session(self, size=1):
+        return Session(Snapshot(below.Signature(1, 2, 3, 4, 5), b"", "shift_jis", Text(b"a" * size, "Shift_JIS", 0)))
+
+    def test_it_is_written_cut_and_filled_as_a_file(self):
+        draw, text, wanted = random.Random(59), Written(b"begun"), bytearray(b"begun")
+        for _ in range(500):
+            at, part = draw.randrange(len(wanted) + 9), bytes(draw.choices(b"abc", k=draw.randrange(1, 30)))
+            if draw.randrange(5):
+                text.write(at, part)
+                wanted.extend(bytes(max(0, at - len(wanted))))
+                wanted[at : at + len(part)] = part
+            else:
+                text.truncate(at)
+                wanted = wanted[:at] + bytes(max(0, at - len(wanted)))
+            self.assertEqual((text.whole(), text.size, text.read(7, at)), (wanted, len(wanted), wanted[at : at + 7]))
+        text.close()
+        self.assertRaises(OSError, text.whole)
+
+    def test_what_is_written_while_a_long_one_is_made_is_in_it(self):
+        session = self.session(LONG + 1)
+
+        async def write(at):
+            await session.begin()
+            session.write(at, b"b")
+
+        async def all_at_once():
+            async with trio.open_nursery() as nursery:
+                for at in range(3):
+                    nursery.start_soon(write, 2 * at)
+
+        trio.run(all_at_once)
+        self.assertEqual(session.text().whole(), b"bababa" + b"a" * (LONG - 5))
+
+    def test_it_is_read_again_where_it_is_written_meanwhile_but_not_for_ever(self):
+        for writes, wanted in (0, 1), (1, 2), (TRIES + 9, TRIES + 1):
+            session, whole, read = self.session(LONG + 1), Written.whole, []
+
+            def meanwhile(text):
+                read.append(text)
+                found = whole(text)
+                if len(read) <= min(writes, TRIES):
+                    session.write(len(read), b"b")
+                return found
+
+            with mock.patch.object(Written, "whole", meanwhile):
+                version, content = trio.run(session.copied)
+            self.assertEqual((len(read), version, content), (wanted, session.version, session.text().whole()))
 
 
 @unittest.skipUnless(HAS_PYFUSE3, "this interpreter has no pyfuse3 (Debian's python3-pyfuse3)")
@@ -441,6 +512,37 @@ class InOrder(unittest.TestCase):
                     await call(ROOT, *words, context)
                 self.assertFalse(is_held(inode))
             self.assertEqual((held, closed, large.read_bytes()), ([True, True], [False, False], b"\xff"))
+
+        self.played(play)
+
+    def test_a_long_text_is_made_read_and_freed_by_threads(self):
+        async def play(path, operations, ino):
+            found, read, write, close = [], os.pread, os.pwrite, Written.close
+
+            def noted(what, size):
+                if size > LONG:
+                    found.append((what, threading.current_thread() is threading.main_thread()))
+
+            def pread(file, size, at):
+                noted("read", size)
+                return read(file, size, at)
+
+            def pwrite(file, content, at):
+                noted("made", len(content))
+                return write(file, content, at)
+
+            def ends(text):
+                noted("freed", text.size)
+                close(text)
+
+            path.write_bytes(b"a\n" * LONG)
+            handle = (await operations.open(ino, os.O_RDWR, mock.Mock(pid=1))).fh
+            with mock.patch("os.pread", pread), mock.patch("os.pwrite", pwrite), mock.patch.object(Written, "close", ends):
+                await operations.write(handle, 2, b"b")
+                await operations.flush(handle)
+                await operations.release(handle)
+            self.assertEqual(path.read_bytes(), b"a\nb\n" + b"a\n" * (LONG - 2))
+            self.assertEqual(found, [("made", False), ("read", False), ("freed", False)])
 
         self.played(play)
 

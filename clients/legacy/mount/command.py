@@ -192,14 +192,19 @@ async def serve_until(operations: "Operations", questions: "Questions", workers:
             questions.look_after()
             for_small.look_after()
             if workers.look_after():
-                with contextlib.suppress(OSError):  # (it is tried again where one is needed)
-                    workers.start()
+                await in_a_thread(workers.start)
 
     async def begun() -> None:
         await operations.mounted.wait()
         mounted()
-        workers.start()
+        for start in workers.start, questions.start:
+            await in_a_thread(start)
         await trio.to_thread.run_sync(cleared, operations.source, cancellable=True)
+
+    async def in_a_thread(start: Callable[[], None]) -> None:
+        # (to start a process may take long; where it can't be, that is tried again where one is needed)
+        with contextlib.suppress(OSError):
+            await trio.to_thread.run_sync(start)
 
     async with trio.open_nursery() as nursery:
         for task in ended_by_a_signal, looked_after, begun, *[operations.reader.ahead.serve] * AT_ONCE:

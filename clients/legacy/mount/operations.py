@@ -218,7 +218,7 @@ class Operations(pyfuse3.Operations):  # type: ignore[misc]
             return read_at(handle.descriptor, size, offset)
         written = handle.node.written
         if written is not None:
-            return bytes(written[offset : offset + size])
+            return written.read(size, offset)
         assert handle.node.shown
         return handle.node.shown.utf8[offset : offset + size]
 
@@ -229,6 +229,8 @@ class Operations(pyfuse3.Operations):  # type: ignore[misc]
             return os.pwrite(handle.descriptor, content, offset)
         if offset + len(content) > LARGEST_TEXT:
             raise FUSEError(errno.EFBIG)
+        if handle.node.session:
+            await handle.node.session.begin()
         session = handle.node.session
         assert session
         session.write(offset, content)
@@ -301,6 +303,8 @@ class Operations(pyfuse3.Operations):  # type: ignore[misc]
         alone = node.session is None
         if alone:
             await self.view.read_for(node, node.rule, True, ctx.pid)
+        if size and node.session:
+            await node.session.begin()
         if node.session is None:
             assert node.shown
             node.session = Session(node.shown)

@@ -93,6 +93,17 @@ class Questions:
         self._letters: Dict[str, Letters] = {}
         self.longest = SHORT
 
+    def start(self) -> None:
+        """Starts the processes, so that no question has to wait for that."""
+        while len(self._answering) < PROCESSES:
+            self._begun()
+
+    def _begun(self) -> Answering:
+        found = Answering(self._words)
+        self._answering.append(found)
+        self.longest = found.longest
+        return found
+
     @contextlib.asynccontextmanager
     async def _one(self) -> AsyncIterator[Answering]:
         """One of the processes, which is this question's alone."""
@@ -114,9 +125,7 @@ class Questions:
         while True:
             found = next((it for it in self._answering if not it.lock.locked()), None)
             if found is None and len(self._answering) < PROCESSES:
-                found = Answering(self._words)
-                self._answering.append(found)
-                self.longest = found.longest
+                found = self._begun()
             if found:
                 found.lock.acquire_nowait()
                 return found

@@ -3,7 +3,7 @@ import contextlib
 import errno
 import os
 import re
-from typing import Any, Callable, Dict, List, Set, Tuple
+from typing import Dict, List, Set, Tuple
 
 import trio
 
@@ -12,10 +12,9 @@ from legacy.mount.below import Signature, Source, settled, signature
 from legacy.mount.questions import Questions
 from legacy.mount.snapshots import LARGEST, Lengths, Past, Shelf, Sizes, Snapshot, Text, own_text
 from legacy.mount.workers import Workers
+from legacy.mount.written import LONG, in_thread_if
 from legacy.saving import Refused
 
-# Files up to here are read by the loop itself.
-SMALL = 1 << 18
 # What a file's text is read by, in the place of a label, that says of other files which charset they have.
 CHARSET_UTF_8 = "charset = utf-8"
 CHARSET = re.compile(rb"(?im)^([ \t]*charset[ \t]*[=:][ \t]*)[^\s#;]+")
@@ -51,7 +50,7 @@ class Reader:
 
     async def _read(self, path: bytes, found: Signature, label: str) -> Snapshot:
         fits(found.size)
-        found, raw = await self._in_thread_if(found.size > SMALL, self.source.read, path)
+        found, raw = await in_thread_if(found.size > LONG, self.source.read, path)
         snapshot = Snapshot(found, raw, label, None)
         snapshot.text = await self.text(snapshot)
         if settled(found):
@@ -85,7 +84,7 @@ class Reader:
         if label == CHARSET_UTF_8:
             return text_of_charset(raw)
         encoding = await self._questions.encoding(label)
-        if own_text(raw, encoding):
+        if await in_thread_if(len(raw) > LONG, own_text, raw, encoding):
             return Text(raw, encoding, 0)
         if len(raw) <= self._questions.longest:
             return await self._questions.text(raw, label)
@@ -109,7 +108,8 @@ class Reader:
         """How long the text of these bytes is, and how many errors it has."""
         if label == CHARSET_UTF_8:
             return Lengths(len(text_of_charset(raw).utf8), 0)
-        if own_text(raw, await self._questions.encoding(label)):
+        encoding = await self._questions.encoding(label)
+        if await in_thread_if(len(raw) > LONG, own_text, raw, encoding):
             return Lengths(len(raw), 0)
         if len(raw) <= self._questions.longest:
             return await self._questions.lengths(raw, label)
@@ -127,9 +127,6 @@ class Reader:
     async def encoding(self, label: str) -> str:
         """The name of the encoding that a label stands for."""
         return await self._questions.encoding(label)
-
-    async def _in_thread_if(self, long: bool, call: Callable[..., Any], *words: Any) -> Any:
-        return await trio.to_thread.run_sync(call, *words) if long else call(*words)
 
 
 def text_of_charset(raw: bytes) -> Text:

@@ -25,6 +25,7 @@ from legacy.mount.sending import Content
 from legacy.mount.snapshots import LARGEST, Snapshot, Text, lines_of, numbers, own_text
 from legacy.mount.tree import Handle, Node, Session, begun
 from legacy.mount.workers import Workers
+from legacy.mount.written import LONG, Written, in_thread_if
 from legacy.saving import Refused
 from legacy.rules import Rule
 
@@ -116,7 +117,8 @@ class Saves:
         path = node.was if node.path is None else node.path
         if session is None or not session.dirty or path is None or rule is None:
             return
-        version, content, began = session.version, bytes(session.text()), time.monotonic()
+        began = time.monotonic()
+        version, content = await session.copied()
         if version == session.refused:
             raise Refused(errno.EILSEQ, node.refusal)
         try:
@@ -126,7 +128,7 @@ class Saves:
             node.refusal = str(fault) if isinstance(fault, Refused) else os.strerror(fault.errno or errno.EIO)
             if fault.errno in (errno.EILSEQ, errno.EFBIG):
                 session.refused = version
-            self._refusals.reject(path, content, node.refusal, program_of(thread))
+            await in_thread_if(len(content) > LONG, self._refusals.reject, path, content, node.refusal, program_of(thread))
             raise
         text = await self._text_of(made.raw, content, rule.label)
         session.below = node.shown = Snapshot(stored, made.raw, rule.label, text, made.number)
@@ -135,7 +137,7 @@ class Saves:
         node.sent, node.below = stored, stored.inode
         if made.how != "unchanged":
             # (behind a refusal an editor may put back what was there)
-            self._refusals.accept(path, program_of(thread))
+            await in_thread_if(len(content) > LONG, self._refusals.accept, path, program_of(thread))
         log.info("%s: saved (%s), %.1f ms", shown(path), made.how, 1000 * (time.monotonic() - began))
 
     async def _made(self, path: bytes, rule: Rule, base: Optional[Snapshot], content: bytes, own: Sequence[Snapshot] = ()) -> Made:
@@ -149,7 +151,7 @@ class Saves:
         mark = getattr(rule, "mark", b"")
         if base is None:
             encoding = await self._reader.encoding(rule.label)
-            if not mark and own_text(content, encoding):
+            if not mark and await in_thread_if(len(content) > LONG, own_text, content, encoding):
                 return Made(content, "its own text", next(numbers))
             base = Snapshot(Signature(0, 0, 0, 0, 0), mark, rule.label, Text(b"", encoding, len(mark)))
         pool = [*self._reader.past.of(path, rule.label), *own]
@@ -209,6 +211,8 @@ class Saves:
             # What was refused is no part of the file, and the kernel has pages of it.
             node.sends_anew()
             await self._forget_pages(node.ino)
+        if session.data:
+            await in_thread_if(session.data.size > LONG, session.data.close)
 
     async def _put_back(self, node: Node) -> None:
         """A file that a program deleted in order to make it anew, by a text that was then refused, is as it was before."""
@@ -226,7 +230,7 @@ class Saves:
         for node in nodes:
             if node.session and node.session.dirty and node.path is not None:
                 thread = next((it.thread for it in node.handles if it.writes), 0)
-                content = bytes(node.session.text())
+                content = node.session.text().whole()
                 if content:
                     self._refusals.reject(node.path, content, "unmounted before the file was closed", program_of(thread))
 
@@ -249,7 +253,7 @@ class Saves:
                         break
                 stored = await self._write(goes, made.raw, base, found.modified, came)
             except Refused as refused:
-                self._refusals.reject(new, content, str(refused), program_of(thread))
+                await in_thread_if(len(content) > LONG, self._refusals.reject, new, content, str(refused), program_of(thread))
                 raise
             # (in a thread: the system frees its bytes)
             await trio.to_thread.run_sync(came.unlink)
@@ -257,13 +261,13 @@ class Saves:
             self._reader.past.put(new, base)
         text = await self._text_of(made.raw, content, rule.label)
         await self._becomes(node, rule, Snapshot(stored, made.raw, rule.label, text, made.number), base)
-        self._refusals.accept(new, program_of(thread))
+        await in_thread_if(len(content) > LONG, self._refusals.accept, new, program_of(thread))
         log.info("%s: saved by renaming %s (%s), %.1f ms", shown(new), shown(path), made.how, 1000 * (time.monotonic() - began))
 
     async def _content(self, node: Node, came: Place) -> bytes:
         """The text of what is renamed."""
         if node.session and node.session.data is not None:
-            return bytes(node.session.data)
+            return (await node.session.copied())[1]
         if node.rule:
             assert node.path is not None
             return (await self._reader.snapshot(node.path, node.rule.label)).utf8
@@ -289,7 +293,7 @@ class Saves:
         if node.session or node.writers:
             session = Session(now)
             session.base = base or now
-            session.data = bytearray(now.utf8)
+            session.data = Written(now.utf8)
             node.session = session
 
     async def _text_of(self, raw: bytes, content: bytes, label: str) -> Text:

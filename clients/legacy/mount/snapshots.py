@@ -1,4 +1,5 @@
 """What a file says: its bytes as they were read, and their text in UTF-8; and which of that is kept."""
+import codecs
 import collections
 import functools
 import itertools
@@ -14,6 +15,8 @@ LARGEST = 16_777_216
 KEPT = 64 << 20
 # How many lines of a text it is compared by, about.
 SOME_LINES = 4096
+# How many bytes are looked at by one call, about, during which no other thread goes on.
+PART = 1 << 18
 
 # What numbers contents.
 numbers = itertools.count()
@@ -62,18 +65,32 @@ class Snapshot:
 def own_text(raw: bytes, encoding: str) -> bool:
     """Whether bytes are their own text in UTF-8."""
     if encoding == "UTF-8":
+        decoder = codecs.getincrementaldecoder("utf-8")()
         try:
-            raw.decode()
+            for at in range(0, len(raw), PART):
+                decoder.decode(raw[at : at + PART])
+            decoder.decode(b"", final=True)
         except UnicodeDecodeError:
             return False
-        return not raw.startswith(b"\xef\xbb\xbf")
+        return not raw.startswith(codecs.BOM_UTF8)
     return plain(raw, encoding)
 
 
 def lines_of(utf8: bytes) -> FrozenSet[bytes]:
     """The lines of a text that have something in them; of a text of many lines some, chosen by what they are."""
-    mask = (1 << (utf8.count(b"\n") // SOME_LINES).bit_length()) - 1
-    return frozenset(line for line in utf8.split(b"\n") if line.strip() and not zlib.crc32(line) & mask)
+    feeds = sum(part.count(b"\n") for part in parts_of(utf8))
+    mask = (1 << (feeds // SOME_LINES).bit_length()) - 1
+    lines = itertools.chain.from_iterable(part.split(b"\n") for part in parts_of(utf8))
+    return frozenset(line for line in lines if line.strip() and not zlib.crc32(line) & mask)
+
+
+def parts_of(utf8: bytes) -> Iterator[bytes]:
+    """The text by parts of whole lines, so that whoever looks at them one by one lets other threads go on in between."""
+    at = 0
+    while at < len(utf8):
+        end = utf8.find(b"\n", at + PART) + 1 or len(utf8)
+        yield utf8[at:end]
+        at = end
 
 
 class Shelf:

@@ -7,12 +7,13 @@ import contextlib
 import os
 import stat
 import time
-from typing import AsyncIterator, Callable, Dict, List, Mapping, Optional, Set
+from typing import AsyncIterator, Callable, Dict, List, Mapping, Optional, Set, Tuple
 
 import trio
 
 from legacy.mount.below import Signature
 from legacy.mount.snapshots import Snapshot
+from legacy.mount.written import LONG, Written, in_thread_if
 from legacy.rules import Rule
 
 ROOT = 1
@@ -20,6 +21,8 @@ ROOT = 1
 EXACT = 1.0
 # The seconds for which a file that was made where nothing was, or written since, is taken for a temporary one.
 TEMPORARY = 60.0
+# How often a text is read by a thread, where others write it meanwhile, before the loop does it.
+TRIES = 4
 # The seconds after which the rule of a file that nobody has open is looked up anew.
 AGAIN = 0.5
 
@@ -30,7 +33,7 @@ class Session:
     def __init__(self, below: Snapshot):
         # What a new text is compared with, and the file below as it should be.
         self.base, self.below = below, below
-        self.data: Optional[bytearray] = None
+        self.data: Optional[Written] = None
         # Counts writes; which of them is saved, and behind which the text was refused for what it says.
         self.version, self.saved, self.refused = 0, 0, -1
         self.modified: Optional[int] = None
@@ -40,29 +43,38 @@ class Session:
         """Whether something was written that isn't saved."""
         return self.version != self.saved
 
-    def text(self) -> bytearray:
+    def text(self) -> Written:
         """The text as it was written."""
         if self.data is None:
-            self.data = bytearray(self.below.utf8)
+            self.data = Written(self.below.utf8)
         return self.data
+
+    async def begin(self) -> None:
+        """Has the text of the file below at hand, so that `text` needn't make it, where that takes long."""
+        if self.data is None and len(self.below.utf8) > LONG:
+            made = await trio.to_thread.run_sync(Written, self.below.utf8)
+            # (another write may have come meanwhile)
+            self.data = self.data or made
+
+    async def copied(self) -> Tuple[int, bytes]:
+        """The text as a whole, and behind which write that is; again where there is one meanwhile, but not for ever."""
+        for _ in range(TRIES):
+            version, text = self.version, self.text()
+            content: bytes = await in_thread_if(text.size > LONG, text.whole)
+            if version == self.version:
+                return version, content
+        return self.version, self.text().whole()
 
     def write(self, offset: int, content: bytes) -> None:
         """Puts bytes of UTF-8 somewhere."""
-        data = self.text()
-        if offset > len(data):
-            data.extend(bytes(offset - len(data)))
-        data[offset : offset + len(content)] = content
+        self.text().write(offset, content)
         self.changed()
 
     def truncate(self, size: int) -> None:
         """Cuts the text, or fills it with zeros."""
         if self.data is None:
-            self.data = bytearray(self.below.utf8[:size])
-        data = self.data
-        if size < len(data):
-            del data[size:]
-        else:
-            data.extend(bytes(size - len(data)))
+            self.data = Written(self.below.utf8[:size])
+        self.data.truncate(size)
         self.changed()
 
     def changed(self) -> None:
@@ -73,10 +85,10 @@ class Session:
     def whole(self) -> bool:
         """Whether this may be a text that is meant. A shell cuts a file, closes a copy of its handle, and only then starts
         programs that write, each of which closes one: what is empty, or ends inside a character, waits for the last."""
-        data = self.text()
-        if not data:
+        text = self.text()
+        if not text.size:
             return not self.base.raw
-        return not begun(bytes(data[-4:]))
+        return not begun(text.read(4, max(0, text.size - 4)))
 
 
 def begun(utf8: bytes) -> bytes:
@@ -146,7 +158,7 @@ class Node:
             it.fresh = None
 
     @property
-    def written(self) -> Optional[bytearray]:
+    def written(self) -> Optional[Written]:
         """The text as programs wrote it, where they wrote."""
         return self.session.data if self.session else None
 

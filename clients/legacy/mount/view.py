@@ -140,7 +140,7 @@ class View:
         session = node.session
         if session and session.data is not None:
             node.tell(session.below.signature)
-            return len(session.data), session.modified or found.st_mtime_ns, EXACT
+            return session.data.size, session.modified or found.st_mtime_ns, EXACT
         if node.shown and node.handles:
             node.tell(node.shown.signature)
             return len(node.shown.utf8), node.shown.signature.modified, EXACT
