@@ -52,6 +52,33 @@ impl Out {
     }
 }
 
+/// What takes the events of connections as a gateway does. `bring` is for all of them; so that what
+/// stands in a gateway's place can do more at an event, as record it.
+pub trait TakesEvents {
+    ghost use Rattle.std.specs.Prelude.{◌≡◌, None, Some, length, MatchResult, IfOk, OnErr};
+    ghost use Rattle.connections.specs.Events.{connections, happening, gate_fault, Happens};
+    ghost use Rattle.connections.specs.Traffic.{Traffic};
+
+    /// The desk and, for each connection that is open, the line that is begun.
+    ghost traffic: { Self → Traffic };
+
+    /// Takes one event, as `Gateway::event`.
+    fn event(&mut self, event: Event<'_>) -> Result<Out, GateFault>
+        ensures fault { MatchResult result (λ out. gate_fault (traffic self.old).lines (happening event.entry) ≡ None)
+            (λ fault. gate_fault (traffic self.old).lines (happening event.entry) ≡ Some fault) }
+        ensures refused { OnErr result (traffic self.new ≡ traffic self.old) }
+        ensures step { IfOk result (λ out. Happens (traffic self.old) (happening event.entry) out.taken out.reply (traffic self.new)) }
+        ensures count { length (traffic self.old).lines ≡ connections };
+}
+
+impl TakesEvents for Gateway<'_> {
+    ghost traffic = { λ gateway. gateway };
+
+    fn event(&mut self, event: Event<'_>) -> Result<Out, GateFault> {
+        Gateway::event(self, event)
+    }
+}
+
 /// A desk, and the connections over which lines come in. Contracts see the desk and, for each
 /// connection that is open, the line that is begun.
 pub struct Gateway<'i> {

@@ -8,7 +8,7 @@ ghost use Rattle.connections.specs.Traffic.{Received};
 ghost use Rattle.connections.specs.Serving.{RunGives, ends_of, read_failures_of, write_failures_of, IsReadUp};
 ghost use Rattle.connections.specs.Delivery.{IsOpen, WritesReply, Delivers, DeliversFront, Pumps, progress_ends_of};
 
-use crate::gateway::{Event, Gateway, Out};
+use crate::gateway::{Event, Gateway, Out, TakesEvents};
 use devices::{Failed, Feed, MOST_READS, Outlet, Progress, READ_BUFFER, law_slices, write_all};
 use line_protocol::ReplyLine;
 
@@ -179,10 +179,10 @@ fn deliver_line<W: Outlet>(
 /// Takes the bytes up to and with the first line feed, and none behind it: the next line is decided
 /// when the reply to this one has been written. For the crates above, which write replies of their
 /// own.
-pub fn bring(gateway: &mut Gateway<'_>, c: u8, bytes: &[u8]) -> Out
-    requires { IsOpen gateway.old c }
-    ensures step { Happens gateway.old (Bringing c bytes.now) result.taken result.reply gateway.new }
-    ensures count { length gateway.old.lines ≡ connections }
+pub fn bring<G: TakesEvents>(gateway: &mut G, c: u8, bytes: &[u8]) -> Out
+    requires { IsOpen (G.traffic gateway.old) c }
+    ensures step { Happens (G.traffic gateway.old) (Bringing c bytes.now) result.taken result.reply (G.traffic gateway.new) }
+    ensures count { length (G.traffic gateway.old).lines ≡ connections }
 {
     match gateway.event(Event::Bytes(c, bytes)) {
         Ok(out) => out,
