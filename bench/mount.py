@@ -1,5 +1,5 @@
 #!/usr/bin/env python3
-"""Measures `legacy mount` and prints a table: what each row took in seconds, of several rounds the fastest and the middle
+"""Measures `legacy mount` and prints a table: what each row took, of several rounds the fastest, the middle and the slowest
 one, and what it is to take at most; and, in the middle, the processor time of the process that answers the kernel, of those
 that decode and save beside it, each with a `gate`, and of the program.
 
@@ -50,10 +50,23 @@ BACK = {2: Row("taken back, 2 MiB", 0.25), 16: Row("taken back, 16 MiB", 1.5)}
 COLD = {2: Row("sed -i of a line in 2 MiB, not read before", 0.25), 16: Row("sed -i of a line in 16 MiB, not read before", 1.5)}
 WORD = Row("sed -i of a word in each line of 16 MiB", 10)
 BESIDE = "{call} of {where} beside a save of 16 MiB, the longest"
-PLACES = "the same folder", "another one"
+PLAIN = "{call} of {where} beside ten such saves without a mount, the longest"
+PLACES = {"the same folder": ".", "another one": "other"}
 CALLS: Dict[str, Callable[[pathlib.Path], object]] = {
     "ls": lambda path: os.listdir(path.parent), "stat": lambda path: path.stat(), "cat": lambda path: path.read_bytes()}
-LATEST = {(call, where): Row(BESIDE.format(call=call, where=where), 50, "ms") for where in PLACES for call in CALLS}
+LATEST, WITHOUT = ({(call, where): Row(words.format(call=call, where=where), 50, "ms") for where in PLACES for call in CALLS}
+                   for words in (BESIDE, PLAIN))
+# What the mount does with a file below, again and again.
+SAVES = """
+import os, sys
+from legacy.mount.below import Place, Store
+folder, name = os.path.split(os.fsencode(sys.argv[1]))
+place = Place(os.open(folder, os.O_PATH | os.O_DIRECTORY), name)
+with open(sys.argv[1], "rb") as file:
+    content = file.read()
+for _ in range(10):
+    Store(lambda: None, None, True).put(place, content)
+"""
 MEMORY = Row("memory of a process at most, in that save", 400, "MiB")
 
 
@@ -90,12 +103,12 @@ class Table:
 
     def lines(self) -> Iterator[str]:
         """The table."""
-        yield "| | asked | best | middle | answers | decodes and saves | program |"
-        yield "|---|---:|---:|---:|---:|---:|---:|"
+        yield "| | asked | best | middle | worst | answers | decodes and saves | program |"
+        yield "|---|---:|---:|---:|---:|---:|---:|---:|"
         for row, samples in self._of.items():
             values = [it.value for it in samples]
             digits = 2 if row.unit == "s" else 0
-            shown = [f"{it:.{digits}f} {row.unit}" for it in (min(values), statistics.median(values))]
+            shown = [f"{it:.{digits}f} {row.unit}" for it in (min(values), statistics.median(values), max(values))]
             times = [f"{statistics.median(it):.2f}" for it in zip(*((*it.mount, it.program) for it in samples))]
             yield f"| {row.name} | {row.most:g} {row.unit} | {' | '.join([*shown, *times])} |"
 
@@ -240,31 +253,45 @@ def replaced(table: Table, source: pathlib.Path, raw: bytes) -> None:
     table.add(MEMORY, Sample(max(size for _, size in found.values())))
 
 
+Waits = Dict[Tuple[str, str], float]
+
+
+def waits(saving: "subprocess.Popen[bytes]", top: pathlib.Path) -> Waits:
+    """The longest wait of each call in milliseconds, as long as a program saves."""
+    found = dict.fromkeys(LATEST, 0.0)
+    while saving.poll() is None:
+        for (call, where), worst in found.items():
+            began = time.monotonic()
+            CALLS[call](top / PLACES[where] / "small.txt")
+            found[call, where] = max(worst, 1000 * (time.monotonic() - began))
+        time.sleep(0.002)
+    if saving.returncode:
+        raise SystemExit(f"status {saving.returncode} of the program that saves")
+    return found
+
+
 def beside(table: Table, source: pathlib.Path, raw: bytes) -> None:
-    """The rows of what others wait for while a text is saved."""
+    """The rows of what others wait for while a text is saved, in the mount and without one."""
     path, number = source / "large.txt", b"%07d" % (raw.count(b"\n") // 2)
     path.write_bytes(raw)
-    (source / "other").mkdir(exist_ok=True)
-    places = dict(zip(PLACES, [source, source / "other"]))
-    for it in places.values():
-        (it / "small.txt").write_bytes(raw[:2000])
+    for it in PLACES.values():
+        (source / it).mkdir(exist_ok=True)
+        (source / it / "small.txt").write_bytes(raw[:2000])
     with mounted(source) as mount:
         text = (mount.point / path.name).read_bytes().replace(number, b"edited!")
         copy = mount.kept / "text"
         copy.write_bytes(text)
-        longest = dict.fromkeys(LATEST, 0.0)
         before = processor(mount.process.pid)
         with subprocess.Popen(["sh", "-c", 'cat "$0" > "$1"', copy, mount.point / path.name]) as saving:
-            while saving.poll() is None:
-                for (call, where), worst in longest.items():
-                    began = time.monotonic()
-                    CALLS[call](mount.point / places[where].relative_to(source) / "small.txt")
-                    longest[call, where] = max(worst, 1000 * (time.monotonic() - began))
-                time.sleep(0.002)
+            found = waits(saving, mount.point)
         took = processor(mount.process.pid).since(before)
         same(path, raw.replace(number, b"edited!"), "a save in place")
     for key, row in LATEST.items():
-        table.add(row, Sample(longest[key], took))
+        table.add(row, Sample(found[key], took))
+    with subprocess.Popen([sys.executable, "-c", SAVES, path], env={**os.environ, "PYTHONPATH": str(CLIENTS)}) as saving:
+        found = waits(saving, source)
+    for key, row in WITHOUT.items():
+        table.add(row, Sample(found[key]))
 
 
 def main() -> None:
@@ -303,7 +330,7 @@ def measure(top: pathlib.Path, rounds: int, files: int, only: Sequence[str]) -> 
                     edited(table, large, mega, raw, cold)
         if wanted(WORD, MEMORY):
             replaced(table, large, raws[16])
-        if wanted(*LATEST.values()):
+        if wanted(*LATEST.values(), *WITHOUT.values()):
             beside(table, large, raws[16])
     print("\n".join(table.lines()))
 
