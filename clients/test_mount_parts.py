@@ -5,6 +5,7 @@ import io
 import os
 import pathlib
 import random
+import resource
 import subprocess
 import sys
 import tempfile
@@ -23,6 +24,8 @@ from legacy.rules import Rule
 from legacy.saving import Known, Refused
 from mounts import INDEXES, PROGRAM, PYTHON, has_pyfuse3
 
+# More descriptors than select(2) knows.
+MANY = 1100
 HAS_PYFUSE3 = has_pyfuse3(sys.executable)
 if HAS_PYFUSE3:
     import trio
@@ -515,6 +518,25 @@ class InOrder(unittest.TestCase):
 
         self.played(play)
 
+    def test_a_file_whose_text_can_t_be_held_is_not_open(self):
+        async def play(path, operations, ino):
+            context, cut = mock.Mock(pid=1), mock.Mock(st_size=0)
+            sizes = mock.Mock(update_size=True)
+            failing = OSError(errno.EMFILE, "")
+            for call, words in (operations.open, (ino, os.O_WRONLY | os.O_TRUNC, context)), (operations.setattr, (ino, cut, sizes, None, context)):
+                with mock.patch("os.memfd_create", side_effect=failing), self.assertRaises(FUSEError) as caught:
+                    await call(*words)
+                self.assertEqual(caught.exception.errno, errno.EMFILE)
+            # Whoever comes later saves over what is there by then.
+            path.write_bytes(b"a\xff")
+            handle = (await operations.open(ino, os.O_WRONLY | os.O_TRUNC, context)).fh
+            await operations.write(handle, 0, "b\ufffd".encode())
+            await operations.flush(handle)
+            await operations.release(handle)
+            self.assertEqual((path.read_bytes(), operations.tree.nodes[ino].session), (b"b\xff", None))
+
+        self.played(play)
+
     def test_a_long_text_is_made_read_and_freed_by_threads(self):
         async def play(path, operations, ino):
             found, read, write, close = [], os.pread, os.pwrite, Written.close
@@ -584,6 +606,19 @@ class Idle(unittest.TestCase):
                 self.assertEqual(tuple(found.do("lengths", b"a\xff", "shift_jis")), (4, 1))
                 self.assertTrue(found.look_after())
                 self.assertFalse(found.look_after())
+
+    def test_one_is_asked_where_many_descriptors_are_open(self):
+        before = resource.getrlimit(resource.RLIMIT_NOFILE)
+        if before[1] < MANY + 100:
+            self.skipTest("this user can't open so many")
+        self.addCleanup(resource.setrlimit, resource.RLIMIT_NOFILE, before)
+        resource.setrlimit(resource.RLIMIT_NOFILE, (before[1], before[1]))
+        with contextlib.ExitStack() as held:
+            for _ in range(MANY):
+                held.enter_context(open(os.devnull, "rb"))
+            found = workers.Workers([PROGRAM, "stdio", "--indexes", str(INDEXES)])
+            held.callback(found.close)
+            self.assertEqual(tuple(found.do("lengths", b"a\xff", "shift_jis")), (4, 1))
 
 
 STAND_IN = """#!{python}

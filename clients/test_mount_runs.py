@@ -168,6 +168,16 @@ class Runs(unittest.TestCase):
         self.assertEqual(outcome, [None])
         self.assertEqual((mount.source / "f.sj").read_bytes(), EDITED)
 
+    def test_more_files_are_written_at_once_than_a_program_may_have_open(self):
+        mount = self.mounted(before=["sh", "-c", 'ulimit -Sn 40; exec "$@"', "sh"])
+        names = [f"{number}.sj" for number in range(100)]
+        with contextlib.ExitStack() as held:
+            for it in names:
+                held.enter_context(open(mount.point / it, "wb", buffering=0)).write("あ".encode())
+            self.assertEqual(sorted(os.listdir(mount.point)), sorted(names))
+        for it in names:
+            self.assertEqual((mount.source / it).read_bytes(), b"\x82\xa0")
+
     def test_a_refusal_is_a_note_on_the_desktop(self):
         folder = pathlib.Path(tempfile.mkdtemp())
         self.addCleanup(shutil.rmtree, folder)

@@ -6,6 +6,7 @@ import logging
 import logging.handlers
 import os
 import pathlib
+import resource
 import signal
 import sys
 from typing import TYPE_CHECKING, Callable, List, Set
@@ -127,6 +128,9 @@ def serve(words: argparse.Namespace, found: Found, mounted: Callable[[], None]) 
     shorten()
     os.umask(0)
     sys.setswitchinterval(0.001)
+    # (a file that programs write has a descriptor here)
+    most = resource.getrlimit(resource.RLIMIT_NOFILE)[1]
+    resource.setrlimit(resource.RLIMIT_NOFILE, (most, most))
     source = Source(os.fsencode(words.source))
     rules = rules_from(words, source.descriptor, found.labels, log.warning)
     questions, workers, for_small = Questions(found.words()), Workers(found.words()), Workers(found.words(), AT_ONCE)

@@ -162,21 +162,20 @@ class Operations(pyfuse3.Operations):  # type: ignore[misc]
             descriptor = os.open(self.view.below(node), flags & ~NOT_BELOW | os.O_CLOEXEC)
             return pyfuse3.FileInfo(fh=self.opened(node, descriptor, writes, ctx))
         await self.view.read_for(node, node.rule, writes, ctx.pid)
-        current = node.shown.signature if node.shown else None
+        current, written = node.shown.signature if node.shown else None, node.written
+        if writes:
+            session = node.writing()
+            if flags & os.O_TRUNC:
+                session.truncate(0)
+            node.session = session
         info = pyfuse3.FileInfo(fh=self.opened(node, None, writes, ctx))
-        info.keep_cache = node.written is None and node.sent == current
+        info.keep_cache = written is None and node.sent == current
         if not info.keep_cache:
             # (another opening may be answered and through before this one, which is to drop the pages)
-            node.sent, self.handles[info.fh].fresh = None, current if node.written is None else None
+            node.sent, self.handles[info.fh].fresh = None, current if written is None else None
         if node.misled(current):
             with contextlib.suppress(OSError):  # (where the kernel has forgotten it)
                 pyfuse3.invalidate_inode(ino, attr_only=True)
-        if writes:
-            if node.session is None:
-                assert node.shown
-                node.session = Session(node.shown)
-            if flags & os.O_TRUNC:
-                node.session.truncate(0)
         return info
 
     @guarded
@@ -305,10 +304,9 @@ class Operations(pyfuse3.Operations):  # type: ignore[misc]
             await self.view.read_for(node, node.rule, True, ctx.pid)
         if size and node.session:
             await node.session.begin()
-        if node.session is None:
-            assert node.shown
-            node.session = Session(node.shown)
-        node.session.truncate(size)
+        session = node.writing()
+        session.truncate(size)
+        node.session = session
         if alone and not node.writers:
             try:
                 await self.saves.commit(node, ctx.pid)

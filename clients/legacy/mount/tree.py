@@ -157,6 +157,13 @@ class Node:
         for it in self.handles:
             it.fresh = None
 
+    def writing(self) -> Session:
+        """What programs make of its text, or a new one, which is the inode's only once nothing can fail any more."""
+        if self.session:
+            return self.session
+        assert self.shown
+        return Session(self.shown)
+
     @property
     def written(self) -> Optional[Written]:
         """The text as programs wrote it, where they wrote."""

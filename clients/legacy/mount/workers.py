@@ -40,6 +40,9 @@ class Worker:
         for pipe in self._process.stdin, self._process.stdout:
             with contextlib.suppress(OSError):
                 fcntl.fcntl(pipe.fileno() if pipe else -1, SET_ROOM, ROOM)
+        # (which has no bound for the number of a descriptor, as select has)
+        self._comes = select.poll()
+        self._comes.register(self._process.stdout or -1, select.POLLIN)
         self.since, self.used = time.monotonic(), False
         # The numbers of the contents that it keeps.
         self._kept: Set[int] = set()
@@ -52,7 +55,7 @@ class Worker:
         try:
             Sender(to, self._kept).dump((name, given))
             to.flush()
-            if not select.select([come], [], [], PATIENCE)[0]:
+            if not self._comes.poll(1000 * PATIENCE):
                 self._process.kill()
             outcome, found, self._kept = pickle.load(come)
         except (OSError, EOFError, pickle.UnpicklingError) as fault:

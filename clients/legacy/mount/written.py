@@ -14,6 +14,8 @@ LONG = 1 << 18
 class Written:
     """A text in UTF-8 that programs write anywhere."""
 
+    _file = -1
+
     def __init__(self, utf8: bytes = b""):
         self._file = os.memfd_create("legacy-text")
         self.size = 0
