@@ -1,8 +1,12 @@
 pub mod ChangeLists
 mod DroppedLines
+mod FlatLookups
+mod FlatTexts
+mod FlatTokens
 mod Listing
 mod MemoryReplies
 pub mod Merging
+mod PlainRuns
 mod PlainText
 mod Prelude
 mod SentLines

@@ -1,4 +1,6 @@
+pub mod Flat
 pub mod Inline
+pub mod Parsed
 pub mod Replies
 pub mod Request
 pub mod Step

@@ -4,10 +4,15 @@ mod change_list;
 mod commands;
 mod field;
 mod fields;
+mod flat;
+mod parsed;
 mod read;
 mod refusal;
 
 pub use commands::parse_request;
+pub(crate) use commands::request_in;
 pub use field::Field;
+pub(crate) use flat::flat_object;
+pub(crate) use parsed::Parsed;
 pub use read::read_json;
 pub use refusal::Refusal;

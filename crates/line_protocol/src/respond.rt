@@ -1,14 +1,13 @@
 //! One complete line: its request, and its reply.
 ghost use Rattle.std.specs.Prelude.{◌≡◌, ◌+◌, ℕ, List, length, min};
-ghost use Rattle.serde_json.specs.View.{view};
 ghost use Rattle.desk.specs.Desk.{Office};
+ghost use Rattle.line_protocol.specs.Parsed.{parsed_data};
 ghost use Rattle.line_protocol.specs.Request.{request_of};
 ghost use Rattle.line_protocol.specs.Step.{Replies, IsStep, line_limit, step_by};
 
 use crate::reply_line::ReplyLine;
-use crate::request::{Refusal, parse_request, read_json};
+use crate::request::{Parsed, Refusal, flat_object, read_json, request_in};
 use desk::Desk;
-use serde_json::Value;
 use std::alloc::Global;
 
 /// The most bytes of a line, its line feed left out.
@@ -21,17 +20,20 @@ pub fn reply_to(desk: &mut Desk<'_>, alloc: Global, line: &[u8]) -> ReplyLine
     if line.len() > LINE_LIMIT {
         return ReplyLine::refused(Refusal::LineTooLong);
     }
+    if let Some(object) = flat_object(line) {
+        return answer(desk, alloc, Parsed::Flat(&object));
+    }
     match read_json(alloc, line) {
-        Ok(value) => answer(desk, alloc, &value),
+        Ok(value) => answer(desk, alloc, Parsed::Tree(&value)),
         Err(refusal) => ReplyLine::refused(refusal),
     }
 }
 
 /// Answers the request in a JSON value.
-fn answer(desk: &mut Desk<'_>, alloc: Global, value: &Value) -> ReplyLine
-    ensures { IsStep desk.old (step_by desk.old (request_of (view value.now))) result desk.new }
+fn answer(desk: &mut Desk<'_>, alloc: Global, value: Parsed<'_>) -> ReplyLine
+    ensures { IsStep desk.old (step_by desk.old (request_of (parsed_data value.entry))) result desk.new }
 {
-    match parse_request(alloc, value) {
+    match request_in(alloc, value) {
         Ok((id, command)) => {
             let reply = desk.answer(&command);
             match ReplyLine::of(alloc, id, &reply) {

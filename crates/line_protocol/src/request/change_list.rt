@@ -2,9 +2,11 @@
 ghost use Rattle.std.specs.Prelude.{◌≡◌, option_map, IfOk, map};
 ghost use Rattle.serde_json.specs.View.{view, items_view};
 ghost use Rattle.desk.specs.Commands.{change_of};
+ghost use Rattle.line_protocol.specs.Parsed.{parsed_data};
 ghost use Rattle.line_protocol.specs.Request.{as_change, as_changes, changes_at};
 
 use crate::request::fields;
+use crate::request::parsed::Parsed;
 use desk::ops::ContentChange;
 use serde_json::Value;
 use std::alloc::{AllocError, Global};
@@ -20,11 +22,11 @@ const MAX_CHANGES: usize = 1_000;
 #[tactic(auto, using(crate::proofs::ChangeLists::len_viewed))]
 pub(super) fn change_list(
     alloc: Global,
-    value: &Value,
+    value: Parsed<'_>,
 ) -> Result<Option<Vec<ContentChange<'_>>>, AllocError>
-    ensures { IfOk result (λ found. option_map (λ list. map change_of list.items) found ≡ changes_at (view value.now)) }
+    ensures { IfOk result (λ found. option_map (λ list. map change_of list.items) found ≡ changes_at (parsed_data value.entry)) }
 {
-    let Some(elements) = value.get("changes").and_then(Value::as_array) else {
+    let Some(elements) = value.get("changes").and_then(Parsed::as_array) else {
         return Ok(None);
     };
     if elements.len() > MAX_CHANGES {
@@ -51,6 +53,7 @@ fn each(alloc: Global, elements: &[Value]) -> Result<Option<Vec<ContentChange<'_
 fn content_change(value: &Value) -> Option<ContentChange<'_>>
     ensures { option_map change_of result ≡ as_change (view value.now) }
 {
+    let value = Parsed::Tree(value);
     let range = fields::range(value)?;
     let text = fields::text(value, "text")?;
     Some(ContentChange { range, text })

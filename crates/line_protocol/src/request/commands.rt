@@ -2,12 +2,14 @@
 ghost use Rattle.std.specs.Prelude.{◌≡◌, map, option_map};
 ghost use Rattle.serde_json.specs.View.{view};
 ghost use Rattle.desk.specs.Commands.{change_of};
+ghost use Rattle.line_protocol.specs.Parsed.{parsed_data};
 ghost use Rattle.line_protocol.specs.Request.{changes_at, open_command, close_command, splice_command, change_command, text_command, source_command, encode_command, errors_command, diagnostics_command, lines_command, position_command, offset_command, place_command, since_command, stat_command, changes_command, plan_command, request_of, command_asked, IsRequest};
 ghost use Rattle.line_protocol.specs.declared.request.refusal.Refusal.TheVariants.{BadRequest};
 
 use crate::request::change_list::change_list;
 use crate::request::field::Field;
 use crate::request::fields;
+use crate::request::parsed::Parsed;
 use crate::request::refusal::Refusal;
 use desk::ops::{self, ContentChange};
 use desk::{Command, MAX_NUMBER};
@@ -35,6 +37,13 @@ macro_rules! need {
 /// `OutOfMemory` for a list.
 pub fn parse_request(alloc: Global, value: &Value) -> Result<(u64, Command<'_>), Refusal>
     ensures { IsRequest (view value.now) result }
+{
+    request_in(alloc, Parsed::Tree(value))
+}
+
+/// The same of a value that was read in either way.
+pub(crate) fn request_in(alloc: Global, value: Parsed<'_>) -> Result<(u64, Command<'_>), Refusal>
+    ensures { IsRequest (parsed_data value.entry) result }
 {
     if !value.is_object() {
         return Err(bad(None, Field::Object));
@@ -78,8 +87,8 @@ fn bad(id: Option<u64>, field: Field) -> Refusal
 }
 
 /// The command `open`, or the first faulty field.
-fn open(value: &Value) -> Result<Command<'_>, Field>
-    ensures { command_asked result ≡ open_command (view value.now) }
+fn open(value: Parsed<'_>) -> Result<Command<'_>, Field>
+    ensures { command_asked result ≡ open_command (parsed_data value.entry) }
 {
     let doc = need!(Field::Doc, fields::name(value));
     let label = need!(Field::Label, fields::text(value, "label"));
@@ -94,16 +103,16 @@ fn open(value: &Value) -> Result<Command<'_>, Field>
 }
 
 /// The command `close`, or the first faulty field.
-fn close(value: &Value) -> Result<Command<'_>, Field>
-    ensures { command_asked result ≡ close_command (view value.now) }
+fn close(value: Parsed<'_>) -> Result<Command<'_>, Field>
+    ensures { command_asked result ≡ close_command (parsed_data value.entry) }
 {
     let doc = need!(Field::Doc, fields::name(value));
     Ok(Command::Close(ops::Close { doc }))
 }
 
 /// The command `splice`, or the first faulty field.
-fn splice(value: &Value) -> Result<Command<'_>, Field>
-    ensures { command_asked result ≡ splice_command (view value.now) }
+fn splice(value: Parsed<'_>) -> Result<Command<'_>, Field>
+    ensures { command_asked result ≡ splice_command (parsed_data value.entry) }
 {
     let doc = need!(Field::Doc, fields::name(value));
     let rev = need!(Field::Rev, fields::number(value, "rev", MAX_NUMBER));
@@ -120,8 +129,8 @@ fn splice(value: &Value) -> Result<Command<'_>, Field>
 }
 
 /// The command `change`, or the first faulty field.
-fn change(value: &Value) -> Result<Command<'_>, Field>
-    ensures { command_asked result ≡ change_command (view value.now) }
+fn change(value: Parsed<'_>) -> Result<Command<'_>, Field>
+    ensures { command_asked result ≡ change_command (parsed_data value.entry) }
 {
     let doc = need!(Field::Doc, fields::name(value));
     let rev = need!(Field::Rev, fields::number(value, "rev", MAX_NUMBER));
@@ -139,9 +148,12 @@ fn change(value: &Value) -> Result<Command<'_>, Field>
 
 /// The command `changes`, or the first faulty field. The list of changes was read before, since it
 /// takes memory; it is none where it is faulty.
-fn changes<'a>(value: &'a Value, list: Option<Vec<ContentChange<'a>>>) -> Result<Command<'a>, Field>
-    requires { option_map (λ list. map change_of list.items) list ≡ changes_at (view value.now) }
-    ensures { command_asked result ≡ changes_command (view value.now) }
+fn changes<'a>(
+    value: Parsed<'a>,
+    list: Option<Vec<ContentChange<'a>>>,
+) -> Result<Command<'a>, Field>
+    requires { option_map (λ list. map change_of list.items) list ≡ changes_at (parsed_data value) }
+    ensures { command_asked result ≡ changes_command (parsed_data value.entry) }
 {
     let doc = need!(Field::Doc, fields::name(value));
     let rev = need!(Field::Rev, fields::number(value, "rev", MAX_NUMBER));
@@ -156,8 +168,8 @@ fn changes<'a>(value: &'a Value, list: Option<Vec<ContentChange<'a>>>) -> Result
 }
 
 /// The command `plan`, or the first faulty field.
-fn plan(value: &Value) -> Result<Command<'_>, Field>
-    ensures { command_asked result ≡ plan_command (view value.now) }
+fn plan(value: Parsed<'_>) -> Result<Command<'_>, Field>
+    ensures { command_asked result ≡ plan_command (parsed_data value.entry) }
 {
     let doc = need!(Field::Doc, fields::name(value));
     let unit = need!(Field::Unit, fields::unit(value));
@@ -172,8 +184,8 @@ fn plan(value: &Value) -> Result<Command<'_>, Field>
 }
 
 /// The command `text`, or the first faulty field.
-fn text(value: &Value) -> Result<Command<'_>, Field>
-    ensures { command_asked result ≡ text_command (view value.now) }
+fn text(value: Parsed<'_>) -> Result<Command<'_>, Field>
+    ensures { command_asked result ≡ text_command (parsed_data value.entry) }
 {
     let doc = need!(Field::Doc, fields::name(value));
     let from = need!(Field::From, fields::number(value, "from", MAX_NUMBER));
@@ -188,8 +200,8 @@ fn text(value: &Value) -> Result<Command<'_>, Field>
 }
 
 /// The command `source`, or the first faulty field.
-fn source(value: &Value) -> Result<Command<'_>, Field>
-    ensures { command_asked result ≡ source_command (view value.now) }
+fn source(value: Parsed<'_>) -> Result<Command<'_>, Field>
+    ensures { command_asked result ≡ source_command (parsed_data value.entry) }
 {
     let doc = need!(Field::Doc, fields::name(value));
     let at = need!(Field::At, fields::number(value, "at", MAX_NUMBER));
@@ -198,8 +210,8 @@ fn source(value: &Value) -> Result<Command<'_>, Field>
 }
 
 /// The command `encode`, or the first faulty field.
-fn encode(value: &Value) -> Result<Command<'_>, Field>
-    ensures { command_asked result ≡ encode_command (view value.now) }
+fn encode(value: Parsed<'_>) -> Result<Command<'_>, Field>
+    ensures { command_asked result ≡ encode_command (parsed_data value.entry) }
 {
     let doc = need!(Field::Doc, fields::name(value));
     let from = need!(Field::From, fields::number(value, "from", MAX_NUMBER));
@@ -216,8 +228,8 @@ fn encode(value: &Value) -> Result<Command<'_>, Field>
 }
 
 /// The command `errors`, or the first faulty field.
-fn errors(value: &Value) -> Result<Command<'_>, Field>
-    ensures { command_asked result ≡ errors_command (view value.now) }
+fn errors(value: Parsed<'_>) -> Result<Command<'_>, Field>
+    ensures { command_asked result ≡ errors_command (parsed_data value.entry) }
 {
     let doc = need!(Field::Doc, fields::name(value));
     let from = need!(Field::From, fields::number(value, "from", MAX_NUMBER));
@@ -226,8 +238,8 @@ fn errors(value: &Value) -> Result<Command<'_>, Field>
 }
 
 /// The command `diagnostics`, or the first faulty field.
-fn diagnostics(value: &Value) -> Result<Command<'_>, Field>
-    ensures { command_asked result ≡ diagnostics_command (view value.now) }
+fn diagnostics(value: Parsed<'_>) -> Result<Command<'_>, Field>
+    ensures { command_asked result ≡ diagnostics_command (parsed_data value.entry) }
 {
     let doc = need!(Field::Doc, fields::name(value));
     let start = fields::page_start(value)?;
@@ -242,8 +254,8 @@ fn diagnostics(value: &Value) -> Result<Command<'_>, Field>
 }
 
 /// The command `lines`, or the first faulty field.
-fn lines(value: &Value) -> Result<Command<'_>, Field>
-    ensures { command_asked result ≡ lines_command (view value.now) }
+fn lines(value: Parsed<'_>) -> Result<Command<'_>, Field>
+    ensures { command_asked result ≡ lines_command (parsed_data value.entry) }
 {
     let doc = need!(Field::Doc, fields::name(value));
     let from = need!(Field::From, fields::number(value, "from", MAX_NUMBER));
@@ -252,8 +264,8 @@ fn lines(value: &Value) -> Result<Command<'_>, Field>
 }
 
 /// The command `position`, or the first faulty field.
-fn position(value: &Value) -> Result<Command<'_>, Field>
-    ensures { command_asked result ≡ position_command (view value.now) }
+fn position(value: Parsed<'_>) -> Result<Command<'_>, Field>
+    ensures { command_asked result ≡ position_command (parsed_data value.entry) }
 {
     let doc = need!(Field::Doc, fields::name(value));
     let offset = need!(Field::Offset, fields::number(value, "offset", MAX_NUMBER));
@@ -262,8 +274,8 @@ fn position(value: &Value) -> Result<Command<'_>, Field>
 }
 
 /// The command `offset`, or the first faulty field.
-fn offset(value: &Value) -> Result<Command<'_>, Field>
-    ensures { command_asked result ≡ offset_command (view value.now) }
+fn offset(value: Parsed<'_>) -> Result<Command<'_>, Field>
+    ensures { command_asked result ≡ offset_command (parsed_data value.entry) }
 {
     let doc = need!(Field::Doc, fields::name(value));
     let line = need!(Field::Line, fields::number(value, "line", MAX_NUMBER));
@@ -281,8 +293,8 @@ fn offset(value: &Value) -> Result<Command<'_>, Field>
 }
 
 /// The command `place`, or the first faulty field.
-fn place(value: &Value) -> Result<Command<'_>, Field>
-    ensures { command_asked result ≡ place_command (view value.now) }
+fn place(value: Parsed<'_>) -> Result<Command<'_>, Field>
+    ensures { command_asked result ≡ place_command (parsed_data value.entry) }
 {
     let doc = need!(Field::Doc, fields::name(value));
     let unit = need!(Field::Unit, fields::place_unit(value));
@@ -295,8 +307,8 @@ fn place(value: &Value) -> Result<Command<'_>, Field>
 }
 
 /// The command `since`, or the first faulty field.
-fn since(value: &Value) -> Result<Command<'_>, Field>
-    ensures { command_asked result ≡ since_command (view value.now) }
+fn since(value: Parsed<'_>) -> Result<Command<'_>, Field>
+    ensures { command_asked result ≡ since_command (parsed_data value.entry) }
 {
     let doc = need!(Field::Doc, fields::name(value));
     let rev = need!(Field::Rev, fields::number(value, "rev", MAX_NUMBER));
@@ -305,8 +317,8 @@ fn since(value: &Value) -> Result<Command<'_>, Field>
 }
 
 /// The command `stat`, or the first faulty field.
-fn stat(value: &Value) -> Result<Command<'_>, Field>
-    ensures { command_asked result ≡ stat_command (view value.now) }
+fn stat(value: Parsed<'_>) -> Result<Command<'_>, Field>
+    ensures { command_asked result ≡ stat_command (parsed_data value.entry) }
 {
     let doc = need!(Field::Doc, fields::name(value));
     Ok(Command::Stat(ops::Stat { doc }))

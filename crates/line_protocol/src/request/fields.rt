@@ -1,36 +1,36 @@
 //! The fields of an object, each by its kind. An absent field and one of another kind are alike.
 ghost use Rattle.std.specs.Prelude.{◌≡◌, option_map};
-ghost use Rattle.serde_json.specs.View.{view};
+ghost use Rattle.line_protocol.specs.Parsed.{parsed_data};
 ghost use Rattle.line_protocol.specs.Request.{number_at, text_at, name_at, bom_at, text_mode_at, encode_mode_at, as_unit, unit_at, optional_unit_at, place_unit_at, page_start_at, position_at, range_at};
 
 use crate::request::field::Field;
+use crate::request::parsed::Parsed;
 use desk::{MAX_NUMBER, PageStart, PlaceUnit, TextMode};
 use enc_names::Bom;
 use encoders::EncodeMode;
 use position_map::{Position, Range, Unit};
-use serde_json::Value;
 
 /// The most bytes of a document's name.
 const MAX_NAME_LEN: usize = 64;
 
 /// A whole number up to `most`, written without fraction, exponent or minus sign.
-pub(super) fn number(value: &Value, name: &str, most: u64) -> Option<u64>
-    ensures { result ≡ number_at (view value.now) name.now most }
+pub(super) fn number(value: Parsed<'_>, name: &str, most: u64) -> Option<u64>
+    ensures { result ≡ number_at (parsed_data value.entry) name.now most }
 {
-    let number = value.get(name).and_then(Value::as_u64)?;
+    let number = value.get(name)?.as_u64()?;
     if number <= most { Some(number) } else { None }
 }
 
 /// A text.
-pub(super) fn text<'a>(value: &'a Value, name: &str) -> Option<&'a str>
-    ensures { option_map (λ t. t.now) result ≡ text_at (view value.now) name.now }
+pub(super) fn text<'a>(value: Parsed<'a>, name: &str) -> Option<&'a str>
+    ensures { option_map (λ t. t.now) result ≡ text_at (parsed_data value.entry) name.now }
 {
-    value.get(name).and_then(Value::as_str)
+    value.get(name)?.as_str()
 }
 
 /// The name of a document: a text of 1 to 64 bytes.
-pub(super) fn name(value: &Value) -> Option<&str>
-    ensures { option_map (λ t. t.now) result ≡ name_at (view value.now) }
+pub(super) fn name(value: Parsed<'_>) -> Option<&str>
+    ensures { option_map (λ t. t.now) result ≡ name_at (parsed_data value.entry) }
 {
     let name = text(value, "doc")?;
     if name.is_empty() || name.len() > MAX_NAME_LEN {
@@ -40,8 +40,8 @@ pub(super) fn name(value: &Value) -> Option<&str>
 }
 
 /// What becomes of a byte order mark, which is looked for where the field is absent.
-pub(super) fn bom(value: &Value) -> Option<Bom>
-    ensures { result ≡ bom_at (view value.now) }
+pub(super) fn bom(value: Parsed<'_>) -> Option<Bom>
+    ensures { result ≡ bom_at (parsed_data value.entry) }
 {
     let Some(bom) = value.get("bom") else {
         return Some(Bom::Sniff);
@@ -54,8 +54,8 @@ pub(super) fn bom(value: &Value) -> Option<Bom>
 }
 
 /// The mode of a text, which is replacement where it is absent.
-pub(super) fn text_mode(value: &Value) -> Option<TextMode>
-    ensures { result ≡ text_mode_at (view value.now) }
+pub(super) fn text_mode(value: Parsed<'_>) -> Option<TextMode>
+    ensures { result ≡ text_mode_at (parsed_data value.entry) }
 {
     let Some(mode) = value.get("mode") else {
         return Some(TextMode::Replacement);
@@ -68,8 +68,8 @@ pub(super) fn text_mode(value: &Value) -> Option<TextMode>
 }
 
 /// The mode of an encoding, which is fatal where it is absent.
-pub(super) fn encode_mode(value: &Value) -> Option<EncodeMode>
-    ensures { result ≡ encode_mode_at (view value.now) }
+pub(super) fn encode_mode(value: Parsed<'_>) -> Option<EncodeMode>
+    ensures { result ≡ encode_mode_at (parsed_data value.entry) }
 {
     let Some(mode) = value.get("mode") else {
         return Some(EncodeMode::Fatal);
@@ -94,8 +94,8 @@ fn named_unit(name: &str) -> Option<Unit>
 }
 
 /// The unit of a position, which is UTF-16 where it is absent.
-pub(super) fn unit(value: &Value) -> Option<Unit>
-    ensures { result ≡ unit_at (view value.now) }
+pub(super) fn unit(value: Parsed<'_>) -> Option<Unit>
+    ensures { result ≡ unit_at (parsed_data value.entry) }
 {
     let Some(unit) = value.get("unit") else {
         return Some(Unit::Utf16);
@@ -104,8 +104,8 @@ pub(super) fn unit(value: &Value) -> Option<Unit>
 }
 
 /// The unit of positions, of which none are wanted where it is absent.
-pub(super) fn optional_unit(value: &Value) -> Option<Option<Unit>>
-    ensures { result ≡ optional_unit_at (view value.now) }
+pub(super) fn optional_unit(value: Parsed<'_>) -> Option<Option<Unit>>
+    ensures { result ≡ optional_unit_at (parsed_data value.entry) }
 {
     let Some(unit) = value.get("unit") else {
         return Some(None);
@@ -115,8 +115,8 @@ pub(super) fn optional_unit(value: &Value) -> Option<Option<Unit>>
 }
 
 /// What a value counts: bytes of the document, or units of its text.
-pub(super) fn place_unit(value: &Value) -> Option<PlaceUnit>
-    ensures { result ≡ place_unit_at (view value.now) }
+pub(super) fn place_unit(value: Parsed<'_>) -> Option<PlaceUnit>
+    ensures { result ≡ place_unit_at (parsed_data value.entry) }
 {
     match text(value, "unit")? {
         "byte" => Some(PlaceUnit::Byte),
@@ -126,8 +126,8 @@ pub(super) fn place_unit(value: &Value) -> Option<PlaceUnit>
 
 /// Where a page of errors begins: at a number, or at a line, where that is there in its place; or
 /// which of the two fields is faulty.
-pub(super) fn page_start(value: &Value) -> Result<PageStart, Field>
-    ensures { result ≡ page_start_at (view value.now) }
+pub(super) fn page_start(value: Parsed<'_>) -> Result<PageStart, Field>
+    ensures { result ≡ page_start_at (parsed_data value.entry) }
 {
     if value.get("line").is_none() {
         let from = number(value, "from", MAX_NUMBER).ok_or(Field::From)?;
@@ -141,8 +141,8 @@ pub(super) fn page_start(value: &Value) -> Result<PageStart, Field>
 }
 
 /// A position: a line and a character, both whole numbers.
-fn position(value: &Value, name: &str) -> Option<Position>
-    ensures { result ≡ position_at (view value.now) name.now }
+fn position(value: Parsed<'_>, name: &str) -> Option<Position>
+    ensures { result ≡ position_at (parsed_data value.entry) name.now }
 {
     let position = value.get(name)?;
     let line = number(position, "line", MAX_NUMBER)?;
@@ -151,8 +151,8 @@ fn position(value: &Value, name: &str) -> Option<Position>
 }
 
 /// The range of a change. No range is the whole text, which is meant where it is absent or null.
-pub(super) fn range(value: &Value) -> Option<Option<Range>>
-    ensures { result ≡ range_at (view value.now) }
+pub(super) fn range(value: Parsed<'_>) -> Option<Option<Range>>
+    ensures { result ≡ range_at (parsed_data value.entry) }
 {
     let Some(range) = value.get("range") else {
         return Some(None);

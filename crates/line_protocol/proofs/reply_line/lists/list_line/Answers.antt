@@ -1,4 +1,4 @@
-use Rattle.line_protocol.proofs.Prelude.{◌≡◌, ℕ, List, [], ap, refl, ◌∙◌, false, Data, items_of, quoted}
+use Rattle.line_protocol.proofs.Prelude.{◌≡◌, ℕ, List, [], ap, refl, ◌∙◌, false, items_of, quoted}
 use Rattle.std.proofs.Common.{◌∷◌, ◌++◌}
 use Rattle.serde_json.specs.Data.{array}
 use Rattle.serde_json.specs.Written.{comma_if, compact_text}

@@ -1,0 +1,72 @@
+//! A flat object read off a line.
+ghost use Rattle.std.specs.Prelude.{◌≡◌, ◌≤◌, length, drop, Some, IfSome};
+ghost use Rattle.serde_json.specs.Read.{read as read_text};
+ghost use Rattle.enc_names.specs.Json.{json_of};
+ghost use Rattle.line_protocol.specs.Flat.{object_data, IsMember, IsValue};
+
+use crate::request::flat::lexemes::{gap_end, quoted_text, whole_number};
+use crate::request::flat::object::{FlatMember, FlatObject, FlatValue};
+
+/// The object in a line, if it is flat and written as most programs write it.
+pub(crate) fn flat_object(line: &[u8]) -> Option<FlatObject<'_>>
+    ensures { IfSome result (λ o. json_of line.now ≡ Some (object_data o)) }
+{
+    match simdutf8::compat::from_utf8(line) {
+        Ok(text) => object_in(text),
+        Err(_) => None,
+    }
+}
+
+/// The same, in a line that is UTF-8.
+fn object_in(text: &str) -> Option<FlatObject<'_>>
+    ensures { IfSome result (λ o. read_text text.now ≡ Some (object_data o)) }
+{
+    let line = text.as_bytes();
+    if line.is_empty() || line[0] != b'{' {
+        return None;
+    }
+    let mut object = FlatObject::new();
+    let mut at = 1;
+    'members: while object.has_room() {
+        let (member, end) = member(text, at)?;
+        object.push(member);
+        if end >= line.len() {
+            return None;
+        }
+        at = end + 1;
+        if line[end] != b',' {
+            return if line[end] == b'}' && at == line.len() {
+                Some(object)
+            } else {
+                None
+            };
+        }
+    }
+    None
+}
+
+/// The member that stands here, and what lies behind it.
+fn member<'a>(text: &'a str, from: usize) -> Option<(FlatMember<'a>, usize)>
+    requires { from ≤ length text.now }
+    ensures { IfSome result (λ r. IsMember (drop from text.now) r.0 (drop r.1 text.now) × (r.1 ≤ length text.now)) }
+{
+    let line = text.as_bytes();
+    let (key, end) = quoted_text(text, gap_end(line, from))?;
+    if end >= line.len() || line[end] != b':' {
+        return None;
+    }
+    let (value, end) = value(text, gap_end(line, end + 1))?;
+    Some(((key, value), end))
+}
+
+/// The value that stands here, and what lies behind it.
+fn value<'a>(text: &'a str, from: usize) -> Option<(FlatValue<'a>, usize)>
+    requires { from ≤ length text.now }
+    ensures { IfSome result (λ r. IsValue (drop from text.now) r.0 (drop r.1 text.now) × (r.1 ≤ length text.now)) }
+{
+    if let Some((found, end)) = quoted_text(text, from) {
+        return Some((FlatValue::Text(found), end));
+    }
+    let (number, end) = whole_number(text.as_bytes(), from)?;
+    Some((FlatValue::Whole(number), end))
+}
