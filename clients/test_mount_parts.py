@@ -537,6 +537,20 @@ class InOrder(unittest.TestCase):
 
         self.played(play)
 
+    def test_a_long_text_is_measured_once_its_size_is_asked_for_and_not_as_its_name_is_looked_up(self):
+        async def play(path, operations, _):
+            path.with_name("long").write_bytes(b"\xff" * (LONG + 1))
+            with mock.patch.object(operations.reader, "size", side_effect=AssertionError):
+                found = await operations.lookup(ROOT, b"long")
+            # (which the kernel doesn't keep)
+            self.assertEqual(found.attr_timeout, 0)
+            found = await operations.getattr(found.st_ino)
+            self.assertEqual((found.st_size, found.attr_timeout), (3 * (LONG + 1), tree.EXACT))
+            found = await operations.lookup(ROOT, b"long")
+            self.assertEqual((found.st_size, found.attr_timeout), (3 * (LONG + 1), tree.EXACT))
+
+        self.played(play)
+
     def test_a_long_text_is_made_read_and_freed_by_threads(self):
         async def play(path, operations, ino):
             found, read, write, close = [], os.pread, os.pwrite, Written.close

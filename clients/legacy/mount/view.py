@@ -14,6 +14,7 @@ from legacy.mount.reading import CHARSET_UTF_8, Reader
 from legacy.mount.refusals import shown
 from legacy.mount.snapshots import LARGEST
 from legacy.mount.tree import EXACT, Node, Tree, replaced
+from legacy.mount.written import LONG
 from legacy.rules import Rule, Rules
 from legacy.saving import Refused
 
@@ -157,7 +158,8 @@ class View:
         node = self.tree.at(path, found)
         node.lookups += 1
         try:
-            return await self.attributes(node, found)
+            # (while a name is looked up, whoever lists its folder waits: so how long a large text is, is found out later)
+            return await self.attributes(node, found, lazily=found.st_size > LONG)
         except BaseException:
             self.tree.forget(node.ino, 1)
             raise
