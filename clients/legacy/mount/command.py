@@ -1,6 +1,7 @@
 """`legacy mount`: its words, and the process that serves the mount."""
 import argparse
 import contextlib
+import gc
 import importlib
 import logging
 import logging.handlers
@@ -150,6 +151,8 @@ def serve(words: argparse.Namespace, found: Found, mounted: Callable[[], None]) 
     except RuntimeError:
         print(f"legacy mount: {words.mountpoint} can't be mounted on", file=sys.stderr)
         return FAILED
+    # (what is there by now stays, so that no search for what can be freed looks at it)
+    gc.freeze()
     try:
         trio.run(serve_until, operations, questions, workers, for_small, mounted)
     finally:
