@@ -42,7 +42,7 @@ if its("BAD"):
     sys.exit(1)
 path = pathlib.Path(of("-o"))
 path.write_text("built") if path.suffix == ".o" else path.mkdir()
-handles = " main=Threads" if its("HANDLES") else " main=Net" if name == "gate" else ""
+handles = " main=Threads" if its("HANDLES") else " axioms=59 target=x86_64-unknown-linux-gnu cpu=x86-64-v2 main=Net" if name == "gate" else ""
 print(f"fn {name}::f: proved\nlogic=proved functions=1{handles} sum=0 native=nat,char,string logic-built=trusted libraries-built=trusted statements=trusted")
 """
 

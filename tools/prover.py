@@ -10,7 +10,7 @@ from crates import TOP, below, libraries, own_libraries
 
 # The last line of a crate that is proved, with nothing assumed but what the toolchain and the libraries below were proved to be.
 PROVED = re.compile(
-    r"logic=proved((?: (?:functions|axioms|target|threads|main|may-wait|sum)=\S+)+) native=nat,char,string"
+    r"logic=proved((?: (?:functions|axioms|target|cpu|threads|main|may-wait|sum)=\S+)+) native=nat,char,string"
     r" logic-built=trusted libraries-built=trusted statements=trusted"
 )
 
