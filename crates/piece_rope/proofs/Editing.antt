@@ -1,8 +1,8 @@
 -- Lists of pieces, changed at a place.
 use Rattle.std.proofs.Common.{◌≡◌, refl, ap, ◌∙◌, ℕ, zero, suc, ◌+◌, ◌<◌, ◌≤◌, List, [], ◌∷◌, ◌++◌, take, drop, length, arith, append_assoc, append-nil, length-append, min}
-use Rattle.piece_rope.proofs.Prelude.{length-take-le, drop-drop, take_at, drop_at, remove, feed, AnyDecoding, AnyState, any, Entry, IsOwn, Chain}
-use Rattle.piece_rope.proofs.Prelude.{AreRenewed, bytes_of, renewed, state_after, AreSized}
-use Rattle.piece_rope.proofs.Chaining.{Laws, bytes-append, chain-append, state-append, renewed-are}
+use Rattle.piece_rope.proofs.Prelude.{length-take-le, take_at, drop_at, remove, feed, AnyDecoding, AnyState, any, Entry, IsOwn, Chain}
+use Rattle.piece_rope.proofs.Prelude.{bytes_of, state_after, AreSized}
+use Rattle.piece_rope.proofs.Chaining.{Laws, bytes-append, chain-append, state-append}
 
 -- a list put in where others were taken out
 pub put-in : {X : Type 0} (xs zs ys : List X) (first : ℕ) → first ≤ length xs
@@ -10,13 +10,6 @@ pub put-in : {X : Type 0} (xs zs ys : List X) (first : ℕ) → first ≤ length
 put-in xs zs ys first l =
     let long = length-take-le first xs l in
     cc (take_at (take first xs) ys first long, drop_at (take first xs) ys first long)
-
--- renewed pieces put in where the old ones were taken out
-pub renewed-in : (ps rs now : List Entry) (first last count : ℕ) → first ≤ last → last + length rs ≤ length ps → count ≡ length rs → AreRenewed (drop last ps) rs
-    → now ≡ take first ps ++ drop (last + count) ps → take first now ++ (rs ++ drop first now) ≡ take first ps ++ renewed (drop last ps) rs
-renewed-in ps rs now first last count order within count_is renewed_are now_is =
-    let behind = drop-drop (length rs) last ps in
-    cc (behind, renewed-are (drop last ps) rs renewed_are, put-in ps rs (drop (last + count) ps) first (omega (arith, order, within)))
 
 pub removed-range : {X : Type 0} (xs : List X) (first a : ℕ) → first < length xs → first ≤ a
     → take first (remove xs first) ++ drop a (remove xs first) ≡ take first xs ++ drop (suc a) xs

@@ -1,7 +1,7 @@
 -- The sums of the pieces of a document can be joined.
 use Rattle.std.proofs.Common.{◌≡◌, refl, ℕ, zero, suc, ◌+◌, ◌*◌, ◌^◌, ◌<◌, ◌≤◌, List, [], ◌∷◌, ◌++◌, take, drop, length, arith, append_assoc, length-append}
 use Rattle.std.proofs.lemmas.List.Edits.{length-remove}
-use Rattle.piece_rope.proofs.Prelude.{remove, Outcome, Sum, joined, Fits, Entry, here_of, renewed, AreShort, CanJoin, longest, sums_of}
+use Rattle.piece_rope.proofs.Prelude.{length-drop, length-take-le, take-append-drop, remove, Outcome, Sum, joined, Fits, Entry, here_of, renewed, AreShort, CanJoin, longest, sums_of}
 
 record IsFew (n : ℕ) (s : Sum) : Type 0 where
   bytes : s.bytes ≤ n * 2048
@@ -53,6 +53,16 @@ join-without xs fresh ys c =
     record {
       short = short-append xs ys parts.0 (short-parts fresh ys parts.1).1;
       few = omega (arith, c.few, length-append {A = Entry});
+    }
+
+-- the renewed pieces alone put in
+pub join-renewed : (ps fresh rs : List Entry) (first last : ℕ) → last + length rs ≤ length ps → CanJoin ps → CanJoin (take first ps ++ (fresh ++ renewed (drop last ps) rs)) → CanJoin (take last ps ++ renewed (drop last ps) rs)
+join-renewed ps fresh rs first last within old new =
+    let parts = short-parts (take last ps) (drop last ps) (rw take-append-drop old.short) in
+    let made = short-parts fresh (renewed (drop last ps) rs) (short-parts (take first ps) (fresh ++ renewed (drop last ps) rs) new.short).1 in
+    record {
+      short = short-append (take last ps) (renewed (drop last ps) rs) parts.0 made.1;
+      few = omega (arith, old.few, length-append (take last ps) (renewed (drop last ps) rs), length-take-le last ps (omega (arith, within)), length-drop last ps, renewed-length (drop last ps) rs (omega (arith, length-drop last ps, within)));
     }
 
 pub join-inserted : (xs fresh : List Entry) (p : Entry) (first : ℕ) → CanJoin (take first xs ++ ((fresh ++ p ∷ []) ++ drop first xs)) → CanJoin (take first xs ++ p ∷ drop first xs)

@@ -5,6 +5,7 @@ pub mod Comparing
 pub mod Counting
 pub mod Editing
 pub mod Erring
+pub mod Exchanging
 pub mod Joining
 pub mod Keeping
 pub mod Kept

@@ -1,8 +1,9 @@
 -- What a piece remembers stays its own.
-use Rattle.std.proofs.Common.{◌≡◌, ℕ, refl, sym, ap, ◌∙◌, zero, suc, Bool, true, false, List, [], ◌∷◌, take, drop, Option, Some, option_map, cond, arith}
+use Rattle.std.proofs.Common.{◌≡◌, ℕ, refl, sym, ap, ◌∙◌, zero, suc, Bool, true, false, List, [], ◌∷◌, take, Option, Some, None, option_map, cond, arith}
 use Rattle.state_memo.specs.declared.known.Known.{Known}
 use Rattle.piece_rope.proofs.Prelude.{feed, AnyState, AnyDecoding, any, Outcome, Contents, contents_of, outcome_of, ending_of, sum_of, Memo}
-use Rattle.piece_rope.proofs.Prelude.{same_state, recalled, without, installed, entered, Entry, AreRight, IsOwn, IsRenewed}
+use Rattle.state_memo.specs.Memo.{put_first}
+use Rattle.piece_rope.proofs.Prelude.{is_some, same_state, recalled, without, installed, entered, Entry, AreRight, IsOwn, IsRenewed}
 use Rattle.piece_rope.proofs.Chaining.{Laws}
 use Rattle.piece_rope.proofs.Lists.{take-take}
 
@@ -20,6 +21,10 @@ module _ (d : AnyDecoding) (laws : Laws d) (bytes : List ℕ) where
   right-take (suc n) [] r = tt
   right-take (suc n) (k ∷ ks) r = (r.0, right-take n ks r.1)
 
+  right-put : (r : Option Outcome) (ks : List Known) (s : AnyState) → AreRight d bytes ks → ((o : Outcome) → r ≡ Some o → contents_of o ≡ outcome_of d s bytes) → AreRight d bytes (put_first r ks s)
+  right-put None ks s right is = right
+  right-put (Some o) ks s right is = (is o refl, right-without ks s right)
+
   recalled-by : (b : Bool) (k : Known) (s : AnyState) (rest : Option Outcome) (o : Outcome) → same_state k.entry s ≡ b → contents_of k.outcome ≡ outcome_of d k.entry bytes
       → (rest ≡ Some o → contents_of o ≡ outcome_of d s bytes) → cond b (Some k.outcome) rest ≡ Some o → contents_of o ≡ outcome_of d s bytes
   recalled-by true k s rest o same right later found =
@@ -30,6 +35,9 @@ module _ (d : AnyDecoding) (laws : Laws d) (bytes : List ℕ) where
   pub right-recalled : (ks : List Known) (s : AnyState) (o : Outcome) → AreRight d bytes ks → recalled ks s ≡ Some o → contents_of o ≡ outcome_of d s bytes
   right-recalled [] s o r found = absurd cc
   right-recalled (k ∷ ks) s o r found = recalled-by (same_state k.entry s) k s (recalled ks s) o refl r.0 (right-recalled ks s o r.1) found
+
+  pub right-entered : (ks : List Known) (s : AnyState) → AreRight d bytes ks → AreRight d bytes (entered ks s)
+  right-entered ks s right = right-put (recalled ks s) ks s right (λ o found. right-recalled ks s o right found)
 
   pub exit-recalled : (ks : List Known) (s : AnyState) (o : Outcome) → AreRight d bytes ks → recalled ks s ≡ Some o → o.exit ≡ (feed (any d) s bytes).state
   exit-recalled ks s o r found = ap (λ (x : Contents). x.exit) (right-recalled ks s o r found) ∙ laws.exit s bytes
@@ -48,20 +56,17 @@ module _ (d : AnyDecoding) (laws : Laws d) where
   }
 
   -- a piece entered in a state that it remembers
-  pub own-renewed : (p : Entry) (m : Memo) (s : AnyState) (o : Outcome) → IsOwn d p → recalled p.piece.known s ≡ Some o
-      → m ≡ record { bytes = p.piece.bytes; known = entered p.piece.known s } → IsOwn d (record { piece = m; entry = s })
-  own-renewed p m s o own found is =
-      let known = p.piece.known in
-      let right = right-recalled d laws p.piece.bytes known s o own.right found in
-      rw (is, found) (record {
-        right = (right, right-without d laws p.piece.bytes known s own.right);
-        here_is = ap (option_map contents_of) (found-first (same_state s s) o (recalled (without known s) s) (laws.same s)) ∙ ap Some right;
-      })
+  pub own-shared : (p : Entry) (m : Memo) (s : AnyState) (o : Outcome) → IsOwn d p → recalled p.piece.known s ≡ Some o → m ≡ p.piece → IsOwn d (record { piece = m; entry = s })
+  own-shared p m s o own found is = rw is (record {
+    right = own.right;
+    here_is = ap (option_map contents_of) found ∙ ap Some (right-recalled d laws p.piece.bytes p.piece.known s o own.right found);
+  })
 
   -- and in one from which it was computed
   pub own-computed : (p : Entry) (m : Memo) (s : AnyState) (o : Outcome) → IsOwn d p → contents_of o ≡ outcome_of d s p.piece.bytes
-      → m ≡ record { bytes = p.piece.bytes; known = installed p.piece.known s o } → IsOwn d (record { piece = m; entry = s })
-  own-computed p m s o own is m_is = rw m_is (own-installed p.piece.bytes p.piece.known s o own.right is)
+      → m ≡ record { bytes = p.piece.bytes; known = installed (entered p.piece.known p.entry) s o } → IsOwn d (record { piece = m; entry = s })
+  own-computed p m s o own is m_is =
+      rw m_is (own-installed p.piece.bytes (entered p.piece.known p.entry) s o (right-entered d laws p.piece.bytes p.piece.known p.entry own.right) is)
 
   -- a new piece
   pub own-made : (bytes : List ℕ) (m : Memo) (s : AnyState) (o : Outcome) → contents_of o ≡ outcome_of d s bytes → m ≡ record { bytes = bytes; known = installed [] s o }
@@ -69,12 +74,36 @@ module _ (d : AnyDecoding) (laws : Laws d) where
   own-made bytes m s o is m_is = rw m_is (own-installed bytes [] s o tt is)
 
 -- what else the piece remembered is still there
-pub renewed-computed : (p : Entry) (m : Memo) (s : AnyState) (o : Outcome) → m ≡ record { bytes = p.piece.bytes; known = installed p.piece.known s o }
-    → IsRenewed p (record { piece = m; entry = s })
-renewed-computed p m s o is = record {
+present : (r : Option Outcome) (o : Outcome) (x y : List Known) → r ≡ Some o → cond (is_some r) x y ≡ x
+present (Some z) o x y e = refl
+present None o x y e = absurd cc
+
+absent : (r : Option Outcome) (x y : List Known) → r ≡ None → cond (is_some r) x y ≡ y
+absent None x y e = refl
+absent (Some z) x y e = absurd cc
+
+behind-first : (b : Bool) (x y : List Known) → b ≡ true → cond b x y ≡ x
+behind-first true x y e = refl
+behind-first false x y e = absurd cc
+
+pub renewed-shared : (p : Entry) (m : Memo) (s : AnyState) (o : Outcome) → recalled p.piece.known s ≡ Some o → m ≡ p.piece → IsRenewed p (record { piece = m; entry = s })
+renewed-shared p m s o found is = record {
   bytes = ap (λ (x : Memo). x.bytes) is;
-  others = ap (λ (x : Memo). take 3 (drop 1 x.known)) is ∙ take-take 3 3 (without p.piece.known s) (omega arith);
+  others = ap (λ (x : Memo). take 3 (without x.known s)) is
+      ∙ ap (λ (ks : List Known). take 3 ks) (sym (present (recalled p.piece.known s) o (without p.piece.known s) (without (entered p.piece.known p.entry) s) found));
 }
+
+pub renewed-computed : (p : Entry) (m : Memo) (s : AnyState) (o : Outcome) → same_state s s ≡ true → recalled p.piece.known s ≡ None → m ≡ record { bytes = p.piece.bytes; known = installed (entered p.piece.known p.entry) s o }
+    → IsRenewed p (record { piece = m; entry = s })
+renewed-computed p m s o same none is =
+    let rest = without (entered p.piece.known p.entry) s in
+    record {
+      bytes = ap (λ (x : Memo). x.bytes) is;
+      others = ap (λ (x : Memo). take 3 (without x.known s)) is
+          ∙ ap (λ (ks : List Known). take 3 ks) (behind-first (same_state s s) (take 3 rest) (record { entry = s; outcome = o } ∷ without (take 3 rest) s) same)
+          ∙ take-take 3 3 rest (omega arith)
+          ∙ ap (λ (ks : List Known). take 3 ks) (sym (absent (recalled p.piece.known s) (without p.piece.known s) rest none));
+    }
 
 pub ending-exit : (d : AnyDecoding) (s : AnyState) (o : Outcome) → contents_of o ≡ ending_of d s → o.exit ≡ s
 unfolding ending_of

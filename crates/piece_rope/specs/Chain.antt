@@ -1,9 +1,9 @@
 -- Pieces in a row, each entered in the state behind those before it.
-use Rattle.std.specs.Prelude.{◌≡◌, ℕ, List, [], ◌∷◌, take, drop, flat_map, Some, option_map}
+use Rattle.std.specs.Prelude.{◌≡◌, ℕ, List, [], ◌∷◌, take, flat_map, Some, is_some, option_map, if◌then◌else◌}
 use Rattle.state_memo.specs.Decoding.{feed, AnyDecoding, AnyState, any}
 use Rattle.state_memo.specs.declared.known.Known.{Known}
 use Rattle.state_memo.specs.Outcome.{contents_of, outcome_of}
-use Rattle.state_memo.specs.Memo.{without}
+use Rattle.state_memo.specs.Memo.{recalled, without, entered}
 use Rattle.piece_rope.specs.Entry.{Entry, here}
 
 -- the bytes of pieces, in order
@@ -39,10 +39,14 @@ renewed ps [] = ps
 renewed [] (r ∷ rs) = []
 renewed (p ∷ ps) (r ∷ rs) = renew p r ∷ renewed ps rs
 
+-- what it remembers from states other than this one: as it was where this one is among them, and else that from where it is entered first
+abbrev pub others_of : Entry → AnyState → List Known
+others_of p s = if is_some (recalled p.piece.known s) then without p.piece.known s else without (entered p.piece.known p.entry) s
+
 -- it keeps its bytes, and what it remembers from other states, but for a fifth
 pub record IsRenewed (p r : Entry) : Type 0 where
   pub bytes : r.piece.bytes ≡ p.piece.bytes
-  pub others : take 3 (drop 1 r.piece.known) ≡ take 3 (without p.piece.known r.entry)
+  pub others : take 3 (without r.piece.known r.entry) ≡ take 3 (others_of p r.entry)
 
 -- so does each of the first pieces
 abbrev pub AreRenewed : List Entry → List Entry → Type 0

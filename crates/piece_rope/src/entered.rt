@@ -57,8 +57,9 @@ impl Entered {
         Ok((Entered { piece, entry }, exit))
     }
 
-    /// The piece entered in another state, and the state behind it then. It is a piece of its own,
-    /// which shares bytes and remembered outcomes with this one; this one stays as it is.
+    /// The piece entered in another state, and the state behind it then; this one stays as it is.
+    /// Where the piece remembers what it decodes to from there, it is shared. Else it is a piece of
+    /// its own, which shares bytes and remembered outcomes with this one.
     pub(crate) fn renewed(
         &self,
         alloc: Global,
@@ -75,14 +76,20 @@ impl Entered {
         ensures meter_most { meter.new ≤ meter.old + length self.now.piece.bytes }
         ensures meter_least { meter.old ≤ meter.new }
     {
-        let mut piece = self.piece.copy()?;
-        let (sought, from, new) = (entry, entry, entry);
+        let (sought, from, new, last) = (entry, entry, entry, self.entry);
         if let Some(outcome) = self.piece.peek(sought) {
             let exit = outcome.exit;
-            piece.move_first(from);
-            let piece = Rc::new(alloc, piece)?;
-            return Ok((Entered { piece, entry }, exit));
+            let shared = self.piece.clone()?;
+            return Ok((
+                Entered {
+                    piece: shared,
+                    entry,
+                },
+                exit,
+            ));
         }
+        let mut piece = self.piece.copy()?;
+        piece.move_first(last);
         let outcome = piece.compute(decoder, from, meter)?;
         let exit = outcome.exit;
         piece.install(new, outcome);

@@ -4,16 +4,17 @@ ghost use Rattle.piece_rope.specs.Chain.{AreRenewed, renewed};
 ghost use Rattle.piece_rope.specs.Edit.{edited};
 ghost use Rattle.piece_rope.specs.Log.{IsSameLog, Logs, room_of};
 ghost use Rattle.piece_rope.specs.Sizes.{CanJoin};
+ghost use Rattle.sum_tree.specs.Refilled.{with_run};
 
 use crate::edit::PreparedEdit;
 use crate::entered::Entered;
 use crate::log::{Log, log_edit};
-use crate::pieces::{Pieces, put_piece, take_piece};
+use crate::pieces::{Pieces, put_piece, put_run, take_piece};
 use state_memo::{OutOfMemory, Outcome};
 use std::alloc::Global;
 
 /// Takes the pieces `first..last` out.
-pub(crate) fn remove_range(pieces: &mut Pieces, first: usize, last: usize)
+fn remove_range(pieces: &mut Pieces, first: usize, last: usize)
     requires order { first ≤ last }
     requires within { last ≤ length pieces.old.items }
     requires old { CanJoin pieces.old.items }
@@ -28,7 +29,7 @@ pub(crate) fn remove_range(pieces: &mut Pieces, first: usize, last: usize)
 }
 
 /// Puts pieces in at `first`.
-pub(crate) fn insert_all(pieces: &mut Pieces, first: usize, fresh: Vec<Entered>)
+fn insert_all(pieces: &mut Pieces, first: usize, fresh: Vec<Entered>)
     requires within { first ≤ length pieces.old.items }
     requires room { length fresh.items ≤ pieces.old.spare }
     requires join { CanJoin (take first pieces.old.items ++ (fresh.items ++ drop first pieces.old.items)) }
@@ -39,6 +40,24 @@ pub(crate) fn insert_all(pieces: &mut Pieces, first: usize, fresh: Vec<Entered>)
     'fresh: while let Some(piece) = fresh.pop() {
         put_piece(pieces, first, piece);
     }
+}
+
+/// Puts these pieces in the place of those at `first..last`: as many as there are of both in one
+/// walk, and only those that are more or fewer one by one.
+pub(crate) fn exchange(pieces: &mut Pieces, first: usize, last: usize, fresh: Vec<Entered>)
+    requires order { first ≤ last }
+    requires within { last ≤ length pieces.old.items }
+    requires room { length fresh.items ≤ pieces.old.spare + (last - first) }
+    requires old { CanJoin pieces.old.items }
+    requires new { CanJoin (with_run pieces.old.items first last fresh.items) }
+    ensures items { pieces.new.items ≡ with_run pieces.old.items first last fresh.items }
+    ensures room { room_of pieces.new ≡ room_of pieces.old }
+{
+    let mut fresh = fresh;
+    let both = fresh.len().min(last - first);
+    remove_range(pieces, first, last - both);
+    put_run(pieces, first, first + both, &mut fresh);
+    insert_all(pieces, first, fresh);
 }
 
 /// Puts new pieces in the place of those at `first..last`, and the renewed ones in the place of the
@@ -61,9 +80,9 @@ fn install(
 {
     // There are fewer than 2^64 pieces.
     let _count = pieces.len();
-    remove_range(pieces, first, last + renewals.len());
-    insert_all(pieces, first, renewals);
-    insert_all(pieces, first, fresh);
+    let end = last + renewals.len();
+    exchange(pieces, last, end, renewals);
+    exchange(pieces, first, last, fresh);
 }
 
 /// Makes an edit: its pieces in place, and its end behind them, and what it takes to take it back in

@@ -1,9 +1,10 @@
 //! The pieces of a document in a tree of sums.
-ghost use Rattle.std.specs.Prelude.{◌≡◌, ◌+◌, ◌≤◌, ◌<◌, length, IfOk, Some, slice_get};
+ghost use Rattle.std.specs.Prelude.{◌≡◌, ◌+◌, ◌-◌, ◌≤◌, ◌<◌, length, take, drop, IfOk, Some, slice_get};
 ghost use Rattle.std.specs.List.{insert, remove};
 ghost use Rattle.piece_rope.specs.Sizes.{CanJoin, HasSizes};
 ghost use Rattle.piece_rope.specs.Chain.{bytes_of};
 ghost use Rattle.state_memo.specs.Decoding.{mark_of};
+ghost use Rattle.sum_tree.specs.Refilled.{with_run};
 
 use crate::entered::Entered;
 use state_memo::{OutOfMemory, Sum};
@@ -35,6 +36,20 @@ pub(crate) fn take_piece(pieces: &mut Pieces, place: usize) -> Entered
 {
     law_sums_of_lists::<Entered, Sum>();
     pieces.remove(place)
+}
+
+/// Puts the last of these pieces in the place of those at `from..to`, in one walk, without memory.
+pub(crate) fn put_run(pieces: &mut Pieces, from: usize, to: usize, run: &mut Vec<Entered>)
+    requires order { from ≤ to }
+    requires within { to ≤ length pieces.old.items }
+    requires enough { to ≤ length run.old.items + from }
+    requires join { CanJoin (with_run pieces.old.items from to (drop (length run.old.items - (to - from)) run.old.items)) }
+    ensures items { pieces.new.items ≡ with_run pieces.old.items from to (drop (length run.old.items - (to - from)) run.old.items) }
+    ensures rest { run.new.items ≡ take (length run.old.items - (to - from)) run.old.items }
+    ensures spare { pieces.new.spare ≡ pieces.old.spare }
+{
+    law_sums_of_lists::<Entered, Sum>();
+    pieces.refill(from, to, run);
 }
 
 /// A tree of these pieces, which it takes. Where memory is refused they stay where they are.

@@ -3,7 +3,7 @@ ghost use Rattle.std.specs.Prelude.{◌≡◌};
 ghost use Rattle.piece_rope.specs.Log.{GoBack, GoesBack, before_all, before_edit, room_of, tail_before};
 ghost use Rattle.piece_rope.specs.Sizes.{CanJoin};
 
-use crate::install::{insert_all, remove_range};
+use crate::install::exchange;
 use crate::log::LoggedEdit;
 use crate::pieces::Pieces;
 use state_memo::Outcome;
@@ -24,8 +24,7 @@ fn take_back_edit(pieces: &mut Pieces, tail: &mut Outcome, edit: LoggedEdit)
     } = edit;
     // There are fewer than 2^64 pieces.
     let _count = pieces.len();
-    remove_range(pieces, first, first + put);
-    insert_all(pieces, first, taken);
+    exchange(pieces, first, first + put, taken);
     *tail = end;
 }
 

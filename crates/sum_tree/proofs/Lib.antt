@@ -1,6 +1,7 @@
 pub mod Edits
 pub mod Levels
 pub mod Reaching
+pub mod Refilling
 pub mod Searching
 pub mod Shapes
 pub mod Totals

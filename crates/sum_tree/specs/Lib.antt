@@ -4,6 +4,7 @@ pub mod Level
 pub mod Listed
 pub mod Opened
 pub mod Reached
+pub mod Refilled
 pub mod Row
 pub mod Shrunk
 pub mod Sums

@@ -1,5 +1,5 @@
 //! A list with the sums of its prefixes: a balanced tree in which an element is reached, inserted,
-//! replaced or removed along one path.
+//! replaced or removed along one path, and a run of elements replaced in one walk.
 #![tactic(auto)]
 
 mod build;
@@ -13,6 +13,7 @@ mod makers;
 mod memory;
 mod node;
 mod pool;
+mod refill;
 mod remove;
 mod replace;
 mod root;

@@ -6,6 +6,7 @@ ghost use Rattle.sum_tree.specs.Visited.{RisesBy};
 ghost use Rattle.sum_tree.specs.Reached.{IsSearched};
 ghost use Rattle.sum_tree.specs.Row.{IsSound};
 ghost use Rattle.sum_tree.specs.Listed.{items_in, nodes_in, IsSoundRoot};
+ghost use Rattle.sum_tree.specs.Refilled.{CanRefill, IsRefilled};
 
 use crate::counter::Visits;
 use crate::grown::Grown;
@@ -83,6 +84,29 @@ pub(crate) fn replaced<T: Summed<S> + Drop, S: Summary>(
 {
     let Some(root) = root else { unreachable!() };
     root.replace(i, item)
+}
+
+/// The root with the last of these elements, which it takes, in the place of those from number
+/// `from` to number `to`.
+pub(crate) fn refilled<T: Summed<S> + Drop, S: Summary>(
+    root: Option<Child<T, S>>,
+    from: usize,
+    to: usize,
+    items: &mut Vec<T>,
+) -> Option<Child<T, S>>
+    requires order { from ≤ to }
+    requires within { to ≤ length (items_in root) }
+    requires enough { to ≤ length items.old.items + from }
+    requires can { CanRefill S.fits S.empty S.op T.sum_of (items_in root) from to items.old.items }
+    requires sound { IsSoundRoot root }
+    ensures refilled { IsRefilled (items_in root) from to items.old.items items.new.items (items_in result) }
+    ensures nodes { nodes_in result ≡ nodes_in root }
+    ensures sound { IsSoundRoot result }
+{
+    match root {
+        Some(root) => Some(root.refill(from, to, items)),
+        None => None,
+    }
 }
 
 /// The sum of the first `i` elements.

@@ -1,9 +1,10 @@
 //! The tree as a list.
-ghost use Rattle.std.specs.Prelude.{◌≡◌, ℕ, ◌+◌, ◌-◌, ◌*◌, ◌^◌, ◌<◌, ◌≤◌, [], length, take, slice_get, slice_set, option_copied, vec_len, vec_capacity, IfOk, OnErr, OnOk};
+ghost use Rattle.std.specs.Prelude.{◌≡◌, ℕ, ◌+◌, ◌-◌, ◌*◌, ◌^◌, ◌<◌, ◌≤◌, [], length, take, drop, slice_get, slice_set, option_copied, vec_len, vec_capacity, IfOk, OnErr, OnOk};
 ghost use Rattle.std.specs.List.{insert, remove};
 ghost use Rattle.sum_tree.specs.Row.{IsSound};
 ghost use Rattle.sum_tree.specs.Sums.{total, AllRunsFit, IsSummable};
 ghost use Rattle.sum_tree.specs.Reached.{IsFirstAbove, IsSearched};
+ghost use Rattle.sum_tree.specs.Refilled.{with_run};
 
 use crate::build::built;
 use crate::counter::Visits;
@@ -11,7 +12,7 @@ use crate::finder::Finder;
 use crate::memory::OutOfMemory;
 use crate::node::Child;
 use crate::pool::{Pool, add_places};
-use crate::root::{inserted, removed, replaced, searched, summed};
+use crate::root::{inserted, refilled, removed, replaced, searched, summed};
 use crate::summary::{Dimension, Summary, Summed, TryCopy};
 use std::alloc::{AllocError, Global};
 use std::marker::Model;
@@ -187,6 +188,23 @@ impl<T: Summed<S> + Drop, S: Summary> SumTree<T, S> {
         let (old, root) = replaced(self.root.take(), i, item);
         self.root = Some(root);
         old
+    }
+
+    /// Puts the last of these elements in the place of those from number `from` to number `to`, in
+    /// one walk, and leaves the others where they are. It takes no memory.
+    pub fn refill(&mut self, from: usize, to: usize, items: &mut Vec<T>)
+        requires order { from ≤ to }
+        requires within { to ≤ length self.old.items }
+        requires enough { to ≤ length items.old.items + from }
+        requires fit { AllRunsFit S.fits S.empty S.op T.sum_of
+            (with_run self.old.items from to (drop (length items.old.items - (to - from)) items.old.items)) }
+        ensures items { self.new.items
+            ≡ with_run self.old.items from to (drop (length items.old.items - (to - from)) items.old.items) }
+        ensures rest { items.new.items ≡ take (length items.old.items - (to - from)) items.old.items }
+        ensures spare { self.new.spare ≡ self.old.spare }
+    {
+        let _capacity = self.pool.capacity();
+        self.root = refilled(self.root.take(), from, to, items);
     }
 
     /// Element number `i`.

@@ -1,36 +1,43 @@
-use Rattle.std.proofs.Common.{◌≡◌, rules, sym, ◌∙◌, subst, ℕ, ◌+◌, ◌≤◌, List, ◌++◌, length, take, drop, arith}
-use Rattle.piece_rope.proofs.Prelude.{Entry, AreRenewed, renewed, CanJoin}
-use Rattle.piece_rope.proofs.Editing.{put-in, renewed-in}
-use Rattle.piece_rope.proofs.Joining.{join-without}
+use Rattle.std.proofs.Common.{◌≡◌, rules, sym, ◌∙◌, subst, List, ◌+◌, length, arith}
+use Rattle.piece_rope.proofs.Prelude.{Entry, CanJoin}
+use Rattle.piece_rope.proofs.Exchanging.{all-made, join-later, long-later}
 use Rattle.piece_rope.proofs.install.install.Goals as goal
 
--- the renewed pieces put in, and then those made anew
-installed : (ps fresh rs now : List Entry) (first last count : ℕ) → first ≤ last → last + length rs ≤ length ps → count ≡ length rs → AreRenewed (drop last ps) rs
-    → now ≡ take first ps ++ drop (last + count) ps → (more : List Entry) → more ≡ take first now ++ (rs ++ drop first now)
-    → take first more ++ (fresh ++ drop first more) ≡ take first ps ++ (fresh ++ renewed (drop last ps) rs)
-installed ps fresh rs now first last count order within count_is renewed_are now_is more more_is =
-    let behind = renewed-in ps rs now first last count order within count_is renewed_are now_is in
-    cc (behind, put-in ps fresh (renewed (drop last ps) rs) first (omega (arith, order, within)))
+pub exchange-requires-clause-new : goal.exchange-requires-clause-new
+exchange-requires-clause-new c =
+    let count : c.args.last + c.len.result ≡ c.args.last + length c.args.renewals.items = search rules in
+    join-later c.args.pieces.now.items c.args.fresh.items c.args.renewals.items c.args.first c.args.last (c.args.last + c.len.result) c.requires.order c.requires.within count c.requires.kept c.requires.old c.requires.new
 
-pub insert_all-requires-clause-join : goal.insert_all-requires-clause-join
-insert_all-requires-clause-join c =
-    let ps = c.args.pieces.now.items in
-    let rs = c.args.renewals.items in
-    let count : c.len.result ≡ length c.args.renewals.items = search rules in
-    let put = renewed-in ps rs c.remove_range.new.pieces.items c.args.first c.args.last c.len.result c.requires.order c.requires.within count c.requires.kept c.remove_range.ensures.items in
-    subst (λ (xs : List Entry). CanJoin xs) (sym put) (join-without (take c.args.first ps) c.args.fresh.items (renewed (drop c.args.last ps) rs) c.requires.new)
+pub exchange-requires-2-clause-within : goal.exchange-requires-2-clause-within
+exchange-requires-2-clause-within c =
+    let count : c.args.last + c.len.result ≡ c.args.last + length c.args.renewals.items = search rules in
+    let long = long-later c.args.pieces.now.items c.args.fresh.items c.args.renewals.items c.args.first c.args.last (c.args.last + c.len.result) c.requires.order c.requires.within count c.requires.kept c.requires.old c.requires.new
+    c.exchange.new.pieces.items c.exchange.ensures.items in
+    omega (arith, c.requires.within)
 
-pub insert_all-requires-2-clause-join : goal.insert_all-requires-2-clause-join
-insert_all-requires-2-clause-join c =
-    let count : c.len.result ≡ length c.args.renewals.items = search rules in
+pub exchange-requires-2-clause-room : goal.exchange-requires-2-clause-room
+exchange-requires-2-clause-room c =
+    let count : c.args.last + c.len.result ≡ c.args.last + length c.args.renewals.items = search rules in
+    let long = long-later c.args.pieces.now.items c.args.fresh.items c.args.renewals.items c.args.first c.args.last (c.args.last + c.len.result) c.requires.order c.requires.within count c.requires.kept c.requires.old c.requires.new
+    c.exchange.new.pieces.items c.exchange.ensures.items in
+    omega (arith, c.exchange.ensures.room, c.requires.room)
+
+pub exchange-requires-2-clause-old : goal.exchange-requires-2-clause-old
+exchange-requires-2-clause-old c =
+    let count : c.args.last + c.len.result ≡ c.args.last + length c.args.renewals.items = search rules in
+    rw c.exchange.ensures.items (join-later c.args.pieces.now.items c.args.fresh.items c.args.renewals.items c.args.first c.args.last (c.args.last + c.len.result) c.requires.order c.requires.within count c.requires.kept c.requires.old c.requires.new)
+
+pub exchange-requires-2-clause-new : goal.exchange-requires-2-clause-new
+exchange-requires-2-clause-new c =
+    let count : c.args.last + c.len.result ≡ c.args.last + length c.args.renewals.items = search rules in
     subst (λ (xs : List Entry). CanJoin xs)
-    (sym (installed c.args.pieces.now.items c.args.fresh.items c.args.renewals.items c.remove_range.new.pieces.items c.args.first c.args.last c.len.result c.requires.order c.requires.within count c.requires.kept
-    c.remove_range.ensures.items c.insert_all.new.pieces.items c.insert_all.ensures.items))
+    (sym (all-made c.args.pieces.now.items c.args.fresh.items c.args.renewals.items c.args.first c.args.last (c.args.last + c.len.result) c.requires.order c.requires.within count c.requires.kept c.requires.old c.requires.new
+    c.exchange.new.pieces.items c.exchange.ensures.items))
     c.requires.new
 
 pub returns-clause-items : goal.returns-clause-items
 returns-clause-items c =
-    let count : c.len.result ≡ length c.args.renewals.items = search rules in
-    c.insert_all-2.ensures.items
-    ∙ installed c.args.pieces.now.items c.args.fresh.items c.args.renewals.items c.remove_range.new.pieces.items c.args.first c.args.last c.len.result c.requires.order c.requires.within count c.requires.kept
-    c.remove_range.ensures.items c.insert_all.new.pieces.items c.insert_all.ensures.items
+    let count : c.args.last + c.len.result ≡ c.args.last + length c.args.renewals.items = search rules in
+    c.exchange-2.ensures.items
+    ∙ all-made c.args.pieces.now.items c.args.fresh.items c.args.renewals.items c.args.first c.args.last (c.args.last + c.len.result) c.requires.order c.requires.within count c.requires.kept c.requires.old c.requires.new
+    c.exchange.new.pieces.items c.exchange.ensures.items
