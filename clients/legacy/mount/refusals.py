@@ -1,5 +1,6 @@
 """What is not saved: the text beside its file, a line in the log with the reason, and a note on the desktop."""
 import contextlib
+import hashlib
 import logging
 import os
 import shutil
@@ -24,10 +25,10 @@ def shown(path: Optional[bytes]) -> str:
 
 
 class Rejected(NamedTuple):
-    """A refused text: where it is, its reason, and the program that wrote it."""
+    """A refused text: where it is, what it is known again by, its reason, and the program that wrote it."""
 
     place: bytes
-    text: bytes
+    digest: bytes
     reason: str
     program: int
 
@@ -42,15 +43,15 @@ class Refusals:
 
     def reject(self, path: bytes, text: bytes, reason: str, program: int) -> None:
         """Keeps a refused text, and says why it was refused."""
-        before = self._of.get(path)
-        if before and (before.text, before.reason) == (text, reason) and os.path.lexists(self._full(before.place)):
+        before, digest = self._of.get(path), hashlib.sha256(text).digest()
+        if before and (before.digest, before.reason) == (digest, reason) and os.path.lexists(self._full(before.place)):
             return
         mine = before.place if before and before.program == program else None
         place = self._written(path, text, reason, mine)
         where = f"the text is in {shown(place)}" if place else "the text is lost, since nothing could be written"
         log.error("%s: NOT SAVED: %s; %s", shown(path), reason, where)
         if place:
-            self._of[path] = Rejected(place, text, reason, program)
+            self._of[path] = Rejected(place, digest, reason, program)
         self._note(f"{os.fsdecode(path)} was not saved", f"{reason}; {where}")
 
     def accept(self, path: bytes, program: int) -> None:
