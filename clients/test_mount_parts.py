@@ -15,6 +15,7 @@ import unittest
 from typing import NamedTuple
 from unittest import mock
 
+from gate import Gate
 from legacy.documents import LARGE
 from legacy.mount import below, letters
 from legacy.mount.below import Place, Store, read_at
@@ -31,7 +32,7 @@ if HAS_PYFUSE3:
     import trio
     import trio.testing
     from pyfuse3 import FUSEError
-    from legacy.mount import ahead, questions, tree, workers
+    from legacy.mount import ahead, questions, tree, worker, workers
     from legacy.mount.ahead import FILES, ROOM, SMALL, Listing, Wanted
     from legacy.mount.operations import Operations
     from legacy.mount.reading import Reader
@@ -406,6 +407,24 @@ class Sent(unittest.TestCase):
             self.assertTrue(made == before.raw.replace(old, new, 1), number)
             self.assertEqual(how, "the difference")
             contents.append(Content(number, made, before.text._replace(utf8=utf8)))
+
+
+    @unittest.skipUnless(HAS_PYFUSE3, "this interpreter has no pyfuse3 (Debian's python3-pyfuse3)")
+    @unittest.skipUnless(os.access(PROGRAM, os.X_OK), f"there is no program {PROGRAM}; rt ci builds it")
+    def test_a_large_text_that_is_measured_and_then_read_is_opened_once(self):
+        jobs, send, found = worker.Jobs([PROGRAM, "stdio", "--indexes", str(INDEXES)]), Gate.send_open, []
+        self.addCleanup(jobs._gate.close)
+
+        def noted(gate, name, label, content, *words):
+            found.append(len(content))
+            return send(gate, name, label, content, *words)
+
+        with mock.patch.object(Gate, "send_open", noted):
+            for size in 1, LARGE:
+                raw = b"\xff" * size
+                self.assertEqual(tuple(jobs.lengths(raw, "shift_jis")), (3 * size, size))
+                self.assertEqual(jobs.text(raw, "shift_jis", 1).utf8.decode(), "\ufffd" * size)
+        self.assertEqual(found, [1, 1, LARGE])
 
 
 @unittest.skipUnless(HAS_PYFUSE3, "this interpreter has no pyfuse3 (Debian's python3-pyfuse3)")

@@ -10,7 +10,7 @@ import sys
 from typing import Callable, List, Optional, Sequence, Tuple, TypeVar, Union
 
 from gate import Fault, Gate, Gone
-from legacy.documents import Last
+from legacy.documents import LARGE, Last, opened
 from legacy.mount.below import Signature, settled, steady
 from legacy.mount.sending import Content, Kept, Receiver
 from legacy.mount.snapshots import Lengths, Text
@@ -47,9 +47,11 @@ class Jobs:
     def lengths(self, raw: bytes, label: str) -> Lengths:
         """How long the text of these bytes is."""
         def counted(gate: Gate) -> Lengths:
-            document = gate.open("lengths", label, raw)
-            counts = document.stat()
-            document.close()
+            # (whoever asks for the size of a large text is often about to read it)
+            with opened(gate, label, raw, self._last if len(raw) >= LARGE else None) as document:
+                asked = document.ask("stat")
+                document.opened()
+                counts = asked.get()
             return Lengths(counts["utf8"], counts["errors"])
 
         return self._with(counted)
