@@ -265,15 +265,15 @@ class Texts(unittest.TestCase):
             else:
                 text.truncate(at)
                 wanted = wanted[:at] + bytes(max(0, at - len(wanted)))
-            self.assertEqual((text.whole(), text.size, text.read(7, at)), (wanted, len(wanted), wanted[at : at + 7]))
+            self.assertEqual((text.copy(), text.size, text.read(7, at)), (wanted, len(wanted), wanted[at : at + 7]))
         text.close()
-        self.assertRaises(OSError, text.whole)
+        self.assertRaises(OSError, text.copy)
 
     def test_what_is_written_while_a_long_one_is_made_is_in_it(self):
         session = self.session(LONG + 1)
 
         async def write(at):
-            await session.begin()
+            await session.prepare()
             session.write(at, b"b")
 
         async def all_at_once():
@@ -282,22 +282,22 @@ class Texts(unittest.TestCase):
                     nursery.start_soon(write, 2 * at)
 
         trio.run(all_at_once)
-        self.assertEqual(session.text().whole(), b"bababa" + b"a" * (LONG - 5))
+        self.assertEqual(session.text().copy(), b"bababa" + b"a" * (LONG - 5))
 
     def test_it_is_read_again_where_it_is_written_meanwhile_but_not_for_ever(self):
         for writes, wanted in (0, 1), (1, 2), (TRIES + 9, TRIES + 1):
-            session, whole, read = self.session(LONG + 1), Written.whole, []
+            session, copy, read = self.session(LONG + 1), Written.copy, []
 
             def meanwhile(text):
                 read.append(text)
-                found = whole(text)
+                found = copy(text)
                 if len(read) <= min(writes, TRIES):
                     session.write(len(read), b"b")
                 return found
 
-            with mock.patch.object(Written, "whole", meanwhile):
+            with mock.patch.object(Written, "copy", meanwhile):
                 version, content = trio.run(session.copied)
-            self.assertEqual((len(read), version, content), (wanted, session.version, session.text().whole()))
+            self.assertEqual((len(read), version, content), (wanted, session.version, session.text().copy()))
 
 
 @unittest.skipUnless(HAS_PYFUSE3, "this interpreter has no pyfuse3 (Debian's python3-pyfuse3)")

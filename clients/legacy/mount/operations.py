@@ -229,7 +229,7 @@ class Operations(pyfuse3.Operations):  # type: ignore[misc]
         if offset + len(content) > LARGEST_TEXT:
             raise FUSEError(errno.EFBIG)
         if handle.node.session:
-            await handle.node.session.begin()
+            await handle.node.session.prepare()
         session = handle.node.session
         assert session
         session.write(offset, content)
@@ -303,7 +303,7 @@ class Operations(pyfuse3.Operations):  # type: ignore[misc]
         if alone:
             await self.view.read_for(node, node.rule, True, ctx.pid)
         if size and node.session:
-            await node.session.begin()
+            await node.session.prepare()
         session = node.writing()
         session.truncate(size)
         node.session = session

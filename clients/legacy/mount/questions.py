@@ -96,9 +96,9 @@ class Questions:
     def start(self) -> None:
         """Starts the processes, so that no question has to wait for that."""
         while len(self._answering) < PROCESSES:
-            self._begun()
+            self._started()
 
-    def _begun(self) -> Answering:
+    def _started(self) -> Answering:
         found = Answering(self._words)
         self._answering.append(found)
         self.longest = found.longest
@@ -125,7 +125,7 @@ class Questions:
         while True:
             found = next((it for it in self._answering if not it.lock.locked()), None)
             if found is None and len(self._answering) < PROCESSES:
-                found = self._begun()
+                found = self._started()
             if found:
                 found.lock.acquire_nowait()
                 return found

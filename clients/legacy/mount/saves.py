@@ -230,7 +230,7 @@ class Saves:
         for node in nodes:
             if node.session and node.session.dirty and node.path is not None:
                 thread = next((it.thread for it in node.handles if it.writes), 0)
-                content = node.session.text().whole()
+                content = node.session.text().copy()
                 if content:
                     self._refusals.reject(node.path, content, "unmounted before the file was closed", program_of(thread))
 

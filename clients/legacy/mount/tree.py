@@ -49,7 +49,7 @@ class Session:
             self.data = Written(self.below.utf8)
         return self.data
 
-    async def begin(self) -> None:
+    async def prepare(self) -> None:
         """Has the text of the file below at hand, so that `text` needn't make it, where that takes long."""
         if self.data is None and len(self.below.utf8) > LONG:
             made = await trio.to_thread.run_sync(Written, self.below.utf8)
@@ -60,10 +60,10 @@ class Session:
         """The text as a whole, and behind which write that is; again where there is one meanwhile, but not for ever."""
         for _ in range(TRIES):
             version, text = self.version, self.text()
-            content: bytes = await in_thread_if(text.size > LONG, text.whole)
+            content: bytes = await in_thread_if(text.size > LONG, text.copy)
             if version == self.version:
                 return version, content
-        return self.version, self.text().whole()
+        return self.version, self.text().copy()
 
     def write(self, offset: int, content: bytes) -> None:
         """Puts bytes of UTF-8 somewhere."""

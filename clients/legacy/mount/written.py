@@ -38,7 +38,7 @@ class Written:
         """So many bytes from a place on, or fewer where it ends."""
         return read_at(self._file, min(size, self.size - at), at)
 
-    def whole(self) -> bytes:
+    def copy(self) -> bytes:
         """All of it."""
         return self.read(self.size)
 
