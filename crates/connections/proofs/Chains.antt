@@ -1,8 +1,10 @@
 -- What was delivered before, and what is delivered next.
-use Rattle.std.proofs.Common.{◌≡◌, ℕ, ◌+◌, ◌≤◌, ◌≢◌, List, [], ◌∷◌, ◌++◌, Option, Err, refl, sym, ap, ◌∙◌, subst, append_assoc}
-use Rattle.connections.proofs.Prelude.{Appends-trans, Appends-nil, Consumes-trans, Consumes-nil, Consumes-kept, Keeps, Office, IsOpen, Delivered}
-use Rattle.connections.proofs.Prelude.{DeliveredUntil, Pumped, PumpedUntil, Pumps, Serves, Breaks, most_reads, IsReadUp, Traffic, RunFault, NotFree}
-use Rattle.connections.proofs.Prelude.{Read, Write, TooManyReads}
+use Rattle.std.proofs.Common.{◌≡◌, ℕ, ◌+◌, List, [], ◌∷◌, ◌++◌, refl, sym, ap, ◌∙◌, subst, append_assoc}
+use Rattle.devices.specs.Devices.{Writes}
+use Rattle.devices.specs.declared.device.Failed.{Failed}
+use Rattle.devices.specs.Reading.{Taken, TakenUntil, TakesEach, joined}
+use Rattle.connections.proofs.Prelude.{Appends-trans, Appends-nil, Office, IsOpen, Delivered, DeliveredUntil, Serves, Breaks, Traffic}
+use Rattle.connections.specs.declared.serve.Connection.{Connection}
 use Rattle.connections.proofs.Cuts.{complete-append, unfinished-append}
 
 pub Serves-append : (o m n : Office) (xs ys : List (List ℕ)) (a b : List ℕ) → Serves o xs a m → Serves m ys b n → Serves o (xs ++ ys) (a ++ b) n
@@ -28,73 +30,62 @@ Serves-Breaks o m n xs ys a b p q = record {
 
 -- ---- bytes that were delivered
 
-pub Delivered-nil : (c : ℕ) (t : Traffic) (x : Option (List ℕ)) → IsOpen t c → Delivered c [] t t x x
+Delivered-nil : (c : ℕ) (t : Traffic) (x : Writes) → IsOpen t c → Delivered c [] t t x x
 Delivered-nil c t x is_open = record {
   out = [];
-  appends = Appends-nil x;
+  appends = Appends-nil x.written;
+  fine = refl;
   serves = λ line b. (refl, refl);
   is_open = is_open;
   begun = λ line b. b;
   others = λ d ne. refl;
 }
 
-pub Delivered-trans : (c : ℕ) (a b : List ℕ) (t u v : Traffic) (x y z : Option (List ℕ)) → Delivered c a t u x y → Delivered c b u v y z → Delivered c (a ++ b) t v x z
+Delivered-trans : (c : ℕ) (a b : List ℕ) (t u v : Traffic) (x y z : Writes) → Delivered c a t u x y → Delivered c b u v y z → Delivered c (a ++ b) t v x z
 Delivered-trans c a b t u v x y z p q = record {
   out = p.out ++ q.out;
-  appends = Appends-trans x y z p.out q.out p.appends q.appends;
+  appends = Appends-trans x.written y.written z.written p.out q.out p.appends q.appends;
+  fine = q.fine ∙ p.fine;
   serves = λ line begun. rw (complete-append line a b) (Serves-append t.office u.office v.office _ _ p.out q.out (p.serves line begun) (q.serves _ (p.begun line begun)));
   is_open = q.is_open;
   begun = λ line begun. rw (unfinished-append line a b) (q.begun _ (p.begun line begun));
   others = λ d ne. q.others d ne ∙ p.others d ne;
 }
 
-pub Delivered-DeliveredUntil : (c : ℕ) (a b : List ℕ) (t u v : Traffic) (x y z : Option (List ℕ)) → Delivered c a t u x y → DeliveredUntil c b u v y z → DeliveredUntil c (a ++ b) t v x z
+Delivered-DeliveredUntil : (c : ℕ) (a b : List ℕ) (t u v : Traffic) (x y z : Writes) → Delivered c a t u x y → DeliveredUntil c b u v y z → DeliveredUntil c (a ++ b) t v x z
 Delivered-DeliveredUntil c a b t u v x y z p q = record {
   out = p.out ++ q.out;
-  appends = Appends-trans x y z p.out q.out p.appends q.appends;
+  appends = Appends-trans x.written y.written z.written p.out q.out p.appends q.appends;
+  failed = q.failed ∙ ap (λ n. n + 1) p.fine;
   breaks = λ line begun. rw (complete-append line a b) (Serves-Breaks t.office u.office v.office _ _ p.out q.out (p.serves line begun) (q.breaks _ (p.begun line begun)));
   is_open = q.is_open;
   others = λ d ne. q.others d ne ∙ p.others d ne;
 }
 
--- ---- bytes that were read
+-- ---- one part after another, by an open connection, whose number stays
 
-pub Pumped-nil : (c : ℕ) (t : Traffic) (h k : List ℕ) (l m x : Option (List ℕ)) → IsOpen t c → k ≡ h ++ [] → Keeps l m → Pumped c t t h k l m x x
-Pumped-nil c t h k l m x is_open none kept = record {
-  read = [];
-  received = none;
-  consumes = Consumes-kept l l m [] (Consumes-nil l) kept;
-  delivered = Delivered-nil c t x is_open;
-}
+module _ {G W : Type 0} (traffic : G → Traffic) (took : W → Writes) where
+  abbrev pub Takes : List ℕ → Connection × G × W → Connection × G × W → Type 0
+  Takes bytes s t = (t.0.c ≡ s.0.c) × Delivered s.0.c bytes (traffic s.1) (traffic t.1) (took s.2) (took t.2)
 
-pub received-trans : (h i k a b : List ℕ) → i ≡ h ++ a → k ≡ i ++ b → k ≡ h ++ (a ++ b)
-received-trans h i k a b p q = q ∙ ap (λ l. l ++ b) p ∙ append_assoc h a b
+  abbrev pub Stops : Failed → List ℕ → Connection × G × W → Connection × G × W → Type 0
+  Stops f bytes s t = DeliveredUntil s.0.c bytes (traffic s.1) (traffic t.1) (took s.2) (took t.2)
 
-pub Pumped-trans : (c : ℕ) (t u v : Traffic) (h i k : List ℕ) (l m n x y z : Option (List ℕ)) → Pumped c t u h i l m x y → Pumped c u v i k m n y z → Pumped c t v h k l n x z
-Pumped-trans c t u v h i k l m n x y z p q = record {
-  read = p.read ++ q.read;
-  received = received-trans h i k p.read q.read p.received q.received;
-  consumes = Consumes-trans l m n p.read q.read p.consumes q.consumes;
-  delivered = Delivered-trans c p.read q.read t u v x y z p.delivered q.delivered;
-}
+  module _ (s : Connection × G × W) (is_open : IsOpen (traffic s.1) s.0.c) where
+    each : (parts : List (List ℕ)) (t : Connection × G × W) → TakesEach Takes parts s t → Takes (joined parts) s t
+    each [] t p = rw p (refl, Delivered-nil s.0.c (traffic s.1) (took s.2) is_open)
+    each (part ∷ parts) t p =
+        let before = each parts p.0 p.1 in (
+          p.2.0 ∙ before.0,
+          Delivered-trans s.0.c (joined parts) part _ _ _ _ _ _ before.1
+              (subst (λ c. Delivered c part (traffic p.0.1) (traffic t.1) (took p.0.2) (took t.2)) before.0 p.2.1),
+        )
 
-Pumped-PumpedUntil : (c : ℕ) (t u v : Traffic) (h i k : List ℕ) (l m n x y z : Option (List ℕ)) → Pumped c t u h i l m x y → PumpedUntil c u v i k m n y z
-    → PumpedUntil c t v h k l n x z
-Pumped-PumpedUntil c t u v h i k l m n x y z p q = record {
-  read = p.read ++ q.read;
-  received = received-trans h i k p.read q.read p.received q.received;
-  consumes = Consumes-trans l m n p.read q.read p.consumes q.consumes;
-  delivered = Delivered-DeliveredUntil c p.read q.read t u v x y z p.delivered q.delivered;
-}
+    pub delivered : (bytes : List ℕ) (t : Connection × G × W) → Taken Takes bytes s t → Delivered s.0.c bytes (traffic s.1) (traffic t.1) (took s.2) (took t.2)
+    delivered bytes t p = rw p.is (each p.parts t p.each).1
 
-pub Pumped-Err : (A B : Type 0) (f : RunFault) (c : ℕ) (t u v : Traffic) (h i k : List ℕ) (l m n x y z : Option (List ℕ)) → Pumped c t u h i l m x y
-    → Pumps {A = A} (Err f) c u v i k m n y z → Pumps {A = B} (Err f) c t v h k l n x z
-Pumped-Err A B NotFree = λ c t u v h i k l m n x y z p q. q
-Pumped-Err A B Read = Pumped-trans
-Pumped-Err A B Write = Pumped-PumpedUntil
-Pumped-Err A B TooManyReads = Pumped-trans
-
--- a fault that came before the most reads
-pub reads_before : (A : Type 0) (f : RunFault) (old new : ℕ) → f ≢ TooManyReads → new ≤ old + most_reads → IsReadUp {A = A} (Err f) old new
-reads_before A TooManyReads old new ne small = absurd (ne refl)
-reads_before A f old new ne small = small
+    pub delivered_until : (f : Failed) (bytes : List ℕ) (t : Connection × G × W) → TakenUntil Takes (Stops f) bytes s t → Stops f bytes s t
+    delivered_until f bytes t p =
+        let before = each p.taken.parts p.mid p.taken.each in
+        rw p.is (Delivered-DeliveredUntil s.0.c p.first p.rest _ _ _ _ _ _ (delivered p.first p.mid p.taken)
+        (subst (λ c. DeliveredUntil c p.rest (traffic p.mid.1) (traffic t.1) (took p.mid.2) (took t.2)) before.0 p.stops))

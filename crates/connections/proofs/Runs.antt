@@ -1,7 +1,16 @@
 -- A connection that opens, is pumped and closes.
-use Rattle.std.proofs.Common.{◌≡◌, ℕ, ◌<◌, List, [], length, Option, None, Some, Result, Ok, Err, refl, sym, ap, ◌∙◌, subst, get_or-set_other}
-use Rattle.connections.proofs.Prelude.{get_or-set_same, Office, Pumped, PumpedUntil, Pumps, Begun, line_at, with_line, complete, Serves, Breaks}
-use Rattle.connections.proofs.Prelude.{SameOthers, Ran, RanUntil, RunGives, Traffic, Received, RunFault, NotFree, Read, Write, TooManyReads}
+use Rattle.std.proofs.Common.{◌≡◌, ℕ, ◌+◌, ◌<◌, List, [], length, None, Some, Result, Ok, Err, refl, sym, ap, ◌∙◌, subst, add-zero, get_or-set_other}
+use Rattle.devices.specs.Devices.{Reads, Writes}
+use Rattle.devices.specs.Reading.{Pumps, ReadSo, Taken}
+use Rattle.devices.specs.declared.device.Failed.{Failed}
+use Rattle.devices.specs.declared.reading.Stop.{Stop}
+use Rattle.devices.specs.declared.reading.Stop.TheVariants.{Read, TooManyReads, Taker}
+use Rattle.connections.proofs.Prelude.{get_or-set_same, Office, Delivered, DeliveredUntil, Begun, line_at, with_line, complete, Serves, Breaks}
+use Rattle.connections.proofs.Prelude.{IsOpen, SameOthers, Ran, RanUntil, RunGives, Traffic, Received}
+use Rattle.connections.specs.Delivery.{fault_by}
+use Rattle.connections.specs.Serving.{write_failures_of}
+use Rattle.connections.specs.declared.serve.Connection.{Connection}
+use Rattle.connections.proofs.Chains.{Takes, Stops, delivered, delivered_until}
 
 -- connection c opened
 pub record Opened (t u : Traffic) (c : ℕ) : Type 0 where
@@ -15,10 +24,10 @@ pub record Closed (t u : Traffic) (c : ℕ) : Type 0 where
 
 -- ---- between the two
 
-module _ (c : ℕ) (t u v w : Traffic) (h k : List ℕ) (l m x y : Option (List ℕ)) (opened : Opened t u c) (closed : Closed v w c) where
+module _ {c : ℕ} {t u v w : Traffic} (opened : Opened t u c) (closed : Closed v w c) where
   others : SameOthers u v c → SameOthers t w c
-  others delivered d ne =
-      ap (λ s. line_at s d) closed.is ∙ get_or-set_other v.lines c d None None ne ∙ delivered d ne
+  others same d ne =
+      ap (λ s. line_at s d) closed.is ∙ get_or-set_other v.lines c d None None ne ∙ same d ne
       ∙ ap (λ s. line_at s d) opened.is ∙ get_or-set_other t.lines c d (Some (Received [])) None ne
 
   begun : Begun u c []
@@ -34,33 +43,48 @@ module _ (c : ℕ) (t u v w : Traffic) (h k : List ℕ) (l m x y : Option (List 
   moved : (P : Office → Office → Type 0) → P u.office v.office → P t.office w.office
   moved P p = subst (λ n. P t.office n) (sym (ap (λ s. s.office) closed.is)) (subst (λ o. P o v.office) (ap (λ s. s.office) opened.is) p)
 
-  ran : Pumped c u v h k l m x y → Ran c t w h k l m x y
-  ran p = record {
-    read = p.read;
-    out = p.delivered.out;
-    received = p.received;
-    consumes = p.consumes;
-    appends = p.delivered.appends;
-    serves = moved (λ o n. Serves o (complete [] p.read) p.delivered.out n) (p.delivered.serves [] begun);
+  pub ran : {x y : Writes} {read : List ℕ} → Delivered c read u v x y → Ran c read t w x.written y.written
+  ran {x} {y} {read} p = record {
+    out = p.out;
+    appends = p.appends;
+    serves = moved (λ o n. Serves o (complete [] read) p.out n) (p.serves [] begun);
     closed = gone;
-    others = others p.delivered.others;
+    others = others p.others;
   }
 
-  ran_until : PumpedUntil c u v h k l m x y → RanUntil c t w h k l m x y
-  ran_until p = record {
-    read = p.read;
-    out = p.delivered.out;
-    received = p.received;
-    consumes = p.consumes;
-    appends = p.delivered.appends;
-    breaks = moved (λ o n. Breaks o (complete [] p.read) p.delivered.out n) (p.delivered.breaks [] begun);
+  pub ran_until : {x y : Writes} {read : List ℕ} → DeliveredUntil c read u v x y → RanUntil c read t w x.written y.written
+  ran_until {x} {y} {read} p = record {
+    out = p.out;
+    appends = p.appends;
+    breaks = moved (λ o n. Breaks o (complete [] read) p.out n) (p.breaks [] begun);
     closed = gone;
-    others = others p.delivered.others;
+    others = others p.others;
   }
 
-  pub runs : {A : Type 0} (r : Result A RunFault) → Pumps r c u v h k l m x y → RunGives r c t w h k l m x y
-  runs (Ok _) = ran
-  runs (Err NotFree) = λ no. absurd no
-  runs (Err Read) = ran
-  runs (Err Write) = ran_until
-  runs (Err TooManyReads) = ran
+-- ---- by how the pump ended
+
+module _ {G W : Type 0} (traffic : G → Traffic) (took : W → Writes) (first last : Reads) (s r : Connection × G × W) (is_open : IsOpen (traffic s.1) s.0.c) where
+  abbrev pub Pumped : (A : Type 0) → Result A (Stop Failed) → Type 0
+  Pumped A result = Pumps {A = A} (Takes traffic took) (Stops traffic took) result first last s r
+
+  pub still_open : (A : Type 0) (result : Result A (Stop Failed)) → Pumped A result → IsOpen (traffic r.1) s.0.c
+  still_open A (Err (Taker f)) p = (delivered_until traffic took s is_open f p.read r p.holds).is_open
+  still_open A (Ok a) p = (delivered traffic took s is_open p.read r p.holds).is_open
+  still_open A (Err Read) p = (delivered traffic took s is_open p.read r p.holds).is_open
+  still_open A (Err TooManyReads) p = (delivered traffic took s is_open p.read r p.holds).is_open
+
+  module _ (t w : Traffic) (opened : Opened t (traffic s.1) s.0.c) (closed : Closed (traffic r.1) w s.0.c) where
+    pub runs_fine : ReadSo (λ read. Taken (Takes traffic took) read s r) first last
+        → ReadSo (λ read. Ran s.0.c read t w (took s.2).written (took r.2).written) first last × ((took r.2).failures ≡ (took s.2).failures)
+    runs_fine p =
+        let done = delivered traffic took s is_open p.read r p.holds in
+        (record { read = p.read; received = p.received; consumes = p.consumes; holds = ran opened closed done }, done.fine)
+
+    pub runs_stopped : (A B : Type 0) (stop : Stop Failed) → Pumped A (Err stop)
+        → RunGives {A = B} (Err (fault_by stop)) s.0.c t w first last (took s.2).written (took r.2).written
+        × ((took r.2).failures ≡ (took s.2).failures + write_failures_of {A = B} (Err (fault_by stop)))
+    runs_stopped A B Read p = let done = runs_fine p in (done.0, done.1 ∙ sym (add-zero (took s.2).failures))
+    runs_stopped A B TooManyReads p = let done = runs_fine p in (done.0, done.1 ∙ sym (add-zero (took s.2).failures))
+    runs_stopped A B (Taker f) p =
+        let done = delivered_until traffic took s is_open f p.read r p.holds in
+        (record { read = p.read; received = p.received; consumes = p.consumes; holds = ran_until opened closed done }, done.failed)

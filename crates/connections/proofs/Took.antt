@@ -1,11 +1,11 @@
 -- One event of bytes, and the write of its reply.
-use Rattle.std.proofs.Common.{◌≡◌, ℕ, ◌<◌, ◌≤◌, Bool, true, false, nat_lt, List, [], ◌∷◌, ◌++◌, length, take, Option, None, Some, Ok, Err, if◌then◌else◌, refl, sym, ap, ◌∙◌, subst, append-nil, arith}
+use Rattle.std.proofs.Common.{◌≡◌, ℕ, ◌+◌, ◌<◌, ◌≤◌, Bool, true, false, nat_lt, List, [], ◌∷◌, ◌++◌, length, take, Option, None, Some, Ok, Err, if◌then◌else◌, refl, sym, ap, ◌∙◌, subst, append-nil, arith}
 use Rattle.connections.proofs.Prelude.{take_all, is_some, get_or-set_other, get_or-set_same, ltb-true, lt-ltb, Appends-nil, Appends, IsOpen}
 use Rattle.connections.proofs.Prelude.{Delivered, DeliveredUntil, Begun, WritesReply, connections, at_number, unless_open, unless_bad_number, line_at}
 use Rattle.connections.proofs.Prelude.{Took, has_end, before_end, complete, SameOthers, Traffic, Partial, Stands, GateFault}
 use Rattle.connections.specs.declared.gateway.GateFault.TheVariants.{BadNumber}
 use Rattle.line_protocol.specs.Step.{Replies}
-use Rattle.devices.specs.Devices.{AppendsPart}
+use Rattle.devices.specs.Devices.{AppendsPart, Writes}
 use Rattle.connections.proofs.Cuts.{complete_without, unfinished_without, before_without, cut_at_end, complete_at_end, unfinished_at_end, taken_at_end}
 
 -- ---- connections
@@ -59,15 +59,16 @@ module _ (t u : Traffic) (c taken : ℕ) (bytes : List ℕ) (reply : Option (Lis
 
 -- ---- no reply
 
-delivered_silent : (t u : Traffic) (c taken : ℕ) (bytes : List ℕ) (out : Option (List ℕ)) → Took t c bytes taken None u → IsOpen t c → length t.lines ≡ connections
-    → Delivered c (take taken bytes) t u out out
-delivered_silent t u c taken bytes out took is_open count =
+delivered_silent : (t u : Traffic) (c taken : ℕ) (bytes : List ℕ) (x y : Writes) → Took t c bytes taken None u → IsOpen t c → length t.lines ≡ connections
+    → y.written ≡ x.written → y.failures ≡ x.failures → Delivered c (take taken bytes) t u x y
+delivered_silent t u c taken bytes x y took is_open count same fine =
     let e : has_end bytes ≡ false = replied t u c taken bytes None took in
     let step = rw e at took.takes.step in
     let gone : taken ≡ length bytes = rw e at took.takes.count in
     rw (take_all taken bytes (omega (arith, gone))) (record {
       out = [];
-      appends = Appends-nil out;
+      appends = subst (λ w. Appends x.written w []) (sym same) (Appends-nil x.written);
+      fine = fine;
       serves = λ line b. rw (complete_without line bytes e) (refl, step.same);
       is_open = open_after t u c taken bytes None took is_open count;
       begun = λ line b. record {
@@ -96,10 +97,11 @@ module _ (t u : Traffic) (c taken : ℕ) (bytes text : List ℕ) (took : Took t 
       ∙ taken_at_end bytes (before_end bytes) (cut_at_end bytes ended).0 (cut_at_end bytes ended).1
 
   -- a reply came, and was written
-  delivered_answered : (before after : Option (List ℕ)) → Appends before after text → Delivered c (take taken bytes) t u before after
-  delivered_answered before after gone = rw front (record {
+  delivered_answered : (x y : Writes) → Appends x.written y.written text → y.failures ≡ x.failures → Delivered c (take taken bytes) t u x y
+  delivered_answered x y gone fine = rw front (record {
     out = text;
     appends = gone;
+    fine = fine;
     serves = λ line b. rw (complete_at_end line (before_end bytes) [] (before_without bytes)) (u.office, text, [], answers line b, sym (append-nil text), (refl, refl));
     is_open = open_after t u c taken bytes (Some text) took is_open count;
     begun = λ line b. record {
@@ -111,10 +113,11 @@ module _ (t u : Traffic) (c taken : ℕ) (bytes text : List ℕ) (took : Took t 
   })
 
   -- a reply came, and its write broke off
-  delivered_broken : (before after : Option (List ℕ)) → AppendsPart before after text → DeliveredUntil c bytes t u before after
-  delivered_broken before after gone = record {
+  delivered_broken : (x y : Writes) → AppendsPart x.written y.written text → y.failures ≡ x.failures + 1 → DeliveredUntil c bytes t u x y
+  delivered_broken x y gone failed = record {
     out = gone.0;
     appends = gone.4;
+    failed = failed;
     breaks = λ line b. record {
       first = [];
       last = line ++ before_end bytes;
@@ -135,13 +138,12 @@ module _ (t u : Traffic) (c taken : ℕ) (bytes text : List ℕ) (took : Took t 
 
 -- ---- by the write of the reply
 
-pub delivered_written : (A E : Type 0) (x : A) (t u : Traffic) (c taken : ℕ) (bytes : List ℕ) (reply before after : Option (List ℕ)) → Took t c bytes taken reply u → IsOpen t c → length t.lines ≡ connections
-    → WritesReply {A = A} {E = E} (Ok x) reply before after → Delivered c (take taken bytes) t u before after
-delivered_written A E x t u c taken bytes None before after took is_open count same =
-    subst (λ w. Delivered c (take taken bytes) t u before w) (sym same) (delivered_silent t u c taken bytes before took is_open count)
-delivered_written A E x t u c taken bytes (Some text) before after took is_open count gone = delivered_answered t u c taken bytes text took is_open count before after gone
+pub delivered_written : (A E : Type 0) (a : A) (t u : Traffic) (c taken : ℕ) (bytes : List ℕ) (reply : Option (List ℕ)) (x y : Writes) → Took t c bytes taken reply u → IsOpen t c → length t.lines ≡ connections
+    → WritesReply {A = A} {E = E} (Ok a) reply x.written y.written → y.failures ≡ x.failures → Delivered c (take taken bytes) t u x y
+delivered_written A E a t u c taken bytes None x y took is_open count same fine = delivered_silent t u c taken bytes x y took is_open count same fine
+delivered_written A E a t u c taken bytes (Some text) x y took is_open count gone fine = delivered_answered t u c taken bytes text took is_open count x y gone fine
 
-pub delivered_unwritten : (A E : Type 0) (e : E) (t u : Traffic) (c taken : ℕ) (bytes : List ℕ) (reply before after : Option (List ℕ)) → Took t c bytes taken reply u → IsOpen t c → length t.lines ≡ connections
-    → WritesReply {A = A} {E = E} (Err e) reply before after → DeliveredUntil c bytes t u before after
-delivered_unwritten A E e t u c taken bytes None before after took is_open count never = absurd never
-delivered_unwritten A E e t u c taken bytes (Some text) before after took is_open count gone = delivered_broken t u c taken bytes text took is_open count before after gone
+pub delivered_unwritten : (A E : Type 0) (e : E) (t u : Traffic) (c taken : ℕ) (bytes : List ℕ) (reply : Option (List ℕ)) (x y : Writes) → Took t c bytes taken reply u → IsOpen t c → length t.lines ≡ connections
+    → WritesReply {A = A} {E = E} (Err e) reply x.written y.written → y.failures ≡ x.failures + 1 → DeliveredUntil c bytes t u x y
+delivered_unwritten A E e t u c taken bytes None x y took is_open count never failed = absurd never
+delivered_unwritten A E e t u c taken bytes (Some text) x y took is_open count gone failed = delivered_broken t u c taken bytes text took is_open count x y gone failed

@@ -1,6 +1,8 @@
 -- Lines that are answered one after another, and a run over devices.
-use Rattle.std.specs.Prelude.{◌≡◌, ℕ, ◌+◌, ◌<◌, ◌≤◌, ◌≢◌, ◌^◌, List, [], ◌∷◌, ◌++◌, length, Option, None, Result, Ok, Err}
-use Rattle.std.specs.Io.KnownBytes.{Consumes, Appends}
+use Rattle.std.specs.Prelude.{◌≡◌, ℕ, ◌<◌, ◌≢◌, List, [], ◌∷◌, ◌++◌, length, Option, None, Result, Ok, Err}
+use Rattle.std.specs.Io.KnownBytes.{Appends}
+use Rattle.devices.specs.Devices.{Reads}
+use Rattle.devices.specs.Reading.{Ending, AtEnd, ReadFailed, GivenUp, BrokenOff, ReadSo}
 use Rattle.connections.specs.declared.serve.RunFault.{RunFault}
 use Rattle.connections.specs.declared.serve.RunFault.TheVariants.{NotFree, Read, Write, TooManyReads}
 use Rattle.desk.specs.Desk.{Office}
@@ -34,58 +36,38 @@ pub record Breaks (old : Office) (lines : List (List ℕ)) (out : List ℕ) (new
 abbrev pub SameOthers : Traffic → Traffic → ℕ → Type 0
 SameOthers old new c = (d : ℕ) → d ≢ c → line_at new d ≡ line_at old d
 
--- Bytes were read on connection c, which is what the reader's reads returned, the replies to their complete lines were written, and c is closed.
-pub record Ran (c : ℕ) (old new : Traffic) (had has : List ℕ) (left rest before after : Option (List ℕ)) : Type 0 where
-  pub read : List ℕ
+-- The replies to the complete lines of these bytes were written on connection c, and c is closed.
+pub record Ran (c : ℕ) (read : List ℕ) (old new : Traffic) (before after : Option (List ℕ)) : Type 0 where
   pub out : List ℕ
-  pub received : has ≡ had ++ read
-  pub consumes : Consumes left rest read
   pub appends : Appends before after out
   pub serves : Serves old.office (complete [] read) out new.office
   pub closed : line_at new c ≡ None
   pub others : SameOthers old new c
 
--- Bytes were read on connection c, the writing of the replies to their complete lines broke off, and c is closed.
-pub record RanUntil (c : ℕ) (old new : Traffic) (had has : List ℕ) (left rest before after : Option (List ℕ)) : Type 0 where
-  pub read : List ℕ
+-- The writing of the replies to the complete lines of these bytes broke off on connection c, and c is closed.
+pub record RanUntil (c : ℕ) (read : List ℕ) (old new : Traffic) (before after : Option (List ℕ)) : Type 0 where
   pub out : List ℕ
-  pub received : has ≡ had ++ read
-  pub consumes : Consumes left rest read
   pub appends : Appends before after out
   pub breaks : Breaks old.office (complete [] read) out new.office
   pub closed : line_at new c ≡ None
   pub others : SameOthers old new c
 
--- what a run does, by its answer
-abbrev pub RunGives : {A : Type 0} → Result A RunFault → ℕ → Traffic → Traffic → List ℕ → List ℕ → Option (List ℕ) → Option (List ℕ) → Option (List ℕ) → Option (List ℕ) → Type 0
-RunGives (Ok x) c old new had has left rest before after = Ran c old new had has left rest before after
-RunGives (Err NotFree) c old new had has left rest before after = new ≡ old
-RunGives (Err Read) c old new had has left rest before after = Ran c old new had has left rest before after
-RunGives (Err Write) c old new had has left rest before after = RanUntil c old new had has left rest before after
-RunGives (Err TooManyReads) c old new had has left rest before after = Ran c old new had has left rest before after
+-- what a run does with the bytes that it reads, by its answer
+abbrev pub RunGives : {A : Type 0} → Result A RunFault → ℕ → Traffic → Traffic → Reads → Reads → Option (List ℕ) → Option (List ℕ) → Type 0
+RunGives (Err NotFree) c old new first last before after = new ≡ old
+RunGives (Err Write) c old new first last before after = ReadSo (λ read. RanUntil c read old new before after) first last
+RunGives r c old new first last before after = ReadSo (λ read. Ran c read old new before after) first last
 
 -- ---- the devices' numbers, by a run's answer
 
--- how many of the reads reported the end
-abbrev pub ends_of : {A : Type 0} → Result A RunFault → ℕ
-ends_of (Ok x) = 1
-ends_of (Err e) = 0
-
--- how many of the reads failed
-abbrev pub read_failures_of : {A : Type 0} → Result A RunFault → ℕ
-read_failures_of (Err Read) = 1
-read_failures_of r = 0
+-- how the reading ended
+abbrev pub run_ended : {A : Type 0} → Result A RunFault → Ending
+run_ended (Ok x) = AtEnd
+run_ended (Err Read) = ReadFailed
+run_ended (Err TooManyReads) = GivenUp
+run_ended (Err fault) = BrokenOff
 
 -- how many of the writes failed
 abbrev pub write_failures_of : {A : Type 0} → Result A RunFault → ℕ
 write_failures_of (Err Write) = 1
 write_failures_of r = 0
-
--- the most reads of a run
-abbrev pub most_reads : ℕ
-most_reads = 2 ^ 32
-
--- The number of reads, before and after a run: the most where the run says so, and no more otherwise.
-abbrev pub IsReadUp : {A : Type 0} → Result A RunFault → ℕ → ℕ → Type 0
-IsReadUp (Err TooManyReads) old new = new ≡ old + most_reads
-IsReadUp r old new = new ≤ old + most_reads

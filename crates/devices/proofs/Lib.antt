@@ -1,1 +1,2 @@
 mod Slices
+mod Taking

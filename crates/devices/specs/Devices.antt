@@ -1,5 +1,5 @@
 -- What calls of a device do to its bytes and its numbers.
-use Rattle.std.specs.Prelude.{◌≡◌, ℕ, ◌+◌, ◌<◌, ◌==◌, ◌&&◌, nat_lt, List, [], ◌++◌, length, take, Option, Result, Ok, Err, if◌then◌else◌}
+use Rattle.std.specs.Prelude.{◌≡◌, ℕ, ◌+◌, ◌<◌, ◌==◌, ◌&&◌, nat_lt, List, [], ◌++◌, length, take, Option, Some, Result, Ok, Err, if◌then◌else◌}
 use Rattle.std.specs.Io.KnownBytes.{Appends}
 use Rattle.devices.specs.declared.count.Count.{Count, fold-Count}
 use Rattle.devices.specs.declared.count.Count.TheOpen.{Count-F}
@@ -13,6 +13,38 @@ once_more (Count-F.After before) = before.value + 1
 -- how often
 abbrev pub counted : Count → ℕ
 counted = fold-Count ℕ once_more
+
+-- ---- devices
+
+-- what contracts know of what is read from
+pub record Reads : Type 0 where
+  -- the bytes that its reads returned
+  pub received : List ℕ
+  -- the bytes that are still to be read, where they are known
+  pub left : Option (List ℕ)
+  -- how often it was read
+  pub reads : ℕ
+  -- how many of the reads reported the end
+  pub ends : ℕ
+  -- how many of the reads failed
+  pub failures : ℕ
+
+-- what contracts know of what is written to
+pub record Writes : Type 0 where
+  -- the bytes that its writes took, where they are known, as of each device here
+  pub written : Option (List ℕ)
+  -- how often it was written to
+  pub writes : ℕ
+  -- how many of the writes failed
+  pub failures : ℕ
+
+-- what has these bytes left, and wasn't read yet
+abbrev pub unread : Option (List ℕ) → Reads
+unread known = record { received = []; left = known; reads = 0; ends = 0; failures = 0 }
+
+-- what wasn't written to yet
+abbrev pub unwritten : Writes
+unwritten = record { written = Some []; writes = 0; failures = 0 }
 
 -- ---- calls
 

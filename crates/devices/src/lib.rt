@@ -14,6 +14,6 @@ pub use device::{Failed, Feed, Outlet, write_all};
 pub use history::History;
 pub use laws::law_slices;
 pub use memory::{MemFeed, MemOutlet};
-pub use reading::{MOST_READS, Progress, READ_BUFFER};
+pub use reading::{READ_BUFFER, Stop, Taker, pump};
 pub use stream::{FromRead, ToWrite};
 pub use wire::{Arrival, Wire};

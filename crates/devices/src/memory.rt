@@ -1,6 +1,6 @@
 //! Devices over memory.
-ghost use Rattle.std.specs.Prelude.{◌≡◌, Some, []};
-ghost use Rattle.devices.specs.Devices.{counted};
+ghost use Rattle.std.specs.Prelude.{◌≡◌, Some};
+ghost use Rattle.devices.specs.Devices.{counted, unread, unwritten};
 ghost use Rattle.devices.specs.Histories.{bytes_of};
 
 use crate::count::Count;
@@ -20,10 +20,7 @@ pub struct MemFeed<'a> {
 impl<'a> MemFeed<'a> {
     /// The device from which these bytes are read, and then the end.
     pub fn new(bytes: &'a [u8]) -> MemFeed<'a>
-        ensures received { ⟦<MemFeed<'a> as Feed>⟧.received result ≡ [] }
-        ensures left { ⟦<MemFeed<'a> as Feed>⟧.left result ≡ Some bytes.now }
-        ensures reads { ⟦<MemFeed<'a> as Feed>⟧.reads result ≡ 0 }
-        ensures ends { ⟦<MemFeed<'a> as Feed>⟧.ends result ≡ 0 }
+        ensures { ⟦<MemFeed<'a> as Feed>⟧.seen result ≡ unread (Some bytes.now) }
     {
         MemFeed {
             rest: bytes,
@@ -35,15 +32,13 @@ impl<'a> MemFeed<'a> {
 }
 
 impl<'a> Feed for MemFeed<'a> {
-    ghost received = { λ d. bytes_of d.received };
-
-    ghost left = { λ d. Some d.rest.now };
-
-    ghost reads = { λ d. counted d.reads };
-
-    ghost ends = { λ d. counted d.ends };
-
-    ghost failures = { λ _. 0 };
+    ghost seen = { λ d. record {
+      received = bytes_of d.received;
+      left = Some d.rest.now;
+      reads = counted d.reads;
+      ends = counted d.ends;
+      failures = 0;
+    } };
 
     fn read(&mut self, buf: &mut [u8]) -> Result<usize, Failed> {
         self.reads.next();
@@ -69,9 +64,7 @@ pub struct MemOutlet {
 impl MemOutlet {
     /// An empty buffer.
     pub fn new(alloc: Global) -> MemOutlet
-        ensures written { ⟦<MemOutlet as Outlet>⟧.written result ≡ Some [] }
-        ensures writes { ⟦<MemOutlet as Outlet>⟧.writes result ≡ 0 }
-        ensures failures { ⟦<MemOutlet as Outlet>⟧.failures result ≡ 0 }
+        ensures { ⟦<MemOutlet as Outlet>⟧.took result ≡ unwritten }
     {
         MemOutlet {
             contents: Vec::new(alloc),
@@ -82,18 +75,18 @@ impl MemOutlet {
 
     /// What was written.
     pub fn bytes(&self) -> &[u8]
-        ensures { ⟦<MemOutlet as Outlet>⟧.written self.now ≡ Some result.now }
+        ensures { (⟦<MemOutlet as Outlet>⟧.took self.now).written ≡ Some result.now }
     {
         &self.contents
     }
 }
 
 impl Outlet for MemOutlet {
-    ghost written = { λ d. Some d.contents.items };
-
-    ghost writes = { λ d. counted d.writes };
-
-    ghost failures = { λ d. counted d.failures };
+    ghost took = { λ d. record {
+      written = Some d.contents.items;
+      writes = counted d.writes;
+      failures = counted d.failures;
+    } };
 
     fn write(&mut self, buf: &[u8]) -> Result<usize, Failed> {
         self.writes.next();

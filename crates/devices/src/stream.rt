@@ -1,7 +1,7 @@
 //! Devices over std's readers and writers. They record what the reads returned and what the writes
 //! took, so that contracts know the bytes of a stream of the system too.
-ghost use Rattle.std.specs.Prelude.{◌≡◌, [], Some};
-ghost use Rattle.devices.specs.Devices.{counted};
+ghost use Rattle.std.specs.Prelude.{◌≡◌, Some};
+ghost use Rattle.devices.specs.Devices.{counted, unread, unwritten};
 ghost use Rattle.devices.specs.Histories.{bytes_of};
 
 use crate::count::Count;
@@ -22,11 +22,7 @@ pub struct FromRead<R> {
 impl<R: Read> FromRead<R> {
     /// The device over `reader`, with no reads yet.
     pub fn new(reader: R) -> FromRead<R>
-        ensures received { ⟦<FromRead<R> as Feed>⟧.received result ≡ [] }
-        ensures left { ⟦<FromRead<R> as Feed>⟧.left result ≡ R.remaining reader }
-        ensures reads { ⟦<FromRead<R> as Feed>⟧.reads result ≡ 0 }
-        ensures ends { ⟦<FromRead<R> as Feed>⟧.ends result ≡ 0 }
-        ensures failures { ⟦<FromRead<R> as Feed>⟧.failures result ≡ 0 }
+        ensures { ⟦<FromRead<R> as Feed>⟧.seen result ≡ unread (R.remaining reader) }
     {
         FromRead {
             reader,
@@ -39,15 +35,13 @@ impl<R: Read> FromRead<R> {
 }
 
 impl<R: Read> Feed for FromRead<R> {
-    ghost received = { λ d. bytes_of d.received };
-
-    ghost left = { λ d. R.remaining d.reader };
-
-    ghost reads = { λ d. counted d.reads };
-
-    ghost ends = { λ d. counted d.ends };
-
-    ghost failures = { λ d. counted d.failures };
+    ghost seen = { λ d. record {
+      received = bytes_of d.received;
+      left = R.remaining d.reader;
+      reads = counted d.reads;
+      ends = counted d.ends;
+      failures = counted d.failures;
+    } };
 
     fn read(&mut self, buf: &mut [u8]) -> Result<usize, Failed> {
         self.reads.next();
@@ -80,9 +74,7 @@ pub struct ToWrite<W> {
 impl<W: Write> ToWrite<W> {
     /// The device over `writer`, with no writes yet.
     pub fn new(writer: W) -> ToWrite<W>
-        ensures written { ⟦<ToWrite<W> as Outlet>⟧.written result ≡ Some [] }
-        ensures writes { ⟦<ToWrite<W> as Outlet>⟧.writes result ≡ 0 }
-        ensures failures { ⟦<ToWrite<W> as Outlet>⟧.failures result ≡ 0 }
+        ensures { ⟦<ToWrite<W> as Outlet>⟧.took result ≡ unwritten }
     {
         ToWrite {
             writer,
@@ -94,11 +86,11 @@ impl<W: Write> ToWrite<W> {
 }
 
 impl<W: Write> Outlet for ToWrite<W> {
-    ghost written = { λ d. Some (bytes_of d.taken) };
-
-    ghost writes = { λ d. counted d.writes };
-
-    ghost failures = { λ d. counted d.failures };
+    ghost took = { λ d. record {
+      written = Some (bytes_of d.taken);
+      writes = counted d.writes;
+      failures = counted d.failures;
+    } };
 
     fn write(&mut self, buf: &[u8]) -> Result<usize, Failed> {
         self.writes.next();

@@ -1,6 +1,7 @@
 -- What a run or a trace on the gateway that it begins with is.
 use Rattle.std.proofs.Common.{◌≡◌, ℕ, List, Option, Result, subst}
 use Rattle.gateway.specs.Serving.{RunGives}
+use Rattle.gateway.specs.Devices.{Reads}
 use Rattle.gateway.specs.Traffic.{Traffic}
 use Rattle.gateway.specs.RunFault.{RunFault}
 use Rattle.gateway.specs.Trace.{Traces}
@@ -8,8 +9,8 @@ use Rattle.gateway.specs.declared.traces.fault.TraceFault.{TraceFault}
 use Rattle.gate.specs.Serving.{Served}
 use Rattle.gate.specs.Replaying.{Replayed}
 
-pub served : {A : Type 0} (a : Result A RunFault) (b t new : Traffic) (h k : List ℕ) (w x y z : Option (List ℕ)) → t ≡ b → RunGives a 0 t new h k w x y z → Served a b h k w x y z
-served a b t new h k w x y z is ran = record { new = new; runs = subst (λ s. RunGives a 0 s new h k w x y z) is ran }
+pub served : {A : Type 0} (a : Result A RunFault) (b t new : Traffic) (x y : Reads) (w z : Option (List ℕ)) → t ≡ b → RunGives a 0 t new x y w z → Served a b x y w z
+served a b t new x y w z is ran = record { new = new; runs = subst (λ s. RunGives a 0 s new x y w z) is ran }
 
-pub replayed : {A : Type 0} (a : Result A TraceFault) (b t new : Traffic) (h k : List ℕ) (w x y z : Option (List ℕ)) → t ≡ b → Traces a t new h k w x y z → Replayed a b h k w x y z
-replayed a b t new h k w x y z is played = record { new = new; traces = subst (λ s. Traces a s new h k w x y z) is played }
+pub replayed : {A : Type 0} (a : Result A TraceFault) (b t new : Traffic) (x y : Reads) (w z : Option (List ℕ)) → t ≡ b → Traces a t new x y w z → Replayed a b x y w z
+replayed a b t new x y w z is played = record { new = new; traces = subst (λ s. Traces a s new x y w z) is played }

@@ -1,6 +1,7 @@
 -- What the program does with a trace: it is played by a gateway that begins with no document.
 use Rattle.std.specs.Prelude.{ℕ, List, Option, Result, Ok, Err}
 use Rattle.gateway.specs.Trace.{Traces}
+use Rattle.gateway.specs.Devices.{Reads}
 use Rattle.gateway.specs.Traffic.{Traffic}
 use Rattle.gateway.specs.declared.traces.fault.TraceFault.{TraceFault}
 use Rattle.gateway.specs.declared.traces.fault.TraceFault.TheVariants as fault
@@ -18,6 +19,6 @@ trace_answer (Err OutOfMemory) = Err fault.OutOfMemory
 trace_answer (Err failure) = Err (fault.BadLine 0)
 
 -- the trace, and the gateway after it
-pub record Replayed {A : Type 0} (answer : Result A TraceFault) (old : Traffic) (had has : List ℕ) (left rest before after : Option (List ℕ)) : Type 0 where
+pub record Replayed {A : Type 0} (answer : Result A TraceFault) (old : Traffic) (first last : Reads) (before after : Option (List ℕ)) : Type 0 where
   pub new : Traffic
-  pub traces : Traces answer old new had has left rest before after
+  pub traces : Traces answer old new first last before after

@@ -6,6 +6,7 @@ use Rattle.enc_names.specs.Labels.{LabelTable}
 use Rattle.index_loader.specs.Files.{Files}
 use Rattle.gateway.specs.Events.{connections}
 use Rattle.gateway.specs.Serving.{RunGives}
+use Rattle.gateway.specs.Devices.{Reads}
 use Rattle.gateway.specs.Traffic.{Traffic}
 use Rattle.gateway.specs.RunFault.{RunFault}
 use Rattle.gateway.specs.RunFault.TheVariants as fault
@@ -29,6 +30,6 @@ run_answer (Err TooManyReads) = Err fault.TooManyReads
 run_answer (Err failure) = Err fault.NotFree
 
 -- the run on connection 0, and the gateway behind it
-pub record Served {A : Type 0} (answer : Result A RunFault) (old : Traffic) (had has : List ℕ) (left rest before after : Option (List ℕ)) : Type 0 where
+pub record Served {A : Type 0} (answer : Result A RunFault) (old : Traffic) (first last : Reads) (before after : Option (List ℕ)) : Type 0 where
   pub new : Traffic
-  pub runs : RunGives answer 0 old new had has left rest before after
+  pub runs : RunGives answer 0 old new first last before after

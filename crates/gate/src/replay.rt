@@ -1,7 +1,6 @@
 //! Playing a trace from the standard input.
-ghost use Rattle.std.specs.Prelude.{◌≡◌, ◌+◌, Err, OnOk};
-ghost use Rattle.std.specs.Io.KnownBytes.{IsAtEnd};
-ghost use Rattle.gateway.specs.Trace.{EndsOnce, IsReadSoFar, trace_read_failures, trace_write_failures};
+ghost use Rattle.std.specs.Prelude.{◌≡◌, ◌+◌, Err};
+ghost use Rattle.gateway.specs.Trace.{TraceReads, trace_write_failures};
 ghost use Rattle.gate.specs.Serving.{beginning};
 ghost use Rattle.gate.specs.Replaying.{trace_answer, Replayed};
 
@@ -26,13 +25,10 @@ pub fn replay<'a, R: Feed, W: Outlet>(
     input: &mut R,
     output: &mut W,
 ) -> Result<(), Failure<'a>>
-    ensures replays { Replayed (trace_answer result) (beginning indexes.now labels) (R.received input.old) (R.received input.new)
-        (R.left input.old) (R.left input.new) (W.written output.old) (W.written output.new) }
-    ensures end { OnOk result (IsAtEnd (R.left input.new)) }
-    ensures ends { EndsOnce (trace_answer result) (R.ends input.old) (R.ends input.new) }
-    ensures reads { IsReadSoFar (trace_answer result) (R.reads input.old) (R.reads input.new) }
-    ensures read_failures { R.failures input.new ≡ R.failures input.old + trace_read_failures (trace_answer result) }
-    ensures write_failures { W.failures output.new ≡ W.failures output.old + trace_write_failures (trace_answer result) }
+    ensures replays { Replayed (trace_answer result) (beginning indexes.now labels) (R.seen input.old) (R.seen input.new)
+        (W.took output.old).written (W.took output.new).written }
+    ensures reads { TraceReads (trace_answer result) (R.seen input.old) (R.seen input.new) }
+    ensures write_failures { (W.took output.new).failures ≡ (W.took output.old).failures + trace_write_failures (trace_answer result) }
 {
     let mut gateway = beginning(alloc, indexes, labels);
     match trace(alloc, &mut gateway, input, output) {

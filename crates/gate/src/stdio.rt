@@ -1,7 +1,7 @@
 //! Serving the standard streams: one connection, from an input to an output.
-ghost use Rattle.std.specs.Prelude.{◌≡◌, ◌+◌, ◌≢◌, Err, OnOk};
-ghost use Rattle.std.specs.Io.KnownBytes.{IsAtEnd};
-ghost use Rattle.gateway.specs.Serving.{ends_of, read_failures_of, write_failures_of, IsReadUp};
+ghost use Rattle.std.specs.Prelude.{◌≡◌, ◌+◌, ◌≢◌, Err};
+ghost use Rattle.gateway.specs.Reading.{ReadUp};
+ghost use Rattle.gateway.specs.Serving.{run_ended, write_failures_of};
 ghost use Rattle.gateway.specs.RunFault.TheVariants.{NotFree};
 ghost use Rattle.gate.specs.Serving.{beginning, run_answer, Served};
 
@@ -27,13 +27,10 @@ pub fn serve_stdio<'a, R: Feed, W: Outlet>(
     output: &mut W,
 ) -> Result<(), Failure<'a>>
     ensures is_free { run_answer result ≢ Err NotFree }
-    ensures runs { Served (run_answer result) (beginning indexes.now labels) (R.received input.old) (R.received input.new)
-        (R.left input.old) (R.left input.new) (W.written output.old) (W.written output.new) }
-    ensures end { OnOk result (IsAtEnd (R.left input.new)) }
-    ensures ends { R.ends input.new ≡ R.ends input.old + ends_of (run_answer result) }
-    ensures reads { IsReadUp (run_answer result) (R.reads input.old) (R.reads input.new) }
-    ensures read_failures { R.failures input.new ≡ R.failures input.old + read_failures_of (run_answer result) }
-    ensures write_failures { W.failures output.new ≡ W.failures output.old + write_failures_of (run_answer result) }
+    ensures runs { Served (run_answer result) (beginning indexes.now labels) (R.seen input.old) (R.seen input.new)
+        (W.took output.old).written (W.took output.new).written }
+    ensures reads { ReadUp (run_ended (run_answer result)) (R.seen input.old) (R.seen input.new) }
+    ensures write_failures { (W.took output.new).failures ≡ (W.took output.old).failures + write_failures_of (run_answer result) }
 {
     let mut gateway = beginning(alloc, indexes, labels);
     match run(&mut gateway, 0, input, output) {

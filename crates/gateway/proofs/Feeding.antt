@@ -1,9 +1,10 @@
 -- Lines of a trace, one after another.
-use Rattle.std.proofs.Common.{◌≡◌, ℕ, ◌+◌, ◌<◌, Bool, true, false, List, [], ◌∷◌, ◌++◌, length, take, Option, Err, refl, sym, ap, ◌∙◌, subst, append_assoc, append-nil, arith, length-append}
+use Rattle.std.proofs.Common.{◌≡◌, ℕ, ◌+◌, ◌<◌, Bool, true, false, List, [], ◌∷◌, ◌++◌, length, take, Option, Err, refl, sym, ap, ◌∙◌, subst, append_assoc, append-nil, add-zero, arith, length-append}
 use Rattle.gateway.proofs.Prelude.{length-take, take_all, Appends-trans, Appends-nil, Appends, LinesCut, complete, unfinished, has_end, before_end}
 use Rattle.gateway.proofs.Prelude.{Traffic, is_skipped, IsBad, PrintsLine, PrintsAll, text_lines, StopsAtBad, StopsInPrint, StopsForMemory}
-use Rattle.gateway.proofs.Prelude.{PlaysLines, BegunTrace, Known, MayBe, Goes, PlaysLine, FeedsOn, Feeds, Anything, FeedStops, numbered_fault}
-use Rattle.gateway.proofs.Prelude.{LineFault, Bad, Write, OutOfMemory, TraceFault, TracePlace}
+use Rattle.gateway.proofs.Prelude.{PlaysLines, BegunTrace, Known, MayBe, Goes, PlaysLine, FeedsOn, Feeds, Anything, FeedStops}
+use Rattle.gateway.proofs.Prelude.{LineFault, Bad, Write, OutOfMemory, TracePlace}
+use Rattle.gateway.specs.TraceLines.{line_write_failures}
 
 pub prints-append : (t u v : Traffic) (xs ys : List (List ℕ)) (a b : List ℕ) → PrintsAll t xs a u → PrintsAll u ys b v → PrintsAll t (xs ++ ys) (a ++ b) v
 prints-append t u v [] ys a b p q = rw p.0 (subst (λ x. PrintsAll x ys b v) p.1 q)
@@ -129,13 +130,11 @@ module _ (cuts : LinesCut) {line a : List ℕ} {t u v : Traffic} {x y z : Option
       (lines-append cuts line a b ∙ ap (λ l. complete line a ++ l) two.cut ∙ sym (append_assoc (complete line a) two.first (two.last ∷ two.more)))
       (two.counts, refl, refl)
 
-pub feeds-stop : (cuts : LinesCut) (f : TraceFault) (a b : List ℕ) (t u v : Traffic) (x y z : Option (List ℕ)) (p q : TracePlace) → Feeds a t u x y p q → FeedStops f b u v y z q → FeedStops f (a ++ b) t v x z p
-feeds-stop cuts (TraceFault.BadLine n) a b t u v x y z p q one two = λ line m.
-    stops-at-bad cuts (one line m) n (two (unfinished line a) (one line m).next)
-feeds-stop cuts TraceFault.Write a b t u v x y z p q one two = λ line m. stops-in-print cuts (one line m) (two (unfinished line a) (one line m).next)
-feeds-stop cuts TraceFault.OutOfMemory a b t u v x y z p q one two = λ line m.
+pub feeds-stop : (cuts : LinesCut) (f : LineFault) (n : ℕ) (a b : List ℕ) (t u v : Traffic) (x y z : Option (List ℕ)) (p q : TracePlace) → Feeds a t u x y p q → FeedStops f n b u v y z q → FeedStops f n (a ++ b) t v x z p
+feeds-stop cuts Bad n a b t u v x y z p q one two = λ line m. stops-at-bad cuts (one line m) n (two (unfinished line a) (one line m).next)
+feeds-stop cuts Write n a b t u v x y z p q one two = λ line m. stops-in-print cuts (one line m) (two (unfinished line a) (one line m).next)
+feeds-stop cuts OutOfMemory n a b t u v x y z p q one two = λ line m.
     stops-for-memory cuts (one line m) (two (unfinished line a) (one line m).next)
-feeds-stop cuts f a b t u v x y z p q one two = two
 
 -- ---- bytes without a line feed
 
@@ -156,7 +155,7 @@ more-lines cuts line bytes later e =
     lines-append cuts line bytes later ∙ ap (λ l. l ++ text_lines (unfinished line bytes) later) (cuts.complete_without line bytes e) ∙ ap (λ l. text_lines l later) (cuts.unfinished_without line bytes e)
 
 pub more-stops : (cuts : LinesCut) (f : LineFault) (bytes : List ℕ) (t : Traffic) (x : Option (List ℕ)) (p : TracePlace) (q : BegunTrace) → has_end bytes ≡ false → Goes {A = Unit {0}} (Err f) p.begun bytes q
-    → FeedStops (numbered_fault f p.number) bytes t t x x p
+    → FeedStops f p.number bytes t t x x p
 more-stops cuts Bad bytes t x p q e bad = λ line m.
     bad-next (played-none t x) p.number p.number (omega arith) (λ later any.
     let found = first-line cuts (line ++ bytes) later in
@@ -166,6 +165,12 @@ more-stops cuts OutOfMemory bytes t x p q e counts = λ line m.
     unkept-next (played-none t x) (line ++ bytes) []
     (ap (λ l. l ++ unfinished line bytes ∷ []) (cuts.complete_without line bytes e) ∙ ap (λ l. l ∷ []) (cuts.unfinished_without line bytes e))
     (counts line m, refl, refl)
+
+-- a line that can't go on is none that a write failed for
+pub none-written : (f : LineFault) (p q : BegunTrace) (bytes : List ℕ) (n : ℕ) → Goes {A = Unit {0}} (Err f) p bytes q → n ≡ n + line_write_failures {A = Unit {0}} (Err f)
+none-written Bad p q bytes n goes = sym (add-zero n)
+none-written Write p q bytes n goes = absurd goes
+none-written OutOfMemory p q bytes n goes = sym (add-zero n)
 
 -- ---- bytes with a line feed
 
@@ -188,7 +193,7 @@ module _ (cuts : LinesCut) (bytes : List ℕ) (k : ℕ) (e : has_end bytes ≡ t
 
   end-by : (t u : Traffic) (x y : Option (List ℕ)) (p : TracePlace) (f : LineFault)
       → ((line : List ℕ) → MayBe p.begun line → PlaysLine {A = Unit {0}} (Err f) (line ++ before_end bytes) t u x y)
-      → FeedStops (numbered_fault f p.number) bytes t u x y p
+      → FeedStops f p.number bytes t u x y p
   end-by t u x y p Bad plays = λ line m.
       let done = plays line m in
       bad-next (played-none t x) p.number p.number (omega arith)
@@ -201,7 +206,7 @@ module _ (cuts : LinesCut) (bytes : List ℕ) (k : ℕ) (e : has_end bytes ≡ t
       unkept-next (played-none t x) (line ++ before_end bytes) (complete [] rest ++ unfinished line bytes ∷ []) (ended-here line) (plays line m)
 
   pub end-stops : (f : LineFault) (t : Traffic) (x : Option (List ℕ)) (p : TracePlace) (q : BegunTrace) → Goes {A = Unit {0}} (Err f) p.begun (take k bytes) q
-      → FeedStops (numbered_fault f p.number) bytes t t x x p
+      → FeedStops f p.number bytes t t x x p
   end-stops Bad t x p q bad =
       end-by t t x x p Bad (λ line m. (rw front (subst IsBad (append-nil (line ++ take k bytes)) (bad line [] m)), refl, refl))
   end-stops Write t x p q bad = absurd bad
@@ -226,5 +231,5 @@ module _ (cuts : LinesCut) (bytes : List ℕ) (k : ℕ) (e : has_end bytes ≡ t
           number = rw lines next;
         })
 
-    pub end-played-stops : (f : LineFault) → ((line : List ℕ) → MayBe q line → PlaysLine {A = Unit {0}} (Err f) line t u x y) → FeedStops (numbered_fault f p.number) bytes t u x y p
+    pub end-played-stops : (f : LineFault) → ((line : List ℕ) → MayBe q line → PlaysLine {A = Unit {0}} (Err f) line t u x y) → FeedStops f p.number bytes t u x y p
     end-played-stops f plays = end-by t u x y p f (λ line m. plays (line ++ before_end bytes) (ended line m))

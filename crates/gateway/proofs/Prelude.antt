@@ -1,8 +1,8 @@
 -- What many proofs here name, passed on from one place. Declares nothing.
 pub use Rattle.std.proofs.Common.{◌≡◌, ◌+◌, ◌-◌, ◌*◌, ◌≤◌, length, take, drop, OnErr, Err, decimal, bytes_eq, sym, refl, ap, ◌∙◌, subst, add-zero}
 pub use Rattle.std.proofs.Common.{arith, length-drop, length-take, take_all, rules, lt-ltb}
-pub use Rattle.std.proofs.KnownBytes.{Appends-trans, Appends-nil, Consumes-trans, Consumes-nil, Consumes-kept, Keeps-refl}
-pub use Rattle.std.specs.Io.KnownBytes.{Appends, Keeps, IsAtEnd}
+pub use Rattle.std.proofs.KnownBytes.{Appends-trans, Appends-nil}
+pub use Rattle.std.specs.Io.KnownBytes.{Appends, IsAtEnd}
 pub use Rattle.connections.specs.CitedLaws.{LinesCut}
 pub use Rattle.connections.specs.Clients.{Numbered, number_of, sent_to, Occurs, OccurAll, RepliesInOrder}
 pub use Rattle.connections.specs.Events.{Happening, Bringing, gate_fault, Took, Happens, Opening, Closing}
@@ -11,13 +11,12 @@ pub use Rattle.connections.specs.Traffic.{Traffic}
 pub use Rattle.connections.specs.declared.gateway.GateFault.{GateFault}
 pub use Rattle.devices.specs.declared.device.Failed.{Failed}
 pub use Rattle.gateway.specs.Trace.{is_skipped, IsBad, PrintsLine, PrintsAll, text_lines, StopsAtBad, StopsInPrint, StopsForMemory, PlaysLines}
-pub use Rattle.gateway.specs.Trace.{printed, printed_all, after_ends, parts, refusal_line, PrintsBy, Traces, IsReadSoFar, before_space, after_space}
+pub use Rattle.gateway.specs.Trace.{printed, printed_all, after_ends, parts, refusal_line, PrintsBy, Traces, before_space, after_space}
 pub use Rattle.gateway.specs.Trace.{number_below}
 unfoldable pub use Rattle.gateway.specs.Trace.{number_in}
 pub use Rattle.gateway.specs.TraceLines.{BegunTrace, Known, MayBe, Goes, PlaysLine}
 pub use Rattle.gateway.specs.Tracing.{FeedsOn, Feeds, Anything, FeedStops, numbered_fault, bringings, Plays, PlaysRest, Played, WritesAll}
-pub use Rattle.gateway.specs.Tracing.{PrintsReply, ReadsOn, ReadStops, ReadsBy}
+pub use Rattle.gateway.specs.Tracing.{PrintsReply, Fed, FedUntil, fault_by}
 pub use Rattle.gateway.specs.declared.traces.begun_line.LineFault.{LineFault}
 pub use Rattle.gateway.specs.declared.traces.begun_line.LineFault.TheVariants.{Bad, Write, OutOfMemory}
-pub use Rattle.gateway.specs.declared.traces.fault.TraceFault.{TraceFault}
 pub use Rattle.gateway.specs.declared.traces.feeding.TracePlace.{TracePlace}

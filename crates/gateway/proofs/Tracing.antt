@@ -1,65 +1,59 @@
--- Reads of a trace, one after another, and its last line.
-use Rattle.std.proofs.Common.{◌≡◌, ℕ, ◌+◌, ◌≤◌, ◌≢◌, List, [], ◌∷◌, ◌++◌, length, Option, Some, Ok, Err, refl, sym, ap, ◌∙◌, append_assoc, append-nil}
-use Rattle.gateway.proofs.Prelude.{Consumes-trans, Consumes-nil, Consumes-kept, Keeps, IsAtEnd, LinesCut, complete, unfinished, Traffic, text_lines}
-use Rattle.gateway.proofs.Prelude.{StopsAtBad, StopsInPrint, PlaysLines, Traces, IsReadSoFar, Known, MayBe, PlaysLine, FeedsOn, Anything}
-use Rattle.gateway.proofs.Prelude.{numbered_fault, ReadsOn, ReadStops, ReadsBy, LineFault, Bad, Write, OutOfMemory, TraceFault, TracePlace}
-use Rattle.connections.specs.Serving.{most_reads}
+-- What was fed of a trace, one part after another, and its last line.
+use Rattle.std.proofs.Common.{◌≡◌, ℕ, ◌+◌, List, [], ◌∷◌, ◌++◌, length, Option, Some, Ok, Err, refl, sym, ap, ◌∙◌, add-zero, append-nil}
+use Rattle.devices.specs.Devices.{Reads, Writes}
+use Rattle.devices.specs.Reading.{Pumps, ReadSo, Taken, TakenUntil, TakesEach, joined}
+use Rattle.devices.specs.declared.reading.Stop.{Stop}
+use Rattle.devices.specs.declared.reading.Stop.TheVariants as stop
+use Rattle.gateway.proofs.Prelude.{IsAtEnd, LinesCut, complete, unfinished, Traffic, text_lines}
+use Rattle.gateway.proofs.Prelude.{StopsAtBad, StopsInPrint, PlaysLines, Traces, Known, MayBe, PlaysLine, FeedsOn, Anything}
+use Rattle.gateway.proofs.Prelude.{Fed, FedUntil, fault_by, numbered_fault, LineFault, Bad, Write, OutOfMemory, TracePlace}
+use Rattle.gateway.specs.Trace.{TracesText, trace_write_failures}
+use Rattle.gateway.specs.TraceLines.{line_write_failures}
 use Rattle.gateway.proofs.Feeding.{bad-next, unprinted-next, unkept-next, plays-append, feeds-nil, feeds-trans, feeds-stop}
 
--- ---- reads
+-- ---- one part after another
 
-pub reads-nil : (t : Traffic) (h k : List ℕ) (l m x : Option (List ℕ)) (p : TracePlace) → k ≡ h ++ [] → Keeps l m → ReadsOn t t h k l m x x p p
-reads-nil t h k l m x p none kept = record { read = []; received = none; consumes = Consumes-kept l l m [] (Consumes-nil l) kept; feeds = feeds-nil t x p }
+module _ (cuts : LinesCut) {G W : Type 0} (traffic : G → Traffic) (took : W → Writes) where
+  abbrev pub Takes : List ℕ → TracePlace × G × W → TracePlace × G × W → Type 0
+  Takes bytes s t = Fed bytes (traffic s.1) (traffic t.1) (took s.2) (took t.2) s.0 t.0
 
-received-trans : (h i k a b : List ℕ) → i ≡ h ++ a → k ≡ i ++ b → k ≡ h ++ (a ++ b)
-received-trans h i k a b p q = q ∙ ap (λ l. l ++ b) p ∙ append_assoc h a b
+  abbrev pub Stops : LineFault → List ℕ → TracePlace × G × W → TracePlace × G × W → Type 0
+  Stops f bytes s t = FedUntil f bytes (traffic s.1) (traffic t.1) (took s.2) (took t.2) s.0 t.0
 
-pub reads-trans : (cuts : LinesCut) (t u v : Traffic) (h i k : List ℕ) (l m n x y z : Option (List ℕ)) (p q r : TracePlace) → ReadsOn t u h i l m x y p q → ReadsOn u v i k m n y z q r
-    → ReadsOn t v h k l n x z p r
-reads-trans cuts t u v h i k l m n x y z p q r one two = record {
-  read = one.read ++ two.read;
-  received = received-trans h i k one.read two.read one.received two.received;
-  consumes = Consumes-trans l m n one.read two.read one.consumes two.consumes;
-  feeds = feeds-trans cuts one.read two.read t u v x y z p q r one.feeds two.feeds;
-}
+  each : (parts : List (List ℕ)) (s t : TracePlace × G × W) → TakesEach Takes parts s t → Takes (joined parts) s t
+  each [] s t p = rw p (record { feeds = feeds-nil (traffic s.1) (took s.2).written s.0; fine = refl })
+  each (part ∷ parts) s t p =
+      let before = each parts s p.0 p.1 in
+      record { feeds = feeds-trans cuts (joined parts) part _ _ _ _ _ _ _ _ _ before.feeds p.2.feeds; fine = p.2.fine ∙ before.fine }
 
-reads-stop : (cuts : LinesCut) (f : TraceFault) (t u v : Traffic) (h i k : List ℕ) (l m n x y z : Option (List ℕ)) (p q : TracePlace) → ReadsOn t u h i l m x y p q → ReadStops f u v i k m n y z q
-    → ReadStops f t v h k l n x z p
-reads-stop cuts f t u v h i k l m n x y z p q one two = record {
-  read = one.read ++ two.read;
-  received = received-trans h i k one.read two.read one.received two.received;
-  consumes = Consumes-trans l m n one.read two.read one.consumes two.consumes;
-  stops = feeds-stop cuts f one.read two.read t u v x y z p q one.feeds two.stops;
-}
+  pub fed-all : (bytes : List ℕ) (s t : TracePlace × G × W) → Taken Takes bytes s t → Takes bytes s t
+  fed-all bytes s t p = rw p.is (each p.parts s t p.each)
 
-pub reads-err : (cuts : LinesCut) (A B : Type 0) (f : TraceFault) (t u v : Traffic) (h i k : List ℕ) (l m n x y z : Option (List ℕ)) (p q r : TracePlace) → ReadsOn t u h i l m x y p q
-    → ReadsBy {A = A} (Err f) u v i k m n y z q r → ReadsBy {A = B} (Err f) t v h k l n x z p r
-reads-err cuts A B TraceFault.Read t u v h i k l m n x y z p q r = reads-trans cuts t u v h i k l m n x y z p q r
-reads-err cuts A B TraceFault.TooManyReads t u v h i k l m n x y z p q r = reads-trans cuts t u v h i k l m n x y z p q r
-reads-err cuts A B f t u v h i k l m n x y z p q r = reads-stop cuts f t u v h i k l m n x y z p q
-
--- a fault that came before the most reads
-pub read_so_far : (A : Type 0) (f : TraceFault) (old new : ℕ) → f ≢ TraceFault.TooManyReads → new ≤ old + most_reads → IsReadSoFar {A = A} (Err f) old new
-read_so_far A TraceFault.TooManyReads old new ne small = absurd (ne refl)
-read_so_far A f old new ne small = small
+  pub fed-until : (f : LineFault) (bytes : List ℕ) (s t : TracePlace × G × W) → TakenUntil Takes (Stops f) bytes s t → Stops f bytes s t
+  fed-until f bytes s t p =
+      let before = fed-all p.first s p.mid p.taken in
+      rw p.is (record {
+        stops = feeds-stop cuts f t.0.number p.first p.rest _ _ _ _ _ _ _ _ before.feeds p.stops.stops;
+        failed = p.stops.failed ∙ ap (λ n. n + line_write_failures {A = Unit {0}} (Err f)) before.fine;
+      })
 
 -- ---- a whole trace
 
 -- from the first line on
-module _ (t u : Traffic) (h k : List ℕ) (l m x y : Option (List ℕ)) (p q : TracePlace) (fresh : p.begun ≡ Known []) (first : p.number ≡ 1) where
+module _ (t u : Traffic) (m : Option (List ℕ)) (v w : Writes) (p q : TracePlace) (fresh : p.begun ≡ Known []) (first : p.number ≡ 1) (read : List ℕ) where
   begin : MayBe p.begun []
   begin = rw fresh refl
 
-  complete-lines : (on : ReadsOn t u h k l m x y p q) → PlaysLines (complete [] on.read) t u x y
-  complete-lines on = let fed = on.feeds [] begin in record { out = fed.out; appends = fed.appends; prints = fed.prints }
+  complete-lines : Fed read t u v w p q → PlaysLines (complete [] read) t u v.written w.written
+  complete-lines fed = let on = fed.feeds [] begin in record { out = on.out; appends = on.appends; prints = on.prints }
 
-  at-bad : (n : ℕ) (read : List ℕ) → StopsAtBad n p.number [] read Anything t u x y → StopsAtBad n 1 [] read (λ later. m ≡ Some later) t u x y
-  at-bad n read s =
+  at-bad : (n : ℕ) → StopsAtBad n p.number [] read Anything t u v.written w.written → StopsAtBad n 1 [] read (λ later. m ≡ Some later) t u v.written w.written
+  at-bad n s =
       bad-next (record { out = s.out; appends = s.appends; prints = s.prints }) n 1 (s.number ∙ ap (λ n. n + length s.first) first)
       (λ later any. s.bad later tt) refl refl
 
-  in-print : (read : List ℕ) → StopsInPrint [] read Anything t u x y → StopsInPrint [] read (λ later. m ≡ Some later) t u x y
-  in-print read s = record {
+  in-print : StopsInPrint [] read Anything t u v.written w.written → StopsInPrint [] read (λ later. m ≡ Some later) t u v.written w.written
+  in-print s = record {
     first = s.first;
     last = s.last;
     event = s.event;
@@ -74,49 +68,87 @@ module _ (t u : Traffic) (h k : List ℕ) (l m x y : Option (List ℕ)) (p q : T
     stops = s.stops;
   }
 
-  pub stopped : (A B : Type 0) (f : TraceFault) → ReadsBy {A = A} (Err f) t u h k l m x y p q → Traces {A = B} (Err f) t u h k l m x y
-  stopped A B (TraceFault.BadLine n) s = (s.read, s.received, s.consumes, at-bad n s.read (s.stops [] begin))
-  stopped A B TraceFault.Read s = (s.read, s.received, s.consumes, complete-lines s)
-  stopped A B TraceFault.Write s = (s.read, s.received, s.consumes, in-print s.read (s.stops [] begin))
-  stopped A B TraceFault.TooManyReads s = (s.read, s.received, s.consumes, complete-lines s)
-  stopped A B TraceFault.OutOfMemory s = (s.read, s.received, s.consumes, s.stops [] begin)
+  text-until : (A : Type 0) (f : LineFault) → FedUntil f read t u v w p q → TracesText {A = A} (Err (numbered_fault f q.number)) read m t u v.written w.written
+  text-until A Bad s = at-bad q.number (s.stops [] begin)
+  text-until A Write s = in-print (s.stops [] begin)
+  text-until A OutOfMemory s = s.stops [] begin
 
   -- the last line, at the reader's end
-  module _ (on : ReadsOn t u h k l m x y p q) (end : IsAtEnd m) where
-    fed : FeedsOn [] on.read t u x y p q
-    fed = on.feeds [] begin
+  module _ (fed : Fed read t u v w p q) (end : IsAtEnd m) where
+    on : FeedsOn [] read t u v.written w.written p q
+    on = fed.feeds [] begin
 
-    last-number : q.number ≡ 1 + length (complete [] on.read)
-    last-number = fed.number ∙ ap (λ n. n + length (complete [] on.read)) first
+    last-number : q.number ≡ 1 + length (complete [] read)
+    last-number = on.number ∙ ap (λ n. n + length (complete [] read)) first
 
     none-later : (later : List ℕ) → m ≡ Some later → later ≡ []
     none-later later is = let none = rw is at end in none
 
-    lines-then : (later : List ℕ) → m ≡ Some later → text_lines [] (on.read ++ later) ≡ text_lines [] on.read
-    lines-then later is = ap (λ l. text_lines [] (on.read ++ l)) (none-later later is) ∙ ap (text_lines []) (append-nil on.read)
+    lines-then : (later : List ℕ) → m ≡ Some later → text_lines [] (read ++ later) ≡ text_lines [] read
+    lines-then later is = ap (λ l. text_lines [] (read ++ l)) (none-later later is) ∙ ap (text_lines []) (append-nil read)
 
-    pub finished : (A E : Type 0) (a : A) (v : Traffic) (z : Option (List ℕ)) → ((line : List ℕ) → MayBe q.begun line → PlaysLine {A = Unit {0}} (Ok tt) line u v y z)
-        → Traces {A = A} (Ok a) t v h k l m x z
-    finished A E a v z plays =
-        let done = plays (unfinished [] on.read) fed.next in (
-          on.read,
-          on.received,
-          on.consumes,
-          plays-append (complete-lines on)
-              (record { out = done.0; appends = done.1; prints = (v, done.0, [], done.2, (refl, refl), sym (append-nil done.0)) }),
-        )
+    finished : (A : Type 0) (a : A) (x : Traffic) (z : Option (List ℕ)) → ((line : List ℕ) → MayBe q.begun line → PlaysLine {A = Unit {0}} (Ok tt) line u x w.written z)
+        → TracesText {A = A} (Ok a) read m t x v.written z
+    finished A a x z plays =
+        let done = plays (unfinished [] read) on.next in
+        plays-append (complete-lines fed)
+        (record { out = done.0; appends = done.1; prints = (x, done.0, [], done.2, (refl, refl), sym (append-nil done.0)) })
 
-    pub unplayed : (A : Type 0) (f : LineFault) (v : Traffic) (z : Option (List ℕ)) → ((line : List ℕ) → MayBe q.begun line → PlaysLine {A = Unit {0}} (Err f) line u v y z)
-        → Traces {A = A} (Err (numbered_fault f q.number)) t v h k l m x z
-    unplayed A Bad v z plays =
-        let done = plays (unfinished [] on.read) fed.next in (
-          on.read,
-          on.received,
-          on.consumes,
-          bad-next (complete-lines on) q.number 1 last-number (λ later is. (unfinished [] on.read, [], lines-then later is, done.0)) done.1 done.2,
-        )
-    unplayed A Write v z plays =
-        let done = plays (unfinished [] on.read) fed.next in
-        (on.read, on.received, on.consumes, unprinted-next (complete-lines on) (unfinished [] on.read) (λ later is. ([], lines-then later is)) done)
-    unplayed A OutOfMemory v z plays =
-        (on.read, on.received, on.consumes, unkept-next (complete-lines on) (unfinished [] on.read) [] refl (plays (unfinished [] on.read) fed.next))
+    unplayed : (A : Type 0) (f : LineFault) (x : Traffic) (z : Option (List ℕ)) → ((line : List ℕ) → MayBe q.begun line → PlaysLine {A = Unit {0}} (Err f) line u x w.written z)
+        → TracesText {A = A} (Err (numbered_fault f q.number)) read m t x v.written z
+    unplayed A Bad x z plays =
+        let done = plays (unfinished [] read) on.next in
+        bad-next (complete-lines fed) q.number 1 last-number (λ later is. (unfinished [] read, [], lines-then later is, done.0)) done.1 done.2
+    unplayed A Write x z plays =
+        let done = plays (unfinished [] read) on.next in
+        unprinted-next (complete-lines fed) (unfinished [] read) (λ later is. ([], lines-then later is)) done
+    unplayed A OutOfMemory x z plays =
+        unkept-next (complete-lines fed) (unfinished [] read) [] refl (plays (unfinished [] read) on.next)
+
+-- ---- by how the pump ended
+
+same_failures : (B : Type 0) (f : LineFault) (n : ℕ) → line_write_failures {A = Unit {0}} (Err f) ≡ trace_write_failures {A = B} (Err (numbered_fault f n))
+same_failures B Bad n = refl
+same_failures B Write n = refl
+same_failures B OutOfMemory n = refl
+
+module _ (cuts : LinesCut) {G W : Type 0} (traffic : G → Traffic) (took : W → Writes) (first last : Reads) (s r : TracePlace × G × W) (fresh : s.0.begun ≡ Known []) (one : s.0.number ≡ 1) where
+  fed_fine : ReadSo (λ read. Taken (Takes cuts traffic took) read s r) first last
+      → ReadSo (λ read. PlaysLines (complete [] read) (traffic s.1) (traffic r.1) (took s.2).written (took r.2).written) first last × ((took r.2).failures ≡ (took s.2).failures + 0)
+  fed_fine p =
+      let fed = fed-all cuts traffic took p.read s r p.holds in (
+        record { read = p.read; received = p.received; consumes = p.consumes; holds = complete-lines _ _ last.left _ _ _ _ fresh one p.read fed },
+        fed.fine ∙ sym (add-zero (took s.2).failures),
+      )
+
+  pub trace_stopped : (A B : Type 0) (stop : Stop LineFault) → Pumps {A = A} (Takes cuts traffic took) (Stops cuts traffic took) (Err stop) first last s r
+      → Traces {A = B} (Err (fault_by stop r.0.number)) (traffic s.1) (traffic r.1) first last (took s.2).written (took r.2).written
+      × ((took r.2).failures ≡ (took s.2).failures + trace_write_failures {A = B} (Err (fault_by stop r.0.number)))
+  trace_stopped A B stop.Read p = fed_fine p
+  trace_stopped A B stop.TooManyReads p = fed_fine p
+  trace_stopped A B (stop.Taker f) p =
+      let fed = fed-until cuts traffic took f p.read s r p.holds in (
+        record { read = p.read; received = p.received; consumes = p.consumes; holds = text-until _ _ last.left _ _ _ _ fresh one p.read B f fed },
+        fed.failed ∙ ap (λ n. (took s.2).failures + n) (same_failures B f r.0.number),
+      )
+
+  module _ (p : ReadSo (λ read. Taken (Takes cuts traffic took) read s r) first last) (end : IsAtEnd last.left) (v : Traffic) (z : Writes) where
+    fed : Fed p.read (traffic s.1) (traffic r.1) (took s.2) (took r.2) s.0 r.0
+    fed = fed-all cuts traffic took p.read s r p.holds
+
+    pub trace_finished : (B : Type 0) (b : B) → ((line : List ℕ) → MayBe r.0.begun line → PlaysLine {A = Unit {0}} (Ok tt) line (traffic r.1) v (took r.2).written z.written)
+        → z.failures ≡ (took r.2).failures + 0 → Traces {A = B} (Ok b) (traffic s.1) v first last (took s.2).written z.written × (z.failures ≡ (took s.2).failures + 0)
+    trace_finished B b plays fine = (
+      record { read = p.read; received = p.received; consumes = p.consumes; holds = finished _ _ last.left _ _ _ _ fresh one p.read fed end B b v z.written plays },
+      fine ∙ ap (λ n. n + 0) fed.fine,
+    )
+
+    pub trace_unplayed : (B : Type 0) (f : LineFault)
+        → ((line : List ℕ) → MayBe r.0.begun line → PlaysLine {A = Unit {0}} (Err f) line (traffic r.1) v (took r.2).written z.written)
+        → z.failures ≡ (took r.2).failures + line_write_failures {A = Unit {0}} (Err f)
+        → Traces {A = B} (Err (numbered_fault f r.0.number)) (traffic s.1) v first last (took s.2).written z.written
+        × (z.failures ≡ (took s.2).failures + trace_write_failures {A = B} (Err (numbered_fault f r.0.number)))
+    trace_unplayed B f plays failed = (
+      record { read = p.read; received = p.received; consumes = p.consumes; holds = unplayed _ _ last.left _ _ _ _ fresh one p.read fed end B f v z.written plays },
+      failed ∙ ap (λ n. n + line_write_failures {A = Unit {0}} (Err f)) fed.fine ∙ ap (λ n. (took s.2).failures + n) (same_failures B f r.0.number),
+    )

@@ -3,6 +3,8 @@ pub use Rattle.connections.specs.Events
 pub use Rattle.connections.specs.Serving
 pub use Rattle.connections.specs.Traffic
 pub use Rattle.connections.specs.declared.serve.RunFault
+pub use Rattle.devices.specs.Devices
+pub use Rattle.devices.specs.Reading
 pub mod Trace
 pub mod TraceLines
 pub mod Traced

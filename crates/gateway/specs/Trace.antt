@@ -1,10 +1,12 @@
 -- A trace: lines that are events, and what playing them prints.
-use Rattle.std.specs.Prelude.{◌≡◌, ℕ, zero, suc, ◌+◌, ◌<◌, ◌≤◌, ◌==◌, ◌&&◌, nat_lt, nat_le, Bool, true, false, List, [], ◌∷◌, ◌++◌, length, map, take, drop, codes, Option, Some, None, option_and_then, Result, Ok, Err, if◌then◌else◌}
+use Rattle.std.specs.Prelude.{◌≡◌, ◌⊎◌, ℕ, zero, suc, ◌+◌, ◌<◌, ◌==◌, ◌&&◌, nat_lt, nat_le, Bool, true, false, List, [], ◌∷◌, ◌++◌, length, map, take, drop, codes, Option, Some, None, option_and_then, Result, Ok, Err, if◌then◌else◌}
 use Rattle.std.specs.Str.{bytes_eq}
 use Rattle.std.specs.Option.{option_map}
 use Rattle.std.specs.Fmt.{decimal}
-use Rattle.std.specs.Io.KnownBytes.{Consumes, Appends}
+use Rattle.std.specs.Io.KnownBytes.{Appends}
 use Rattle.desk.specs.Effects.{base64_bytes}
+use Rattle.devices.specs.Devices.{Reads}
+use Rattle.devices.specs.Reading.{Ending, AtEnd, ReadFailed, GivenUp, BrokenOff, ReadSo, ReadUp}
 use Rattle.connections.specs.declared.gateway.GateFault.{GateFault}
 use Rattle.connections.specs.declared.gateway.GateFault.TheVariants.{BadNumber, AlreadyOpen, NotOpen}
 use Rattle.gateway.specs.declared.traces.fault.TraceFault.{TraceFault}
@@ -13,7 +15,6 @@ use Rattle.connections.specs.Lines.{complete, unfinished}
 use Rattle.connections.specs.Traffic.{Traffic}
 use Rattle.connections.specs.Events.{Happening, Opening, Bringing, Closing, gate_fault}
 use Rattle.connections.specs.Clients.{Numbered, number_of, OccurAll}
-use Rattle.connections.specs.Serving.{most_reads}
 
 -- ---- the event on a line
 
@@ -194,30 +195,22 @@ TracesText (Err TooManyReads) read rest old new before after = PlaysLines (compl
 TracesText (Err OutOfMemory) read rest old new before after = StopsForMemory [] read old new before after
 
 -- text was read, which is what the reader's reads returned, and played
-abbrev pub Traces : {A : Type 0} → Result A TraceFault → Traffic → Traffic → List ℕ → List ℕ → Option (List ℕ) → Option (List ℕ) → Option (List ℕ) → Option (List ℕ) → Type 0
-Traces r old new had has left rest before after =
-    (read : List ℕ) × (has ≡ had ++ read) × Consumes left rest read × TracesText r read rest old new before after
+abbrev pub Traces : {A : Type 0} → Result A TraceFault → Traffic → Traffic → Reads → Reads → Option (List ℕ) → Option (List ℕ) → Type 0
+Traces r old new first last before after = ReadSo (λ read. TracesText r read last.left old new before after) first last
 
 -- ---- the devices' numbers, by a trace's answer
 
--- how many of the reads reported the end
-abbrev pub EndsOnce : {A : Type 0} → Result A TraceFault → ℕ → ℕ → Type 0
-EndsOnce (Ok x) old new = new ≡ old + 1
-EndsOnce (Err Read) old new = new ≡ old
-EndsOnce (Err TooManyReads) old new = new ≡ old
-EndsOnce (Err fault) old new = new ≤ old + 1
+-- how the reading ended: at the fault of a line before the end was reported, or behind it, where the line is the last
+abbrev pub TraceEnded : {A : Type 0} → Result A TraceFault → Ending → Type 0
+TraceEnded (Ok x) ending = ending ≡ AtEnd
+TraceEnded (Err Read) ending = ending ≡ ReadFailed
+TraceEnded (Err TooManyReads) ending = ending ≡ GivenUp
+TraceEnded (Err fault) ending = (ending ≡ BrokenOff) ⊎ (ending ≡ AtEnd)
 
--- how many of the reads failed
-abbrev pub trace_read_failures : {A : Type 0} → Result A TraceFault → ℕ
-trace_read_failures (Err Read) = 1
-trace_read_failures r = 0
+abbrev pub TraceReads : {A : Type 0} → Result A TraceFault → Reads → Reads → Type 0
+TraceReads r old new = (ending : Ending) × TraceEnded r ending × ReadUp ending old new
 
 -- how many of the writes failed
 abbrev pub trace_write_failures : {A : Type 0} → Result A TraceFault → ℕ
 trace_write_failures (Err Write) = 1
 trace_write_failures r = 0
-
--- The number of reads, before and after a trace: the most where the trace says so, and no more otherwise.
-abbrev pub IsReadSoFar : {A : Type 0} → Result A TraceFault → ℕ → ℕ → Type 0
-IsReadSoFar (Err TooManyReads) old new = new ≡ old + most_reads
-IsReadSoFar r old new = new ≤ old + most_reads

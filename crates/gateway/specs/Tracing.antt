@@ -1,23 +1,23 @@
 -- What the code of a trace has done so far. Nothing here has to be believed.
-use Rattle.std.specs.Prelude.{◌≡◌, ℕ, ◌+◌, ◌<◌, List, [], ◌∷◌, ◌++◌, length, map, take, Option, Some, None, Vec, Result, Ok, Err}
+use Rattle.std.specs.Prelude.{◌≡◌, ℕ, ◌+◌, ◌<◌, List, [], ◌∷◌, ◌++◌, length, map, Option, Some, None, Vec, Result, Ok, Err}
 use Rattle.std.specs.declared.alloc.Global.{Global}
-use Rattle.std.specs.Io.KnownBytes.{Consumes, Appends}
+use Rattle.std.specs.Io.KnownBytes.{Appends}
 use Rattle.gateway.specs.declared.traces.fault.TraceFault.{TraceFault}
 use Rattle.gateway.specs.declared.traces.fault.TraceFault.TheVariants as fault
 use Rattle.gateway.specs.declared.traces.begun_line.LineFault.{LineFault}
 use Rattle.gateway.specs.declared.traces.begun_line.LineFault.TheVariants.{Bad, Write, OutOfMemory}
 use Rattle.gateway.specs.declared.traces.event.TraceEvent.{TraceEvent}
 use Rattle.gateway.specs.declared.traces.event.TraceEvent.TheVariants.{Open, Bytes, Close}
-use Rattle.devices.specs.declared.reading.Progress.{Progress}
-use Rattle.devices.specs.declared.reading.Progress.TheVariants.{More, End}
+use Rattle.devices.specs.declared.reading.Stop.{Stop}
+use Rattle.devices.specs.declared.reading.Stop.TheVariants as stop
 use Rattle.gateway.specs.declared.traces.feeding.TracePlace.{TracePlace}
-use Rattle.devices.specs.Devices.{AppendsPart}
+use Rattle.devices.specs.Devices.{AppendsPart, Writes}
 use Rattle.connections.specs.Delivery.{IsOpen}
 use Rattle.connections.specs.Lines.{complete, unfinished}
 use Rattle.connections.specs.Traffic.{Traffic}
 use Rattle.connections.specs.Events.{Happening, Opening, Bringing, Closing}
 use Rattle.connections.specs.Clients.{Numbered, OccurAll}
-use Rattle.gateway.specs.TraceLines.{MayBe}
+use Rattle.gateway.specs.TraceLines.{MayBe, line_write_failures}
 use Rattle.gateway.specs.Trace.{some_bytes, after_ends, printed, printed_all, Prints, PrintStops, PrintsAll, StopsAtBad, StopsInPrint, StopsForMemory}
 
 -- ---- the event on a line
@@ -84,6 +84,12 @@ numbered_fault Bad n = fault.BadLine n
 numbered_fault Write n = fault.Write
 numbered_fault OutOfMemory n = fault.OutOfMemory
 
+-- the fault of a trace that stopped so, in the line of this number
+abbrev pub fault_by : Stop LineFault → ℕ → TraceFault
+fault_by stop.Read n = fault.Read
+fault_by stop.TooManyReads n = fault.TooManyReads
+fault_by (stop.Taker f) n = numbered_fault f n
+
 -- ---- bytes of a trace
 
 -- Where this line was begun: the complete lines were played, and the next line is begun.
@@ -100,53 +106,18 @@ Feeds bytes old new before after was is = (line : List ℕ) → MayBe was.begun 
 abbrev pub Anything : List ℕ → Type 0
 Anything later = Unit {0}
 
--- why bytes weren't fed to their end
-abbrev pub FeedStops : TraceFault → List ℕ → Traffic → Traffic → Option (List ℕ) → Option (List ℕ) → TracePlace → Type 0
-FeedStops (fault.BadLine n) bytes old new before after was =
+-- why bytes weren't fed to their end, in the line of this number
+abbrev pub FeedStops : LineFault → ℕ → List ℕ → Traffic → Traffic → Option (List ℕ) → Option (List ℕ) → TracePlace → Type 0
+FeedStops Bad n bytes old new before after was =
     (line : List ℕ) → MayBe was.begun line → StopsAtBad n was.number line bytes Anything old new before after
-FeedStops fault.Read bytes old new before after was = ⊥
-FeedStops fault.Write bytes old new before after was = (line : List ℕ) → MayBe was.begun line → StopsInPrint line bytes Anything old new before after
-FeedStops fault.TooManyReads bytes old new before after was = ⊥
-FeedStops fault.OutOfMemory bytes old new before after was = (line : List ℕ) → MayBe was.begun line → StopsForMemory line bytes old new before after
+FeedStops Write n bytes old new before after was = (line : List ℕ) → MayBe was.begun line → StopsInPrint line bytes Anything old new before after
+FeedStops OutOfMemory n bytes old new before after was = (line : List ℕ) → MayBe was.begun line → StopsForMemory line bytes old new before after
 
--- by the answer, which is the number of bytes taken
-abbrev pub FeedsFront : Result ℕ TraceFault → List ℕ → Traffic → Traffic → Option (List ℕ) → Option (List ℕ) → TracePlace → TracePlace → Type 0
-FeedsFront (Ok n) bytes old new before after was is = Feeds (take n bytes) old new before after was is
-FeedsFront (Err f) bytes old new before after was is = FeedStops f bytes old new before after was
+-- the same, with the number of failed writes
+pub record Fed (bytes : List ℕ) (old new : Traffic) (before after : Writes) (was is : TracePlace) : Type 0 where
+  pub feeds : Feeds bytes old new before.written after.written was is
+  pub fine : after.failures ≡ before.failures
 
-abbrev pub FeedsAll : {A : Type 0} → Result A TraceFault → List ℕ → Traffic → Traffic → Option (List ℕ) → Option (List ℕ) → TracePlace → TracePlace → Type 0
-FeedsAll (Ok x) bytes old new before after was is = Feeds bytes old new before after was is
-FeedsAll (Err f) bytes old new before after was is = FeedStops f bytes old new before after was
-
--- ---- reads of a trace
-
--- bytes were read and fed
-pub record ReadsOn (old new : Traffic) (had has : List ℕ) (left rest before after : Option (List ℕ)) (was is : TracePlace) : Type 0 where
-  pub read : List ℕ
-  pub received : has ≡ had ++ read
-  pub consumes : Consumes left rest read
-  pub feeds : Feeds read old new before after was is
-
--- bytes were read, and feeding them stopped
-pub record ReadStops (f : TraceFault) (old new : Traffic) (had has : List ℕ) (left rest before after : Option (List ℕ)) (was : TracePlace) : Type 0 where
-  pub read : List ℕ
-  pub received : has ≡ had ++ read
-  pub consumes : Consumes left rest read
-  pub stops : FeedStops f read old new before after was
-
--- by the answer
-abbrev pub ReadsBy : {A : Type 0} → Result A TraceFault → Traffic → Traffic → List ℕ → List ℕ → Option (List ℕ) → Option (List ℕ) → Option (List ℕ) → Option (List ℕ) → TracePlace → TracePlace → Type 0
-ReadsBy (Ok x) old new had has left rest before after was is = ReadsOn old new had has left rest before after was is
-ReadsBy (Err fault.Read) old new had has left rest before after was is = ReadsOn old new had has left rest before after was is
-ReadsBy (Err fault.TooManyReads) old new had has left rest before after was is = ReadsOn old new had has left rest before after was is
-ReadsBy (Err f) old new had has left rest before after was is = ReadStops f old new had has left rest before after was
-
--- how many of the reads reported the end: of one read, and of all
-abbrev pub read_ends : Result Progress TraceFault → ℕ
-read_ends (Ok More) = 0
-read_ends (Ok End) = 1
-read_ends (Err e) = 0
-
-abbrev pub all_read_ends : {A : Type 0} → Result A TraceFault → ℕ
-all_read_ends (Ok x) = 1
-all_read_ends (Err e) = 0
+pub record FedUntil (f : LineFault) (bytes : List ℕ) (old new : Traffic) (before after : Writes) (was is : TracePlace) : Type 0 where
+  pub stops : FeedStops f is.number bytes old new before.written after.written was
+  pub failed : after.failures ≡ before.failures + line_write_failures {A = Unit {0}} (Err f)

@@ -1,7 +1,7 @@
 //! Traces: lines that are events of many connections, played on a gateway.
-ghost use Rattle.std.specs.Prelude.{OnOk, ◌≡◌, ◌+◌};
-ghost use Rattle.std.specs.Io.KnownBytes.{IsAtEnd};
-ghost use Rattle.gateway.specs.Trace.{Traces, EndsOnce, IsReadSoFar, trace_read_failures, trace_write_failures};
+ghost use Rattle.std.specs.Prelude.{◌≡◌, ◌+◌};
+ghost use Rattle.gateway.specs.Trace.{Traces, TraceReads, trace_write_failures};
+ghost use Rattle.gateway.specs.Tracing.{fault_by, numbered_fault};
 
 mod begun_line;
 mod event;
@@ -9,12 +9,11 @@ mod fault;
 mod feeding;
 mod play;
 mod print;
-mod reading;
 
-use crate::traces::feeding::{TracePlace, fault_at};
-use crate::traces::reading::read_lines;
-use connections::Gateway;
-use devices::{Feed, Outlet};
+use crate::traces::begun_line::LineFault;
+use crate::traces::feeding::TracePlace;
+use connections::{TakesEvents, law_lines};
+use devices::{Feed, Outlet, Stop, pump};
 pub use fault::TraceFault;
 use std::alloc::Global;
 
@@ -31,27 +30,47 @@ use std::alloc::Global;
 /// `BadLine` with the number of the first line that isn't skipped and has no event, or is longer
 /// than 6,291,456 bytes; `Read` or `Write` where a device failed; `TooManyReads`; `OutOfMemory` in a
 /// line that isn't skipped, of which at least a byte was read.
-pub fn trace<R: Feed, W: Outlet>(
+pub fn trace<G: TakesEvents, R: Feed, W: Outlet>(
     alloc: Global,
-    gateway: &mut Gateway<'_>,
+    gateway: &mut G,
     reader: &mut R,
     writer: &mut W,
 ) -> Result<(), TraceFault>
-    ensures traces { Traces result gateway.old gateway.new (R.received reader.old) (R.received reader.new)
-        (R.left reader.old) (R.left reader.new) (W.written writer.old) (W.written writer.new) }
-    ensures end { OnOk result (IsAtEnd (R.left reader.new)) }
-    ensures ends { EndsOnce result (R.ends reader.old) (R.ends reader.new) }
-    ensures reads { IsReadSoFar result (R.reads reader.old) (R.reads reader.new) }
-    ensures read_failures { R.failures reader.new ≡ R.failures reader.old + trace_read_failures result }
-    ensures write_failures { W.failures writer.new ≡ W.failures writer.old + trace_write_failures result }
+    ensures traces { Traces result (G.traffic gateway.old) (G.traffic gateway.new) (R.seen reader.old) (R.seen reader.new)
+        (W.took writer.old).written (W.took writer.new).written }
+    ensures reads { TraceReads result (R.seen reader.old) (R.seen reader.new) }
+    ensures write_failures { (W.took writer.new).failures ≡ (W.took writer.old).failures + trace_write_failures result }
 {
+    law_lines();
     let mut place = TracePlace::start(alloc);
-    match read_lines(alloc, gateway, &mut place, reader, writer) {
+    match pump(reader, &mut place, gateway, writer) {
         Ok(()) => {}
-        Err(fault) => return Err(fault),
+        Err(stop) => return Err(fault_of(stop, place.number)),
     }
     match place.begun.play(alloc, gateway, writer) {
         Ok(()) => Ok(()),
         Err(fault) => Err(fault_at(fault, place.number)),
+    }
+}
+
+/// The fault of a trace that stopped so, in the line of this number.
+fn fault_of(stop: Stop<LineFault>, number: u64) -> TraceFault
+    ensures { result ≡ fault_by stop number }
+{
+    match stop {
+        Stop::Read => TraceFault::Read,
+        Stop::TooManyReads => TraceFault::TooManyReads,
+        Stop::Taker(fault) => fault_at(fault, number),
+    }
+}
+
+/// The fault of the line of this number.
+fn fault_at(fault: LineFault, number: u64) -> TraceFault
+    ensures { result ≡ numbered_fault fault number }
+{
+    match fault {
+        LineFault::Bad => TraceFault::BadLine(number),
+        LineFault::Write => TraceFault::Write,
+        LineFault::OutOfMemory => TraceFault::OutOfMemory,
     }
 }

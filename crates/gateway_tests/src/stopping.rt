@@ -25,15 +25,10 @@ impl<'a> StoppingFeed<'a> {
 }
 
 impl<'a> Feed for StoppingFeed<'a> {
-    ghost received = { λ d. ⟦<MemFeed<'a> as Feed>⟧.received d.bytes };
-
-    ghost left = { λ d. ⟦<MemFeed<'a> as Feed>⟧.left d.bytes };
-
-    ghost reads = { λ d. ⟦<MemFeed<'a> as Feed>⟧.reads d.bytes + ⟦<MemFeed<'a> as Feed>⟧.reads d.failed };
-
-    ghost ends = { λ d. ⟦<MemFeed<'a> as Feed>⟧.ends d.bytes };
-
-    ghost failures = { λ d. ⟦<MemFeed<'a> as Feed>⟧.reads d.failed };
+    ghost seen = { λ d. record (⟦<MemFeed<'a> as Feed>⟧.seen d.bytes) {
+        reads = (⟦<MemFeed<'a> as Feed>⟧.seen d.bytes).reads + (⟦<MemFeed<'a> as Feed>⟧.seen d.failed).reads;
+        failures = (⟦<MemFeed<'a> as Feed>⟧.seen d.failed).reads
+    } };
 
     fn read(&mut self, buf: &mut [u8]) -> Result<usize, Failed> {
         if self.room == 0 {
@@ -77,11 +72,11 @@ impl StoppingOutlet {
 }
 
 impl Outlet for StoppingOutlet {
-    ghost written = { λ d. ⟦<MemOutlet as Outlet>⟧.written d.taken };
-
-    ghost writes = { λ d. ⟦<MemOutlet as Outlet>⟧.writes d.taken + ⟦<MemOutlet as Outlet>⟧.writes d.failed };
-
-    ghost failures = { λ d. ⟦<MemOutlet as Outlet>⟧.failures d.taken + ⟦<MemOutlet as Outlet>⟧.writes d.failed };
+    ghost took = { λ d. record {
+        written = (⟦<MemOutlet as Outlet>⟧.took d.taken).written;
+        writes = (⟦<MemOutlet as Outlet>⟧.took d.taken).writes + (⟦<MemOutlet as Outlet>⟧.took d.failed).writes;
+        failures = (⟦<MemOutlet as Outlet>⟧.took d.taken).failures + (⟦<MemOutlet as Outlet>⟧.took d.failed).writes
+    } };
 
     fn write(&mut self, buf: &[u8]) -> Result<usize, Failed> {
         if self.room == 0 {

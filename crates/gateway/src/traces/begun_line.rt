@@ -6,7 +6,7 @@ ghost use Rattle.gateway.specs.Tracing.{happening_of};
 
 use crate::traces::event::{TRACE_LIMIT, TraceEvent, event_on_line};
 use crate::traces::play::play;
-use connections::{Event, Gateway};
+use connections::{Event, TakesEvents};
 use devices::{Failed, Outlet};
 use std::alloc::Global;
 use std::marker::Model;
@@ -82,14 +82,14 @@ impl BegunTraceLine {
     }
 
     /// Plays the line, which is complete.
-    pub(super) fn play<W: Outlet>(
+    pub(super) fn play<G: TakesEvents, W: Outlet>(
         &self,
         alloc: Global,
-        gateway: &mut Gateway<'_>,
+        gateway: &mut G,
         writer: &mut W,
     ) -> Result<(), LineFault>
-        ensures plays { (line : List ℕ) → MayBe self.now line → PlaysLine result line gateway.old gateway.new (W.written writer.old) (W.written writer.new) }
-        ensures failures { W.failures writer.new ≡ W.failures writer.old + line_write_failures result }
+        ensures plays { (line : List ℕ) → MayBe self.now line → PlaysLine result line (G.traffic gateway.old) (G.traffic gateway.new) (W.took writer.old).written (W.took writer.new).written }
+        ensures failures { (W.took writer.new).failures ≡ (W.took writer.old).failures + line_write_failures result }
     {
         if self.comment || self.kept.is_empty() {
             return Ok(());

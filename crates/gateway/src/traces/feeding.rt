@@ -1,13 +1,10 @@
 //! Bytes of a trace, line by line.
-ghost use Rattle.std.specs.Prelude.{◌≡◌, ◌+◌, ◌<◌, ◌≤◌, ◌^◌, [], IfOk, OnOk, length};
-ghost use Rattle.gateway.specs.Trace.{trace_write_failures};
+ghost use Rattle.std.specs.Prelude.{◌≡◌, ◌+◌, ◌<◌, ◌^◌, []};
 ghost use Rattle.gateway.specs.TraceLines.{Known};
-ghost use Rattle.gateway.specs.Tracing.{FeedsFront, FeedsAll, numbered_fault};
 
 use crate::traces::begun_line::{BegunTraceLine, LineFault};
-use crate::traces::fault::TraceFault;
-use connections::{Gateway, law_lines, line_end};
-use devices::{Outlet, law_slices};
+use connections::{TakesEvents, law_lines, line_end};
+use devices::{Outlet, Taker};
 use std::alloc::Global;
 
 /// Where a trace is: the line that is begun, and its number, counted from 1. Lines that are skipped
@@ -16,6 +13,7 @@ use std::alloc::Global;
 pub(super) struct TracePlace {
     pub(super) begun: BegunTraceLine,
     pub(super) number: u64,
+    alloc: Global,
 }
 
 impl TracePlace {
@@ -27,6 +25,7 @@ impl TracePlace {
         TracePlace {
             begun: BegunTraceLine::new(alloc),
             number: 1,
+            alloc,
         }
     }
 
@@ -41,73 +40,39 @@ impl TracePlace {
     }
 }
 
-/// Feeds all of the bytes, line by line.
-pub(super) fn feed<W: Outlet>(
-    alloc: Global,
-    gateway: &mut Gateway<'_>,
-    place: &mut TracePlace,
-    bytes: &[u8],
-    writer: &mut W,
-) -> Result<(), TraceFault>
-    requires { place.old.number + length bytes.now < 2 ^ 64 }
-    ensures feeds { FeedsAll result bytes.now gateway.old gateway.new (W.written writer.old) (W.written writer.new) place.old place.new }
-    ensures number { OnOk result (place.new.number ≤ place.old.number + length bytes.now) }
-    ensures failures { W.failures writer.new ≡ W.failures writer.old + trace_write_failures result }
-{
-    law_lines();
-    law_slices();
-    let mut done = 0;
-    while done < bytes.len() {
-        match feed_line(alloc, gateway, place, &bytes[done..], writer) {
-            Ok(taken) => done += taken,
+// Bytes are taken up to and with the first line feed, or all of them, and the line is played that they
+// complete.
+impl<G: TakesEvents, W: Outlet> Taker<G, W> for TracePlace {
+    ghost use Rattle.std.specs.Prelude.{◌-◌, ◌^◌};
+    ghost use Rattle.gateway.specs.Tracing.{Fed, FedUntil};
+
+    type Fault = LineFault;
+
+    ghost ready = { λ s. Unit {0} };
+
+    ghost room = { λ s. 2 ^ 64 - 1 - s.0.number };
+
+    ghost takes = { λ bytes s t. Fed bytes (G.traffic s.1) (G.traffic t.1) (W.took s.2) (W.took t.2) s.0 t.0 };
+
+    ghost stops = { λ f bytes s t. FedUntil f bytes (G.traffic s.1) (G.traffic t.1) (W.took s.2) (W.took t.2) s.0 t.0 };
+
+    fn take(&mut self, gateway: &mut G, writer: &mut W, bytes: &[u8]) -> Result<usize, LineFault> {
+        law_lines();
+        let Some(end) = line_end(bytes) else {
+            return match self.begun.extend(bytes) {
+                Ok(()) => Ok(bytes.len()),
+                Err(fault) => Err(fault),
+            };
+        };
+        match self.begun.extend(&bytes[..end]) {
+            Ok(()) => {}
             Err(fault) => return Err(fault),
         }
-    }
-    Ok(())
-}
-
-/// Feeds the bytes up to and with the first line feed, or all of them, and plays the line that they
-/// complete. Says how many bytes they were.
-fn feed_line<W: Outlet>(
-    alloc: Global,
-    gateway: &mut Gateway<'_>,
-    place: &mut TracePlace,
-    bytes: &[u8],
-    writer: &mut W,
-) -> Result<usize, TraceFault>
-    requires { place.old.number + length bytes.now < 2 ^ 64 }
-    ensures bound { IfOk result (λ n. n ≤ length bytes.now) }
-    ensures some { IfOk result (λ n. 0 < length bytes.now → 0 < n) }
-    ensures feeds { FeedsFront result bytes.now gateway.old gateway.new (W.written writer.old) (W.written writer.new) place.old place.new }
-    ensures number { IfOk result (λ n. place.new.number ≤ place.old.number + n) }
-    ensures failures { W.failures writer.new ≡ W.failures writer.old + trace_write_failures result }
-{
-    law_lines();
-    let Some(end) = line_end(bytes) else {
-        return match place.begun.extend(bytes) {
-            Ok(()) => Ok(bytes.len()),
-            Err(fault) => Err(fault_at(fault, place.number)),
-        };
-    };
-    match place.begun.extend(&bytes[..end]) {
-        Ok(()) => {}
-        Err(fault) => return Err(fault_at(fault, place.number)),
-    }
-    match place.begun.play(alloc, gateway, writer) {
-        Ok(()) => {}
-        Err(fault) => return Err(fault_at(fault, place.number)),
-    }
-    place.next();
-    Ok(end + 1)
-}
-
-/// The fault of the line of this number.
-pub(super) fn fault_at(fault: LineFault, number: u64) -> TraceFault
-    ensures { result ≡ numbered_fault fault number }
-{
-    match fault {
-        LineFault::Bad => TraceFault::BadLine(number),
-        LineFault::Write => TraceFault::Write,
-        LineFault::OutOfMemory => TraceFault::OutOfMemory,
+        match self.begun.play(self.alloc, gateway, writer) {
+            Ok(()) => {}
+            Err(fault) => return Err(fault),
+        }
+        self.next();
+        Ok(end + 1)
     }
 }

@@ -6,17 +6,17 @@ ghost use Rattle.connections.specs.Delivery.{IsOpen};
 ghost use Rattle.gateway.specs.Tracing.{Plays, PlaysRest};
 
 use crate::traces::print::{print_refusal, print_reply};
-use connections::{Event, Gateway, Out, bring, law_events, law_lines};
+use connections::{Event, Out, TakesEvents, bring, law_events, law_lines};
 use devices::{Failed, Outlet};
 
 /// Plays one event, and prints its replies or its refusal.
-pub(super) fn play<W: Outlet>(
-    gateway: &mut Gateway<'_>,
+pub(super) fn play<G: TakesEvents, W: Outlet>(
+    gateway: &mut G,
     event: Event<'_>,
     writer: &mut W,
 ) -> Result<(), Failed>
-    ensures plays { Plays result (happening event.entry) gateway.old gateway.new (W.written writer.old) (W.written writer.new) }
-    ensures failures { W.failures writer.new ≡ failures_after result (W.failures writer.old) }
+    ensures plays { Plays result (happening event.entry) (G.traffic gateway.old) (G.traffic gateway.new) (W.took writer.old).written (W.took writer.new).written }
+    ensures failures { (W.took writer.new).failures ≡ failures_after result (W.took writer.old).failures }
 {
     match event {
         Event::Open(c) => play_open(gateway, c, writer),
@@ -25,9 +25,13 @@ pub(super) fn play<W: Outlet>(
     }
 }
 
-fn play_open<W: Outlet>(gateway: &mut Gateway<'_>, c: u8, writer: &mut W) -> Result<(), Failed>
-    ensures plays { Plays result (Opening c) gateway.old gateway.new (W.written writer.old) (W.written writer.new) }
-    ensures failures { W.failures writer.new ≡ failures_after result (W.failures writer.old) }
+fn play_open<G: TakesEvents, W: Outlet>(
+    gateway: &mut G,
+    c: u8,
+    writer: &mut W,
+) -> Result<(), Failed>
+    ensures plays { Plays result (Opening c) (G.traffic gateway.old) (G.traffic gateway.new) (W.took writer.old).written (W.took writer.new).written }
+    ensures failures { (W.took writer.new).failures ≡ failures_after result (W.took writer.old).failures }
 {
     match gateway.event(Event::Open(c)) {
         Ok(_) => {}
@@ -36,9 +40,13 @@ fn play_open<W: Outlet>(gateway: &mut Gateway<'_>, c: u8, writer: &mut W) -> Res
     Ok(())
 }
 
-fn play_close<W: Outlet>(gateway: &mut Gateway<'_>, c: u8, writer: &mut W) -> Result<(), Failed>
-    ensures plays { Plays result (Closing c) gateway.old gateway.new (W.written writer.old) (W.written writer.new) }
-    ensures failures { W.failures writer.new ≡ failures_after result (W.failures writer.old) }
+fn play_close<G: TakesEvents, W: Outlet>(
+    gateway: &mut G,
+    c: u8,
+    writer: &mut W,
+) -> Result<(), Failed>
+    ensures plays { Plays result (Closing c) (G.traffic gateway.old) (G.traffic gateway.new) (W.took writer.old).written (W.took writer.new).written }
+    ensures failures { (W.took writer.new).failures ≡ failures_after result (W.took writer.old).failures }
 {
     match gateway.event(Event::Close(c)) {
         Ok(_) => {}
@@ -48,14 +56,14 @@ fn play_close<W: Outlet>(gateway: &mut Gateway<'_>, c: u8, writer: &mut W) -> Re
 }
 
 /// A refusal is printed once, however many line feeds the bytes have.
-fn play_bytes<W: Outlet>(
-    gateway: &mut Gateway<'_>,
+fn play_bytes<G: TakesEvents, W: Outlet>(
+    gateway: &mut G,
     c: u8,
     bytes: &[u8],
     writer: &mut W,
 ) -> Result<(), Failed>
-    ensures plays { Plays result (Bringing c bytes.now) gateway.old gateway.new (W.written writer.old) (W.written writer.new) }
-    ensures failures { W.failures writer.new ≡ failures_after result (W.failures writer.old) }
+    ensures plays { Plays result (Bringing c bytes.now) (G.traffic gateway.old) (G.traffic gateway.new) (W.took writer.old).written (W.took writer.new).written }
+    ensures failures { (W.took writer.new).failures ≡ failures_after result (W.took writer.old).failures }
 {
     law_lines();
     law_events();
@@ -70,15 +78,15 @@ fn play_bytes<W: Outlet>(
 }
 
 /// Goes on with the bytes after the first line feed.
-fn play_rest<W: Outlet>(
-    gateway: &mut Gateway<'_>,
+fn play_rest<G: TakesEvents, W: Outlet>(
+    gateway: &mut G,
     c: u8,
     bytes: &[u8],
     writer: &mut W,
 ) -> Result<(), Failed>
-    requires { IsOpen gateway.old c }
-    ensures plays { PlaysRest result c bytes.now gateway.old gateway.new (W.written writer.old) (W.written writer.new) }
-    ensures failures { W.failures writer.new ≡ failures_after result (W.failures writer.old) }
+    requires { IsOpen (G.traffic gateway.old) c }
+    ensures plays { PlaysRest result c bytes.now (G.traffic gateway.old) (G.traffic gateway.new) (W.took writer.old).written (W.took writer.new).written }
+    ensures failures { (W.took writer.new).failures ≡ failures_after result (W.took writer.old).failures }
 {
     law_lines();
     law_events();

@@ -17,8 +17,8 @@ pub(super) fn print_reply<W: Outlet>(
     c: u8,
     reply: Option<ReplyLine>,
 ) -> Result<(), Failed>
-    ensures prints { PrintsReply result (sent_to c reply) (W.written writer.old) (W.written writer.new) }
-    ensures failures { W.failures writer.new ≡ failures_after result (W.failures writer.old) }
+    ensures prints { PrintsReply result (sent_to c reply) (W.took writer.old).written (W.took writer.new).written }
+    ensures failures { (W.took writer.new).failures ≡ failures_after result (W.took writer.old).failures }
 {
     match &reply {
         Some(reply) => print_line(writer, c, reply.bytes()),
@@ -28,8 +28,8 @@ pub(super) fn print_reply<W: Outlet>(
 
 /// Prints a line after the number of its connection.
 fn print_line<W: Outlet>(writer: &mut W, c: u8, line: &[u8]) -> Result<(), Failed>
-    ensures writes { WritesAll result (printed (c, line.now)) (W.written writer.old) (W.written writer.new) }
-    ensures failures { W.failures writer.new ≡ failures_after result (W.failures writer.old) }
+    ensures writes { WritesAll result (printed (c, line.now)) (W.took writer.old).written (W.took writer.new).written }
+    ensures failures { (W.took writer.new).failures ≡ failures_after result (W.took writer.old).failures }
 {
     let number = spaced(c);
     match write_all(writer, number.as_slice()) {
@@ -44,8 +44,8 @@ pub(super) fn print_refusal<W: Outlet>(
     c: u8,
     fault: GateFault,
 ) -> Result<(), Failed>
-    ensures writes { WritesAll result (refusal_line c fault) (W.written writer.old) (W.written writer.new) }
-    ensures failures { W.failures writer.new ≡ failures_after result (W.failures writer.old) }
+    ensures writes { WritesAll result (refusal_line c fault) (W.took writer.old).written (W.took writer.new).written }
+    ensures failures { (W.took writer.new).failures ≡ failures_after result (W.took writer.old).failures }
 {
     let text = refusal(c, fault);
     write_all(writer, text.as_slice())

@@ -5,8 +5,8 @@ use Rattle.devices.proofs.device.write_all.Given as goal
 abbrev pub invariant-loop-done : goal.invariant-loop-done
 invariant-loop-done g l = record {
   within : l.done ≤ length l.bytes;
-  out : Appends (g.W.Outlet.written l.initial.writer) (g.W.Outlet.written l.writer) (take l.done l.bytes);
-  fine : g.W.Outlet.failures l.writer ≡ g.W.Outlet.failures l.initial.writer;
+  out : Appends (g.W.Outlet.took l.initial.writer).written (g.W.Outlet.took l.writer).written (take l.done l.bytes);
+  fine : (g.W.Outlet.took l.writer).failures ≡ (g.W.Outlet.took l.initial.writer).failures;
 }
 
 abbrev pub decreases-loop-done : goal.decreases-loop-done

@@ -1,16 +1,42 @@
-use Rattle.gateway.proofs.Prelude.{LineFault}
-use Rattle.gateway.proofs.Tracing.{stopped, finished, unplayed}
+use Rattle.gateway.proofs.Tracing.{trace_stopped, trace_finished, trace_unplayed}
 use Rattle.gateway.proofs.traces.trace.Goals as goal
 
 pub returns-in-Err-clause-traces : goal.returns-in-Err-clause-traces
 returns-in-Err-clause-traces g c =
-    stopped _ _ _ _ _ _ _ _ c.start-place.result _ c.start-place.ensures.begun c.start-place.ensures.number (Unit {0}) (Unit {0}) c.in-Err.fault c.in-Err.ensures.reads_by
+    rw c.fault_of.ensures (trace_stopped c.law_lines.ensures g.G.TakesEvents.traffic g.W.Outlet.took _ _
+    (c.start-place.result, c.args.gateway.now, c.args.writer.now) (c.pump.new.taker, c.pump.new.on, c.pump.new.writer) c.start-place.ensures.begun c.start-place.ensures.number
+    (Unit {0}) (Unit {0}) c.in-Err.stop c.in-Err.ensures.takes).0
+
+pub returns-in-Err-clause-write_failures : goal.returns-in-Err-clause-write_failures
+returns-in-Err-clause-write_failures g c =
+    rw c.fault_of.ensures (trace_stopped c.law_lines.ensures g.G.TakesEvents.traffic g.W.Outlet.took _ _
+    (c.start-place.result, c.args.gateway.now, c.args.writer.now) (c.pump.new.taker, c.pump.new.on, c.pump.new.writer) c.start-place.ensures.begun c.start-place.ensures.number
+    (Unit {0}) (Unit {0}) c.in-Err.stop c.in-Err.ensures.takes).1
 
 pub returns-in-Ok-play-clause-traces : goal.returns-in-Ok-play-clause-traces
 returns-in-Ok-play-clause-traces g c =
-    finished _ _ _ _ _ _ _ _ c.start-place.result _ c.start-place.ensures.begun c.start-place.ensures.number c.in-Ok.ensures.reads_by c.in-Ok.ensures.end (Unit {0}) LineFault tt _ _ c.in-Ok-play.ensures.plays
+    (trace_finished c.law_lines.ensures g.G.TakesEvents.traffic g.W.Outlet.took _ _
+    (c.start-place.result, c.args.gateway.now, c.args.writer.now) (c.pump.new.taker, c.pump.new.on, c.pump.new.writer) c.start-place.ensures.begun c.start-place.ensures.number
+    c.in-Ok.ensures.takes c.in-Ok.ensures.reads.end (g.G.TakesEvents.traffic c.play.new.gateway) (g.W.Outlet.took c.play.new.writer)
+    (Unit {0}) tt c.in-Ok-play.ensures.plays c.in-Ok-play.ensures.failures).0
+
+pub returns-in-Ok-play-clause-write_failures : goal.returns-in-Ok-play-clause-write_failures
+returns-in-Ok-play-clause-write_failures g c =
+    (trace_finished c.law_lines.ensures g.G.TakesEvents.traffic g.W.Outlet.took _ _
+    (c.start-place.result, c.args.gateway.now, c.args.writer.now) (c.pump.new.taker, c.pump.new.on, c.pump.new.writer) c.start-place.ensures.begun c.start-place.ensures.number
+    c.in-Ok.ensures.takes c.in-Ok.ensures.reads.end (g.G.TakesEvents.traffic c.play.new.gateway) (g.W.Outlet.took c.play.new.writer)
+    (Unit {0}) tt c.in-Ok-play.ensures.plays c.in-Ok-play.ensures.failures).1
 
 pub returns-clause-traces : goal.returns-clause-traces
 returns-clause-traces g c =
-    rw c.fault_at.ensures
-    (unplayed _ _ _ _ _ _ _ _ c.start-place.result _ c.start-place.ensures.begun c.start-place.ensures.number c.in-Ok.ensures.reads_by c.in-Ok.ensures.end (Unit {0}) c.in-Err-play.fault _ _ c.in-Err-play.ensures.plays)
+    rw c.fault_at.ensures (trace_unplayed c.law_lines.ensures g.G.TakesEvents.traffic g.W.Outlet.took _ _
+    (c.start-place.result, c.args.gateway.now, c.args.writer.now) (c.pump.new.taker, c.pump.new.on, c.pump.new.writer) c.start-place.ensures.begun c.start-place.ensures.number
+    c.in-Ok.ensures.takes c.in-Ok.ensures.reads.end (g.G.TakesEvents.traffic c.play.new.gateway) (g.W.Outlet.took c.play.new.writer)
+    (Unit {0}) c.in-Err-play.fault c.in-Err-play.ensures.plays c.in-Err-play.ensures.failures).0
+
+pub returns-clause-write_failures : goal.returns-clause-write_failures
+returns-clause-write_failures g c =
+    rw c.fault_at.ensures (trace_unplayed c.law_lines.ensures g.G.TakesEvents.traffic g.W.Outlet.took _ _
+    (c.start-place.result, c.args.gateway.now, c.args.writer.now) (c.pump.new.taker, c.pump.new.on, c.pump.new.writer) c.start-place.ensures.begun c.start-place.ensures.number
+    c.in-Ok.ensures.takes c.in-Ok.ensures.reads.end (g.G.TakesEvents.traffic c.play.new.gateway) (g.W.Outlet.took c.play.new.writer)
+    (Unit {0}) c.in-Err-play.fault c.in-Err-play.ensures.plays c.in-Err-play.ensures.failures).1
