@@ -1,9 +1,11 @@
--- Who rests, from client to client.
-use Rattle.std.proofs.Common.{◌≡◌, ℕ, ◌+◌, ◌<◌, Bool, true, false, ◌||◌, refl, sym, subst, inl, inr, arith}
+-- Who rests, from client to client, and that clients and sockets belong together.
+use Rattle.std.proofs.Common.{◌≡◌, ◌≢◌, ℕ, ◌+◌, ◌<◌, Bool, true, false, ◌||◌, Option, None, length, slice_set, get_or-set_other, get_or-set_same, refl, sym, subst, inl, inr, arith}
+use Rattle.std.specs.Option.{is_some}
 use Rattle.std.proofs.lemmas.Bool.Decides.{eqb_tells}
 use Rattle.sessions.specs.Sessions.{Hall, client_at}
+use Rattle.serving.specs.declared.peer.Peer.{Peer}
 use Rattle.serving.specs.declared.peers.Peers.{Peers}
-use Rattle.serving.specs.Resting.{peer_at, RestsOn, RestBelow, OthersKept}
+use Rattle.serving.specs.Resting.{peer_at, RestsOn, RestBelow, OthersKept, Seated}
 
 pub both : (a b : Bool) → (a || b) ≡ false → (a ≡ false) × (b ≡ false)
 both false false h = (refl, refl)
@@ -20,8 +22,18 @@ one_more n old_peers new_peers old new below here kept c small = elim (eqb_tells
 ]
 
 pub steps_more : (moved stepped : Bool) (n : ℕ) (old_peers new_peers : Peers) (old new : Hall) → (moved ≡ false → RestBelow n old_peers old)
-    → (stepped ≡ false → RestsOn (client_at new n) (peer_at new_peers n)) → (stepped ≡ false → OthersKept n old_peers new_peers old new)
+    → (stepped ≡ false → RestsOn (client_at new n) (peer_at new_peers n)) → OthersKept n old_peers new_peers old new
     → (moved || stepped) ≡ false → RestBelow (n + 1) new_peers new
 steps_more moved stepped n old_peers new_peers old new below here kept h =
     let none = both moved stepped h in
-    one_more n old_peers new_peers old new (below none.0) (here none.1) (kept none.1)
+    one_more n old_peers new_peers old new (below none.0) (here none.1) kept
+
+-- ---- clients and sockets
+
+-- a client and its socket are put at a number, or taken away there
+pub seated_at : (old_peers new_peers : Peers) (old new : Hall) (c : ℕ) (x : Option Peer) → Seated old_peers old → c < length old_peers.peers → new_peers.peers ≡ slice_set old_peers.peers c x
+    → is_some x ≡ is_some (client_at new c) → ((d : ℕ) → d ≢ c → client_at new d ≡ client_at old d) → Seated new_peers new
+seated_at old_peers new_peers old new c x seated within put here kept d = elim (eqb_tells d c) as (λ _. is_some (peer_at new_peers d) ≡ is_some (client_at new d)) [
+  | inl same ↦ rw (put, same.1, get_or-set_same old_peers.peers c x None within) here
+  | inr other ↦ rw (put, get_or-set_other old_peers.peers c d x None other.1, kept d other.1) (seated d)
+]

@@ -1,10 +1,14 @@
--- How a server leads its sessions on: by acts of clients, each as `Sessions` has it.
-use Rattle.std.specs.Prelude.{◌≡◌, ◌≢◌, ℕ, ◌==◌, ◌&&◌, Bool, true, List, [], ◌∷◌}
-use Rattle.sessions.specs.Sessions.{Hall, Act, Joins, Sends, Asks, Gets, Leaves, Did, Reaches}
+-- How a server leads its sessions on: by acts of clients, each as `Sessions` has it, and within its limits.
+use Rattle.std.specs.Prelude.{◌≡◌, ◌≢◌, ◌⊎◌, ℕ, ◌+◌, ◌-◌, ◌<◌, ◌≤◌, ◌==◌, nat_lt, ◌&&◌, Bool, true, false, List, [], ◌∷◌, Option, None, Some, Result, IsSome, OnOk, option_map}
+use Rattle.connections.specs.Events.{connections}
+use Rattle.sessions.specs.Sessions.{Hall, client_at, Act, Joins, Sends, Asks, Gets, Leaves, Did}
+use Rattle.serving.specs.declared.server.Limits.{Limits}
 
--- an act of client c
+-- ---- acts of one client
+
+-- an act of client c, which is there
 abbrev pub is_act_of : ℕ → Act → Bool
-is_act_of c (Joins d) = d == c
+is_act_of c (Joins d) = false
 is_act_of c (Sends d bytes) = d == c
 is_act_of c (Asks d) = d == c
 is_act_of c (Gets d bytes) = d == c
@@ -27,6 +31,80 @@ pub record ActedOf (c : ℕ) (old new : Hall) : Type 0 where
   pub own : are_acts_of c acts ≡ true
   pub did : Did old acts new
 
--- acts lead from one hall to the other
-pub record ByActs (old new : Hall) : Type 0 where
-  pub reaches : Reaches old new
+-- ---- acts of clients
+
+-- at least one act leads from one hall to the other
+pub record Acted (old new : Hall) : Type 0 where
+  pub acts : List Act
+  pub some : acts ≢ []
+  pub did : Did old acts new
+
+-- how many clients come
+abbrev pub joins_by : Act → ℕ
+joins_by (Joins c) = 1
+joins_by (Sends c bytes) = 0
+joins_by (Asks c) = 0
+joins_by (Gets c bytes) = 0
+joins_by (Leaves c) = 0
+
+abbrev pub joins : List Act → ℕ
+joins [] = 0
+joins (a ∷ acts) = joins_by a + joins acts
+
+-- who comes has one of the first so many numbers
+abbrev pub is_within : ℕ → Act → Bool
+is_within places (Joins c) = nat_lt c places
+is_within places (Sends c bytes) = true
+is_within places (Asks c) = true
+is_within places (Gets c bytes) = true
+is_within places (Leaves c) = true
+
+abbrev pub are_within : ℕ → List Act → Bool
+are_within places [] = true
+are_within places (a ∷ acts) = is_within places a && are_within places acts
+
+-- acts of clients that are there lead from one hall to the other: nobody comes
+pub record Stepped (old new : Hall) : Type 0 where
+  pub acts : List Act
+  pub nobody : joins acts ≡ 0
+  pub did : Did old acts new
+
+-- ---- limits
+
+-- so many in all, if there is a limit
+abbrev pub Allows : Option ℕ → ℕ → Type 0
+Allows None n = Unit {0}
+Allows (Some most) n = n ≤ most
+
+-- what is left of the limits when so many have come
+abbrev pub limits_behind : Limits → ℕ → Limits
+limits_behind limits n = record limits { clients = option_map (λ most. most - n) limits.clients }
+
+-- one client comes
+pub record Came (before after : Limits) (old new : Hall) : Type 0 where
+  pub c : ℕ
+  pub did : Did old (Joins c ∷ []) new
+  pub place : is_within before.places (Joins c) ≡ true
+  pub more : Allows before.clients 1
+  pub left : after ≡ limits_behind before 1
+
+-- acts within the limits lead from one hall to the other
+pub record Went (before after : Limits) (old new : Hall) : Type 0 where
+  pub acts : List Act
+  pub did : Did old acts new
+  pub places : are_within before.places acts ≡ true
+  pub most : Allows before.clients (joins acts)
+  pub left : after ≡ limits_behind before (joins acts)
+
+-- It ended by itself: nobody is there, and as many have come as were to come, or it was to end where nobody comes for a time.
+pub record Ended (limits : Limits) (came : ℕ) (h : Hall) : Type 0 where
+  pub nobody : (c : ℕ) → c < connections → client_at h c ≡ None
+  pub why : (limits.clients ≡ Some came) ⊎ IsSome limits.idle
+
+-- What serving does: acts of clients, of which as many are let in as the limits allow, at as many numbers as there are places.
+pub record Serves {A E : Type 0} (limits : Limits) (answer : Result A E) (old new : Hall) : Type 0 where
+  pub acts : List Act
+  pub did : Did old acts new
+  pub places : are_within limits.places acts ≡ true
+  pub most : Allows limits.clients (joins acts)
+  pub end : OnOk answer (Ended limits (joins acts) new)

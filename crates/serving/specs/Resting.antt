@@ -1,15 +1,16 @@
--- When a server has nothing to do but wait: each client waits for its socket, and whoever isn't let in has to wait. And what it means that a client doesn't.
+-- When a server has nothing to do but wait: each client waits for its socket, and whoever isn't let in has to wait.
 use Rattle.std.specs.Prelude.{◌≡◌, ◌≢◌, ◌⊎◌, ℕ, ◌<◌, ◌≤◌, true, false, Option, None, Some, IsSome, slice_index_or}
 use Rattle.std.specs.Duration.{as_nanos}
+use Rattle.std.specs.Option.{is_some}
 use Rattle.connections.specs.Events.{connections}
 use Rattle.sessions.specs.Sessions.{AreTaken, Client, Hall, client_at}
 use Rattle.sessions.specs.Advances.{Rests}
 use Rattle.serving.specs.declared.peer.Peer.{Peer}
 use Rattle.serving.specs.declared.peers.Peers.{Peers}
+use Rattle.serving.specs.declared.server.Limits.{Limits}
 use Rattle.serving.specs.declared.server.Next.{Next}
 use Rattle.serving.specs.declared.server.Next.TheVariants.{Wait, End, GiveUp}
 use Rattle.serving.specs.declared.server.Server.{Server}
-use Rattle.serving.specs.Acting.{ActedOf}
 
 -- ---- clients
 
@@ -31,9 +32,9 @@ pub record OthersKept (c : ℕ) (old_peers new_peers : Peers) (old new : Hall) :
   pub clients : (d : ℕ) → d ≢ c → client_at new d ≡ client_at old d
   pub peers : (d : ℕ) → d ≢ c → peer_at new_peers d ≡ peer_at old_peers d
 
--- A client made progress: it sent, was answered or left, or its socket is gone. So a server can't go round for nothing.
-abbrev pub Progresses : ℕ → Peers → Peers → Hall → Hall → Type 0
-Progresses c old_peers new_peers old new = ActedOf c old new ⊎ (IsSome (peer_at old_peers c) × (peer_at new_peers c ≡ None))
+-- each client has a socket, and each socket is a client's
+abbrev pub Seated : Peers → Hall → Type 0
+Seated peers h = (c : ℕ) → is_some (peer_at peers c) ≡ is_some (client_at h c)
 
 -- no client has a socket
 abbrev pub AreNone : Peers → Type 0
@@ -41,9 +42,9 @@ AreNone peers = (c : ℕ) → c < connections → peer_at peers c ≡ None
 
 -- ---- who isn't let in
 
--- None waits at the listener, no more are to come, one is to be tried again, or each place is taken.
+-- None waits at the listener, no more are to come, one couldn't be let in, or each place is taken.
 abbrev pub NoMore : Server → Hall → Type 0
-NoMore server h = (server.is_asked ≡ false) ⊎ (server.left ≡ Some 0) ⊎ (server.is_refused ≡ true) ⊎ AreTaken server.places h
+NoMore server h = (server.is_asked ≡ false) ⊎ (server.limits.clients ≡ Some 0) ⊎ (server.is_refused ≡ true) ⊎ AreTaken server.limits.places h
 
 -- nothing can be done before the system reports something new
 pub record AllRest (server : Server) (h : Hall) : Type 0 where
@@ -52,9 +53,27 @@ pub record AllRest (server : Server) (h : Hall) : Type 0 where
 
 -- ---- how long is waited
 
+-- so long, in nanoseconds
+abbrev pub WaitsFor : ℕ → Next → Type 0
+WaitsFor long (Wait (Some time)) = as_nanos time ≡ long
+WaitsFor long (Wait None) = ⊥
+WaitsFor long End = ⊥
+WaitsFor long GiveUp = ⊥
+
+-- a wait isn't over at once
+abbrev pub WaitsSome : Next → Type 0
+WaitsSome (Wait (Some time)) = 0 < as_nanos time
+WaitsSome (Wait None) = Unit {0}
+WaitsSome End = Unit {0}
+WaitsSome GiveUp = Unit {0}
+
 -- so long at most, in nanoseconds
 abbrev pub WaitsAtMost : ℕ → Next → Type 0
 WaitsAtMost most (Wait (Some time)) = as_nanos time ≤ most
 WaitsAtMost most (Wait None) = ⊥
 WaitsAtMost most End = Unit {0}
 WaitsAtMost most GiveUp = Unit {0}
+
+-- what is left of the limits lets a server end by itself where no client is there: no more are to come, or none came for too long
+abbrev pub Ends : Limits → Type 0
+Ends limits = (limits.clients ≡ Some 0) ⊎ IsSome limits.idle

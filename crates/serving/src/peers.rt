@@ -1,10 +1,13 @@
 //! The sockets of the clients, by their numbers.
-ghost use Rattle.std.specs.Prelude.{◌≡◌, ◌<◌, None, Some, length, slice_set, true, false};
+ghost use Rattle.std.specs.Prelude.{◌≡◌, ◌<◌, ℕ, None, Some, length, replicate, slice_set, true, false};
+ghost use Rattle.std.specs.Option.{is_some};
 ghost use Rattle.connections.specs.Events.{connections};
-ghost use Rattle.serving.specs.Resting.{AreNone, peer_at};
+ghost use Rattle.sessions.specs.Sessions.{Hall};
+ghost use Rattle.serving.specs.Resting.{AreNone, Seated, peer_at};
 
 use crate::peer::Peer;
 use connections::CONNECTIONS;
+use mio::Events;
 use mio::event::Event;
 
 /// The sockets of the clients that are connected.
@@ -15,7 +18,9 @@ pub struct Peers {
 
 impl Peers {
     /// No client is connected.
-    pub fn new() -> Peers {
+    pub fn new() -> Peers
+        ensures { (h : Hall) → h.clients ≡ replicate connections None → Seated result h }
+    {
         Peers {
             peers: [
                 None, None, None, None, None, None, None, None, //
@@ -26,7 +31,8 @@ impl Peers {
 
     /// Whether no client is connected.
     pub fn are_none(&self) -> bool
-        ensures { result ≡ true → AreNone self.now }
+        ensures none { result ≡ true → AreNone self.now }
+        ensures some { result ≡ false → ¬ AreNone self.now }
     {
         for c in 0..CONNECTIONS {
             if self.peers[c].is_some() {
@@ -58,16 +64,34 @@ impl Peers {
     /// Puts a socket at a number; where there is no such number, it is closed.
     pub fn put(&mut self, c: u8, peer: Peer)
         ensures put { c < connections → self.new.peers ≡ slice_set self.old.peers c (Some peer) }
+        ensures count { length self.old.peers ≡ connections }
     {
         if (c as usize) < CONNECTIONS {
             self.peers[c as usize] = Some(peer);
         }
     }
 
+    /// Notes all that the system reported of sockets.
+    pub fn note_all(&mut self, events: &Events)
+        ensures { (c : ℕ) → is_some (peer_at self.new c) ≡ is_some (peer_at self.old c) }
+    {
+        for event in events.iter() {
+            self.note(event);
+        }
+    }
+
     /// Notes what the system reported of a socket, whose number is the token.
-    pub fn note(&mut self, event: &Event) {
-        if let Some(Some(peer)) = self.peers.get_mut(event.token().0) {
+    fn note(&mut self, event: &Event)
+        ensures { (c : ℕ) → is_some (peer_at self.new c) ≡ is_some (peer_at self.old c) }
+    {
+        let token = event.token().0;
+        if token >= CONNECTIONS {
+            return;
+        }
+        let c = token as u8;
+        if let Some(mut peer) = self.take(c) {
             peer.note(event);
+            self.put(c, peer);
         }
     }
 }

@@ -1,8 +1,11 @@
 //! Serving at a place, from its first client to its end.
-ghost use Rattle.serving.specs.Acting.{ByActs};
+ghost use Rattle.std.specs.Prelude.{◌≡◌, ◌⊎◌, None, Err, replicate};
+ghost use Rattle.connections.specs.Events.{connections};
+ghost use Rattle.serving.specs.Acting.{Serves};
+ghost use Rattle.serving.specs.Resting.{Seated};
 
 use crate::listener::{Listener, Place};
-use crate::server::{Limits, Server};
+use crate::server::{Limits, Refusal, Server};
 use sessions::{Sessions, law_acts_in_a_row};
 use std::alloc::Global;
 use std::fs::{File, Files};
@@ -23,8 +26,8 @@ pub enum ServingFault {
     OutOfMemory,
 }
 
-/// Serves clients at a place, as many at once as the limits say; others wait. A socket's file is removed
-/// at the end, but for one by a signal.
+/// Serves clients at a place, as many at once and in all as the limits say; others wait. Nobody is
+/// connected when it begins. A socket's file is removed at the end, but for one by a signal.
 ///
 /// # Errors
 ///
@@ -37,19 +40,37 @@ pub fn serve_clients<R: Files<File = File> + Net + Clock>(
     place: Place<'_>,
     limits: Limits,
 ) -> Result<(), ServingFault>
-    ensures acts { ByActs sessions.old sessions.new }
+    requires { sessions.old.clients ≡ replicate connections None }
+    ensures serves { Serves limits result sessions.old sessions.new }
+    ensures given_up { result ≡ Err ServingFault.Accept → limits.refusal ≡ Refusal.End }
 {
     law_acts_in_a_row();
     let mut listener = match Listener::bind(rt, alloc, place) {
         Ok(listener) => listener,
         Err(error) => return Err(fault_of(&error, ServingFault::Listen)),
     };
-    let served = match Server::new(rt, alloc, &mut listener, limits) {
-        Ok(server) => run(rt, &listener, sessions, server),
-        Err(error) => Err(fault_of(&error, ServingFault::Poll)),
-    };
+    let served = serve_at(rt, alloc, &mut listener, sessions, limits);
     listener.close(rt, place);
     served
+}
+
+/// Serves those who come by a listener.
+fn serve_at<R: Net + Clock>(
+    rt: &R,
+    alloc: Global,
+    listener: &mut Listener,
+    sessions: &mut Sessions<'_>,
+    limits: Limits,
+) -> Result<(), ServingFault>
+    requires { sessions.old.clients ≡ replicate connections None }
+    ensures serves { Serves limits result sessions.old sessions.new }
+    ensures given_up { result ≡ Err ServingFault.Accept → limits.refusal ≡ Refusal.End }
+{
+    law_acts_in_a_row();
+    match Server::new(rt, alloc, listener, limits) {
+        Ok(server) => run(rt, listener, sessions, server),
+        Err(error) => Err(fault_of(&error, ServingFault::Poll)),
+    }
 }
 
 /// Runs a server to its end.
@@ -59,14 +80,18 @@ fn run<K: Clock>(
     sessions: &mut Sessions<'_>,
     server: Server,
 ) -> Result<(), ServingFault>
-    ensures acts { ByActs sessions.old sessions.new }
+    requires { Seated server.peers sessions.old }
+    ensures serves { Serves server.limits result sessions.old sessions.new }
+    ensures given_up { result ≡ Err ServingFault.Accept → server.limits.refusal ≡ Refusal.End }
 {
     let mut server = server;
     server.run(clock, listener, sessions)
 }
 
 /// What an error of the system is: memory ran out, or else this.
-pub fn fault_of(error: &Error, other: ServingFault) -> ServingFault {
+pub fn fault_of(error: &Error, other: ServingFault) -> ServingFault
+    ensures { (result ≡ ServingFault.OutOfMemory) ⊎ (result ≡ other) }
+{
     match error.kind() {
         ErrorKind::OutOfMemory => ServingFault::OutOfMemory,
         _ => other,

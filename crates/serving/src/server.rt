@@ -1,11 +1,11 @@
 //! The loop: who takes a step, and when there is nothing to do but wait.
-ghost use Rattle.std.specs.Prelude.{◌≡◌, ◌≢◌, ◌⊎◌, ◌*◌, ◌<◌, ◌≤◌, true, false, IfOk, OnOk, IsNone};
+ghost use Rattle.std.specs.Prelude.{◌≡◌, ◌≢◌, ◌⊎◌, ◌*◌, ◌<◌, ◌≤◌, true, false, ℕ, Ok, Err, None, replicate, IfOk, OnOk, OnErr, IsNone, IsSome};
 ghost use Rattle.std.specs.Duration.{as_nanos};
 ghost use Rattle.connections.specs.Events.{connections};
-ghost use Rattle.sessions.specs.Sessions.{client_at};
+ghost use Rattle.sessions.specs.Sessions.{Hall, client_at};
 ghost use Rattle.serving.specs.declared.server.TheConstants.{RETRY_SECONDS};
-ghost use Rattle.serving.specs.Acting.{ByActs, ByActsOf};
-ghost use Rattle.serving.specs.Resting.{AllRest, AreNone, NoMore, OthersKept, Progresses, RestBelow, RestsOn, WaitsAtMost, peer_at};
+ghost use Rattle.serving.specs.Acting.{Acted, ActedOf, ByActsOf, Came, Stepped, Went, limits_behind};
+ghost use Rattle.serving.specs.Resting.{AllRest, AreNone, Ends, NoMore, OthersKept, RestBelow, RestsOn, Seated, WaitsAtMost, WaitsFor, WaitsSome, peer_at};
 
 use crate::listener::Listener;
 use crate::peer::Peer;
@@ -72,16 +72,10 @@ pub struct Server {
     peers: Peers,
     /// Whether a client may wait at the listener.
     is_asked: bool,
-    /// Whether one waits that couldn't be let in although there is a place.
+    /// Whether one couldn't be let in although there is a place.
     is_refused: bool,
-    /// How many clients it serves at once.
-    places: u8,
-    /// What follows where one can't be let in.
-    refusal: Refusal,
-    /// How many more clients are let in, if there is a limit.
-    left: Option<u32>,
-    /// How long no client may be there, if there is a limit.
-    idle: Option<Duration>,
+    /// What is left of the limits: how many more clients are let in.
+    limits: Limits,
     /// Since when no client is there, once that was looked at.
     alone_since: Option<Instant>,
 }
@@ -93,7 +87,10 @@ impl Server {
         alloc: Global,
         listener: &mut Listener,
         limits: Limits,
-    ) -> io::Result<Server> {
+    ) -> io::Result<Server>
+        ensures seated { IfOk result (λ server. (h : Hall) → h.clients ≡ replicate connections None → Seated server.peers h) }
+        ensures limits { IfOk result (λ server. server.limits ≡ limits) }
+    {
         let poll = Poll::new(rt)?;
         let events = Events::with_capacity(alloc, EVENTS)?;
         listener.watch(poll.registry(), LISTENER)?;
@@ -103,10 +100,7 @@ impl Server {
             peers: Peers::new(),
             is_asked: true,
             is_refused: false,
-            places: limits.places,
-            refusal: limits.refusal,
-            left: limits.clients,
-            idle: seconds(limits.idle),
+            limits,
             alone_since: None,
         })
     }
@@ -119,8 +113,11 @@ impl Server {
         listener: &Listener,
         sessions: &mut Sessions<'_>,
     ) -> Result<(), ServingFault>
-        ensures acts { ByActs sessions.old sessions.new }
-        ensures end { OnOk result (AreNone self.new.peers) }
+        requires { Seated self.old.peers sessions.old }
+        ensures went { Went self.old.limits self.new.limits sessions.old sessions.new }
+        ensures seated { Seated self.new.peers sessions.new }
+        ensures end { OnOk result (AreNone self.new.peers × Ends self.new.limits) }
+        ensures given_up { result ≡ Err ServingFault.Accept → self.new.limits.refusal ≡ Refusal.End }
     {
         law_acts_in_a_row();
         for _ in 0..u64::MAX {
@@ -135,24 +132,30 @@ impl Server {
     }
 
     /// Goes round until nothing moves, or often enough to ask the system what is new. Returns whether
-    /// something may still move.
+    /// something may still move, and then something did.
     fn rounds(&mut self, listener: &Listener, sessions: &mut Sessions<'_>) -> bool
-        ensures acts { ByActs sessions.old sessions.new }
+        requires { Seated self.old.peers sessions.old }
+        ensures went { Went self.old.limits self.new.limits sessions.old sessions.new }
+        ensures acted { result ≡ true → Acted sessions.old sessions.new }
         ensures rest { result ≡ false → AllRest self.new sessions.new }
+        ensures seated { Seated self.new.peers sessions.new }
     {
         law_acts_in_a_row();
-        for _ in 0..ROUNDS {
+        for _ in 1..ROUNDS {
             if !self.round(listener, sessions) {
                 return false;
             }
         }
-        true
+        self.round(listener, sessions)
     }
 
     /// Lets in who waits, has each client take a step, and returns whether anything moved.
     fn round(&mut self, listener: &Listener, sessions: &mut Sessions<'_>) -> bool
-        ensures acts { ByActs sessions.old sessions.new }
+        requires { Seated self.old.peers sessions.old }
+        ensures went { Went self.old.limits self.new.limits sessions.old sessions.new }
+        ensures acted { result ≡ true → Acted sessions.old sessions.new }
         ensures rest { result ≡ false → AllRest self.new sessions.new }
+        ensures seated { Seated self.new.peers sessions.new }
     {
         law_acts_in_a_row();
         let came = self.let_in(listener, sessions);
@@ -162,9 +165,13 @@ impl Server {
 
     /// Has each client take a step, and returns whether one moved or has gone.
     fn steps(&mut self, sessions: &mut Sessions<'_>) -> bool
-        ensures acts { ByActs sessions.old sessions.new }
+        requires { Seated self.old.peers sessions.old }
+        ensures went { Stepped sessions.old sessions.new }
+        ensures acted { result ≡ true → Acted sessions.old sessions.new }
         ensures rest { result ≡ false → RestBelow connections self.new.peers sessions.new }
         ensures no_more { result ≡ false → NoMore self.old sessions.old → NoMore self.new sessions.new }
+        ensures seated { Seated self.new.peers sessions.new }
+        ensures limits { self.new.limits ≡ self.old.limits }
     {
         law_acts_in_a_row();
         let mut moved = false;
@@ -176,12 +183,15 @@ impl Server {
 
     /// Has a client take a step, and returns whether it moved or has gone.
     fn step(&mut self, sessions: &mut Sessions<'_>, c: u8) -> bool
-        requires { c < connections }
+        requires small { c < connections }
+        requires seated { Seated self.old.peers sessions.old }
         ensures acts { ByActsOf c sessions.old sessions.new }
-        ensures moved { result ≡ true → Progresses c self.old.peers self.new.peers sessions.old sessions.new }
+        ensures moved { result ≡ true → ActedOf c sessions.old sessions.new }
         ensures rests { result ≡ false → RestsOn (client_at sessions.new c) (peer_at self.new.peers c) }
-        ensures others { result ≡ false → OthersKept c self.old.peers self.new.peers sessions.old sessions.new }
+        ensures others { OthersKept c self.old.peers self.new.peers sessions.old sessions.new }
         ensures no_more { result ≡ false → NoMore self.old sessions.old → NoMore self.new sessions.new }
+        ensures seated { Seated self.new.peers sessions.new }
+        ensures limits { self.new.limits ≡ self.old.limits }
     {
         law_acts_in_a_row();
         // (most numbers have no client, and each is looked at for each command)
@@ -217,41 +227,50 @@ impl Server {
     /// Lets in who waits at the listener, if there is a place, and returns whether somebody came. The
     /// place is taken first, so that nobody is let in for whom there is none.
     fn let_in(&mut self, listener: &Listener, sessions: &mut Sessions<'_>) -> bool
-        ensures acts { ByActs sessions.old sessions.new }
+        requires { Seated self.old.peers sessions.old }
+        ensures came { result ≡ true → Came self.old.limits self.new.limits sessions.old sessions.new }
+        ensures nobody { result ≡ false → (self.new.limits ≡ self.old.limits) × (sessions.new ≡ sessions.old) }
         ensures no_more { result ≡ false → NoMore self.new sessions.new }
+        ensures seated { Seated self.new.peers sessions.new }
     {
-        law_acts_in_a_row();
         self.is_refused = false;
-        if !self.is_asked || matches!(self.left, Some(0)) {
+        if !self.is_asked || matches!(self.limits.clients, Some(0)) {
             return false;
         }
-        let c = match sessions.join(self.places) {
-            Ok(c) => c,
+        let seat = match sessions.seat(self.limits.places) {
+            Ok(seat) => seat,
             Err(JoinFault::Full) => return false,
             Err(JoinFault::OutOfMemory) => {
                 self.is_refused = true;
                 return false;
             }
         };
-        match self.accepted(listener) {
-            Some(peer) => {
-                self.seat(sessions, c, peer);
-                true
-            }
-            None => {
-                sessions.leave(c);
-                false
-            }
-        }
+        let c = seat.number();
+        let Some(peer) = self.accepted(listener, c) else {
+            return false;
+        };
+        self.peers.put(c, peer);
+        sessions.join(seat);
+        self.count();
+        true
     }
 
-    /// The next client. Where none waits, the system reports the next one; where one can't be had, as
-    /// without a free descriptor, it doesn't.
-    fn accepted(&mut self, listener: &Listener) -> Option<Peer>
-        ensures { IsNone result → (self.new.is_asked ≡ false) ⊎ (self.new.is_refused ≡ true) }
+    /// The next client, whose socket is watched. Where none waits, the system reports the next one;
+    /// where one can't be had, as without a free descriptor, or can't be watched, it doesn't.
+    fn accepted(&mut self, listener: &Listener, c: u8) -> Option<Peer>
+        ensures none { IsNone result → (self.new.is_asked ≡ false) ⊎ (self.new.is_refused ≡ true) }
+        ensures peers { self.new.peers ≡ self.old.peers }
+        ensures limits { self.new.limits ≡ self.old.limits }
     {
         match listener.accept() {
-            Ok(Some(peer)) => Some(peer),
+            Ok(Some(peer)) => {
+                let mut peer = peer;
+                if peer.watch(self.poll.registry(), Token(c as usize)).is_ok() {
+                    return Some(peer);
+                }
+                self.is_refused = true;
+                None
+            }
             Ok(None) => {
                 self.is_asked = false;
                 None
@@ -263,51 +282,45 @@ impl Server {
         }
     }
 
-    /// Gives a client its number. One that can't be watched is gone.
-    fn seat(&mut self, sessions: &mut Sessions<'_>, c: u8, peer: Peer)
-        ensures acts { ByActsOf c sessions.old sessions.new }
-    {
-        law_acts_in_a_row();
-        let mut peer = peer;
-        match peer.watch(self.poll.registry(), Token(c as usize)) {
-            Ok(()) => {
-                self.peers.put(c, peer);
-                self.count();
-            }
-            Err(_) => sessions.leave(c),
-        }
-    }
-
     /// A client has come.
-    fn count(&mut self) {
+    fn count(&mut self)
+        ensures limits { self.new.limits ≡ limits_behind self.old.limits 1 }
+        ensures peers { self.new.peers ≡ self.old.peers }
+    {
         self.alone_since = None;
-        if let Some(left) = self.left {
-            self.left = Some(left.saturating_sub(1));
+        if let Some(left) = self.limits.clients {
+            self.limits.clients = Some(left.saturating_sub(1));
         }
     }
 
-    /// What to do after rounds. Nobody waits where something may still move, and it ends by itself only
-    /// where no client is there.
+    /// What to do after rounds. Nobody waits where something may still move, and where nothing may, all
+    /// do; it ends by itself only where no client is there.
     fn next<K: Clock>(&mut self, clock: &K, busy: bool) -> Result<Next, ServingFault>
-        ensures awake { busy ≡ true → IfOk result (WaitsAtMost 0) }
+        ensures awake { busy ≡ true → IfOk result (WaitsFor 0) }
+        ensures asleep { busy ≡ false → IfOk result WaitsSome }
         ensures again { self.old.is_refused ≡ true → IfOk result (WaitsAtMost (RETRY_SECONDS * 1_000_000_000)) }
-        ensures end { IfOk result (λ next. next ≡ Next.End → AreNone self.old.peers) }
+        ensures unhurried { busy ≡ false → self.old.is_refused ≡ false → ¬ AreNone self.old.peers → result ≡ Ok (Next.Wait None) }
+        ensures end { result ≡ Ok Next.End → AreNone self.old.peers × Ends self.old.limits }
+        ensures given_up { result ≡ Ok Next.GiveUp → (self.old.is_refused ≡ true) × (self.old.limits.refusal ≡ Refusal.End) }
+        ensures failed { OnErr result ((busy ≡ false) × IsSome self.old.limits.idle) }
+        ensures fault { result ≢ Err ServingFault.Accept }
         ensures peers { self.new.peers ≡ self.old.peers }
+        ensures limits { self.new.limits ≡ self.old.limits }
     {
         if busy {
             return Ok(Next::Wait(Some(Duration::from_secs(0))));
         }
-        if self.is_refused && matches!(self.refusal, Refusal::End) {
+        if self.is_refused && matches!(self.limits.refusal, Refusal::End) {
             return Ok(Next::GiveUp);
         }
         if !self.peers.are_none() {
             return Ok(self.patience());
         }
-        if matches!(self.left, Some(0)) {
+        if matches!(self.limits.clients, Some(0)) {
             return Ok(Next::End);
         }
-        match self.idle {
-            Some(idle) => self.next_alone(clock, idle),
+        match self.limits.idle {
+            Some(idle) => self.next_alone(clock, Duration::from_secs(u64::from(idle))),
             None => Ok(self.patience()),
         }
     }
@@ -315,8 +328,13 @@ impl Server {
     /// What to do where no client is there, and none may be for so long. Time is read off the clock,
     /// since a wait ends early where the process was stopped in it.
     fn next_alone<K: Clock>(&mut self, clock: &K, idle: Duration) -> Result<Next, ServingFault>
+        ensures asleep { IfOk result WaitsSome }
         ensures again { self.old.is_refused ≡ true → IfOk result (WaitsAtMost (RETRY_SECONDS * 1_000_000_000)) }
+        ensures most { IfOk result (WaitsAtMost (as_nanos idle)) }
+        ensures goes_on { result ≢ Ok Next.GiveUp }
+        ensures fault { result ≢ Err ServingFault.Accept }
         ensures peers { self.new.peers ≡ self.old.peers }
+        ensures limits { self.new.limits ≡ self.old.limits }
     {
         let Ok(now) = Instant::now(clock) else {
             return Err(ServingFault::Poll);
@@ -336,8 +354,8 @@ impl Server {
     /// To wait until a client that couldn't be let in is tried again, or, where there is none, without
     /// a limit.
     fn patience(&self) -> Next
-        ensures again { self.now.is_refused ≡ true → WaitsAtMost (RETRY_SECONDS * 1_000_000_000) result }
-        ensures goes_on { result ≢ Next.End }
+        ensures again { self.now.is_refused ≡ true → WaitsFor (RETRY_SECONDS * 1_000_000_000) result }
+        ensures unhurried { self.now.is_refused ≡ false → result ≡ Next.Wait None }
     {
         if self.is_refused {
             Next::Wait(Some(retry()))
@@ -347,19 +365,28 @@ impl Server {
     }
 
     /// Waits until something is new, at most so long, and notes what is.
-    fn wait(&mut self, most: Option<Duration>) -> Result<(), ServingFault> {
+    fn wait(&mut self, most: Option<Duration>) -> Result<(), ServingFault>
+        ensures fault { result ≢ Err ServingFault.Accept }
+        ensures seated { (h : Hall) → Seated self.old.peers h → Seated self.new.peers h }
+        ensures limits { self.new.limits ≡ self.old.limits }
+    {
         if let Err(error) = self.poll.poll(&mut self.events, most) {
             return Err(fault_of(&error, ServingFault::Poll));
         }
-        for event in self.events.iter() {
-            if event.token() == LISTENER {
-                self.is_asked = true;
-            } else {
-                self.peers.note(event);
-            }
-        }
+        self.is_asked |= has_listener(&self.events);
+        self.peers.note_all(&self.events);
         Ok(())
     }
+}
+
+/// Whether the system reported that clients wait at the listener.
+fn has_listener(events: &Events) -> bool {
+    for event in events.iter() {
+        if event.token() == LISTENER {
+            return true;
+        }
+    }
+    false
 }
 
 /// After what time a client that couldn't be let in is tried again.
@@ -373,14 +400,7 @@ fn retry() -> Duration
 fn shorter(a: Duration, b: Duration) -> Duration
     ensures first { as_nanos result ≤ as_nanos a }
     ensures second { as_nanos result ≤ as_nanos b }
+    ensures some { 0 < as_nanos a → 0 < as_nanos b → 0 < as_nanos result }
 {
     if a.as_nanos() < b.as_nanos() { a } else { b }
-}
-
-/// A number of seconds as a time.
-fn seconds(count: Option<u32>) -> Option<Duration> {
-    match count {
-        Some(count) => Some(Duration::from_secs(u64::from(count))),
-        None => None,
-    }
 }

@@ -1,11 +1,12 @@
 -- What an act leaves as it was: the other clients, and how little waits to be taken of each.
-use Rattle.std.proofs.Common.{zero, suc}
+use Rattle.std.proofs.Common.{zero, suc, ◌==◌}
+use Rattle.std.specs.Option.{is_some}
 use Rattle.std.proofs.lemmas.List.{length-drop}
 use Rattle.devices.specs.declared.reading.TheConstants.{READ_BUFFER}
 use Rattle.sessions.specs.Advances.{is_step_of, are_steps_of}
 use Rattle.sessions.proofs.Prelude.{◌≡◌, ◌≢◌, ℕ, ◌<◌, ◌≤◌, true, List, [], ◌∷◌, length, replicate, ◌⊎◌, Option, None, Some, slice_set, sym, ap, ◌∙◌, subst, inl, inr, arith, length-set, get_or-set_other, get_or-set_same, eqb-true, eqb_tells}
 use Rattle.sessions.proofs.Prelude.{Happening, connections, at_number, line_at, Numbered, Client, Hall, client_at, fresh_client, Act, Joins, Sends, Asks, Gets, Leaves, Acts, ActAll, HasLittle, InputIsLittle, number_within}
-use Rattle.sessions.proofs.Reaching.{both_stay}
+use Rattle.sessions.proofs.Reaching.{both_stay, placed}
 
 -- ---- other clients
 
@@ -36,6 +37,28 @@ others_kept old new (a ∷ acts) es replies c d ne steps h =
     let one = kept_one old h.0 a h.1 h.3 c d ne both.0 h.5 in
     let rest = others_kept h.0 new acts h.2 h.4 c d ne both.1 h.6 in
     (rest.0 ∙ one.0, rest.1 ∙ one.1)
+
+-- ---- the client itself
+
+-- what is put where a client was
+still_there : (old mid : Hall) (c n : ℕ) (x before : Client) → (n == c) ≡ true → client_at old n ≡ Some before → mid.clients ≡ slice_set old.clients n (Some x) → is_some (client_at mid c) ≡ is_some (client_at old c)
+still_there old mid c n x before same was put =
+    let here : client_at old c ≡ Some before = subst (λ k. client_at old k ≡ Some before) (eqb-true n c same) was in
+    ap is_some (placed old mid c n x before same put here) ∙ sym (ap is_some here)
+
+-- client c is there where it was
+there_one : (old mid : Hall) (a : Act) (es : List Happening) (said : List Numbered) (c : ℕ) → is_step_of c a ≡ true → Acts old a es said mid → is_some (client_at mid c) ≡ is_some (client_at old c)
+there_one old mid (Joins n) es said c step h = cc
+there_one old mid (Sends n bytes) es said c step h = still_there old mid c n _ _ step h.2.was (ap (λ (x : Hall). x.clients) h.2.is)
+there_one old mid (Asks n) es said c step h = still_there old mid c n _ _ step h.4.was h.4.is
+there_one old mid (Gets n bytes) es said c step h = still_there old mid c n _ _ step h.2.was (ap (λ (x : Hall). x.clients) h.2.is)
+there_one old mid (Leaves n) es said c step h = cc
+
+pub there : (old new : Hall) (acts : List Act) (es : List Happening) (replies : List Numbered) (c : ℕ) → are_steps_of c acts ≡ true → ActAll old acts es replies new → is_some (client_at new c) ≡ is_some (client_at old c)
+there old new [] es replies c steps h = ap (λ (x : Hall). is_some (client_at x c)) h.2
+there old new (a ∷ acts) es replies c steps h =
+    let both = both_stay (is_step_of c a) (are_steps_of c acts) steps in
+    there h.0 new acts h.2 h.4 c both.1 h.6 ∙ there_one old h.0 a h.1 h.3 c both.0 h.5
 
 -- ---- what waits to be taken
 

@@ -2,9 +2,9 @@
 use Rattle.std.proofs.Common.{lt-ltb, set-set, eq-eqb, ◌≢◌, zero, suc}
 use Rattle.std.proofs.lemmas.List.{take-append-drop, length-take}
 use Rattle.devices.specs.declared.reading.TheConstants.{READ_BUFFER}
-use Rattle.sessions.specs.Advances.{Advanced, Moves, are_steps_of}
+use Rattle.sessions.specs.Advances.{Advanced, HasInput, Moves, are_steps_of}
 use Rattle.sessions.specs.Reaching.{came, went}
-use Rattle.sessions.proofs.Others.{others_kept}
+use Rattle.sessions.proofs.Others.{others_kept, there}
 use Rattle.sessions.specs.declared.sessions.Advance.{Advance}
 use Rattle.sessions.specs.declared.sessions.Advance.TheVariants.{Moved}
 use Rattle.std.specs.Option.{is_some, option_map}
@@ -169,7 +169,7 @@ module _ (t : Traffic) (cs ds : List (Option Client)) (c : ℕ) (session after :
 -- ---- steps
 
 module _ (answer : Advance) (c : ℕ) (old new : Hall) (received_old received_new sent_old sent_new : List ℕ) where
-  advanced : (acts : List Act) → are_steps_of c acts ≡ true → (answer ≡ Moved → Moves c acts) → Did old acts new → received_new ≡ received_old ++ came c acts → sent_new ≡ sent_old ++ went c acts
+  advanced : (acts : List Act) → are_steps_of c acts ≡ true → (answer ≡ Moved → Moves c old acts) → Did old acts new → received_new ≡ received_old ++ came c acts → sent_new ≡ sent_old ++ went c acts
       → Advanced answer c old new received_old received_new sent_old sent_new
   advanced acts own moved did received sent = record {
     acts = acts;
@@ -178,6 +178,7 @@ module _ (answer : Advance) (c : ℕ) (old new : Hall) (received_old received_ne
     did = did;
     received = received;
     sent = sent;
+    stays = there old new acts did.0 did.1 c own did.2;
     others = λ d ne. (others_kept old new acts did.0 did.1 c d ne own did.2).0;
     other_lines = λ d ne. (others_kept old new acts did.0 did.1 c d ne own did.2).1;
   }
@@ -185,9 +186,9 @@ module _ (answer : Advance) (c : ℕ) (old new : Hall) (received_old received_ne
   here : (c == c) ≡ true
   here = eq-eqb c c refl
 
-  pub advance_asks : Did old (Asks c ∷ []) new → received_new ≡ received_old → sent_new ≡ sent_old → Advanced answer c old new received_old received_new sent_old sent_new
-  advance_asks did received sent =
-      advanced (Asks c ∷ []) (rw here refl) (λ _. inr (inl refl)) did (received ∙ sym (append-nil received_old)) (sent ∙ sym (append-nil sent_old))
+  pub advance_asks : HasInput c old → Did old (Asks c ∷ []) new → received_new ≡ received_old → sent_new ≡ sent_old → Advanced answer c old new received_old received_new sent_old sent_new
+  advance_asks some did received sent =
+      advanced (Asks c ∷ []) (rw here refl) (λ _. inr (inl (refl, some))) did (received ∙ sym (append-nil received_old)) (sent ∙ sym (append-nil sent_old))
 
   pub advance_gets : (bytes : List ℕ) → (answer ≡ Moved → bytes ≢ []) → Did old (Gets c bytes ∷ []) new → received_new ≡ received_old → sent_new ≡ sent_old ++ bytes
       → Advanced answer c old new received_old received_new sent_old sent_new

@@ -2,6 +2,7 @@
 #![tactic(auto)]
 
 mod laws;
+mod seat;
 mod session;
 mod sessions;
 mod slots;
@@ -10,4 +11,5 @@ pub use laws::{
     law_acts_in_a_row, law_answers_reach_their_client, law_input_is_little,
     law_lines_are_taken_once, law_sessions_in_order,
 };
+pub use seat::Seat;
 pub use sessions::{Advance, JoinFault, Sessions};

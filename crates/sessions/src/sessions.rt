@@ -1,20 +1,20 @@
 //! The clients of a gateway.
-ghost use Rattle.std.specs.Prelude.{◌≡◌, ◌≢◌, ◌⊎◌, ℕ, ◌<◌, ◌≤◌, List, [], ◌∷◌, length, take, None, Some, Err, replicate, IfOk, OnErr, MatchOption, IsSome, option_map};
+ghost use Rattle.std.specs.Prelude.{◌≡◌, ◌≢◌, ◌⊎◌, ℕ, ◌<◌, ◌≤◌, List, [], ◌∷◌, length, take, None, Some, Err, replicate, IfOk, MatchOption, IsSome, option_map};
 ghost use Rattle.connections.specs.Events.{connections, at_number};
 ghost use Rattle.sessions.specs.Sessions.{AreTaken, Client, Hall, client_at, fresh_client, Joins, Sends, Asks, Gets, Leaves, Did, Present};
 ghost use Rattle.sessions.specs.Advances.{Advanced, Rests};
 
-use crate::session::Session;
+use crate::seat::Seat;
 use crate::slots::Slots;
 use connections::{CONNECTIONS, Event, Gateway, Out, law_events};
 use devices::{Arrival, Failed, READ_BUFFER, Wire};
 use std::alloc::Global;
 use std::marker::Model;
 
-/// Why a client isn't let in.
+/// Why there is no seat for a client.
 #[derive(Clone, Copy, PartialEq, Eq, Debug)]
 pub enum JoinFault {
-    /// All places are taken.
+    /// There is a client at each of the places.
     Full,
     /// Memory ran out.
     OutOfMemory,
@@ -84,7 +84,7 @@ impl<'i> Sessions<'i> {
     /// The lowest number below `places` at which there is no client.
     fn vacancy(&self, places: u8) -> Option<u8>
         ensures { MatchOption result (AreTaken places self.now)
-            (λ c. (c < connections) × (client_at self.now c ≡ None) × (c < places)) }
+            (λ c. (c < connections) × (client_at self.now c ≡ None) × (c < places) × AreTaken c self.now) }
     {
         for c in 0..CONNECTIONS as u8 {
             if c >= places {
@@ -97,25 +97,37 @@ impl<'i> Sessions<'i> {
         None
     }
 
-    /// Lets a client in at one of the first `places` numbers, and returns its number.
-    pub fn join(&mut self, places: u8) -> Result<u8, JoinFault>
-        ensures joined { IfOk result (λ c. Did self.old (Joins c ∷ []) self.new) }
-        ensures below { IfOk result (λ c. c < places) }
-        ensures refused { OnErr result (self.new ≡ self.old) }
-        ensures full { result ≡ Err JoinFault.Full → AreTaken places self.old }
+    /// A seat at the lowest number at which there is no client, if that is one of the first `places`.
+    /// The sessions are as before, with nobody at it.
+    pub fn seat(&self, places: u8) -> Result<Seat, JoinFault>
+        ensures free { IfOk result (λ seat. client_at self.now seat ≡ None) }
+        ensures below { IfOk result (λ seat. seat < places) }
+        ensures lowest { IfOk result (λ seat. AreTaken seat self.now) }
+        ensures full { result ≡ Err JoinFault.Full → AreTaken places self.now }
+        ensures memory { result ≡ Err JoinFault.OutOfMemory → ¬ AreTaken places self.now }
     {
         let Some(c) = self.vacancy(places) else {
             return Err(JoinFault::Full);
         };
-        let Ok(session) = Session::new(self.alloc) else {
-            return Err(JoinFault::OutOfMemory);
-        };
+        match Seat::new(self.alloc, c) {
+            Ok(seat) => Ok(seat),
+            Err(_) => Err(JoinFault::OutOfMemory),
+        }
+    }
+
+    /// Lets a client in at a seat whose number is still free. It can't be refused.
+    pub fn join(&mut self, seat: Seat)
+        requires { client_at self.old seat ≡ None }
+        ensures joined { Did self.old (Joins seat ∷ []) self.new }
+        ensures there { client_at self.new seat ≡ Some fresh_client }
+        ensures others { (c : ℕ) → c ≢ seat → client_at self.new c ≡ client_at self.old c }
+    {
+        let c = seat.number();
         match self.gateway.event(Event::Open(c)) {
             Ok(_) => {}
             Err(_) => unreachable!(),
         }
-        self.slots.put(c, Some(session));
-        Ok(c)
+        self.slots.put(c, Some(seat.session()));
     }
 
     /// The client of this number is gone; where there is none, nothing happens. The line that is begun
@@ -124,6 +136,7 @@ impl<'i> Sessions<'i> {
         ensures gone { client_at self.new c ≡ None }
         ensures left { IsSome (client_at self.old c) → Did self.old (Leaves c ∷ []) self.new }
         ensures none { client_at self.old c ≡ None → self.new ≡ self.old }
+        ensures others { (d : ℕ) → d ≢ c → client_at self.new d ≡ client_at self.old d }
     {
         if self.slots.at(c).is_none() {
             return;

@@ -1,8 +1,17 @@
 use Rattle.serving.proofs.Acting as acting
 use Rattle.serving.proofs.server.Server.rounds.Goals as goal
 
-pub returns-then-not-round-clause-acts : goal.returns-then-not-round-clause-acts
-returns-then-not-round-clause-acts c = acting.after c.law_acts_in_a_row.ensures _ _ _ c.loop.invariant c.round.ensures.acts
+pub loop-init : goal.loop-init
+loop-init c = record { went = acting.went_nowhere c.law_acts_in_a_row.ensures _ _; seated = c.requires }
 
 pub loop-preserved : goal.loop-preserved
-loop-preserved c = acting.after c.law_acts_in_a_row.ensures _ _ _ c.loop.invariant c.round.ensures.acts
+loop-preserved c = record { went = acting.went_then c.law_acts_in_a_row.ensures _ _ _ _ _ _ c.loop.invariant.went c.round.ensures.went; seated = c.round.ensures.seated }
+
+pub returns-then-not-round-clause-went : goal.returns-then-not-round-clause-went
+returns-then-not-round-clause-went c = acting.went_then c.law_acts_in_a_row.ensures _ _ _ _ _ _ c.loop.invariant.went c.round.ensures.went
+
+pub returns-clause-went : goal.returns-clause-went
+returns-clause-went c = acting.went_then c.law_acts_in_a_row.ensures _ _ _ _ _ _ c.loop.invariant.went c.round-2.ensures.went
+
+pub returns-clause-acted : goal.returns-clause-acted
+returns-clause-acted c moved = acting.rounds_acted c.law_acts_in_a_row.ensures _ _ _ _ _ c.loop.invariant.went (c.round-2.ensures.acted moved)

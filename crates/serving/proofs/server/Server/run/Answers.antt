@@ -1,20 +1,26 @@
+use Rattle.std.proofs.Common.{sym, ◌∙◌, subst}
+use Rattle.serving.specs.Resting.{Seated}
 use Rattle.serving.proofs.Acting as acting
 use Rattle.serving.proofs.server.Server.run.Goals as goal
 
 pub loop-init : goal.loop-init
-loop-init g c = acting.stayed c.law_acts_in_a_row.ensures _
+loop-init g c = record { went = acting.went_nowhere c.law_acts_in_a_row.ensures _ _; seated = c.requires }
 
-pub returns-in_err-most-clause-acts : goal.returns-in_err-most-clause-acts
-returns-in_err-most-clause-acts g c = acting.after c.law_acts_in_a_row.ensures _ _ _ c.loop.invariant c.rounds-busy.ensures.acts
+pub returns-in_err-most-clause-went : goal.returns-in_err-most-clause-went
+returns-in_err-most-clause-went g c = acting.went_on c.law_acts_in_a_row.ensures _ _ _ _ _ _ _ c.loop.invariant.went c.rounds-busy.ensures.went c.next.ensures.limits
 
-pub returns-in_err-wait-in-Wait-clause-acts : goal.returns-in_err-wait-in-Wait-clause-acts
-returns-in_err-wait-in-Wait-clause-acts g c = acting.after c.law_acts_in_a_row.ensures _ _ _ c.loop.invariant c.rounds-busy.ensures.acts
+pub returns-in_err-wait-in-Wait-clause-went : goal.returns-in_err-wait-in-Wait-clause-went
+returns-in_err-wait-in-Wait-clause-went g c =
+    acting.went_on c.law_acts_in_a_row.ensures _ _ _ _ _ _ _ c.loop.invariant.went c.rounds-busy.ensures.went (c.wait.ensures.limits ∙ c.next.ensures.limits)
 
-pub returns-in-End-clause-acts : goal.returns-in-End-clause-acts
-returns-in-End-clause-acts g c = acting.after c.law_acts_in_a_row.ensures _ _ _ c.loop.invariant c.rounds-busy.ensures.acts
+pub returns-in-End-clause-went : goal.returns-in-End-clause-went
+returns-in-End-clause-went g c = acting.went_on c.law_acts_in_a_row.ensures _ _ _ _ _ _ _ c.loop.invariant.went c.rounds-busy.ensures.went c.next.ensures.limits
 
-pub returns-in-GiveUp-clause-acts : goal.returns-in-GiveUp-clause-acts
-returns-in-GiveUp-clause-acts g c = acting.after c.law_acts_in_a_row.ensures _ _ _ c.loop.invariant c.rounds-busy.ensures.acts
+pub returns-in-GiveUp-clause-went : goal.returns-in-GiveUp-clause-went
+returns-in-GiveUp-clause-went g c = acting.went_on c.law_acts_in_a_row.ensures _ _ _ _ _ _ _ c.loop.invariant.went c.rounds-busy.ensures.went c.next.ensures.limits
 
 pub loop-preserved : goal.loop-preserved
-loop-preserved g c = acting.after c.law_acts_in_a_row.ensures _ _ _ c.loop.invariant c.rounds-busy.ensures.acts
+loop-preserved g c = record {
+  went = acting.went_on c.law_acts_in_a_row.ensures _ _ _ _ _ _ _ c.loop.invariant.went c.rounds-busy.ensures.went (c.wait.ensures.limits ∙ c.next.ensures.limits);
+  seated = c.wait.ensures.seated c.rounds-busy.new.sessions (subst (λ p. Seated p c.rounds-busy.new.sessions) (sym c.next.ensures.peers) c.rounds-busy.ensures.seated);
+}

@@ -7,10 +7,18 @@ returns-in-Moved-clause-acts c = acting.stepped _ c.args.c _ _ _ _ _ _ c.advance
 pub returns-else-is_err-clause-acts : goal.returns-else-is_err-clause-acts
 returns-else-is_err-clause-acts c = acting.stepped _ c.args.c _ _ _ _ _ _ c.advance.ensures.step
 
+pub returns-then-is_err-clause-moved : goal.returns-then-is_err-clause-moved
+returns-then-is_err-clause-moved c _ =
+    acting.gone c.law_acts_in_a_row.ensures c.args.c _ _ _ _ _ c.requires.seated c.in-Some.ensures.peer c.advance.ensures.step.stays (acting.stepped _ c.args.c _ _ _ _ _ _ c.advance.ensures.step) c.leave.ensures.left
+
 pub returns-then-is_err-clause-acts : goal.returns-then-is_err-clause-acts
 returns-then-is_err-clause-acts c =
-    acting.then_left c.law_acts_in_a_row.ensures c.args.c _ _ _ (acting.stepped _ c.args.c _ _ _ _ _ _ c.advance.ensures.step) c.leave.ensures.left c.leave.ensures.none
+    acting.by_acts c.args.c _ _ (acting.gone c.law_acts_in_a_row.ensures c.args.c _ _ _ _ _ c.requires.seated c.in-Some.ensures.peer c.advance.ensures.step.stays (acting.stepped _ c.args.c _ _ _ _ _ _ c.advance.ensures.step) c.leave.ensures.left)
+
+pub returns-in-Over-clause-moved : goal.returns-in-Over-clause-moved
+returns-in-Over-clause-moved c _ =
+    acting.gone c.law_acts_in_a_row.ensures c.args.c _ _ _ _ _ c.requires.seated c.in-Some.ensures.peer c.advance.ensures.step.stays (acting.stepped _ c.args.c _ _ _ _ _ _ c.advance.ensures.step) c.leave-in-Over.ensures.left
 
 pub returns-in-Over-clause-acts : goal.returns-in-Over-clause-acts
 returns-in-Over-clause-acts c =
-    acting.then_left c.law_acts_in_a_row.ensures c.args.c _ _ _ (acting.stepped _ c.args.c _ _ _ _ _ _ c.advance.ensures.step) c.leave-in-Over.ensures.left c.leave-in-Over.ensures.none
+    acting.by_acts c.args.c _ _ (acting.gone c.law_acts_in_a_row.ensures c.args.c _ _ _ _ _ c.requires.seated c.in-Some.ensures.peer c.advance.ensures.step.stays (acting.stepped _ c.args.c _ _ _ _ _ _ c.advance.ensures.step) c.leave-in-Over.ensures.left)

@@ -1,11 +1,14 @@
-use Rattle.std.proofs.Common.{◌≡◌, false}
-use Rattle.serving.specs.Acting.{ByActs}
-use Rattle.serving.specs.Resting.{NoMore, RestBelow}
+use Rattle.std.proofs.Common.{◌≡◌, true, false}
+use Rattle.serving.specs.Acting.{Acted, Stepped}
+use Rattle.serving.specs.Resting.{NoMore, RestBelow, Seated}
 use Rattle.serving.proofs.server.Server.steps.Given as goal
 
 abbrev pub invariant-loop-c : goal.invariant-loop-c
 invariant-loop-c l = record {
-  acts : ByActs l.initial.sessions l.sessions;
+  went : Stepped l.initial.sessions l.sessions;
+  acted : l.moved ≡ true → Acted l.initial.sessions l.sessions;
   rest : l.moved ≡ false → RestBelow l.c l.self.peers l.sessions;
   no_more : l.moved ≡ false → NoMore l.initial.self l.initial.sessions → NoMore l.self l.sessions;
+  seated : Seated l.self.peers l.sessions;
+  limits : l.self.limits ≡ l.initial.self.limits;
 }

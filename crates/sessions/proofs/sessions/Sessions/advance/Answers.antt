@@ -13,4 +13,7 @@ ask-requires g c = (
 )
 
 pub returns-then-not-is_empty-2-clause-step : goal.returns-then-not-is_empty-2-clause-step
-returns-then-not-is_empty-2-clause-step g c = steps.advance_asks _ c.args.c _ _ _ _ _ _ c.ask.ensures refl refl
+returns-then-not-is_empty-2-clause-step g c =
+    let here = steps.present c.self.inside.gateway c.self.inside.slots c.args.self.now c.args.c c.in-Some.session.now c.self.view_is c.in-Some.ensures.session c.in-Some.ensures.count in
+    let some = steps.some_of c.input.result.now c.in-Some.session.now.input c.input.ensures c.if-not-is_empty-2.ensures in
+    steps.advance_asks _ c.args.c _ _ _ _ _ _ (c.in-Some.session.now, here.is, some) c.ask.ensures refl refl

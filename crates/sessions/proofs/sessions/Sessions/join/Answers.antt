@@ -5,20 +5,24 @@ use Rattle.sessions.proofs.sessions.Sessions.join.Goals as goal
 
 pub unreachable-requires : goal.unreachable-requires
 unreachable-requires c =
+    let n = c.number-c.result in
     let no = c.in-Err.ensures.fault in
-    let yes = steps.may_open c.self.inside.gateway c.self.inside.slots c.in-Some.c c.self.invariant c.in-Some.ensures.0 (ap (λ (h : Hall). client_at h c.in-Some.c) c.self.view_is ∙ c.in-Some.ensures.1) in cc
+    let yes = steps.may_open c.self.inside.gateway c.self.inside.slots n c.self.invariant c.number-c.ensures.small
+    (ap (λ (h : Hall). client_at h n) c.self.view_is ∙ rw c.number-c.ensures.is c.requires) in cc
 
 pub invariant_of-self : goal.invariant_of-self
 invariant_of-self c =
-    let small = c.in-Some.ensures.0 in
-    let line : c.in-Some.c < length c.self.inside.gateway.lines = omega (arith, small, c.event.ensures.count) in
-    let place : c.in-Some.c < length c.self.inside.slots = omega (arith, small, c.put.ensures.count) in
-    steps.joins_match c.self.inside.gateway c.event.new.self c.self.inside.slots c.put.new.self c.in-Some.c c.self.invariant small line place c.in-Ok.session c.in-Ok-event.ensures.step.2 c.put.ensures.put
+    let n = c.number-c.result in
+    let small = c.number-c.ensures.small in
+    let line : n < length c.self.inside.gateway.lines = omega (arith, small, c.event.ensures.count) in
+    let place : n < length c.self.inside.slots = omega (arith, small, c.put.ensures.count) in
+    steps.joins_match c.self.inside.gateway c.event.new.self c.self.inside.slots c.put.new.self n c.self.invariant small line place c.session.result c.in-Ok.ensures.step.2 c.put.ensures.put
 
 pub returns-clause-joined : goal.returns-clause-joined
 returns-clause-joined c =
-    let small = c.in-Some.ensures.0 in
-    let line : c.in-Some.c < length c.self.inside.gateway.lines = omega (arith, small, c.event.ensures.count) in
-    let place : c.in-Some.c < length c.self.inside.slots = omega (arith, small, c.put.ensures.count) in
-    rw (← c.self.view_is) (steps.joins c.self.inside.gateway c.event.new.self c.self.inside.slots c.put.new.self c.in-Some.c c.self.invariant small line place c.in-Ok.session
-    (ap (λ (h : Hall). client_at h c.in-Some.c) c.self.view_is ∙ c.in-Some.ensures.1) c.in-Ok-event.ensures.step.2 c.put.ensures.put c.in-Ok.ensures)
+    let n = c.number-c.result in
+    let small = c.number-c.ensures.small in
+    let line : n < length c.self.inside.gateway.lines = omega (arith, small, c.event.ensures.count) in
+    let place : n < length c.self.inside.slots = omega (arith, small, c.put.ensures.count) in
+    rw (← c.number-c.ensures.is, ← c.self.view_is) (steps.joins c.self.inside.gateway c.event.new.self c.self.inside.slots c.put.new.self n c.self.invariant small line place c.session.result
+    (ap (λ (h : Hall). client_at h n) c.self.view_is ∙ rw c.number-c.ensures.is c.requires) c.in-Ok.ensures.step.2 c.put.ensures.put c.session.ensures)
