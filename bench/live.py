@@ -1,9 +1,11 @@
 #!/usr/bin/env python3
 """Measures live clients of gate, at a Unix socket, beside gate over pipes and beside a peer, and prints a table.
 
-    bench/live.py --indexes DIR --labels FILE [--gate GATE] [--peer PEER] [--times N]
+    bench/live.py --indexes DIR --labels FILE [--gate GATE] [--peers FOLDER] [--times N]
 
 The peer is that of bench/peer by the word `live`: a thread for each client, one lock over all documents, and encoding_rs.
+The floor is that of the same package: it makes the calls of the system that gate makes, and writes the same reply to each
+line, so what it takes more at a socket than over pipes is what the system does.
 Lines are prepared before they are sent, and replies aren't parsed, so that little of the time is the client's. A single
 client waits for each reply before the next command. Many clients are processes: each sends all of its commands, as fast as
 they are taken, and counts the replies meanwhile. Of several runs in turn each figure is the best."""
@@ -249,17 +251,23 @@ def started(count: int, call: Callable[..., None], *words: object) -> Iterator[L
 
 class Measure(NamedTuple):
     """What is measured, of a program that has just begun, whether pipes do for it, whether more is better, and whether the
-    peer can it."""
+    peer and the floor can it."""
 
     name: str
     call: Callable[[Connecting], float]
     by_pipes: bool = False
     is_rate: bool = False
     by_peer: bool = True
+    by_floor: bool = False
+
+    def can(self, program: str) -> bool:
+        """Whether it is measured of a program by its name in the table."""
+        kind, way = program.split(", ")
+        return (self.by_pipes or way != "pipes") and {"peer": self.by_peer, "floor": self.by_floor}.get(kind, True)
 
 
 MEASURES = [
-    Measure("`stat`, one client, in microseconds", stats, by_pipes=True),
+    Measure("`stat`, one client, in microseconds", stats, by_pipes=True, by_floor=True),
     Measure("`since` the last edit, one client, in microseconds", sinces(1), by_pipes=True, by_peer=False),
     Measure("`since` the edit 1,024 before, in microseconds", sinces(LOG), by_pipes=True, by_peer=False),
     Measure("`splice` in 64 KiB, one client, in microseconds", splices, by_pipes=True),
@@ -274,24 +282,27 @@ MEASURES = [
 def main() -> None:
     words = argparse.ArgumentParser(description=__doc__.split("\n")[0])
     words.add_argument("--gate", default=str(HERE.parent / "crates" / "gate" / "out" / "gate"))
-    words.add_argument("--peer", default=str(HERE / "peer" / "target" / "release" / "peer"))
+    words.add_argument("--peers", default=str(HERE / "peer" / "target" / "release"), help="the folder of `peer` and `floor`")
     words.add_argument("--indexes", required=True)
     words.add_argument("--labels", required=True)
     words.add_argument("--times", type=int, default=5, help="runs of each measure (%(default)s)")
     chosen = words.parse_args()
+    peer, floor = (os.path.join(chosen.peers, it) for it in ("peer", "floor"))
     files = ["--indexes", chosen.indexes, "--labels", chosen.labels]
     programs: List[Tuple[str, Program]] = [
         ("gate, pipes", functools.partial(piped, [chosen.gate, "stdio", *files])),
         ("gate, socket", functools.partial(listening, [chosen.gate, "serve", *files, "--socket"])),
-        ("peer, pipes", functools.partial(piped, [chosen.peer, "typed"])),
-        ("peer, socket", functools.partial(listening, [chosen.peer, "live"])),
+        ("peer, pipes", functools.partial(piped, [peer, "typed"])),
+        ("peer, socket", functools.partial(listening, [peer, "live"])),
+        ("floor, pipes", functools.partial(piped, [floor])),
+        ("floor, socket", functools.partial(listening, [floor])),
     ]
     print("| |", " | ".join(name for name, _ in programs), "|\n| --- |" + " ---: |" * len(programs))
     for measure in MEASURES:
         found: List[List[float]] = [[] for _ in programs]
         for _ in range(chosen.times):
             for figures, (name, program) in zip(found, programs):
-                if (measure.by_pipes or not name.endswith("pipes")) and (measure.by_peer or not name.startswith("peer")):
+                if measure.can(name):
                     with program() as connect:
                         figures.append(measure.call(connect))
         best = max if measure.is_rate else min
