@@ -1,0 +1,4 @@
+mod Lines
+mod Played
+mod Playing
+mod Recorded

@@ -1,0 +1,222 @@
+-- The line of an event is read as that event.
+use Rattle.std.proofs.Common.{◌≡◌, ◌≢◌, ℕ, zero, suc, ◌+◌, ◌-◌, ◌%◌, ◌^◌, ◌<◌, ◌≤◌, ◌==◌, Bool, true, false, nat_le, List, [], ◌∷◌, ◌++◌, length, take, replicate, slice_index, codes, Some, Ok, if◌then◌else◌, refl, sym, ap, ◌∙◌, arith, append_assoc, length-append, decimal, le-leb, bytes_eq, inl, inr}
+use Rattle.std.proofs.lemmas.Bool.{cases_lt}
+use Rattle.std.proofs.lemmas.Fmt.{decimal_injective, decimal_by_steps, length-decimal-le}
+use Rattle.std.proofs.lemmas.Slice.Eq.{bytes_eq-Decides}
+use Rattle.std.proofs.lemmas.List.{length-replicate}
+use Rattle.std.proofs.Math.Seq.{take-append-add}
+use Rattle.std.specs.Result.{result_ok}
+use Rattle.base64.specs.Rfc4648.{encode_symbols, padding_len}
+use Rattle.base64.specs.Engines.{standard}
+use Rattle.base64.specs.GeneralPurpose.{encode_of, decode_of, IsBytes}
+use Rattle.base64.proofs.EngineFacts.{decode_of-encode_of}
+use Rattle.base64.proofs.RoundTrip.{length-encode_symbols}
+use Rattle.connections.specs.CitedLaws.{LinesCut}
+use Rattle.connections.specs.Events.{Happening, Opening, Bringing, Closing}
+use Rattle.connections.specs.Lines.{has_end}
+use Rattle.gateway.specs.Trace.{is_skipped, trace_limit, bringing, number_below, before_space, after_space, some_bytes}
+unfoldable use Rattle.gateway.specs.Trace.{number_in}
+use Rattle.gateway.specs.Traced.{line_events}
+use Rattle.records.specs.Lines.{words_of, record_of, IsRecordable, AreRecordable, events_in, LinesAreEvents, Cut, RecordsAreCut}
+
+-- ---- the digits of a number
+
+-- neither a line feed nor a space is among the bytes
+abbrev IsPlain : List ℕ → Type 0
+IsPlain [] = Unit {0}
+IsPlain (x ∷ xs) = ((x == 10) ≡ false) × ((x == 32) ≡ false) × IsPlain xs
+
+plain-append : (xs ys : List ℕ) → IsPlain xs → IsPlain ys → IsPlain (xs ++ ys)
+plain-append [] ys p q = q
+plain-append (x ∷ xs) ys p q = (p.0, p.1, plain-append xs ys p.2 q)
+
+no_end : (xs ys : List ℕ) → IsPlain xs → has_end ys ≡ false → has_end (xs ++ ys) ≡ false
+no_end [] ys p e = e
+no_end (x ∷ xs) ys p e = rw p.0 (no_end xs ys p.2 e)
+
+no_end_alone : (xs : List ℕ) → IsPlain xs → has_end xs ≡ false
+no_end_alone [] p = refl
+no_end_alone (x ∷ xs) p = rw p.0 (no_end_alone xs p.2)
+
+before : (xs ys : List ℕ) → IsPlain xs → before_space (xs ++ 32 ∷ ys) ≡ xs
+before [] ys p = refl
+before (x ∷ xs) ys p = rw p.1 (ap (λ l. x ∷ l) (before xs ys p.2))
+
+after : (xs ys : List ℕ) → IsPlain xs → after_space (xs ++ 32 ∷ ys) ≡ Some ys
+after [] ys p = refl
+after (x ∷ xs) ys p = rw p.1 (after xs ys p.2)
+
+digit_plain : (d : ℕ) → d < 10 → IsPlain ((48 + d) ∷ [])
+digit_plain d small = (grind arith, grind arith, tt)
+
+decimal_plain : (n : ℕ) → n < 2 ^ 64 → IsPlain (decimal n)
+decimal_plain =
+    decimal_by_steps (λ n ds. IsPlain ds) digit_plain (λ n ds big p. plain-append ds _ p (digit_plain (n % 10) (omega arith)))
+
+-- ---- numbers
+
+written_as : (m : ℕ) (word : List ℕ) → bytes_eq (decimal m) word ≡ true → decimal m ≡ word
+written_as m word = (bytes_eq-Decides (decimal m) word).0
+
+found_by : (n k : ℕ) (t : Bool) → bytes_eq (decimal k) (decimal n) ≡ t → n < 256 → k < 256 → (t ≡ false → number_below k (decimal n) ≡ Some n)
+    → (if t then Some k else number_below k (decimal n)) ≡ Some n
+found_by n k true e small most later = ap Some (decimal_injective k n (omega arith) (omega arith) (written_as k (decimal n) e))
+found_by n k false e small most later = later refl
+
+found_below : (n k : ℕ) → n < k → k < 257 → number_below k (decimal n) ≡ Some n
+found_below n zero small most = absurd (omega arith)
+found_below n (suc k) small most =
+    found_by n k (bytes_eq (decimal k) (decimal n)) refl (omega arith) (omega arith) (λ different.
+    let other : n ≢ k = λ same. let is : bytes_eq (decimal k) (decimal n) ≡ true = (bytes_eq-Decides (decimal k) (decimal n)).1 (ap decimal (sym same)) in let never : false ≡ true = sym different ∙ is in cc in
+    found_below n k (omega (arith, other)) (omega arith))
+
+number_is : (n : ℕ) → n < 256 → number_in (decimal n) ≡ Some n
+unfolding number_in
+number_is n small = found_below n 256 small (omega arith)
+
+-- ---- base64
+
+first_not : (b t : Bool) → (if b then true else t) ≡ false → (b ≡ false) × (t ≡ false)
+first_not true t e = cc
+first_not false t e = (refl, e)
+
+-- no symbol is a line feed
+no_end_at : (t : List ℕ) → has_end t ≡ false → (i : ℕ) → (slice_index t i == 10) ≡ false
+no_end_at [] e i = refl
+no_end_at (x ∷ t) e zero = (first_not (x == 10) (has_end t) e).0
+no_end_at (x ∷ t) e (suc i) = no_end_at t (first_not (x == 10) (has_end t) e).1 i
+
+symbols_plain : (t m : List ℕ) → ((i : ℕ) → (slice_index t i == 10) ≡ false) → has_end (encode_symbols t m) ≡ false
+unfolding encode_symbols
+symbols_plain t [] h = refl
+symbols_plain t (a ∷ []) h = rw (h _, h _) refl
+symbols_plain t (a ∷ b ∷ []) h = rw (h _, h _, h _) refl
+symbols_plain t (a ∷ b ∷ c ∷ rest) h = rw (h _, h _, h _, h _) (symbols_plain t rest h)
+
+pub no_end_append : (xs ys : List ℕ) → has_end xs ≡ false → has_end ys ≡ false → has_end (xs ++ ys) ≡ false
+no_end_append [] ys p q = q
+no_end_append (x ∷ xs) ys p q = let both = first_not (x == 10) (has_end xs) p in rw both.0 (no_end_append xs ys both.1 q)
+
+no_end_padding : (n : ℕ) → has_end (replicate n 61) ≡ false
+no_end_padding zero = refl
+no_end_padding (suc n) = no_end_padding n
+
+no_end_base64 : (m : List ℕ) → has_end (encode_of standard m) ≡ false
+no_end_base64 m =
+    no_end_append (encode_symbols standard.encode_table m) (replicate (padding_len (length m)) 61)
+    (symbols_plain standard.encode_table m (no_end_at standard.encode_table refl)) (no_end_padding (padding_len (length m)))
+
+length_base64 : (m : List ℕ) → length m ≤ 4096 → length (encode_of standard m) ≤ 6000
+length_base64 m small =
+    let symbols = length-encode_symbols standard.encode_table m in
+    let pad : ℕ = 61 in
+    let padding = length-replicate (padding_len (length m)) pad in
+    let whole = length-append (encode_symbols standard.encode_table m) (replicate (padding_len (length m)) 61) in
+    omega (arith, symbols, padding, whole)
+
+-- ---- the line of an event
+
+some_bytes_is : (text m : List ℕ) → decode_of standard text ≡ Ok m → 0 < length text → some_bytes text ≡ Some m
+some_bytes_is [] m e some = absurd (omega (arith, some))
+some_bytes_is (x ∷ xs) m e some = ap result_ok e
+
+base64_is_some : (m : List ℕ) → 0 < length m → 0 < length (encode_of standard m)
+base64_is_some m some =
+    let symbols = length-encode_symbols standard.encode_table m in
+    let whole = length-append (encode_symbols standard.encode_table m) (replicate (padding_len (length m)) 61) in
+    omega (arith, symbols, whole)
+
+bytes_are : (m : List ℕ) → IsBytes m → 0 < length m → some_bytes (encode_of standard m) ≡ Some m
+bytes_are m bytes some = some_bytes_is (encode_of standard m) m (decode_of-encode_of standard m refl bytes) (base64_is_some m some)
+
+short : (n : ℕ) → n < 256 → length (decimal n) ≤ 3
+short n small = length-decimal-le 3 n (omega arith) (omega arith) (omega arith)
+
+fits : (line : List ℕ) → length line ≤ 6200 → nat_le (length line) trace_limit ≡ true
+fits line small = le-leb (length line) trace_limit (omega arith)
+
+bringing_is : (c : ℕ) (bytes : List ℕ) → IsRecordable (Bringing c bytes) → bringing (decimal c ++ 32 ∷ encode_of standard bytes) ≡ Some (Bringing c bytes)
+bringing_is c bytes r =
+    let plain = decimal_plain c (omega (arith, r.0)) in
+    let text : List ℕ = encode_of standard bytes in
+    rw (after (decimal c) text plain, before (decimal c) text plain, number_is c r.0, bytes_are bytes r.1 r.2) refl
+
+pub lines_are_events : LinesAreEvents
+lines_are_events (Opening c) r =
+    let word = short c r in
+    let small = fits (codes "open " ++ decimal c) (omega (arith, word)) in
+    rw (small, number_is c r) refl
+lines_are_events (Bringing c bytes) r =
+    let word = short c r.0 in
+    let text = length_base64 bytes r.3 in
+    let whole = length-append (decimal c) (32 ∷ encode_of standard bytes) in
+    let small = fits (codes "bytes " ++ (decimal c ++ 32 ∷ encode_of standard bytes)) (omega (arith, word, text, whole)) in
+    rw (small, bringing_is c bytes r) refl
+lines_are_events (Closing c) r =
+    let word = short c r in
+    let small = fits (codes "close " ++ decimal c) (omega (arith, word)) in
+    rw (small, number_is c r) refl
+
+no_end_in_words : (e : Happening) → IsRecordable e → has_end (words_of e) ≡ false
+no_end_in_words (Opening c) r = no_end_alone (decimal c) (decimal_plain c (omega (arith, r)))
+no_end_in_words (Bringing c bytes) r = no_end (decimal c) (32 ∷ encode_of standard bytes) (decimal_plain c (omega (arith, r.0))) (no_end_base64 bytes)
+no_end_in_words (Closing c) r = no_end_alone (decimal c) (decimal_plain c (omega (arith, r)))
+
+one_event : (e : Happening) → IsRecordable e → line_events (is_skipped (words_of e)) (words_of e) ≡ e ∷ []
+one_event (Opening c) r = rw (lines_are_events (Opening c) r) refl
+one_event (Bringing c bytes) r = rw (lines_are_events (Bringing c bytes) r, r.4) refl
+one_event (Closing c) r = rw (lines_are_events (Closing c) r) refl
+
+-- the first line of a record, and the rest
+first_line : LinesCut → (e : Happening) (rest : List ℕ) → IsRecordable e → events_in (words_of e ++ 10 ∷ rest) ≡ e ∷ events_in rest
+first_line cuts e rest r = rw (cuts.complete_at_end [] (words_of e) rest (no_end_in_words e r), one_event e r) refl
+
+pub whole_is_read : LinesCut → (es : List Happening) → AreRecordable es → events_in (record_of es) ≡ es
+whole_is_read cuts [] r = refl
+whole_is_read cuts (e ∷ es) r = first_line cuts e (record_of es) r.0 ∙ ap (λ l. e ∷ l) (whole_is_read cuts es r.1)
+
+-- ---- a record that is cut
+
+no_end_in_front : (n : ℕ) (xs : List ℕ) → has_end xs ≡ false → has_end (take n xs) ≡ false
+no_end_in_front zero xs e = refl
+no_end_in_front (suc n) [] e = refl
+no_end_in_front (suc n) (x ∷ xs) e = let both = first_not (x == 10) (has_end xs) e in rw both.0 (no_end_in_front n xs both.1)
+
+take_front : (n : ℕ) (xs ys : List ℕ) → n ≤ length xs → take n (xs ++ ys) ≡ take n xs
+take_front zero xs ys small = refl
+take_front (suc n) [] ys small = absurd (omega (arith, small))
+take_front (suc n) (x ∷ xs) ys small = ap (λ l. x ∷ l) (take_front n xs ys (omega (arith, small)))
+
+take_none : (n : ℕ) → take {A = ℕ} n [] ≡ []
+take_none zero = refl
+take_none (suc n) = refl
+
+cut_in_line : LinesCut → (n : ℕ) (e : Happening) (es : List Happening) → IsRecordable e → n ≤ length (words_of e) → Cut (e ∷ es) n
+cut_in_line cuts n e es r small =
+    let text = take_front n (words_of e) (10 ∷ record_of es) small in
+    let plain = no_end_in_front n (words_of e) (no_end_in_words e r) in
+    let lines = cuts.complete_without [] (take n (words_of e)) plain in
+    record { front = []; rest = e ∷ es; are = refl; read = rw (text, lines) refl; torn = take n (words_of e); text = text; no_line = plain }
+
+cut_later : LinesCut → (e : Happening) (es : List Happening) (n m : ℕ) → IsRecordable e → n ≡ length (words_of e) + suc m → Cut es m → Cut (e ∷ es) n
+cut_later cuts e es n m r is c =
+    let text : take n (words_of e ++ 10 ∷ record_of es) ≡ words_of e ++ 10 ∷ take m (record_of es) =
+    ap (λ k. take k (words_of e ++ 10 ∷ record_of es)) is ∙ take-append-add (words_of e) (10 ∷ record_of es) (suc m) in record {
+      front = e ∷ c.front;
+      rest = c.rest;
+      are = ap (λ l. e ∷ l) c.are;
+      read = ap events_in text ∙ first_line cuts e (take m (record_of es)) r ∙ ap (λ l. e ∷ l) c.read;
+      torn = c.torn;
+      text = text ∙ ap (λ l. words_of e ++ 10 ∷ l) c.text ∙ sym (append_assoc (words_of e) (10 ∷ record_of c.front) c.torn);
+      no_line = c.no_line;
+    }
+
+pub records_are_cut : LinesCut → RecordsAreCut
+records_are_cut cuts [] n r = record { front = []; rest = []; are = refl; read = rw (take_none n) refl; torn = []; text = take_none n; no_line = refl }
+records_are_cut cuts (e ∷ es) n r = elim (cases_lt (length (words_of e)) n) [
+  | inl more ↦
+      let m : ℕ = n - length (words_of e) - 1 in
+      let is : n ≡ length (words_of e) + suc m = omega arith in
+      cut_later cuts e es n m r.0 is (records_are_cut cuts es m r.1)
+  | inr torn ↦ cut_in_line cuts n e es r.0 torn
+]

@@ -1,0 +1,194 @@
+-- Playing a record, line by line.
+use Rattle.std.proofs.Common.{◌≡◌, ◌≢◌, ℕ, ◌+◌, ◌<◌, Bool, true, false, List, [], ◌∷◌, ◌++◌, length, take, Option, None, Some, Ok, Err, if◌then◌else◌, decimal, refl, sym, ap, ◌∙◌, subst, append_assoc, append-nil, arith, length-append, length-take-le}
+use Rattle.std.proofs.Math.ListN.{get_or-append}
+use Rattle.std.proofs.lemmas.List.{get_or-append-add}
+use Rattle.std.specs.Io.KnownBytes.{Appends, Consumes, IsAtEnd}
+use Rattle.memchr.specs.Find.{OccursAt, FindsNeedle}
+use Rattle.line_protocol.specs.Replies.{memory_text}
+use Rattle.connections.specs.CitedLaws.{LinesCut}
+use Rattle.connections.specs.Traffic.{Traffic}
+use Rattle.connections.specs.Lines.{complete, unfinished, has_end, before_end}
+use Rattle.connections.specs.Clients.{Numbered, OccurAll}
+use Rattle.gateway.specs.Trace.{is_skipped, IsBad, printed, refusal_line, text_lines, PrintsLine, PrintsAll, PlaysLines, StopsAtBad}
+use Rattle.gateway.specs.Traced.{line_events, events_on, Said, Answered, Refused, said_text, replies_among, TracesAreEvents}
+use Rattle.records.specs.Records.{NoneRanOut}
+use Rattle.records.specs.Playing.{Place, NoneBad, PlaysLine, PlaysOn, PlayStops, PlaysGoOn, StopsGoOn}
+use Rattle.records.specs.declared.player.PlayFault.{PlayFault}
+use Rattle.records.specs.declared.player.PlayFault.TheVariants.{BadLine, OutOfMemory}
+use Rattle.records.proofs.Lines.{no_end_append}
+use Rattle.records.proofs.Played.{occur-append, ran-append}
+
+-- ---- what is known of memory
+
+whole_read : (x y : Option (List ℕ)) (line read : List ℕ) → x ≡ Some line → Consumes x y read → IsAtEnd y → read ≡ line
+whole_read None y line read e c end = cc
+whole_read (Some xs) None line read e c end = absurd c
+whole_read (Some xs) (Some ys) line read e c end =
+    let same : xs ≡ line = let is = e in cc in
+    sym (append-nil read) ∙ ap (λ l. read ++ l) (sym end) ∙ sym c ∙ same
+
+whole_left : (x y : Option (List ℕ)) (line read : List ℕ) → x ≡ Some line → Consumes x y read → (rest : List ℕ) × (y ≡ Some rest) × (read ++ rest ≡ line)
+whole_left None y line read e c = cc
+whole_left (Some xs) None line read e c = absurd c
+whole_left (Some xs) (Some ys) line read e c = let same : xs ≡ line = let is = e in cc in (ys, refl, sym c ∙ same)
+
+whole_written : (x y : Option (List ℕ)) (bytes out : List ℕ) → x ≡ Some [] → y ≡ Some bytes → Appends x y out → bytes ≡ out
+whole_written None y bytes out e f a = cc
+whole_written (Some xs) None bytes out e f a = absurd a
+whole_written (Some xs) (Some ys) bytes out e f a =
+    let none : xs ≡ [] = let is = e in cc in
+    let same : ys ≡ bytes = let is = f in cc in
+    sym same ∙ a ∙ ap (λ l. l ++ out) none
+
+-- ---- a reply that reports that memory ran out stands in what is printed
+
+stands : (a n b hay : List ℕ) → hay ≡ a ++ (n ++ b) → OccursAt hay n (length a)
+stands a n b hay e =
+    let whole = length-append a (n ++ b) in
+    let part = length-append n b in
+    rw e (record { fits = omega (arith, whole, part); reads = λ j small. get_or-append-add a (n ++ b) j 0 ∙ get_or-append n b 0 j small })
+
+-- nothing of that text stands in these bytes
+abbrev Lacks : List ℕ → List ℕ → Type 0
+Lacks hay n = (a b : List ℕ) → hay ≢ a ++ (n ++ b)
+
+lacks : (hay n : List ℕ) → FindsNeedle hay n 0 None → Lacks hay n
+lacks hay n none a b e =
+    let whole = length-append a (n ++ b) in
+    let long = ap length e in
+    none (length a) (omega arith) (omega (arith, whole, long)) (stands a n b hay e)
+
+none_said : (said : List Said) (front hay : List ℕ) → hay ≡ front ++ said_text said → Lacks hay memory_text → NoneRanOut (replies_among said)
+none_said [] front hay e l = tt
+none_said (Answered r ∷ more) front hay e l =
+    let number : List ℕ = decimal r.0 in
+    let rest : List ℕ = said_text more in
+    let parts : front ++ (printed r ++ rest) ≡ (front ++ (number ++ 32 ∷ [])) ++ (r.1 ++ rest) =
+    ap (λ l. front ++ l) (append_assoc number (32 ∷ r.1) rest ∙ sym (append_assoc number (32 ∷ []) (r.1 ++ rest))) ∙ sym (append_assoc front (number ++ 32 ∷ []) (r.1 ++ rest)) in (
+      λ is. l (front ++ (number ++ 32 ∷ [])) rest (e ∙ parts ∙ ap (λ m. (front ++ (number ++ 32 ∷ [])) ++ (m ++ rest)) is),
+      none_said more (front ++ printed r) hay (e ∙ sym (append_assoc front (printed r) (said_text more))) l,
+    )
+none_said (Refused c fault ∷ more) front hay e l = none_said more (front ++ refusal_line c fault) hay (e ∙ sym (append_assoc front (refusal_line c fault) (said_text more))) l
+
+-- ---- one line
+
+one_line : LinesCut → (line : List ℕ) → has_end line ≡ false → text_lines [] line ≡ line ∷ []
+one_line cuts line e = rw (cuts.complete_without [] line e, cuts.unfinished_without [] line e) refl
+
+not_bad : (t u : Traffic) (line out : List ℕ) (b : Bool) → is_skipped line ≡ b → PrintsLine b line t out u → IsBad line → ⊥
+not_bad t u line out true e p bad = let never : true ≡ false = sym e ∙ bad.0 in cc
+not_bad t u line out false e p bad = let never = sym p.1 ∙ bad.1 in cc
+
+pub line_played : LinesCut → TracesAreEvents → (t u : Traffic) (line read bytes : List ℕ) (left rest before after : Option (List ℕ)) → has_end line ≡ false
+    → left ≡ Some line → Consumes left rest read → IsAtEnd rest → before ≡ Some [] → after ≡ Some bytes → PlaysLines (text_lines [] read) t u before after
+    → FindsNeedle bytes memory_text 0 None
+    → (replies : List Numbered) × OccurAll t (line_events (is_skipped line) line) replies u × NoneRanOut replies × (IsBad line → ⊥)
+line_played cuts events t u line read bytes left rest before after plain known consumes end empty written plays none =
+    let all : read ≡ line = whole_read left rest line read known consumes end in
+    let lines : text_lines [] read ≡ line ∷ [] = ap (text_lines []) all ∙ one_line cuts line plain in
+    let out : bytes ≡ plays.out = whole_written before after bytes plays.out empty written plays.appends in
+    let said = events t u (text_lines [] read) plays.out plays.prints in
+    let es : events_on (text_lines [] read) ≡ line_events (is_skipped line) line = ap events_on lines ∙ append-nil (line_events (is_skipped line) line) in
+    let prints = subst (λ l. PrintsAll t l plays.out u) lines plays.prints in (
+      replies_among said.0,
+      subst (λ l. OccurAll t l (replies_among said.0) u) es said.2,
+      none_said said.0 [] bytes (out ∙ said.1) (lacks bytes memory_text none),
+      not_bad t prints.0 line prints.1 (is_skipped line) refl prints.3,
+    )
+
+sole : (line last : List ℕ) (first more : List (List ℕ)) → line ∷ [] ≡ first ++ last ∷ more → IsBad last → IsBad line
+sole line last [] more e bad = let same : last ≡ line = let is = e in cc in subst IsBad same bad
+sole line last (x ∷ []) more e bad = cc
+sole line last (x ∷ y ∷ first) more e bad = cc
+
+pub line_bad : LinesCut → (t u : Traffic) (n : ℕ) (line read : List ℕ) (left rest before after : Option (List ℕ)) → has_end line ≡ false
+    → left ≡ Some line → Consumes left rest read → StopsAtBad n 1 [] read (λ later. rest ≡ Some later) t u before after → IsBad line
+line_bad cuts t u n line read left rest before after plain known consumes stops =
+    let behind = whole_left left rest line read known consumes in
+    let bad = stops.bad behind.0 behind.1 in
+    let lines : text_lines [] (read ++ behind.0) ≡ line ∷ [] = ap (text_lines []) behind.2 ∙ one_line cuts line plain in
+    sole line bad.0 stops.first bad.1 (sym lines ∙ bad.2) bad.3
+
+-- ---- parts
+
+on-append : (a b : List (List ℕ)) → events_on (a ++ b) ≡ events_on a ++ events_on b
+on-append [] b = refl
+on-append (x ∷ a) b = ap (λ l. line_events (is_skipped x) x ++ l) (on-append a b) ∙ sym (append_assoc (line_events (is_skipped x) x) (events_on a) (events_on b))
+
+bad-append : (a b : List (List ℕ)) → NoneBad a → NoneBad b → NoneBad (a ++ b)
+bad-append [] b p q = q
+bad-append (x ∷ a) b p q = (p.0, bad-append a b p.1 q)
+
+in_parts : LinesCut → (p q : Place) (a b : List ℕ) → q.line ≡ unfinished p.line a → complete p.line (a ++ b) ≡ complete p.line a ++ complete q.line b
+in_parts cuts p q a b e = cuts.complete-append p.line a b ∙ ap (λ l. complete p.line a ++ complete l b) (sym e)
+
+pub plays_go_on : LinesCut → PlaysGoOn
+plays_go_on cuts t u v p q r a b x y =
+    let es : events_on (complete p.line (a ++ b)) ≡ events_on (complete p.line a) ++ events_on (complete q.line b) =
+    ap events_on (in_parts cuts p q a b x.begun) ∙ on-append (complete p.line a) (complete q.line b) in
+    let both = length-append a b in record {
+      replies = x.replies ++ y.replies;
+      occur = rw es (occur-append t u v (events_on (complete p.line a)) (events_on (complete q.line b)) x.replies y.replies x.occur y.occur);
+      none_ran_out = ran-append x.replies y.replies x.none_ran_out y.none_ran_out;
+      none_bad = rw (in_parts cuts p q a b x.begun) (bad-append (complete p.line a) (complete q.line b) x.none_bad y.none_bad);
+      begun = y.begun ∙ ap (λ l. unfinished l b) x.begun ∙ sym (cuts.unfinished-append p.line a b);
+      count = omega (arith, both, x.count, y.count);
+    }
+
+pub stops_go_on : LinesCut → StopsGoOn
+stops_go_on cuts t u p q a b BadLine x s =
+    (complete p.line a ++ s.0, s.1, s.2, in_parts cuts p q a b x.begun ∙ ap (λ l. complete p.line a ++ l) s.3 ∙ sym (append_assoc (complete p.line a) s.0 (s.1 ∷ s.2)), s.4)
+stops_go_on cuts t u p q a b OutOfMemory x s = tt
+
+-- ---- bytes up to a line feed
+
+pub no_end_either : (b : Bool) (xs ys : List ℕ) → has_end xs ≡ false → has_end ys ≡ false → has_end (if b then xs ++ ys else xs) ≡ false
+no_end_either true xs ys p q = no_end_append xs ys p q
+no_end_either false xs ys p q = p
+
+pub no_end_before : LinesCut → (xs ys : List ℕ) (k : ℕ) → has_end xs ≡ false → before_end ys ≡ take k ys → has_end (xs ++ take k ys) ≡ false
+no_end_before cuts xs ys k p e = no_end_append xs (take k ys) p (ap has_end (sym e) ∙ cuts.before_without ys)
+
+pub on_without : LinesCut → (t : Traffic) (p q : Place) (bytes : List ℕ) → has_end bytes ≡ false → q.line ≡ p.line ++ bytes → q.whole ≡ p.whole → PlaysOn bytes t t p q
+on_without cuts t p q bytes e line whole =
+    let long = ap length line in
+    let both = length-append p.line bytes in record {
+      replies = [];
+      occur = rw (cuts.complete_without p.line bytes e) (refl, refl);
+      none_ran_out = tt;
+      none_bad = rw (cuts.complete_without p.line bytes e) tt;
+      begun = line ∙ sym (cuts.unfinished_without p.line bytes e);
+      count = omega (arith, long, both, whole);
+    }
+
+module _ (cuts : LinesCut) (p : Place) (bytes : List ℕ) (k : ℕ) (small : k < length bytes) (front : before_end bytes ≡ take k bytes) (e : has_end bytes ≡ true) where
+  cut : (rest : List ℕ) × (bytes ≡ before_end bytes ++ 10 ∷ rest)
+  cut = cuts.cut_at_end bytes e
+
+  begins : complete p.line bytes ≡ (p.line ++ take k bytes) ∷ complete [] cut.0
+  begins = ap (complete p.line) cut.1 ∙ cuts.complete_at_end p.line (before_end bytes) cut.0 (cuts.before_without bytes) ∙ ap (λ l. (p.line ++ l) ∷ complete [] cut.0) front
+
+  bad_here : IsBad (p.line ++ take k bytes) → PlayStops BadLine bytes p
+  bad_here bad = ([], p.line ++ take k bytes, complete [] cut.0, begins, bad)
+
+  pub stops_here : (t u : Traffic) (fault : PlayFault) → PlaysLine {A = Unit {0}} (Err fault) (p.line ++ take k bytes) t u → PlayStops fault bytes p
+  stops_here t u BadLine s = bad_here s
+  stops_here t u OutOfMemory s = tt
+
+  pub played_here : (t u : Traffic) (q : Place) → PlaysLine {A = Unit {0}} (Ok tt) (p.line ++ take k bytes) t u → q.line ≡ [] → q.whole ≡ p.whole + length (p.line ++ take k bytes) + 1 → PlaysOn (take (k + 1) bytes) t u p q
+  played_here t u q plays line whole =
+      let long = ap length front in
+      let some = length-take-le k bytes (omega (arith, small)) in
+      let taken : take (k + 1) bytes ≡ before_end bytes ++ 10 ∷ [] = ap (λ n. take (n + 1) bytes) (sym some ∙ sym long) ∙ cuts.taken_at_end bytes (before_end bytes) cut.0 cut.1 in
+      let lines : complete p.line (before_end bytes ++ 10 ∷ []) ≡ (p.line ++ take k bytes) ∷ [] = cuts.complete_at_end p.line (before_end bytes) [] (cuts.before_without bytes) ∙ ap (λ l. (p.line ++ l) ∷ []) front in
+      let both = length-append p.line (take k bytes) in
+      let end = length-append (before_end bytes) (10 ∷ []) in
+      let none = ap length line in
+      subst (λ b. PlaysOn b t u p q) (sym taken) (record {
+        replies = plays.0;
+        occur = rw (lines, append-nil) plays.1;
+        none_ran_out = plays.2;
+        none_bad = rw lines (plays.3, tt);
+        begun = line ∙ sym (cuts.unfinished_at_end p.line (before_end bytes));
+        count = omega (arith, none, whole, both, end, long, some);
+      })

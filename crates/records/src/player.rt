@@ -1,0 +1,119 @@
+//! Playing a record again.
+ghost use Rattle.std.specs.Prelude.{◌≡◌, ◌+◌, ◌^◌, ◌<◌, ◌≤◌, [], false, length, IfOk};
+ghost use Rattle.connections.specs.Lines.{has_end};
+ghost use Rattle.records.specs.Playing.{PlaysFront, PlaysLine};
+
+use connections::{Gateway, law_lines, line_end};
+use devices::{MemFeed, MemOutlet};
+use gateway::{TraceFault, law_traces_in_order, trace};
+use line_protocol::ReplyLine;
+use memchr::memmem;
+use std::alloc::{AllocError, Global};
+use std::marker::Model;
+
+/// Why a record isn't played further.
+#[derive(Clone, Copy, PartialEq, Eq, Debug)]
+pub enum PlayFault {
+    /// The line isn't skipped, and has no event.
+    BadLine,
+    /// Memory ran out.
+    OutOfMemory,
+}
+
+/// How far a record is played: the line that is begun, and how many bytes came before it.
+#[derive(Drop)]
+pub struct Player {
+    line: Vec<u8>,
+    whole: u64,
+    alloc: Global,
+}
+
+impl Model for Player {
+    ghost use Rattle.std.specs.Prelude.{◌≡◌, false};
+    ghost use Rattle.connections.specs.Lines.{has_end};
+    ghost use Rattle.records.specs.Codes.{place_code};
+    ghost use Rattle.records.specs.Playing.{Place};
+
+    ghost Value = { Place };
+
+    ghost coded = { place_code };
+
+    ghost view = { λ a. record { line = a.line.items; whole = a.whole } };
+
+    ghost invariant = { λ a. has_end a.line.items ≡ false };
+}
+
+impl Player {
+    /// At the first line.
+    pub fn new(alloc: Global) -> Player
+        ensures line { result.line ≡ [] }
+        ensures whole { result.whole ≡ 0 }
+    {
+        Player {
+            line: Vec::new(alloc),
+            whole: 0,
+            alloc,
+        }
+    }
+
+    /// How many bytes the lines have that were played, their line feeds counted. What comes behind
+    /// them was torn off before its line feed.
+    pub fn whole(&self) -> u64
+        ensures { result ≡ self.now.whole }
+    {
+        self.whole
+    }
+
+    /// Takes bytes up to and with the first line feed, and plays the line that they complete without
+    /// printing; or all of them. Says how many they were.
+    ///
+    /// # Errors
+    ///
+    /// The line isn't skipped and has no event; or memory ran out, for the line or for a reply: in a
+    /// record no reply reports that.
+    pub fn take(&mut self, gateway: &mut Gateway<'_>, bytes: &[u8]) -> Result<usize, PlayFault>
+        requires { self.old.whole + length self.old.line + length bytes.now < 2 ^ 64 }
+        ensures bound { IfOk result (λ n. n ≤ length bytes.now) }
+        ensures some { IfOk result (λ n. 0 < length bytes.now → 0 < n) }
+        ensures plays { PlaysFront result bytes.now gateway.old gateway.new self.old self.new }
+    {
+        law_lines();
+        let Some(end) = line_end(bytes) else {
+            return match self.line.extend_from_slice(bytes) {
+                Ok(()) => Ok(bytes.len()),
+                Err(AllocError) => Err(PlayFault::OutOfMemory),
+            };
+        };
+        match self.line.extend_from_slice(&bytes[..end]) {
+            Ok(()) => {}
+            Err(AllocError) => return Err(PlayFault::OutOfMemory),
+        }
+        match play_line(self.alloc, gateway, &self.line) {
+            Ok(()) => {}
+            Err(fault) => return Err(fault),
+        }
+        self.whole += self.line.len() as u64 + 1;
+        self.line.clear();
+        Ok(end + 1)
+    }
+}
+
+/// Plays a line, whatever its line feed was.
+fn play_line(alloc: Global, gateway: &mut Gateway<'_>, line: &[u8]) -> Result<(), PlayFault>
+    requires { has_end line.now ≡ false }
+    ensures { PlaysLine result line.now gateway.old gateway.new }
+{
+    law_lines();
+    law_traces_in_order();
+    let mut reader = MemFeed::new(line);
+    let mut said = MemOutlet::new(alloc);
+    match trace(alloc, gateway, &mut reader, &mut said) {
+        Ok(()) => {}
+        Err(TraceFault::BadLine(_)) => return Err(PlayFault::BadLine),
+        Err(_) => return Err(PlayFault::OutOfMemory),
+    }
+    match memmem::find(said.bytes(), ReplyLine::out_of_memory().bytes()) {
+        Some(_) => Err(PlayFault::OutOfMemory),
+        None => Ok(()),
+    }
+}
