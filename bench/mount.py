@@ -50,12 +50,13 @@ BACK = {2: Row("taken back, 2 MiB", 0.25), 16: Row("taken back, 16 MiB", 1.5)}
 COLD = {2: Row("sed -i of a line in 2 MiB, not read before", 0.25), 16: Row("sed -i of a line in 16 MiB, not read before", 1.5)}
 WORD = Row("sed -i of a word in each line of 16 MiB", 10)
 BESIDE = "{call} of {where} beside a save of 16 MiB, the longest"
+READY = "{call} of {where} beside a save of 16 MiB, the longest but for waiting for a processor"
 PLAIN = "{call} of {where} beside ten such saves without a mount, the longest"
 PLACES = {"the same folder": ".", "another one": "other"}
 CALLS: Dict[str, Callable[[pathlib.Path], object]] = {
     "ls": lambda path: os.listdir(path.parent), "stat": lambda path: path.stat(), "cat": lambda path: path.read_bytes()}
-LATEST, WITHOUT = ({(call, where): Row(words.format(call=call, where=where), 50, "ms") for where in PLACES for call in CALLS}
-                   for words in (BESIDE, PLAIN))
+LATEST, OWN, WITHOUT = ({(call, where): Row(words.format(call=call, where=where), 50, "ms") for where in PLACES for call in CALLS}
+                        for words in (BESIDE, READY, PLAIN))
 # What the mount does with a file below, again and again.
 SAVES = """
 import os, sys
@@ -256,18 +257,31 @@ def replaced(table: Table, source: pathlib.Path, raw: bytes) -> None:
 Waits = Dict[Tuple[str, str], float]
 
 
-def waits(saving: "subprocess.Popen[bytes]", top: pathlib.Path) -> Waits:
-    """The longest wait of each call in milliseconds, as long as a program saves."""
-    found = dict.fromkeys(LATEST, 0.0)
+def queued(*pids: int) -> float:
+    """For how many milliseconds the first threads of some processes could have gone on and had no processor."""
+    found = 0.0
+    for it in pids:
+        with contextlib.suppress(OSError, IndexError):
+            found += int(pathlib.Path(f"/proc/{it}/schedstat").read_text().split()[1]) / 1e6
+    return found
+
+
+def waits(saving: "subprocess.Popen[bytes]", top: pathlib.Path, *pids: int) -> Tuple[Waits, Waits]:
+    """The longest wait of each call in milliseconds, as long as a program saves; and the longest but for what this process
+    and those who answer it waited for a processor."""
+    found, own = dict.fromkeys(LATEST, 0.0), dict.fromkeys(LATEST, 0.0)
     while saving.poll() is None:
-        for (call, where), worst in found.items():
-            began = time.monotonic()
+        for key in LATEST:
+            call, where = key
+            before, began = queued(os.getpid(), *pids), time.monotonic()
             CALLS[call](top / PLACES[where] / "small.txt")
-            found[call, where] = max(worst, 1000 * (time.monotonic() - began))
+            took = 1000 * (time.monotonic() - began)
+            found[key] = max(found[key], took)
+            own[key] = max(own[key], took - queued(os.getpid(), *pids) + before)
         time.sleep(0.002)
     if saving.returncode:
         raise SystemExit(f"status {saving.returncode} of the program that saves")
-    return found
+    return found, own
 
 
 def beside(table: Table, source: pathlib.Path, raw: bytes) -> None:
@@ -283,13 +297,14 @@ def beside(table: Table, source: pathlib.Path, raw: bytes) -> None:
         copy.write_bytes(text)
         before = processor(mount.process.pid)
         with subprocess.Popen(["sh", "-c", 'cat "$0" > "$1"', copy, mount.point / path.name]) as saving:
-            found = waits(saving, mount.point)
+            found, own = waits(saving, mount.point, mount.process.pid)
         took = processor(mount.process.pid).since(before)
         same(path, raw.replace(number, b"edited!"), "a save in place")
-    for key, row in LATEST.items():
-        table.add(row, Sample(found[key], took))
+    for rows, longest in (LATEST, found), (OWN, own):
+        for key, row in rows.items():
+            table.add(row, Sample(longest[key], took))
     with subprocess.Popen([sys.executable, "-c", SAVES, path], env={**os.environ, "PYTHONPATH": str(CLIENTS)}) as saving:
-        found = waits(saving, source)
+        found, _ = waits(saving, source)
     for key, row in WITHOUT.items():
         table.add(row, Sample(found[key]))
 
@@ -330,7 +345,7 @@ def measure(top: pathlib.Path, rounds: int, files: int, only: Sequence[str]) -> 
                     edited(table, large, mega, raw, cold)
         if wanted(WORD, MEMORY):
             replaced(table, large, raws[16])
-        if wanted(*LATEST.values(), *WITHOUT.values()):
+        if wanted(*LATEST.values(), *OWN.values(), *WITHOUT.values()):
             beside(table, large, raws[16])
     print("\n".join(table.lines()))
 
