@@ -1,5 +1,5 @@
 //! One connection, from a reader to a writer.
-ghost use Rattle.std.specs.Prelude.{◌≡◌, ◌+◌, ◌<◌, ◌≤◌, ◌↔◌, None, Err, Some, [], IsSome, IfOk, IfErr, OnOk, OnErr, length};
+ghost use Rattle.std.specs.Prelude.{◌≡◌, ◌+◌, ◌<◌, ◌↔◌, None, Err, Some, [], IsSome, IfErr, OnOk, OnErr, length};
 ghost use Rattle.devices.specs.Devices.{failures_after};
 ghost use Rattle.devices.specs.Reading.{ReadUp};
 ghost use Rattle.connections.specs.Events.{connections, gate_fault, Opening, Bringing, Happens, with_line};

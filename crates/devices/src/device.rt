@@ -3,7 +3,7 @@
 //! Contracts see the bytes that a device's reads returned or its writes took and, without a limit,
 //! how often it was called and how often it failed. These exist for contracts alone: they take no
 //! memory. What is still to be read they see where that is known, as of memory.
-ghost use Rattle.std.specs.Prelude.{◌≡◌, ℕ, ◌+◌, ◌<◌, ◌≤◌, ◌++◌, List, length, Option, IfOk, OnOk, OnErr};
+ghost use Rattle.std.specs.Prelude.{◌≡◌, ◌+◌, ◌<◌, ◌≤◌, ◌++◌, length, IfOk, OnOk, OnErr};
 ghost use Rattle.std.specs.Io.KnownBytes.{ReadConsumes, WriteAppends, Appends};
 ghost use Rattle.devices.specs.Devices.{Reads, Writes, failures_after, ends_after, read_bytes, AppendsPart};
 
