@@ -1,6 +1,6 @@
 -- What is found in a flat object.
-use Rattle.std.proofs.Common.{◌≡◌, ℕ, List, [], ◌∷◌, ◌++◌, fold, Some, refl, sym, ap, ◌∙◌, subst}
-use Rattle.serde_json.specs.Data.{Members, no_members, put}
+use Rattle.std.proofs.Common.{◌≡◌, ℕ, List, [], ◌∷◌, ◌++◌, fold, Option, Some, None, refl, sym, ap, ◌∙◌, subst}
+use Rattle.serde_json.specs.Data.{Data, Members, no_members, put}
 use Rattle.serde_json.specs.Find.{get_member}
 use Rattle.serde_json.proofs.Views.{get_member-put, get_member-put_other}
 use Rattle.line_protocol.specs.Flat.{Member, value_data, members_data}
@@ -21,3 +21,15 @@ pub found_before : (name : List ℕ) (all ms : List Member) (m : Member) → all
 found_before name all ms m is other =
     sym (ap (λ xs. get_member name (members_data xs)) is ∙ ap (get_member name) (put_last ms m no_members)
     ∙ get_member-put_other name m.0.now (value_data m.1) (members_data ms) (λ e. other (sym e)))
+
+-- ---- of two members
+
+module _ (name k l : List ℕ) (d e : Data) where
+  pub at_later : name ≡ k → Some d ≡ get_member name (put k d (put l e no_members))
+  at_later is = sym (subst (λ n. get_member n (put k d (put l e no_members)) ≡ Some d) (sym is) (get_member-put k d (put l e no_members)))
+
+  pub at_earlier : (name ≡ k → ⊥) → name ≡ l → Some e ≡ get_member name (put k d (put l e no_members))
+  at_earlier other is = sym (get_member-put_other name k d (put l e no_members) other ∙ subst (λ n. get_member n (put l e no_members) ≡ Some e) (sym is) (get_member-put l e no_members))
+
+  pub at_neither : (name ≡ k → ⊥) → (name ≡ l → ⊥) → None ≡ get_member name (put k d (put l e no_members))
+  at_neither other another = sym (get_member-put_other name k d (put l e no_members) other ∙ get_member-put_other name l e no_members another)

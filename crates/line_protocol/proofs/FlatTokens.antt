@@ -1,6 +1,7 @@
 -- A line in which a flat object is printed, with gaps, is read as that object.
-use Rattle.std.proofs.Common.{◌≡◌, ℕ, ◌+◌, ◌<◌, ◌≤◌, Bool, true, false, List, [], ◌∷◌, ◌++◌, map, fold, Option, Some, None, IfSome, IsUtf8, option_and_then, decimal, refl, sym, ap, ◌∙◌, subst, arith, append_assoc, append-nil, length, drop, get_or}
+use Rattle.std.proofs.Common.{◌≡◌, ℕ, ◌+◌, ◌^◌, ◌<◌, ◌≤◌, Bool, true, false, cond, List, [], ◌∷◌, ◌++◌, map, fold, max, Option, Some, None, IfSome, IsUtf8, option_and_then, codes, decimal, refl, sym, ap, ◌∙◌, subst, arith, append_assoc, append-nil, length, drop, get_or}
 use Rattle.std.proofs.lemmas.List.{drop_more, drop_all}
+use Rattle.std.proofs.lemmas.List.Sums.{fold-append}
 use Rattle.std.specs.Prelude.{⊤}
 use Rattle.std.proofs.lemmas.Str.{is_utf8-from_IsUtf8}
 use Rattle.enc_names.specs.Json.{json_of}
@@ -14,25 +15,19 @@ use Rattle.json.specs.Tree.{json_tokens, members_tokens, members_depth, depth, H
 use Rattle.json.proofs.Printed.Decimals.{IsNumber-decimal}
 use Rattle.json.proofs.Printed.Tokens.{tokens-print_spaced, print_spaced_push, ends_push, AreGaps-push}
 use Rattle.json.proofs.Printed.Trees.{value-json_tokens, ArePrintable-json_tokens}
-use Rattle.serde_json.specs.Data.{Members, no_members, object, put}
+use Rattle.serde_json.specs.Data.{Data, Members, no_members, object, put}
 use Rattle.serde_json.specs.Read.{of_json, of_members, read}
 use Rattle.serde_json.proofs.Numbers.{number_of-decimal}
-use Rattle.line_protocol.specs.Flat.{Member, value_data, members_data, object_data, value_text, Fits, IsValue, IsMember}
+use Rattle.line_protocol.specs.Flat.{Member, value_data, members_data, object_data, value_json, position_json, range_json, Fits, Begins, IsKey, IsOpened, IsWhole, IsMember}
 use Rattle.line_protocol.specs.declared.request.flat.object.FlatObject.{FlatObject}
 use Rattle.line_protocol.specs.declared.request.flat.object.FlatValue.{FlatValue}
-use Rattle.line_protocol.specs.declared.request.flat.object.FlatValue.TheVariants.{Whole, Text}
-
-abbrev value_token : FlatValue → Token
-value_token (Whole n) = Token.number (decimal n)
-value_token (Text t) = Token.string t.now
+use Rattle.line_protocol.specs.declared.request.flat.object.FlatValue.TheVariants.{Whole, Text, Point, Range}
+use Rattle.position_map.specs.declared.position.Position.{Position}
+use Rattle.position_map.specs.declared.position.Range.{Range as TextRange}
 
 abbrev member_tokens : List Member → List Token
 member_tokens [] = []
-member_tokens (m ∷ ms) = Token.key m.0.now ∷ value_token m.1 ∷ member_tokens ms
-
-abbrev value_json : FlatValue → json.Json
-value_json (Whole n) = json.number (decimal n)
-value_json (Text t) = json.string t.now
+member_tokens (m ∷ ms) = Token.key m.0.now ∷ (json_tokens (value_json m.1) ++ member_tokens ms)
 
 abbrev members_json : List Member → json.Members
 members_json [] = json.no_members
@@ -55,71 +50,90 @@ pub record Printed (text : List ℕ) (ms : List Member) (rest : List ℕ) : Type
   pub is : text ≡ print_spaced false printed ++ rest
   pub fit : AllFit ms
 
+-- ---- tokens behind one another
+
+spaced_append : (c : Bool) (ps qs : List (List ℕ × Token)) → print_spaced c (ps ++ qs) ≡ print_spaced c ps ++ print_spaced (fold (λ _ u. ends u) c (map (λ q. q.1) ps)) qs
+unfolding print_spaced
+spaced_append c [] qs = refl
+spaced_append c (p ∷ ps) qs = rw (spaced_append (ends p.1) ps qs) (simp append_assoc)
+
+AreGaps-append : (ps qs : List (List ℕ × Token)) → AreGaps ps → AreGaps qs → AreGaps (ps ++ qs)
+AreGaps-append [] qs h k = k
+AreGaps-append (p ∷ ps) qs h k = (h.0, AreGaps-append ps qs h.1 k)
+
+tokens_append : (ps qs : List (List ℕ × Token)) → map (λ q. q.1) (ps ++ qs) ≡ map (λ q. q.1) ps ++ map (λ q. q.1) qs
+tokens_append [] qs = refl
+tokens_append (p ∷ ps) qs = ap (λ ts. p.1 ∷ ts) (tokens_append ps qs)
+
 -- ---- the values
 
-text_of_token : (v : FlatValue) → token_text (value_token v) ≡ value_text v
-text_of_token (Whole n) = refl
-text_of_token (Text t) = refl
-
-ends_value : (v : FlatValue) → ends (value_token v) ≡ true
-ends_value (Whole n) = refl
-ends_value (Text t) = refl
-
-tokens_of_value : (v : FlatValue) → json_tokens (value_json v) ≡ value_token v ∷ []
-tokens_of_value (Whole n) = refl
-tokens_of_value (Text t) = refl
+ends_value : (c : Bool) (v : FlatValue) → fold (λ _ u. ends u) c (json_tokens (value_json v)) ≡ true
+ends_value c (Whole n) = refl
+ends_value c (Text t) = refl
+ends_value c (Point p) = refl
+ends_value c (Range r) = refl
 
 of_value : (v : FlatValue) → Fits v → of_json (value_json v) ≡ Some (value_data v)
 of_value (Whole n) fits = rw (number_of-decimal n fits)
 of_value (Text t) fits = refl
+of_value (Point p) fits = rw (number_of-decimal p.line fits.0, number_of-decimal p.character fits.1)
+of_value (Range r) fits =
+    rw (number_of-decimal r.start.line fits.0.0, number_of-decimal r.start.character fits.0.1, number_of-decimal r.end.line fits.1.0, number_of-decimal r.end.character fits.1.1)
 
-depth_of_value : (v : FlatValue) → depth (value_json v) ≡ 0
-depth_of_value (Whole n) = refl
-depth_of_value (Text t) = refl
+depth_of_value : (v : FlatValue) → depth (value_json v) ≤ 2
+depth_of_value (Whole n) = omega arith
+depth_of_value (Text t) = omega arith
+depth_of_value (Point p) = omega arith
+depth_of_value (Range r) = omega arith
 
 numbers_of_value : (v : FlatValue) → Fits v → HasNumbers (value_json v)
 numbers_of_value (Whole n) fits = IsNumber-decimal n fits
 numbers_of_value (Text t) fits = tt
+numbers_of_value (Point p) fits = (IsNumber-decimal p.line fits.0, (IsNumber-decimal p.character fits.1, tt))
+numbers_of_value (Range r) fits =
+    ((IsNumber-decimal r.start.line fits.0.0, (IsNumber-decimal r.start.character fits.0.1, tt)), ((IsNumber-decimal r.end.line fits.1.0, (IsNumber-decimal r.end.character fits.1.1, tt)), tt))
 
 -- ---- the members
 
 whole_tokens : (ms : List Member) → members_tokens (members_json ms) ≡ member_tokens ms ++ Token.end_object ∷ []
 whole_tokens [] = refl
-whole_tokens (m ∷ ms) = ap (λ ts. Token.key m.0.now ∷ (ts ++ members_tokens (members_json ms))) (tokens_of_value m.1) ∙ ap (λ ts. Token.key m.0.now ∷ value_token m.1 ∷ ts) (whole_tokens ms)
+whole_tokens (m ∷ ms) =
+    ap (λ ts. Token.key m.0.now ∷ (json_tokens (value_json m.1) ++ ts)) (whole_tokens ms) ∙ ap (λ ts. Token.key m.0.now ∷ ts) (sym (append_assoc (json_tokens (value_json m.1)) (member_tokens ms) (Token.end_object ∷ [])))
 
 of_all : (ms : List Member) (found : Members) → AllFit ms → of_members (members_json ms) found ≡ Some (fold (λ found m. put m.0.now (value_data m.1) found) found ms)
 of_all [] found fit = refl
 of_all (m ∷ ms) found fit = rw (of_value m.1 fit.0) (of_all ms (put m.0.now (value_data m.1) found) fit.1)
 
-flat_depth : (ms : List Member) → members_depth (members_json ms) ≡ 0
-flat_depth [] = refl
-flat_depth (m ∷ ms) = rw (depth_of_value m.1, flat_depth ms)
+flat_depth : (ms : List Member) → members_depth (members_json ms) ≤ 2
+flat_depth [] = omega arith
+flat_depth (m ∷ ms) = omega (arith, depth_of_value m.1, flat_depth ms)
 
 all_numbers : (ms : List Member) → AllFit ms → MembersHaveNumbers (members_json ms)
 all_numbers [] fit = tt
 all_numbers (m ∷ ms) fit = (numbers_of_value m.1 fit.0, all_numbers ms fit.1)
 
-one_more : (ms : List Member) (m : Member) → member_tokens (ms ++ m ∷ []) ≡ member_tokens ms ++ Token.key m.0.now ∷ value_token m.1 ∷ []
-one_more [] m = refl
-one_more (x ∷ ms) m = ap (λ ts. Token.key x.0.now ∷ value_token x.1 ∷ ts) (one_more ms m)
+one_more : (ms : List Member) (m : Member) → member_tokens (ms ++ m ∷ []) ≡ member_tokens ms ++ Token.key m.0.now ∷ json_tokens (value_json m.1)
+one_more [] m = ap (λ ts. Token.key m.0.now ∷ ts) (append-nil (json_tokens (value_json m.1)))
+one_more (x ∷ ms) m =
+    ap (λ ts. Token.key x.0.now ∷ (json_tokens (value_json x.1) ++ ts)) (one_more ms m)
+    ∙ ap (λ ts. Token.key x.0.now ∷ ts) (sym (append_assoc (json_tokens (value_json x.1)) (member_tokens ms) (Token.key m.0.now ∷ json_tokens (value_json m.1))))
 
 fit_push : (ms : List Member) (m : Member) → AllFit ms → Fits m.1 → AllFit (ms ++ m ∷ [])
 fit_push [] m h k = (k, tt)
 fit_push (x ∷ ms) m h k = (h.0, fit_push ms m h.1 k)
 
-map_push : (ps : List (List ℕ × Token)) (p : List ℕ × Token) → map (λ q. q.1) (ps ++ p ∷ []) ≡ map (λ q. q.1) ps ++ p.1 ∷ []
-map_push [] p = refl
-map_push (q ∷ ps) p = ap (λ ts. q.1 ∷ ts) (map_push ps p)
-
 -- ---- what is printed between them
+
+after_value : (c : Bool) (v : FlatValue) (ts : List Token) → fold (λ _ u. ends u) c (json_tokens (value_json v) ++ ts) ≡ fold (λ _ u. ends u) true ts
+after_value c v ts = fold-append (λ _ u. ends u) c (json_tokens (value_json v)) ts ∙ ap (λ b. fold (λ _ u. ends u) b ts) (ends_value c v)
 
 stays_ended : (ms : List Member) → fold (λ _ u. ends u) true (member_tokens ms) ≡ true
 stays_ended [] = refl
-stays_ended (m ∷ ms) = ap (λ b. fold (λ _ u. ends u) b (member_tokens ms)) (ends_value m.1) ∙ stays_ended ms
+stays_ended (m ∷ ms) = after_value false m.1 (member_tokens ms) ∙ stays_ended ms
 
 before_key : (ms : List Member) (k : List ℕ) → separator (fold (λ _ u. ends u) false (Token.begin_object ∷ member_tokens ms)) (Token.key k) ≡ comma ms
 before_key [] k = refl
-before_key (m ∷ ms) k = ap (λ b. separator (fold (λ _ u. ends u) b (member_tokens ms)) (Token.key k)) (ends_value m.1) ∙ ap (λ b. separator b (Token.key k)) (stays_ended ms)
+before_key (m ∷ ms) k = ap (λ b. separator b (Token.key k)) (after_value false m.1 (member_tokens ms) ∙ stays_ended ms)
 
 before_end : (b : Bool) → separator b Token.end_object ≡ []
 before_end true = refl
@@ -131,30 +145,32 @@ push_key text ms rest m gap p =
     p.is ∙ sym (ap (λ l. l ++ rest) (print_spaced_push false p.printed (gap, Token.key m.0.now) ∙ ap (λ ts. print_spaced false p.printed ++ (separator (fold (λ _ u. ends u) false ts) (Token.key m.0.now) ++ (gap ++ (quoted m.0.now ++ 58 ∷ [])))) p.tokens
     ∙ ap (λ c. print_spaced false p.printed ++ (c ++ (gap ++ (quoted m.0.now ++ 58 ∷ [])))) (before_key ms m.0.now)) ∙ simp append_assoc)
 
-push_value : (ps : List (List ℕ × Token)) (k : List ℕ) (gap rest : List ℕ) (v : FlatValue) (front : List (List ℕ × Token)) (before : List ℕ) → ps ≡ front ++ (before, Token.key k) ∷ []
-    → print_spaced false (ps ++ (gap, value_token v) ∷ []) ++ rest ≡ print_spaced false ps ++ (gap ++ (value_text v ++ rest))
-push_value ps k gap rest v front before is =
-    let fresh : fold (λ _ u. ends u) false (map (λ q. q.1) ps) ≡ false = ap (λ qs. fold (λ _ u. ends u) false (map (λ q. q.1) qs)) is ∙ ap (λ ts. fold (λ _ u. ends u) false ts) (map_push front (before, Token.key k)) ∙ ends_push false (map (λ q. q.1) front) (Token.key k) in
-    ap (λ l. l ++ rest) (print_spaced_push false ps (gap, value_token v) ∙ ap (λ b. print_spaced false ps ++ (separator b (value_token v) ++ (gap ++ token_text (value_token v)))) fresh
-    ∙ ap (λ t. print_spaced false ps ++ (gap ++ t)) (text_of_token v)) ∙ simp append_assoc
+push_value : (front ps : List (List ℕ × Token)) (gap k rest : List ℕ)
+    → print_spaced false ((front ++ (gap, Token.key k) ∷ []) ++ ps) ++ rest ≡ print_spaced false (front ++ (gap, Token.key k) ∷ []) ++ (print_spaced false ps ++ rest)
+push_value front ps gap k rest =
+    let named = front ++ (gap, Token.key k) ∷ [] in
+    let fresh : fold (λ _ u. ends u) false (map (λ q. q.1) named) ≡ false =
+    ap (λ ts. fold (λ _ u. ends u) false ts) (tokens_append front ((gap, Token.key k) ∷ [])) ∙ ends_push false (map (λ q. q.1) front) (Token.key k) in
+    ap (λ l. l ++ rest) (spaced_append false named ps ∙ ap (λ b. print_spaced false named ++ print_spaced b ps) fresh) ∙ append_assoc _ _ rest
 
 -- one more member
 pub next_member : (text : List ℕ) (ms : List Member) (m : Member) (here rest : List ℕ) → Printed text ms (comma ms ++ here) → IsMember here m rest → Printed text (ms ++ m ∷ []) rest
 next_member text ms m here rest p is =
-    let before = is.0 in
-    let between = is.1 in
-    let tail = between ++ (value_text m.1 ++ rest) in
-    let begun : Printed text ms (comma ms ++ (before ++ (quoted m.0.now ++ 58 ∷ tail))) =
-    record { printed = p.printed; gaps = p.gaps; tokens = p.tokens; is = p.is ∙ ap (λ l. print_spaced false p.printed ++ (comma ms ++ l)) is.4; fit = p.fit } in
-    let key : List ℕ × Token = (before, Token.key m.0.now) in
+    let tail = is.0 in
+    let name = is.1 in
+    let value = is.2.0 in
+    let begun : Printed text ms (comma ms ++ (name.0 ++ (quoted m.0.now ++ 58 ∷ tail))) =
+    record { printed = p.printed; gaps = p.gaps; tokens = p.tokens; is = p.is ∙ ap (λ l. print_spaced false p.printed ++ (comma ms ++ l)) name.2; fit = p.fit } in
+    let key : List ℕ × Token = (name.0, Token.key m.0.now) in
     let named = p.printed ++ key ∷ [] in
     record {
-      printed = named ++ (between, value_token m.1) ∷ [];
-      gaps = AreGaps-push named _ (AreGaps-push p.printed key p.gaps is.2) is.3;
-      tokens = map_push named _ ∙ ap (λ ts. ts ++ value_token m.1 ∷ []) (map_push p.printed key) ∙ append_assoc _ (Token.key m.0.now ∷ []) (value_token m.1 ∷ [])
-          ∙ ap (λ ts. ts ++ Token.key m.0.now ∷ value_token m.1 ∷ []) p.tokens ∙ ap (λ ts. Token.begin_object ∷ ts) (sym (one_more ms m));
-      is = push_key text ms tail m before begun ∙ sym (push_value named m.0.now between rest m.1 p.printed before refl);
-      fit = fit_push ms m p.fit is.5;
+      printed = named ++ value.0;
+      gaps = AreGaps-append named value.0 (AreGaps-push p.printed key p.gaps name.1) value.1;
+      tokens = tokens_append named value.0 ∙ ap (λ ts. map (λ q. q.1) named ++ ts) value.2 ∙ ap (λ ts. ts ++ json_tokens (value_json m.1)) (tokens_append p.printed (key ∷ []))
+          ∙ append_assoc _ (Token.key m.0.now ∷ []) (json_tokens (value_json m.1)) ∙ ap (λ ts. ts ++ Token.key m.0.now ∷ json_tokens (value_json m.1)) p.tokens
+          ∙ ap (λ ts. Token.begin_object ∷ ts) (sym (one_more ms m));
+      is = push_key text ms tail m name.0 begun ∙ ap (λ l. print_spaced false named ++ l) value.3 ∙ sym (push_value p.printed value.0 name.0 m.0.now rest);
+      fit = fit_push ms m p.fit is.2.1;
     }
 
 -- an object opens
@@ -168,7 +184,7 @@ closed text ms p =
     let all = p.printed ++ ([], Token.end_object) ∷ [] in
     let j = json.object (members_json ms) in
     let is : map (λ q. q.1) all ≡ json_tokens j =
-    map_push p.printed ([], Token.end_object) ∙ ap (λ ts. ts ++ Token.end_object ∷ []) p.tokens ∙ ap (λ ts. Token.begin_object ∷ ts) (sym (whole_tokens ms)) in
+    tokens_append p.printed (([], Token.end_object) ∷ []) ∙ ap (λ ts. ts ++ Token.end_object ∷ []) p.tokens ∙ ap (λ ts. Token.begin_object ∷ ts) (sym (whole_tokens ms)) in
     let whole : text ≡ print_spaced false all =
     p.is ∙ sym (print_spaced_push false p.printed ([], Token.end_object) ∙ ap (λ l. print_spaced false p.printed ++ (l ++ 125 ∷ [])) (before_end _)) in
     let printable : ArePrintable (map (λ q. q.1) all) = subst ArePrintable (sym is) (ArePrintable-json_tokens j (all_numbers ms p.fit)) in
@@ -180,27 +196,53 @@ closed text ms p =
 
 -- ---- at places of a line
 
-at_line : (d line gap : List ℕ) (i j : ℕ) → line ≡ d → drop i line ≡ gap ++ drop j line → drop i d ≡ gap ++ drop j d
+pub at_line : (d line gap : List ℕ) (i j : ℕ) → line ≡ d → drop i line ≡ gap ++ drop j line → drop i d ≡ gap ++ drop j d
 at_line d line gap i j same is = ap (drop i) (sym same) ∙ is ∙ ap (λ l. gap ++ drop j l) same
 
 -- a byte, and what is behind it
-byte_here : (d : List ℕ) (i x : ℕ) → i < length d → get_or d i 0 ≡ x → drop i d ≡ x ∷ drop (i + 1) d
+pub byte_here : (d : List ℕ) (i x : ℕ) → i < length d → get_or d i 0 ≡ x → drop i d ≡ x ∷ drop (i + 1) d
 byte_here d i x within is = drop_more d i 0 within ∙ ap (λ y. y ∷ drop (i + 1) d) is
 
--- a member
-pub member_here : (d line : List ℕ) (from i j k end : ℕ) (m : Member) → line ≡ d → (gap : List ℕ) × IsGap gap × (drop from line ≡ gap ++ drop i line) → drop i d ≡ quoted m.0.now ++ drop j d
-    → j < length line → get_or line j 0 ≡ 58 → (gap : List ℕ) × IsGap gap × (drop (j + 1) line ≡ gap ++ drop k line) → IsValue (drop k d) m.1 (drop end d) → IsMember (drop from d) m (drop end d)
-member_here d line from i j k end m same before key within colon between value =
-    let g = before.0 in
-    let h = between.0 in
-    let mark : drop j d ≡ 58 ∷ drop (j + 1) d = byte_here d j 58 (omega (arith, ap length same)) (ap (λ l. get_or l j 0) (sym same) ∙ colon) in (
-      g,
-      h,
-      before.1,
-      between.1,
-      at_line d line g from i same before.2
-          ∙ ap (λ l. g ++ l) (key ∙ ap (λ l. quoted m.0.now ++ l) (mark ∙ ap (λ l. 58 ∷ l) (at_line d line h (j + 1) k same between.2 ∙ ap (λ l. h ++ l) value.0))),
-      value.1,
+-- ---- values of several tokens
+
+pub one_token : (text gap rest : List ℕ) (t : Token) → IsGap gap → text ≡ gap ++ (token_text t ++ rest) → separator false t ≡ [] → (ps : List (List ℕ × Token)) × AreGaps ps × (map (λ p. p.1) ps ≡ t ∷ []) × (text ≡ print_spaced false ps ++ rest)
+unfolding print_spaced
+one_token text gap rest t g is first = ((gap, t) ∷ [], (g, tt), refl, is ∙ sym (ap (λ s. (s ++ (gap ++ (token_text t ++ []))) ++ rest) first ∙ simp append_assoc))
+
+pub point_here : (text t1 t2 t3 t4 t5 t6 rest : List ℕ) (p : Position) → IsOpened text t1 → IsKey t1 (codes "line") t2 → IsWhole t2 p.line t3 → t3 ≡ 44 ∷ t4 → IsKey t4 (codes "character") t5
+    → IsWhole t5 p.character t6 → t6 ≡ 125 ∷ rest → Begins text (position_json p) rest
+unfolding print_spaced
+point_here text t1 t2 t3 t4 t5 t6 rest p o k n c l m e =
+    let ps : List (List ℕ × Token) = (o.0, Token.begin_object) ∷ (k.0, Token.key (codes "line")) ∷ (n.0, Token.number (decimal p.line)) ∷ (l.0, Token.key (codes "character"))
+    ∷ (m.0, Token.number (decimal p.character)) ∷ ([], Token.end_object) ∷ [] in
+    let last = m.2 ∙ ap (λ x. m.0 ++ (decimal p.character ++ x)) e in
+    let second = c ∙ ap (λ x. 44 ∷ x) (l.2 ∙ ap (λ x. l.0 ++ (quoted (codes "character") ++ 58 ∷ x)) last) in
+    let first = k.2 ∙ ap (λ x. k.0 ++ (quoted (codes "line") ++ 58 ∷ x)) (n.2 ∙ ap (λ x. n.0 ++ (decimal p.line ++ x)) second) in
+    (ps, (o.1, (k.1, (n.1, (l.1, (m.1, (tt, tt)))))), refl, o.2 ∙ ap (λ x. o.0 ++ 123 ∷ x) first ∙ sym (simp append_assoc))
+
+behind_point : (ps qs : List (List ℕ × Token)) (p : Position) → map (λ q. q.1) ps ≡ json_tokens (position_json p) → print_spaced false (ps ++ qs) ≡ print_spaced false ps ++ print_spaced true qs
+behind_point ps qs p is =
+    let ended : fold (λ _ u. ends u) false (map (λ q. q.1) ps) ≡ true = ap (λ ts. fold (λ _ u. ends u) false ts) is ∙ ends_value false (Point p) in
+    spaced_append false ps qs ∙ ap (λ b. print_spaced false ps ++ print_spaced b qs) ended
+
+pub range_here : (text t1 t2 t3 t4 t5 t6 rest : List ℕ) (r : TextRange) → IsOpened text t1 → IsKey t1 (codes "start") t2 → Begins t2 (position_json r.start) t3 → t3 ≡ 44 ∷ t4 → IsKey t4 (codes "end") t5
+    → Begins t5 (position_json r.end) t6 → t6 ≡ 125 ∷ rest → Begins text (range_json r) rest
+unfolding print_spaced
+range_here text t1 t2 t3 t4 t5 t6 rest r o k a c l b e =
+    let closing : List (List ℕ × Token) = ([], Token.end_object) ∷ [] in
+    let later : List (List ℕ × Token) = (l.0, Token.key (codes "end")) ∷ (b.0 ++ closing) in
+    let ps : List (List ℕ × Token) = (o.0, Token.begin_object) ∷ (k.0, Token.key (codes "start")) ∷ (a.0 ++ later) in
+    let last = l.2 ∙ ap (λ x. l.0 ++ (quoted (codes "end") ++ 58 ∷ x)) (b.3 ∙ ap (λ x. print_spaced false b.0 ++ x) e) in
+    let first = k.2 ∙ ap (λ x. k.0 ++ (quoted (codes "start") ++ 58 ∷ x)) (a.3 ∙ ap (λ x. print_spaced false a.0 ++ x) (c ∙ ap (λ x. 44 ∷ x) last)) in
+    let end_tokens : map (λ q. q.1) later ≡ Token.key (codes "end") ∷ (json_tokens (position_json r.end) ++ Token.end_object ∷ []) =
+    ap (λ ts. Token.key (codes "end") ∷ ts) (tokens_append b.0 closing ∙ ap (λ ts. ts ++ Token.end_object ∷ []) b.2) in
+    let all : map (λ q. q.1) ps ≡ json_tokens (range_json r) =
+    ap (λ ts. Token.begin_object ∷ Token.key (codes "start") ∷ ts) (tokens_append a.0 later ∙ ap (λ ts. ts ++ map (λ q. q.1) later) a.2 ∙ ap (λ ts. json_tokens (position_json r.start) ++ ts) end_tokens) in
+    let printed = behind_point a.0 later r.start a.2 ∙ ap (λ x. print_spaced false a.0 ++ 44 ∷ (l.0 ++ ((quoted (codes "end") ++ 58 ∷ []) ++ x))) (behind_point b.0 closing r.end b.2) in (
+      ps,
+      (o.1, (k.1, AreGaps-append a.0 later a.1 (l.1, AreGaps-append b.0 closing b.1 (tt, tt)))),
+      all,
+      o.2 ∙ ap (λ x. o.0 ++ 123 ∷ x) first ∙ sym (ap (λ x. (o.0 ++ 123 ∷ (k.0 ++ ((quoted (codes "start") ++ 58 ∷ []) ++ x))) ++ rest) printed ∙ simp append_assoc),
     )
 
 some_comma : (ms : List Member) (m : Member) → comma (ms ++ m ∷ []) ≡ 44 ∷ []

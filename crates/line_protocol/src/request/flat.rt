@@ -4,6 +4,7 @@ mod find;
 mod lexemes;
 mod object;
 mod plain;
+mod ranges;
 mod read;
 
 pub(crate) use object::{FlatObject, FlatValue};

@@ -10,7 +10,7 @@ use serde_json::Value;
 /// A value of a line.
 #[derive(Clone, Copy)]
 pub(crate) enum Parsed<'a> {
-    /// A member of a flat object.
+    /// A member of a flat object, or of a position or a range in it.
     Plain(FlatValue<'a>),
     /// A flat object.
     Flat(&'a FlatObject<'a>),
@@ -24,7 +24,7 @@ impl<'a> Parsed<'a> {
         ensures { option_map parsed_data result ≡ get name.now (parsed_data self.entry) }
     {
         match self {
-            Parsed::Plain(_) => None,
+            Parsed::Plain(value) => value.get(name).map(Parsed::Plain),
             Parsed::Flat(object) => object.get(name).map(Parsed::Plain),
             Parsed::Tree(value) => value.get(name).map(Parsed::Tree),
         }
@@ -36,7 +36,7 @@ impl<'a> Parsed<'a> {
     {
         match self {
             Parsed::Plain(FlatValue::Whole(number)) => Some(number),
-            Parsed::Plain(FlatValue::Text(_)) | Parsed::Flat(_) => None,
+            Parsed::Plain(_) | Parsed::Flat(_) => None,
             Parsed::Tree(value) => value.as_u64(),
         }
     }
@@ -47,7 +47,7 @@ impl<'a> Parsed<'a> {
     {
         match self {
             Parsed::Plain(FlatValue::Text(text)) => Some(text),
-            Parsed::Plain(FlatValue::Whole(_)) | Parsed::Flat(_) => None,
+            Parsed::Plain(_) | Parsed::Flat(_) => None,
             Parsed::Tree(value) => value.as_str(),
         }
     }
@@ -77,8 +77,8 @@ impl<'a> Parsed<'a> {
         ensures { result ≡ is_some (as_object (parsed_data self.entry)) }
     {
         match self {
-            Parsed::Plain(_) => false,
-            Parsed::Flat(_) => true,
+            Parsed::Plain(FlatValue::Whole(_) | FlatValue::Text(_)) => false,
+            Parsed::Plain(FlatValue::Point(_) | FlatValue::Range(_)) | Parsed::Flat(_) => true,
             Parsed::Tree(value) => value.is_object(),
         }
     }

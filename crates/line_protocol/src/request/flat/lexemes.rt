@@ -1,5 +1,5 @@
 //! What stands next in a line: a space, a text in quotes, a whole number.
-ghost use Rattle.std.specs.Prelude.{◌≡◌, ℕ, ◌≤◌, List, ◌++◌, length, drop, decimal, IfSome};
+ghost use Rattle.std.specs.Prelude.{◌≡◌, ℕ, ◌≤◌, List, ◌∷◌, ◌++◌, length, drop, decimal, IfSome};
 ghost use Rattle.json.specs.Print.{quoted};
 ghost use Rattle.json.specs.Spaced.{IsGap};
 
@@ -59,4 +59,16 @@ pub(crate) fn whole_number(line: &[u8], from: usize) -> Option<(u64, usize)>
         return None;
     }
     Some((number, at))
+}
+
+/// What lies behind this byte, if it stands here.
+pub(crate) fn mark_end(line: &[u8], from: usize, mark: u8) -> Option<usize>
+    requires { from ≤ length line.now }
+    ensures { IfSome result (λ end. (drop from line.now ≡ mark ∷ drop end line.now) × (end ≤ length line.now)) }
+{
+    if from < line.len() && line[from] == mark {
+        Some(from + 1)
+    } else {
+        None
+    }
 }

@@ -1,8 +1,9 @@
-//! An object of JSON whose members are texts and whole numbers, as most requests are.
+//! An object of JSON whose members are texts, whole numbers and ranges, as most requests are.
 ghost use Rattle.std.specs.Prelude.{◌≡◌, ◌≤◌, length};
 ghost use Rattle.line_protocol.specs.declared.request.flat.object.TheConstants.{MOST_MEMBERS};
 
-use crate::request::flat::find::find;
+use crate::request::flat::find::{bound, coordinate, find};
+use position_map::{Position, Range};
 
 /// The value of a member.
 #[derive(Clone, Copy)]
@@ -11,6 +12,33 @@ pub(crate) enum FlatValue<'a> {
     Whole(u64),
     /// A text.
     Text(&'a str),
+    /// A position, as an object of its line and its character.
+    Point(Position),
+    /// A range, as an object of its start and its end.
+    Range(Range),
+}
+
+impl<'a> FlatValue<'a> {
+    ghost use Rattle.std.specs.Prelude.{option_map};
+    ghost use Rattle.serde_json.specs.Find.{get};
+    ghost use Rattle.line_protocol.specs.Flat.{value_data};
+
+    /// The member of this name, of a position or a range.
+    pub(crate) fn get(self, name: &str) -> Option<FlatValue<'a>>
+        ensures { option_map value_data result ≡ get name.now (value_data self.entry) }
+    {
+        match self {
+            FlatValue::Whole(_) | FlatValue::Text(_) => None,
+            FlatValue::Point(point) => match coordinate(point, name) {
+                Some(number) => Some(FlatValue::Whole(number)),
+                None => None,
+            },
+            FlatValue::Range(range) => match bound(range, name) {
+                Some(point) => Some(FlatValue::Point(point)),
+                None => None,
+            },
+        }
+    }
 }
 
 /// A member: its key and its value.

@@ -4,8 +4,9 @@ ghost use Rattle.serde_json.specs.Read.{read as read_text};
 ghost use Rattle.enc_names.specs.Json.{json_of};
 ghost use Rattle.line_protocol.specs.Flat.{object_data, IsMember, IsValue};
 
-use crate::request::flat::lexemes::{gap_end, quoted_text, whole_number};
+use crate::request::flat::lexemes::{gap_end, quoted_text};
 use crate::request::flat::object::{FlatMember, FlatObject, FlatValue};
+use crate::request::flat::ranges::{key, range, whole};
 
 /// The object in a line, if it is flat and written as most programs write it.
 pub(crate) fn flat_object(line: &[u8]) -> Option<FlatObject<'_>>
@@ -50,12 +51,8 @@ fn member<'a>(text: &'a str, from: usize) -> Option<(FlatMember<'a>, usize)>
     requires { from ≤ length text.now }
     ensures { IfSome result (λ r. IsMember (drop from text.now) r.0 (drop r.1 text.now) × (r.1 ≤ length text.now)) }
 {
-    let line = text.as_bytes();
-    let (key, end) = quoted_text(text, gap_end(line, from))?;
-    if end >= line.len() || line[end] != b':' {
-        return None;
-    }
-    let (value, end) = value(text, gap_end(line, end + 1))?;
+    let (key, behind) = key(text, from)?;
+    let (value, end) = value(text, behind)?;
     Some(((key, value), end))
 }
 
@@ -64,9 +61,13 @@ fn value<'a>(text: &'a str, from: usize) -> Option<(FlatValue<'a>, usize)>
     requires { from ≤ length text.now }
     ensures { IfSome result (λ r. IsValue (drop from text.now) r.0 (drop r.1 text.now) × (r.1 ≤ length text.now)) }
 {
-    if let Some((found, end)) = quoted_text(text, from) {
+    let line = text.as_bytes();
+    if let Some((found, end)) = quoted_text(text, gap_end(line, from)) {
         return Some((FlatValue::Text(found), end));
     }
-    let (number, end) = whole_number(text.as_bytes(), from)?;
-    Some((FlatValue::Whole(number), end))
+    if let Some((number, end)) = whole(text, from) {
+        return Some((FlatValue::Whole(number), end));
+    }
+    let (range, end) = range(text, from)?;
+    Some((FlatValue::Range(range), end))
 }

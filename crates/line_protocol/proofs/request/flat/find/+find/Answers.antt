@@ -1,4 +1,4 @@
-use Rattle.std.proofs.Common.{◌∙◌, rules}
+use Rattle.std.proofs.Common.{◌≡◌, ap, ◌∙◌, arith, rules}
 use Rattle.line_protocol.proofs.FlatLookups.{found_last, found_before}
 use Rattle.line_protocol.proofs.request.flat.find.+find.Goals as goal
 

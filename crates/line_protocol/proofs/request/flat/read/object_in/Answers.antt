@@ -1,4 +1,4 @@
-use Rattle.std.proofs.Common.{◌<◌, length, take, ap, arith}
+use Rattle.std.proofs.Common.{◌≡◌, ◌+◌, ◌<◌, ◌≤◌, length, take, ap, arith}
 use Rattle.line_protocol.proofs.FlatTokens.{beginning, going_on, ending}
 use Rattle.line_protocol.proofs.request.flat.read.object_in.Goals as goal
 
