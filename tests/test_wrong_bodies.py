@@ -28,16 +28,15 @@ const LIMIT: u8 = 4;
 """
 
 # Refuses a function in whose lines there is a 9, or LIMIT where that is 9, and says of those that call it that it isn't
-# proved. It knows a function by its name alone. In place of the other functions' proofs there are holes, where it is told so.
+# proved. It knows a function by its name alone.
 RATTLE = r"""#!/usr/bin/env python3
 import pathlib, re, sys
 text = pathlib.Path("src/lib.rt").read_text()
 bodies = dict(zip(("one", "two", "three"), re.split(r"fn \w+\(", text.partition("const")[0])[1:]))
 bad = {name for name, body in bodies.items() if "9" in body} | ({"three"} if "LIMIT: u8 = 9" in text else set())
 only = [it.split("::")[-1] for at, it in enumerate(sys.argv) if sys.argv[at - 1] == "--only"] or list(bodies)
-holes = {it.parent.name for it in pathlib.Path("proofs").rglob("Proof.antt") if "_spec = ?" in it.read_text()}
 with open(pathlib.Path(sys.argv[0]).parent / "checks", "a") as it:
-    it.write(" ".join(sorted(only)) + "; holes: ".join(["", " ".join(sorted(holes))] if "--allow-holes" in sys.argv else [""]) + "\n")
+    it.write(" ".join(sorted(only)) + "\n")
 names = {"one": "low::one", "two": "low::PairTwice::two", "three": "low::PairTwice::three"}
 for name in only:
     if name in bad:
@@ -53,7 +52,7 @@ print("only=1 proved=1" if "--only" in sys.argv else f"logic={'not-proved' if ba
 RT = """#!/bin/bash
 case "$1" in
   doc) echo "$(dirname "$0")/kit/START-HERE.md" ;;
-  ci) printf '== low\n%sfn low::one+Drop::drop: proved\nrt: low proved\n' "$(printf 'fn low::%s: proved\n' $FUNCTIONS)"$'\n'; mkdir -p crates/gate/out; echo built > crates/gate/out/gate; echo "${SAYS:-2 passed, 0 failed}"; exit "${STATUS:-0}" ;;
+  ci) echo "rt: low proved"; mkdir -p crates/gate/out; echo built > crates/gate/out/gate; echo "${SAYS:-2 passed, 0 failed}"; exit "${STATUS:-0}" ;;
 esac
 """
 
@@ -74,14 +73,14 @@ class Bodies(unittest.TestCase):
             (self.top / path).write_text(text)
             (self.top / path).chmod(0o755)
 
-    def judged(self, status, crate="low", says="2 passed, 0 failed", rt_status=0, functions="one PairTwice::two PairTwice::three", **edits):
-        """What the judge says with these edits, each an old text and a new one and maybe a line more, where rt has named these
-        functions, and which functions each check was of, and which were taken for granted."""
+    def judged(self, status, crate="low", says="2 passed, 0 failed", rt_status=0, **edits):
+        """What the judge says with these edits, each an old text and a new one and maybe a line more, and which functions
+        each check was of."""
         for name, (old, new, *more) in edits.items():
             path = self.top / "crates" / crate / "must-fail" / f"{name}.edit"
             path.parent.mkdir(exist_ok=True)
             path.write_text("".join(f"{it}\n" for it in [*more, "file: src/lib.rt", f"old: {old}", f"new: {new}"]))
-        environment = {**os.environ, "PATH": f"{self.top}:{os.environ['PATH']}", "SAYS": says, "STATUS": str(rt_status), "FUNCTIONS": functions}
+        environment = {**os.environ, "PATH": f"{self.top}:{os.environ['PATH']}", "SAYS": says, "STATUS": str(rt_status)}
         ran = subprocess.run([self.top / ".ci" / "judge"], env=environment, stdout=subprocess.PIPE, stderr=subprocess.PIPE)
         self.assertEqual((ran.returncode, ran.stderr), (status, b""), ran.stdout)
         checks = self.top / "kit" / "bin" / "checks"
@@ -89,35 +88,30 @@ class Bodies(unittest.TestCase):
 
     def test_those_of_functions_of_their_own_are_tried_together(self):
         said, checks = self.judged(0, a=("    1", "    9"), b=("self.two() + 1", "self.two() + 9"))
-        self.assertEqual(checks, ["one three; holes: two"])
+        self.assertEqual(checks, ["one three"])
         self.assertIn("wrong body low/a.edit: refused: low::one: src/lib.rt:1:1: it is not proved that one", said)
         self.assertTrue(said.endswith("\n4 passed, 0 failed\n"), said)
 
     def test_two_of_one_function_take_a_check_each(self):
         said, checks = self.judged(0, a=("one() + 1", "one() + 9"), b=("        one()", "        9 + one()"))
-        self.assertEqual(checks, 2 * ["two; holes: one three"])
+        self.assertEqual(checks, ["two", "two"])
         self.assertTrue(said.endswith("\n4 passed, 0 failed\n"), said)
 
     def test_what_is_refused_for_a_function_that_it_calls_is_tried_alone(self):
         said, checks = self.judged(1, a=("    1", "    9"), b=("one() + 1", "one() + 1 + 0"))
-        self.assertEqual(checks, ["one two; holes: three", "two; holes: one three", "two", "one three two"])
+        self.assertEqual(checks, ["one two", "two", "one three two"])
         self.assertIn("wrong body low/b.edit: NOT REFUSED: the crate is still proved with it\n", said)
         self.assertTrue(said.endswith("\n3 passed, 1 failed\n"), said)
 
     def test_one_outside_of_functions_takes_a_check_of_the_crate_or_names_one(self):
         said, checks = self.judged(0, a=("= 4", "= 9"), b=("u8 = 4", "u8 = 9", "in: PairTwice::three"))
-        self.assertEqual(checks, ["one three two", "three; holes: one two"])
+        self.assertEqual(checks, ["one three two", "three"])
         self.assertIn("wrong body low/a.edit: refused: by a check of the whole crate, for want of a line 'in: FUNCTION'", said)
         self.assertIn("wrong body low/b.edit: refused: low::PairTwice::three: ", said)
 
     def test_one_that_cannot_be_made_fails(self):
         said, _ = self.judged(1, a=("nothing", "9"))
         self.assertIn("wrong body low/a.edit: NOT REFUSED: it can't be made: what it replaces doesn't stand there once: nothing", said)
-
-    def test_where_no_function_is_named_nothing_is_taken_for_granted(self):
-        said, checks = self.judged(0, functions="", a=("    1", "    9"))
-        self.assertEqual(checks, ["one"])
-        self.assertIn("wrong body low/a.edit: refused", said)
 
     def test_the_program_is_put_where_it_is_looked_for(self):
         self.judged(0)

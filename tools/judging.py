@@ -1,4 +1,4 @@
-"""CI's judge over a copy of crates, and beside it their wrong bodies, those of a crate once it is proved."""
+"""CI's judge over a copy of crates, and beside it their wrong bodies: those of a crate as soon as its libraries are proved."""
 import pathlib
 import re
 import threading
@@ -12,8 +12,6 @@ from wrong_bodies import Trial
 
 # The last line of the judge.
 ENDED = re.compile(r"(\d+) passed, (\d+) failed")
-# What it says of each function.
-FUNCTION = re.compile(rb"^fn (\S+): proved$", re.MULTILINE)
 PRINTING = threading.Lock()
 
 
@@ -37,26 +35,24 @@ def say(text: str) -> None:
 
 
 class Trials:
-    """Trials of the wrong bodies in `edits`, a crate a lane, each crate's as soon as all that it stands on is proved, of which
-    `place` gives the folder of each library."""
+    """Trials of the wrong bodies in `edits`, a crate a lane, each crate's as soon as the libraries that it stands on are
+    proved, which are in the folders that `place` gives."""
 
     def __init__(self, edits: Dict[str, List[pathlib.Path]], place: Callable[[str], pathlib.Path]) -> None:
         self.edits, self.place = edits, place
         self.lacking = {it: set(below(it)) for it in edits}
-        self.functions: Dict[str, List[str]] = {}
         self.trials: Dict[str, "Future[Count]"] = {}
         self.lanes = ThreadPoolExecutor(processors())
 
     def tried(self, crate: str) -> Count:
         counts = [Count(0, 0)]
-        built = {name: self.place(name) for name in below(crate)}
-        for it in Trial(crate, self.edits[crate], built, self.functions.get(crate, [])).tried():
+        for it in Trial(crate, self.edits[crate], {name: self.place(name) for name in below(crate)}).tried():
             say(f"wrong body {crate}/{it.edit.name}: {'refused' if it.refused else 'NOT REFUSED'}: {it.said}")
             counts.append(Count(1, 0) if it.refused else Count(0, 1))
         return total(counts)
 
     def begin(self, *crates: str) -> None:
-        """Begins the trials for which these crates were the last that lacked, or that need none."""
+        """Begins the trials for which the libraries of these crates were the last that lacked, or that need none."""
         for it, names in self.lacking.items():
             names.difference_update(crates)
             if not names and it not in self.trials:
@@ -66,31 +62,24 @@ class Trials:
         """What came of the trials, once they have ended. Where a library isn't proved, they fail."""
         untried = {it: names for it, names in self.lacking.items() if it not in self.trials}
         for it, names in untried.items():
-            say(f"{it}: its wrong bodies weren't tried, since not all is proved that they stand on: {' '.join(sorted(names))}")
+            say(f"{it}: its wrong bodies weren't tried, since libraries of its aren't proved: {' '.join(sorted(names))}")
         lost = Count(0, sum(len(self.edits[it]) for it in untried))
         return total([lost, *(it.result() for it in self.trials.values())])
 
 
 class Judging(Trials):
-    """The judge over the crates that are laid out in `room`, and beside it trials over the libraries that it proves. They
-    begin once the crate itself is proved: then its functions are known, and what they call can be taken for granted."""
+    """The judge over the crates that are laid out in `room`, and beside it trials over the libraries that it proves."""
 
     def __init__(self, room: pathlib.Path, edits: Dict[str, List[pathlib.Path]]) -> None:
         super().__init__(edits, lambda crate: room / "crates" / crate / "out" / "rlib")
         self.room = room
-        for it in edits:
-            self.lacking[it].add(it)
 
     def crates(self) -> Count:
         """What the judge says of the crates, which is printed but for its last line."""
         judge, last = Judge(self.room), ""
-        functions: List[str] = []
         for line in judge.lines():
-            functions = [] if line.startswith(b"== ") else functions
-            functions += [it.decode() for it in FUNCTION.findall(line)]
             done = proved(line)
             if done:
-                self.functions[done] = functions
                 self.begin(done)
             if last:
                 say(last)

@@ -2,11 +2,9 @@
 
 An edit turns a function or two. Those that turn functions of their own are laid into one copy of the crate, and of this
 the prover checks these functions and what they call, and no more. A proof stands on the contracts of what its function
-calls, and not on their bodies: so one wrong body can't have another refused. And where it is known which functions the
-crate has, what is called is taken for granted: a hole stands in the place of its proof, which the crate's own check has.
-An edit is refused where the prover refuses a function that it turns, for a reason of that function's own, and not since
-one that it calls isn't proved. Whatever isn't seen to be refused so is tried alone: first by these functions, then without
-holes, then by a check of the whole crate."""
+calls, and not on their bodies: so one wrong body can't have another refused. An edit is refused where the prover refuses
+a function that it turns, for a reason of that function's own, and not since one that it calls isn't proved. Whatever
+isn't seen to be refused so is tried alone: first by these functions, then by a check of the whole crate."""
 import pathlib
 import re
 import shutil
@@ -28,12 +26,6 @@ GOAL = re.compile(r"note: (\S+: it is not proved that .*)")
 ERROR = re.compile(r"(?:\./)?proofs/(\S+)/\w+\.antt:\d+:\d+: error: (.*)")
 # An error of a proof that names what an edit took away.
 NAMES = re.compile(r"has no field|is not in scope|has no `|was not admitted")
-# What stands in the place of a proof that is taken for granted.
-HOLE = """use Rattle.{path}.Statement.{{statement}}
-
-pub {name}_spec : {{M : Type 1}} → statement M
-{name}_spec = ?
-"""
 SEVERAL = re.compile(r"several functions are named `([^`]*)`: help: write one of (.*)")
 
 
@@ -128,14 +120,10 @@ class Tried(NamedTuple):
 
 
 class Trial:
-    """The wrong bodies of one crate, over the libraries that it stands on, each built in the folder that is named of it, and,
-    where they are known, the functions of the crate, as the prover names them."""
+    """The wrong bodies of one crate, over the libraries that it stands on, each built in the folder that is named of it."""
 
-    def __init__(self, crate: str, edits: List[pathlib.Path], built: Dict[str, pathlib.Path], functions: Sequence[str] = ()) -> None:
+    def __init__(self, crate: str, edits: List[pathlib.Path], built: Dict[str, pathlib.Path]) -> None:
         self.crate, self.edits = crate, edits
-        # (but for those that macros and closures stand for)
-        names = (it.split("::") for it in functions)
-        self.functions = [it for it in names if len(it) > 1 and all(part.isidentifier() and part != "fn" for part in it)]
         # (behind the proofs, for which most else waits)
         self.words = ["nice", "-n19", *prover.words("check", crate, built), "--jobs", "1"]
 
@@ -169,18 +157,16 @@ class Trial:
                     turned |= edit.functions
                 except BadEdit:
                     left.append(edit)
-            return these, left, self.checked(pathlib.Path(folder), turned, bool(self.functions))
+            return these, left, self.checked(pathlib.Path(folder), turned)
 
     def alone(self, edit: Edit) -> Tried:
         """Tries one edit, first by its functions, then by a check of the whole crate."""
-        for with_holes in [True, False] if self.functions else [False]:
-            with self.copied() as folder:
-                edit.lay(pathlib.Path(folder))
-                reason = refused(self.checked(pathlib.Path(folder), edit.functions, with_holes), edit.functions)
-                if reason:
-                    return Tried(edit.path, True, reason)
-                if not with_holes:
-                    said = self.ran(pathlib.Path(folder), [])
+        with self.copied() as folder:
+            edit.lay(pathlib.Path(folder))
+            reason = refused(self.checked(pathlib.Path(folder), edit.functions), edit.functions)
+            if reason:
+                return Tried(edit.path, True, reason)
+            said = self.ran(pathlib.Path(folder), [])
         if "\nlogic=not-proved" not in said:
             return Tried(edit.path, False, "the crate is still proved with it" if "\nlogic=proved" in said else f"there is no verdict: {said[-600:]}")
         first = next((it for it in said.split("\n") if ERROR.match(it) or "it is not proved that" in it), "")
@@ -194,26 +180,13 @@ class Trial:
                 shutil.copytree(TOP / "crates" / self.crate / part, pathlib.Path(room.name, part))
         return room
 
-    def grant(self, folder: pathlib.Path, turned: Set[Function]) -> None:
-        """Lays a hole in the place of the proof of each function of a copy but these."""
-        for names in self.functions:
-            if not any(it.fits(names) for it in turned):
-                place = folder.joinpath("proofs", *names[1:])
-                place.mkdir(parents=True, exist_ok=True)
-                for it in ("Answers.antt", "Invariants.antt"):
-                    (place / it).unlink(missing_ok=True)
-                path = ".".join([names[0], "proofs", *names[1:]])
-                (place / "Proof.antt").write_text(HOLE.format(path=path, name=names[-1]), encoding="utf-8")
-
-    def checked(self, folder: pathlib.Path, functions: Set[Function], with_holes: bool) -> str:
+    def checked(self, folder: pathlib.Path, functions: Set[Function]) -> str:
         """What the prover says of these functions of a copy, whose names it may know several functions by."""
         if not functions:
             return ""
-        if with_holes:
-            self.grant(folder, functions)
         names = {it: [f"{it.owner}::{it.name}"] for it in functions}
         while True:
-            said = self.ran(folder, sorted({name for it in names.values() for name in it}), with_holes)
+            said = self.ran(folder, sorted({name for it in names.values() for name in it}))
             several = SEVERAL.search(said)
             if not several:
                 return said
@@ -222,8 +195,8 @@ class Trial:
                 if names[it] == [several[1]]:
                     names[it] = [full for full in known if it.fits(full.split("::"))] or known
 
-    def ran(self, folder: pathlib.Path, only: List[str], with_holes: bool = False) -> str:
-        words = [*self.words, *(["--allow-holes"] if with_holes else []), *(word for it in only for word in ("--only", it))]
+    def ran(self, folder: pathlib.Path, only: List[str]) -> str:
+        words = [*self.words, *(word for it in only for word in ("--only", it))]
         ran = subprocess.run(words, cwd=folder, stdin=subprocess.DEVNULL, stdout=subprocess.PIPE, stderr=subprocess.STDOUT, errors="replace", check=False)
         return ran.stdout
 
