@@ -26,8 +26,8 @@ impl<'a> StoppingFeed<'a> {
 
 impl<'a> Feed for StoppingFeed<'a> {
     ghost seen = { λ d. record (⟦<MemFeed<'a> as Feed>⟧.seen d.bytes) {
-        reads = (⟦<MemFeed<'a> as Feed>⟧.seen d.bytes).reads + (⟦<MemFeed<'a> as Feed>⟧.seen d.failed).reads;
-        failures = (⟦<MemFeed<'a> as Feed>⟧.seen d.failed).reads
+      reads = (⟦<MemFeed<'a> as Feed>⟧.seen d.bytes).reads + (⟦<MemFeed<'a> as Feed>⟧.seen d.failed).reads;
+      failures = (⟦<MemFeed<'a> as Feed>⟧.seen d.failed).reads;
     } };
 
     fn read(&mut self, buf: &mut [u8]) -> Result<usize, Failed> {
@@ -73,9 +73,9 @@ impl StoppingOutlet {
 
 impl Outlet for StoppingOutlet {
     ghost took = { λ d. record {
-        written = (⟦<MemOutlet as Outlet>⟧.took d.taken).written;
-        writes = (⟦<MemOutlet as Outlet>⟧.took d.taken).writes + (⟦<MemOutlet as Outlet>⟧.took d.failed).writes;
-        failures = (⟦<MemOutlet as Outlet>⟧.took d.taken).failures + (⟦<MemOutlet as Outlet>⟧.took d.failed).writes
+      written = (⟦<MemOutlet as Outlet>⟧.took d.taken).written;
+      writes = (⟦<MemOutlet as Outlet>⟧.took d.taken).writes + (⟦<MemOutlet as Outlet>⟧.took d.failed).writes;
+      failures = (⟦<MemOutlet as Outlet>⟧.took d.taken).failures + (⟦<MemOutlet as Outlet>⟧.took d.failed).writes;
     } };
 
     fn write(&mut self, buf: &[u8]) -> Result<usize, Failed> {
