@@ -84,7 +84,9 @@ class Build(unittest.TestCase):
 
     def starts(self, **variables):
         environment = {**os.environ, "PATH": f"{self.top}:{os.environ['PATH']}", "WORDS": str(self.words), "RT_JOBS": "4", **variables}
-        return subprocess.Popen([self.top / "tools" / "build"], env=environment, stdout=subprocess.PIPE, stderr=subprocess.PIPE)
+        # A shell has what it runs in the background ignore SIGINT, which would pass on to the build.
+        ends = lambda: signal.signal(signal.SIGINT, signal.SIG_DFL)
+        return subprocess.Popen([self.top / "tools" / "build"], env=environment, stdout=subprocess.PIPE, stderr=subprocess.PIPE, preexec_fn=ends)
 
     def builds(self, status=0, **variables):
         """Runs it, and returns what it says, and which crates were proved by how many processors."""
