@@ -196,6 +196,13 @@ class Order(unittest.TestCase):
         self.assertEqual(self.turns(4, 1e12, "d", [Turn("c", 4)]), [("c", 4)])
         self.assertEqual(self.turns(4, 1e12, "e", [Turn("b", 4)]), [("b", 4), ("e", 1)])
 
+    def test_one_that_the_row_soon_waits_for_does_not_stand_back(self):
+        work = {"a": 100.0, "b": 100.0, "c": 100.0, "d": 40.0, "e": 5.0}
+        schedule = Schedule({"a": [], "b": ["a"], "d": [], "c": ["b", "d"], "e": []}, work, 4, 1e12)
+        running = [Turn("a", 4)]
+        running += [schedule.next("bcde", running)]
+        self.assertEqual(running[1:] + [schedule.next("bce", running)], [Turn("d", 1, True), Turn("e", 1, True, 19)])
+
     def test_memory_bounds_them_but_one_always_begins(self):
         self.assertEqual(self.turns(4, FIRST + 3 * FURTHER), [("a", 4)])
         self.assertEqual(self.turns(4, FIRST + FURTHER), [("a", 2)])

@@ -17,8 +17,8 @@ WORK = {
     "iso2022jp": 64, "encoders": 68, "codec": 160, "state_memo": 230, "piece_rope": 335, "position_map": 235, "desk": 205, "devices": 40,
     "line_protocol": 255, "connections": 85, "sessions": 90, "serving": 130, "gateway": 115, "index_files": 58, "command_line": 150,
     "gate": 200}
-# How much longer a check takes that stands back behind another.
-BESIDE = 1.6
+# How much longer a check takes beside another, and behind one.
+BESIDE, BEHIND = 1.6, 3.0
 
 
 def say(text: str) -> None:
@@ -56,7 +56,7 @@ class Progress:
 
     def expected(self, turn: Turn) -> float:
         """The seconds that a crate is thought to take, at the pace of last time."""
-        first_time = seconds(self.schedule.work[turn.crate], turn.jobs) * (BESIDE if turn.beside else 1.0)
+        first_time = seconds(self.schedule.work[turn.crate], turn.jobs) * (BEHIND if turn.nice else BESIDE if turn.beside else 1.0)
         return max(1.0, self.last.get(turn.crate, first_time))
 
     def minutes(self) -> str:

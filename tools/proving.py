@@ -45,12 +45,12 @@ class Group:
         os.kill(os.getpid(), signal.SIGSTOP)
         os.killpg(self.guard.pid, signal.SIGCONT)
 
-    def start(self, words: List[str], folder: pathlib.Path, said: IO[bytes], beside: bool) -> "subprocess.Popen[bytes]":
-        """Starts a command, which stands back behind others where it is beside them."""
+    def start(self, words: List[str], folder: pathlib.Path, said: IO[bytes], nice: int) -> "subprocess.Popen[bytes]":
+        """Starts a command, which stands back behind others as far as `nice` says."""
 
         def join() -> None:
             os.setpgid(0, self.guard.pid)
-            os.nice(19 if beside else 0)
+            os.nice(nice)
 
         return subprocess.Popen(words, cwd=folder, stdin=subprocess.DEVNULL, stdout=said, stderr=subprocess.STDOUT, preexec_fn=join)
 
@@ -130,7 +130,7 @@ class Proving:
             if turn is None:
                 return
             said = tempfile.TemporaryFile()
-            process = self.group.start(self.words(turn), self.room / "crates" / turn.crate, said, turn.beside)
+            process = self.group.start(self.words(turn), self.room / "crates" / turn.crate, said, turn.nice)
             self.running[process.pid] = Check(turn, process, said)
             self.left.remove(turn.crate)
             self.progress.begin(turn)

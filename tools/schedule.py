@@ -2,7 +2,8 @@
 
 How long all takes is decided by the longest row of crates that wait for one another. So of this row one crate at a time is
 proved by all processors that a check gains from, and in what it leaves of them, beside it, crates that the row can wait
-for: by one processor each, which costs least, and behind the first where both want one."""
+for: by one processor each, which costs least, and behind the first where both want one, unless the row will soon wait for
+them."""
 import os
 import pathlib
 import re
@@ -12,6 +13,9 @@ from typing import Collection, Dict, List, NamedTuple, Optional
 ALONE, DEARER = 0.18, 0.07
 # The most processors that a check gains from.
 MOST = 4
+# How far a check stands back behind the first of the row that has more time than this many times its work until the row waits
+# for it: what such a check was seen to take where the first has all processors.
+BEHIND, AMPLE = 19, 4.0
 # The memory that is free for a check by one processor, and for each further one: more than any here was seen to take.
 FIRST, FURTHER = 3.2e9, 0.8e9
 # The limit of the control group, and what it holds, in the two versions of Linux.
@@ -21,11 +25,13 @@ GROUPS = (
 
 
 class Turn(NamedTuple):
-    """A crate to be proved now, and by how many processors; `beside` the first of the row, behind which it stands back."""
+    """A crate to be proved now, and by how many processors; whether `beside` the first of the row, and how far it stands back
+    behind that: its `nice`."""
 
     crate: str
     jobs: int
     beside: bool = False
+    nice: int = 0
 
     @property
     def memory(self) -> float:
@@ -88,5 +94,6 @@ class Schedule:
         if len(running) >= self.lanes or room < FIRST:
             return None
         longest = max(self.row[it] for it in waited)
-        spare = (it for it in ready if it not in lone and self.work[it] <= longest - self.row[it])
-        return next((Turn(it, 1, beside=True) for it in spare), None)
+        time = {it: longest - self.row[it] for it in ready if it not in lone}
+        spare = (it for it in time if self.work[it] <= time[it])
+        return next((Turn(it, 1, True, BEHIND if AMPLE * self.work[it] < time[it] else 0) for it in spare), None)
