@@ -7,9 +7,10 @@
         letter.undo(edit)
         pathlib.Path("letter.txt").write_bytes(letter.bytes)
 
-`Gate` sends commands and hands out replies, over a program that it starts, a Unix socket or TCP; `Document` is one
-document with its bytes beside it, so that an edit can be taken back to the byte, and what other clients of a live server
-do to it can be taken in; `Fleet` spreads documents over several servers. docs/PROTOCOL.md says what each command does."""
+`Gate` sends commands and hands out replies, over a program that it starts, a Unix socket or TCP, and where it is asked to
+connects again when a live server has ended and comes again; `Document` is one document with its bytes beside it, so that an
+edit can be taken back to the byte, and what other clients of a live server do to it can be taken in; `Fleet` spreads
+documents over several servers. docs/PROTOCOL.md says what each command does."""
 import base64
 import binascii
 import collections
@@ -17,6 +18,7 @@ import contextlib
 import fcntl
 import functools
 import hashlib
+import itertools
 import json
 import os
 import resource
@@ -26,7 +28,7 @@ import socket
 import subprocess
 import threading
 import time
-from typing import Any, AnyStr, Callable, Deque, Dict, Iterable, Iterator, List, Optional, Sequence, Tuple, Union
+from typing import Any, AnyStr, Callable, Deque, Dict, Iterable, Iterator, List, NamedTuple, Optional, Sequence, Tuple, Union
 
 # What a reply or a refusal says, by the names that docs/PROTOCOL.md has.
 Members = Dict[str, Any]
@@ -34,6 +36,8 @@ Members = Dict[str, Any]
 Pair = Tuple[int, int]
 # Where a program listens: the path of a Unix socket, or a port of 127.0.0.1.
 Place = Union[str, int]
+# The same as the system has it: a path, or a host and a port.
+Address = Union[str, Tuple[str, int]]
 # What writes the front of some bytes, or raises BlockingIOError, and returns how many those were.
 Put = Callable[[memoryview], int]
 # A change: its text alone, for the whole text, or its text and from where to where.
@@ -51,6 +55,12 @@ SET_PIPE_SIZE = getattr(fcntl, "F_SETPIPE_SZ", 1031)
 PAGE = 10_000
 # The fewest bytes that are read at once where `gate` has no memory for more.
 FEWEST = 256
+# What a byte order mark is in UTF-8 and UTF-16.
+MARKS = (b"\xef\xbb\xbf", b"\xfe\xff", b"\xff\xfe")
+# The commands that change nothing, so that they may be asked again where a reply was lost.
+QUESTIONS = frozenset(
+    ("plan", "text", "source", "encode", "errors", "diagnostics", "lines", "position", "offset", "place", "since", "stat")
+)
 
 
 class Fault(Exception):
@@ -72,42 +82,88 @@ class Conflict(Fault):
         self.mine, self.theirs = mine, theirs
 
 
+class Lost(Fault):
+    """The server ended and came again without the document, as one does that keeps no record; or another client closed it
+    meanwhile. The copy has it still, and `Document.reopen` opens it anew."""
+
+    def __init__(self) -> None:
+        super().__init__({"fault": "NoDocument"})
+
+
 class Gone(Exception):
     """`gate` ended, or the connection to it did, before it replied."""
+
+
+class Unsure(Gone):
+    """The same of an edit that may have been made or not, which can't be found out before somebody listens again. Then
+    `Document.find_out` does; until it has, the document takes no edit and doesn't catch up."""
 
 
 class Reply:
     """The reply to a command that was sent."""
 
-    def __init__(self, gate: "Gate") -> None:
-        self._gate = gate
+    def __init__(self, gate: "Gate", begun: Optional[List[bytes]] = None) -> None:
+        """Takes the parts of the command's line up to its `id` where it may be sent again."""
+        self._gate, self._begun = gate, begun
         self._line: Optional[bytes] = None
 
     def get(self) -> Members:
-        """Waits for the reply, and returns its members. Raises `Fault` for a refusal."""
-        if self._line is None:
-            self._gate._wait(self)
-        if not self._line:
-            raise Gone()
-        members: Members = json.loads(self._line)
+        """Waits for the reply, and returns its members. Raises `Fault` for a refusal, and `Gone` where none comes."""
+        members: Members = json.loads(self._came())
         if "fault" in members:
             raise Fault(members)
         return members
+
+    def _came(self) -> bytes:
+        """The reply's line, for which a question is asked again where the connection ended."""
+        if self._line is None:
+            self._gate._wait(self)
+        if not self._line and self._begun is not None:
+            for _ in self._gate._tries():
+                self._gate._give([self], [self._begun])
+                self._gate._wait(self)
+                if self._line:
+                    break
+        if not self._line:
+            raise Gone()
+        return self._line
+
+
+class Ends(NamedTuple):
+    """A connection: the descriptors that are read from and written to, how as much is written as there is room for, what
+    ends the writing, and what ends the rest once all replies are read."""
+
+    reading: int
+    writing: int
+    put: Put
+    finish: Callable[[], None]
+    end: Callable[[], None]
 
 
 class Gate:
     """A connection to `gate`, which threads may share. Replies come in the order of the commands, so the oldest command
     that waits has the next one. Whoever waits for a reply reads those in front of it too, and whoever can't send now
-    reads meanwhile: so sending never blocks for good."""
+    reads meanwhile: so sending never blocks for good.
+
+    Where it was connected with `again`, a connection that ended is made anew by whoever needs it next. A question that had
+    no reply is asked again. A command that changes something isn't sent again, since it may have been done: its reply is
+    `Gone`, and a `Document` finds out, as does whoever sends such commands himself, by the revision."""
 
     def __init__(self, reading: int, writing: int, put: Put, finish: Callable[[], None], end: Callable[[], None]):
-        """Takes two file descriptors, how as much is written as there is room for, what ends the writing, and what ends the
-        rest once all replies are read. Reading waits, so that a reply is one call of the system; writing doesn't."""
-        self._from, self._into, self._put, self._finish, self._end = reading, writing, put, finish, end
+        """Takes what `Ends` has. Reading waits, so that a reply is one call of the system; writing doesn't."""
         self._waiting: Deque[Reply] = collections.deque()
         self._reading, self._sending = threading.Lock(), threading.Lock()
+        self._next = 0
+        # For how many seconds it is tried to connect again, where, and how many connections there were until now.
+        self._again, self._count = 0.0, 0
+        self._address: Address = ""
+        self._begin(Ends(reading, writing, put, finish, end))
+
+    def _begin(self, ends: Ends) -> None:
+        """Goes on over a connection that is new."""
+        self._ends, self._over = ends, False
         self._begun: List[bytes] = []
-        self._next, self._over = 0, False
+        self._count += 1
 
     @classmethod
     def start(cls, *words: Union[str, "os.PathLike[str]"], memory: Optional[int] = None) -> "Gate":
@@ -137,29 +193,48 @@ class Gate:
         host: str = "127.0.0.1",
         patience: float = 10.0,
         path: Union[None, str, "os.PathLike[str]"] = None,
+        again: float = 0.0,
     ) -> "Gate":
         """Connects to a port, as that of `gate tcp`, or to the Unix socket `path` where one is given. `gate` prints nothing
-        when it begins to listen: so it is tried until somebody does."""
-        until = time.monotonic() + patience
-        while True:
+        when it begins to listen: so it is tried until somebody does. Where the connection ends later, it is tried for
+        `again` seconds to make it anew, as to a server that is started again with its record."""
+        address: Address = (host, port) if path is None else os.fspath(path)
+        gate = cls(*_connected(address, patience))
+        gate._address, gate._again = address, again
+        return gate
+
+    def _tries(self) -> Iterator[None]:
+        """So often something is tried for which the connection may end: once, and then for as long as it may come again."""
+        until = time.monotonic() + self._again
+        yield
+        while time.monotonic() < until:
+            yield
+
+    def _renew(self) -> None:
+        """Connects again where the connection is over. Whoever calls it is the one who sends."""
+        if not self._over:
+            return
+        if not self._again:
+            raise Gone()
+        with self._reading:
+            self._drop()
+            self._ends.end()
             try:
-                connection = socket.create_connection((host, port)) if path is None else _connected(path)
-                break
-            except (ConnectionRefusedError, FileNotFoundError):
-                if time.monotonic() > until:
-                    raise
-                time.sleep(0.05)
-        connection.setblocking(True)
+                self._begin(_connected(self._address, self._again))
+            except OSError as fault:
+                raise Gone() from fault
 
-        def finish() -> None:
-            with contextlib.suppress(OSError):
-                connection.shutdown(socket.SHUT_WR)
+    def _drop(self) -> None:
+        """Whoever still waits waits no more."""
+        self._over = True
+        while self._waiting:
+            self._waiting.popleft()._line = b""
 
-        def put(data: memoryview) -> int:
-            # (whether a descriptor waits holds for reading too: so it is said of each writing)
-            return connection.send(data, socket.MSG_DONTWAIT)
-
-        return cls(connection.fileno(), connection.fileno(), put, finish, connection.close)
+    def _connection(self) -> int:
+        """The number of the connection, which is made anew where it is over."""
+        with self._sending:
+            self._renew()
+            return self._count
 
     def _wait(self, reply: Reply) -> None:
         """Reads until this reply has come; of several threads that wait one reads for all."""
@@ -171,13 +246,11 @@ class Gate:
     def _read(self) -> None:
         """Reads once, and hands out the replies that are complete; where nothing can come any more, empty ones."""
         try:
-            piece = os.read(self._from, READ)
+            piece = os.read(self._ends.reading, READ)
         except ConnectionError:
             piece = b""
         if not piece:
-            self._over = True
-            while self._waiting:
-                self._waiting.popleft()._line = b""
+            self._drop()
         rest, *others = piece.split(b"\n")
         self._begun.append(rest)
         for rest in others:
@@ -188,37 +261,47 @@ class Gate:
         left = memoryview(line)
         while left:
             try:
-                left = left[self._put(left) :]
+                left = left[self._ends.put(left) :]
             except BlockingIOError:
                 # Perhaps the other side can't go on before its replies are read; another thread may be at it.
                 if self._reading.acquire(blocking=False):
                     try:
-                        if _ready(self._from, self._into):
+                        if _ready(self._ends.reading, self._ends.writing):
                             self._read()
                     finally:
                         self._reading.release()
                 else:
-                    _ready(None, self._into, 10)
+                    _ready(None, self._ends.writing, 10)
 
     def send(self, op: str, **fields: Any) -> Reply:
         """Sends a command, and returns its `Reply` without waiting for it. A field that is bytes is sent as base64."""
-        return self._send([_begun(op, fields)])[0]
+        return self._send([_begun(op, fields)], again=op in QUESTIONS)[0]
 
     def send_all(self, op: str, field: str, values: Sequence[int], **fields: Any) -> List[Reply]:
         """Sends commands that differ in one whole number, that of a field, and returns their replies. All are written at
         once, so they are commands with short replies, and no more than `WINDOW`."""
         begun, name = _begun(op, fields), json.dumps(field).encode()
-        return self._send([[*begun, b",%b:%d" % (name, it)] for it in values])
+        return self._send([[*begun, b",%b:%d" % (name, it)] for it in values], again=op in QUESTIONS)
 
-    def _send(self, lines: Sequence[List[bytes]]) -> List[Reply]:
-        """Sends commands, each by the parts of its line up to its `id`."""
-        replies = [Reply(self) for _ in lines]
+    def _send(self, lines: Sequence[List[bytes]], again: bool = False, on: Optional[int] = None) -> List[Reply]:
+        """Sends commands, each by the parts of its line up to its `id`, which are sent `again` where a reply is lost. Raises
+        `Gone` where none was sent, as where a connection was meant whose number is `on` and which is over."""
+        replies = [Reply(self, it if again and self._again else None) for it in lines]
+        self._give(replies, lines, on)
+        return replies
+
+    def _give(self, replies: List[Reply], lines: Sequence[List[bytes]], on: Optional[int] = None) -> None:
+        """Sends commands for these replies."""
         with self._sending:
             while self._waiting and len(self._waiting) + len(lines) > WINDOW:
                 with contextlib.suppress(IndexError):
                     self._wait(self._waiting[0])
-            if self._over:
+            if on is None:
+                self._renew()
+            elif self._over or on != self._count:
                 raise Gone()
+            for it in replies:
+                it._line = None
             parts: List[bytes] = []
             for begun in lines:
                 parts += [*begun, b',"id":%d}\n' % self._next]
@@ -228,7 +311,6 @@ class Gate:
             with contextlib.suppress(ConnectionError):
                 for part in _together(parts):
                     self._write(part)
-        return replies
 
     def send_open(self, name: str, label: str, content: bytes, bom: str = "sniff", room: int = ROOM) -> List[Reply]:
         """Sends what opens a document, by parts where a line hasn't room for it, and returns the reply to each part."""
@@ -261,11 +343,12 @@ class Gate:
     def close(self) -> None:
         """Ends the connection, and a program that was started for it."""
         with self._sending:
-            self._finish()
+            self._again = 0.0
+            self._ends.finish()
         with self._reading:
             while not self._over:
                 self._read()
-        self._end()
+        self._ends.end()
 
     def __enter__(self) -> "Gate":
         return self
@@ -299,6 +382,16 @@ class Edit:
         return None if at is None else Edit(at, self.old, self.new)
 
 
+class View(NamedTuple):
+    """A document as one revision has it on the connection of a number: what `stat` says, its bytes, and what `since` says of
+    each revision that was asked about, or None."""
+
+    on: int
+    stat: Members
+    content: bytes
+    since: List[Optional[Members]]
+
+
 class Document:
     """A document of `gate`: its bytes, revision, encoding in force and the length of its byte order mark, which is 0
     where a mark is kept as text, as they were when this client last edited it or caught up.
@@ -308,46 +401,138 @@ class Document:
     replaces: so it is right in every encoding, also where an edit changes how the bytes behind it are decoded.
 
     Questions are answered of the document as it is now. Once an answer was of another revision than the copy, nobody knows
-    of which of the two the places of an edit are, and it is refused as `Stale`: so catch up, and ask then."""
+    of which of the two the places of an edit are, and it is refused as `Stale`: so catch up, and ask then.
+
+    Where the connection was made `again`, the document is compared with the copy before the next edit, or as it catches up;
+    what came since is taken in as ever, and a document that isn't the copy's any more is read anew. An edit names the
+    revision that it is of, so one whose reply was lost has become the next revision or none: which of the two is found out
+    by what came since and its bytes, and then it is made, once. (An edit of another client that does the same to the byte
+    can't be told from it, and is taken for it.) A document that isn't there any more is `Lost`."""
 
     # What is called with each edit of others as the copy takes it in, by `catch_up` or before an edit that moves: what keeps
     # edits of its own, to undo them, has it move them.
     listener: Optional[Callable[[Edit], None]] = None
 
+    # What an edit would do to the copy of which it isn't known whether it was made.
+    _unsure: Optional[Callable[[], Edit]] = None
+
     def __init__(self, gate: Gate, name: str, label: str, content: bytes, bom: str = "sniff", room: int = ROOM):
         self._gate, self.name, self.bytes = gate, name, content
-        for reply in gate.send_open(name, label, content, bom, room):
-            self._take(reply.get())
+        self._label, self._bom = label, bom
+        self._open(room)
+
+    def _open(self, room: int) -> None:
+        """Opens it of the copy's bytes. Where a reply is lost, what is there under the name may be what was sent before."""
+        gone: Optional[Gone] = None
+        for _ in self._gate._tries():
+            # The number of the connection on which the document is known to be the copy's.
+            self._on = self._gate._connection()
+            parts = _opening(self.name, self._label, self.bytes, self._bom, room)
+            try:
+                have = self._begin(next(parts), room, gone is not None)
+                for reply in [self._gate._send([it], on=self._on)[0] for it in itertools.islice(parts, have - 1, None)]:
+                    self._take(reply.get())
+                return
+            except Gone as fault:
+                gone = fault
+        raise gone or Gone()
+
+    def _begin(self, line: List[bytes], room: int, again: bool) -> int:
+        """Sends what opens the document, perhaps again, and returns how many parts of it are there then."""
+        try:
+            self._take(self._gate._send([line], on=self._on)[0].get())
+            return 1
+        except Fault as fault:
+            if not again or fault.name != "NameTaken":
+                raise
+            return self._parts_there(fault, room)
+
+    def _parts_there(self, taken: Fault, room: int) -> int:
+        """How many parts of the copy the document has that is there. Raises that its name is taken where it didn't begin as
+        the copy does, or in another encoding."""
+        count = _count(self.bytes, room)
+        view = self._view(count - 1)
+        have: int = min(view.stat["rev"] + 1, count)
+        since = view.since[0]
+        if have < count:
+            is_ours = view.content == self.bytes[: have * room]
+        else:
+            is_ours = since is not None and view.content == _patched(self.bytes, since, view.content)
+        if not is_ours or self._beside(b"", [], taken)[0]["encoding"] != view.stat["given"]:
+            raise taken
+        self._take(view.stat)
+        if have == count:
+            self.bytes = view.content
+        return have
 
     @classmethod
     def join(cls, gate: Gate, name: str) -> "Document":
         """A document that is open, as another client has left it."""
         document = cls.__new__(cls)
-        document._gate, document.name = gate, name
+        document._gate, document.name, document.bytes = gate, name, b""
+        document._on, document._bom = gate._connection(), "sniff"
         document.refresh()
         return document
 
+    def reopen(self, room: int = ROOM) -> None:
+        """Opens the document anew, of the copy's bytes, where it is `Lost`. It is another document then, at revision 0, or at
+        one more for each further part that a line has room for. Where another client was first, `NameTaken` is raised:
+        `catch_up` then reads what that one has."""
+        self._open(room)
+        self._unsure = None
+
     def refresh(self) -> None:
         """Takes the document as it is now, by all of its bytes. Edits from before can't be undone then."""
+        view = self._view()
+        self._take(view.stat)
+        self.bytes, self._on, self._unsure = view.content, view.on, None
+        self._label = view.stat["given"]
+        if view.content.startswith(MARKS):
+            self._bom = "sniff" if self.bom else "keep"
+
+    def _view(self, *revs: int) -> View:
+        """The document as one revision has it on one connection. All is asked by one write, so that others seldom come in
+        between."""
+        count = self._asked("stat")["bytes"]
         while True:
-            found = self._gate.ask("stat", doc=self.name)
-            try:
-                content, rev = self._source(0, found["bytes"])
-            except Fault as fault:
-                # (it was made shorter in between)
-                if fault.name != "OutOfRange":
-                    raise
-                continue
-            if rev == found["rev"]:
-                self._take(found)
-                self.bytes = content
-                return
+            on = self._gate._count
+            asked: List[Tuple[str, Members]] = [("since", {"rev": it}) for it in revs]
+            asked += [("source", {"at": 0, "len": count}), ("stat", {})]
+            replies = self._gate._send([_begun(op, {"doc": self.name, **fields}) for op, fields in asked], again=True)
+            stat = self._unless(replies.pop())
+            source = self._unless(replies.pop(), "OutOfRange", "OutOfMemory")
+            since = [self._unless(it, "OutOfRange", "Forgotten") for it in replies]
+            assert stat
+            if source or stat["bytes"] != count:
+                content, rev = base64.b64decode(source["bytes"]) if source else b"", stat["rev"]
+            else:
+                content, rev = self._source(0, count)
+            seen = {it["rev"] for it in [*since, source, stat] if it} | {rev}
+            if len(seen) == 1 and len(content) == stat["bytes"] and on == self._gate._count:
+                return View(on, stat, content, since)
+            count = stat["bytes"]
+
+    def _unless(self, reply: Reply, *names: str) -> Optional[Members]:
+        """The members of a reply; none where it is a refusal of one of these names."""
+        try:
+            return reply.get()
+        except Fault as fault:
+            if fault.name not in names:
+                raise self._told(fault) from None
+            return None
+
+    def _told(self, fault: Fault) -> Fault:
+        """A refusal, or that the document is lost."""
+        return Lost() if fault.name == "NoDocument" and self._on != self._gate._count else fault
 
     def catch_up(self) -> List[Edit]:
         """Takes in what was done since this copy's revision, and returns it as edits of the copy: none, or one from the first
         byte that was edited to the last. Where more was done than `gate` keeps, or the document was closed and another
         opened under its name, the copy is read anew, and the edit is `anew`. Another document is known by a revision that
-        is lower, or by a length to which the edit doesn't lead; where neither tells, it isn't known."""
+        is lower, or by a length to which the edit doesn't lead; where neither tells, it isn't known, unless the server
+        came again in between: then all bytes are compared."""
+        if self._unsure:
+            raise Unsure()
         edits = self._caught_up()
         for edit in edits:
             if self.listener:
@@ -355,10 +540,10 @@ class Document:
         return edits
 
     def _caught_up(self) -> List[Edit]:
-        while True:
+        while self._on == self._gate._connection():
             try:
-                found = self._gate.ask("since", doc=self.name, rev=self.rev)
-                if found["rev"] == self.rev:
+                found = self._asked("since", rev=self.rev)
+                if found["rev"] == self.rev and self._on == self._gate._count:
                     self._ahead = False
                     return []
                 stat = self._gate.send("stat", doc=self.name)
@@ -368,16 +553,29 @@ class Document:
                 if fault.name == "Forgotten":
                     return [self._anew()]
                 if fault.name != "OutOfRange":
-                    raise
-                if self._gate.ask("stat", doc=self.name)["rev"] < self.rev:
+                    raise self._told(fault) from None
+                if self._asked("stat")["rev"] < self.rev:
                     return [self._anew()]
                 # (it was made shorter in between)
                 continue
-            if found["rev"] == rev == now["rev"]:
+            if found["rev"] == rev == now["rev"] and self._on == self._gate._count:
                 if len(self.bytes) - found["del"] + found["ins"] != now["bytes"]:
                     return [self._anew()]
                 self._take(now)
                 return [self._put(found["at"], found["del"], new)]
+        return self._caught_up_again()
+
+    def _caught_up_again(self) -> List[Edit]:
+        """The same on another connection than before: all bytes are compared."""
+        view = self._view(self.rev)
+        since = view.since[0]
+        if since is None or view.content != _patched(self.bytes, since, view.content):
+            return [self._anew()]
+        is_moved = view.stat["rev"] != self.rev
+        self._take(view.stat)
+        self._on = view.on
+        end = since["at"] + since["ins"]
+        return [self._put(since["at"], since["del"], view.content[since["at"] : end])] if is_moved else []
 
     def _anew(self) -> Edit:
         """Reads the copy anew, and returns what differs."""
@@ -394,7 +592,13 @@ class Document:
 
     def _ask(self, op: str, **fields: Any) -> Members:
         """The answer to a question of someone who may go by it."""
-        return self._answer(self._gate.ask(op, doc=self.name, **fields))
+        return self._answer(self._asked(op, **fields))
+
+    def _asked(self, op: str, **fields: Any) -> Members:
+        try:
+            return self._gate.ask(op, doc=self.name, **fields)
+        except Fault as fault:
+            raise self._told(fault) from None
 
     def _answer(self, reply: Members) -> Members:
         self._ahead = self._ahead or reply["rev"] != self.rev
@@ -402,8 +606,71 @@ class Document:
 
     def _put(self, at: int, count: int, new: bytes) -> Edit:
         edit = Edit(at, self.bytes[at : at + count], new)
-        self.bytes = self.bytes[:at] + new + self.bytes[at + count :]
+        self.bytes = _spliced(self.bytes, at, count, new)
         return edit
+
+    def _made(
+        self, op: str, fields: Members, meant: Callable[[], Edit], ahead: Sequence[List[bytes]] = ()
+    ) -> Union[Edit, Tuple[Members, List[Reply]]]:
+        """Makes an edit of this copy's revision, which is `meant` to do that, behind other commands: its reply and theirs.
+        Where the reply is lost, and the edit found to be made, the copy has it, and it is returned; else it is sent again."""
+        if self._unsure:
+            raise Unsure()
+        lines = [*ahead, _begun(op, {"doc": self.name, "rev": self.rev, **fields})]
+        for _ in self._gate._tries():
+            self._meet()
+            try:
+                replies = self._gate._send(lines, on=self._on)
+            except Gone:
+                # (nothing was sent)
+                continue
+            try:
+                return replies.pop().get(), replies
+            except Gone:
+                if not self._gate._again:
+                    raise
+                self._unsure = meant
+            found = self.find_out()
+            if found:
+                return found
+        raise Gone()
+
+    def _meet(self) -> None:
+        """Looks whether the document is as the copy is where the server came again; else what comes is `Stale`."""
+        if self._on == self._gate._connection():
+            return
+        view = self._view(self.rev)
+        if (view.stat["rev"], view.content) != (self.rev, self.bytes):
+            raise Fault({"fault": "Stale", "rev": view.stat["rev"]})
+        self._on = view.on
+
+    def find_out(self) -> Optional[Edit]:
+        """Finds out whether an edit was made that was `Unsure`, once somebody listens again: then the copy has it, at the
+        revision that it made, and it is returned. None where it wasn't made: it may then be made again."""
+        meant, mine = self._unsure, None
+        if meant is None:
+            return None
+        try:
+            view = self._view(self.rev, self.rev + 1)
+            mine = _unless_refused(meant) if view.stat["rev"] > self.rev else None
+            if mine and _is_first(self.bytes, mine, self.rev, view):
+                self._make(mine, view)
+            else:
+                mine = None
+        except Lost:
+            self._unsure = None
+            raise
+        except (Gone, Fault) as fault:
+            raise Unsure() from fault
+        self._unsure = None
+        return mine
+
+    def _make(self, mine: Edit, view: View) -> None:
+        """Takes in an edit that was found to be made, and no other behind it."""
+        content = _spliced(self.bytes, mine.at, len(mine.old), mine.new)
+        opened = view.stat if view.content == content else self._beside(content, [], Unsure())[0]
+        self._take({**opened, "rev": self.rev + 1})
+        self.bytes, self._on = content, view.on
 
     def splice(self, at: int, count: int, new: bytes) -> Edit:
         """Replaces `count` bytes from `at` on, and returns the edit. Where others were first, catches up, and replaces these
@@ -411,7 +678,10 @@ class Document:
         mine = Edit(at, self.bytes[at : at + count], new)
         while True:
             try:
-                self._take(self._gate.ask("splice", doc=self.name, rev=self.rev, at=mine.at, bytes=new, **{"del": count}))
+                made = self._made("splice", {"at": mine.at, "del": count, "bytes": new}, lambda: mine)
+                if isinstance(made, Edit):
+                    return made
+                self._take(made[0])
                 return self._put(mine.at, count, new)
             except Fault as fault:
                 mine, _ = self._moved(mine, fault)
@@ -444,39 +714,69 @@ class Document:
 
     def _change(self, change: Members, unit: str) -> Edit:
         """Makes a change of this copy's revision."""
-        fields = {"doc": self.name, "unit": unit, **change}
-        plan = self._gate.send("plan", **fields)
-        made = self._gate.ask("change", rev=self.rev, **fields)
+        fields = {"unit": unit, **change}
+        plan = _begun("plan", {"doc": self.name, **fields})
+        made = self._made("change", fields, lambda: self._would_change(fields), [plan])
+        if isinstance(made, Edit):
+            return made
         try:
-            reply = plan.get()
+            reply = made[1][0].get()
         except Fault:
             # (there was no memory for the plan, and the change is made all the same)
             return self._caught_up()[0]
-        self._take(made)
+        self._take(made[0])
         return self._put(reply["at"], reply["del"], base64.b64decode(reply["bytes"]))
+
+    def _would_change(self, fields: Members) -> Edit:
+        """What a change would do to this copy. Raises the refusal where there would be one."""
+        plan = self._beside(self.bytes, [("plan", fields)], Unsure())[1]
+        if not plan["kept"]:
+            raise Fault({"fault": "NotKept"})
+        return _planned(plan)
+
+    def _would_list(self, fields: Members) -> Edit:
+        """The same of a list of changes."""
+        rev = _count(self.bytes, ROOM) - 1
+        asked = [("changes", {"rev": rev, **fields}), ("since", {"rev": rev})]
+        found = self._beside(self.bytes, asked, Unsure())[2]
+        at, count = found["at"], found["ins"]
+        source = self._beside(self.bytes, [*asked, ("source", {"at": at, "len": count})], Unsure())[3]
+        return Edit(at, self.bytes[at : at + found["del"]], base64.b64decode(source["bytes"]))
 
     def _meant(self, stale: Fault, text: str, start: Pair, end: Pair, unit: str) -> Tuple[Edit, str]:
         """What a change would have done to this copy's bytes, and the text that it would have replaced."""
         asked: List[Tuple[str, Members]] = [("plan", _change(text, start, end)), ("offset", _position(start)), ("offset", _position(end))]
-        plan, first, last = self._before(stale, [(op, {"unit": unit, **fields}) for op, fields in asked])
+        _, plan, first, last = self._beside(self.bytes, [(op, {"unit": unit, **fields}) for op, fields in asked], stale)
         where = {"from": first["offset"], "to": last["offset"]}
-        replaced = "" if where["from"] == where["to"] else self._before(stale, [("text", where)])[0]["text"]
+        replaced = "" if where["from"] == where["to"] else self._beside(self.bytes, [("text", where)], stale)[1]["text"]
         return _planned(plan), replaced
 
-    def _before(self, stale: Fault, asked: Sequence[Tuple[str, Members]]) -> List[Members]:
-        """Answers of this copy's revision, by a document of its bytes. It is opened, asked and closed by one write: a client
-        would have to be killed just then to leave it open."""
-        name, bom = secrets.token_hex(16), "sniff" if self.bom else "keep"
-        opening = list(_opening(name, self.encoding, self.bytes, bom, ROOM))
+    def _beside(self, content: bytes, asked: Sequence[Tuple[str, Members]], refused: Exception) -> List[Members]:
+        """The reply to the opening of a document of these bytes beside this one, and answers of it. It is opened, asked and
+        closed by one write: a client would have to be killed just then to leave it open, and where the server is, it is
+        closed once that comes again. Raises that it is `refused` where there is no room for one document more."""
+        name = secrets.token_hex(16)
+        opening = list(_opening(name, self._label, content, self._bom, ROOM))
         lines = [*opening, *(_begun(op, {"doc": name, **fields}) for op, fields in asked), _begun("close", {"doc": name})]
-        replies = self._gate._send(lines)
-        try:
-            for it in replies[: len(opening)]:
-                it.get()
-        except Fault:
-            # (there is no room for one document more)
-            raise stale from None
-        return [it.get() for it in replies[len(opening) : -1]]
+        gone: Optional[Gone] = None
+        for _ in self._gate._tries():
+            try:
+                if gone:
+                    with contextlib.suppress(Fault):
+                        self._gate.ask("close", doc=name)
+                replies = self._gate._send(lines)
+                # (where it is closed, all replies in front of that have come)
+                with contextlib.suppress(Fault):
+                    replies.pop().get()
+            except Gone as fault:
+                gone = fault
+                continue
+            try:
+                opened = [it.get() for it in replies[: len(opening)]]
+            except Fault:
+                raise refused from None
+            return [opened[-1], *(it.get() for it in replies[len(opening) :])]
+        raise gone or Gone()
 
     def _moved(self, mine: Edit, fault: Fault) -> Tuple[Edit, Edit]:
         """An edit that was refused because others were first, where it is now, and what they did. Raises all other refusals."""
@@ -506,7 +806,7 @@ class Document:
             replies = list(self._gate.ask_all(op, field, values, doc=self.name, **fields))
         except Fault as fault:
             # (it was made shorter in between)
-            replies = [self._gate.ask("stat", doc=self.name)]
+            replies = [self._asked("stat")]
             if fault.name != "OutOfRange" or replies[0]["rev"] == self.rev:
                 raise
         for it in replies:
@@ -523,8 +823,9 @@ class Document:
         """Makes changes in one command, as an editor lists them, or none of them: each is what `change` takes, and its
         positions are those of the text that the ones before it leave. Returns one edit, of all bytes between the first
         that was edited and the last, also of those that others edited right behind it. Where they were first, it is `Stale`."""
-        self._gate.ask("changes", doc=self.name, rev=self.rev, unit=unit, changes=[_change(*it) for it in listed])
-        return self._caught_up()[0]
+        fields = {"unit": unit, "changes": [_change(*it) for it in listed]}
+        made = self._made("changes", fields, lambda: self._would_list(fields))
+        return made if isinstance(made, Edit) else self._caught_up()[0]
 
     def undo(self, edit: Edit) -> Edit:
         """Takes an edit back, by the bytes that were there: their text, put in again, may have others. It is the last one of
@@ -568,7 +869,7 @@ class Document:
         have, rev, most = 0, None, count
         while True:
             try:
-                reply = self._gate.ask("source", doc=self.name, at=at + have, len=min(most, count - have))
+                reply = self._asked("source", at=at + have, len=min(most, count - have))
             except Fault as fault:
                 if fault.name != "OutOfMemory" or most <= FEWEST:
                     raise
@@ -642,16 +943,31 @@ class Document:
         return next(self.spans([(begin, end)]))
 
     def close(self) -> None:
-        """Closes the document."""
-        self._gate.ask("close", doc=self.name)
+        """Closes the document. Where the reply is lost and it isn't there any more, it is closed."""
+        gone: Optional[Gone] = None
+        for _ in self._gate._tries():
+            try:
+                self._gate.ask("close", doc=self.name)
+                return
+            except Gone as fault:
+                gone = fault
+            except Fault as fault:
+                if not gone or fault.name != "NoDocument":
+                    raise
+                return
+        raise gone or Gone()
 
     def __enter__(self) -> "Document":
         return self
 
     def __exit__(self, *_: Any) -> None:
-        # (the reply is read with a later one)
         with contextlib.suppress(Gone):
-            self._gate.send("close", doc=self.name)
+            if self._gate._again:
+                with contextlib.suppress(Fault):
+                    self.close()
+            else:
+                # (the reply is read with a later one)
+                self._gate.send("close", doc=self.name)
 
 
 class Fleet:
@@ -659,8 +975,8 @@ class Fleet:
     own processor. All clients that know the same places find a document at the same one. With a place more, one document
     in so many moves, and all of these to it; with a place less those that were there move, and no other."""
 
-    def __init__(self, places: Sequence[Place], patience: float = 10.0):
-        self.places, self._patience = list(places), patience
+    def __init__(self, places: Sequence[Place], patience: float = 10.0, again: float = 0.0):
+        self.places, self._patience, self._again = list(places), patience, again
         self._gates: Dict[Place, Gate] = {}
 
     def place_of(self, name: str) -> Place:
@@ -672,7 +988,7 @@ class Fleet:
         place = self.place_of(name)
         if place not in self._gates:
             where: Dict[str, Any] = {"port": place} if isinstance(place, int) else {"path": place}
-            self._gates[place] = Gate.connect(patience=self._patience, **where)
+            self._gates[place] = Gate.connect(patience=self._patience, again=self._again, **where)
         return self._gates[place]
 
     def open(self, name: str, label: str, content: bytes, bom: str = "sniff") -> Document:
@@ -711,14 +1027,38 @@ def _bound(memory: int) -> Callable[[], None]:
     return functools.partial(resource.setrlimit, resource.RLIMIT_AS, (most, most))
 
 
-def _connected(path: Union[str, "os.PathLike[str]"]) -> socket.socket:
+def _at_path(path: str) -> socket.socket:
     connection = socket.socket(socket.AF_UNIX)
     try:
-        connection.connect(os.fspath(path))
+        connection.connect(path)
     except OSError:
         connection.close()
         raise
     return connection
+
+
+def _connected(address: Address, patience: float) -> Ends:
+    """A connection to who listens there, for whom it waits for so many seconds."""
+    until = time.monotonic() + patience
+    while True:
+        try:
+            connection = _at_path(address) if isinstance(address, str) else socket.create_connection(address)
+            break
+        except (ConnectionRefusedError, FileNotFoundError):
+            if time.monotonic() > until:
+                raise
+            time.sleep(0.05)
+    connection.setblocking(True)
+
+    def finish() -> None:
+        with contextlib.suppress(OSError):
+            connection.shutdown(socket.SHUT_WR)
+
+    def put(data: memoryview) -> int:
+        # (whether a descriptor waits holds for reading too: so it is said of each writing)
+        return connection.send(data, socket.MSG_DONTWAIT)
+
+    return Ends(connection.fileno(), connection.fileno(), put, finish, connection.close)
 
 
 def _begun(op: str, fields: Members) -> List[bytes]:
@@ -753,11 +1093,9 @@ def _together(parts: Sequence[bytes]) -> Iterator[bytes]:
 
 def _all_members(replies: Sequence[Reply]) -> List[Members]:
     """The members of replies, one or more, read as one text, which takes far less time than each alone."""
-    gate = replies[0]._gate
-    gate._wait(replies[-1])
-    if not replies[-1]._line:
-        raise Gone()
-    found: List[Members] = json.loads(b"[%b]" % b",".join(it._line or b"" for it in replies))
+    replies[-1]._came()
+    # (where those in front of it were lost, they are asked again)
+    found: List[Members] = json.loads(b"[%b]" % b",".join(it._line or it._came() for it in replies))
     for it in found:
         if "fault" in it:
             raise Fault(it)
@@ -794,6 +1132,46 @@ def _change(text: str, start: Optional[Pair] = None, end: Optional[Pair] = None)
 def _planned(reply: Members) -> Edit:
     """The edit that a plan says."""
     return Edit(reply["at"], base64.b64decode(reply["old"]), base64.b64decode(reply["bytes"]))
+
+
+def _count(content: bytes, room: int) -> int:
+    """By how many parts bytes are sent of which a line has room for so many."""
+    return max(-(-len(content) // room), 1)
+
+
+def _spliced(content: bytes, at: int, count: int, new: bytes) -> bytes:
+    return content[:at] + new + content[at + count :]
+
+
+def _patched(content: bytes, since: Members, now: bytes) -> bytes:
+    """Bytes from before, with what came since taken from those now."""
+    at = since["at"]
+    return _spliced(content, at, since["del"], now[at : at + since["ins"]])
+
+
+def _unless_refused(meant: Callable[[], Edit]) -> Optional[Edit]:
+    """What an edit would do, or none where it would be refused; but not for want of memory."""
+    try:
+        return meant()
+    except Fault as fault:
+        if fault.name == "OutOfMemory":
+            raise
+        return None
+
+
+def _is_first(content: bytes, mine: Edit, rev: int, view: View) -> bool:
+    """Whether an edit of a revision, which had these bytes, made the next one, by what came since both. Where others came
+    behind it, what all of them left as it was is the least of what each did, at the front and at the end."""
+    made = _spliced(content, mine.at, len(mine.old), mine.new)
+    first, behind = view.since
+    if view.stat["rev"] == rev + 1:
+        is_told = first is None or (first["at"], first["del"], first["ins"]) == (mine.at, len(mine.old), len(mine.new))
+        return is_told and view.content == made
+    if first is None or behind is None or view.content != _patched(made, behind, view.content):
+        return False
+    rest = min(len(content) - mine.at - len(mine.old), len(made) - behind["at"] - behind["del"])
+    front: int = min(mine.at, behind["at"])
+    return (first["at"], first["del"]) == (front, len(content) - rest - front)
 
 
 def difference(old: AnyStr, new: AnyStr) -> Tuple[int, int, AnyStr]:

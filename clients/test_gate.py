@@ -52,7 +52,7 @@ class Documents(unittest.TestCase):
         self.assertEqual(document.bytes, document.source())
 
     def test_without_memory_for_a_reply_bytes_are_read_by_parts(self):
-        content, ask, edits = bytes(range(256)) * 8, self.gate.ask, [b"x"]
+        content, ask, send, edits = bytes(range(256)) * 8, self.gate.ask, self.gate._send, [b"x"]
         document, other = self.gate.open("d", "utf-8", content), self.gate.join("d")
 
         def asked(op, **fields):
@@ -62,20 +62,24 @@ class Documents(unittest.TestCase):
                 other.splice(0, 1, edits.pop())
             return ask(op, **fields)
 
+        def sent(lines, **how):
+            return send([[it[0].replace(b'"len": 2048', b'"len": 9999'), *it[1:]] for it in lines], **how)
+
         with mock.patch.object(self.gate, "ask", asked):
             self.assertEqual(document.source(), b"x" + content[1:])
             with mock.patch("gate.FEWEST", 2000):
                 self.assertRaisesRegex(Fault, "OutOfMemory", document.source)
-            document.refresh()
+            with mock.patch.object(self.gate, "_send", sent):
+                document.refresh()
         self.assertEqual((document.bytes, document.rev), (b"x" + content[1:], 1))
 
     def test_a_change_whose_plan_is_refused_is_made(self):
-        document, send = self.gate.open("d", "utf-8", b"a\xffb"), self.gate.send
+        document, send = self.gate.open("d", "utf-8", b"a\xffb"), self.gate._send
 
-        def sent(op, **fields):
-            return send(op, **({**fields, "doc": "none"} if op == "plan" else fields))
+        def sent(lines, **how):
+            return send([[it[0].replace(b'"plan", "doc": "d"', b'"plan", "doc": "n"'), *it[1:]] for it in lines], **how)
 
-        with mock.patch.object(self.gate, "send", sent):
+        with mock.patch.object(self.gate, "_send", sent):
             edit = document.change("xy", (0, 1), (0, 2))
         self.assertEqual((edit.at, edit.old, edit.new, document.bytes, document.source()), (1, b"\xff", b"xy", b"axyb", b"axyb"))
 

@@ -356,11 +356,11 @@ class Together(unittest.TestCase):
             both.mine.splice(2, 0, b"X")
             send, left = both.other._send, [number]
 
-            def sent(lines: Any) -> Any:
+            def sent(lines: Any, **how: Any) -> Any:
                 if left[0] == 0:
                     both.mine.splice(0, 1, new)
                 left[0] -= 1
-                return send(lines)
+                return send(lines, **how)
 
             with mock.patch.object(both.other, "_send", sent):
                 call(both.yours)
