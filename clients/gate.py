@@ -75,11 +75,12 @@ class Fault(Exception):
 class Conflict(Fault):
     """An edit that was `Stale` and isn't moved: `mine` is what was asked for, and `theirs` what other clients did in between,
     which the copy has now; both are edits of the bytes that it had. They meet the same bytes, or the text that was to be
-    replaced is another since, or `theirs` is `anew`."""
+    replaced is another since, or `theirs` is `anew`. Where it is `unsure`, the reply to `mine` was lost, and it may have been
+    made in front of what others did to the same bytes, as a part of `theirs`."""
 
-    def __init__(self, rev: int, mine: "Edit", theirs: "Edit"):
+    def __init__(self, rev: int, mine: "Edit", theirs: "Edit", unsure: bool = False):
         super().__init__({"fault": "Stale", "rev": rev})
-        self.mine, self.theirs = mine, theirs
+        self.mine, self.theirs, self.unsure = mine, theirs, unsure
 
 
 class Lost(Fault):
@@ -406,8 +407,9 @@ class Document:
     Where the connection was made `again`, the document is compared with the copy before the next edit, or as it catches up;
     what came since is taken in as ever, and a document that isn't the copy's any more is read anew. An edit names the
     revision that it is of, so one whose reply was lost has become the next revision or none: which of the two is found out
-    by what came since and its bytes, and then it is made, once. (An edit of another client that does the same to the byte
-    can't be told from it, and is taken for it.) A document that isn't there any more is `Lost`."""
+    by what came since and its bytes, and then it is made, once. Where others edited its bytes since, nobody can tell, and it
+    is a `Conflict`. (An edit of another client that does the same to the byte is taken for it.) A document that isn't there
+    any more is `Lost`."""
 
     # What is called with each edit of others as the copy takes it in, by `catch_up` or before an edit that moves: what keeps
     # edits of its own, to undo them, has it move them.
@@ -533,7 +535,9 @@ class Document:
         came again in between: then all bytes are compared."""
         if self._unsure:
             raise Unsure()
-        edits = self._caught_up()
+        return self._heard(self._caught_up())
+
+    def _heard(self, edits: List[Edit]) -> List[Edit]:
         for edit in edits:
             if self.listener:
                 self.listener(edit)
@@ -646,24 +650,29 @@ class Document:
 
     def find_out(self) -> Optional[Edit]:
         """Finds out whether an edit was made that was `Unsure`, once somebody listens again: then the copy has it, at the
-        revision that it made, and it is returned. None where it wasn't made: it may then be made again."""
-        meant, mine = self._unsure, None
+        revision that it made, and it is returned. None where it wasn't made: it may then be made again. Where others edited
+        the same bytes behind it, nobody can tell: this is a `Conflict` that is `unsure`."""
+        meant = self._unsure
         if meant is None:
             return None
+        theirs: List[Edit] = []
         try:
             view = self._view(self.rev, self.rev + 1)
             mine = _unless_refused(meant) if view.stat["rev"] > self.rev else None
-            if mine and _is_first(self.bytes, mine, self.rev, view):
+            made = mine and _is_first(self.bytes, mine, self.rev, view)
+            if mine and made:
                 self._make(mine, view)
-            else:
-                mine = None
+            elif mine and made is None:
+                theirs = self._caught_up()
         except Lost:
             self._unsure = None
             raise
         except (Gone, Fault) as fault:
             raise Unsure() from fault
         self._unsure = None
-        return mine
+        if mine and self._heard(theirs):
+            raise Conflict(self.rev, mine, theirs[-1], unsure=True)
+        return mine if made else None
 
     def _make(self, mine: Edit, view: View) -> None:
         """Takes in an edit that was found to be made, and no other behind it."""
@@ -697,7 +706,7 @@ class Document:
         try:
             return self._change(_change(text, start, end), unit)
         except Fault as fault:
-            if start is None or fault.name != "Stale" or self._ahead:
+            if start is None or fault.name != "Stale" or self._ahead or isinstance(fault, Conflict):
                 raise
             stale = fault
         mine, replaced = self._meant(stale, text, start, start if end is None else end, unit)
@@ -780,7 +789,7 @@ class Document:
 
     def _moved(self, mine: Edit, fault: Fault) -> Tuple[Edit, Edit]:
         """An edit that was refused because others were first, where it is now, and what they did. Raises all other refusals."""
-        if fault.name != "Stale" or self._ahead:
+        if fault.name != "Stale" or self._ahead or isinstance(fault, Conflict):
             raise fault
         theirs = Edit(0, b"", b"")
         for theirs in self.catch_up():
@@ -1159,9 +1168,10 @@ def _unless_refused(meant: Callable[[], Edit]) -> Optional[Edit]:
         return None
 
 
-def _is_first(content: bytes, mine: Edit, rev: int, view: View) -> bool:
+def _is_first(content: bytes, mine: Edit, rev: int, view: View) -> Optional[bool]:
     """Whether an edit of a revision, which had these bytes, made the next one, by what came since both. Where others came
-    behind it, what all of them left as it was is the least of what each did, at the front and at the end."""
+    behind it, what all of them left as it was is the least of what each did, at the front and at the end. None where they
+    edited the very bytes that tell."""
     made = _spliced(content, mine.at, len(mine.old), mine.new)
     first, behind = view.since
     if view.stat["rev"] == rev + 1:
@@ -1171,7 +1181,11 @@ def _is_first(content: bytes, mine: Edit, rev: int, view: View) -> bool:
         return False
     rest = min(len(content) - mine.at - len(mine.old), len(made) - behind["at"] - behind["del"])
     front: int = min(mine.at, behind["at"])
-    return (first["at"], first["del"]) == (front, len(content) - rest - front)
+    if (first["at"], first["del"]) != (front, len(content) - rest - front):
+        return False
+    # (an edit that puts nothing in is told by what lies round its place)
+    is_seen = mine.at + len(mine.new) <= behind["at"] or mine.at >= behind["at"] + behind["del"]
+    return True if is_seen else None
 
 
 def difference(old: AnyStr, new: AnyStr) -> Tuple[int, int, AnyStr]:

@@ -172,19 +172,35 @@ class Once(unittest.TestCase):
             self.assertEqual((it.bytes, it.source()), (content, content))
         self.assertEqual(mine.rev, yours.rev)
 
-    def test_where_another_edits_the_same_bytes_meanwhile_both_are_known(self) -> None:
+    def test_where_another_edits_the_same_bytes_meanwhile_the_caller_has_both(self) -> None:
+        """It can't be told then whether the one whose reply was lost was made in front."""
         for mine, yours in self.cuts():
             self.relay.meanwhile = lambda: (mine.catch_up(), mine.splice(2, 1, b"B"))
             heard: List[Edit] = []
             yours.listener = heard.append
-            try:
-                made = yours.splice(2, 1, b"A")
-            except Conflict as fault:
-                self.assertEqual((fault.mine.new, fault.theirs.new, self.relay.is_passed), (b"A", b"B", False))
+            if self.relay.left == 1:
+                with self.assertRaises(Conflict) as conflict:
+                    yours.splice(2, 1, b"A")
+                found = conflict.exception
+                self.assertEqual((found.mine.new, found.theirs.new, found.unsure), (b"A", b"B", self.relay.is_passed))
+                self.assertEqual((heard, yours.rev), ([found.theirs], 1 + self.relay.is_passed))
             else:
-                self.assertEqual((made.at, made.old, made.new, heard), (2, b"a", b"A", []))
-                self.assertEqual((yours.rev, yours.bytes), (1, CONTENT.replace(b"a", b"A")))
+                yours.splice(2, 1, b"A")
             self.agree(mine, yours, CONTENT.replace(b"a", b"B" if self.over() else b"A"))
+
+    def test_where_another_edits_beside_it_meanwhile_it_is_known(self) -> None:
+        for at, count, new in (3, 0, b"B"), (2, 0, b"B"), (1, 1, b"B"), (3, 3, b""):
+            for mine, yours in self.cuts():
+                # (what stands behind the letter has moved where that was replaced by two)
+                moved = at + (at > 2 and self.relay.is_passed)
+                self.relay.meanwhile = lambda: (mine.catch_up(), mine.splice(moved, count, new))
+                heard: List[Edit] = []
+                yours.listener = heard.append
+                made = yours.splice(2, 1, b"AA")
+                if self.over() and self.relay.is_passed:
+                    self.assertEqual((made.at, made.old, made.new, heard, yours.rev), (2, b"a", b"AA", [], 1))
+                mine.catch_up(), yours.catch_up()
+                self.assertEqual((mine.bytes.count(b"AA"), mine.bytes), (1, yours.bytes))
 
     def test_an_edit_of_another_isn_t_taken_for_one_s_own(self) -> None:
         # (the splices of the other, whether they meet the one's, and the bytes with both, or with theirs alone where they meet)
