@@ -30,6 +30,7 @@ local api = vim.api
 ---@field private edits integer how often the damaged places were to be shown anew
 ---@field private awaited boolean|nil whether they will be
 ---@field private hint { row: integer, column: integer }|nil where the only edit since the last look began
+---@field private lost { edits: legacy.Edit[], changes: table[], life: integer }|nil what was sent, and has no reply yet
 local Buffer = {}
 Buffer.__index = Buffer
 
@@ -113,7 +114,11 @@ function Buffer.read(number, label, path, connect, anew)
   self:show()
   if document.shared then
     self.sharing = Sharing.new(self)
-    if self:is_unwritten() then
+    if self:is_unwritten() and self.sharing.presence.others == 0 then
+      -- What the file was when they were made isn't known.
+      self.disk = nil
+      messages.warn('it has edits that nobody wrote: :write! writes them, :edit! drops them')
+    elseif self:is_unwritten() then
       messages.warn('another editor made edits that it has not written')
     end
   end
@@ -229,6 +234,7 @@ function Buffer:sync()
   local hint, tries = self.hint, TRIES
   self.hint = nil
   self:guarded(function()
+    self:recover()
     repeat
       self.dirty = false
       self:keep_format()
@@ -341,11 +347,65 @@ local function warn_of_copy(text)
   end
 end
 
+---Takes in what was made of edits that were sent.
+---@private
+---@param edits legacy.Edit[]
+---@param decided (legacy.Splice|table)[] of the first ones
+function Buffer:took(edits, decided)
+  for i, reply in ipairs(decided) do
+    local edit = edits[i]
+    if not reply.fault then
+      local rows = self.mirror:rows(edit)
+      reply.grown = self.mirror:growth(rows)
+      self.mirror:replace(rows)
+      self.history:record({ taken = reply, rows = rows })
+      if self.sharing then
+        self.sharing.undoing:edited()
+      end
+      warn_of_copy(edit.text)
+    end
+  end
+end
+
+---Sends edits. Where a server that editors share ends before it replies, it is found out which of them were made, once it
+---has come again.
+---@private
+---@param edits legacy.Edit[]
+---@param changes table[] the same as the document takes them
+---@return (legacy.Splice|table)[] what became of the first ones
+function Buffer:change(edits, changes)
+  local document = self.document
+  self.lost = document.shared and { edits = edits, changes = changes, life = document.life } or nil
+  local done, decided = pcall(document.change, document, changes)
+  if done then
+    self.lost = nil
+    self:took(edits, decided)
+    return decided
+  elseif not self.lost then
+    error(decided, 0)
+  end
+  return self:recover()
+end
+
+---Finds out which edits were made that had no reply.
+---@private
+---@return legacy.Splice[]
+function Buffer:recover()
+  local lost = self.lost
+  if not lost then
+    return {}
+  end
+  local made = self.document:recover(lost.changes, lost.life)
+  self.lost = nil
+  self:took(lost.edits, made)
+  return made
+end
+
 ---@private
 ---@param edits legacy.Edit[] that of the last place first
 ---@return legacy.Refusal[]
 function Buffer:send_edits(edits)
-  local refusals, first = {}, 1
+  local refusals, first, tries = {}, 1, TRIES
   -- JSON makes up to six bytes of one.
   edits = in_parts(edits, math.max(math.floor(self.settings.part / 6), 8))
   while first <= #edits do
@@ -355,30 +415,23 @@ function Buffer:send_edits(edits)
     for i = first, math.min(first + window - 1, #edits) do
       changes[#changes + 1] = self.mirror:command(edits[i])
     end
-    local decided = self.document:change(changes)
-    local all = true
+    local sent = vim.list_slice(edits, first, first + #changes - 1)
+    local decided, all = self:change(sent, changes), true
     for i, reply in ipairs(decided) do
-      local edit = edits[first + i - 1]
       if reply.fault then
         all = false
         local reason = messages.refusal(reply, self.document.encoding)
-        table.insert(refusals, 1, { row = edit.row, reason = reason, fault = reply.fault })
-      else
-        local rows = self.mirror:rows(edit)
-        reply.grown = self.mirror:growth(rows)
-        self.mirror:replace(rows)
-        self.history:record({ taken = reply, rows = rows })
-        if self.sharing then
-          self.sharing.undoing:edited()
-        end
-        warn_of_copy(edit.text)
+        table.insert(refusals, 1, { row = sent[i].row, reason = reason, fault = reply.fault })
       end
     end
     if self.document.behind then
       break
     end
     self.window = all and math.min(self.window * 2, MOST_IN_FLIGHT) or 1
-    first = first + #decided
+    first, tries = first + #decided, #decided > 0 and TRIES or tries - 1
+    if tries == 0 then
+      error('legacy: the program ends again and again', 0)
+    end
   end
   return refusals
 end

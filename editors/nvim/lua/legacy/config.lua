@@ -5,6 +5,7 @@ local M = {}
 ---@field gate string the program
 ---@field indexes string|nil the folder of the index files
 ---@field socket string|nil where a program listens that editors share; where it isn't given, each has its own
+---@field record string|nil the file in which a program keeps a record that is started to listen there
 ---@field labels string|nil the label file; where it isn't given, `encodings.json` in `indexes`, if it is there
 ---@field refused 'revert'|'mark' what becomes of text that the document can't have
 ---@field memory integer|nil MiB that the program may have with all its documents
@@ -18,6 +19,7 @@ local defaults = {
   indexes = nil,
   labels = nil,
   socket = nil,
+  record = nil,
   memory = nil,
   refused = 'revert',
   timeout = 60000,
@@ -31,6 +33,7 @@ local TYPES = {
   indexes = 'string',
   labels = 'string',
   socket = 'string',
+  record = 'string',
   memory = 'number',
   refused = 'string',
   timeout = 'number',
@@ -111,6 +114,7 @@ function M.get()
   end
   found.gate = vim.fn.expand(found.gate)
   found.socket = found.socket and vim.fn.expand(found.socket)
+  found.record = found.record and vim.fn.expand(found.record)
   return found
 end
 
@@ -133,6 +137,9 @@ function M.words(settings)
     vim.list_extend(words, { '--labels', vim.fn.expand(settings.labels) })
   end
   if settings.socket then
+    if settings.record then
+      vim.list_extend(words, { '--resume', settings.record })
+    end
     vim.list_extend(words, { '--socket', settings.socket, '--idle', IDLE })
   end
   return words

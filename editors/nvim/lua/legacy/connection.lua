@@ -240,6 +240,12 @@ function Connection:fail(ended)
   self:complain(ended and 'ended' or 'gave no reply')
 end
 
+---Whether the program ended since another one has its record.
+---@return boolean
+function Connection:is_refused_record()
+  return self.complaint:find('another gate records in', 1, true) ~= nil
+end
+
 ---An error by what the program wrote of itself, or by what is known of it.
 ---@param what string
 function Connection:complain(what)

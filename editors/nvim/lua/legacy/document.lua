@@ -13,6 +13,7 @@ local splicing = require('legacy.splices')
 ---@field behind boolean whether another editor has changed it, so that no edit is accepted before that is taken in
 ---@field apart boolean whether the bytes are not those of the revision, but from before it was joined
 ---@field unsure boolean|nil whether all is to be read anew
+---@field life integer how often the document was another one than before, opened anew here or by another editor
 ---@field rev integer
 ---@field on_joined fun()|nil what is called when it was opened, or joined, on another connection
 ---@field private part integer bytes that one command carries
@@ -24,6 +25,9 @@ Document.__index = Document
 ---Code points of the text, and bytes of the document, that one reply brings, and the fewest that are asked for where the
 ---program has no memory for more.
 local PAGE, FEWEST = 1000000, 256
+
+---How often is asked again what others change meanwhile.
+local TRIES = 100
 
 local named = 0
 
@@ -45,7 +49,7 @@ end
 ---@return legacy.Document|nil, table|nil
 function Document.open(connect, label, bytes, part, name)
   local self = setmetatable({ label = label, bytes = bytes, part = part, connect = connect }, Document)
-  self.name, self.shared, self.behind, self.apart = name or new_name(), name ~= nil, false, false
+  self.name, self.shared, self.behind, self.apart, self.life = name or new_name(), name ~= nil, false, false, 0
   local refusal = self:send(connect())
   if refusal then
     return nil, refusal
@@ -88,7 +92,7 @@ function Document:send(connection)
   end
   local last = replies[#replies]
   self.connection, self.rev, self.encoding, self.own = connection, last.rev, last.encoding, true
-  self.behind, self.apart = self.unsure or false, false
+  self.behind, self.apart, self.life = self.unsure or false, false, self.life + 1
 end
 
 ---Joins the document that another editor has opened, if it is in the same encoding: what the label names is seen by an
@@ -107,9 +111,56 @@ function Document:join(connection)
     return stat.fault and stat or opened
   elseif stat.given ~= opened.encoding then
     return { fault = 'OtherEncoding', given = stat.given }
+  elseif self.rev and not self.unsure and self:resume(connection) then
+    return nil
   end
   self.connection, self.rev, self.encoding, self.own = connection, stat.rev, stat.encoding, false
-  self.behind, self.apart = true, true
+  self.behind, self.apart, self.life = true, true, self.life + 1
+end
+
+---Goes on with the document where a server that came again has it as it was at the revision known here, or as edits since
+---then have made it.
+---@private
+---@param connection legacy.Connection
+---@return boolean whether it has
+function Document:resume(connection)
+  local view = self:view(connection, { self.rev })
+  local since = view and view.since[1]
+  if not view or since.fault or splicing.patched(self.bytes, since, view.bytes) ~= view.bytes then
+    return false
+  end
+  self.connection, self.behind, self.apart = connection, view.rev ~= self.rev, false
+  return true
+end
+
+---The document as one revision has it, and what came since others. All is asked at once, so that others seldom come in
+---between. Nil where it isn't there, or the program has no memory for it.
+---@private
+---@param connection legacy.Connection
+---@param revs integer[]
+---@return { rev: integer, bytes: string, since: table[] }|nil
+function Document:view(connection, revs)
+  local count = #self.bytes
+  for _ = 1, TRIES do
+    local commands = {}
+    for i, rev in ipairs(revs) do
+      commands[i] = { op = 'since', doc = self.name, rev = rev }
+    end
+    commands[#revs + 1] = { op = 'source', doc = self.name, at = 0, len = count }
+    commands[#revs + 2] = { op = 'stat', doc = self.name }
+    local replies = connection:ask(commands)
+    local stat = table.remove(replies)
+    local source, same = table.remove(replies), true
+    for _, it in ipairs(replies) do
+      same = same and (it.fault ~= nil or it.rev == stat.rev)
+    end
+    if stat.fault or source.fault and stat.bytes == count then
+      return nil
+    elseif same and stat.bytes == count and source.rev == stat.rev then
+      return { rev = stat.rev, bytes = base64.decode(source.bytes), since = replies }
+    end
+    count = stat.bytes
+  end
 end
 
 ---Opens the document on a connection that hasn't got it.
@@ -124,17 +175,52 @@ function Document:reopen(connection)
   end
 end
 
-local EDITS = { change = true, splice = true }
-
----Sends commands, the edits among them with the revisions that they have where those in front are accepted.
+---The connection, on which the document is open.
 ---@private
----@param commands table[]
----@return table[]
-function Document:ask(commands)
+---@return legacy.Connection
+function Document:reach()
   local connection = self.connect()
   if connection ~= self.connection then
     self:reopen(connection)
   end
+  return connection
+end
+
+local EDITS = { change = true, splice = true }
+
+---@param commands table[]
+---@return boolean whether none of them changes anything
+local function are_questions(commands)
+  for _, command in ipairs(commands) do
+    if EDITS[command.op] then
+      return false
+    end
+  end
+  return true
+end
+
+---Sends commands, the edits among them with the revisions that they have where those in front are accepted. Where a server
+---that editors share ends before it replies to questions, they are asked again if one listens by then; none is started.
+---@private
+---@param commands table[]
+---@return table[]
+function Document:ask(commands)
+  local done, replies = pcall(self.ask_once, self, commands)
+  if done then
+    return replies
+  end
+  local has_ended = self.shared and self.connection and self.connection.ended
+  if not has_ended or not are_questions(commands) or not self.connect(true) then
+    error(replies, 0)
+  end
+  return self:ask_once(commands)
+end
+
+---@private
+---@param commands table[]
+---@return table[]
+function Document:ask_once(commands)
+  local connection = self:reach()
   local replies = self:send_commands(commands)
   if self.shared and replies[1].fault == 'NoDocument' then
     -- Another editor, which had opened it, has closed it.
@@ -291,6 +377,62 @@ function Document:refresh()
   return text, now
 end
 
+---What splices make of the document's bytes, and after each of them.
+---@private
+---@param splices legacy.Splice[]
+---@return string[]
+function Document:stages(splices)
+  local stages, bytes = {}, self.bytes
+  for i, splice in ipairs(splices) do
+    bytes = splicing.made(bytes, { splice })
+    stages[i] = bytes
+  end
+  return stages
+end
+
+---How many of some splices were made that were sent and had no reply, as the first edits behind the revision known here.
+---They are known by what came since each, and by the bytes; the document is `behind` then where others edited too.
+---@private
+---@param splices legacy.Splice[]
+---@return integer
+function Document:found(splices)
+  local revs = {}
+  for i = 0, #splices do
+    revs[i + 1] = self.rev + i
+  end
+  local view = self:view(self.connection, revs)
+  local stages = self:stages(splices)
+  for count = view and math.min(#splices, view.rev - self.rev) or 0, 1, -1 do
+    local since = view.since[count + 1]
+    if not since.fault and splicing.patched(stages[count], since, view.bytes) == view.bytes then
+      self.rev, self.bytes, self.behind = self.rev + count, stages[count], view.rev ~= self.rev + count
+      return count
+    end
+  end
+  return 0
+end
+
+---Which of some changes were made whose replies were lost, as `change` returns them. What they would do is seen by a document
+---of the bytes from before.
+---@param changes table[] as `change` was given them
+---@param life integer that of the document as they were sent
+---@return legacy.Splice[]
+function Document:recover(changes, life)
+  self:reach()
+  if self.life ~= life or not self.behind then
+    return {}
+  end
+  local before = Document.open(self.connect, self.label, self.bytes, self.part)
+  local splices = {}
+  for _, it in ipairs(before and before:change(changes) or {}) do
+    splices[#splices + 1] = not it.fault and it or nil
+  end
+  if before then
+    before:close()
+  end
+  return vim.list_slice(splices, 1, self:found(splices))
+end
+
 ---Asks for changes of the text, all in flight, each behind its plan, which has the bytes that go out and come in.
 ---Behind a refusal the revisions are wrong, and the changes there are left undecided.
 ---@param changes table[] each with `range` and `text`, in bytes of UTF-8
@@ -327,27 +469,62 @@ function Document:change(changes)
 end
 
 ---Replaces bytes by bytes, one splice after another, all in flight. Where another editor was first, it says no, and the
----document is `behind`; those of a shared one are made as one splice, so that all or none is made.
+---document is `behind`; those of a shared one are made as one splice, so that all or none is made. Where its server ends
+---before it replies, it is found out whether they were made, and else they are made then.
 ---@param splices legacy.Splice[]
 ---@return boolean
 function Document:splice(splices)
   local bytes = splicing.made(self.bytes, splices)
-  local commands = {}
   if self.shared and #splices > 0 then
     splices = { splicing.between(self.bytes, bytes) }
   end
+  local parts, life = self:parts(splices), self.life
+  for _ = 1, TRIES do
+    local done, made = pcall(self.send_splices, self, parts)
+    if done then
+      self.bytes = made and bytes or self.bytes
+      return made
+    elseif not self.shared then
+      error(made, 0)
+    end
+    self:reach()
+    local count = self.life == life and self.behind and self:found(parts) or 0
+    if count == #parts then
+      return true
+    elseif self.behind then
+      self.apart = self.apart or count > 0
+      return false
+    end
+    parts, life = vim.list_slice(parts, count + 1), self.life
+  end
+  return false
+end
+
+---Splices each of which one command has room for.
+---@private
+---@param splices legacy.Splice[]
+---@return legacy.Splice[]
+function Document:parts(splices)
+  local parts = {}
   for _, splice in ipairs(splices) do
     local from = 0
     repeat
       local put = splice.put:sub(from + 1, from + self.part)
-      commands[#commands + 1] = {
-        op = 'splice',
-        at = splice.at + from,
-        del = from == 0 and #splice.gone or 0,
-        bytes = base64.encode(put),
-      }
+      parts[#parts + 1] = { at = splice.at + from, gone = from == 0 and splice.gone or '', put = put }
       from = from + #put
     until from >= #splice.put
+  end
+  return parts
+end
+
+---Sends splices, and says whether all were made.
+---@private
+---@param splices legacy.Splice[]
+---@return boolean
+function Document:send_splices(splices)
+  local commands = {}
+  for i, it in ipairs(splices) do
+    commands[i] = { op = 'splice', at = it.at, del = #it.gone, bytes = base64.encode(it.put) }
   end
   for i, reply in ipairs(#commands > 0 and self:ask(commands) or {}) do
     if reply.fault == 'Stale' and self.shared then
@@ -362,7 +539,6 @@ function Document:splice(splices)
     end
     self.rev, self.encoding = reply.rev, reply.encoding
   end
-  self.bytes = bytes
   return true
 end
 

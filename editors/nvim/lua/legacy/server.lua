@@ -57,7 +57,8 @@ local function started(connection, path)
   connection.server = process
   local last, pipe = uv.now() + connection.timeout, nil
   repeat
-    local over = ended or uv.now() > last
+    -- (another one that has the record may still be reading it)
+    local over = ended and not connection:is_refused_record() or uv.now() > last
     pipe = connected(path)
     if not pipe then
       if over then

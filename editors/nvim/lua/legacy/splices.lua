@@ -100,6 +100,15 @@ function M.parts(splice)
   return parts
 end
 
+---Bytes from before, with what came since taken from those now.
+---@param bytes string
+---@param since table the reply of that name
+---@param now string
+---@return string
+function M.patched(bytes, since, now)
+  return bytes:sub(1, since.at) .. now:sub(since.at + 1, since.at + since.ins) .. bytes:sub(since.at + since.del + 1)
+end
+
 ---@param splice legacy.Splice
 ---@return legacy.Splice that takes it back
 function M.inverse(splice)

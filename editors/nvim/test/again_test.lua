@@ -1,0 +1,294 @@
+---A server that ends, and comes again: what was being sent is found out, and is in the document once; and one that is killed
+---in mid-session, whose record has what it had acknowledged.
+local Connection = require('legacy.connection')
+local it = require('harness')
+local others = require('others')
+
+local shows = others.shows
+
+local EDITS = { change = true, splice = true }
+
+---How many of some commands edit a document, and the last of so many that does.
+local function edits_in(document, commands, most)
+  local count, last = 0, 0
+  for i, command in ipairs(commands) do
+    if EDITS[command.op] and command.doc == document.name and count < most then
+      count, last = count + 1, i
+    end
+  end
+  return count, last
+end
+
+---Has the connection end once so many edits of the next ones are passed on: none of them is replied to. Something is done
+---before it is made again.
+---@param most integer
+---@param meanwhile fun()|nil
+local function cut(most, meanwhile)
+  local document = it.buffer().document
+  local connection, connect = document.connection, document.connect
+  connection.send = function(self, commands, call)
+    if edits_in(document, commands, math.huge) == 0 then
+      return Connection.send(self, commands, call)
+    end
+    self.send = nil
+    local _, last = edits_in(document, commands, most)
+    local sent, before = Connection.send(self, vim.list_slice(commands, 1, last), call)
+    local awaited = sent[before + last]
+    for _ = last + 1, #commands do
+      sent[#sent + 1] = { id = 0 }
+    end
+    if last == 0 then
+      self:stop()
+    end
+    self.arrived = function(_, line)
+      if self.waiting[1] == awaited then
+        self:stop()
+      else
+        Connection.arrived(self, line)
+      end
+    end
+    return sent, before
+  end
+  document.connect = function(quietly)
+    if connection.ended then
+      document.connect = connect
+      if meanwhile then
+        meanwhile()
+      end
+    end
+    return connect(quietly)
+  end
+end
+
+---Undoes or redoes as one who types does.
+local function type(keys)
+  vim.cmd('silent normal ' .. vim.api.nvim_replace_termcodes(keys, true, false, true))
+  it.sync()
+end
+
+---That the connection was cut, and is another one now.
+local function was_cut(before)
+  it.same(it.buffer().document.connection ~= before, true, 'the connection was made again')
+end
+
+for most = 0, 1 do
+  local function together(name, bytes, call)
+    others.together(('%s (%s)'):format(name, most == 0 and 'not made' or 'made'), 'utf-8', bytes, call)
+  end
+
+  together('an edit whose reply is lost', 'a\255\nb\n', function(other, path)
+    local connection = it.buffer().document.connection
+    cut(most)
+    it.keys('rx')
+    was_cut(connection)
+    it.same({ it.lines(), it.buffer().document.rev }, { { 'x\239\191\189', 'b' }, 1 })
+    it.agree('this one')
+    it.undo()
+    it.same(it.buffer().document.bytes, 'a\255\nb\n')
+    it.redo()
+    it.same(it.written(path), 'x\255\nb\n')
+    other.shows({ 'x\239\191\189', 'b' })
+    other.call('agree', 'the other')
+  end)
+
+  together('an undo whose reply is lost', 'a\255\nb\n', function(_, path)
+    it.keys('$x')
+    local connection = it.buffer().document.connection
+    cut(most)
+    it.undo()
+    was_cut(connection)
+    it.same({ it.lines(), it.buffer().document.rev }, { { 'a\239\191\189', 'b' }, 2 })
+    it.agree('this one')
+    it.redo()
+    it.same(it.written(path), 'a\nb\n')
+  end)
+
+  together('an edit whose reply is lost, and one of another', 'a\255\nb\n', function(other)
+    cut(most, function()
+      other.call('keys', 'Gry')
+    end)
+    it.keys('rx')
+    shows({ 'x\239\191\189', 'y' })
+    it.agree('this one')
+    other.shows({ 'x\239\191\189', 'y' })
+    other.call('agree', 'the other')
+    it.same(it.buffer().document.rev, 2)
+    if most == 1 then
+      -- (one that comes second is one that Neovim's undo has forgotten)
+      type('u')
+      other.shows({ 'a\239\191\189', 'y' })
+    end
+  end)
+
+  together('an edit whose reply is lost, and one of another in the same line', 'one two\n', function(other)
+    cut(most, function()
+      other.lua('require("harness").buffer().sharing:look()')
+      other.call('keys', 'ggAz<Esc>')
+    end)
+    it.keys('ix<Esc>')
+    shows({ 'xone twoz' })
+    it.agree('this one')
+    other.shows({ 'xone twoz' })
+  end)
+
+  together('an undo whose reply is lost, behind an edit of another', 'a\255\nb\n', function(other)
+    it.keys('$x')
+    other.shows({ 'a', 'b' })
+    other.call('keys', 'Gry')
+    shows({ 'a', 'y' })
+    cut(most)
+    type('u')
+    shows({ 'a\239\191\189', 'y' })
+    it.agree('this one')
+    type('<C-R>')
+    other.shows({ 'a', 'y' })
+  end)
+end
+
+for most = 0, 5 do
+  others.together(('of five edits at once %d are made'):format(most), 'utf-8', 'a\nb\nc\nd\n\255e\n', function(other, path)
+    local connection = it.buffer().document.connection
+    cut(most)
+    it.keys(':%s/$/!/<CR>')
+    was_cut(connection)
+    it.same(it.lines(), { 'a!', 'b!', 'c!', 'd!', '\239\191\189e!' })
+    it.same(it.buffer().document.rev, 5)
+    it.agree('this one')
+    it.undo()
+    it.same(it.buffer().document.bytes, 'a\nb\nc\nd\n\255e\n')
+    it.redo()
+    it.same(it.written(path), 'a!\nb!\nc!\nd!\n\255e!\n')
+    other.shows(it.lines())
+  end)
+end
+
+others.together('an edit of which nothing is known until somebody listens again', 'utf-8', 'a\nb\n', function(_, path)
+  local document = it.buffer().document
+  for most = 0, 1 do
+    cut(most, function()
+      error('legacy: nobody listens', 0)
+    end)
+    it.same(pcall(it.keys, 'Ax<Esc>'), false)
+    it.sync()
+    it.agree('this one')
+    it.same({ it.lines()[1], document.rev }, { 'a' .. ('x'):rep(most + 1), most + 1 })
+  end
+  it.same(it.written(path), 'axx\nb\n')
+end)
+
+---The server that listens at a socket.
+---@return integer|nil pid
+local function listener(socket)
+  for _, path in ipairs(vim.fn.glob('/proc/[0-9]*/cmdline', true, true)) do
+    local opened, file = pcall(io.open, path, 'rb')
+    local words = opened and file and file:read('*a') or ''
+    if opened and file then
+      file:close()
+    end
+    if words:find('\0serve\0', 1, true) and words:find('\0' .. socket .. '\0', 1, true) then
+      return tonumber(path:match('%d+'))
+    end
+  end
+end
+
+local function kill(given)
+  local pid = listener(given.socket)
+  if pid then
+    vim.loop.kill(pid, 'sigkill')
+  end
+  return pid ~= nil
+end
+
+local has_records = vim.fn.system({ it.gate, 'serve', '--help' }):find('--resume', 1, true) ~= nil
+if not has_records then
+  io.stdout:write('3 skipped, for which the program would have to keep a record\n')
+end
+
+---Runs a test of two editors whose server keeps a record.
+---@param call fun(given: table, one: table, other: table, path: string)
+local function recorded(name, bytes, call)
+  if not has_records then
+    return
+  end
+  it.test(name, false, function()
+    local given = others.settings()
+    given.record = given.socket .. '.record'
+    local path = given.socket .. '.txt'
+    it.write(path, bytes)
+    local one, other = others.editor(given), others.editor(given)
+    local done, why = xpcall(function()
+      one.edit('utf-8', path)
+      other.edit('utf-8', path)
+      call(given, one, other, path)
+    end, debug.traceback)
+    one.quit()
+    other.quit()
+    kill(given)
+    assert(done, why)
+  end)
+end
+
+---Waits until two editors have the same bytes, and returns these.
+local function agreed(one, other)
+  local function bytes(of)
+    return of.lua('return require("harness").buffer().document.bytes')
+  end
+  it.same(vim.wait(20000, function()
+    return bytes(one) == bytes(other)
+  end, 20), true, bytes(one) .. ' and ' .. bytes(other))
+  one.call('agree', 'one')
+  other.call('agree', 'the other')
+  return bytes(one)
+end
+
+recorded('a server that is killed while both type', '\255\n\n\n\n', function(given, one, other, path)
+  local typed, kills = { 0, 0 }, 0
+  one.type('ggA')
+  other.type('GA')
+  for number = 1, 400 do
+    local which = math.random(2)
+    local keys = which == 1 and 'q' or 'w'
+    typed[which] = typed[which] + 1;
+    ({ one, other })[which].type(keys)
+    if number % 40 == 0 then
+      kills = kills + (kill(given) and 1 or 0)
+      vim.wait(math.random(20))
+    end
+  end
+  one.type('<Esc>')
+  other.type('<Esc>')
+  local wanted = '\255' .. ('q'):rep(typed[1]) .. '\n\n\n' .. ('w'):rep(typed[2]) .. '\n'
+  it.same(agreed(one, other), wanted)
+  it.same(kills > 5, true, kills .. ' kills')
+  it.same(one.call('written', path), wanted)
+  it.same(one.lua('return vim.bo.modified'), false)
+end)
+
+recorded('edits that an editor had made that is gone too', 'a\255\nb\n', function(given, one, other, path)
+  one.call('keys', 'rx')
+  other.shows({ 'x\239\191\189', 'b' })
+  one.kill()
+  other.kill()
+  kill(given)
+  local last = others.editor(given)
+  last.edit('utf-8', path)
+  it.same(last.call('lines'), { 'x\239\191\189', 'b' })
+  it.same(last.call('failure', 'write'):find('the file has changed', 1, true) ~= nil, true)
+  last.lua('vim.cmd("silent write!")')
+  it.same(it.read(path), 'x\255\nb\n')
+  last.call('keys', 'ry')
+  it.same(last.call('written', path), 'y\255\nb\n')
+  last.quit()
+end)
+
+recorded('a record that cannot be written', 'a\n', function(given, one, other, path)
+  one.call('keys', 'rx')
+  other.quit()
+  kill(given)
+  os.remove(given.record)
+  vim.fn.mkdir(given.record)
+  it.same(pcall(one.call, 'keys', 'ry'), false)
+  one.lua('require("harness").settings(...)', { socket = given.socket })
+  it.same(one.call('written', path), 'y\n')
+  vim.fn.delete(given.record, 'd')
+end)
