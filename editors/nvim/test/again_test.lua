@@ -250,7 +250,7 @@ recorded('a server that is killed while both type', '\255\n\n\n\n', function(giv
     local keys = which == 1 and 'q' or 'w'
     typed[which] = typed[which] + 1;
     ({ one, other })[which].type(keys)
-    if number % 40 == 0 then
+    if number % 40 == 20 then
       kills = kills + (kill(given) and 1 or 0)
       vim.wait(math.random(20))
     end

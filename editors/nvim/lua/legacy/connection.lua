@@ -240,19 +240,26 @@ function Connection:fail(ended)
   self:complain(ended and 'ended' or 'gave no reply')
 end
 
----Whether the program ended since another one has its record.
+---What the program wrote of itself, for which a program that ended is waited for a while.
+---@private
+---@return string
+function Connection:said()
+  vim.wait(200, function()
+    return self.complaint ~= ''
+  end, 20, true)
+  return vim.trim(self.complaint)
+end
+
+---Whether the program, which ended, did so since another one has its record.
 ---@return boolean
 function Connection:is_refused_record()
-  return self.complaint:find('another gate records in', 1, true) ~= nil
+  return self:said():find('another gate records in', 1, true) ~= nil
 end
 
 ---An error by what the program wrote of itself, or by what is known of it.
 ---@param what string
 function Connection:complain(what)
-  vim.wait(200, function()
-    return self.complaint ~= ''
-  end, 20, true)
-  local complaint = vim.trim(self.complaint)
+  local complaint = self:said()
   if complaint ~= '' then
     error('legacy: ' .. complaint, 0)
   end

@@ -111,7 +111,7 @@ function Document:join(connection)
     return stat.fault and stat or opened
   elseif stat.given ~= opened.encoding then
     return { fault = 'OtherEncoding', given = stat.given }
-  elseif self.rev and not self.unsure and self:resume(connection) then
+  elseif self.rev and self:resume(connection) then
     return nil
   end
   self.connection, self.rev, self.encoding, self.own = connection, stat.rev, stat.encoding, false
@@ -129,7 +129,7 @@ function Document:resume(connection)
   if not view or since.fault or splicing.patched(self.bytes, since, view.bytes) ~= view.bytes then
     return false
   end
-  self.connection, self.behind, self.apart = connection, view.rev ~= self.rev, false
+  self.connection, self.behind, self.apart = connection, self.unsure or view.rev ~= self.rev, false
   return true
 end
 
