@@ -176,43 +176,18 @@ others.together('an edit of which nothing is known until somebody listens again'
   it.same(it.written(path), 'axx\nb\n')
 end)
 
----The server that listens at a socket.
----@return integer|nil pid
-local function listener(socket)
-  for _, path in ipairs(vim.fn.glob('/proc/[0-9]*/cmdline', true, true)) do
-    local opened, file = pcall(io.open, path, 'rb')
-    local words = opened and file and file:read('*a') or ''
-    if opened and file then
-      file:close()
-    end
-    if words:find('\0serve\0', 1, true) and words:find('\0' .. socket .. '\0', 1, true) then
-      return tonumber(path:match('%d+'))
-    end
-  end
-end
-
-local function kill(given)
-  local pid = listener(given.socket)
-  if pid then
-    vim.loop.kill(pid, 'sigkill')
-  end
-  return pid ~= nil
-end
-
-local has_records = vim.fn.system({ it.gate, 'serve', '--help' }):find('--resume', 1, true) ~= nil
-if not has_records then
+if not others.has_records then
   io.stdout:write('3 skipped, for which the program would have to keep a record\n')
 end
 
 ---Runs a test of two editors whose server keeps a record.
 ---@param call fun(given: table, one: table, other: table, path: string)
 local function recorded(name, bytes, call)
-  if not has_records then
+  if not others.has_records then
     return
   end
   it.test(name, false, function()
-    local given = others.settings()
-    given.record = given.socket .. '.record'
+    local given = others.settings_with_record()
     local path = given.socket .. '.txt'
     it.write(path, bytes)
     local one, other = others.editor(given), others.editor(given)
@@ -223,7 +198,7 @@ local function recorded(name, bytes, call)
     end, debug.traceback)
     one.quit()
     other.quit()
-    kill(given)
+    others.kill(given)
     assert(done, why)
   end)
 end
@@ -251,7 +226,7 @@ recorded('a server that is killed while both type', '\255\n\n\n\n', function(giv
     typed[which] = typed[which] + 1;
     ({ one, other })[which].type(keys)
     if number % 40 == 20 then
-      kills = kills + (kill(given) and 1 or 0)
+      kills = kills + (others.kill(given) and 1 or 0)
       vim.wait(math.random(20))
     end
   end
@@ -269,7 +244,7 @@ recorded('edits that an editor had made that is gone too', 'a\255\nb\n', functio
   other.shows({ 'x\239\191\189', 'b' })
   one.kill()
   other.kill()
-  kill(given)
+  others.kill(given)
   local last = others.editor(given)
   last.edit('utf-8', path)
   it.same(last.call('lines'), { 'x\239\191\189', 'b' })
@@ -284,7 +259,7 @@ end)
 recorded('a record that cannot be written', 'a\n', function(given, one, other, path)
   one.call('keys', 'rx')
   other.quit()
-  kill(given)
+  others.kill(given)
   os.remove(given.record)
   vim.fn.mkdir(given.record)
   it.same(pcall(one.call, 'keys', 'ry'), false)

@@ -12,6 +12,43 @@ function M.settings()
   return { socket = ('%s/socket%d'):format(it.work, sockets) }
 end
 
+---Whether the tested program keeps records.
+M.has_records = vim.fn.system({ it.gate, 'serve', '--help' }):find('--resume', 1, true) ~= nil
+
+---The same, of a server that keeps a record.
+---@return table
+function M.settings_with_record()
+  local given = M.settings()
+  given.record = given.socket .. '.record'
+  return given
+end
+
+---The words of a process, each behind a NUL; none where it is gone.
+---@param path string
+---@return string
+local function words_of(path)
+  local file = io.open(path, 'rb')
+  local words = file and file:read('*a') or ''
+  if file then
+    file:close()
+  end
+  return '\0' .. words
+end
+
+---Kills the server at a socket, whoever started it.
+---@param given table
+---@return boolean whether there was one
+function M.kill(given)
+  for _, path in ipairs(vim.fn.glob('/proc/[0-9]*/cmdline', true, true)) do
+    local words = words_of(path)
+    if words:find('\0serve\0', 1, true) and words:find('\0' .. given.socket .. '\0', 1, true) then
+      vim.loop.kill(tonumber(path:match('%d+')), 'sigkill')
+      return true
+    end
+  end
+  return false
+end
+
 ---Another Neovim, in which calls of the harness are made by their names.
 ---@param settings table
 function M.editor(settings)

@@ -51,12 +51,16 @@ local function typist(other, marker, letters, acts)
   return self
 end
 
-local function both(first, second, keys)
+local function both(first, second, keys, disturb)
   local before = first.keys + second.keys
   while first.keys + second.keys - before < keys do
     local who = math.random(2) == 1 and first or second
     for _ = 1, math.random(4) do
       who.step()
+    end
+    -- (a server that ended is started again by an edit alone)
+    if first.keys + second.keys - before < keys - 50 then
+      disturb()
     end
     if math.random(3) == 1 then
       vim.wait(math.random(8))
@@ -90,12 +94,10 @@ end
 
 local ACTS = { 'x', 'dd', 'u', 'u', '<C-R>', 'J', 'yyp', 'D', '3x', 'rz', 'ddp', '~', 'dw', '>>', 'u3G', 'xu' }
 
-local function types(file, letters, seed)
+local function types(file, letters, seed, settings, keys, disturb)
   math.randomseed(seed)
-  local settings = others.settings()
   it.settings(settings)
   local path = it.open(file.label, file.before)
-  local server = it.buffer().document.connection.server
   local one, other = others.editor(settings), others.editor(settings)
   local done, why = xpcall(function()
     one.edit(file.label, path)
@@ -103,19 +105,28 @@ local function types(file, letters, seed)
     vim.cmd('bwipeout!')
     local first, second = typist(one, 'q', letters, {}), typist(other, 'w', letters, {})
     local before = { count(one, 'q'), count(one, 'w') }
-    both(first, second, KEYS * 0.6)
+    both(first, second, keys * 0.6, disturb)
     agree(one, other)
     local typed = { count(one, 'q') - before[1], count(other, 'w') - before[2] }
     it.same(typed, { first.typed, second.typed }, 'no letter is lost')
-    both(typist(one, 'q', letters, ACTS), typist(other, 'w', letters, ACTS), KEYS * 0.4)
+    both(typist(one, 'q', letters, ACTS), typist(other, 'w', letters, ACTS), keys * 0.4, disturb)
     agree(one, other)
     it.same(one.call('written', path) == one.lua('return require("harness").buffer().document.bytes'), true, 'the file')
     agree(one, other)
   end, debug.traceback)
   one.quit()
   other.quit()
-  server:kill('sigkill')
+  others.kill(settings)
   assert(done, why)
+end
+
+---Kills a server now and then.
+local function killing(settings)
+  return function()
+    if math.random(60) == 1 then
+      others.kill(settings)
+    end
+  end
 end
 
 for _, each in ipairs(FILES) do
@@ -123,8 +134,14 @@ for _, each in ipairs(FILES) do
   for _, file in ipairs(it.files()) do
     for seed = 1, file.name == name and SEEDS or 0 do
       it.test(('%s: two editors type at once (%d)'):format(name, seed), file.needs_indexes, function()
-        types(file, letters, seed)
+        types(file, letters, seed, others.settings(), KEYS, function() end)
       end)
+      if others.has_records then
+        it.test(('%s: the same, and their server is killed (%d)'):format(name, seed), file.needs_indexes, function()
+          local settings = others.settings_with_record()
+          types(file, letters, seed, settings, KEYS / 4, killing(settings))
+        end)
+      end
     end
   end
 end
