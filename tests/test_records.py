@@ -1,0 +1,305 @@
+"""Records, on the program as it was built: what is in them, and that nothing is lost that was acknowledged, whenever the program
+is killed, where there is no memory, and where the disk is full."""
+import base64
+import json
+import os
+import pathlib
+import random
+import resource
+import shutil
+import signal
+import stat
+import subprocess
+import tempfile
+import time
+import unittest
+
+from program import PROGRAM, SMALL
+from recording import DOCUMENTS, Authors, Fault, Gate, Recorder, recording
+from serving import LIMIT, Serving, free_port, line
+
+# How often the program is killed under load; GATE_KILLS=500 is as often as that. After so many it begins with a record that
+# is new, since it plays the whole of it each time.
+KILLS, LIFE = int(os.environ.get("GATE_KILLS", "8")), 25
+# The seconds for which it serves at most, and those for which it lives where it is killed while it begins.
+LIVES, BEGINS = 0.3, 0.03
+AUTHORS = 4
+
+# What the program may have, in MiB, so that edits are refused, and what the memory is filled by: bytes that cost the most.
+MEMORY, COSTLY = 40, b"\x1b$" * 32_768
+
+# The bytes that a disk has room for, in whole pages.
+DISK = 64 * resource.getpagesize()
+
+OPEN = {"op": "open", "doc": "d", "label": "utf-8", "bytes": "YQ=="}
+SPLICE = {"op": "splice", "doc": "d", "at": 0, "del": 0, "bytes": "Yg=="}
+
+
+@recording
+class Words(unittest.TestCase):
+    """What is in a record, and how it is begun and gone on with."""
+
+    def setUp(self):
+        kept = tempfile.TemporaryDirectory()
+        self.addCleanup(kept.cleanup)
+        self.record = pathlib.Path(kept.name) / "record"
+
+    def ran(self, *words, lines=b"", status=0):
+        ran = subprocess.run([PROGRAM, *SMALL, *words], input=lines, stdout=subprocess.PIPE, stderr=subprocess.PIPE)
+        self.assertEqual(ran.returncode, status, ran.stderr)
+        return ran.stdout if status == 0 else ran.stderr.decode()
+
+    def recorded(self, word, lines, *words):
+        """The replies to lines that are recorded."""
+        return self.ran(word, str(self.record), *words, lines=lines)
+
+    def played(self):
+        """What playing the record prints, without the number of the connection."""
+        ran = subprocess.run([PROGRAM, "trace", *SMALL[1:]], input=self.record.read_bytes(), stdout=subprocess.PIPE, check=True)
+        return b"".join(it.partition(b" ")[2] + b"\n" for it in ran.stdout.splitlines())
+
+    def test_a_record_is_a_trace_that_prints_what_was_answered(self):
+        lines = line(**OPEN) + line(**SPLICE, rev=0) + line("text", 7, doc="d", to=9, **{"from": 0}) + b"{}\n" + b" " * 5000 + b"\n"
+        lines += line(**SPLICE, rev=0) + line("open", doc="e", label="utf-8", bytes=base64.b64encode(bytes(200_000)).decode()) + b'{"id":'
+        for sync in (), ("--sync",):
+            replies = self.recorded("--record", lines, *sync)
+            self.assertEqual(replies, self.ran(lines=lines))
+            self.assertEqual(replies, self.played())
+            self.assertEqual(stat.S_IMODE(self.record.stat().st_mode), 0o600)
+            self.record.unlink()
+
+    def test_documents_are_there_again_at_their_revisions(self):
+        for resumed in range(3):
+            replies = self.recorded("--resume", line(**SPLICE, rev=resumed - 1) if resumed else line(**OPEN))
+            self.assertEqual(json.loads(replies)["rev"], resumed)
+        self.assertEqual(json.loads(self.recorded("--resume", line("since", doc="d", rev=0)))["ins"], 2)
+        self.recorded("--resume", line("close", doc="d"))
+        self.assertEqual(json.loads(self.recorded("--resume", line("stat", doc="d")))["fault"], "NoDocument")
+
+    def test_a_last_line_that_is_torn_is_dropped(self):
+        self.recorded("--record", line(**OPEN) + line(**SPLICE, rev=0))
+        whole = self.record.read_bytes()
+        ends = [at + 1 for at, byte in enumerate(whole) if byte == 10]
+        for cut in range(len(whole) + 1):
+            self.record.write_bytes(whole[:cut])
+            reply = json.loads(self.recorded("--resume", line("stat", doc="d")))
+            events = whole[: max([0, *(it for it in ends if it <= cut)])]
+            self.assertTrue(self.record.read_bytes().startswith(events))
+            self.assertNotIn(b"\n\n", self.record.read_bytes())
+            edits = events.count(b"bytes")
+            self.assertEqual(reply.get("rev", reply.get("fault")), edits - 1 if edits else "NoDocument")
+
+    def test_a_connection_that_was_open_is_closed(self):
+        self.record.write_bytes(b"open 0\nopen 3\nbytes 3 %b\n" % base64.b64encode(b'{"id":'))
+        self.assertEqual(json.loads(self.recorded("--resume", line("stat", doc="d"))), {"fault": "NoDocument", "id": 0})
+        self.assertEqual(sorted(self.record.read_bytes().splitlines()[3:5]), [b"close 0", b"close 3"])
+
+    def test_a_record_that_is_there_is_not_begun_anew(self):
+        self.recorded("--record", line(**OPEN))
+        content = self.record.read_bytes()
+        self.assertEqual(self.ran("--record", str(self.record), status=2), f"gate: {self.record} has a record; --resume goes on with it\n")
+        self.assertEqual(self.record.read_bytes(), content)
+
+    def test_a_line_that_is_no_event(self):
+        for content, number in (b"open 0\n\n# no event\nopen\n", 4), (b"bytes 0 x\n", 1), (b"open 0\nclose 0 \nopen", 2):
+            self.record.write_bytes(content)
+            self.assertEqual(self.ran("--resume", str(self.record), status=2), f"gate: record line {number}\n")
+            self.assertEqual(self.record.read_bytes(), content)
+
+    def test_a_file_that_cannot_be_had(self):
+        for word in "--record", "--resume":
+            for name in self.record.parent, self.record / "none", "/dev/null":
+                self.assertEqual(self.ran(word, str(name), status=2), f"gate: cannot record in {name}\n")
+
+    def test_words_that_do_not_go_together(self):
+        for words in ("--sync",), ("--record", "a", "--resume", "b"), ("--record",):
+            self.assertIn("error: ", self.ran(*words, status=2))
+
+
+@recording
+class Live(Serving):
+    """Records of live clients."""
+
+    def test_a_second_program_on_the_same_record(self):
+        record = self.folder / "record"
+        server = self.serve(self.path, "--resume", str(record))
+        with self.clients(server, 1) as (client,):
+            client.ask(**OPEN)
+            other = self.serve(self.path + ".2", "--resume", str(record))
+            self.assertEqual(other.ended(), (2, "", f"gate: another gate records in {record}\n"))
+            self.assertEqual(client.ask(**SPLICE, rev=0)["rev"], 1)
+
+    def test_clients_of_a_server_that_comes_again(self):
+        for place in self.path, free_port():
+            record = self.folder / f"record of {type(place).__name__}"
+            for rev in range(3):
+                server = self.serve(place, "--resume", str(record), "--sync")
+                with server.connect() as client, server.connect() as other:
+                    if rev == 0:
+                        client.ask(**OPEN)
+                    # (what is begun, and not ended, is dropped with its connection)
+                    other.send(b'{"id":1,"op":"close","doc":"d"}')
+                    self.assertEqual(other.waits(0.05), True)
+                    self.assertEqual(client.ask(**SPLICE, rev=rev), {"bom": 0, "encoding": "UTF-8", "rev": rev + 1})
+                    server.kill()
+
+
+class Recorded(unittest.TestCase):
+    """Authors of documents whose server records what they do, and what they tell in the end."""
+
+    def setUp(self):
+        kept = tempfile.TemporaryDirectory()
+        self.addCleanup(kept.cleanup)
+        self.folder = pathlib.Path(kept.name)
+        self.path = str(self.folder / "socket")
+
+    def server(self, *words, **how):
+        server = Recorder(self.path, self.folder / "record", *words, **how)
+        self.addCleanup(server.kill)
+        server.start()
+        return server
+
+    def authors(self, rng, labels, **how):
+        """Authors of documents of these encodings, each of which begins with some bytes."""
+        begin = {}
+        with Gate.connect(path=self.path) as gate:
+            for label, codec, character in DOCUMENTS:
+                if label in labels:
+                    begin[label] = "".join(rng.choice([character, "words", "\n"]) for _ in range(30)).encode(codec)
+                    gate.open(label, label, begin[label])
+        authors = Authors(self.path, AUTHORS, labels, **how)
+        self.addCleanup(authors.stop)
+        return begin, authors
+
+    def nothing_is_lost(self, begin, told):
+        """Each revision of a document is one edit that one author knows to be made, but for those that others edited before it
+        was known, and all in their order lead from the bytes with which it was opened to those that the server has. No author
+        knows of a later revision."""
+        with Gate.connect(path=self.path) as gate:
+            for label, content in begin.items():
+                found = gate.join(label)
+                self.assertEqual([author.copies[label] for author in told], [(found.rev, found.bytes)] * AUTHORS)
+                made, unsure = ([it for author in told for it in getattr(author, which) if it.name == label] for which in ("made", "unsure"))
+                edits = {it.rev: it for it in [*unsure, *made]}
+                self.assertEqual((len({it.rev for it in made}), sorted(edits)), (len(made), list(range(1, found.rev + 1))), label)
+                for rev in range(1, found.rev + 1):
+                    it = edits[rev]
+                    self.assertEqual(content[it.at : it.at + len(it.old)], it.old, it)
+                    content = content[: it.at] + it.new + content[it.at + len(it.old) :]
+                self.assertEqual(content, found.bytes)
+        return sum(len(author.made) for author in told)
+
+
+@recording
+class Killed(Recorded):
+    """The program is killed at any moment, while it serves and while it begins, and started again."""
+
+    def life(self, seed, kills):
+        """One record, through so many kills."""
+        rng = random.Random(seed)
+        server = self.server()
+        begin, authors = self.authors(rng, [label for label, *_ in DOCUMENTS])
+        for _ in range(kills):
+            begins = rng.random() < 0.2
+            server.killed(rng.random() * (BEGINS if begins else LIVES), begins)
+        told = authors.told()
+        self.nothing_is_lost(begin, told)
+        server.kill()
+        server.record.unlink()
+        return sum(len(it.made) for it in told), sum(it.met for it in told)
+
+    def test_nothing_is_lost_and_nothing_made_twice(self):
+        made = met = 0
+        for first in range(0, KILLS, LIFE):
+            more = self.life(first, min(LIFE, KILLS - first))
+            made, met = made + more[0], met + more[1]
+        self.assertGreater(made, 10 * KILLS)
+        if "GATE_KILLS" in os.environ:
+            print(f"{KILLS} kills: {made} edits, {met} met another's", flush=True)
+
+
+@recording
+class WithoutMemory(Recorded):
+    """The same where memory is bounded, and filled so that edits are refused."""
+
+    def test_nothing_is_lost_where_edits_are_refused(self):
+        rng = random.Random(0)
+        server = self.server(limits=with_little)
+        begin, authors = self.authors(rng, ["utf-8", "shift_jis"], changes=False)
+        with Gate.connect(path=self.path, again=LIMIT) as gate:
+            self.fill(gate)
+            for _ in range(KILLS):
+                server.killed(rng.random() * LIVES)
+            told = authors.told()
+            self.assertGreater(sum(it.refused for it in told), 0)
+            self.nothing_is_lost(begin, told)
+
+    def fill(self, gate):
+        """Opens documents until one is refused."""
+        for number in range(60):
+            try:
+                gate.open(f"costly {number}", "iso-2022-jp", COSTLY)
+            except Fault as fault:
+                self.assertEqual(fault.name, "OutOfMemory")
+                return
+        self.fail("there was memory for all")
+
+
+def with_little():
+    """What a process does so that it has little memory."""
+    resource.setrlimit(resource.RLIMIT_AS, (MEMORY << 20, MEMORY << 20))
+
+
+@recording
+class FullDisk(Recorded):
+    """The record is on a disk that becomes full: the program ends, and what was acknowledged is in the record."""
+
+    def fills(self, server):
+        """Authors edit until the program ends; it is started again with its record on another disk."""
+        begin, authors = self.authors(random.Random(0), ["utf-8", "utf-16le"])
+        self.assertEqual(server.ended(), (1, "gate: write fault\n"))
+        self.assertEqual(server.record.stat().st_size, DISK)
+        # (the clients find it where the other was)
+        other = Recorder(self.path, self.folder / "moved")
+        shutil.copyfile(server.record, other.record)
+        self.addCleanup(other.kill)
+        other.start()
+        time.sleep(0.2)
+        told = authors.told()
+        self.assertGreater(self.nothing_is_lost(begin, told), 100)
+
+    def test_a_disk_that_is_full(self):
+        disk = self.folder / "disk"
+        disk.mkdir()
+        mounted = subprocess.run(["mount", "-t", "tmpfs", "-o", f"size={DISK}", "tmpfs", str(disk)], stderr=subprocess.PIPE)
+        if mounted.returncode:
+            self.skipTest("this user can't mount a disk")
+        self.addCleanup(subprocess.run, ["umount", "-l", str(disk)], check=True)
+        server = Recorder(self.path, disk / "record")
+        self.addCleanup(server.kill)
+        server.start()
+        self.fills(server)
+
+    def test_a_file_that_may_have_no_more_bytes(self):
+        server = self.server(limits=with_a_small_file)
+        self.fills(server)
+
+    def test_a_reply_is_not_sent_whose_line_is_not_recorded(self):
+        record = self.folder / "record"
+        lines = line(**OPEN) + b"".join(line(**SPLICE, rev=rev) for rev in range(9_999))
+        ran = subprocess.run([PROGRAM, *SMALL, "--record", str(record)], input=lines, stdout=subprocess.PIPE, stderr=subprocess.PIPE, preexec_fn=with_a_small_file)
+        self.assertEqual((ran.returncode, ran.stderr), (1, b"gate: write fault\n"))
+        replies = ran.stdout.splitlines()
+        resumed = subprocess.run([PROGRAM, *SMALL, "--resume", str(record)], input=line("stat", doc="d"), stdout=subprocess.PIPE, check=True)
+        self.assertEqual(json.loads(resumed.stdout)["rev"], len(replies) - 1)
+        self.assertEqual([json.loads(it)["rev"] for it in replies], list(range(len(replies))))
+
+
+def with_a_small_file():
+    """What a process does so that it can write no large file, and isn't ended by a signal where it tries."""
+    signal.signal(signal.SIGXFSZ, signal.SIG_IGN)
+    resource.setrlimit(resource.RLIMIT_FSIZE, (DISK, DISK))
+
+
+if __name__ == "__main__":
+    unittest.main()
