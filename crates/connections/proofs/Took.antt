@@ -4,9 +4,24 @@ use Rattle.connections.proofs.Prelude.{take_all, is_some, get_or-set_other, get_
 use Rattle.connections.proofs.Prelude.{Delivered, DeliveredUntil, Begun, WritesReply, connections, at_number, unless_open, unless_bad_number, line_at}
 use Rattle.connections.proofs.Prelude.{Took, has_end, before_end, complete, SameOthers, Traffic, Partial, Stands, GateFault}
 use Rattle.connections.specs.declared.gateway.GateFault.TheVariants.{BadNumber}
-use Rattle.line_protocol.specs.Step.{Replies}
+use Rattle.connections.proofs.Prelude.{Office, Received}
+use Rattle.connections.specs.Traffic.{GoesOn, Takes, taken_of}
+use Rattle.line_protocol.specs.Step.{line_limit, Replies}
 use Rattle.devices.specs.Devices.{AppendsPart, Writes}
 use Rattle.connections.proofs.Cuts.{complete_without, unfinished_without, before_without, cut_at_end, complete_at_end, unfinished_at_end, taken_at_end}
+
+-- ---- the reply to a line that was taken
+
+module _ (bytes : List ℕ) (o n : Office) (begun next : Partial) (taken : ℕ) (count : taken ≡ taken_of bytes) where
+  pub takes_line : (known : Partial) (text : List ℕ) → has_end bytes ≡ true → next ≡ Received [] → GoesOn line_limit begun (before_end bytes) known
+      → ((line : List ℕ) → Stands known line → Replies o line text n) → Takes bytes o begun taken (Some text) n next
+  takes_line known text e fresh goes answers = record {
+    count = count;
+    step = rw e (record { text = text; is = refl; fresh = fresh; answers = λ line s. answers (line ++ before_end bytes) (goes line s) });
+  }
+
+  pub takes_none : has_end bytes ≡ false → n ≡ o → GoesOn line_limit begun bytes next → Takes bytes o begun taken None n next
+  takes_none e same goes = record { count = count; step = rw e (record { silent = refl; same = same; goes_on = goes }) }
 
 -- ---- connections
 

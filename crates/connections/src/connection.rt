@@ -6,15 +6,19 @@ use std::marker::Model;
 
 mod begun_line;
 
-pub use begun_line::{BegunLine, line_end};
+pub use begun_line::{BegunLine, Line, line_end};
+use line_protocol::LINE_LIMIT;
 
 /// How many connections there are. Their numbers count from 0.
 pub const CONNECTIONS: usize = 16;
 
+/// The line that is begun on a connection.
+pub type Begun = BegunLine<LINE_LIMIT>;
+
 /// The lines that are begun, one for each connection that is open. Contracts see their list.
 #[derive(Drop)]
 pub struct Connections {
-    lines: [Option<BegunLine>; CONNECTIONS],
+    lines: [Option<Begun>; CONNECTIONS],
 }
 
 impl Model for Connections {
@@ -65,7 +69,7 @@ impl Connections {
     }
 
     /// Replaces the line of a connection; `None` closes it.
-    pub fn put(&mut self, c: u8, line: Option<BegunLine>)
+    pub fn put(&mut self, c: u8, line: Option<Begun>)
         requires { c < connections }
         ensures { self.new ≡ slice_set self.old c line }
     {
@@ -73,7 +77,7 @@ impl Connections {
     }
 
     /// Takes the line out that is begun on a connection, if the connection is open.
-    pub fn take(&mut self, c: u8) -> Option<BegunLine>
+    pub fn take(&mut self, c: u8) -> Option<Begun>
         requires { c < connections }
         ensures line { result ≡ at_number self.old c }
         ensures rest { self.new ≡ slice_set self.old c None }

@@ -1,9 +1,11 @@
 //! The gateway: one event at a time, on connections that have numbers.
-ghost use Rattle.std.specs.Prelude.{◌≡◌, ◌<◌, None, Some, length, replicate, MatchResult, IfOk, OnErr};
+ghost use Rattle.std.specs.Prelude.{◌≡◌, ◌<◌, ℕ, List, None, Some, length, replicate, MatchResult, IfOk, OnErr};
+ghost use Rattle.line_protocol.specs.Step.{Replies};
+ghost use Rattle.connections.specs.Traffic.{Stands, known_of};
 
-use crate::connection::{BegunLine, Connections};
+use crate::connection::{BegunLine, Connections, Line};
 use desk::Desk;
-use line_protocol::ReplyLine;
+use line_protocol::{ReplyLine, reply_to, reply_to_dropped};
 use std::alloc::Global;
 use std::marker::Model;
 
@@ -167,12 +169,19 @@ impl<'i> Gateway<'i> {
         if !self.connections.exists(c) {
             return Err(GateFault::BadNumber);
         }
-        let Some(mut line) = self.connections.take(c) else {
+        let Some(mut begun) = self.connections.take(c) else {
             return Err(GateFault::NotOpen);
         };
-        let (taken, reply) = line.take(&mut self.desk, self.alloc, bytes);
-        self.connections.put(c, Some(line));
-        Ok(Out { taken, reply })
+        let (taken, line) = begun.take(bytes);
+        self.connections.put(c, Some(begun));
+        let Some(line) = line else {
+            return Ok(Out { taken, reply: None });
+        };
+        let reply = reply_on(&mut self.desk, self.alloc, line);
+        Ok(Out {
+            taken,
+            reply: Some(reply),
+        })
     }
 
     fn close(&mut self, c: u8) -> Result<Out, GateFault>
@@ -190,5 +199,16 @@ impl<'i> Gateway<'i> {
         }
         self.connections.put(c, None);
         Ok(Out::nothing())
+    }
+}
+
+/// The reply to a line that is complete.
+fn reply_on(desk: &mut Desk<'_>, alloc: Global, line: Line<'_>) -> ReplyLine
+    ensures { (l : List ℕ) → Stands (known_of line.entry) l → Replies desk.old l result desk.new }
+{
+    match line {
+        Line::Whole(bytes) => reply_to(desk, alloc, bytes),
+        Line::Joined(bytes) => reply_to(desk, alloc, &bytes),
+        Line::Dropped(count) => reply_to_dropped(count),
     }
 }

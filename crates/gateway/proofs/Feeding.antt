@@ -1,10 +1,14 @@
 -- Lines of a trace, one after another.
-use Rattle.std.proofs.Common.{◌≡◌, ℕ, ◌+◌, ◌<◌, Bool, true, false, List, [], ◌∷◌, ◌++◌, length, take, Option, Err, refl, sym, ap, ◌∙◌, subst, append_assoc, append-nil, add-zero, arith, length-append}
-use Rattle.gateway.proofs.Prelude.{length-take, take_all, Appends-trans, Appends-nil, Appends, LinesCut, complete, unfinished, has_end, before_end}
+use Rattle.std.proofs.Common.{◌≡◌, ℕ, ◌+◌, Bool, true, false, List, [], ◌∷◌, ◌++◌, length, take, Option, Result, Ok, Err, refl, sym, ap, ◌∙◌, subst, append_assoc, append-nil, arith, length-append}
+use Rattle.gateway.proofs.Prelude.{take_all, Appends-trans, Appends-nil, Appends, LinesCut, complete, unfinished, has_end, before_end}
 use Rattle.gateway.proofs.Prelude.{Traffic, is_skipped, IsBad, PrintsLine, PrintsAll, text_lines, StopsAtBad, StopsInPrint, StopsForMemory}
-use Rattle.gateway.proofs.Prelude.{PlaysLines, BegunTrace, Known, MayBe, Goes, PlaysLine, FeedsOn, Feeds, Anything, FeedStops}
+use Rattle.gateway.proofs.Prelude.{PlaysLines, Drops, MayBe, Partial, PlaysLine, Received, Stuck, is_comment, FeedsOn, Feeds, Anything, FeedStops}
 use Rattle.gateway.proofs.Prelude.{LineFault, Bad, Write, OutOfMemory, TracePlace}
-use Rattle.gateway.specs.TraceLines.{line_write_failures}
+use Rattle.connections.specs.Traffic.{taken_of}
+
+-- the line that is begun at a place may be this one
+abbrev pub Begins : TracePlace → List ℕ → Type 0
+Begins p line = MayBe p.begun p.comment line
 
 pub prints-append : (t u v : Traffic) (xs ys : List (List ℕ)) (a b : List ℕ) → PrintsAll t xs a u → PrintsAll u ys b v → PrintsAll t (xs ++ ys) (a ++ b) v
 prints-append t u v [] ys a b p q = rw p.0 (subst (λ x. PrintsAll x ys b v) p.1 q)
@@ -138,10 +142,10 @@ feeds-stop cuts OutOfMemory n a b t u v x y z p q one two = λ line m.
 
 -- ---- bytes without a line feed
 
-pub more-feeds : (cuts : LinesCut) (bytes : List ℕ) (t : Traffic) (x : Option (List ℕ)) (p q : TracePlace) → has_end bytes ≡ false → q.number ≡ p.number
-    → ((line : List ℕ) → MayBe p.begun line → MayBe q.begun (line ++ bytes)) → Feeds (take (length bytes) bytes) t t x x p q
-more-feeds cuts bytes t x p q e same goes line m =
-    let all : take (length bytes) bytes ≡ bytes = take_all (length bytes) bytes (omega arith) in
+pub more-feeds : (cuts : LinesCut) (bytes : List ℕ) (taken : ℕ) (t : Traffic) (x : Option (List ℕ)) (p q : TracePlace) → has_end bytes ≡ false → taken ≡ taken_of bytes → q.number ≡ p.number
+    → ((line : List ℕ) → Begins p line → Begins q (line ++ bytes)) → Feeds (take taken bytes) t t x x p q
+more-feeds cuts bytes taken t x p q e is same goes line m =
+    let all : take taken bytes ≡ bytes = let n = rw e at is in take_all taken bytes (omega (arith, n)) in
     rw all (record {
       out = [];
       appends = Appends-nil x;
@@ -154,27 +158,21 @@ more-lines : (cuts : LinesCut) (line bytes later : List ℕ) → has_end bytes �
 more-lines cuts line bytes later e =
     lines-append cuts line bytes later ∙ ap (λ l. l ++ text_lines (unfinished line bytes) later) (cuts.complete_without line bytes e) ∙ ap (λ l. text_lines l later) (cuts.unfinished_without line bytes e)
 
-pub more-stops : (cuts : LinesCut) (f : LineFault) (bytes : List ℕ) (t : Traffic) (x : Option (List ℕ)) (p : TracePlace) (q : BegunTrace) → has_end bytes ≡ false → Goes {A = Unit {0}} (Err f) p.begun bytes q
-    → FeedStops f p.number bytes t t x x p
-more-stops cuts Bad bytes t x p q e bad = λ line m.
+pub more-stops : (cuts : LinesCut) (f : LineFault) (bytes : List ℕ) (t : Traffic) (x : Option (List ℕ)) (p : TracePlace) (known : Partial) (comment : Bool) → has_end bytes ≡ false
+    → ((line : List ℕ) → Begins p line → MayBe known comment (line ++ bytes)) → ((line : List ℕ) → MayBe known comment line → Stuck f line) → FeedStops f p.number bytes t t x x p
+more-stops cuts Bad bytes t x p known comment e goes stuck = λ line m.
     bad-next (played-none t x) p.number p.number (omega arith) (λ later any.
     let found = first-line cuts (line ++ bytes) later in
-    ((line ++ bytes) ++ found.0, found.1, more-lines cuts line bytes later e ∙ found.2, bad line found.0 m)) refl refl
-more-stops cuts Write bytes t x p q e bad = absurd bad
-more-stops cuts OutOfMemory bytes t x p q e counts = λ line m.
+    ((line ++ bytes) ++ found.0, found.1, more-lines cuts line bytes later e ∙ found.2, stuck (line ++ bytes) (goes line m) found.0)) refl refl
+more-stops cuts Write bytes t x p known comment e goes stuck = λ line m. absurd (stuck (line ++ bytes) (goes line m))
+more-stops cuts OutOfMemory bytes t x p known comment e goes stuck = λ line m.
     unkept-next (played-none t x) (line ++ bytes) []
     (ap (λ l. l ++ unfinished line bytes ∷ []) (cuts.complete_without line bytes e) ∙ ap (λ l. l ∷ []) (cuts.unfinished_without line bytes e))
-    (counts line m, refl, refl)
-
--- a line that can't go on is none that a write failed for
-pub none-written : (f : LineFault) (p q : BegunTrace) (bytes : List ℕ) (n : ℕ) → Goes {A = Unit {0}} (Err f) p bytes q → n ≡ n + line_write_failures {A = Unit {0}} (Err f)
-none-written Bad p q bytes n goes = sym (add-zero n)
-none-written Write p q bytes n goes = absurd goes
-none-written OutOfMemory p q bytes n goes = sym (add-zero n)
+    (stuck (line ++ bytes) (goes line m), refl, refl)
 
 -- ---- bytes with a line feed
 
-module _ (cuts : LinesCut) (bytes : List ℕ) (k : ℕ) (e : has_end bytes ≡ true) (front : before_end bytes ≡ take k bytes) (small : k < length bytes) where
+module _ (cuts : LinesCut) (bytes : List ℕ) (e : has_end bytes ≡ true) where
   abbrev rest : List ℕ
   rest = (cuts.cut_at_end bytes e).0
 
@@ -191,45 +189,47 @@ module _ (cuts : LinesCut) (bytes : List ℕ) (k : ℕ) (e : has_end bytes ≡ t
   ended-here : (line : List ℕ) → text_lines line bytes ≡ (line ++ before_end bytes) ∷ complete [] rest ++ unfinished line bytes ∷ []
   ended-here line = ap (λ l. l ++ unfinished line bytes ∷ []) (ap (complete line) cut ∙ cuts.complete_at_end line (before_end bytes) rest (cuts.before_without bytes))
 
-  end-by : (t u : Traffic) (x y : Option (List ℕ)) (p : TracePlace) (f : LineFault)
-      → ((line : List ℕ) → MayBe p.begun line → PlaysLine {A = Unit {0}} (Err f) (line ++ before_end bytes) t u x y)
+  pub end-stops : (t u : Traffic) (x y : Option (List ℕ)) (p : TracePlace) (f : LineFault)
+      → ((line : List ℕ) → Begins p line → PlaysLine {A = Unit {0}} (Err f) (line ++ before_end bytes) t u x y)
       → FeedStops f p.number bytes t u x y p
-  end-by t u x y p Bad plays = λ line m.
+  end-stops t u x y p Bad plays = λ line m.
       let done = plays line m in
       bad-next (played-none t x) p.number p.number (omega arith)
       (λ later any. (line ++ before_end bytes, complete [] (rest ++ later) ++ unfinished line (bytes ++ later) ∷ [], ended-lines line later, done.0))
       done.1 done.2
-  end-by t u x y p Write plays = λ line m.
+  end-stops t u x y p Write plays = λ line m.
       unprinted-next (played-none t x) (line ++ before_end bytes)
       (λ later any. (complete [] (rest ++ later) ++ unfinished line (bytes ++ later) ∷ [], ended-lines line later)) (plays line m)
-  end-by t u x y p OutOfMemory plays = λ line m.
+  end-stops t u x y p OutOfMemory plays = λ line m.
       unkept-next (played-none t x) (line ++ before_end bytes) (complete [] rest ++ unfinished line bytes ∷ []) (ended-here line) (plays line m)
 
-  pub end-stops : (f : LineFault) (t : Traffic) (x : Option (List ℕ)) (p : TracePlace) (q : BegunTrace) → Goes {A = Unit {0}} (Err f) p.begun (take k bytes) q
-      → FeedStops f p.number bytes t t x x p
-  end-stops Bad t x p q bad =
-      end-by t t x x p Bad (λ line m. (rw front (subst IsBad (append-nil (line ++ take k bytes)) (bad line [] m)), refl, refl))
-  end-stops Write t x p q bad = absurd bad
-  end-stops OutOfMemory t x p q counts = end-by t t x x p OutOfMemory (λ line m. (rw front (counts line m), refl, refl))
+  pub end-feeds : (taken : ℕ) (t u : Traffic) (x y : Option (List ℕ)) (p r : TracePlace) → taken ≡ taken_of bytes → r.begun ≡ Received [] → r.comment ≡ false → r.number ≡ p.number + 1
+      → ((line : List ℕ) → Begins p line → (out : List ℕ) × Appends x y out × PrintsLine (is_skipped (line ++ before_end bytes)) (line ++ before_end bytes) t out u) → Feeds (take taken bytes) t u x y p r
+  end-feeds taken t u x y p r is fresh plain next plays line m =
+      let front : take taken bytes ≡ before_end bytes ++ 10 ∷ [] = ap (λ n. take n bytes) (rw e at is) ∙ cuts.taken_at_end bytes (before_end bytes) rest cut in
+      let done = plays line m in
+      let lines = cuts.complete_at_end line (before_end bytes) [] (cuts.before_without bytes) in
+      rw front (record {
+        out = done.0;
+        appends = done.1;
+        prints = rw lines (u, done.0, [], done.2, (refl, refl), sym (append-nil done.0));
+        next = rw (fresh, plain, cuts.unfinished_at_end line (before_end bytes)) (refl, refl);
+        number = rw lines next;
+      })
 
-  module _ (t u : Traffic) (x y : Option (List ℕ)) (p : TracePlace) (q : BegunTrace) (goes : (line : List ℕ) → MayBe p.begun line → MayBe q (line ++ take k bytes)) where
-    ended : (line : List ℕ) → MayBe p.begun line → MayBe q (line ++ before_end bytes)
-    ended line m = rw front (goes line m)
+-- ---- comments
 
-    pub end-feeds : (r : TracePlace) → r.begun ≡ Known [] → r.number ≡ p.number + 1
-        → ((line : List ℕ) → MayBe q line → (out : List ℕ) × Appends x y out × PrintsLine (is_skipped line) line t out u) → Feeds (take (k + 1) bytes) t u x y p r
-    end-feeds r fresh next plays line m =
-        let long : k ≡ length (before_end bytes) = let n = ap length front in omega (arith, n, small, length-take k bytes) in
-        let taken : take (k + 1) bytes ≡ before_end bytes ++ 10 ∷ [] = ap (λ n. take (n + 1) bytes) long ∙ cuts.taken_at_end bytes (before_end bytes) rest cut in
-        let done = plays (line ++ before_end bytes) (ended line m) in
-        let lines = cuts.complete_at_end line (before_end bytes) [] (cuts.before_without bytes) in
-        rw taken (record {
-          out = done.0;
-          appends = done.1;
-          prints = rw lines (u, done.0, [], done.2, (refl, refl), sym (append-nil done.0));
-          next = rw (fresh, cuts.unfinished_at_end line (before_end bytes)) refl;
-          number = rw lines next;
-        })
+-- whether a line is a comment is seen before its line feed
+pub same_comment : (line bytes : List ℕ) → is_comment (line ++ before_end bytes) ≡ is_comment (line ++ bytes)
+same_comment (b ∷ bs) bytes = refl
+same_comment [] [] = refl
+same_comment [] (b ∷ bs) = grind arith
 
-    pub end-played-stops : (f : LineFault) → ((line : List ℕ) → MayBe q line → PlaysLine {A = Unit {0}} (Err f) line t u x y) → FeedStops f p.number bytes t u x y p
-    end-played-stops f plays = end-by t u x y p f (λ line m. plays (line ++ before_end bytes) (ended line m))
+-- ---- dropped bytes
+
+-- a line whose bytes were dropped is skipped, or the trace stops there
+pub dropped_plays : (A : Type 0) (result : Result A LineFault) (line : List ℕ) (t : Traffic) (x : Option (List ℕ)) → Drops result line → PlaysLine result line t t x x
+dropped_plays A (Ok a) line t x skipped = ([], Appends-nil x, rw skipped (refl, refl))
+dropped_plays A (Err Bad) line t x stuck = (subst IsBad (append-nil line) (stuck []), refl, refl)
+dropped_plays A (Err Write) line t x stuck = absurd stuck
+dropped_plays A (Err OutOfMemory) line t x counts = (counts, refl, refl)

@@ -1,15 +1,15 @@
 -- What was fed of a trace, one part after another, and its last line.
-use Rattle.std.proofs.Common.{◌≡◌, ℕ, ◌+◌, List, [], ◌∷◌, ◌++◌, length, Option, Some, Ok, Err, refl, sym, ap, ◌∙◌, add-zero, append-nil}
+use Rattle.std.proofs.Common.{◌≡◌, ℕ, ◌+◌, false, List, [], ◌∷◌, ◌++◌, length, Option, Some, Ok, Err, refl, sym, ap, ◌∙◌, add-zero, append-nil}
 use Rattle.devices.specs.Devices.{Reads, Writes}
 use Rattle.devices.specs.Reading.{Pumps, ReadSo, Taken, TakenUntil, TakesEach, joined}
 use Rattle.devices.specs.declared.reading.Stop.{Stop}
 use Rattle.devices.specs.declared.reading.Stop.TheVariants as stop
 use Rattle.gateway.proofs.Prelude.{IsAtEnd, LinesCut, complete, unfinished, Traffic, text_lines}
-use Rattle.gateway.proofs.Prelude.{StopsAtBad, StopsInPrint, PlaysLines, Traces, Known, MayBe, PlaysLine, FeedsOn, Anything}
+use Rattle.gateway.proofs.Prelude.{StopsAtBad, StopsInPrint, PlaysLines, Traces, Received, PlaysLine, FeedsOn, Anything}
 use Rattle.gateway.proofs.Prelude.{Fed, FedUntil, fault_by, numbered_fault, LineFault, Bad, Write, OutOfMemory, TracePlace}
 use Rattle.gateway.specs.Trace.{TracesText, trace_write_failures}
 use Rattle.gateway.specs.TraceLines.{line_write_failures}
-use Rattle.gateway.proofs.Feeding.{bad-next, unprinted-next, unkept-next, plays-append, feeds-nil, feeds-trans, feeds-stop}
+use Rattle.gateway.proofs.Feeding.{Begins, bad-next, unprinted-next, unkept-next, plays-append, feeds-nil, feeds-trans, feeds-stop}
 
 -- ---- one part after another
 
@@ -40,9 +40,9 @@ module _ (cuts : LinesCut) {G W : Type 0} (traffic : G → Traffic) (took : W �
 -- ---- a whole trace
 
 -- from the first line on
-module _ (t u : Traffic) (m : Option (List ℕ)) (v w : Writes) (p q : TracePlace) (fresh : p.begun ≡ Known []) (first : p.number ≡ 1) (read : List ℕ) where
-  begin : MayBe p.begun []
-  begin = rw fresh refl
+module _ (t u : Traffic) (m : Option (List ℕ)) (v w : Writes) (p q : TracePlace) (fresh : p.begun ≡ Received []) (plain : p.comment ≡ false) (first : p.number ≡ 1) (read : List ℕ) where
+  begin : Begins p []
+  begin = rw (fresh, plain) (refl, refl)
 
   complete-lines : Fed read t u v w p q → PlaysLines (complete [] read) t u v.written w.written
   complete-lines fed = let on = fed.feeds [] begin in record { out = on.out; appends = on.appends; prints = on.prints }
@@ -87,14 +87,14 @@ module _ (t u : Traffic) (m : Option (List ℕ)) (v w : Writes) (p q : TracePlac
     lines-then : (later : List ℕ) → m ≡ Some later → text_lines [] (read ++ later) ≡ text_lines [] read
     lines-then later is = ap (λ l. text_lines [] (read ++ l)) (none-later later is) ∙ ap (text_lines []) (append-nil read)
 
-    finished : (A : Type 0) (a : A) (x : Traffic) (z : Option (List ℕ)) → ((line : List ℕ) → MayBe q.begun line → PlaysLine {A = Unit {0}} (Ok tt) line u x w.written z)
+    finished : (A : Type 0) (a : A) (x : Traffic) (z : Option (List ℕ)) → ((line : List ℕ) → Begins q line → PlaysLine {A = Unit {0}} (Ok tt) line u x w.written z)
         → TracesText {A = A} (Ok a) read m t x v.written z
     finished A a x z plays =
         let done = plays (unfinished [] read) on.next in
         plays-append (complete-lines fed)
         (record { out = done.0; appends = done.1; prints = (x, done.0, [], done.2, (refl, refl), sym (append-nil done.0)) })
 
-    unplayed : (A : Type 0) (f : LineFault) (x : Traffic) (z : Option (List ℕ)) → ((line : List ℕ) → MayBe q.begun line → PlaysLine {A = Unit {0}} (Err f) line u x w.written z)
+    unplayed : (A : Type 0) (f : LineFault) (x : Traffic) (z : Option (List ℕ)) → ((line : List ℕ) → Begins q line → PlaysLine {A = Unit {0}} (Err f) line u x w.written z)
         → TracesText {A = A} (Err (numbered_fault f q.number)) read m t x v.written z
     unplayed A Bad x z plays =
         let done = plays (unfinished [] read) on.next in
@@ -112,12 +112,12 @@ same_failures B Bad n = refl
 same_failures B Write n = refl
 same_failures B OutOfMemory n = refl
 
-module _ (cuts : LinesCut) {G W : Type 0} (traffic : G → Traffic) (took : W → Writes) (first last : Reads) (s r : TracePlace × G × W) (fresh : s.0.begun ≡ Known []) (one : s.0.number ≡ 1) where
+module _ (cuts : LinesCut) {G W : Type 0} (traffic : G → Traffic) (took : W → Writes) (first last : Reads) (s r : TracePlace × G × W) (fresh : s.0.begun ≡ Received []) (plain : s.0.comment ≡ false) (one : s.0.number ≡ 1) where
   fed_fine : ReadSo (λ read. Taken (Takes cuts traffic took) read s r) first last
       → ReadSo (λ read. PlaysLines (complete [] read) (traffic s.1) (traffic r.1) (took s.2).written (took r.2).written) first last × ((took r.2).failures ≡ (took s.2).failures + 0)
   fed_fine p =
       let fed = fed-all cuts traffic took p.read s r p.holds in (
-        record { read = p.read; received = p.received; consumes = p.consumes; holds = complete-lines _ _ last.left _ _ _ _ fresh one p.read fed },
+        record { read = p.read; received = p.received; consumes = p.consumes; holds = complete-lines _ _ last.left _ _ _ _ fresh plain one p.read fed },
         fed.fine ∙ sym (add-zero (took s.2).failures),
       )
 
@@ -128,7 +128,7 @@ module _ (cuts : LinesCut) {G W : Type 0} (traffic : G → Traffic) (took : W �
   trace_stopped A B stop.TooManyReads p = fed_fine p
   trace_stopped A B (stop.Taker f) p =
       let fed = fed-until cuts traffic took f p.read s r p.holds in (
-        record { read = p.read; received = p.received; consumes = p.consumes; holds = text-until _ _ last.left _ _ _ _ fresh one p.read B f fed },
+        record { read = p.read; received = p.received; consumes = p.consumes; holds = text-until _ _ last.left _ _ _ _ fresh plain one p.read B f fed },
         fed.failed ∙ ap (λ n. (took s.2).failures + n) (same_failures B f r.0.number),
       )
 
@@ -136,19 +136,19 @@ module _ (cuts : LinesCut) {G W : Type 0} (traffic : G → Traffic) (took : W �
     fed : Fed p.read (traffic s.1) (traffic r.1) (took s.2) (took r.2) s.0 r.0
     fed = fed-all cuts traffic took p.read s r p.holds
 
-    pub trace_finished : (B : Type 0) (b : B) → ((line : List ℕ) → MayBe r.0.begun line → PlaysLine {A = Unit {0}} (Ok tt) line (traffic r.1) v (took r.2).written z.written)
+    pub trace_finished : (B : Type 0) (b : B) → ((line : List ℕ) → Begins r.0 line → PlaysLine {A = Unit {0}} (Ok tt) line (traffic r.1) v (took r.2).written z.written)
         → z.failures ≡ (took r.2).failures + 0 → Traces {A = B} (Ok b) (traffic s.1) v first last (took s.2).written z.written × (z.failures ≡ (took s.2).failures + 0)
     trace_finished B b plays fine = (
-      record { read = p.read; received = p.received; consumes = p.consumes; holds = finished _ _ last.left _ _ _ _ fresh one p.read fed end B b v z.written plays },
+      record { read = p.read; received = p.received; consumes = p.consumes; holds = finished _ _ last.left _ _ _ _ fresh plain one p.read fed end B b v z.written plays },
       fine ∙ ap (λ n. n + 0) fed.fine,
     )
 
     pub trace_unplayed : (B : Type 0) (f : LineFault)
-        → ((line : List ℕ) → MayBe r.0.begun line → PlaysLine {A = Unit {0}} (Err f) line (traffic r.1) v (took r.2).written z.written)
+        → ((line : List ℕ) → Begins r.0 line → PlaysLine {A = Unit {0}} (Err f) line (traffic r.1) v (took r.2).written z.written)
         → z.failures ≡ (took r.2).failures + line_write_failures {A = Unit {0}} (Err f)
         → Traces {A = B} (Err (numbered_fault f r.0.number)) (traffic s.1) v first last (took s.2).written z.written
         × (z.failures ≡ (took s.2).failures + trace_write_failures {A = B} (Err (numbered_fault f r.0.number)))
     trace_unplayed B f plays failed = (
-      record { read = p.read; received = p.received; consumes = p.consumes; holds = unplayed _ _ last.left _ _ _ _ fresh one p.read fed end B f v z.written plays },
+      record { read = p.read; received = p.received; consumes = p.consumes; holds = unplayed _ _ last.left _ _ _ _ fresh plain one p.read fed end B f v z.written plays },
       failed ∙ ap (λ n. n + line_write_failures {A = Unit {0}} (Err f)) fed.fine ∙ ap (λ n. (took s.2).failures + n) (same_failures B f r.0.number),
     )

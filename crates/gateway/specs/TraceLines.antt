@@ -1,36 +1,30 @@
--- The line of a trace that is begun. Nothing here has to be believed.
-use Rattle.std.specs.Prelude.{◌≡◌, ℕ, ◌<◌, ◌==◌, Bool, true, false, List, [], ◌∷◌, ◌++◌, length, Option, Some, Result, Ok, Err}
+-- The line of a trace that is begun, and the play of one that is complete. Nothing here has to be believed.
+use Rattle.std.specs.Prelude.{◌≡◌, ℕ, ◌==◌, Bool, true, false, List, [], ◌∷◌, ◌++◌, Option, Some, Result, Ok, Err}
 use Rattle.std.specs.Io.KnownBytes.{Appends}
-use Rattle.gateway.specs.declared.traces.begun_line.LineFault.{LineFault}
-use Rattle.gateway.specs.declared.traces.begun_line.LineFault.TheVariants.{Bad, Write, OutOfMemory}
-use Rattle.connections.specs.Traffic.{Traffic}
+use Rattle.gateway.specs.declared.traces.fault.LineFault.{LineFault}
+use Rattle.gateway.specs.declared.traces.fault.LineFault.TheVariants.{Bad, Write, OutOfMemory}
+use Rattle.connections.specs.Traffic.{Partial, StandsWithin, Traffic}
 use Rattle.connections.specs.Events.{Happening}
-use Rattle.gateway.specs.Trace.{is_skipped, event_on, IsBad, PrintStops, PrintsLine}
-
--- its bytes; or that it is a comment, whose bytes aren't kept
-pub data BegunTrace : Type 0 where
-  Known : List ℕ → BegunTrace
-  Comment : BegunTrace
-
-abbrev pub begun_of : Bool → List ℕ → BegunTrace
-begun_of true xs = Comment
-begun_of false xs = Known xs
+use Rattle.gateway.specs.Trace.{trace_limit, is_skipped, event_on, IsBad, PrintStops, PrintsLine}
 
 abbrev pub is_comment : List ℕ → Bool
 is_comment [] = false
 is_comment (b ∷ bs) = b == 35
 
--- The line that is begun may be this one. A comment may be any.
-abbrev pub MayBe : BegunTrace → List ℕ → Type 0
-MayBe (Known xs) line = line ≡ xs
-MayBe Comment line = (is_skipped line ≡ true) × (0 < length line)
+-- A line may be this one, by what is known of it, and whether it is a comment.
+abbrev pub MayBe : Partial → Bool → List ℕ → Type 0
+MayBe known comment line = StandsWithin trace_limit known line × (comment ≡ is_comment line)
 
--- bytes went on with the line; or it is bad, whatever comes after them; or it isn't skipped, and memory ran out
-abbrev pub Goes : {A : Type 0} → Result A LineFault → BegunTrace → List ℕ → BegunTrace → Type 0
-Goes (Ok x) old bytes new = (line : List ℕ) → MayBe old line → MayBe new (line ++ bytes)
-Goes (Err Bad) old bytes new = (line more : List ℕ) → MayBe old line → IsBad ((line ++ bytes) ++ more)
-Goes (Err Write) old bytes new = ⊥
-Goes (Err OutOfMemory) old bytes new = (line : List ℕ) → MayBe old line → is_skipped (line ++ bytes) ≡ false
+-- why a trace can't go on with a line: it is bad, whatever comes after it; or it isn't skipped, and memory ran out
+abbrev pub Stuck : LineFault → List ℕ → Type 0
+Stuck Bad line = (more : List ℕ) → IsBad (line ++ more)
+Stuck Write line = ⊥
+Stuck OutOfMemory line = is_skipped line ≡ false
+
+-- the bytes of a line were dropped since it is skipped, or a trace can't go on with it
+abbrev pub Drops : {A : Type 0} → Result A LineFault → List ℕ → Type 0
+Drops (Ok x) line = is_skipped line ≡ true
+Drops (Err fault) line = Stuck fault line
 
 -- the line was played
 abbrev pub PlaysLine : {A : Type 0} → Result A LineFault → List ℕ → Traffic → Traffic → Option (List ℕ) → Option (List ℕ) → Type 0

@@ -4,8 +4,8 @@ use Rattle.std.specs.declared.alloc.Global.{Global}
 use Rattle.std.specs.Io.KnownBytes.{Appends}
 use Rattle.gateway.specs.declared.traces.fault.TraceFault.{TraceFault}
 use Rattle.gateway.specs.declared.traces.fault.TraceFault.TheVariants as fault
-use Rattle.gateway.specs.declared.traces.begun_line.LineFault.{LineFault}
-use Rattle.gateway.specs.declared.traces.begun_line.LineFault.TheVariants.{Bad, Write, OutOfMemory}
+use Rattle.gateway.specs.declared.traces.fault.LineFault.{LineFault}
+use Rattle.gateway.specs.declared.traces.fault.LineFault.TheVariants.{Bad, Write, OutOfMemory}
 use Rattle.gateway.specs.declared.traces.event.TraceEvent.{TraceEvent}
 use Rattle.gateway.specs.declared.traces.event.TraceEvent.TheVariants.{Open, Bytes, Close}
 use Rattle.devices.specs.declared.reading.Stop.{Stop}
@@ -97,11 +97,11 @@ pub record FeedsOn (line bytes : List ℕ) (old new : Traffic) (before after : O
   pub out : List ℕ
   pub appends : Appends before after out
   pub prints : PrintsAll old (complete line bytes) out new
-  pub next : MayBe is.begun (unfinished line bytes)
+  pub next : MayBe is.begun is.comment (unfinished line bytes)
   pub number : is.number ≡ was.number + length (complete line bytes)
 
 abbrev pub Feeds : List ℕ → Traffic → Traffic → Option (List ℕ) → Option (List ℕ) → TracePlace → TracePlace → Type 0
-Feeds bytes old new before after was is = (line : List ℕ) → MayBe was.begun line → FeedsOn line bytes old new before after was is
+Feeds bytes old new before after was is = (line : List ℕ) → MayBe was.begun was.comment line → FeedsOn line bytes old new before after was is
 
 abbrev pub Anything : List ℕ → Type 0
 Anything later = Unit {0}
@@ -109,9 +109,9 @@ Anything later = Unit {0}
 -- why bytes weren't fed to their end, in the line of this number
 abbrev pub FeedStops : LineFault → ℕ → List ℕ → Traffic → Traffic → Option (List ℕ) → Option (List ℕ) → TracePlace → Type 0
 FeedStops Bad n bytes old new before after was =
-    (line : List ℕ) → MayBe was.begun line → StopsAtBad n was.number line bytes Anything old new before after
-FeedStops Write n bytes old new before after was = (line : List ℕ) → MayBe was.begun line → StopsInPrint line bytes Anything old new before after
-FeedStops OutOfMemory n bytes old new before after was = (line : List ℕ) → MayBe was.begun line → StopsForMemory line bytes old new before after
+    (line : List ℕ) → MayBe was.begun was.comment line → StopsAtBad n was.number line bytes Anything old new before after
+FeedStops Write n bytes old new before after was = (line : List ℕ) → MayBe was.begun was.comment line → StopsInPrint line bytes Anything old new before after
+FeedStops OutOfMemory n bytes old new before after was = (line : List ℕ) → MayBe was.begun was.comment line → StopsForMemory line bytes old new before after
 
 -- the same, with the number of failed writes
 pub record Fed (bytes : List ℕ) (old new : Traffic) (before after : Writes) (was is : TracePlace) : Type 0 where

@@ -3,14 +3,14 @@ ghost use Rattle.std.specs.Prelude.{◌≡◌, ◌+◌};
 ghost use Rattle.gateway.specs.Trace.{Traces, TraceReads, trace_write_failures};
 ghost use Rattle.gateway.specs.Tracing.{fault_by, numbered_fault};
 
-mod begun_line;
 mod event;
 mod fault;
 mod feeding;
+mod line;
 mod play;
 mod print;
 
-use crate::traces::begun_line::LineFault;
+use crate::traces::fault::LineFault;
 use crate::traces::feeding::TracePlace;
 use connections::{TakesEvents, law_lines};
 use devices::{Feed, Outlet, Stop, pump};
@@ -47,9 +47,10 @@ pub fn trace<G: TakesEvents, R: Feed, W: Outlet>(
         Ok(()) => {}
         Err(stop) => return Err(fault_of(stop, place.number)),
     }
-    match place.begun.play(alloc, gateway, writer) {
+    let last = place.number;
+    match place.finish(gateway, writer) {
         Ok(()) => Ok(()),
-        Err(fault) => Err(fault_at(fault, place.number)),
+        Err(fault) => Err(fault_at(fault, last)),
     }
 }
 

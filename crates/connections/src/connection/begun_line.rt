@@ -1,26 +1,38 @@
-//! The line that is begun on a connection.
-ghost use Rattle.std.specs.Prelude.{◌≡◌, ℕ, ◌+◌, ◌<◌, List, [], ◌++◌, length, min, take, IsTrue, ◌↔◌, MatchOption, true, false};
-ghost use Rattle.line_protocol.specs.Step.{line_limit, Replies};
+//! The line that is begun, of bytes that come in parts.
+ghost use Rattle.std.specs.Prelude.{◌≡◌, ℕ, ◌+◌, ◌<◌, ◌^◌, List, [], ◌++◌, length, min, take, IsTrue, ◌↔◌, MatchOption, true, false, is_ok, if◌then◌else◌};
 ghost use Rattle.connections.specs.Lines.{has_end, before_end};
-ghost use Rattle.connections.specs.Traffic.{Received, Stands, Takes};
+ghost use Rattle.connections.specs.Traffic.{Dropped, GoesOn, Received, StandsWithin, known_of, taken_of};
 
-use desk::Desk;
-use line_protocol::{LINE_LIMIT, ReplyLine, reply_to, reply_to_dropped};
 use memchr::memchr;
-use std::alloc::Global;
+use std::alloc::{AllocError, Global};
 use std::marker::Model;
+use std::mem;
 
-/// A line that is begun: its bytes, at most `LINE_LIMIT`; or, where they were dropped, how many
-/// were received.
+/// From this length on a line that is begun has room for the longest one, so that no more of a long
+/// line is moved than this.
+const LONG: usize = 65_536;
+
+/// A line that is begun: its bytes, at most `LIMIT`; or, where they were dropped, how many were
+/// received.
 #[derive(Drop)]
-pub struct BegunLine {
+pub struct BegunLine<const LIMIT: usize> {
     received: Vec<u8>,
     dropped: Option<usize>,
 }
 
-impl Model for BegunLine {
-    ghost use Rattle.std.specs.Prelude.{◌≡◌, ◌≤◌, [], length, IsSome};
-    ghost use Rattle.line_protocol.specs.Step.{line_limit};
+/// A line that is complete, without its line feed.
+#[derive(Drop)]
+pub enum Line<'a> {
+    /// All of it came at once.
+    Whole(&'a [u8]),
+    /// It came in parts.
+    Joined(Vec<u8>),
+    /// Its bytes were dropped. There were so many, counted up to the first that is too many.
+    Dropped(usize),
+}
+
+impl<const LIMIT: usize> Model for BegunLine<LIMIT> {
+    ghost use Rattle.std.specs.Prelude.{◌≡◌, ◌+◌, ◌<◌, ◌≤◌, ◌^◌, [], length, IsSome};
     ghost use Rattle.connections.specs.Traffic.{Partial, partial_of};
     ghost use Rattle.connections.specs.Codes.{partial_code};
 
@@ -30,13 +42,14 @@ impl Model for BegunLine {
 
     ghost view = { λ a. partial_of a.dropped a.received.items };
 
-    ghost invariant = { λ a. (length a.received.items ≤ line_limit)
+    ghost invariant = { λ a. (LIMIT + 1 < 2 ^ 64) × (length a.received.items ≤ LIMIT)
         × (IsSome a.dropped → a.received.items ≡ []) };
 }
 
-impl BegunLine {
+impl<const LIMIT: usize> BegunLine<LIMIT> {
     /// A line of which no byte was received.
-    pub fn new(alloc: Global) -> BegunLine
+    pub fn new(alloc: Global) -> BegunLine<LIMIT>
+        requires { LIMIT + 1 < 2 ^ 64 }
         ensures { result ≡ Received [] }
     {
         BegunLine {
@@ -46,17 +59,15 @@ impl BegunLine {
     }
 
     /// Takes bytes up to and with the first line feed, which completes the line, or all of them.
-    /// Returns how many it took, and the reply to the line that they completed.
-    pub fn take(
-        &mut self,
-        desk: &mut Desk<'_>,
-        alloc: Global,
-        bytes: &[u8],
-    ) -> (usize, Option<ReplyLine>)
-        ensures { Takes bytes.now desk.old self.old result.0 result.1 desk.new self.new }
+    /// Returns how many it took, and the line that they completed.
+    pub fn take<'a>(&mut self, bytes: &'a [u8]) -> (usize, Option<Line<'a>>)
+        ensures count { result.0 ≡ taken_of bytes.now }
+        ensures line { MatchOption result.1
+            ((has_end bytes.now ≡ false) × GoesOn LIMIT self.old bytes.now self.new)
+            (λ line. (has_end bytes.now ≡ true) × (self.new ≡ Received []) × GoesOn LIMIT self.old (before_end bytes.now) (known_of line)) }
     {
         match line_end(bytes) {
-            Some(end) => (end + 1, Some(self.finish(desk, alloc, &bytes[..end]))),
+            Some(end) => (end + 1, Some(self.end(&bytes[..end]))),
             None => {
                 self.extend(bytes);
                 (bytes.len(), None)
@@ -64,73 +75,90 @@ impl BegunLine {
         }
     }
 
-    /// Answers the line that ends with `piece`, and begins the next. A line that lies in `piece`
-    /// whole is answered from there, without a copy.
-    fn finish(&mut self, desk: &mut Desk<'_>, alloc: Global, piece: &[u8]) -> ReplyLine
-        ensures reply { (line : List ℕ) → Stands self.old line → Replies desk.old (line ++ piece.now) result desk.new }
+    /// Completes the line with its last bytes, and begins the next. A line that came at once isn't
+    /// copied, and between lines no memory is held.
+    pub fn end<'a>(&mut self, piece: &'a [u8]) -> Line<'a>
+        ensures line { GoesOn LIMIT self.old piece.now (known_of result) }
         ensures fresh { self.new ≡ Received [] }
     {
         if self.is_fresh() {
-            return reply_to(desk, alloc, piece);
+            return Line::Whole(piece);
         }
         self.extend(piece);
-        let reply = self.reply(desk, alloc);
-        self.clear();
-        reply
+        let alloc = *self.received.allocator();
+        let received = mem::replace(&mut self.received, Vec::new(alloc));
+        match self.dropped.take() {
+            Some(count) => Line::Dropped(count),
+            None => Line::Joined(received),
+        }
+    }
+
+    /// No more bytes of the line are kept: they are counted alone.
+    pub fn skip(&mut self)
+        ensures line { GoesOn LIMIT self.old [] self.new }
+        ensures dropped { (n : ℕ) × (self.new ≡ Dropped n) }
+    {
+        let count = self.count();
+        self.drop_bytes(count);
     }
 
     /// Whether no byte of the line was received.
     fn is_fresh(&self) -> bool
         ensures { IsTrue result ↔ self.now ≡ Received [] }
     {
-        self.dropped.is_none() && self.received.is_empty()
-    }
-
-    /// Begins the next line. The memory of this one is freed, so that a connection holds none between
-    /// its lines.
-    fn clear(&mut self)
-        ensures { self.new ≡ Received [] }
-    {
-        self.received = Vec::new(*self.received.allocator());
-        self.dropped = None;
-    }
-
-    /// The reply to the line, which is complete.
-    fn reply(&self, desk: &mut Desk<'_>, alloc: Global) -> ReplyLine
-        ensures { (line : List ℕ) → Stands self.now line → Replies desk.old line result desk.new }
-    {
-        match self.dropped {
-            None => reply_to(desk, alloc, &self.received),
-            Some(count) => reply_to_dropped(count),
-        }
+        self.received.is_empty() && self.dropped.is_none()
     }
 
     /// Adds bytes to the line. The bytes of a line over the limit are dropped, and so are those of a
-    /// line for which memory runs out; their memory is freed.
+    /// line for which memory runs out.
     fn extend(&mut self, piece: &[u8])
-        ensures { (line : List ℕ) → Stands self.old line → Stands self.new (line ++ piece.now) }
+        ensures { GoesOn LIMIT self.old piece.now self.new }
     {
-        let count = capped_sum(self.count(), piece.len());
-        let drops = self.dropped.is_some() || count > LINE_LIMIT;
-        if drops || self.received.extend_from_slice(piece).is_err() {
-            self.received = Vec::new(*self.received.allocator());
-            self.dropped = Some(count);
+        let count = self.count().saturating_add(piece.len()).min(LIMIT + 1);
+        let drops = self.dropped.is_some() || count > LIMIT;
+        if drops || append(&mut self.received, piece, LIMIT).is_err() {
+            self.drop_bytes(count);
         }
     }
 
-    /// How many bytes were received, up to the first that is too many.
-    fn count(&self) -> usize
-        ensures { (line : List ℕ) → Stands self.now line → min result (line_limit + 1) ≡ min (length line) (line_limit + 1) }
+    /// The bytes are dropped, of which there were so many; their memory is freed.
+    fn drop_bytes(&mut self, count: usize)
+        ensures { self.new ≡ Dropped count }
     {
-        self.dropped.unwrap_or(self.received.len())
+        *self = BegunLine {
+            received: Vec::new(*self.received.allocator()),
+            dropped: Some(count),
+        };
+    }
+
+    /// How many bytes were dropped, counted up to the first that is too many; none where they are kept.
+    pub fn dropped(&self) -> Option<usize>
+        ensures { MatchOption result ((xs : List ℕ) × (self.now ≡ Received xs)) (λ count. self.now ≡ Dropped count) }
+    {
+        self.dropped
+    }
+
+    /// How many bytes were received, up to the first that is too many.
+    pub fn count(&self) -> usize
+        ensures { (line : List ℕ) → StandsWithin LIMIT self.now line → result ≡ min (length line) (LIMIT + 1) }
+    {
+        match self.dropped {
+            Some(count) => count,
+            None => self.received.len(),
+        }
     }
 }
 
-/// The number of bytes, counted up to the first that is too many.
-fn capped_sum(count: usize, more: usize) -> usize
-    ensures { result ≡ min (count + more) (line_limit + 1) }
+/// Appends bytes to a line that has at most so many. Where there is no memory for the longest line,
+/// it takes what it must.
+fn append(line: &mut Vec<u8>, piece: &[u8], limit: usize) -> Result<(), AllocError>
+    ensures { line.new.items ≡ (if is_ok result then line.old.items ++ piece.now else line.old.items) }
 {
-    count.saturating_add(more).min(LINE_LIMIT + 1)
+    let length = line.len().saturating_add(piece.len());
+    if length > LONG && length > line.capacity() {
+        let _ = line.reserve_exact(limit.saturating_sub(line.len()));
+    }
+    line.extend_from_slice(piece)
 }
 
 /// The index of the first line feed. For the crates above, which cut lines of their own.

@@ -14,3 +14,14 @@ pub enum TraceFault {
     /// A growth of memory was refused, for a line or for its bytes.
     OutOfMemory,
 }
+
+/// Why a trace can't go on with a line.
+#[derive(Clone, Copy, PartialEq, Eq, Debug)]
+pub(super) enum LineFault {
+    /// The line isn't skipped, and has no event.
+    Bad,
+    /// A write failed.
+    Write,
+    /// A growth of memory was refused.
+    OutOfMemory,
+}

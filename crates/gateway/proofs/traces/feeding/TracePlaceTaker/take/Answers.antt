@@ -1,35 +1,39 @@
-use Rattle.std.proofs.Common.{refl, add-zero, ◌∙◌}
-use Rattle.gateway.proofs.Feeding.{more-feeds, more-stops, end-stops, end-feeds, end-played-stops, none-written}
+use Rattle.std.proofs.Common.{◌+◌, ◌++◌, refl, sym, add-zero, ◌∙◌, ap}
+use Rattle.gateway.proofs.Prelude.{before_end}
+use Rattle.gateway.proofs.Feeding.{more-feeds, more-stops, end-stops, end-feeds, same_comment}
 use Rattle.gateway.proofs.traces.feeding.TracePlaceTaker.take.Goals as goal
 
 pub returns-in-Ok-clause-takes : goal.returns-in-Ok-clause-takes
-returns-in-Ok-clause-takes g c = record {
-  feeds = more-feeds c.law_lines.ensures c.args.bytes.now _ _ c.args.self.now _ c.in_default.ensures refl c.in-Ok.ensures;
-  fine = refl;
-}
+returns-in-Ok-clause-takes g c =
+    let more = rw c.in_default.is at c.take-taken.ensures.line in record {
+      feeds = more-feeds c.law_lines.ensures c.args.bytes.now _ _ _ c.args.self.now _ more.0 c.take-taken.ensures.count c.look.ensures.number
+          (λ line m. (more.1 line (c.look.ensures.begun line m), c.look.ensures.comment line m));
+      fine = refl;
+    }
 
 pub returns-in-Err-clause-takes : goal.returns-in-Err-clause-takes
-returns-in-Err-clause-takes g c = record {
-  stops = more-stops c.law_lines.ensures c.in-Err.fault c.args.bytes.now _ _ c.args.self.now _ c.in_default.ensures c.in-Err.ensures;
-  failed = none-written c.in-Err.fault _ _ _ _ c.in-Err.ensures;
-}
+returns-in-Err-clause-takes g c =
+    let more = rw c.in_default.is at c.take-taken.ensures.line in record {
+      stops = rw c.look.ensures.number (more-stops c.law_lines.ensures c.in-Err.fault c.args.bytes.now _ _ c.args.self.now _ _ more.0
+          (λ line m. (more.1 line (c.look.ensures.begun line m), c.look.ensures.comment line m)) c.in-Err.ensures.stuck);
+      failed = sym (add-zero _) ∙ ap (λ n. (g.W.Outlet.took c.args.writer.now).failures + n) (sym c.in-Err.ensures.silent);
+    }
 
-pub returns-in-Err-extend-clause-takes : goal.returns-in-Err-extend-clause-takes
-returns-in-Err-extend-clause-takes g c = record {
-  stops = end-stops c.law_lines.ensures c.args.bytes.now c.in-Some.end c.in-Some.ensures.0 c.in-Some.ensures.2 c.in-Some.ensures.1 c.in-Err-extend.fault _ _ c.args.self.now _ c.in-Err-extend.ensures;
-  failed = none-written c.in-Err-extend.fault _ _ _ _ c.in-Err-extend.ensures;
-}
-
-pub returns-in-Err-play-clause-takes : goal.returns-in-Err-play-clause-takes
-returns-in-Err-play-clause-takes g c = record {
-  stops = end-played-stops c.law_lines.ensures c.args.bytes.now c.in-Some.end c.in-Some.ensures.0 c.in-Some.ensures.2 c.in-Some.ensures.1 _ _ _ _ c.args.self.now _ c.in-Ok-extend.ensures
-      c.in-Err-play.fault c.in-Err-play.ensures.plays;
-  failed = c.in-Err-play.ensures.failures;
-}
+pub returns-in-Err-play_line-clause-takes : goal.returns-in-Err-play_line-clause-takes
+returns-in-Err-play_line-clause-takes g c =
+    let done = rw c.in-Some.is at c.take-taken.ensures.line in record {
+      stops = rw c.look.ensures.number (end-stops c.law_lines.ensures c.args.bytes.now done.0 _ _ _ _ c.args.self.now c.in-Err-play_line.fault
+          (λ line m. c.in-Err-play_line.ensures.plays (line ++ before_end c.args.bytes.now)
+          (done.2 line (c.look.ensures.begun line m), c.look.ensures.comment line m ∙ sym (same_comment line c.args.bytes.now))));
+      failed = c.in-Err-play_line.ensures.failures;
+    }
 
 pub returns-clause-takes : goal.returns-clause-takes
-returns-clause-takes g c = record {
-  feeds = end-feeds c.law_lines.ensures c.args.bytes.now c.in-Some.end c.in-Some.ensures.0 c.in-Some.ensures.2 c.in-Some.ensures.1 _ _ _ _ c.args.self.now _ c.in-Ok-extend.ensures
-      c.next.new.self c.next.ensures.begun c.next.ensures.number c.in-Ok-play.ensures.plays;
-  fine = c.in-Ok-play.ensures.failures ∙ add-zero _;
-}
+returns-clause-takes g c =
+    let done = rw c.in-Some.is at c.take-taken.ensures.line in record {
+      feeds = end-feeds c.law_lines.ensures c.args.bytes.now done.0 _ _ _ _ _ c.args.self.now c.next.new.self c.take-taken.ensures.count
+          (c.next.ensures.begun ∙ done.1) c.next.ensures.comment (c.next.ensures.number ∙ ap (λ n. n + 1) c.look.ensures.number)
+          (λ line m. c.in-Ok-play_line.ensures.plays (line ++ before_end c.args.bytes.now)
+          (done.2 line (c.look.ensures.begun line m), c.look.ensures.comment line m ∙ sym (same_comment line c.args.bytes.now)));
+      fine = c.in-Ok-play_line.ensures.failures ∙ add-zero _;
+    }
