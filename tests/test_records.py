@@ -1,6 +1,7 @@
-"""Records, on the program as it was built: what is in them, and that nothing is lost that was acknowledged, whenever the program
-is killed, where there is no memory, and where the disk is full."""
+"""Records, on the program as it was built: what is in them, and that nothing is lost that was acknowledged, and nothing made
+twice, whenever a connection ends or the program is killed, where there is no memory, and where the disk is full."""
 import base64
+import concurrent.futures
 import json
 import os
 import pathlib
@@ -11,12 +12,14 @@ import signal
 import stat
 import subprocess
 import tempfile
+import threading
 import time
 import unittest
 
-from program import PROGRAM, SMALL
-from recording import DOCUMENTS, Authors, Fault, Gate, Recorder, recording
-from serving import LIMIT, Serving, free_port, line
+from program import PROGRAM, SMALL, built
+from recording import DOCUMENTS, Author, Authors, Fault, Gate, Recorder, recording
+from serving import LIMIT, Serving, connected, free_port, line
+from test_again import Relay
 
 # How often the program is killed under load; GATE_KILLS=500 is as often as that. After so many it begins with a record that
 # is new, since it plays the whole of it each time.
@@ -24,6 +27,8 @@ KILLS, LIFE = int(os.environ.get("GATE_KILLS", "8")), 25
 # The seconds for which it serves at most, and those for which it lives where it is killed while it begins.
 LIVES, BEGINS = 0.3, 0.03
 AUTHORS = 4
+# The seconds for which authors edit whose connections are cut.
+CUTTING = float(os.environ.get("GATE_CUTTING", "2"))
 
 # What the program may have, in MiB, so that edits are refused, and what the memory is filled by: bytes that cost the most.
 MEMORY, COSTLY = 40, b"\x1b$" * 32_768
@@ -159,14 +164,19 @@ class Recorded(unittest.TestCase):
         server.start()
         return server
 
-    def authors(self, rng, labels, **how):
-        """Authors of documents of these encodings, each of which begins with some bytes."""
+    def opened(self, rng, labels):
+        """The bytes of documents that are opened, in these encodings."""
         begin = {}
         with Gate.connect(path=self.path) as gate:
             for label, codec, character in DOCUMENTS:
                 if label in labels:
                     begin[label] = "".join(rng.choice([character, "words", "\n"]) for _ in range(30)).encode(codec)
                     gate.open(label, label, begin[label])
+        return begin
+
+    def authors(self, rng, labels, **how):
+        """Documents of these encodings, by their bytes, and authors of them."""
+        begin = self.opened(rng, labels)
         authors = Authors(self.path, AUTHORS, labels, **how)
         self.addCleanup(authors.stop)
         return begin, authors
@@ -188,6 +198,46 @@ class Recorded(unittest.TestCase):
                     content = content[: it.at] + it.new + content[it.at + len(it.old) :]
                 self.assertEqual(content, found.bytes)
         return sum(len(author.made) for author in told)
+
+
+@built
+class CutOff(Recorded):
+    """The program stays, and what ends again and again are the connections to it."""
+
+    def relay(self, number, path):
+        """A relay that cuts its author off at random commands, in front of them or behind them."""
+        rng, relay = random.Random(number), Relay(f"{self.path}.{number}", path)
+        self.addCleanup(relay.stop)
+
+        def arm():
+            self.cuts += 1
+            relay.arm(rng.randint(2, 40), rng.random() < 0.5)
+
+        relay.meanwhile = arm
+        arm()
+        return relay
+
+    def author(self, relay, number, rest):
+        with Gate.connect(path=relay.path, again=LIMIT) as gate:
+            author = Author(gate, number, [label for label, *_ in DOCUMENTS], changes=True)
+            end = time.monotonic() + CUTTING
+            while time.monotonic() < end:
+                author.step()
+            rest.wait(LIMIT)
+            return author.told()
+
+    def test_nothing_is_lost_and_nothing_made_twice(self):
+        program = subprocess.Popen([PROGRAM, "serve", *SMALL[1:], "--socket", self.path])
+        self.addCleanup(program.wait)
+        self.addCleanup(program.kill)
+        connected(self.path).close()
+        self.cuts, rest = 0, threading.Barrier(AUTHORS)
+        begin = self.opened(random.Random(0), [label for label, *_ in DOCUMENTS])
+        relays = [self.relay(number, self.path) for number in range(AUTHORS)]
+        with concurrent.futures.ThreadPoolExecutor(AUTHORS) as pool:
+            told = list(pool.map(self.author, relays, range(AUTHORS), [rest] * AUTHORS))
+        self.assertGreater(self.nothing_is_lost(begin, told), 10 * AUTHORS)
+        self.assertGreater(self.cuts, 10 * AUTHORS)
 
 
 @recording
