@@ -9,7 +9,7 @@ import unittest
 from typing import NamedTuple
 
 from program import PROGRAM, TOP
-from serving import LIMIT, connected
+from serving import LIMIT
 
 sys.path.append(str(TOP / "clients"))
 from gate import Conflict, Fault, Gate, Unsure  # noqa: E402
@@ -183,12 +183,17 @@ class Recorder:
             self.process.wait()
             self.process.stderr.close()
 
-    def killed(self, seconds, begins=False):
-        """Kills it once it has served for so long, or has begun so long ago, and starts it again. It mustn't have ended by
-        itself."""
-        if not begins:
-            connected(self.path).close()
+    def killed(self, grown, seconds):
+        """Kills it so many seconds behind the moment at which its record has grown by so many bytes, and starts it again. It
+        mustn't have ended by itself."""
+        begun, end = self.size(), time.monotonic() + LIMIT
+        while self.size() < begun + grown and self.process.poll() is None:
+            assert time.monotonic() < end, "nothing is recorded"
+            time.sleep(0.001)
         time.sleep(seconds)
         assert self.process.poll() is None, self.ended()
         self.kill()
         self.start()
+
+    def size(self):
+        return os.path.getsize(self.record) if os.path.exists(self.record) else 0
