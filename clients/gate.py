@@ -651,7 +651,7 @@ class Document:
     def find_out(self) -> Optional[Edit]:
         """Finds out whether an edit was made that was `Unsure`, once somebody listens again: then the copy has it, at the
         revision that it made, and it is returned. None where it wasn't made: it may then be made again. Where others edited
-        the same bytes behind it, nobody can tell: this is a `Conflict` that is `unsure`."""
+        the same bytes behind it, or more often than `gate` knows, nobody can tell: it is a `Conflict` that is `unsure`."""
         meant = self._unsure
         if meant is None:
             return None
@@ -1171,13 +1171,15 @@ def _unless_refused(meant: Callable[[], Edit]) -> Optional[Edit]:
 def _is_first(content: bytes, mine: Edit, rev: int, view: View) -> Optional[bool]:
     """Whether an edit of a revision, which had these bytes, made the next one, by what came since both. Where others came
     behind it, what all of them left as it was is the least of what each did, at the front and at the end. None where they
-    edited the very bytes that tell."""
+    edited the very bytes that tell, or more often than is known."""
     made = _spliced(content, mine.at, len(mine.old), mine.new)
     first, behind = view.since
     if view.stat["rev"] == rev + 1:
         is_told = first is None or (first["at"], first["del"], first["ins"]) == (mine.at, len(mine.old), len(mine.new))
         return is_told and view.content == made
-    if first is None or behind is None or view.content != _patched(made, behind, view.content):
+    if first is None or behind is None:
+        return None
+    if view.content != _patched(made, behind, view.content):
         return False
     rest = min(len(content) - mine.at - len(mine.old), len(made) - behind["at"] - behind["del"])
     front: int = min(mine.at, behind["at"])

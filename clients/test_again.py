@@ -16,6 +16,8 @@ from gate import Conflict, Document, Edit, Fault, Fleet, Gate, Gone, Lost, Unsur
 from test_fleet import served
 from test_gate import BUILT, INDEXES, PROGRAM
 
+# How many edits of a document `gate` keeps.
+LOG = 1024
 # For how many seconds a client tries to connect again, and for how many where nobody comes.
 AGAIN, SHORT = 100.0, 0.1
 
@@ -187,6 +189,19 @@ class Once(unittest.TestCase):
             else:
                 yours.splice(2, 1, b"A")
             self.agree(mine, yours, CONTENT.replace(b"a", b"B" if self.over() else b"A"))
+
+    def test_where_others_edit_more_often_meanwhile_than_is_known_nobody_can_tell(self) -> None:
+        for is_passed in False, True:
+            mine = self.gate.open("d", "utf-8", CONTENT)
+            with self.cut_off(0, False) as gate:
+                yours = gate.join("d")
+                self.relay.arm(1, is_passed)
+                self.relay.meanwhile = lambda: [mine.splice(0, 1, b"X") for _ in range(LOG + 1)]
+                with self.assertRaises(Conflict) as conflict:
+                    yours.splice(2, 1, b"A")
+                self.assertEqual((conflict.exception.theirs.anew, conflict.exception.unsure), (True, True))
+                self.agree(mine, yours, b"X" + CONTENT[1:].replace(b"a", b"A" if is_passed else b"a"))
+            mine.close()
 
     def test_where_another_edits_beside_it_meanwhile_it_is_known(self) -> None:
         for at, count, new in (3, 0, b"B"), (2, 0, b"B"), (1, 1, b"B"), (3, 3, b""):

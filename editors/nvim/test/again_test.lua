@@ -162,6 +162,24 @@ for most = 0, 5 do
   end)
 end
 
+others.together('an edit whose reply is lost, and more of another than the program knows', 'utf-8', 'a\255\nb\n', function(other)
+  cut(0, function()
+    other.lua([[
+      local document = require('harness').buffer().document
+      for _ = 1, 1100 do
+        document:splice({ { at = 5, gone = '', put = 'y' } })
+      end
+      document:splice({ { at = 5, gone = ('y'):rep(1100), put = 'y\n' } })
+    ]])
+  end)
+  vim.fn.setreg('"', 'mine')
+  it.keys('rx')
+  shows({ 'x\239\191\189', 'b', 'y' })
+  it.same(vim.fn.getreg('"'), 'mine', 'it is the same document')
+  it.agree('this one')
+  other.shows({ 'x\239\191\189', 'b', 'y' })
+end)
+
 others.together('an edit of which nothing is known until somebody listens again', 'utf-8', 'a\nb\n', function(_, path)
   local document = it.buffer().document
   for most = 0, 1 do

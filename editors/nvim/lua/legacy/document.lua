@@ -119,14 +119,16 @@ function Document:join(connection)
 end
 
 ---Goes on with the document where a server that came again has it as it was at the revision known here, or as edits since
----then have made it.
+---then have made it. Where it has forgotten these, as one does whose record became shorter, all is read anew.
 ---@private
 ---@param connection legacy.Connection
 ---@return boolean whether it has
 function Document:resume(connection)
   local view = self:view(connection, { self.rev })
   local since = view and view.since[1]
-  if not view or since.fault or splicing.patched(self.bytes, since, view.bytes) ~= view.bytes then
+  if since and since.fault == 'Forgotten' then
+    self.unsure = true
+  elseif not view or since.fault or splicing.patched(self.bytes, since, view.bytes) ~= view.bytes then
     return false
   end
   self.connection, self.behind, self.apart = connection, self.unsure or view.rev ~= self.rev, false
@@ -405,7 +407,8 @@ function Document:found(splices)
   for count = view and math.min(#splices, view.rev - self.rev) or 0, 1, -1 do
     local since = view.since[count + 1]
     if not since.fault and splicing.patched(stages[count], since, view.bytes) == view.bytes then
-      self.rev, self.bytes, self.behind = self.rev + count, stages[count], view.rev ~= self.rev + count
+      self.rev, self.bytes, self.unsure = self.rev + count, stages[count], false
+      self.behind = view.rev ~= self.rev
       return count
     end
   end
