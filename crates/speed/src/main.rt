@@ -11,10 +11,10 @@ mod samples;
 mod text_kernels;
 mod tree;
 
-use command_line::{Measurement, job_of};
+use command_line::{Measurement, USAGE, job_of};
 use index_files::EarlyEnd;
+use std::env;
 use std::process::ExitCode;
-use std::{env, io};
 
 /// Lists what is measured, and how to ask.
 fn list(rt: &HostRuntime) -> Result<(), EarlyEnd> {
@@ -34,48 +34,21 @@ fn perform(rt: &HostRuntime, job: Measurement<'_>) -> Result<(), EarlyEnd> {
     }
 }
 
-/// Does a job, prints why it ends early where it does, and returns the exit status.
-fn performed(rt: &HostRuntime, job: Measurement<'_>) -> u8 {
-    match perform(rt, job) {
-        Ok(()) => 0,
-        Err(failure) => ended(rt, failure),
-    }
-}
-
-/// Prints help to the output, or what is wrong with the words to the error stream, and returns the
-/// exit status.
-fn told(rt: &HostRuntime, error: &clap::Error) -> u8 {
-    let _ = error.print(rt);
-    if error.use_stderr() { 2 } else { 0 }
-}
-
-/// The words of the command line, without the program's name.
-fn words(rt: &HostRuntime) -> io::Result<Vec<String>> {
-    Ok(env::args(rt)?.skip(1).collect(rt.alloc())?)
-}
-
-/// Does what these words ask, and returns the exit status.
-fn attempt_words(rt: &HostRuntime, words: &[String]) -> u8 {
-    match job_of(rt.alloc(), words) {
-        Ok(job) => performed(rt, job),
-        Err(error) => told(rt, &error),
-    }
-}
-
-/// Prints why the program ends early, and returns the exit status.
-fn ended(rt: &HostRuntime, failure: EarlyEnd) -> u8 {
-    let _ = eprintln!(rt; "speed: {failure}");
-    failure.status()
-}
-
-/// Does what the words ask, and returns the exit status.
-fn attempt(rt: &HostRuntime) -> u8 {
-    match words(rt) {
-        Ok(words) => attempt_words(rt, &words),
-        Err(error) => ended(rt, EarlyEnd::from(error)),
+/// Does what the words ask.
+fn attempt(rt: &HostRuntime) -> Result<(), EarlyEnd> {
+    let words: Vec<String> = env::args(rt)?.skip(1).collect(rt.alloc())?;
+    match job_of(&words) {
+        Some(job) => perform(rt, job),
+        None => Err(EarlyEnd::Mistake(USAGE)),
     }
 }
 
 fn main(rt: HostRuntime) -> ExitCode {
-    ExitCode::from(attempt(&rt))
+    match attempt(&rt) {
+        Ok(()) => ExitCode::SUCCESS,
+        Err(failure) => {
+            let _ = eprintln!(rt; "speed: {failure}");
+            ExitCode::from(failure.status())
+        }
+    }
 }
