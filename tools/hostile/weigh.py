@@ -4,7 +4,7 @@
     tools/hostile/weigh.py [PROGRAM] [--size MIB] [--only WORD] [--bounds]
 
 PROGRAM is crates/gate/out/gate where it isn't given. A document has 16 MiB, or as many as --size says, and a program of
-its own. Memory is the peak that the system counted for the process (VmHWM), less that of the program without a
+its own. Memory is the peak that the system counted for the process (VmHWM), less that of the program without the
 document; a time is the best of a few. A line a case: what it costs, and what it may cost; with --bounds the status is 1
 where one costs more. The index files are made here, so that none is needed: each of their pointers has a code point."""
 import argparse
@@ -47,10 +47,11 @@ def put_indexes(folder):
 
 
 class Gate:
-    """A program of its own for one document, whose commands wait for their replies."""
+    """A program of its own for a document, whose commands wait for their replies."""
 
     def __init__(self, program, folder):
         self.program = subprocess.Popen([program, "stdio", "--indexes", folder], stdin=subprocess.PIPE, stdout=subprocess.PIPE)
+        self.doc = "d"
         self.rev = 0
         self.ask("stat")
         self.bare = self.peak()
@@ -65,7 +66,7 @@ class Gate:
 
     def ask(self, op, **fields):
         """The reply to a command on the document, and how many milliseconds it took."""
-        line = json.dumps({"id": 1, "op": op, "doc": "d", **fields}).encode() + b"\n"
+        line = json.dumps({"id": 1, "op": op, "doc": self.doc, **fields}).encode() + b"\n"
         begun = time.perf_counter()
         self.program.stdin.write(line)
         self.program.stdin.flush()
@@ -97,8 +98,14 @@ class Gate:
         with open(f"/proc/{self.program.pid}/status", encoding="ascii") as lines:
             return next(int(line.split()[1]) * 1024 for line in lines if line.startswith("VmHWM:"))
 
+    def further(self):
+        """From here on another document is meant, and only what it takes beside those before it is counted."""
+        self.doc += "d"
+        self.rev = 0
+        self.bare = self.peak()
+
     def memory(self):
-        """Bytes of memory beyond those of the program without a document."""
+        """Bytes of memory beyond those of the program without the document."""
         return self.peak() - self.bare
 
 
@@ -146,6 +153,15 @@ def in_turn(gate, fronts):
         length = len(front)
 
 
+def in_states(gate, label, data, fronts):
+    """A document whose bytes are entered in one state after another, and then a further one: while such an edit is made,
+    what was there and what is computed are both in memory, which the second document finds free."""
+    for begin in (lambda: None, gate.further):
+        begin()
+        gate.open(label, data)
+        in_turn(gate, fronts)
+
+
 def by_splices(gate, unit, size):
     """Puts the units in by many small splices, at places that are drawn."""
     draws = random.Random(7)
@@ -176,10 +192,10 @@ def weights(size):
     yield "gb18030: 81 30 FF", lambda gate: gate.open("gb18030", filled(b"\x81\x30\xff", size)), 8
     yield "big5: 88 62 and FF", lambda gate: gate.open("big5", filled(b"\x88\x62\xff", size)), 8
     for unit in (b"\x1b\x24", b"\x0e", b"\x21\x21", b"\x31\x20"):
-        name = f"iso-2022-jp: {unit.hex(' ')} in four states"
-        yield name, lambda gate, unit=unit: (gate.open("iso-2022-jp", filled(unit, size)), in_turn(gate, ESCAPES)), 8
+        name = f"iso-2022-jp: {unit.hex(' ')} in four states, a further document"
+        yield name, lambda gate, unit=unit: in_states(gate, "iso-2022-jp", filled(unit, size), ESCAPES), 8
     for name, data in (("81 20", lambda: filled(b"\x81\x20", size)), ("ordinary", lambda: ordinary(ORDINARY["shift_jis"], size))):
-        yield f"shift_jis: {name} under three marks", lambda gate, data=data: (gate.open("shift_jis", data()), in_turn(gate, MARKS)), 8
+        yield f"shift_jis: {name} under three marks, a further document", lambda gate, data=data: in_states(gate, "shift_jis", data(), MARKS), 8
 
 
 def fastest(call, times=TIMES):
@@ -206,6 +222,17 @@ def remembered(gate, label, data, fronts):
     return min(max(times[at : at + len(fronts)]) for at in range(0, len(times), len(fronts)))
 
 
+def undone(gate, label, data, front):
+    """How long it takes to take what was put in at the front out again, where all behind it was entered anew."""
+    gate.open(label, data)
+
+    def undo():
+        gate.splice(0, 0, front)
+        return gate.splice(0, len(front), b"")
+
+    return fastest(undo)
+
+
 def not_kept(gate, op, label, data, start, end):
     gate.open(label, data)
     fields = {"rev": gate.rev} if op == "change" else {}
@@ -220,7 +247,9 @@ def diagnosed(gate, label, data):
 def times(size):
     """What is timed: a name, what takes how many milliseconds, and the most that it may take."""
     yield "iso-2022-jp: a splice at 0 over two states", lambda gate: remembered(gate, "iso-2022-jp", filled(b"\x21\x21", size), ESCAPES[:2]), 15
-    yield "iso-2022-jp: 1B 24, a splice at 0 over four states", lambda gate: remembered(gate, "iso-2022-jp", filled(b"\x1b\x24", size), ESCAPES), 15
+    for label in ("shift_jis", "gb18030", "euc-kr", "big5"):
+        name = f"{label}: a byte order mark in front of ordinary text taken out again"
+        yield name, lambda gate, label=label: undone(gate, label, ordinary(ORDINARY[label], size), MARKS[0]), 15
     yield "utf-16le: a splice of a byte at 0", lambda gate: remembered(gate, "utf-16le", ordinary(ORDINARY["utf-16le"], size), [b"a", b""]), 15
     for op in ("change", "plan"):
         yield f"euc-kr: a {op} that is not kept", lambda gate, op=op: not_kept(gate, op, "euc-kr", b"\x81\x20" + filled(b"\xb0\xb0", size - 2), 1, 2), 0.2

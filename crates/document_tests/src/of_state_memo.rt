@@ -514,6 +514,43 @@ const REMEMBERED: [(Prefix, Option<&str>); 5] = [
     (Prefix::Ff, Some("\u{FFFD}a")),
 ];
 
+/// How many bytes of memory the outcome takes that is remembered for the state behind the beginning of
+/// a mark.
+fn memory_of(piece: &Piece, prefix: Prefix) -> u64 {
+    match piece.peek(AnyState::Sniffing(prefix)) {
+        Some(outcome) => outcome.memory,
+        None => 0,
+    }
+}
+
+/// What is left where behind the first outcome there is room for two.
+const WITH_ROOM_FOR_TWO: [(Prefix, Option<&str>); 4] = [
+    (Prefix::Ff, Some("\u{FFFD}a")),
+    (Prefix::Nothing, Some("a")),
+    (Prefix::Fe, Some("\u{FFFD}a")),
+    (Prefix::EfBb, None),
+];
+
+/// And where there is room for none.
+const WITH_ROOM_FOR_NONE: [(Prefix, Option<&str>); 2] = [
+    (Prefix::Ff, Some("\u{FFFD}a")),
+    (Prefix::Nothing, None),
+];
+
+/// Of the four outcomes those are forgotten that have no room.
+fn forgets_without_room(rt: &impl Abort, piece: &mut Piece) {
+    let first = AnyState::Sniffing(Prefix::Ff);
+    let two = memory_of(piece, Prefix::Nothing).saturating_add(memory_of(piece, Prefix::Fe));
+    assert!(rt; !piece.fits(first, two));
+    piece.forget(two);
+    are_remembered(rt, piece, &WITH_ROOM_FOR_TWO);
+    assert!(rt; piece.fits(first, two));
+    assert!(rt; !piece.fits(first, two.saturating_sub(1)));
+    piece.forget(0);
+    are_remembered(rt, piece, &WITH_ROOM_FOR_NONE);
+    assert!(rt; piece.fits(first, 0));
+}
+
 /// A fifth outcome forgets the one that was entered longest ago.
 fn forgets_the_first(
     rt: &impl Abort,
@@ -524,6 +561,7 @@ fn forgets_the_first(
     remember_five(rt, &mut piece, decoder)?;
     are_remembered(rt, &piece, &REMEMBERED);
     assert!(rt; !piece.move_first(AnyState::Sniffing(Prefix::Ef)));
+    forgets_without_room(rt, &mut piece);
     Ok(())
 }
 

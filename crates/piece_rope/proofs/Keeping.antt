@@ -6,7 +6,7 @@ use Rattle.piece_rope.proofs.Prelude.{IsRope, exchanged, document_limit, spliced
 use Rattle.piece_rope.proofs.Chaining.{Laws}
 use Rattle.piece_rope.proofs.Counting.{chain-counted, few-pieces, short-of}
 use Rattle.piece_rope.proofs.Answering.{SumLaw, total-numbers}
-use Rattle.piece_rope.proofs.Remembering.{ending-bytes}
+use Rattle.piece_rope.proofs.Remembering.{all-lean, ending-bytes}
 use Rattle.piece_rope.proofs.Making.{ItemLaws, whole}
 
 pub join-rope : (d : AnyDecoding) → Laws d → (ps : List Entry) (end : AnyState) → IsRope d ps end → length (bytes_of ps) ≤ document_limit → CanJoin ps
@@ -27,6 +27,7 @@ kept-rope files setting d ps tail laws items chosen can within rope tail_is scra
       (tail_is ∙ ap (ending_of d) rope.end_is);
   numbers = sums (texts_of ps) tail.text (items_of ps) tail.items (sums_of ps) tail.sum (total-numbers sums ps) tail.summed;
   no_bytes = ending-bytes d tail.exit tail tail_is;
+  lean = all-lean d laws (any_start d) ps rope.chain;
   rope = λ e other. let same : d ≡ e = cc in rw (← same) rope;
   tail_is = λ e other. let same : d ≡ e = cc in rw (← same) tail_is;
 }

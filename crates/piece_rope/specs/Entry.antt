@@ -28,8 +28,10 @@ no_outcome s = record {
   items = [];
   exit = s;
   sum = no_sum;
+  memory = 0;
   summed = record { scalars = refl; utf16 = refl; utf8 = refl; errors = refl; marks = refl; lf_first = refl; cr_last = refl; counted = refl };
   bounded = record { utf8 = lit≤ tt; errors = lit≤ tt };
+  held = lit≤ tt;
 }
 
 abbrev pub outcome_or : AnyState → Option Outcome → Outcome

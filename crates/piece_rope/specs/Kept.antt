@@ -13,6 +13,7 @@ use Rattle.piece_rope.specs.Document.{Document, document}
 use Rattle.piece_rope.specs.Edit.{IsRope}
 use Rattle.piece_rope.specs.Edits.{document_limit, spliced}
 use Rattle.piece_rope.specs.Made.{IsWhole}
+use Rattle.piece_rope.specs.Room.{all_beside, room_in}
 use Rattle.piece_rope.specs.Sizes.{AreCounted, HasSizes}
 
 -- by the decoder of its setting
@@ -25,6 +26,7 @@ pub record IsKept (files : Files) (setting : Setting) (ps : List Entry) (tail : 
   pub whole : IsWhole (document files setting (bytes_of ps)) (map here_of ps) tail
   pub numbers : IsSumOf (texts_of ps ++ tail.text) (items_of ps ++ tail.items) (joined (sums_of ps) tail.sum)
   pub no_bytes : tail.sum.bytes ≡ 0
+  pub lean : all_beside ps ≤ room_in (bytes_of ps)
   pub tail_is : (d : AnyDecoding) → decoder_in files setting ≡ Some d → contents_of tail ≡ ending_of d tail.exit
 
 -- `m` bytes behind the edit the new document is in the old one's state, or the bytes end there; the least such m is the resync distance

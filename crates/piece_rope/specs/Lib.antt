@@ -18,6 +18,7 @@ pub mod Outcomes
 pub mod Outputs
 pub mod Parts
 pub mod Resync
+pub mod Room
 pub mod Runs
 pub mod Search
 pub mod Sizes

@@ -7,6 +7,7 @@ ghost use Rattle.piece_rope.specs.Chain.{Chain, bytes_of};
 ghost use Rattle.piece_rope.specs.Entry.{here_of};
 ghost use Rattle.piece_rope.specs.Made.{AreMade, IsMade, body_of, tail_of};
 ghost use Rattle.piece_rope.specs.Outputs.{HasOutputs, HaveOutputs, output_at};
+ghost use Rattle.piece_rope.specs.Room.{all_beside, room_in};
 ghost use Rattle.piece_rope.specs.Sizes.{AreSized, AreCounted, longest, shortest};
 
 mod kept;
@@ -277,6 +278,7 @@ impl<'i> Doc<'i> {
         ensures small { AreSized 1 result }
         ensures wide { 2 ≤ length result → AreSized shortest result }
         ensures counted { AreCounted result }
+        ensures lean { all_beside result ≤ room_in self.now.bytes }
         ensures outputs { HaveOutputs self.now 0 (map here_of result) }
     {
         law_output_at_the_end();

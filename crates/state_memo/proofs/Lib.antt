@@ -14,3 +14,4 @@ pub mod Prelude
 pub mod Splitting
 pub mod Walking
 pub mod Walks
+pub mod Weighing

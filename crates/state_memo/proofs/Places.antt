@@ -33,7 +33,7 @@ absent-more (x ∷ ks) s (suc i) k at none same =
     let f = by-none (same_state x.entry s) x.outcome (recalled (take i ks) s) none in
     cond-false _ _ _ f.0 ∙ absent-more ks s i k at f.1 same
 
-without-absent : (ks : List Known) (s : AnyState) → recalled ks s ≡ None → without ks s ≡ ks
+pub without-absent : (ks : List Known) (s : AnyState) → recalled ks s ≡ None → without ks s ≡ ks
 without-absent [] s none = refl
 without-absent (x ∷ ks) s none =
     let f = by-none (same_state x.entry s) x.outcome (recalled ks s) none in

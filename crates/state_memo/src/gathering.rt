@@ -158,11 +158,13 @@ impl Gathering {
         let text = Text::new(*written.allocator(), written)?;
         let items = items.finish()?;
         let sum = sum_of(bytes, text.as_str(), scalars, &items, erring);
+        let memory = sum.utf8.saturating_add(items.memory());
         Ok(Outcome {
             text,
             items,
             exit,
             sum,
+            memory,
         })
     }
 }

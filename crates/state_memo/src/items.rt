@@ -20,6 +20,9 @@ use std::rc::Rc;
 /// For how many runs there is room at first where a text has several, so that mostly none is moved.
 const PIECE: usize = 1024;
 
+/// How many bytes a run takes.
+const RUN: u64 = 6;
+
 /// Items under way: the last run may still go on.
 #[derive(Drop)]
 pub(crate) struct OpenRuns {
@@ -196,6 +199,11 @@ impl ItemRuns {
             Some(runs) => runs.as_slice(),
             None => &[],
         }
+    }
+
+    /// How many bytes of memory they take.
+    pub(crate) fn memory(&self) -> u64 {
+        (self.runs().len() as u64).saturating_mul(RUN)
     }
 
     /// The last item.

@@ -28,6 +28,7 @@ impl MadeWith<Global> for Known {
                 items: ItemRuns::empty(),
                 exit: AnyState::Sniffing(Prefix::Nothing),
                 sum: Sum::unit(),
+                memory: 0,
             },
         }
     }

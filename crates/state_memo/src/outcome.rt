@@ -79,7 +79,8 @@ impl Clone for Text {
 }
 
 /// What a piece decodes to from a state. Its facts are that the numbers are those of the text and
-/// the items, and that these aren't more than so many bytes can give.
+/// the items, that these aren't more than so many bytes can give, and that it takes the memory of its
+/// text at least.
 #[derive(Drop)]
 pub struct Outcome {
     /// The code points of its items, U+FFFD for an error.
@@ -90,8 +91,11 @@ pub struct Outcome {
     pub exit: AnyState,
     /// Its numbers.
     pub sum: Sum,
+    /// How many bytes of memory its text and its items take, beside a few headers.
+    pub memory: u64,
     ghost summed: { IsSumOf text items sum },
     ghost bounded: { IsBounded sum },
+    ghost held: { sum.utf8 ≤ memory },
 }
 
 impl Outcome {
@@ -123,6 +127,7 @@ impl Clone for Outcome {
             items: self.items.clone()?,
             exit: self.exit,
             sum: self.sum,
+            memory: self.memory,
         })
     }
 }

@@ -3,6 +3,8 @@ ghost use Rattle.std.specs.Prelude.{◌≡◌, ◌+◌, ◌-◌, ◌^◌, ◌≤
 ghost use Rattle.state_memo.specs.Memo.{recalled, without, installed, entered, IsSlot};
 ghost use Rattle.state_memo.specs.Outcome.{contents_of, outcome_of};
 
+mod forget;
+
 use crate::compute::compute_bytes;
 use crate::known::Known;
 use crate::outcome::Outcome;

@@ -83,3 +83,46 @@ fn remembered_states(rt: HostRuntime) -> Result<(), Fail> {
     play(&rt, rt.alloc(), &opening, &REMEMBERED)?;
     Ok(())
 }
+
+/// A shift is put in front of errors, each of which is three bytes of text, and taken away again.
+const WITHOUT_ROOM: [Step; 3] = [
+    Step::Splice(0, 0, &[0x1B, 0x28, 0x4A]),
+    Step::Many(0, 3, &[], 65_536),
+    Step::AsOpened,
+];
+
+#[test]
+fn states_without_room_are_forgotten(rt: HostRuntime) -> Result<(), Fail> {
+    let mut bytes = Vec::new(rt.alloc());
+    bytes.resize(65_536, 0x0E)?;
+    let opening = Opening {
+        given: Encoding::Iso2022Jp,
+        bom: Bom::Sniff,
+        bytes: &bytes,
+    };
+    play(&rt, rt.alloc(), &opening, &WITHOUT_ROOM)?;
+    Ok(())
+}
+
+/// Letters are entered in four states one after the other. In the third each two are an error, and in
+/// the fourth each: beside it the third has room, and not the other way round.
+const IN_FOUR_STATES: [Step; 6] = [
+    Step::Splice(0, 0, &[0x1B, 0x28, 0x4A]),
+    Step::Splice(0, 3, &[0x1B, 0x24, 0x42]),
+    Step::Splice(0, 3, &[0x1B, 0x28, 0x49]),
+    Step::Few(0, 3, &[0x1B, 0x24, 0x42], 8192),
+    Step::Many(0, 3, &[0x1B, 0x28, 0x49], 65_536),
+    Step::Few(0, 3, &[0x1B, 0x24, 0x42], 8192),
+];
+
+#[test]
+fn state_before_is_remembered(rt: HostRuntime) -> Result<(), Fail> {
+    let bytes = behind_letters(rt.alloc(), 65_536, &[])?;
+    let opening = Opening {
+        given: Encoding::Iso2022Jp,
+        bom: Bom::Sniff,
+        bytes: &bytes,
+    };
+    play(&rt, rt.alloc(), &opening, &IN_FOUR_STATES)?;
+    Ok(())
+}

@@ -13,6 +13,8 @@ pub enum Step {
     Splice(u64, u64, &'static [u8]),
     /// A splice that decodes at most so many bytes.
     Few(u64, u64, &'static [u8], u64),
+    /// A splice that decodes at least so many bytes.
+    Many(u64, u64, &'static [u8], u64),
     /// A splice that is out of range, and decodes nothing.
     Refused(u64, u64, &'static [u8]),
     /// A splice, and which code points it replaces by which.
@@ -141,6 +143,7 @@ fn take(
     match step {
         Step::Splice(at, del, ins) => is_spliced(doc, at, del, ins, u64::MAX, meter),
         Step::Few(at, del, ins, most) => is_spliced(doc, at, del, ins, most, meter),
+        Step::Many(at, del, ins, least) => is_decoded(doc, at, del, ins, least, meter),
         Step::Refused(at, del, ins) => Ok(is_out_of_range(doc, at, del, ins, meter)),
         Step::Kept(at, del, ins, i, j, text) => is_kept(doc, (at, del, ins), (i, j, text), meter),
         Step::Begin | Step::Commit | Step::RollBack => Ok(is_marked(doc, step)),
@@ -187,6 +190,19 @@ fn is_spliced(
 ) -> Result<bool, DocFault> {
     splice(doc, at, del, ins, meter)?;
     Ok(meter.decoded() <= most)
+}
+
+/// Makes the splice, and returns whether it decoded at least so many bytes.
+fn is_decoded(
+    doc: &mut Doc<'_>,
+    at: u64,
+    del: u64,
+    ins: &[u8],
+    least: u64,
+    meter: &mut Meter,
+) -> Result<bool, DocFault> {
+    splice(doc, at, del, ins, meter)?;
+    Ok(meter.decoded() >= least)
 }
 
 fn splice(

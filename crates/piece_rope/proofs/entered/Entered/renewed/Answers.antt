@@ -1,19 +1,21 @@
 use Rattle.piece_rope.proofs.Prelude.{◌≡◌, ap, ◌∙◌, rules, Some, None, Contents, Memo, any, feed, recalled, entered, installed, outcome_of, Entry}
+use Rattle.state_memo.specs.Memo.{spared}
+use Rattle.piece_rope.specs.Room.{pared, room_in}
 use Rattle.piece_rope.proofs.Chaining.{laws_of}
-use Rattle.piece_rope.proofs.Remembering.{own-shared, own-computed, exit-recalled, renewed-computed, renewed-shared}
+use Rattle.piece_rope.proofs.Remembering.{own-pared, own-computed, exit-recalled, known-computed, known-pared, made-spared, renewed-computed, renewed-pared}
 use Rattle.piece_rope.proofs.entered.Entered.renewed.Goals as goal
 
 pub returns-in-Some-clause-renewed : goal.returns-in-Some-clause-renewed
 returns-in-Some-clause-renewed c =
     let found : recalled c.args.self.now.piece.known c.args.entry ≡ Some c.in-Some.outcome.now = search rules in
-    let is : c.in_ok-shared.shared.value ≡ c.args.self.now.piece = search rules in
-    renewed-shared c.args.self.now c.in_ok-shared.shared.value c.args.entry c.in-Some.outcome.now found is
+    let is : c.in_ok-shared.shared.value ≡ pared c.args.self.now c.args.entry = search rules in
+    renewed-pared c.args.decoder.now (laws_of c.args.decoder.now c.requires.lawful) c.args.self.now c.in_ok-shared.shared.value c.args.entry c.in-Some.outcome.now found is
 
 pub returns-in-Some-clause-own : goal.returns-in-Some-clause-own
 returns-in-Some-clause-own c =
     let found : recalled c.args.self.now.piece.known c.args.entry ≡ Some c.in-Some.outcome.now = search rules in
-    let is : c.in_ok-shared.shared.value ≡ c.args.self.now.piece = search rules in
-    own-shared c.args.decoder.now (laws_of c.args.decoder.now c.requires.lawful) c.args.self.now c.in_ok-shared.shared.value c.args.entry c.in-Some.outcome.now c.requires.own found is
+    let is : c.in_ok-shared.shared.value ≡ pared c.args.self.now c.args.entry = search rules in
+    own-pared c.args.decoder.now (laws_of c.args.decoder.now c.requires.lawful) c.args.self.now c.in_ok-shared.shared.value c.args.entry c.in-Some.outcome.now c.requires.own found is
 
 pub returns-in-Some-clause-exit : goal.returns-in-Some-clause-exit
 returns-in-Some-clause-exit c =
@@ -29,14 +31,31 @@ returns-clause-exit c =
     ∙ (laws_of c.args.decoder.now c.requires.lawful).exit c.args.entry _
     ∙ ap (λ (m : Memo). (feed (any c.args.decoder.now) c.args.entry m.bytes).state) moved
 
-pub returns-clause-renewed : goal.returns-clause-renewed
-returns-clause-renewed c =
+-- what the piece is that was computed
+made : (c : goal.In_ok-piece-2) → c.in_ok-piece-2.piece.value
+    ≡ record { bytes = c.args.self.now.piece.bytes; known = spared (room_in c.args.self.now.piece.bytes) (installed (entered c.args.self.now.piece.known c.args.self.now.entry) c.args.entry c.in_ok-outcome.outcome) }
+made c =
     let is : c.in_ok-piece.piece ≡ c.args.self.now.piece = search rules in
     let from = ap (λ (x : Entry). x.entry) c.self.view_is in
     let moved : c.move_first.new.self ≡ record { bytes = c.args.self.now.piece.bytes; known = entered c.args.self.now.piece.known c.args.self.now.entry } = cc in
+    let room : c.room_in.result ≡ room_in c.args.self.now.piece.bytes = c.room_in.ensures ∙ ap room_in c.bytes.ensures in
+    made-spared c.move_first.new.self c.install.new.self c.forget.new.self c.in_ok-piece-2.piece.value c.args.self.now.piece.bytes
+    (entered c.args.self.now.piece.known c.args.self.now.entry) c.args.entry c.in_ok-outcome.outcome c.room_in.result moved c.install.ensures room c.forget.ensures c.in_ok-piece-2.ensures.ok
+
+pub invariant_of-result : goal.invariant_of-result
+invariant_of-result c =
+    let found : recalled c.args.self.now.piece.known c.args.entry ≡ Some c.in-Some.outcome.now = search rules in
+    let is : c.in_ok-shared.shared.value ≡ pared c.args.self.now c.args.entry = search rules in
+    known-pared c.args.decoder.now (laws_of c.args.decoder.now c.requires.lawful) c.args.self.now c.in_ok-shared.shared.value c.args.entry c.in-Some.outcome.now found is
+
+pub invariant_of-result-2 : goal.invariant_of-result-2
+invariant_of-result-2 c =
+    known-computed c.args.decoder.now (laws_of c.args.decoder.now c.requires.lawful) c.args.self.now c.in_ok-piece-2.piece.value c.args.entry c.in_ok-outcome.outcome (made c)
+
+pub returns-clause-renewed : goal.returns-clause-renewed
+returns-clause-renewed c =
     let none : recalled c.args.self.now.piece.known c.args.entry ≡ None = search rules in
-    renewed-computed c.args.self.now c.in_ok-piece-2.piece.value c.args.entry c.in_ok-outcome.outcome ((laws_of c.args.decoder.now c.requires.lawful).same c.args.entry) none
-    (c.in_ok-piece-2.ensures.ok ∙ c.install.ensures ∙ ap (λ (m : Memo). record { bytes = m.bytes; known = installed m.known c.args.entry c.in_ok-outcome.outcome }) moved)
+    renewed-computed c.args.decoder.now (laws_of c.args.decoder.now c.requires.lawful) c.args.self.now c.in_ok-piece-2.piece.value c.args.entry c.in_ok-outcome.outcome none (made c)
 
 pub returns-clause-own : goal.returns-clause-own
 returns-clause-own c =
@@ -44,5 +63,4 @@ returns-clause-own c =
     let from = ap (λ (x : Entry). x.entry) c.self.view_is in
     let moved : c.move_first.new.self ≡ record { bytes = c.args.self.now.piece.bytes; known = entered c.args.self.now.piece.known c.args.self.now.entry } = cc in
     own-computed c.args.decoder.now (laws_of c.args.decoder.now c.requires.lawful) c.args.self.now c.in_ok-piece-2.piece.value c.args.entry c.in_ok-outcome.outcome c.requires.own
-    (c.in_ok-outcome.ensures.outcome ∙ ap (λ (m : Memo). outcome_of c.args.decoder.now c.args.entry m.bytes) moved)
-    (c.in_ok-piece-2.ensures.ok ∙ c.install.ensures ∙ ap (λ (m : Memo). record { bytes = m.bytes; known = installed m.known c.args.entry c.in_ok-outcome.outcome }) moved)
+    (c.in_ok-outcome.ensures.outcome ∙ ap (λ (m : Memo). outcome_of c.args.decoder.now c.args.entry m.bytes) moved) (made c)

@@ -1,4 +1,4 @@
-use Rattle.std.proofs.Common.{ap, ◌∙◌, List, ℕ}
+use Rattle.std.proofs.Common.{ap, ◌∙◌, List, ℕ, arith}
 use Rattle.state_memo.specs.Sums.{sum_of}
 use Rattle.state_memo.proofs.Prelude.{chars, Gathered}
 use Rattle.state_memo.proofs.Gathered.{finished}
@@ -11,4 +11,4 @@ invariant_of-result c =
     (c.in_ok-text.ensures ∙ ap chars (c.shrink_to_fit.ensures.bytes ∙ c.in_ok-written.ensures) ∙ ap (λ (g : Gathered). g.text) c.self.view_is)
     (c.in_ok-items.ensures ∙ ap (λ (g : Gathered). g.items) c.self.view_is)
     (c.sum_of-sum.ensures ∙ ap (λ (cs : List ℕ). sum_of c.args.bytes cs c.in_ok-items.items) c.as_str.ensures) in
-    record { summed = f.summed; bounded = f.bounded }
+    record { summed = f.summed; bounded = f.bounded; held = omega (arith, c.saturating_add-memory.ensures, c.sum_of-sum.type_inv) }
