@@ -55,6 +55,8 @@ enum Shape<'a> {
     OneRun(Ended),
     /// Code points that end there, in so many runs.
     Ends(&'a [i64], usize),
+    /// These two items in turn, so many together.
+    Turns(Turn, Turn, u64),
     /// A pair of bytes that is two code points, and a letter.
     TwoCodePoints,
     /// A yen sign behind an escape.
@@ -278,6 +280,7 @@ fn is_shaped(here: &Outcome, shape: Shape<'_>) -> bool {
     match shape {
         Shape::OneRun(last) => is_one_run(here, last),
         Shape::Ends(ends, runs) => has_ends(here, ends, runs),
+        Shape::Turns(first, second, count) => are_turns(here, first, second, count),
         Shape::TwoCodePoints => are_before(here) && are_items(here),
         Shape::Yen => is_yen(here),
     }
@@ -297,7 +300,7 @@ fn has_shape_behind_two(
 
 /// Whether the items are one run, the last of which is this.
 fn is_one_run(outcome: &Outcome, last: Ended) -> bool {
-    outcome.items.runs().len() == 1
+    has_runs(outcome, 1)
         && outcome.items.last() == Some(last)
         && outcome.items.get(outcome.sum.scalars).is_none()
 }
@@ -335,7 +338,19 @@ fn has_ends(here: &Outcome, ends: &[i64], runs: usize) -> bool {
             return false;
         }
     }
-    here.items.get(ends.len() as u64).is_none() && here.items.runs().len() == runs
+    here.items.get(ends.len() as u64).is_none() && has_runs(here, runs)
+}
+
+/// Whether the items are so many runs.
+fn has_runs(here: &Outcome, count: usize) -> bool {
+    let mut runs = here.items.runs();
+    for _ in 0..count {
+        if runs.first().is_none() {
+            return false;
+        }
+        runs.advance();
+    }
+    runs.first().is_none()
 }
 
 /// Whether the item of this number is a code point that ends there.
@@ -374,6 +389,99 @@ fn stretches_of_one_width_are_runs(rt: HostRuntime) -> Result<(), Fail> {
     for (encoding, bytes, ends, runs) in cases.iter() {
         let shape = Shape::Ends(ends, *runs);
         has_shape_behind_two(&rt, rt.alloc(), *encoding, bytes, shape)?;
+    }
+    Ok(())
+}
+
+/// One of two items that take turns.
+#[derive(Clone, Copy)]
+struct Turn {
+    /// How many bytes it ends behind the one before it.
+    width: i64,
+    /// How many code points it has.
+    scalars: u8,
+    /// Whether it is an error.
+    error: bool,
+}
+
+/// A code point of one byte.
+const LETTER: Turn = Turn {
+    width: 1,
+    scalars: 1,
+    error: false,
+};
+
+/// Two code points of two bytes.
+const TWO: Turn = Turn {
+    width: 2,
+    scalars: 2,
+    error: false,
+};
+
+/// An error of one byte.
+const ERROR: Turn = Turn {
+    width: 1,
+    scalars: 1,
+    error: true,
+};
+
+/// Whether the items are these two in turn, so many together, each found by its number, by its code
+/// points and by its end.
+fn are_turns(here: &Outcome, first: Turn, second: Turn, count: u64) -> bool {
+    let (mut end, mut scalars, mut errors) = (0_i64, 0_u64, 0_u64);
+    for k in 0..count {
+        let turn = if k % 2 == 0 { first } else { second };
+        end = end.saturating_add(turn.width);
+        let item = Ended {
+            scalars: turn.scalars,
+            end,
+            error: turn.error,
+            output: OutputState::Ascii,
+        };
+        if here.items.get(k) != Some(item) || here.item_of(scalars) != Some(k) {
+            return false;
+        }
+        scalars = scalars.saturating_add(u64::from(turn.scalars));
+        errors = errors.saturating_add(u64::from(turn.error));
+        if here.scalars_before(end) != scalars {
+            return false;
+        }
+    }
+    here.sum.errors == errors && here.items.get(count).is_none() && here.item_of(scalars).is_none()
+}
+
+#[test]
+fn items_in_turn(rt: HostRuntime) -> Result<(), Fail> {
+    let cases: [(Encoding, &[u8], Turn, Turn); 4] = [
+        (
+            Encoding::Utf8,
+            b"\xFFa\xFFa\xFFa\xFFa\xFFa\xFFa\xFFa\xFFa\xFFa\xFFa\xFFa\xFFa\xFFa\xFFa\xFFa\xFFa",
+            ERROR,
+            LETTER,
+        ),
+        (
+            Encoding::Windows1252,
+            b"abababababababababababababababab",
+            LETTER,
+            LETTER,
+        ),
+        (
+            Encoding::ShiftJis,
+            b"\x81 \x81 \x81 \x81 \x81 \x81 \x81 \x81 \x81 \x81 \x81 \x81 \x81 \x81 \x81 \x81 ",
+            ERROR,
+            LETTER,
+        ),
+        (
+            Encoding::Big5,
+            b"\x88b\xFF\x88b\xFF\x88b\xFF\x88b\xFF\x88b\xFF\x88b\xFF\x88b\xFF\x88b\xFF\x88b\xFF\x88b\xFF\x88b\xFF\x88b\xFF\x88b\xFF\x88b\xFF\x88b\xFF\x88b\xFF",
+            TWO,
+            ERROR,
+        ),
+    ];
+    for (encoding, bytes, first, second) in cases.iter() {
+        let shape = Shape::Turns(*first, *second, 32);
+        let trial = Trial::Behind(b"", bytes, shape);
+        is_tried(&rt, rt.alloc(), *encoding, trial)?;
     }
     Ok(())
 }

@@ -1,5 +1,5 @@
 -- The errors of pieces in a row are those of the document.
-use Rattle.std.proofs.Common.{◌≡◌, refl, sym, ap, ◌∙◌, subst, ℕ, zero, suc, ◌+◌, ◌-◌, ◌<◌, ◌≤◌, Bool, true, false, List, [], ◌∷◌, ◌++◌, take, drop, get_or, length, map, slice_get, Some, None, MatchOption, arith, append_assoc, append-nil, length-append, length-drop, take-append-drop, add-one, Option}
+use Rattle.std.proofs.Common.{◌≡◌, refl, sym, ap, ◌∙◌, subst, ℕ, zero, suc, ◌+◌, ◌-◌, ◌<◌, ◌≤◌, Bool, true, false, List, [], ◌∷◌, ◌++◌, take, drop, length, map, slice_get, Some, None, MatchOption, arith, append_assoc, length-append, length-drop, take-append-drop, add-one, Option}
 use Rattle.std.proofs.Math.Seq.{drop-append-add}
 use Rattle.std.proofs.Math.ListN.{drop_of_length-le}
 use Rattle.std.proofs.lemmas.List.{drop-append-le}
@@ -13,7 +13,7 @@ use Rattle.piece_rope.proofs.Prelude.{ℤ, pos, ◌-ℤ◌, Place, Item, One, Pl
 use Rattle.piece_rope.proofs.Prelude.{EndedItem, Ended, Outcome, Sum, errors_in, is_an_error, item_of_kind, items_of_run, items_of_runs, items_until}
 use Rattle.piece_rope.proofs.Prelude.{Document, decoded, errors_of, decoded_errors, document, Entry, entry_sum, here_of, sums_of, all_errors}
 use Rattle.piece_rope.proofs.Prelude.{errors_at, errors_from, last_at, last_from, place_if, AreEnded, AreMade, IsWhole, body_of, tail_of, count_body}
-use Rattle.piece_rope.proofs.Prelude.{ends_at, take_all, slice_get_within, slice_get-get_or, IsFirstAbove, joined, no_sum, Setting, Files, bytes_of}
+use Rattle.piece_rope.proofs.Prelude.{ends_at, take_all, slice_get_within, IsFirstAbove, joined, no_sum, Setting, Files, bytes_of}
 use Rattle.piece_rope.proofs.Prelude.{IsKept}
 use Rattle.piece_rope.proofs.Answering.{error_places-append, errors-append}
 use Rattle.piece_rope.proofs.Bounding.{one_few}
@@ -260,43 +260,48 @@ last-back bom k ps p at =
     let e : 0 + (sums_of (take k ps)).bytes ≡ (sums_of (take k ps)).bytes = omega arith in
     cc (e, take-next ps k p at, (errors_from-append 0 bom (take k ps) (p ∷ [])).1)
 
-pub runs-last : (base from : ℕ) (rs : List Run) (r : Run) → slice_get rs (length rs - 1) ≡ Some r → last_at base from (items_of_runs rs) ≡ ends_at base r.last
-runs-last base from [] r at = absurd cc
-runs-last base from (x ∷ []) r at = cc (append-nil (items_of_run x), run-last base from x)
-runs-last base from (x ∷ y ∷ rs) r at =
-    let k : suc (length (y ∷ rs) - 1) ≡ length (x ∷ y ∷ rs) - 1 = omega arith in
-    let later = runs-last base (last_at base from (items_of_run x)) (y ∷ rs) r (ap (λ (n : ℕ). slice_get (x ∷ y ∷ rs) n) k ∙ at) in
-    (errors_at-append base from (items_of_run x) (items_of_runs (y ∷ rs))).1 ∙ later
+items-last : (base from : ℕ) (es : List Ended) (e : Ended) → slice_get es (length es - 1) ≡ Some e → last_at base from es ≡ ends_at base e.end
+items-last base from [] e at = absurd cc
+items-last base from (x ∷ []) e at = cc
+items-last base from (x ∷ y ∷ es) e at =
+    let k : suc (length (y ∷ es) - 1) ≡ length (x ∷ y ∷ es) - 1 = omega arith in
+    items-last base (ends_at base x.end) (y ∷ es) e (ap (λ (n : ℕ). slice_get (x ∷ y ∷ es) n) k ∙ at)
 
 -- behind all runs there is no error
-pub no-more : (base from passed k : ℕ) (rs : List Run) → length rs ≤ k → drop passed (errors_at base from (items_of_runs (drop k rs))) ≡ []
-no-more base from passed k rs h =
-    ap (λ (xs : List Run). drop passed (errors_at base from (items_of_runs xs))) (drop_of_length-le rs h) ∙ drop_of_length-le [] (omega arith)
+pub no-more : (base from passed : ℕ) (rs : List Run) → slice_get rs 0 ≡ None → drop passed (errors_at base from (items_of_runs rs)) ≡ []
+no-more base from passed [] h = drop_of_length-le [] (omega arith)
+no-more base from passed (r ∷ rs) h = absurd cc
 
-module _ (base from passed k : ℕ) (rs : List Run) (d : Run) (l : k < length rs) where
-  abbrev r : Run
-  r = get_or rs k d
+pub fewer : (rs : List Run) (r : Run) → slice_get rs 0 ≡ Some r → length (drop 1 rs) < length rs
+fewer [] r h = absurd cc
+fewer (x ∷ rs) r h = omega arith
 
-  next : drop k rs ≡ r ∷ drop (suc k) rs
-  next = drop-next rs k r (slice_get-get_or rs k d l)
-
-  pub run-holds-at : (place : Place) → slice_get (errors_at base from (items_of_run r)) passed ≡ Some place
-      → drop passed (errors_at base from (items_of_runs (drop k rs))) ≡ place ∷ drop (suc passed) (errors_at base from (items_of_runs (drop k rs)))
-  run-holds-at place m = cc (run-holds base from passed r (drop (suc k) rs) place m, next)
+module _ (base from passed : ℕ) (rs : List Run) (r : Run) (h : slice_get rs 0 ≡ Some r) where
+  first : (all : List Run) → slice_get all 0 ≡ Some r → all ≡ r ∷ drop 1 all
+  first [] e = absurd cc
+  first (x ∷ all) e = cc
 
   pub next-found : (found : Option Place) (left : List Place) → passed < errors_in (items_of_run r) → found ≡ slice_get (errors_at base from (items_of_run r)) passed
-      → drop passed (errors_at base from (items_of_runs (drop k rs))) ≡ left
-      → MatchOption found (left ≡ []) (λ place. left ≡ place ∷ drop (passed + 1) (errors_at base from (items_of_runs (drop k rs))))
+      → drop passed (errors_at base from (items_of_runs rs)) ≡ left
+      → MatchOption found (left ≡ []) (λ place. left ≡ place ∷ drop (passed + 1) (errors_at base from (items_of_runs rs)))
   next-found None left m found_is left_is =
       let p = element (errors_at base from (items_of_run r)) passed (omega (arith, m, errors_at-length base from (items_of_run r))) in
       absurd (cc (p.1, found_is))
   next-found (Some place) left m found_is left_is =
       let more : suc passed ≡ passed + 1 = omega arith in
-      sym left_is ∙ run-holds-at place (sym found_is) ∙ ap (λ (n : ℕ). place ∷ drop n (errors_at base from (items_of_runs (drop k rs)))) more
+      let here = first rs h in
+      sym left_is ∙ ap (λ (xs : List Run). drop passed (errors_at base from (items_of_runs xs))) here
+      ∙ run-holds base from passed r (drop 1 rs) place (sym found_is)
+      ∙ ap (λ (xs : List Run). place ∷ drop (suc passed) (errors_at base from (items_of_runs xs))) (sym here)
+      ∙ ap (λ (n : ℕ). place ∷ drop n (errors_at base from (items_of_runs rs))) more
 
   pub run-passed-at : (to rest : ℕ) → rest ≡ passed - errors_in (items_of_run r) → errors_in (items_of_run r) ≤ passed → to ≡ ends_at base r.last
-      → drop rest (errors_at base to (items_of_runs (drop (k + 1) rs))) ≡ drop passed (errors_at base from (items_of_runs (drop k rs)))
-  run-passed-at to rest rest_is m to_is = cc (run-passed base from passed r (drop (suc k) rs) m, next, add-one k)
+      → drop rest (errors_at base to (items_of_runs (drop 1 rs))) ≡ drop passed (errors_at base from (items_of_runs rs))
+  run-passed-at to rest rest_is m to_is =
+      ap (λ (n : ℕ). drop n (errors_at base to (items_of_runs (drop 1 rs)))) rest_is
+      ∙ ap (λ (t : ℕ). drop (passed - errors_in (items_of_run r)) (errors_at base t (items_of_runs (drop 1 rs)))) to_is
+      ∙ sym (run-passed base from passed r (drop 1 rs) m)
+      ∙ ap (λ (xs : List Run). drop passed (errors_at base from (items_of_runs xs))) (sym (first rs h))
 
 module _ (bom next : ℕ) (ps : List Entry) (p : Entry) (at : slice_get ps next ≡ Some p) where
   pub end-back : (k base here : ℕ) → k ≡ suc next → base ≡ (sums_of (take k ps)).bytes → here ≡ (here_of p).sum.bytes → base - here ≡ (sums_of (take next ps)).bytes
@@ -304,16 +309,16 @@ module _ (bom next : ℕ) (ps : List Entry) (p : Entry) (at : slice_get ps next 
       let sum : (sums_of (take k ps)).bytes ≡ (sums_of (take next ps)).bytes + (here_of p).sum.bytes = cc (bytes-back next ps p at) in
       omega (arith, base_is, here_is, sum)
 
-  pub last-none : (rs : List Run) → items_of_runs rs ≡ (here_of p).items → slice_get rs (length rs - 1) ≡ None → last_from 0 bom (take next ps) ≡ last_from 0 bom (take (suc next) ps)
-  last-none rs own none = cc (last-back bom next ps p at, no-runs rs none)
+  pub last-none : (es : List Ended) → es ≡ (here_of p).items → slice_get es (length es - 1) ≡ None → last_from 0 bom (take next ps) ≡ last_from 0 bom (take (suc next) ps)
+  last-none es own none = cc (last-back bom next ps p at, no-items es none, own)
     where
-      no-runs : (rs : List Run) → slice_get rs (length rs - 1) ≡ None → rs ≡ []
-      no-runs [] none = refl
-      no-runs (r ∷ rs) none = let p = element (r ∷ rs) (length (r ∷ rs) - 1) (omega arith) in absurd (cc (p.1))
+      no-items : (es : List Ended) → slice_get es (length es - 1) ≡ None → es ≡ []
+      no-items [] none = refl
+      no-items (e ∷ es) none = let p = element (e ∷ es) (length (e ∷ es) - 1) (omega arith) in absurd (cc (p.1))
 
-  pub last-some : (rs : List Run) (r : Run) (base : ℕ) → items_of_runs rs ≡ (here_of p).items → slice_get rs (length rs - 1) ≡ Some r
-      → base ≡ (sums_of (take next ps)).bytes → ends_at base r.last ≡ last_from 0 bom (take (suc next) ps)
-  last-some rs r base own some base_is = cc (last-back bom next ps p at, runs-last base (last_from 0 bom (take next ps)) rs r some)
+  pub last-some : (es : List Ended) (e : Ended) (base : ℕ) → es ≡ (here_of p).items → slice_get es (length es - 1) ≡ Some e
+      → base ≡ (sums_of (take next ps)).bytes → ends_at base e.end ≡ last_from 0 bom (take (suc next) ps)
+  last-some es e base own some base_is = cc (last-back bom next ps p at, items-last base (last_from 0 bom (take next ps)) es e some, own)
 
 -- ---- from one error to the next
 

@@ -1,22 +1,21 @@
 //! The errors of a piece, one after the other.
-ghost use Rattle.std.specs.Prelude.{◌≡◌, ◌<◌, [], ◌∷◌, drop, slice_get, MatchOption};
+ghost use Rattle.std.specs.Prelude.{◌≡◌, ◌+◌, ◌^◌, ◌<◌, [], ◌∷◌, drop, slice_get, IfSome, MatchOption};
 ghost use Rattle.state_memo.specs.Items.{errors_in};
-ghost use Rattle.state_memo.specs.Runs.{items_of_run};
+ghost use Rattle.state_memo.specs.Runs.{items_of_run, items_of_runs};
 ghost use Rattle.piece_rope.specs.Errors.{errors_at};
 
 use enc_names::Place;
-use state_memo::{Outcome, Run};
+use state_memo::{Outcome, Run, Runs};
 use std::marker::Model;
 
 /// The errors of a piece from one on, each found from the one before. Contracts see their places.
 #[derive(Drop)]
 pub(crate) struct ErrorCursor<'r> {
-    runs: &'r [Run],
+    /// The runs that it isn't past.
+    runs: Runs<'r>,
     /// The byte at which the piece begins.
     base: u64,
-    /// The number of the run that the cursor is at.
-    at: usize,
-    /// Where this run begins.
+    /// Where the first of them begins.
     from: u64,
     /// How many errors of it are behind the cursor.
     passed: u64,
@@ -30,7 +29,7 @@ impl<'r> Model for ErrorCursor<'r> {
 
     ghost Value = { List Place };
 
-    ghost view = { λ c. drop c.passed (errors_at c.base c.from (items_of_runs (drop c.at c.runs.now))) };
+    ghost view = { λ c. drop c.passed (errors_at c.base c.from (items_of_runs c.runs)) };
 }
 
 impl<'r> ErrorCursor<'r> {
@@ -42,7 +41,6 @@ impl<'r> ErrorCursor<'r> {
         ErrorCursor {
             runs: outcome.items.runs(),
             base,
-            at: 0,
             from,
             passed: n,
         }
@@ -52,21 +50,36 @@ impl<'r> ErrorCursor<'r> {
     pub(crate) fn next(&mut self) -> Option<Place>
         ensures { MatchOption result (self.old ≡ []) (λ place. self.old ≡ place ∷ self.new) }
     {
-        let (runs, base) = (self.runs, self.base);
-        let (mut at, mut from, mut passed) = (self.at, self.from, self.passed);
-        'runs: while at < runs.len() && runs[at].errors() <= passed {
-            passed -= runs[at].errors();
-            from = base.saturating_add_signed(i64::from(runs[at].last));
-            at += 1;
-        }
-        if at >= runs.len() {
-            return None;
-        }
-        self.at = at;
+        let base = self.base;
+        let (from, passed) = go_to(&mut self.runs, base, self.from, self.passed);
         self.from = from;
+        let Some(run) = self.runs.first() else {
+            self.passed = passed;
+            return None;
+        };
         self.passed = passed + 1;
-        error_in_run(runs[at], base, from, passed)
+        error_in_run(run, base, from, passed)
     }
+}
+
+/// Goes past the runs in front of the one that has error number `n` of them all, the first of which
+/// begins at `from`. Returns where that one begins, and the error's number in it.
+fn go_to(runs: &mut Runs<'_>, base: u64, from: u64, n: u64) -> (u64, u64)
+    ensures same { drop result.1 (errors_at base result.0 (items_of_runs runs.new)) ≡ drop n (errors_at base from (items_of_runs runs.old)) }
+    ensures there { IfSome (slice_get runs.new 0) (λ run. result.1 < errors_in (items_of_run run)) }
+    ensures few { IfSome (slice_get runs.new 0) (λ _. result.1 + 1 < 2 ^ 64) }
+{
+    let (mut begin, mut left) = (from, n);
+    'runs: while let Some(run) = runs.first() {
+        let count = run.errors();
+        if left < count {
+            break;
+        }
+        left -= count;
+        begin = base.saturating_add_signed(i64::from(run.last));
+        runs.advance();
+    }
+    (begin, left)
 }
 
 /// Where the item of a run that is error number `n` of it stands, in a piece that begins at byte

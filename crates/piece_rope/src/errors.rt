@@ -45,8 +45,8 @@ fn end_before(pieces: &Pieces, place: usize, before: u64, bom: u64) -> u64
         left -= 1;
         let here = pieces.get(left).here();
         base -= here.sum.bytes;
-        if let Some(run) = here.items.runs().last() {
-            return base.saturating_add_signed(i64::from(run.last));
+        if let Some(item) = here.items.last() {
+            return base.saturating_add_signed(item.end);
         }
     }
     bom

@@ -1,15 +1,15 @@
 -- The errors of a document with their places, piece by piece and run by run.
-use Rattle.std.proofs.Common.{ℕ, ◌≡◌, refl, sym, ap, subst, ◌∙◌, zero, suc, ◌+◌, ◌-◌, ◌<◌, ◌≤◌, inl, inr, Bool, true, false, cond, List, [], ◌∷◌, ◌++◌, length, length-append, length-drop, take, drop, take-append-drop, append_assoc, get_or, arith, min, Option, Some}
+use Rattle.std.proofs.Common.{ℕ, ◌≡◌, refl, sym, ap, subst, ◌∙◌, zero, suc, ◌+◌, ◌-◌, ◌<◌, ◌≤◌, inl, inr, Bool, true, false, cond, List, [], ◌∷◌, ◌++◌, length, length-append, length-drop, take, drop, take-append-drop, append_assoc, arith, min, Option, Some}
 use Rattle.std.proofs.Math.Seq.{drop-append-add, take-append_seam}
 use Rattle.std.proofs.lemmas.List.{drop-append-le}
 use Rattle.position_map.specs.ErrorPlaces.{end_or, error_ats}
-use Rattle.position_map.proofs.Words.{slice_get, length-map, length-take, drop-drop, at_drop_more, Place, Item, One, Two, Error, Placed, code_points}
+use Rattle.position_map.proofs.Words.{slice_get, length-map, length-take, drop-drop, Place, Item, One, Two, Error, Placed, code_points}
 use Rattle.position_map.proofs.Words.{item_code_points, errors_of, Ended, Outcome, Sum, total_of, AreMade, all_scalars, errors_in, is_an_error, AreEnded, ends_at, Run}
 use Rattle.position_map.proofs.Words.{items_of_run, items_of_runs, items_until, item_of_kind, ErrorAt, error_if, errors_from, all_errors, scalar_of}
 use Rattle.position_map.proofs.Words.{errors_in_sum, IsChained, last_to, bom_of, IsPlaced, Pieced, one_if, by_le, same_some, none_some, Utf8}
 use Rattle.position_map.proofs.Chains.{chained, cut_around}
 use Rattle.position_map.proofs.ErrorPieces.{errors-count, errors-left, none-behind}
-use Rattle.position_map.proofs.ErrorRuns.{AreAlike, either_run, others-count, get-front, no_run}
+use Rattle.position_map.proofs.ErrorRuns.{AreAlike, either_run, others-count, get-front, items-first}
 use Rattle.position_map.proofs.Items.{IsPieced}
 
 -- ---- lists
@@ -138,42 +138,38 @@ run-last base from r = ended_at-append base from (items_until r.kind r.step _ r.
 
 -- ---- a walk over runs
 
-module _ (base from n passed i : ℕ) (rs : List Run) (l : i < length rs) where
-  abbrev r : Run
-  r = get_or rs i no_run
-
+module _ (base from n passed : ℕ) (rs : List Run) (r : Run) (f : slice_get rs 0 ≡ Some r) where
   abbrev here : List Ended
   here = items_of_run r
 
   abbrev later : List ErrorAt
-  later = error_ats base (ended_at base from here) (n + all_scalars here) (items_of_runs (drop (i + 1) rs))
+  later = error_ats base (ended_at base from here) (n + all_scalars here) (items_of_runs (drop 1 rs))
 
-  ats-next : error_ats base from n (items_of_runs (drop i rs)) ≡ error_ats base from n here ++ later
-  ats-next = at_drop_more (λ (v : List Run). error_ats base from n (items_of_runs v)) rs i no_run l ∙ ats-append base from n here (items_of_runs (drop (i + 1) rs))
+  ats-first : error_ats base from n (items_of_runs rs) ≡ error_ats base from n here ++ later
+  ats-first = ap (error_ats base from n) (items-first rs r f) ∙ ats-append base from n here (items_of_runs (drop 1 rs))
 
   -- one more run gone past
   pub run-passed : (to m rest : ℕ) → errors_in here ≤ passed → rest ≡ passed - errors_in here → to ≡ ends_at base r.last → m ≡ n + all_scalars here
-      → drop rest (error_ats base to m (items_of_runs (drop (i + 1) rs))) ≡ drop passed (error_ats base from n (items_of_runs (drop i rs)))
+      → drop rest (error_ats base to m (items_of_runs (drop 1 rs))) ≡ drop passed (error_ats base from n (items_of_runs rs))
   run-passed to m rest h rest_is to_is m_is =
       let size : length (error_ats base from n here) + rest ≡ passed = omega (arith, ats-length base from n here, h, rest_is) in
       let end : to ≡ ended_at base from here = to_is ∙ sym (run-last base from r) in
-      ap (λ t. drop rest (error_ats base t m (items_of_runs (drop (i + 1) rs)))) end
-      ∙ ap (λ t. drop rest (error_ats base (ended_at base from here) t (items_of_runs (drop (i + 1) rs)))) m_is
+      ap (λ t. drop rest (error_ats base t m (items_of_runs (drop 1 rs)))) end
+      ∙ ap (λ t. drop rest (error_ats base (ended_at base from here) t (items_of_runs (drop 1 rs)))) m_is
       ∙ sym (drop-append-add (error_ats base from n here) later rest)
       ∙ ap (λ k. drop k (error_ats base from n here ++ later)) size
-      ∙ ap (drop passed) (sym ats-next)
+      ∙ ap (drop passed) (sym ats-first)
 
   -- the error that comes next, and those behind it
   pub run-holds : (p : Place) (before item : Option Ended) → passed < errors_in here → before ≡ slice_get here (passed - 1) → item ≡ slice_get here passed
       → (passed ≡ 0 → p.from ≡ from) → (0 < passed → p.from ≡ end_or base from before) → p.to ≡ end_or base from item
-      → drop passed (error_ats base from n (items_of_runs (drop i rs)))
-      ≡ record { place = p; scalar = n + passed } ∷ drop (passed + 1) (error_ats base from n (items_of_runs (drop i rs)))
+      → drop passed (error_ats base from n (items_of_runs rs)) ≡ record { place = p; scalar = n + passed } ∷ drop (passed + 1) (error_ats base from n (items_of_runs rs))
   run-holds p before item h b it first behind to =
       let x : ErrorAt = record { place = p; scalar = n + passed } in
       let own = run-shows base from n passed r p before item h b it first behind to in
-      let all : slice_get (error_ats base from n (items_of_runs (drop i rs))) passed ≡ Some x =
-      ap (λ (ss : List ErrorAt). slice_get ss passed) ats-next ∙ get-front (error_ats base from n here) later passed (omega (arith, ats-length base from n here, h)) ∙ own in
-      drop-next (error_ats base from n (items_of_runs (drop i rs))) passed x all
+      let all : slice_get (error_ats base from n (items_of_runs rs)) passed ≡ Some x =
+      ap (λ (ss : List ErrorAt). slice_get ss passed) ats-first ∙ get-front (error_ats base from n here) later passed (omega (arith, ats-length base from n here, h)) ∙ own in
+      drop-next (error_ats base from n (items_of_runs rs)) passed x all
 
 -- ---- pieces
 

@@ -1,7 +1,7 @@
 -- The code points of errors among the runs of a piece.
-use Rattle.std.proofs.Common.{ℕ, ℤ, subst, ◌≡◌, refl, sym, ap, ◌∙◌, zero, suc, ◌+◌, ◌-◌, ◌<◌, ◌≤◌, ◌⊎◌, inl, inr, Bool, true, false, cond, nat_lt, min, pos, ◌-ℤ◌, List, [], ◌∷◌, ◌++◌, length, drop, get_or, arith, count_by}
-use Rattle.position_map.proofs.Words.{slice_get, nat_tests, at_drop_more, count_by-le-length, sum_by-append, sum_by-cons, one_if}
-use Rattle.position_map.proofs.Words.{Ended, all_scalars, errors_in, ItemKind, AsciiOne, AsciiError, RomanError, KatakanaError, Jis0208Error, Run}
+use Rattle.std.proofs.Common.{ℕ, ℤ, subst, ◌≡◌, refl, sym, ap, ◌∙◌, zero, suc, ◌+◌, ◌-◌, ◌<◌, ◌≤◌, ◌⊎◌, inl, inr, Bool, true, false, cond, nat_lt, min, pos, ◌-ℤ◌, List, [], ◌∷◌, ◌++◌, length, drop, Some, None, arith, count_by}
+use Rattle.position_map.proofs.Words.{slice_get, nat_tests, count_by-le-length, sum_by-append, sum_by-cons, one_if}
+use Rattle.position_map.proofs.Words.{Ended, all_scalars, errors_in, ItemKind, AsciiError, RomanError, KatakanaError, Jis0208Error, Run}
 use Rattle.position_map.proofs.Words.{item_of_kind, items_of_run, items_of_runs, items_until, error_scalars, by_test, by_le}
 
 -- how many numbers are below one
@@ -116,30 +116,33 @@ errors_in-append : (xs ys : List Ended) → errors_in (xs ++ ys) ≡ errors_in x
 errors_in-append [] ys = omega arith
 errors_in-append (x ∷ xs) ys = omega (arith, errors_in-append xs ys)
 
-abbrev pub no_run : Run
-no_run = record { last = pos 0; more = 0; step = 0; kind = AsciiOne }
+-- the first run, and the others
+pub items-first : (rs : List Run) (r : Run) → slice_get rs 0 ≡ Some r → items_of_runs rs ≡ items_of_run r ++ items_of_runs (drop 1 rs)
+items-first [] r h = absurd cc
+items-first (x ∷ rs) r h = let e : x ≡ r = cc in ap (λ (y : Run). items_of_run y ++ items_of_runs rs) e
 
-abbrev pub run_at : List Run → ℕ → List Ended
-run_at rs i = items_of_run (get_or rs i no_run)
+pub fewer : (rs : List Run) (r : Run) → slice_get rs 0 ≡ Some r → length (drop 1 rs) < length rs
+fewer [] r h = absurd cc
+fewer (x ∷ rs) r h = omega arith
 
-module _ (rs : List Run) (i : ℕ) (l : i < length rs) where
-  pub scalars-next : all_scalars (items_of_runs (drop i rs)) ≡ all_scalars (run_at rs i) + all_scalars (items_of_runs (drop (i + 1) rs))
-  scalars-next =
-      at_drop_more (λ (v : List Run). all_scalars (items_of_runs v)) rs i no_run l
-      ∙ all_scalars-append (run_at rs i) (items_of_runs (drop (i + 1) rs))
+pub none-first : (rs : List Run) → slice_get rs 0 ≡ None → rs ≡ []
+none-first [] h = refl
+none-first (x ∷ rs) h = absurd cc
+
+module _ (rs : List Run) (r : Run) (h : slice_get rs 0 ≡ Some r) where
+  pub scalars-first : all_scalars (items_of_runs rs) ≡ all_scalars (items_of_run r) + all_scalars (items_of_runs (drop 1 rs))
+  scalars-first = ap all_scalars (items-first rs r h) ∙ all_scalars-append (items_of_run r) (items_of_runs (drop 1 rs))
 
   module _ (n : ℕ) where
     abbrev pub rest : List ℕ
-    rest = error_scalars (n + all_scalars (run_at rs i)) (items_of_runs (drop (i + 1) rs))
+    rest = error_scalars (n + all_scalars (items_of_run r)) (items_of_runs (drop 1 rs))
 
-    errors-next : error_scalars n (items_of_runs (drop i rs)) ≡ error_scalars n (run_at rs i) ++ rest
-    errors-next =
-        at_drop_more (λ (v : List Run). error_scalars n (items_of_runs v)) rs i no_run l
-        ∙ error_scalars-append n (run_at rs i) (items_of_runs (drop (i + 1) rs))
+    errors-first : error_scalars n (items_of_runs rs) ≡ error_scalars n (items_of_run r) ++ rest
+    errors-first = ap (error_scalars n) (items-first rs r h) ∙ error_scalars-append n (items_of_run r) (items_of_runs (drop 1 rs))
 
     -- the errors of this run that are counted, and those behind it
-    pub below-next : (m : ℕ) → below m (error_scalars n (items_of_runs (drop i rs))) ≡ min (errors_in (run_at rs i)) (m - n) + below m rest
-    below-next m = omega (arith, ap (below m) errors-next, below-append m (error_scalars n (run_at rs i)) rest, run-below m n (get_or rs i no_run))
+    pub below-first : (m : ℕ) → below m (error_scalars n (items_of_runs rs)) ≡ min (errors_in (items_of_run r)) (m - n) + below m rest
+    below-first m = omega (arith, ap (below m) errors-first, below-append m (error_scalars n (items_of_run r)) rest, run-below m n r)
 
 -- no more errors are counted than there are code points
 runs-few : (rs : List Run) → errors_in (items_of_runs rs) ≤ all_scalars (items_of_runs rs)

@@ -88,19 +88,22 @@ fn push_errors(
     requires { scalar + all_scalars here.now.items < 2 ^ 64 }
     ensures { OnOk result (errors.new.items ≡ errors.old.items ++ take max (drop first (error_ats base from scalar here.now.items))) }
 {
-    let runs = here.items.runs();
-    let (mut at, mut passed, mut left) = (0, first, max);
+    let mut runs = here.items.runs();
+    let (mut passed, mut left) = (first, max);
     let (mut begin, mut number) = (from, scalar);
-    'runs: while left > 0 && at < runs.len() {
-        let count = runs[at].errors();
+    'runs: while let Some(run) = runs.first() {
+        if left == 0 {
+            return Ok(());
+        }
+        let count = run.errors();
         if count <= passed {
             passed -= count;
-            begin = base.saturating_add_signed(i64::from(runs[at].last));
-            number += runs[at].scalars();
-            at += 1;
+            begin = base.saturating_add_signed(i64::from(run.last));
+            number += run.scalars();
+            runs.advance();
         } else {
-            let item = runs[at].item(passed);
-            let before = runs[at].item(passed.saturating_sub(1));
+            let item = run.item(passed);
+            let before = run.item(passed.saturating_sub(1));
             let place = place_in(base, begin, passed, before, item);
             errors.push(ErrorAt {
                 place,

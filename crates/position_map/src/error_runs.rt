@@ -11,12 +11,13 @@ pub(crate) fn errors_before_in(here: &Outcome, from: u64, n: u64) -> u64
     requires { from + all_scalars here.now.items < 2 ^ 64 }
     ensures { result ≡ count_by (λ (s : ℕ). nat_lt s n) (error_scalars from here.now.items) }
 {
-    let runs = here.items.runs();
+    let mut runs = here.items.runs();
     let mut scalars = from;
     let mut errors = 0;
-    'runs: for run in runs {
+    'runs: while let Some(run) = runs.first() {
         errors += run.errors().min(n.saturating_sub(scalars));
         scalars += run.scalars();
+        runs.advance();
     }
     errors
 }

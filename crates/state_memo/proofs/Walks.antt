@@ -197,7 +197,7 @@ front-at [] b n h = absurd (omega (arith, h))
 front-at (x ∷ a) b zero h = refl
 front-at (x ∷ a) b (suc n) h = front-at a b n (omega (arith, h))
 
-count-is : (r : Run) → length (items_of_run r) ≡ r.more + 1
+pub count-is : (r : Run) → length (items_of_run r) ≡ r.more + 1
 count-is r = omega (arith, length-until r.kind r.step r.last (suc r.more))
 
 -- an item by its number
@@ -275,7 +275,7 @@ found-here rs i d left k before h e =
     ∙ ap (option_map (λ j. j + before)) (found-front (items_of_run (get_or rs i d)) (items_of_runs (drop (i + 1) rs)) left k e)
     ∙ ap Some (omega arith)
 
-plus-plus : (o : Option ℕ) (a b : ℕ) → option_map (λ k. k + b) (option_map (λ k. k + a) o) ≡ option_map (λ k. k + (b + a)) o
+pub plus-plus : (o : Option ℕ) (a b : ℕ) → option_map (λ k. k + b) (option_map (λ k. k + a) o) ≡ option_map (λ k. k + (b + a)) o
 plus-plus o a b = grind arith
 
 pub found-next : (rs : List Run) (i : ℕ) (d : Run) (left before : ℕ) → i < length rs → all_scalars (items_of_run (get_or rs i d)) ≤ left

@@ -7,10 +7,12 @@ pub mod Feeding
 pub mod Fitting
 pub mod Gathering
 pub mod Items
+pub mod Kept
 pub mod Lines
 pub mod Memo
 pub mod Outcome
 pub mod Runs
+pub mod Singles
 pub mod SumFacts
 pub mod SumLaws
 pub mod Sums

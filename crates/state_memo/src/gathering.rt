@@ -156,7 +156,7 @@ impl Gathering {
         let mut written = text.finish()?;
         written.shrink_to_fit();
         let text = Text::new(*written.allocator(), written)?;
-        let items = items.finish()?;
+        let items = items.finish(bytes)?;
         let sum = sum_of(bytes, text.as_str(), scalars, &items, erring);
         let memory = sum.utf8.saturating_add(items.memory());
         Ok(Outcome {

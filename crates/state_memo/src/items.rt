@@ -11,6 +11,9 @@ use crate::ended::Ended;
 use crate::kind::ItemKind;
 use crate::plain::widths_of;
 use crate::run::{Run, end_behind, end_behind_all, goes_on};
+use crate::run_walks::{errors_of, get_in, last_of, number_in, scalars_until};
+use crate::runs::Runs;
+use crate::singles::Singles;
 use decoder_core::Stride;
 use iso2022jp::OutputState;
 use std::alloc::{AllocError, Global};
@@ -22,6 +25,9 @@ const PIECE: usize = 1024;
 
 /// How many bytes a run takes.
 const RUN: u64 = 6;
+
+/// So few runs stay runs.
+const FEW: usize = 8;
 
 /// Items under way: the last run may still go on.
 #[derive(Drop)]
@@ -148,8 +154,9 @@ impl OpenRuns {
         });
     }
 
-    /// The items, which take no more memory than they need.
-    pub(crate) fn finish(self) -> Result<ItemRuns, AllocError>
+    /// The items of so many bytes, which take no more memory than they need: as runs, or one by one
+    /// where runs would take two bytes or more for each byte.
+    pub(crate) fn finish(self, bytes: usize) -> Result<ItemRuns, AllocError>
         ensures { IfOk result (λ items. items ≡ items_under_way self.closed.items self.last) }
     {
         let OpenRuns {
@@ -159,28 +166,40 @@ impl OpenRuns {
         if let Some(run) = last {
             runs.push(run).map_err(AllocError::from)?;
         }
+        let alloc = *runs.allocator();
+        if runs.len() > bytes / 3 + FEW
+            && let Some(singles) = Singles::of(alloc, runs.as_slice())
+        {
+            return ItemRuns::single(alloc, singles);
+        }
         runs.shrink_to_fit();
-        let runs = Rc::new(*runs.allocator(), runs)?;
-        Ok(ItemRuns { runs: Some(runs) })
+        ItemRuns::listed(alloc, runs)
     }
 }
 
-/// Items in order. Contracts see the list. Items of one kind that end at equal distances are kept
-/// as one run, and found in it by a division. Copies share the runs.
+/// How items are kept: in runs, or one by one where these are short.
+#[derive(Drop)]
+enum Kept {
+    Nothing,
+    InRuns(Rc<Vec<Run>>),
+    Singly(Rc<Singles>),
+}
+
+/// Items in order. Contracts see the list. Items of one kind that end at equal distances are one run,
+/// and found in it by a division. Copies share the memory.
 #[derive(Drop)]
 pub struct ItemRuns {
-    runs: Option<Rc<Vec<Run>>>,
+    kept: Kept,
 }
 
 impl Model for ItemRuns {
-    ghost use Rattle.std.specs.Prelude.{List, []};
-    ghost use Rattle.std.specs.Option.{option_map_or};
+    ghost use Rattle.std.specs.Prelude.{List};
     ghost use Rattle.state_memo.specs.declared.ended.Ended.{Ended};
-    ghost use Rattle.state_memo.specs.Runs.{items_of_runs};
+    ghost use Rattle.state_memo.specs.Kept.{kept_items};
 
     ghost Value = { List Ended };
 
-    ghost view = { λ t. option_map_or (λ rc. items_of_runs rc.value.items) t.runs [] };
+    ghost view = { λ t. kept_items t.kept };
 }
 
 impl ItemRuns {
@@ -188,46 +207,71 @@ impl ItemRuns {
     pub(crate) fn empty() -> ItemRuns
         ensures { result ≡ [] }
     {
-        ItemRuns { runs: None }
+        ItemRuns {
+            kept: Kept::Nothing,
+        }
+    }
+
+    /// Items in runs.
+    fn listed(alloc: Global, runs: Vec<Run>) -> Result<ItemRuns, AllocError>
+        ensures { IfOk result (λ items. items ≡ items_of_runs runs.items) }
+    {
+        let runs = Rc::new(alloc, runs)?;
+        Ok(ItemRuns {
+            kept: Kept::InRuns(runs),
+        })
+    }
+
+    /// Items one by one.
+    fn single(alloc: Global, singles: Singles) -> Result<ItemRuns, AllocError>
+        ensures { IfOk result (λ items. items ≡ singles) }
+    {
+        let singles = Rc::new(alloc, singles)?;
+        Ok(ItemRuns {
+            kept: Kept::Singly(singles),
+        })
     }
 
     /// The runs.
-    pub fn runs(&self) -> &[Run]
-        ensures { items_of_runs result.now ≡ self.now }
+    pub fn runs(&self) -> Runs<'_>
+        ensures { items_of_runs result ≡ self.now }
     {
-        match &self.runs {
-            Some(runs) => runs.as_slice(),
-            None => &[],
+        match &self.kept {
+            Kept::Nothing => Runs::listed(&[]),
+            Kept::InRuns(runs) => Runs::listed(runs.as_slice()),
+            Kept::Singly(singles) => Runs::single(singles.runs()),
         }
     }
 
     /// How many bytes of memory they take.
     pub(crate) fn memory(&self) -> u64 {
-        (self.runs().len() as u64).saturating_mul(RUN)
+        match &self.kept {
+            Kept::Nothing => 0,
+            Kept::InRuns(runs) => (runs.len() as u64).saturating_mul(RUN),
+            Kept::Singly(singles) => singles.memory(),
+        }
     }
 
     /// The last item.
     pub fn last(&self) -> Option<Ended>
         ensures { result ≡ slice_get self.now (length self.now - 1) }
     {
-        let run = self.runs().last()?;
-        Some(run.kind.at(i64::from(run.last)))
+        match &self.kept {
+            Kept::Nothing => None,
+            Kept::InRuns(runs) => last_of(runs.as_slice()),
+            Kept::Singly(singles) => singles.last(),
+        }
     }
 
     /// Item number `k`, from 0 on.
     pub fn get(&self, k: u64) -> Option<Ended>
         ensures { result ≡ slice_get self.now k }
     {
-        let runs = self.runs();
-        let mut left = k;
-        'runs: for run in runs {
-            let count = run.count();
-            if left < count {
-                return run.item(left);
-            }
-            left -= count;
+        match &self.kept {
+            Kept::Nothing => None,
+            Kept::InRuns(runs) => get_in(runs.as_slice(), k),
+            Kept::Singly(singles) => singles.get(k),
         }
-        None
     }
 
     /// How many of them are errors.
@@ -235,12 +279,11 @@ impl ItemRuns {
         requires { all_scalars self.now < 2 ^ 64 }
         ensures { result ≡ errors_in self.now }
     {
-        let runs = self.runs();
-        let mut count = 0;
-        'runs: for run in runs {
-            count += run.errors();
+        match &self.kept {
+            Kept::Nothing => 0,
+            Kept::InRuns(runs) => errors_of(runs.as_slice()),
+            Kept::Singly(singles) => singles.count_errors(),
         }
-        count
     }
 
     /// How many code points stand in items that end at or before a place.
@@ -248,12 +291,11 @@ impl ItemRuns {
         requires { all_scalars self.now < 2 ^ 64 }
         ensures { result ≡ scalars_before limit self.now }
     {
-        let runs = self.runs();
-        let mut count = 0;
-        'runs: for run in runs {
-            count += run.scalars_before(limit);
+        match &self.kept {
+            Kept::Nothing => 0,
+            Kept::InRuns(runs) => scalars_until(runs.as_slice(), limit),
+            Kept::Singly(singles) => singles.scalars_before(limit),
         }
-        count
     }
 
     /// The number of the item that has code point number `n`, where there are so many.
@@ -261,17 +303,11 @@ impl ItemRuns {
         requires { all_scalars self.now < 2 ^ 64 }
         ensures { result ≡ item_of self.now n }
     {
-        let runs = self.runs();
-        let mut left = n;
-        let mut before = 0;
-        'runs: for run in runs {
-            if let Some(k) = run.item_of(left) {
-                return Some(before + k);
-            }
-            left -= run.scalars();
-            before += run.count();
+        match &self.kept {
+            Kept::Nothing => None,
+            Kept::InRuns(runs) => number_in(runs.as_slice(), n),
+            Kept::Singly(singles) => singles.item_of(n),
         }
-        None
     }
 }
 
@@ -279,11 +315,12 @@ impl Clone for ItemRuns {
     ghost is_clone = { λ t copy. copy ≡ t };
 
     fn clone(&self) -> Result<ItemRuns, AllocError> {
-        match &self.runs {
-            Some(runs) => Ok(ItemRuns {
-                runs: Some(runs.clone()?),
-            }),
-            None => Ok(ItemRuns::empty()),
-        }
+        Ok(ItemRuns {
+            kept: match &self.kept {
+                Kept::Nothing => Kept::Nothing,
+                Kept::InRuns(runs) => Kept::InRuns(runs.clone()?),
+                Kept::Singly(singles) => Kept::Singly(singles.clone()?),
+            },
+        })
     }
 }

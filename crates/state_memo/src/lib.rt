@@ -18,6 +18,12 @@ mod parts;
 mod piece;
 mod plain;
 mod run;
+mod run_walks;
+mod runs;
+mod shape;
+mod single_runs;
+mod single_walks;
+mod singles;
 mod sum;
 
 pub use axis::Axis;
@@ -36,4 +42,5 @@ pub use laws::{law_marks, law_pieces, law_sums};
 pub use outcome::{Outcome, Text};
 pub use piece::Piece;
 pub use run::Run;
+pub use runs::Runs;
 pub use sum::Sum;

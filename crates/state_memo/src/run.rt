@@ -58,6 +58,7 @@ impl Run {
         ensures items { items_of_run result ≡ item_of_kind kind last ∷ [] }
         ensures last { result.last ≡ last }
         ensures kind { result.kind ≡ kind }
+        ensures whole { result ≡ record { last = last; more = 0; step = 0; kind = kind } }
     {
         Run {
             last,

@@ -1,4 +1,4 @@
-use Rattle.std.proofs.Common.{◌≡◌, ap, ◌∙◌, ℕ, suc, ◌-◌, arith, rules, None, Some, slice_get, length, take}
+use Rattle.std.proofs.Common.{◌≡◌, ap, sym, ◌∙◌, ℕ, suc, ◌-◌, arith, rules, None, slice_get, length, take}
 use Rattle.piece_rope.proofs.Prelude.{Outcome, sums_of, last_from, ends_at}
 use Rattle.piece_rope.proofs.Erring.{bytes-back, end-back, last-none, last-some}
 use Rattle.piece_rope.proofs.errors.end_before.Goals.{After-here-here}
@@ -25,21 +25,20 @@ overflow_sub-base c =
 pub returns-in-Some : goal.returns-in-Some
 returns-in-Some c =
     let x = (goal.at.returns-in-Some c).After-here-here in
-    let runs = c.runs.result.now in
-    let run = c.in-Some.run'.now in
+    let es = c.here-here.result.now.items in
+    let item = c.in-Some.item in
     let begun = c.pieces.base - c.here-here.result.now.sum.bytes in
-    let own = c.runs.ensures ∙ ap (λ (o : Outcome). o.items) c.here-here.ensures in
-    let to_is : c.saturating_add_signed.result ≡ ends_at begun run.last = search rules in
-    let at : slice_get runs (length runs - 1) ≡ Some run = search rules in
-    to_is ∙ last-some c.args.bom (c.pieces.left - 1) c.args.pieces.now.items c.get.result.now c.get.ensures runs run begun own at (base x) ∙ last x
+    let own = ap (λ (o : Outcome). o.items) c.here-here.ensures in
+    let to_is : c.saturating_add_signed.result ≡ ends_at begun item.end = search rules in
+    to_is ∙ last-some c.args.bom (c.pieces.left - 1) c.args.pieces.now.items c.get.result.now c.get.ensures es item begun own (sym c.in-Some.ensures) (base x) ∙ last x
 
 pub pieces-preserved : goal.pieces-preserved
 pieces-preserved c =
     let x = (goal.at.pieces-preserved c).After-here-here in
-    let runs = c.runs.result.now in
-    let none : slice_get runs (length runs - 1) ≡ None = search rules in
+    let es = c.here-here.result.now.items in
+    let none : slice_get es (length es - 1) ≡ None = search rules in
     record {
       within = omega (arith, c.pieces.invariant.within);
       base = base x;
-      last = last-none c.args.bom (c.pieces.left - 1) c.args.pieces.now.items c.get.result.now c.get.ensures runs (c.runs.ensures ∙ ap (λ (o : Outcome). o.items) c.here-here.ensures) none ∙ last x;
+      last = last-none c.args.bom (c.pieces.left - 1) c.args.pieces.now.items c.get.result.now c.get.ensures es (ap (λ (o : Outcome). o.items) c.here-here.ensures) none ∙ last x;
     }

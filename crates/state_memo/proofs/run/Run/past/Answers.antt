@@ -1,4 +1,4 @@
-use Rattle.std.proofs.Common.{rules, ◌≡◌, ap, ◌∙◌, arith, ◌<◌, ◌+◌, ◌*◌, ◌-◌, ◌/◌, true, false, ℕ, suc, pos, ◌+ℤ◌}
+use Rattle.std.proofs.Common.{rules, ◌≡◌, ap, ◌∙◌, arith, ◌<◌, ◌+◌, ◌*◌, ◌-◌, ◌/◌, true, ℕ, suc, pos, ◌+ℤ◌}
 use Rattle.state_memo.proofs.Prelude.{le_z, scalars_of}
 use Rattle.state_memo.proofs.Walks.{before-all, before-far, before-div, rest-none}
 use Rattle.state_memo.proofs.run.Run.past.Goals as goal

@@ -1,0 +1,83 @@
+//! Runs of items that are kept one by one.
+ghost use Rattle.std.specs.Prelude.{◌≡◌, ◌^◌, [], drop, length, slice_get, pos, ◌+ℤ◌, ◌<ℤ◌};
+ghost use Rattle.state_memo.specs.Singles.{AreNamed, all_steps, shapes_of, single_runs};
+
+use crate::run::{Run, end_behind};
+use crate::shape::Shape;
+use std::marker::Model;
+
+/// The runs of items that are kept one by one, each of one item. Contracts see the list of those that
+/// are left.
+#[derive(Drop)]
+pub(crate) struct SingleRuns<'r> {
+    shapes: &'r [Shape],
+    numbers: &'r [u8],
+    /// What the first step is counted from.
+    end: i16,
+}
+
+impl<'r> Model for SingleRuns<'r> {
+    ghost use Rattle.std.specs.Prelude.{◌^◌, List, length, pos, ◌+ℤ◌, ◌<ℤ◌};
+    ghost use Rattle.state_memo.specs.declared.run.Run.{Run};
+    ghost use Rattle.state_memo.specs.Singles.{AreNamed, all_steps, shapes_of, single_runs};
+
+    ghost Value = { List Run };
+
+    ghost view = { λ r. single_runs r.end (shapes_of r.shapes.now r.numbers.now) };
+
+    ghost invariant = { λ r. record {
+      named : AreNamed (length r.shapes.now) r.numbers.now;
+      within : (r.end +ℤ pos (all_steps (shapes_of r.shapes.now r.numbers.now))) <ℤ pos (2 ^ 15);
+    } };
+}
+
+impl<'r> SingleRuns<'r> {
+    /// The runs of items whose shapes have these numbers, behind one that ends there.
+    pub(crate) fn new(shapes: &'r [Shape], numbers: &'r [u8], end: i16) -> SingleRuns<'r>
+        requires named { AreNamed (length shapes.now) numbers.now }
+        requires within { (end +ℤ pos (all_steps (shapes_of shapes.now numbers.now))) <ℤ pos (2 ^ 15) }
+        ensures { result ≡ single_runs end (shapes_of shapes.now numbers.now) }
+    {
+        SingleRuns {
+            shapes,
+            numbers,
+            end,
+        }
+    }
+
+    /// No run.
+    pub(crate) fn none() -> SingleRuns<'r>
+        ensures { result ≡ [] }
+    {
+        SingleRuns {
+            shapes: &[],
+            numbers: &[],
+            end: 0,
+        }
+    }
+
+    /// The first one.
+    // In the loops over runs.
+    #[inline(always)]
+    pub(crate) fn first(&self) -> Option<Run>
+        ensures { result ≡ slice_get self.now 0 }
+    {
+        let number = *self.numbers.first()?;
+        let shape = self.shapes[usize::from(number)];
+        Some(Run::one(shape.kind, end_behind(self.end, shape.step)))
+    }
+
+    /// Goes past the first one, if there is any.
+    // In the loops over runs.
+    #[inline(always)]
+    pub(crate) fn advance(&mut self)
+        ensures { self.new ≡ drop 1 self.old }
+    {
+        let Some((number, rest)) = self.numbers.split_first() else {
+            return;
+        };
+        let shape = self.shapes[usize::from(*number)];
+        self.end = end_behind(self.end, shape.step);
+        self.numbers = rest;
+    }
+}
