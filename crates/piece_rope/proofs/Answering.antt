@@ -14,7 +14,7 @@ pub total-numbers : SumLaw → (ps : List Entry) → IsSumOf (texts_of ps) (item
 total-numbers law [] = record { scalars = refl; utf16 = refl; utf8 = refl; errors = refl; marks = refl; lf_first = refl; cr_last = refl; counted = refl }
 total-numbers law (p ∷ ps) = law (here_of p).text (texts_of ps) (here_of p).items (items_of ps) (here_of p).sum (sums_of ps) (here_of p).summed (total-numbers law ps)
 
-code_points-append : (xs ys : List Placed) → code_points (xs ++ ys) ≡ code_points xs ++ code_points ys
+pub code_points-append : (xs ys : List Placed) → code_points (xs ++ ys) ≡ code_points xs ++ code_points ys
 code_points-append xs ys = flat_map-append (λ (p : Placed). item_code_points p.item) xs ys
 
 made-text : (base : ℕ) (is : List Placed) (ps : List Entry) → AreMade base is (map here_of ps) → code_points is ≡ texts_of ps

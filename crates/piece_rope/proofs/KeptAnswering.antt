@@ -3,7 +3,7 @@ use Rattle.std.proofs.Common.{◌≡◌, refl, sym, ap, ◌∙◌, ℕ, ◌+◌,
 use Rattle.std.specs.Bool.{one_answer}
 use Rattle.std.proofs.lemmas.Slice.Eq.{bytes_eq-Decides}
 use Rattle.piece_rope.specs.declared.fault.DocFault.{DocFault}
-use Rattle.piece_rope.specs.declared.fault.DocFault.TheVariants.{OutOfRange, TooLarge, NotKept}
+use Rattle.piece_rope.specs.declared.fault.DocFault.TheVariants.{NoIndex, OutOfRange, TooLarge, NotKept, OutOfMemory}
 use Rattle.piece_rope.specs.Splice.{IsReady}
 use Rattle.piece_rope.proofs.Prelude.{Decides, le-leb, leb-true, lt-leb, Setting, Files, AnyDecoding, Contents, contents_of, ending_of, Outcome, Sum}
 use Rattle.piece_rope.proofs.Prelude.{joined, PreparedEdit, Document, document, text_of, bytes_of, edited, document_limit, spliced, spliced_document}
@@ -16,6 +16,10 @@ use Rattle.piece_rope.proofs.Parting.{parts-text}
 range-there : (d : Document) (i j : ℕ) → i ≤ j → j ≤ length (text_of d) → text_fault d i j ≡ None
 unfolding range_fault
 range-there d i j order within = rw (le-leb i j order, le-leb j (length (text_of d)) within) refl
+
+refuted : (b : Bool) → (b ≡ true → ⊥) → b ≡ false
+refuted true never = absurd (never refl)
+refuted false never = refl
 
 neither : (b c : Bool) → (b ≡ true → c ≡ false) → (b && c) ≡ false
 neither true c e = e refl
@@ -33,7 +37,7 @@ one_of true true e = cc
 one_of true false e = cc
 one_of false c e = cc
 
-cut-causes : (bytes : List ℕ) (at del : ℕ) (ins : List ℕ) → splice_fault bytes at del ins ≡ Some NotKept → ⊥
+pub cut-causes : (bytes : List ℕ) (at del : ℕ) (ins : List ℕ) → splice_fault bytes at del ins ≡ Some NotKept → ⊥
 unfolding splice_fault
 cut-causes bytes at del ins e = one_of (nat_le (at + del) (length bytes)) (nat_le (length (spliced bytes at del ins)) document_limit) e
 
@@ -48,6 +52,15 @@ first-causes (Some fault) cut none other e = none e
 -- that the text isn't kept is no cause before it is looked at
 pub kept-causes : (d : Document) (at del : ℕ) (ins : List ℕ) (i j : ℕ) → kept_fault d at del ins i j ≡ Some NotKept → ⊥
 kept-causes d at del ins i j e = first-causes (text_fault d i j) (splice_fault d.bytes at del ins) (range-causes d i j) (cut-causes d.bytes at del ins) e
+
+-- an answer is handed on
+pub kept-still : (A B : Type 0) (fault seen : Option DocFault) (kept found : Bool) (e : DocFault) → fault ≡ seen → kept ≡ found
+    → KeptAnswers {A = A} seen found (Err e) → KeptAnswers {A = B} fault kept (Err e)
+kept-still A B fault seen kept found NotKept same too answer = (same ∙ answer.0, too ∙ answer.1)
+kept-still A B fault seen kept found OutOfMemory same too answer = same ∙ answer
+kept-still A B fault seen kept found NoIndex same too answer = same ∙ answer
+kept-still A B fault seen kept found OutOfRange same too answer = same ∙ answer
+kept-still A B fault seen kept found TooLarge same too answer = same ∙ answer
 
 pub kept-fails : (A : Type 0) (fault : Option DocFault) (kept : Bool) (e : DocFault) → fault ≡ named e → (fault ≡ Some NotKept → ⊥) → KeptAnswers {A = A} fault kept (Err e)
 kept-fails A fault kept NotKept is other = absurd (other is)
@@ -77,6 +90,12 @@ kept-answer files setting ps tail e at del ins i j r put kept ready decides =
     let new : text_in (edited_parts ps e) ≡ text_of after =
     cc (parts-whole (document files setting (bytes_of (edited ps e))) (edited ps e) e.tail ready.kept.whole, ready.bytes) in
     one_answer r (is_kept d at del ins i j put) (rw (new, parts-whole d ps tail kept.whole) at decides) (bytes_eq-Decides (text_of after) (replaced (text_of d) i j put))
+
+-- another text than the wanted one isn't kept
+pub another-kept : (d : Document) (at del : ℕ) (ins : List ℕ) (i j : ℕ) (put old : List ℕ) → old ≡ text_of d → (text_of (spliced_document d at del ins) ≡ replaced old i j put → ⊥)
+    → is_kept d at del ins i j put ≡ false
+another-kept d at del ins i j put old old_is other =
+    refuted (is_kept d at del ins i j put) (λ yes. other (rw old_is ((bytes_eq-Decides (text_of (spliced_document d at del ins)) (replaced (text_of d) i j put)).0 yes)))
 
 -- ends from one state give one text
 pub same-ends : (d : AnyDecoding) (new old : Outcome) → contents_of new ≡ ending_of d new.exit → contents_of old ≡ ending_of d old.exit → new.exit ≡ old.exit → new.text ≡ old.text

@@ -24,5 +24,7 @@ pub mod Preparing
 pub mod Reading
 pub mod Remembering
 pub mod Spanning
+pub mod Stopping
 pub mod Taking
 pub mod Texts
+pub mod Wanting

@@ -32,7 +32,7 @@ abbrev pub last_end : ℕ → ℕ → List EndedItem → ℕ
 last_end total from [] = from
 last_end total from (e ∷ es) = last_end total (total - e.back) es
 
-places-append : (total from : ℕ) (xs ys : List EndedItem) → places total from (xs ++ ys) ≡ places total from xs ++ places total (last_end total from xs) ys
+pub places-append : (total from : ℕ) (xs ys : List EndedItem) → places total from (xs ++ ys) ≡ places total from xs ++ places total (last_end total from xs) ys
 places-append total from [] ys = refl
 places-append total from (x ∷ xs) ys = ap (λ (ps : List Placed). record { item = x.item; from = from; to = total - x.back } ∷ ps) (places-append total (total - x.back) xs ys)
 
@@ -54,12 +54,12 @@ same-head x xs m e es same =
     let first : (x.item, x.end) ≡ (e.item, pos m -ℤ pos e.back) = cc in
     (ap (λ (y : Item × ℤ). y.0) first, ap (λ (y : Item × ℤ). y.1) first, cc)
 
-shown-text : (m : ℕ) (xs : List (Shown AnyState)) (es : List EndedItem) → shown_items xs ≡ ended_at m es → text_of_shown xs ≡ text_of_ended es
+pub shown-text : (m : ℕ) (xs : List (Shown AnyState)) (es : List EndedItem) → shown_items xs ≡ ended_at m es → text_of_shown xs ≡ text_of_ended es
 shown-text m [] [] same = refl
 shown-text m (x ∷ xs) (e ∷ es) same = let parts = same-head x xs m e es same in cc (parts.0, shown-text m xs es parts.2)
 shown-text m xs es same = absurd cc
 
-placed-text : (total from n : ℕ) (es : List EndedItem) → code_points (places total from (further n es)) ≡ text_of_ended es
+pub placed-text : (total from n : ℕ) (es : List EndedItem) → code_points (places total from (further n es)) ≡ text_of_ended es
 placed-text total from n [] = refl
 placed-text total from n (e ∷ es) = ap (λ (cs : List ℕ). item_code_points e.item ++ cs) (placed-text total (total - (e.back + n)) n es)
 

@@ -113,7 +113,7 @@ whole-scalars ps tail s s_is =
 pub text-next : (os : List Outcome) (n : ℕ) (o : Outcome) → slice_get os n ≡ Some o → text_in (drop n os) ≡ o.text ++ text_in (drop (suc n) os)
 text-next os n o at = ap text_in (drop-next os n o at)
 
-drop-past : {X : Type 0} (os : List X) (n : ℕ) → slice_get os n ≡ None → drop n os ≡ []
+pub drop-past : {X : Type 0} (os : List X) (n : ℕ) → slice_get os n ≡ None → drop n os ≡ []
 drop-past [] n at = drop_all n [] (omega arith)
 drop-past (o ∷ os) zero at = absurd cc
 drop-past (o ∷ os) (suc n) at = drop-past os n at

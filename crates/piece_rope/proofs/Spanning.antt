@@ -12,7 +12,7 @@ drop-text ps tail zero l = parts-text ps tail
 drop-text [] tail (suc n) l = absurd (omega (arith, l))
 drop-text (p ∷ ps) tail (suc n) l = drop-text ps tail n (omega (arith, l))
 
-take-text : (ps : List Entry) (tail : Outcome) (n : ℕ) → n ≤ length ps → text_in (take n (parts_of ps tail)) ≡ texts_of (take n ps)
+pub take-text : (ps : List Entry) (tail : Outcome) (n : ℕ) → n ≤ length ps → text_in (take n (parts_of ps tail)) ≡ texts_of (take n ps)
 take-text ps tail zero l = refl
 take-text [] tail (suc n) l = absurd (omega (arith, l))
 take-text (p ∷ ps) tail (suc n) l = ap (λ (cs : List ℕ). (here_of p).text ++ cs) (take-text ps tail n (omega (arith, l)))

@@ -1,5 +1,7 @@
+pub mod Ahead
 pub mod Bounds
 pub mod Chain
+pub mod Chunks
 pub mod Compare
 pub mod Decode
 pub mod Document

@@ -162,7 +162,7 @@ impl<'i> Doc<'i> {
         let (indexes, setting) = (self.indexes, self.setting);
         let (pieces, tail) = (&self.pieces, &self.tail);
         let edit = prepare_splice(
-            self.alloc, indexes, setting, pieces, tail, at, del, ins, meter,
+            self.alloc, indexes, setting, pieces, tail, at, del, ins, None, meter,
         )?;
         let log = &mut self.log;
         install_edit(self.alloc, &mut self.pieces, &mut self.tail, log, edit)?;

@@ -2,14 +2,18 @@
 ghost use Rattle.std.specs.Prelude.{◌≡◌, ◌+◌, ◌-◌, ◌*◌, ◌^◌, ◌≤◌, ◌<◌, ◌++◌, length, take, drop, IfOk};
 ghost use Rattle.state_memo.specs.Decoding.{any_start};
 ghost use Rattle.state_memo.specs.Outcome.{contents_of, ending_of};
+ghost use Rattle.piece_rope.specs.Ahead.{Begins, IsAsked, IsUnlike, Stops};
 ghost use Rattle.piece_rope.specs.Chain.{AreRenewed, bytes_of, state_after};
 ghost use Rattle.piece_rope.specs.Edit.{IsRope, edited, exchanged, Metered};
 ghost use Rattle.piece_rope.specs.Laws.{IsLawful};
 ghost use Rattle.piece_rope.specs.Sizes.{AreCounted, longest};
 ghost use Rattle.piece_rope.specs.Window.{Spans};
 
+use crate::ahead::wanted_behind;
 use crate::bytes::push_bytes;
+use crate::change::Change;
 use crate::entered::Entered;
+use crate::fault::DocFault;
 use crate::fresh::{Fresh, fresh_pieces};
 use crate::later::{Later, renewals_from};
 use crate::pieces::Pieces;
@@ -65,6 +69,8 @@ fn entry_of(decoder: &AnyDecoder<'_>, pieces: &Pieces, first: usize, end: AnySta
 }
 
 /// Prepares an edit: `ins` in the place of the bytes `at..to`. `end` is the state behind the pieces.
+/// Where it is to leave the text of a change, it may be refused with `NotKept`, as soon as what is
+/// decoded differs from that.
 pub(crate) fn prepare(
     alloc: Global,
     decoder: &AnyDecoder<'_>,
@@ -73,20 +79,24 @@ pub(crate) fn prepare(
     at: usize,
     to: usize,
     ins: &[u8],
+    change: Option<Change<'_>>,
     meter: &mut Meter,
-) -> Result<PreparedEdit, OutOfMemory>
+) -> Result<PreparedEdit, DocFault>
     requires lawful { IsLawful decoder.now }
     requires rope { IsRope decoder.now pieces.now.items end }
     requires counted { AreCounted pieces.now.items }
     requires size { length (bytes_of pieces.now.items) < 2 ^ 63 }
     requires order { at ≤ to }
     requires within { to ≤ length (bytes_of pieces.now.items) }
+    requires few { length pieces.now.items ≤ 4294967296 }
+    requires asked { IsAsked pieces.now.items change }
     ensures order { IfOk result (λ e. e.first ≤ e.last) }
     ensures within { IfOk result (λ e. e.last + length e.renewals.items ≤ length pieces.now.items) }
     ensures kept { IfOk result (λ e. AreRenewed (drop e.last pieces.now.items) e.renewals.items) }
     ensures rope { IfOk result (λ e. IsRope decoder.now (edited pieces.now.items e) e.tail.exit) }
     ensures bytes { IfOk result (λ e. bytes_of (edited pieces.now.items e) ≡ exchanged (bytes_of pieces.now.items) at to ins.now) }
     ensures tail { IfOk result (λ e. contents_of e.tail ≡ ending_of decoder.now e.tail.exit) }
+    ensures stops { Stops (Begins decoder.now (any_start decoder.now) (exchanged (bytes_of pieces.now.items) at to ins.now) (IsUnlike change.entry)) result }
     ensures meter { Metered decoder.now (bytes_of pieces.now.items) at to ins.now meter.old meter.new }
     ensures meter_least { meter.old ≤ meter.new }
 {
@@ -99,12 +109,15 @@ pub(crate) fn prepare(
         pieces: made,
         exit: behind,
     } = fresh;
-    let later = renewals_from(alloc, decoder, pieces, window.last, behind, old_end, meter)?;
+    let (first, last) = (window.first, window.last);
+    let (sought, next) = (behind, behind);
+    let ahead = wanted_behind(pieces, change, first, last, &made, sought)?;
+    let later = renewals_from(alloc, decoder, pieces, last, next, old_end, ahead, meter)?;
     let Later { renewals, exit } = later;
     let tail = finish_of(alloc, decoder, exit)?;
     Ok(PreparedEdit {
-        first: window.first,
-        last: window.last,
+        first,
+        last,
         fresh: made,
         renewals,
         tail,

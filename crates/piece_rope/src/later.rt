@@ -1,10 +1,13 @@
 //! What becomes of the pieces behind an edit.
 ghost use Rattle.std.specs.Prelude.{◌≡◌, ◌+◌, ◌≤◌, length, drop, IfOk, IfSome, IfNone};
-ghost use Rattle.piece_rope.specs.Chain.{Chain, AreRenewed, IsOwn, renewed, state_after};
+ghost use Rattle.piece_rope.specs.Ahead.{Begins, Stops, Strays};
+ghost use Rattle.piece_rope.specs.Chain.{Chain, AreRenewed, IsOwn, bytes_of, renewed, state_after};
 ghost use Rattle.piece_rope.specs.Laws.{IsLawful};
 ghost use Rattle.piece_rope.specs.Resync.{Passed, Behind, IsRenewal};
 
+use crate::ahead::{Ahead, past};
 use crate::entered::Entered;
+use crate::fault::DocFault;
 use crate::pieces::Pieces;
 use state_memo::{AnyDecoder, AnyState, Meter, OutOfMemory};
 use std::alloc::{AllocError, Global};
@@ -43,7 +46,8 @@ fn renewal(
 
 /// Continues over the pieces from number `first`, the first of which is now entered in `entry`,
 /// until a piece's new state is the one in which it was entered. `end` is the state behind the old
-/// pieces.
+/// pieces. Where a text is wanted, it is refused with `NotKept` behind the first piece that decodes
+/// to another.
 pub(crate) fn renewals_from(
     alloc: Global,
     decoder: &AnyDecoder<'_>,
@@ -51,8 +55,9 @@ pub(crate) fn renewals_from(
     first: usize,
     entry: AnyState,
     end: AnyState,
+    ahead: Option<Ahead<'_>>,
     meter: &mut Meter,
-) -> Result<Later, OutOfMemory>
+) -> Result<Later, DocFault>
     requires lawful { IsLawful decoder.now }
     requires within { first ≤ length pieces.now.items }
     requires behind { Behind decoder.now (drop first pieces.now.items) end }
@@ -60,12 +65,14 @@ pub(crate) fn renewals_from(
     ensures kept { IfOk result (λ l. AreRenewed (drop first pieces.now.items) l.renewals.items) }
     ensures chain { IfOk result (λ l. Chain decoder.now entry (renewed (drop first pieces.now.items) l.renewals.items)) }
     ensures exit { IfOk result (λ l. l.exit ≡ state_after decoder.now entry (drop first pieces.now.items)) }
+    ensures stops { Stops (Begins decoder.now entry (bytes_of (drop first pieces.now.items)) (Strays ahead.entry)) result }
     ensures meter { Passed decoder.now entry (drop first pieces.now.items) meter.old meter.new }
     ensures meter_least { meter.old ≤ meter.new }
 {
     let mut renewals = Vec::new(alloc);
     let mut state = entry;
     let mut index = first;
+    let mut left = ahead;
     'pieces: while index < pieces.len() {
         let piece = pieces.get(index);
         let Some((renewed, exit)) = renewal(alloc, decoder, piece, state, meter)? else {
@@ -74,6 +81,7 @@ pub(crate) fn renewals_from(
                 exit: end,
             });
         };
+        left = past(left, &renewed)?;
         renewals.push(renewed).map_err(AllocError::from)?;
         state = exit;
         index += 1;

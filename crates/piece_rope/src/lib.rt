@@ -3,7 +3,9 @@
 //! it changes.
 #![tactic(auto)]
 
+mod ahead;
 mod bytes;
+mod change;
 mod compare;
 mod doc;
 mod edit;
@@ -28,6 +30,7 @@ mod span;
 mod splice;
 mod text;
 mod undo;
+mod wanted;
 mod window;
 
 pub use doc::Doc;

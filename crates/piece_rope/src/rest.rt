@@ -18,7 +18,7 @@ pub(crate) struct Rest<'a> {
 }
 
 /// How many bytes two slices have in common, where one of them begins with the other.
-fn matched(head: &[u8], left: &[u8]) -> Option<usize>
+pub(crate) fn matched(head: &[u8], left: &[u8]) -> Option<usize>
     ensures some { IfSome result (λ n. IsMatch head.now left.now n) }
     ensures none { IfNone result ((x y : List ℕ) → head.now ++ x ≢ left.now ++ y) }
 {

@@ -41,7 +41,7 @@ fn offset_of(text: &str, n: u64) -> Option<usize>
 }
 
 /// The first `n` code points of the text and those behind them, where it has so many.
-fn split_at_scalar(text: &str, n: u64) -> Option<(&str, &str)>
+pub(crate) fn split_at_scalar(text: &str, n: u64) -> Option<(&str, &str)>
     ensures variant { is_some result ≡ nat_le n (length (chars text.now)) }
     ensures front { IfSome result (λ x. x.0.now ≡ encode_utf8_all (take n (chars text.now))) }
     ensures chars { IfSome result (λ x. chars x.0.now ≡ take n (chars text.now)) }

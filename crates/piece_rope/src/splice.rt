@@ -1,12 +1,14 @@
 //! A splice of a document, checked and prepared before anything changes.
 ghost use Rattle.std.specs.Prelude.{◌≡◌, ◌≢◌, ℕ, ◌+◌, ◌*◌, ◌≤◌, length, None, IfOk};
+ghost use Rattle.piece_rope.specs.Ahead.{IsAnother, IsAsked, StopsBehind};
 ghost use Rattle.piece_rope.specs.Chain.{bytes_of};
-ghost use Rattle.piece_rope.specs.Document.{document};
-ghost use Rattle.piece_rope.specs.Edits.{Faults, splice_fault};
+ghost use Rattle.piece_rope.specs.Document.{document, text_of};
+ghost use Rattle.piece_rope.specs.Edits.{splice_fault, spliced_document};
 ghost use Rattle.piece_rope.specs.Kept.{IsKept, Resyncs};
 ghost use Rattle.piece_rope.specs.Sizes.{longest};
 ghost use Rattle.piece_rope.specs.Splice.{IsReady};
 
+use crate::change::Change;
 use crate::edit::{PreparedEdit, prepare};
 use crate::fault::DocFault;
 use crate::laws::law_decoder;
@@ -18,7 +20,8 @@ use state_memo::{AnyDecoder, Meter, Outcome};
 use std::alloc::Global;
 
 /// Prepares a splice of the document of these pieces. Refused with `OutOfRange` and then with
-/// `TooLarge`, before any byte is decoded.
+/// `TooLarge`, before any byte is decoded, and where it is to leave the text of a change perhaps with
+/// `NotKept`, as soon as what is decoded differs from that.
 pub(crate) fn prepare_splice(
     alloc: Global,
     indexes: &Indexes,
@@ -28,11 +31,14 @@ pub(crate) fn prepare_splice(
     at: u64,
     del: u64,
     ins: &[u8],
+    change: Option<Change<'_>>,
     meter: &mut Meter,
 ) -> Result<PreparedEdit, DocFault>
-    requires { IsKept indexes.now setting pieces.now.items tail.now }
+    requires kept { IsKept indexes.now setting pieces.now.items tail.now }
+    requires asked { IsAsked pieces.now.items change }
     ensures ready { IfOk result (IsReady indexes.now setting pieces.now.items at del ins.now) }
-    ensures faults { Faults (splice_fault (bytes_of pieces.now.items) at del ins.now) result }
+    ensures faults { StopsBehind (splice_fault (bytes_of pieces.now.items) at del ins.now)
+        (IsAnother change.entry (text_of (spliced_document (document indexes.now setting (bytes_of pieces.now.items)) at del ins.now))) result }
     ensures meter_least { meter.old ≤ meter.new }
     ensures meter_most { (m : ℕ) → Resyncs (document indexes.now setting (bytes_of pieces.now.items)) at del ins.now m
         → meter.new ≤ meter.old + (length ins.now + m + 4 * longest) }
@@ -42,6 +48,6 @@ pub(crate) fn prepare_splice(
     let decoder = AnyDecoder::under(indexes, setting).ok_or(DocFault::NoIndex)?;
     law_decoder(&decoder);
     let end = tail.exit;
-    let edit = prepare(alloc, &decoder, pieces, end, at, to, ins, meter)?;
+    let edit = prepare(alloc, &decoder, pieces, end, at, to, ins, change, meter)?;
     Ok(edit)
 }

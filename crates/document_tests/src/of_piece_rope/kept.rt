@@ -249,3 +249,54 @@ fn mark_behind_a_mark_is_text(rt: HostRuntime) -> Result<(), Fail> {
     is_answered_anywhere(&rt, rt.alloc(), &case)?;
     Ok(())
 }
+
+/// Whether the splice is refused, and decodes at most so many bytes, asked about and made.
+fn is_refused_early(doc: &mut Doc<'_>, edit: &Edit, most: u64) -> bool {
+    let (at, del, ins) = edit.splice;
+    let (i, j, text) = edit.replaced;
+    let (mut asked, mut made) = (meter(), meter());
+    let kept = doc.keeps(at, del, ins, i, j, text, &mut asked).ok();
+    let refused = doc.splice_kept(at, del, ins, i, j, text, &mut made).err();
+    kept == Some(false)
+        && refused == Some(DocFault::NotKept)
+        && asked.decoded() <= most
+        && made.decoded() <= most
+}
+
+/// The splice of a document of these bytes is refused, and decodes at most so many of them.
+fn is_seen_early(
+    rt: &impl Abort,
+    alloc: Global,
+    given: Encoding,
+    bytes: &[u8],
+    edit: &Edit,
+    most: u64,
+) -> Result<(), Fail> {
+    let indexes = small_indexes(alloc)?;
+    let mut doc = opened(alloc, &indexes, given, Bom::Sniff, bytes)?;
+    let early = is_refused_early(&mut doc, edit, most);
+    assert!(rt; early, "refused within {most} bytes");
+    Ok(())
+}
+
+/// Without the letter the bytes begin with a byte order mark, and all that follows is other text.
+#[test]
+fn difference_in_the_first_piece_is_seen_there(rt: HostRuntime) -> Result<(), Fail> {
+    let bytes = between(rt.alloc(), 0, b"a\xFF\xFE", 20_000)?;
+    let edit = Edit {
+        splice: (0, 1, &[]),
+        replaced: (0, 1, ""),
+    };
+    is_seen_early(&rt, rt.alloc(), Encoding::Utf8, &bytes, &edit, 2048)
+}
+
+/// Behind the shift letters are the same, and a backslash is a yen sign.
+#[test]
+fn difference_in_the_third_piece_is_seen_there(rt: HostRuntime) -> Result<(), Fail> {
+    let bytes = between(rt.alloc(), 5000, b"\\", 15_000)?;
+    let edit = Edit {
+        splice: (0, 0, b"\x1B(J"),
+        replaced: (0, 0, ""),
+    };
+    is_seen_early(&rt, rt.alloc(), Encoding::Iso2022Jp, &bytes, &edit, 6147)
+}

@@ -3,11 +3,12 @@ ghost use Rattle.std.specs.Prelude.{◌≡◌, ◌≢◌, ℕ, ◌+◌, ◌*◌,
 ghost use Rattle.std.specs.Str.{chars};
 ghost use Rattle.piece_rope.specs.Chain.{bytes_of};
 ghost use Rattle.piece_rope.specs.Document.{document};
-ghost use Rattle.piece_rope.specs.Edits.{Faults, is_kept, kept_fault};
+ghost use Rattle.piece_rope.specs.Edits.{KeptAnswers, is_kept, kept_fault};
 ghost use Rattle.piece_rope.specs.Kept.{IsKept, Resyncs};
 ghost use Rattle.piece_rope.specs.Sizes.{longest};
 ghost use Rattle.piece_rope.specs.Splice.{IsReady};
 
+use crate::change::Change;
 use crate::compare::keeps_text;
 use crate::doc::Doc;
 use crate::edit::PreparedEdit;
@@ -22,34 +23,27 @@ use index_loader::Indexes;
 use state_memo::{Meter, Outcome};
 use std::alloc::Global;
 
-/// A splice that was prepared, and whether it keeps the text.
-#[derive(Drop)]
-struct Compared {
-    edit: PreparedEdit,
-    kept: bool,
-}
-
-/// Prepares a splice of the document of these pieces, and compares the text that it would leave.
-/// Refused as `Doc::keeps` is.
+/// Prepares a splice of the document of these pieces that is to keep the text. Refused as
+/// `Doc::splice_kept` is.
 #[tactic(auto, unfolding(crate::specs::Edits::range_fault))]
-fn prepare_compared(
+fn prepare_kept<'a>(
     alloc: Global,
     indexes: &Indexes,
     setting: Setting,
-    pieces: &Pieces,
-    tail: &Outcome,
+    pieces: &'a Pieces,
+    tail: &'a Outcome,
     at: u64,
     del: u64,
     ins: &[u8],
     i: u64,
     j: u64,
-    text: &str,
+    text: &'a str,
     meter: &mut Meter,
-) -> Result<Compared, DocFault>
+) -> Result<PreparedEdit, DocFault>
     requires { IsKept indexes.now setting pieces.now.items tail.now }
-    ensures ready { IfOk result (λ c. IsReady indexes.now setting pieces.now.items at del ins.now c.edit) }
-    ensures kept { IfOk result (λ c. c.kept ≡ is_kept (document indexes.now setting (bytes_of pieces.now.items)) at del ins.now i j (chars text.now)) }
-    ensures faults { Faults (kept_fault (document indexes.now setting (bytes_of pieces.now.items)) at del ins.now i j) result }
+    ensures ready { IfOk result (IsReady indexes.now setting pieces.now.items at del ins.now) }
+    ensures faults { KeptAnswers (kept_fault (document indexes.now setting (bytes_of pieces.now.items)) at del ins.now i j)
+        (is_kept (document indexes.now setting (bytes_of pieces.now.items)) at del ins.now i j (chars text.now)) result }
     ensures meter_least { meter.old ≤ meter.new }
     ensures meter_most { (m : ℕ) → Resyncs (document indexes.now setting (bytes_of pieces.now.items)) at del ins.now m
         → meter.new ≤ meter.old + (length ins.now + m + 4 * longest) }
@@ -58,17 +52,28 @@ fn prepare_compared(
     if i > j || j > whole_sum(pieces, tail).scalars {
         return Err(DocFault::OutOfRange);
     }
-    let edit = prepare_splice(alloc, indexes, setting, pieces, tail, at, del, ins, meter)?;
+    let change = Some(Change {
+        pieces,
+        tail,
+        i,
+        j,
+        text,
+    });
+    let edit = prepare_splice(
+        alloc, indexes, setting, pieces, tail, at, del, ins, change, meter,
+    )?;
     let edited = Edited {
         pieces,
         edit: &edit,
     };
-    let kept = keeps_text(edited, tail, i, j, text);
-    Ok(Compared { edit, kept })
+    if !keeps_text(edited, tail, i, j, text) {
+        return Err(DocFault::NotKept);
+    }
+    Ok(edit)
 }
 
 impl<'i> Doc<'i> {
-    ghost use Rattle.piece_rope.specs.Edits.{KeptAnswers, spliced_document};
+    ghost use Rattle.piece_rope.specs.Edits.{Faults, spliced_document};
 
     /// Whether `splice_kept` would make this splice, with the same refusals but for `NotKept`, and
     /// the same work; the document stays as it is.
@@ -90,16 +95,22 @@ impl<'i> Doc<'i> {
     {
         let (indexes, setting) = (self.indexes, self.setting);
         let (pieces, tail) = (&self.pieces, &self.tail);
-        let compared = prepare_compared(
+        let prepared = prepare_kept(
             self.alloc, indexes, setting, pieces, tail, at, del, ins, i, j, text, meter,
-        )?;
-        Ok(compared.kept)
+        );
+        match prepared {
+            Ok(_) => Ok(true),
+            Err(DocFault::NotKept) => Ok(false),
+            Err(fault) => Err(fault),
+        }
     }
 
     /// As `splice`, but refused with `NotKept` where the new text wouldn't be the old text with the
     /// code points `i..j` replaced by `text`. Refused with `OutOfRange` also where `i` is above `j`
     /// or `j` past the text, and with `NotKept` last. Of the text only what the edit can have
-    /// changed is compared, and the pieces that hold the ends of the range.
+    /// changed is compared, and the pieces that hold the ends of the range. Where the range begins in
+    /// the pieces that the edit touches, or behind them, nothing is decoded behind these and the first
+    /// one whose text isn't the wanted one.
     pub fn splice_kept(
         &mut self,
         at: u64,
@@ -119,13 +130,9 @@ impl<'i> Doc<'i> {
     {
         let (indexes, setting) = (self.indexes, self.setting);
         let (pieces, tail) = (&self.pieces, &self.tail);
-        let compared = prepare_compared(
+        let edit = prepare_kept(
             self.alloc, indexes, setting, pieces, tail, at, del, ins, i, j, text, meter,
         )?;
-        let Compared { edit, kept } = compared;
-        if !kept {
-            return Err(DocFault::NotKept);
-        }
         let log = &mut self.log;
         install_edit(self.alloc, &mut self.pieces, &mut self.tail, log, edit)?;
         Ok(())

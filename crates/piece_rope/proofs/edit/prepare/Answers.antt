@@ -1,8 +1,11 @@
-use Rattle.std.proofs.Common.{ap, sym, ◌∙◌, subst, ◌++◌, length, take, drop, arith, refl}
-use Rattle.piece_rope.proofs.Prelude.{any_start, AnyState, bytes_of, renewed, state_after, IsRope, Metered}
+use Rattle.std.proofs.Common.{◌≡◌, ap, sym, ◌∙◌, subst, ◌++◌, length, take, drop, arith, refl}
+use Rattle.std.proofs.lemmas.Result.{err_from_is_err_and}
+use Rattle.piece_rope.specs.Ahead.{Begins, IsUnlike, Strays}
+use Rattle.piece_rope.proofs.Prelude.{any_start, AnyState, Chain, bytes_of, exchanged, renewed, state_after, texts_of, IsRope, Metered}
 use Rattle.piece_rope.proofs.Chaining.{Laws, laws_of, chain-drop, state-drop}
 use Rattle.piece_rope.proofs.Preparing.{metered, metered-early, behind-middle, edited-bytes, edited-rope}
 use Rattle.piece_rope.proofs.Remembering.{ending-exit, ending-own}
+use Rattle.piece_rope.proofs.Stopping.{begins-behind, begins-made, stops-if}
 use Rattle.piece_rope.proofs.edit.prepare.Goals.{After-renewals_from}
 use Rattle.piece_rope.proofs.edit.prepare.Goals as goal
 
@@ -30,6 +33,43 @@ pub returns-in_err-fresh-clause-meter : goal.returns-in_err-fresh-clause-meter
 returns-in_err-fresh-clause-meter c =
     metered-early c.args.decoder.now (laws_of c.args.decoder.now c.requires.lawful) c.args.pieces.now.items c.args.at c.args.to c.args.ins.now c.in_ok-middle.middle.items c.window_of-window.result
     c.window_of-window.ensures.spans c.in_ok-middle.ensures c.args.meter.now c.fresh_pieces.new.meter (omega (arith, c.in_err-fresh.ensures.meter_most, ap length c.deref.ensures.value))
+
+pub returns-in_err-ahead-clause-meter : goal.returns-in_err-ahead-clause-meter
+returns-in_err-ahead-clause-meter c =
+    metered-early c.args.decoder.now (laws_of c.args.decoder.now c.requires.lawful) c.args.pieces.now.items c.args.at c.args.to c.args.ins.now c.deref.result.now c.window_of-window.result
+    c.window_of-window.ensures.spans (c.deref.ensures.value ∙ c.in_ok-middle.ensures) c.args.meter.now c.fresh_pieces.new.meter (omega (arith, c.in_ok-fresh.ensures.meter_most))
+
+-- what the pieces made anew decode to isn't what is wanted
+pub returns-in_err-ahead-clause-stops : goal.returns-in_err-ahead-clause-stops
+returns-in_err-ahead-clause-stops c =
+    let d = c.args.decoder.now in
+    let ps = c.args.pieces.now.items in
+    let w = c.window_of-window.result in
+    let made = c.deref-2.result.now in
+    let own : bytes_of made ≡ c.deref.result.now = ap bytes_of c.deref-2.ensures.value ∙ c.in_ok-fresh.ensures.bytes in
+    let chain : Chain d c.entry_of-entry.result made = rw c.deref-2.ensures.value c.in_ok-fresh.ensures.chain in
+    let unlike = IsUnlike c.args.change in
+    let e = err_from_is_err_and c.from_residual-in_err-ahead.result c.from_residual-in_err-ahead.ensures.1 in
+    rw (e.1, e.2) (stops-if (unlike (texts_of (take w.first ps ++ made))) (Begins d (any_start d) (exchanged (bytes_of ps) c.args.at c.args.to c.args.ins.now) unlike) _
+    (begins-made d (laws_of d c.requires.lawful) ps c.args.at c.args.to c.args.ins.now c.deref.result.now w c.window_of-window.ensures.spans (c.deref.ensures.value ∙ c.in_ok-middle.ensures)
+    c.entry_of-entry.result made c.requires.rope.chain c.entry_of-entry.ensures own chain unlike) c.in_err-ahead.ensures.stops)
+
+-- nor is what those behind decode to
+pub returns-in_err-later-clause-stops : goal.returns-in_err-later-clause-stops
+returns-in_err-later-clause-stops c =
+    let d = c.args.decoder.now in
+    let ps = c.args.pieces.now.items in
+    let w = c.window_of-window.result in
+    let made = c.deref-2.result.now in
+    let own : bytes_of made ≡ c.deref.result.now = ap bytes_of c.deref-2.ensures.value ∙ c.in_ok-fresh.ensures.bytes in
+    let chain : Chain d c.entry_of-entry.result made = rw c.deref-2.ensures.value c.in_ok-fresh.ensures.chain in
+    let ahead = c.in_ok-ahead.ahead in
+    let e = err_from_is_err_and c.from_residual-in_err-later.result c.from_residual-in_err-later.ensures.1 in
+    rw (e.1, e.2) (stops-if (Begins d c.in_ok-fresh.fresh.exit (bytes_of (drop w.last ps)) (Strays ahead))
+    (Begins d (any_start d) (exchanged (bytes_of ps) c.args.at c.args.to c.args.ins.now) (IsUnlike c.args.change)) _
+    (λ later. begins-behind d (laws_of d c.requires.lawful) ps c.args.at c.args.to c.args.ins.now c.deref.result.now w c.window_of-window.ensures.spans (c.deref.ensures.value ∙ c.in_ok-middle.ensures)
+    c.entry_of-entry.result made c.requires.rope.chain c.entry_of-entry.ensures own chain
+    c.in_ok-fresh.fresh.exit c.args.change ahead c.in_ok-fresh.ensures.exit later c.in_ok-ahead.ensures.awaits) c.in_err-later.ensures.stops)
 
 pub renewals_from-requires-clause-behind : goal.renewals_from-requires-clause-behind
 renewals_from-requires-clause-behind c =

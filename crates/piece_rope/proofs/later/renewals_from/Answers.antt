@@ -1,5 +1,8 @@
 use Rattle.std.proofs.Common.{◌≡◌, refl, rules, sym, ◌∙◌, length, take, drop, Some, slice_get, arith, [], ◌∷◌, ◌++◌}
-use Rattle.piece_rope.proofs.Prelude.{same_state, state_after, Passed}
+use Rattle.std.proofs.lemmas.Result.{err_from_is_err_and}
+use Rattle.piece_rope.specs.Ahead.{Begins, Strays}
+use Rattle.piece_rope.proofs.Prelude.{same_state, state_after, Passed, bytes_of, here_of, renewed, texts_of}
+use Rattle.piece_rope.proofs.Stopping.{begins-next, goes-nowhere, goes-on, renewed-texts, stops-if, strays-on}
 use Rattle.piece_rope.proofs.Chaining.{Laws, laws_of, next-chain, state-next, passed-on, bytes-next, rest-chains, same-end, entry-at, own-at, renewed-on}
 use Rattle.piece_rope.proofs.Lists.{at-behind, length-snoc}
 use Rattle.piece_rope.specs.Resync.{IsRenewal}
@@ -27,6 +30,7 @@ passed c laws at =
 pub pieces-init : goal.pieces-init
 pieces-init c = rw c.new-renewals.ensures.items (record {
   at = omega arith;
+  on = goes-nowhere c.args.ahead;
   within = c.requires.within;
   kept = tt;
   chain = tt;
@@ -62,6 +66,29 @@ returns-in_err-renewed-clause-meter c = let x = goal.at.returns-in_err-renewed-c
 pub returns-in_err-map_err-clause-meter : goal.returns-in_err-map_err-clause-meter
 returns-in_err-map_err-clause-meter c = let x = goal.at.returns-in_err-map_err-clause-meter c in passed x.After-renewal (laws_of c.args.decoder.now c.requires.lawful) (here x.After-get-piece)
 
+pub returns-in_err-left-clause-meter : goal.returns-in_err-left-clause-meter
+returns-in_err-left-clause-meter c = let x = goal.at.returns-in_err-left-clause-meter c in passed x.After-renewal (laws_of c.args.decoder.now c.requires.lawful) (here x.After-get-piece)
+
+-- the text of the pieces up to this one isn't what is wanted
+pub returns-in_err-left-clause-stops : goal.returns-in_err-left-clause-stops
+returns-in_err-left-clause-stops c =
+    let x = goal.at.returns-in_err-left-clause-stops c in
+    let d = c.args.decoder.now in
+    let l = laws_of d c.requires.lawful in
+    let ps = drop c.args.first c.args.pieces.now.items in
+    let rs = c.pieces.renewals.items in
+    let p = c.get-piece.result.now in
+    let r = c.in-Some.renewed in
+    let more = rs ++ r ∷ [] in
+    let at = here x.After-get-piece in
+    let to : IsRenewal d p c.pieces.state r c.in-Some.exit = rw c.in-Some.is at c.in_ok-renewed.ensures.some in
+    let chain = next-chain d l c.args.entry c.pieces.state ps p rs more r refl at c.pieces.invariant.chain c.pieces.invariant.state to.entry to.own to.renewed.bytes in
+    let texts = renewed-texts ps rs more p r refl at in
+    let e = err_from_is_err_and c.from_residual-in_err-left.result c.from_residual-in_err-left.ensures.1 in
+    rw (e.1, e.2) (stops-if (Strays c.pieces.left (here_of r).text) (Begins d c.args.entry (bytes_of ps) (Strays c.args.ahead)) _
+    (λ strays. begins-next d l c.args.entry ps rs more c.args.ahead chain
+    (rw texts (strays-on c.args.ahead c.pieces.left (texts_of (renewed (take (length rs) ps) rs)) (here_of r).text c.pieces.invariant.on strays))) c.in_err-left.ensures.stops)
+
 pub pieces-preserved : goal.pieces-preserved
 pieces-preserved c =
     let x = goal.at.pieces-preserved c in
@@ -75,7 +102,9 @@ pieces-preserved c =
     let to : IsRenewal d p c.pieces.state r c.in-Some.exit = rw c.in-Some.is at c.in_ok-renewed.ensures.some in
     let more : c.push.new.self.items ≡ rs ++ r ∷ [] = search rules in
     let long = length-snoc rs c.push.new.self.items r more in
+    let texts = renewed-texts ps rs c.push.new.self.items p r more at in
     record {
+      on = rw texts (goes-on c.args.ahead c.pieces.left c.in_ok-left.left (texts_of (renewed (take (length rs) ps) rs)) (here_of r).text c.pieces.invariant.on c.in_ok-left.ensures.on);
       at = omega (arith, c.pieces.invariant.at, long);
       within = omega (arith, c.pieces-test.true);
       kept = renewed-on ps rs c.push.new.self.items p r more c.pieces.invariant.kept at to.renewed;

@@ -1,4 +1,5 @@
-use Rattle.piece_rope.proofs.Prelude.{◌≡◌, ◌+◌, ◌-◌, ◌≤◌, length, take, drop, Chain, AreRenewed, renewed, state_after, bytes_of, Passed}
+use Rattle.piece_rope.proofs.Prelude.{◌≡◌, ◌+◌, ◌-◌, ◌≤◌, length, take, drop, Chain, AreRenewed, renewed, state_after, bytes_of, texts_of, Passed}
+use Rattle.piece_rope.specs.Ahead.{GoesOn}
 use Rattle.piece_rope.proofs.later.renewals_from.Given as goal
 
 abbrev pub invariant-pieces : goal.invariant-pieces
@@ -11,6 +12,7 @@ invariant-pieces l = record {
   passed : Passed l.decoder l.fn.entry (drop l.first l.pieces.items) l.fn.meter l.meter;
   most : l.meter ≤ l.fn.meter + length (bytes_of (take (length l.renewals.items) (drop l.first l.pieces.items)));
   least : l.fn.meter ≤ l.meter;
+  on : GoesOn l.fn.ahead (texts_of (renewed (take (length l.renewals.items) (drop l.first l.pieces.items)) l.renewals.items)) l.left;
 }
 
 abbrev pub decreases-pieces : goal.decreases-pieces

@@ -1,8 +1,12 @@
-use Rattle.piece_rope.proofs.Prelude.{ap, sym, ◌∙◌, ◌≤◌, ℕ, ◌+◌, ◌*◌, length, arith, bytes_of, document, edited, document_limit, Resyncs, longest}
+use Rattle.std.proofs.lemmas.Result.{err_from_is_err_and}
+use Rattle.piece_rope.proofs.Prelude.{ap, sym, ◌∙◌, ◌≤◌, ℕ, ◌+◌, ◌*◌, length, arith, bytes_of, document, edited, document_limit, spliced, Resyncs, longest}
 use Rattle.piece_rope.proofs.Chaining.{laws_of}
 use Rattle.piece_rope.proofs.Making.{item_laws_of, joins_of}
+use Rattle.piece_rope.proofs.Kept.{join-kept}
+use Rattle.piece_rope.proofs.KeptAnswering.{cut-causes}
 use Rattle.piece_rope.proofs.Keeping.{join-rope, kept-rope, exchanged-bytes}
 use Rattle.piece_rope.proofs.Metering.{metered-cut}
+use Rattle.piece_rope.proofs.Stopping.{begins-another, faults-behind, stops-behind}
 use Rattle.piece_rope.proofs.splice.prepare_splice.Goals.{After-prepare}
 use Rattle.piece_rope.proofs.splice.prepare_splice.Goals as goal
 
@@ -18,6 +22,26 @@ returns-in_err-edit-clause-meter_most c = metered (goal.at.returns-in_err-edit-c
 pub returns-clause-meter_most : goal.returns-clause-meter_most
 returns-clause-meter_most c = metered (goal.at.returns-clause-meter_most c).After-prepare
 
+pub returns-in_err-at-clause-faults : goal.returns-in_err-at-clause-faults
+returns-in_err-at-clause-faults c =
+    let e = err_from_is_err_and c.from_residual.result c.from_residual.ensures.1 in
+    rw (e.1, e.2) (faults-behind _ _ _ c.in_err-at.ensures.faults (cut-causes (bytes_of c.args.pieces.now.items) c.args.at c.args.del c.args.ins.now))
+
+pub prepare-requires-clause-few : goal.prepare-requires-clause-few
+prepare-requires-clause-few c = (join-kept c.args.indexes.now c.args.setting c.args.pieces.now.items c.args.tail.now c.requires.kept).few
+
+-- what was decoded isn't what is wanted, so that the whole text isn't
+pub returns-in_err-edit-clause-faults : goal.returns-in_err-edit-clause-faults
+returns-in_err-edit-clause-faults c =
+    let d = c.in_ok-decoder.decoder in
+    let lawful = c.law_decoder.ensures in
+    let old = c.args.pieces.now.items in
+    let bytes = exchanged-bytes (bytes_of old) c.args.ins.now c.args.at c.args.del c.in_ok-at.at c.in_ok-at.to c.in_ok-at.ensures.ok.0 c.in_ok-at.ensures.ok.1 in
+    let scratch = rw c.in_ok-decoder.ensures.ok_part at c.under.ensures.decode in
+    let e = err_from_is_err_and c.from_residual-in_err-edit.result c.from_residual-in_err-edit.ensures.1 in
+    rw (e.1, e.2) (stops-behind _ _ _ _ c.in_ok-at.ensures.faults
+    (λ begins. begins-another d (laws_of d lawful) (item_laws_of d lawful) c.args.indexes.now c.args.setting (spliced (bytes_of old) c.args.at c.args.del c.args.ins.now) c.args.change (scratch _) (rw bytes at begins)) c.in_err-edit.ensures.stops)
+
 pub returns-clause-ready : goal.returns-clause-ready
 returns-clause-ready c =
     let d = c.in_ok-decoder.decoder in
@@ -29,7 +53,7 @@ returns-clause-ready c =
     let chosen = sym c.under.ensures.value ∙ c.in_ok-decoder.ensures.ok_part in
     let bytes = c.in_ok-edit.ensures.bytes ∙ exchanged-bytes (bytes_of old) c.args.ins.now c.args.at c.args.del c.in_ok-at.at c.in_ok-at.to c.in_ok-at.ensures.ok.0 c.in_ok-at.ensures.ok.1 in
     let within : length (bytes_of new) ≤ document_limit = omega (arith, ap length bytes, c.in_ok-at.ensures.small) in
-    let old_joins = join-rope d laws old c.args.tail.now.exit (c.requires.rope d chosen) c.requires.within in
+    let old_joins = join-rope d laws old c.args.tail.now.exit (c.requires.kept.rope d chosen) c.requires.kept.within in
     let new_joins = join-rope d laws new edit.tail.exit c.in_ok-edit.ensures.rope within in
     let scratch = rw c.in_ok-decoder.ensures.ok_part at c.under.ensures.decode in
     record {
@@ -45,7 +69,7 @@ returns-clause-ready c =
       old = old_joins;
       new = new_joins;
       bytes = bytes;
-      kept = kept-rope c.args.indexes.now c.args.setting d new edit.tail laws (item_laws_of d e) chosen c.requires.can within c.in_ok-edit.ensures.rope
+      kept = kept-rope c.args.indexes.now c.args.setting d new edit.tail laws (item_laws_of d e) chosen c.requires.kept.can within c.in_ok-edit.ensures.rope
           c.in_ok-edit.ensures.tail scratch (joins_of d e);
       decoder = d;
       chosen = chosen;

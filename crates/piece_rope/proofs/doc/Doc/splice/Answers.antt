@@ -1,9 +1,18 @@
+use Rattle.std.proofs.lemmas.Result.{err_from_is_err_and}
+use Rattle.piece_rope.proofs.Prelude.{ap, sym, ◌∙◌, Document, splice_fault}
+use Rattle.piece_rope.proofs.Stopping.{faults-alone}
 use Rattle.piece_rope.proofs.Logging.{held-edited, held-still, seen-edited}
 use Rattle.piece_rope.proofs.Metering.{metered-as}
 use Rattle.piece_rope.proofs.doc.Doc.splice.Goals as goal
 
-pub prepare_splice-requires : goal.prepare_splice-requires
-prepare_splice-requires c = c.self.invariant.kept
+pub prepare_splice-requires-clause-kept : goal.prepare_splice-requires-clause-kept
+prepare_splice-requires-clause-kept c = c.self.invariant.kept
+
+pub returns-in_err-edit-clause-faults : goal.returns-in_err-edit-clause-faults
+returns-in_err-edit-clause-faults c =
+    let e = err_from_is_err_and c.from_residual.result c.from_residual.ensures.1 in
+    rw (e.1, e.2)
+    (ap (λ (x : Document). splice_fault x.bytes c.args.at c.args.del c.args.ins.now) (sym c.self.view_is) ∙ faults-alone _ _ _ (λ none. none) c.in_err-edit.ensures.faults)
 
 pub invariant_of-self : goal.invariant_of-self
 invariant_of-self c =

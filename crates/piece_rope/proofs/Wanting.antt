@@ -1,0 +1,135 @@
+-- The text that a change is to leave, in chunks.
+use Rattle.std.proofs.Common.{◌≡◌, refl, sym, ap, ◌∙◌, ℕ, suc, ◌+◌, ◌-◌, ◌*◌, ◌<◌, ◌≤◌, List, [], ◌∷◌, ◌++◌, map, take, drop, length, slice_get, Some, None, arith, append_assoc, length-append, length-drop, take-append-drop, add-one}
+use Rattle.std.specs.Option.{option_map}
+use Rattle.std.proofs.lemmas.Option.{slice_get-map}
+use Rattle.std.proofs.lemmas.List.{length-map, take-map}
+use Rattle.piece_rope.specs.Ahead.{chunks, together}
+use Rattle.piece_rope.specs.Chunks.{written}
+use Rattle.piece_rope.specs.declared.wanted.Wanted.{Wanted}
+use Rattle.piece_rope.proofs.Prelude.{encode_utf8_all, encodes-append, flat_map-append, length-take-le, replaced}
+use Rattle.piece_rope.proofs.Prelude.{drop-append-add, drop-append-le, take-append-add, take-append-le, Outcome, Entry, texts_of, parts_of, text_in}
+use Rattle.piece_rope.proofs.Lists.{drop-next, get-back, get-front, take-take}
+use Rattle.piece_rope.proofs.Parting.{drop-past, parts-length, text-append, text-next}
+use Rattle.piece_rope.proofs.Spanning.{take-text}
+use Rattle.piece_rope.proofs.Texts.{IsTextPlace}
+
+pub together-append : (xs ys : List (List ℕ)) → together (xs ++ ys) ≡ together xs ++ together ys
+together-append xs ys = flat_map-append (λ (c : List ℕ). c) xs ys
+
+pub together-written : (os : List Outcome) → together (map written os) ≡ encode_utf8_all (text_in os)
+together-written [] = refl
+together-written (o ∷ os) = ap (λ (cs : List ℕ). written o ++ cs) (together-written os) ∙ sym (encodes-append o.text (text_in os))
+
+-- one chunk more, and none
+pub together-next : (cs : List (List ℕ)) (n : ℕ) (c : List ℕ) → slice_get cs n ≡ Some c → together (drop n cs) ≡ c ++ together (drop (n + 1) cs)
+together-next cs n c at = cc (drop-next cs n c at, add-one n)
+
+pub together-past : (cs : List (List ℕ)) (n : ℕ) → slice_get cs n ≡ None → together (drop n cs) ≡ []
+together-past cs n at = ap together (drop-past cs n at)
+
+get-take : {X : Type 0} (n k : ℕ) (xs : List X) → k < n → n ≤ length xs → slice_get (take n xs) k ≡ slice_get xs k
+get-take n k xs l within =
+    sym (get-front (take n xs) (drop n xs) k (omega (arith, l, length-take-le n xs within))) ∙ ap (λ (ys : List _). slice_get ys k) (take-append-drop n xs)
+
+get-drop : {X : Type 0} (n k : ℕ) (xs : List X) → n ≤ length xs → slice_get (drop n xs) k ≡ slice_get xs (n + k)
+get-drop n k xs within =
+    let long = length-take-le n xs within in
+    let back = get-back (take n xs) (drop n xs) (n + k) (omega (arith, long)) in
+    let e : n + k - length (take n xs) ≡ k = omega (arith, long) in
+    ap (λ (m : ℕ). slice_get (drop n xs) m) (sym e) ∙ sym back ∙ ap (λ (ys : List _). slice_get ys (n + k)) (take-append-drop n xs)
+
+module _ (w : Wanted) where
+  abbrev parts : List Outcome
+  parts = parts_of w.pieces.now.items w.tail.now
+
+  abbrev before : List (List ℕ)
+  before = map written (take w.from parts)
+
+  abbrev behind : List (List ℕ)
+  behind = map written (drop (w.to + 1) parts)
+
+  from-within : w.from ≤ length parts
+  from-within = omega (arith, w.places.from_within, parts-length w.pieces.now.items w.tail.now)
+
+  to-within : w.to + 1 ≤ length parts
+  to-within = omega (arith, w.places.to_within, parts-length w.pieces.now.items w.tail.now)
+
+  before-length : length before ≡ w.from
+  before-length = length-map (take w.from parts) written ∙ length-take-le w.from parts from-within
+
+  pub few-chunks : length (chunks w) ≤ 2 * length w.pieces.now.items + 4
+  few-chunks =
+      omega (
+        arith,
+        before-length,
+        length-append before (w.front.now ∷ w.text.now ∷ w.back.now ∷ behind),
+        length-map (drop (w.to + 1) parts) written,
+        length-drop (w.to + 1) parts,
+        parts-length w.pieces.now.items w.tail.now,
+        w.places.from_within,
+      )
+
+  pub chunk-before : (n : ℕ) → n < w.from → slice_get (chunks w) n ≡ option_map written (slice_get parts n)
+  chunk-before n l =
+      get-front before (w.front.now ∷ w.text.now ∷ w.back.now ∷ behind) n (omega (arith, l, before-length))
+      ∙ slice_get-map written (take w.from parts) n
+      ∙ ap (option_map written) (get-take w.from n parts l from-within)
+
+  chunk-at : (n : ℕ) → w.from ≤ n → slice_get (chunks w) n ≡ slice_get (w.front.now ∷ w.text.now ∷ w.back.now ∷ behind) (n - w.from)
+  chunk-at n l =
+      get-back before (w.front.now ∷ w.text.now ∷ w.back.now ∷ behind) n (omega (arith, l, before-length))
+      ∙ ap (λ (k : ℕ). slice_get (w.front.now ∷ w.text.now ∷ w.back.now ∷ behind) (n - k)) before-length
+
+  chunk-behind : (k : ℕ) → slice_get (w.front.now ∷ w.text.now ∷ w.back.now ∷ behind) (suc (suc (suc k))) ≡ option_map written (slice_get parts (w.to + 1 + k))
+  chunk-behind k = slice_get-map written (drop (w.to + 1) parts) k ∙ ap (option_map written) (get-drop (w.to + 1) k parts to-within)
+
+  pub chunk-past : (n k : ℕ) → w.from ≤ n → n - w.from ≡ suc (suc (suc k)) → slice_get (chunks w) n ≡ option_map written (slice_get parts (w.to + 1 + k))
+  chunk-past n k l e = chunk-at n l ∙ ap (λ (m : ℕ). slice_get (w.front.now ∷ w.text.now ∷ w.back.now ∷ behind) m) e ∙ chunk-behind k
+
+  -- from a part before the range on
+  pub wanted-from : (first : ℕ) → first ≤ w.from → together (chunks w) ≡ encode_utf8_all (texts_of (take first w.pieces.now.items)) ++ together (drop first (chunks w))
+  wanted-from first l =
+      let rest = w.front.now ∷ w.text.now ∷ w.back.now ∷ behind in
+      let front : take first (chunks w) ≡ map written (take first parts) =
+      take-append-le first before rest (omega (arith, l, before-length)) ∙ take-map written first (take w.from parts) ∙ ap (map written) (take-take first w.from parts l) in
+      let text : together (take first (chunks w)) ≡ encode_utf8_all (texts_of (take first w.pieces.now.items)) =
+      ap together front ∙ together-written (take first parts) ∙ ap encode_utf8_all (take-text w.pieces.now.items w.tail.now first (omega (arith, l, w.places.from_within))) in
+      cc (take-append-drop first (chunks w), together-append (take first (chunks w)) (drop first (chunks w)), text)
+
+  -- in four: what stays before the range, what is put in, and what stays behind it
+  pub wanted-text : (i j : ℕ) (put : List ℕ) → encode_utf8_all (take i (text_in parts)) ≡ encode_utf8_all (text_in (take w.from parts)) ++ w.front.now
+      → encode_utf8_all (drop j (text_in parts)) ≡ w.back.now ++ encode_utf8_all (text_in (drop (w.to + 1) parts)) → encode_utf8_all put ≡ w.text.now
+      → together (chunks w) ≡ encode_utf8_all (replaced (text_in parts) i j put)
+  wanted-text i j put front_is back_is put_is =
+      let old = text_in parts in
+      let first = encode_utf8_all (text_in (take w.from parts)) in
+      let last = encode_utf8_all (text_in (drop (w.to + 1) parts)) in
+      let all : together (chunks w) ≡ first ++ (w.front.now ++ (w.text.now ++ (w.back.now ++ last))) =
+      cc (together-append before (w.front.now ∷ w.text.now ∷ w.back.now ∷ behind), together-written (take w.from parts), together-written (drop (w.to + 1) parts)) in
+      let two = encodes-append (take i old ++ put) (drop j old) in
+      let one = encodes-append (take i old) put in
+      cc (all, two, one, front_is, back_is, put_is, append_assoc (first ++ w.front.now) w.text.now (w.back.now ++ last), append_assoc first w.front.now (w.text.now ++ (w.back.now ++ last)))
+
+-- where the text of a document is cut at a code point
+module _ (ps : List Entry) (tail : Outcome) (n k before : ℕ) (place : IsTextPlace ps n k before) (o : Outcome) (at : slice_get (parts_of ps tail) k ≡ Some o)
+    (begun : n - before ≤ length o.text) where
+  abbrev all : List ℕ
+  all = text_in (parts_of ps tail)
+
+  abbrev front : List ℕ
+  front = text_in (take k (parts_of ps tail))
+
+  abbrev rest : List ℕ
+  rest = text_in (drop (k + 1) (parts_of ps tail))
+
+  all-is : all ≡ front ++ (o.text ++ rest)
+  all-is = cc (take-append-drop k (parts_of ps tail), text-append (take k (parts_of ps tail)) (drop k (parts_of ps tail)), text-next (parts_of ps tail) k o at, add-one k)
+
+  reached : n ≡ length front + (n - before)
+  reached = omega (arith, place.low, place.before_is, ap length (take-text ps tail k place.within))
+
+  pub cut-front : take n all ≡ front ++ take (n - before) o.text
+  cut-front = cc (reached, all-is, take-append-add front (o.text ++ rest) (n - before), take-append-le (n - before) o.text rest begun)
+
+  pub cut-back : drop n all ≡ drop (n - before) o.text ++ rest
+  cut-back = cc (reached, all-is, drop-append-add front (o.text ++ rest) (n - before), drop-append-le (n - before) o.text rest begun)
