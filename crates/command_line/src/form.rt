@@ -1,6 +1,6 @@
 //! The form of the command line, and the job that words of this form ask for.
 
-use crate::job::{Job, Limits, Listening, Place, Sources};
+use crate::job::{Job, Limits, Listening, Place, Recording, Sources};
 use clap::error::ErrorKind;
 use clap::{Arg, ArgAction, ArgGroup, ArgMatches, Command, Error, value_parser};
 use std::alloc::Global;
@@ -35,7 +35,7 @@ pub fn job_of(alloc: Global, words: &[String]) -> Result<Job<'_>, Error> {
 /// The job of words that the command line takes, or `None` where an option that it needs has no value.
 fn asked<'a>(matches: &ArgMatches<'a>) -> Option<Job<'a>> {
     if let Some(given) = matches.subcommand_matches(STDIO) {
-        return Some(Job::Stdio(sources_of(given)?));
+        return Some(Job::Stdio(sources_of(given)?, recording_of(given)));
     }
     if let Some(given) = matches.subcommand_matches(TRACE) {
         return Some(Job::Trace(sources_of(given)?));
@@ -57,6 +57,23 @@ fn sources_of<'a>(given: &ArgMatches<'a>) -> Option<Sources<'a>> {
     })
 }
 
+/// Where the words have events recorded, if they do.
+fn recording_of<'a>(given: &ArgMatches<'a>) -> Option<Recording<'a>> {
+    let sync = given.get_flag("sync");
+    if let Some(file) = given.get_str("resume") {
+        return Some(Recording {
+            file,
+            resumes: true,
+            sync,
+        });
+    }
+    Some(Recording {
+        file: given.get_str("record")?,
+        resumes: false,
+        sync,
+    })
+}
+
 /// The job of the command that listens.
 fn tcp_of<'a>(given: &ArgMatches<'a>) -> Option<Job<'a>> {
     let sources = sources_of(given)?;
@@ -64,7 +81,7 @@ fn tcp_of<'a>(given: &ArgMatches<'a>) -> Option<Job<'a>> {
         port: given.get_one::<u16>("port")?,
         connections: given.get_one::<u32>("serve")?,
     };
-    Some(Job::Tcp(sources, listening))
+    Some(Job::Tcp(sources, recording_of(given), listening))
 }
 
 /// The job of the command that serves live clients.
@@ -78,7 +95,7 @@ fn serve_of<'a>(given: &ArgMatches<'a>) -> Option<Job<'a>> {
         clients: given.get_one::<u32>("serve"),
         idle: given.get_one::<u32>("idle"),
     };
-    Some(Job::Serve(sources, place, limits))
+    Some(Job::Serve(sources, recording_of(given), place, limits))
 }
 
 /// The folder of index files.
@@ -139,6 +156,46 @@ fn idle<'a>(alloc: Global) -> Arg<'a> {
         .action(ArgAction::Set)
 }
 
+/// The file of a new record.
+fn record<'a>(alloc: Global) -> Arg<'a> {
+    Arg::new(alloc, "record")
+        .long("record")
+        .value_name("FILE")
+        .help(
+            "Record each event in FILE, as a line of a trace, before its reply goes out; nothing may be recorded there",
+        )
+        .action(ArgAction::Set)
+}
+
+/// The file of a record that is gone on with.
+fn resume<'a>(alloc: Global) -> Arg<'a> {
+    Arg::new(alloc, "resume")
+        .long("resume")
+        .value_name("FILE")
+        .help(
+            "Go on with the documents of the record in FILE, and record there; without FILE begin it",
+        )
+        .action(ArgAction::Set)
+}
+
+/// Whether what is recorded is written to the disk.
+fn sync<'a>(alloc: Global) -> Arg<'a> {
+    Arg::new(alloc, "sync")
+        .long("sync")
+        .help("Have each event on the disk before its reply goes out")
+        .action(ArgAction::SetTrue)
+}
+
+/// A command that may record its events.
+fn with_recording<'a>(alloc: Global, command: Command<'a>) -> Result<Command<'a>, Error> {
+    let command = command.arg(record(alloc))?.arg(resume(alloc))?;
+    let file = ArgGroup::new(alloc, "recording")
+        .arg("record")?
+        .arg("resume")?;
+    let command = command.group(file)?;
+    Ok(command.arg(sync(alloc).requires_arg("recording")?)?)
+}
+
 /// A command that serves with files. Each argument goes into the command as soon as it is made, here
 /// as below, so that none is left over where memory is refused: its drop would be long to prove.
 fn with_sources<'a>(alloc: Global, name: &'a str, about: &'a str) -> Result<Command<'a>, Error> {
@@ -152,6 +209,7 @@ fn tcp<'a>(alloc: Global) -> Result<Command<'a>, Error> {
     let command = with_sources(alloc, TCP, about)?.after_help(
         "Example: gate tcp --indexes standard --labels standard/encodings.json --port 7117 --serve 10",
     );
+    let command = with_recording(alloc, command)?;
     let command = command.arg(port(alloc).default_value("7117"))?;
     Ok(command.arg(connections(alloc).default_value("1"))?)
 }
@@ -163,6 +221,7 @@ fn serve<'a>(alloc: Global) -> Result<Command<'a>, Error> {
     let command = with_sources(alloc, SERVE, about)?.after_help(
         "Example: gate serve --indexes standard --labels standard/encodings.json --socket gate.sock --idle 60",
     );
+    let command = with_recording(alloc, command)?;
     let command = command.arg(socket(alloc))?.arg(port(alloc))?;
     let command = command.arg(connections(alloc))?.arg(idle(alloc))?;
     let place = ArgGroup::new(alloc, "place").arg("socket")?.arg("port")?;
@@ -175,6 +234,7 @@ fn command<'a>(alloc: Global) -> Result<Command<'a>, Error> {
     let stdio = with_sources(alloc, STDIO, about)?.after_help(
         "Example: gate stdio --indexes standard --labels standard/encodings.json < session.jsonl",
     );
+    let stdio = with_recording(alloc, stdio)?;
     let about =
         "Plays the trace on standard input, the events of many connections, with index files and labels";
     let trace = with_sources(alloc, TRACE, about)?.after_help(

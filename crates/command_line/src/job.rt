@@ -5,14 +5,14 @@
 pub enum Job<'a> {
     /// Serve the standard streams without files.
     Plain,
-    /// Serve the standard streams with these files.
-    Stdio(Sources<'a>),
+    /// Serve the standard streams with these files, and record there what happens.
+    Stdio(Sources<'a>, Option<Recording<'a>>),
     /// Play the trace on standard input with these files.
     Trace(Sources<'a>),
-    /// Serve connections over TCP with these files.
-    Tcp(Sources<'a>, Listening),
-    /// Serve live clients with these files, there and so long.
-    Serve(Sources<'a>, Place<'a>, Limits),
+    /// Serve connections over TCP with these files, and record there what happens.
+    Tcp(Sources<'a>, Option<Recording<'a>>, Listening),
+    /// Serve live clients with these files, record there what happens, and serve there and so long.
+    Serve(Sources<'a>, Option<Recording<'a>>, Place<'a>, Limits),
 }
 
 /// The files that the program is to read.
@@ -22,6 +22,17 @@ pub struct Sources<'a> {
     pub indexes: &'a str,
     /// The label file; without one the encodings' names are the labels.
     pub labels: Option<&'a str>,
+}
+
+/// Where events are recorded.
+#[derive(Clone, Copy)]
+pub struct Recording<'a> {
+    /// The file of the record.
+    pub file: &'a str,
+    /// Whether the program goes on with what is recorded there.
+    pub resumes: bool,
+    /// Whether each event is written to the disk before its reply goes out.
+    pub sync: bool,
 }
 
 /// Where the program listens, and how many connections it serves.

@@ -5,4 +5,4 @@ mod form;
 mod job;
 
 pub use form::job_of;
-pub use job::{Job, Limits, Listening, Place, Sources};
+pub use job::{Job, Limits, Listening, Place, Recording, Sources};

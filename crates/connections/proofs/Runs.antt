@@ -2,15 +2,16 @@
 use Rattle.std.proofs.Common.{◌≡◌, ℕ, ◌+◌, ◌<◌, List, [], length, None, Some, Result, Ok, Err, refl, sym, ap, ◌∙◌, subst, add-zero, get_or-set_other}
 use Rattle.devices.specs.Devices.{Reads, Writes}
 use Rattle.devices.specs.Reading.{Pumps, ReadSo, Taken}
-use Rattle.devices.specs.declared.device.Failed.{Failed}
+use Rattle.connections.specs.declared.serve.Halt.{Halt}
+use Rattle.connections.specs.declared.serve.Halt.TheVariants.{Unkept, Unwritten}
 use Rattle.devices.specs.declared.reading.Stop.{Stop}
 use Rattle.devices.specs.declared.reading.Stop.TheVariants.{Read, TooManyReads, Taker}
 use Rattle.connections.proofs.Prelude.{get_or-set_same, Office, Delivered, DeliveredUntil, Begun, line_at, with_line, complete, Serves, Breaks}
-use Rattle.connections.proofs.Prelude.{IsOpen, SameOthers, Ran, RanUntil, RunGives, Traffic, Received}
+use Rattle.connections.proofs.Prelude.{IsOpen, SameOthers, Ran, RanUntil, RanFront, RunGives, Traffic, Received}
 use Rattle.connections.specs.Delivery.{fault_by}
 use Rattle.connections.specs.Serving.{write_failures_of}
 use Rattle.connections.specs.declared.serve.Connection.{Connection}
-use Rattle.connections.proofs.Chains.{Takes, Stops, delivered, delivered_until}
+use Rattle.connections.proofs.Chains.{Takes, Stops, delivered, delivered_until, delivered_front}
 
 -- connection c opened
 pub record Opened (t u : Traffic) (c : ℕ) : Type 0 where
@@ -64,11 +65,12 @@ module _ {c : ℕ} {t u v w : Traffic} (opened : Opened t u c) (closed : Closed 
 -- ---- by how the pump ended
 
 module _ {G W : Type 0} (traffic : G → Traffic) (took : W → Writes) (first last : Reads) (s r : Connection × G × W) (is_open : IsOpen (traffic s.1) s.0.c) where
-  abbrev pub Pumped : (A : Type 0) → Result A (Stop Failed) → Type 0
+  abbrev pub Pumped : (A : Type 0) → Result A (Stop Halt) → Type 0
   Pumped A result = Pumps {A = A} (Takes traffic took) (Stops traffic took) result first last s r
 
-  pub still_open : (A : Type 0) (result : Result A (Stop Failed)) → Pumped A result → IsOpen (traffic r.1) s.0.c
-  still_open A (Err (Taker f)) p = (delivered_until traffic took s is_open f p.read r p.holds).is_open
+  pub still_open : (A : Type 0) (result : Result A (Stop Halt)) → Pumped A result → IsOpen (traffic r.1) s.0.c
+  still_open A (Err (Taker Unwritten)) p = (delivered_until traffic took s is_open p.read r p.holds).is_open
+  still_open A (Err (Taker Unkept)) p = (delivered_front traffic took s is_open p.read r p.holds).is_open
   still_open A (Ok a) p = (delivered traffic took s is_open p.read r p.holds).is_open
   still_open A (Err Read) p = (delivered traffic took s is_open p.read r p.holds).is_open
   still_open A (Err TooManyReads) p = (delivered traffic took s is_open p.read r p.holds).is_open
@@ -80,11 +82,15 @@ module _ {G W : Type 0} (traffic : G → Traffic) (took : W → Writes) (first l
         let done = delivered traffic took s is_open p.read r p.holds in
         (record { read = p.read; received = p.received; consumes = p.consumes; holds = ran opened closed done }, done.fine)
 
-    pub runs_stopped : (A B : Type 0) (stop : Stop Failed) → Pumped A (Err stop)
+    pub runs_stopped : (A B : Type 0) (stop : Stop Halt) → Pumped A (Err stop)
         → RunGives {A = B} (Err (fault_by stop)) s.0.c t w first last (took s.2).written (took r.2).written
         × ((took r.2).failures ≡ (took s.2).failures + write_failures_of {A = B} (Err (fault_by stop)))
     runs_stopped A B Read p = let done = runs_fine p in (done.0, done.1 ∙ sym (add-zero (took s.2).failures))
     runs_stopped A B TooManyReads p = let done = runs_fine p in (done.0, done.1 ∙ sym (add-zero (took s.2).failures))
-    runs_stopped A B (Taker f) p =
-        let done = delivered_until traffic took s is_open f p.read r p.holds in
+    runs_stopped A B (Taker Unwritten) p =
+        let done = delivered_until traffic took s is_open p.read r p.holds in
         (record { read = p.read; received = p.received; consumes = p.consumes; holds = ran_until opened closed done }, done.failed)
+    runs_stopped A B (Taker Unkept) p =
+        let done = delivered_front traffic took s is_open p.read r p.holds in
+        let part : RanFront s.0.c p.read t w (took s.2).written (took r.2).written = record { front = p.holds.first; unkept = p.holds.rest; is = p.holds.is; ran = ran opened closed done } in
+        (record { read = p.read; received = p.received; consumes = p.consumes; holds = part }, done.fine ∙ sym (add-zero (took s.2).failures))

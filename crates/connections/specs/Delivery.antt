@@ -3,7 +3,8 @@ use Rattle.std.specs.Prelude.{◌≡◌, ℕ, ◌+◌, List, Option, Some, None,
 use Rattle.std.specs.Io.KnownBytes.{Appends}
 use Rattle.connections.specs.declared.serve.RunFault.{RunFault}
 use Rattle.connections.specs.declared.serve.RunFault.TheVariants as fault
-use Rattle.devices.specs.declared.device.Failed.{Failed}
+use Rattle.connections.specs.declared.serve.Halt.{Halt}
+use Rattle.connections.specs.declared.serve.Halt.TheVariants.{Unkept, Unwritten}
 use Rattle.devices.specs.declared.reading.Stop.{Stop}
 use Rattle.devices.specs.declared.reading.Stop.TheVariants.{Read, TooManyReads, Taker}
 use Rattle.devices.specs.Devices.{AppendsPart, Writes}
@@ -41,6 +42,11 @@ pub record DeliveredUntil (c : ℕ) (bytes : List ℕ) (old new : Traffic) (befo
   pub is_open : IsOpen new c
   pub others : SameOthers old new c
 
+-- Why a connection takes none of the bytes or not all: they can't be kept, and nothing happened; or the writing of replies broke off.
+abbrev pub Halts : Halt → ℕ → List ℕ → Traffic → Traffic → Writes → Writes → Type 0
+Halts Unkept c bytes old new before after = (new ≡ old) × (after ≡ before)
+Halts Unwritten c bytes old new before after = DeliveredUntil c bytes old new before after
+
 -- the write of a reply, if there is one, by its answer
 abbrev pub WritesReply : {A E : Type 0} → Result A E → Option (List ℕ) → Option (List ℕ) → Option (List ℕ) → Type 0
 WritesReply (Ok x) None before after = after ≡ before
@@ -49,7 +55,8 @@ WritesReply (Err e) None before after = ⊥
 WritesReply (Err e) (Some text) before after = AppendsPart before after text
 
 -- the fault of a run that stopped so
-abbrev pub fault_by : Stop Failed → RunFault
+abbrev pub fault_by : Stop Halt → RunFault
 fault_by Read = fault.Read
 fault_by TooManyReads = fault.TooManyReads
-fault_by (Taker f) = fault.Write
+fault_by (Taker Unkept) = fault.Unkept
+fault_by (Taker Unwritten) = fault.Write

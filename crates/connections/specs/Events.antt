@@ -1,9 +1,11 @@
 -- One event of the gateway.
-use Rattle.std.specs.Prelude.{◌≡◌, ℕ, List, [], nat_lt, Option, Some, None, slice_index_or, slice_set, if◌then◌else◌}
+use Rattle.std.specs.Prelude.{◌≡◌, ℕ, List, [], nat_lt, Option, Some, None, Result, Ok, Err, slice_index_or, slice_set, if◌then◌else◌}
 use Rattle.connections.specs.declared.gateway.Event.{Event}
 use Rattle.connections.specs.declared.gateway.Event.TheVariants.{Open, Bytes, Close}
 use Rattle.connections.specs.declared.gateway.GateFault.{GateFault}
 use Rattle.connections.specs.declared.gateway.GateFault.TheVariants.{BadNumber, AlreadyOpen, NotOpen}
+use Rattle.connections.specs.declared.gateway.TakeFault.{TakeFault}
+use Rattle.connections.specs.declared.gateway.TakeFault.TheVariants.{Refused, Unkept}
 use Rattle.connections.specs.Traffic.{Partial, Received, Traffic, Takes}
 
 -- the number of connections, whose numbers count from 0
@@ -43,6 +45,18 @@ abbrev pub gate_fault : {A : Type 0} → List (Option A) → Happening → Optio
 gate_fault lines (Opening c) = unless_bad_number c (unless_closed (at_number lines c))
 gate_fault lines (Bringing c bytes) = unless_bad_number c (unless_open (at_number lines c))
 gate_fault lines (Closing c) = unless_bad_number c (unless_open (at_number lines c))
+
+-- whether an event brings bytes
+abbrev pub Brings : Happening → Type 0
+Brings (Opening c) = ⊥
+Brings (Bringing c bytes) = Unit {0}
+Brings (Closing c) = ⊥
+
+-- Why an event returns nothing, by the fault for which a gateway refuses it, if there is one: bytes may also be what can't be kept.
+abbrev pub TakeFaultIs : {A : Type 0} → Result A TakeFault → Happening → Option GateFault → Type 0
+TakeFaultIs (Ok x) e fault = fault ≡ None
+TakeFaultIs (Err (Refused why)) e fault = fault ≡ Some why
+TakeFaultIs (Err Unkept) e fault = Brings e
 
 -- ---- what is accepted
 

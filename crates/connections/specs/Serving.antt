@@ -4,7 +4,7 @@ use Rattle.std.specs.Io.KnownBytes.{Appends}
 use Rattle.devices.specs.Devices.{Reads}
 use Rattle.devices.specs.Reading.{Ending, AtEnd, ReadFailed, GivenUp, BrokenOff, ReadSo}
 use Rattle.connections.specs.declared.serve.RunFault.{RunFault}
-use Rattle.connections.specs.declared.serve.RunFault.TheVariants.{NotFree, Read, Write, TooManyReads}
+use Rattle.connections.specs.declared.serve.RunFault.TheVariants.{NotFree, Read, Write, Unkept, TooManyReads}
 use Rattle.desk.specs.Desk.{Office}
 use Rattle.line_protocol.specs.Step.{Replies}
 use Rattle.connections.specs.Lines.{complete}
@@ -52,10 +52,18 @@ pub record RanUntil (c : ℕ) (read : List ℕ) (old new : Traffic) (before afte
   pub closed : line_at new c ≡ None
   pub others : SameOthers old new c
 
+-- Of these bytes those behind a front can't be kept: so the replies to the complete lines of the front alone were written on connection c, and c is closed.
+pub record RanFront (c : ℕ) (read : List ℕ) (old new : Traffic) (before after : Option (List ℕ)) : Type 0 where
+  pub front : List ℕ
+  pub unkept : List ℕ
+  pub is : read ≡ front ++ unkept
+  pub ran : Ran c front old new before after
+
 -- what a run does with the bytes that it reads, by its answer
 abbrev pub RunGives : {A : Type 0} → Result A RunFault → ℕ → Traffic → Traffic → Reads → Reads → Option (List ℕ) → Option (List ℕ) → Type 0
 RunGives (Err NotFree) c old new first last before after = new ≡ old
 RunGives (Err Write) c old new first last before after = ReadSo (λ read. RanUntil c read old new before after) first last
+RunGives (Err Unkept) c old new first last before after = ReadSo (λ read. RanFront c read old new before after) first last
 RunGives r c old new first last before after = ReadSo (λ read. Ran c read old new before after) first last
 
 -- ---- the devices' numbers, by a run's answer

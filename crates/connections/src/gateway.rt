@@ -3,7 +3,7 @@ ghost use Rattle.std.specs.Prelude.{◌≡◌, ◌<◌, ℕ, List, None, Some, l
 ghost use Rattle.line_protocol.specs.Step.{Replies};
 ghost use Rattle.connections.specs.Traffic.{Stands, known_of};
 
-use crate::connection::{BegunLine, Connections, Line};
+use crate::connection::{BegunLine, CONNECTIONS, Connections, Line};
 use desk::Desk;
 use line_protocol::{ReplyLine, reply_to, reply_to_dropped};
 use std::alloc::Global;
@@ -81,6 +81,45 @@ impl TakesEvents for Gateway<'_> {
     }
 }
 
+/// Why events return nothing.
+#[derive(Clone, Copy, PartialEq, Eq, Debug)]
+pub enum TakeFault {
+    /// The gateway refuses the event.
+    Refused(GateFault),
+    /// The bytes can't be kept, and so they aren't taken.
+    Unkept,
+}
+
+/// What takes the events of connections as a gateway does, and may keep them, as a record does. Bytes
+/// that can't be kept aren't taken, so that no reply to them goes out; what nothing is answered to, as
+/// an opening, happens in any case.
+pub trait KeepsEvents {
+    ghost use Rattle.std.specs.Prelude.{◌≡◌, length, IfOk, OnErr};
+    ghost use Rattle.connections.specs.Events.{connections, happening, gate_fault, Happens, TakeFaultIs};
+    ghost use Rattle.connections.specs.Traffic.{Traffic};
+
+    /// The desk and, for each connection that is open, the line that is begun.
+    ghost traffic: { Self → Traffic };
+
+    /// Takes one event, as `Gateway::event`.
+    fn event(&mut self, event: Event<'_>) -> Result<Out, TakeFault>
+        ensures fault { TakeFaultIs result (happening event.entry) (gate_fault (traffic self.old).lines (happening event.entry)) }
+        ensures refused { OnErr result (traffic self.new ≡ traffic self.old) }
+        ensures step { IfOk result (λ out. Happens (traffic self.old) (happening event.entry) out.taken out.reply (traffic self.new)) }
+        ensures count { length (traffic self.old).lines ≡ connections };
+}
+
+impl KeepsEvents for Gateway<'_> {
+    ghost traffic = { λ gateway. gateway };
+
+    fn event(&mut self, event: Event<'_>) -> Result<Out, TakeFault> {
+        match Gateway::event(self, event) {
+            Ok(out) => Ok(out),
+            Err(fault) => Err(TakeFault::Refused(fault)),
+        }
+    }
+}
+
 /// A desk, and the connections over which lines come in. Contracts see the desk and, for each
 /// connection that is open, the line that is begun.
 pub struct Gateway<'i> {
@@ -124,6 +163,15 @@ impl<'i> Gateway<'i> {
             connections: Connections::new(),
             alloc,
         }
+    }
+
+    /// How many connections there are, open or not.
+    pub fn count(&self) -> usize
+        ensures number { result ≡ connections }
+        ensures lines { length self.now.lines ≡ connections }
+    {
+        let _ = self.connections.exists(0);
+        CONNECTIONS
     }
 
     /// Takes one event. One that is refused changes nothing. Running out of memory is no fault: a

@@ -8,6 +8,6 @@ mod laws;
 mod serve;
 
 pub use connection::{BegunLine, CONNECTIONS, Line, line_end};
-pub use gateway::{Event, GateFault, Gateway, Out, TakesEvents};
+pub use gateway::{Event, GateFault, Gateway, KeepsEvents, Out, TakeFault, TakesEvents};
 pub use laws::{law_events, law_lines, law_replies_in_order};
 pub use serve::{RunFault, bring, run};

@@ -7,7 +7,7 @@ ghost use Rattle.connections.specs.Traffic.{Received};
 ghost use Rattle.connections.specs.Serving.{RunGives, run_ended, write_failures_of};
 ghost use Rattle.connections.specs.Delivery.{IsOpen, WritesReply, fault_by};
 
-use crate::gateway::{Event, Out, TakesEvents};
+use crate::gateway::{Event, KeepsEvents, Out, TakeFault, TakesEvents};
 use devices::{Failed, Feed, Outlet, Stop, Taker, pump, write_all};
 use line_protocol::ReplyLine;
 
@@ -20,14 +20,16 @@ pub enum RunFault {
     Read,
     /// A write failed.
     Write,
+    /// The gateway can't keep what was read.
+    Unkept,
     /// The reader was read 2^32 times without an end.
     TooManyReads,
 }
 
 /// Opens connection `c`, delivers to it the bytes that are read, and writes the replies, each before
 /// the next line is decided. Closes the connection at the reader's end or at a fault. The documents
-/// stay open in the gateway.
-pub fn run<G: TakesEvents, R: Feed, W: Outlet>(
+/// stay open in the gateway. Where the gateway can't keep bytes, their lines have no reply.
+pub fn run<G: KeepsEvents, R: Feed, W: Outlet>(
     gateway: &mut G,
     c: u8,
     reader: &mut R,
@@ -50,18 +52,19 @@ pub fn run<G: TakesEvents, R: Feed, W: Outlet>(
 }
 
 /// The fault of a run that stopped so.
-fn fault_of(stop: Stop<Failed>) -> RunFault
+fn fault_of(stop: Stop<Halt>) -> RunFault
     ensures { result ≡ fault_by stop }
 {
     match stop {
         Stop::Read => RunFault::Read,
         Stop::TooManyReads => RunFault::TooManyReads,
-        Stop::Taker(Failed) => RunFault::Write,
+        Stop::Taker(Halt::Unkept) => RunFault::Unkept,
+        Stop::Taker(Halt::Unwritten) => RunFault::Write,
     }
 }
 
 /// Opens a connection.
-fn open<G: TakesEvents>(gateway: &mut G, c: u8) -> Result<(), RunFault>
+fn open<G: KeepsEvents>(gateway: &mut G, c: u8) -> Result<(), RunFault>
     ensures fault { result ≡ Err RunFault.NotFree ↔ IsSome (gate_fault (G.traffic gateway.old).lines (Opening c)) }
     ensures only { IfErr result (λ e. e ≡ RunFault.NotFree) }
     ensures refused { OnErr result (G.traffic gateway.new ≡ G.traffic gateway.old) }
@@ -71,17 +74,30 @@ fn open<G: TakesEvents>(gateway: &mut G, c: u8) -> Result<(), RunFault>
 {
     match gateway.event(Event::Open(c)) {
         Ok(_) => Ok(()),
-        Err(_) => Err(RunFault::NotFree),
+        Err(TakeFault::Refused(_)) => Err(RunFault::NotFree),
+        Err(TakeFault::Unkept) => unreachable!(),
     }
 }
 
 /// Closes a connection that is open.
-fn close<G: TakesEvents>(gateway: &mut G, c: u8)
+fn close<G: KeepsEvents>(gateway: &mut G, c: u8)
     requires { IsOpen (G.traffic gateway.old) c }
     ensures number { c < length (G.traffic gateway.old).lines }
     ensures closed { G.traffic gateway.new ≡ with_line (G.traffic gateway.old) c None }
 {
-    let _ = gateway.event(Event::Close(c));
+    match gateway.event(Event::Close(c)) {
+        Ok(_) => {}
+        Err(TakeFault::Refused(_)) => unreachable!(),
+        Err(TakeFault::Unkept) => unreachable!(),
+    }
+}
+
+/// Why a connection takes no more.
+enum Halt {
+    /// The gateway can't keep the bytes.
+    Unkept,
+    /// The write of a reply failed.
+    Unwritten,
 }
 
 /// A connection that is open. What is read for it is delivered to it, line by line, and the reply to
@@ -91,12 +107,12 @@ struct Connection {
     c: u8,
 }
 
-impl<G: TakesEvents, W: Outlet> Taker<G, W> for Connection {
+impl<G: KeepsEvents, W: Outlet> Taker<G, W> for Connection {
     ghost use Rattle.std.specs.Prelude.{◌≡◌};
     ghost use Rattle.devices.specs.Reading.{most_bytes};
-    ghost use Rattle.connections.specs.Delivery.{IsOpen, Delivered, DeliveredUntil};
+    ghost use Rattle.connections.specs.Delivery.{IsOpen, Delivered, Halts};
 
-    type Fault = Failed;
+    type Fault = Halt;
 
     ghost ready = { λ s. IsOpen (G.traffic s.1) s.0.c };
 
@@ -104,13 +120,17 @@ impl<G: TakesEvents, W: Outlet> Taker<G, W> for Connection {
 
     ghost takes = { λ bytes s t. (t.0.c ≡ s.0.c) × Delivered s.0.c bytes (G.traffic s.1) (G.traffic t.1) (W.took s.2) (W.took t.2) };
 
-    ghost stops = { λ f bytes s t. DeliveredUntil s.0.c bytes (G.traffic s.1) (G.traffic t.1) (W.took s.2) (W.took t.2) };
+    ghost stops = { λ halt bytes s t. Halts halt s.0.c bytes (G.traffic s.1) (G.traffic t.1) (W.took s.2) (W.took t.2) };
 
-    fn take(&mut self, gateway: &mut G, writer: &mut W, bytes: &[u8]) -> Result<usize, Failed> {
-        let Out { taken, reply } = bring(gateway, self.c, bytes);
+    fn take(&mut self, gateway: &mut G, writer: &mut W, bytes: &[u8]) -> Result<usize, Halt> {
+        let Out { taken, reply } = match gateway.event(Event::Bytes(self.c, bytes)) {
+            Ok(out) => out,
+            Err(TakeFault::Refused(_)) => unreachable!(),
+            Err(TakeFault::Unkept) => return Err(Halt::Unkept),
+        };
         match write_reply(writer, reply) {
             Ok(()) => Ok(taken),
-            Err(Failed) => Err(Failed),
+            Err(Failed) => Err(Halt::Unwritten),
         }
     }
 }

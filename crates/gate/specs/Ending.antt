@@ -3,7 +3,7 @@ use Rattle.std.specs.Prelude.{ℕ, List, codes}
 use Rattle.enc_names.specs.declared.labels.LabelFault.{LabelFault}
 use Rattle.enc_names.specs.declared.labels.LabelFault.TheVariants as fault
 use Rattle.gate.specs.declared.failure.Failure.{Failure}
-use Rattle.gate.specs.declared.failure.Failure.TheVariants.{Words, NotText, Index, Labels, CannotRead, TraceLine, Read, Write, TooManyReads, CannotListen, CannotListenAt, Accept, Poll, OutOfMemory}
+use Rattle.gate.specs.declared.failure.Failure.TheVariants.{Words, NotText, Index, Labels, CannotRead, TraceLine, RecordLine, CannotRecord, RecordInUse, HasRecord, Read, Write, Record, TooManyReads, CannotListen, CannotListenAt, Accept, Poll, OutOfMemory}
 
 -- 2 for a mistake in the words, the files or a trace, 1 for a device that failed or memory that ran out
 abbrev pub status_of : Failure → ℕ
@@ -13,8 +13,13 @@ status_of (Index fault) = 2
 status_of (Labels fault) = 2
 status_of (CannotRead name) = 2
 status_of (TraceLine number) = 2
+status_of (RecordLine number) = 2
+status_of (CannotRecord name) = 2
+status_of (RecordInUse name) = 2
+status_of (HasRecord name) = 2
 status_of Read = 1
 status_of Write = 1
+status_of Record = 1
 status_of TooManyReads = 1
 status_of (CannotListen port) = 1
 status_of (CannotListenAt path) = 1

@@ -11,7 +11,7 @@ use Rattle.gateway.specs.Traffic.{Traffic}
 use Rattle.gateway.specs.RunFault.{RunFault}
 use Rattle.gateway.specs.RunFault.TheVariants as fault
 use Rattle.gate.specs.declared.failure.Failure.{Failure}
-use Rattle.gate.specs.declared.failure.Failure.TheVariants.{Read, Write, TooManyReads}
+use Rattle.gate.specs.declared.failure.Failure.TheVariants.{Read, Write, Record, TooManyReads}
 
 -- a gateway with these index files and labels, no document, and no connection open
 abbrev pub beginning : Files → LabelTable → Traffic
@@ -26,6 +26,7 @@ abbrev pub run_answer : {A : Type 0} → Result A Failure → Result A RunFault
 run_answer (Ok x) = Ok x
 run_answer (Err Read) = Err fault.Read
 run_answer (Err Write) = Err fault.Write
+run_answer (Err Record) = Err fault.Unkept
 run_answer (Err TooManyReads) = Err fault.TooManyReads
 run_answer (Err failure) = Err fault.NotFree
 

@@ -23,10 +23,20 @@ pub enum Failure<'a> {
     CannotRead(&'a str),
     /// The line of this number of a trace isn't skipped and has no event.
     TraceLine(u64),
+    /// The line of this number of a record isn't skipped and has no event.
+    RecordLine(u64),
+    /// Events can't be recorded in the file of this name.
+    CannotRecord(&'a str),
+    /// Another process records events in the file of this name.
+    RecordInUse(&'a str),
+    /// Events are recorded in the file of this name, and aren't gone on with.
+    HasRecord(&'a str),
     /// A read failed.
     Read,
     /// A write failed.
     Write,
+    /// An event can't be recorded.
+    Record,
     /// The input was read 2^32 times without an end.
     TooManyReads,
     /// The program can't listen on this port.
@@ -53,9 +63,14 @@ impl Failure<'_> {
             | Failure::Index(_)
             | Failure::Labels(_)
             | Failure::CannotRead(_)
-            | Failure::TraceLine(_) => 2,
+            | Failure::TraceLine(_)
+            | Failure::RecordLine(_)
+            | Failure::CannotRecord(_)
+            | Failure::RecordInUse(_)
+            | Failure::HasRecord(_) => 2,
             Failure::Read
             | Failure::Write
+            | Failure::Record
             | Failure::TooManyReads
             | Failure::CannotListen(_)
             | Failure::CannotListenAt(_)
@@ -113,8 +128,14 @@ impl fmt::Display for Failure<'_> {
             }
             Failure::CannotRead(name) => writeln!(f, "gate: cannot read {name}"),
             Failure::TraceLine(number) => writeln!(f, "gate: trace line {number}"),
+            Failure::RecordLine(number) => writeln!(f, "gate: record line {number}"),
+            Failure::CannotRecord(name) => writeln!(f, "gate: cannot record in {name}"),
+            Failure::RecordInUse(name) => writeln!(f, "gate: another gate records in {name}"),
+            Failure::HasRecord(name) => {
+                writeln!(f, "gate: {name} has a record; --resume goes on with it")
+            }
             Failure::Read => f.write_str("gate: read fault\n"),
-            Failure::Write => f.write_str("gate: write fault\n"),
+            Failure::Write | Failure::Record => f.write_str("gate: write fault\n"),
             Failure::TooManyReads => f.write_str("gate: too many reads\n"),
             Failure::CannotListen(port) => writeln!(f, "gate: cannot listen on port {port}"),
             Failure::CannotListenAt(path) => writeln!(f, "gate: cannot listen on {path}"),

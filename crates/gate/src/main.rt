@@ -5,6 +5,7 @@ mod beginning;
 mod failure;
 mod labels;
 mod perform;
+mod record_file;
 mod replay;
 mod stdio;
 mod text_outlet;

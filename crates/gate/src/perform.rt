@@ -1,16 +1,20 @@
 //! All that the program does with its words.
+ghost use Rattle.std.specs.Prelude.{◌≡◌, None, replicate};
+ghost use Rattle.gateway.specs.Events.{connections};
 
 use crate::beginning::beginning;
 use crate::failure::Failure;
 use crate::labels::{labels_in, names};
+use crate::record_file::recorded;
 use crate::replay::replay;
-use crate::stdio::serve_stdio;
+use crate::stdio::{serve_over, serve_stdio};
 use crate::text_outlet::TextOutlet;
-use command_line::{Job, Limits, Listening, Place, Sources, job_of};
+use command_line::{Job, Limits, Listening, Place, Recording, Sources, job_of};
 use enc_names::Labels;
-use gateway::{CONNECTIONS, Feed, Outlet};
+use gateway::{CONNECTIONS, Feed, Gateway, KeepsEvents, Outlet};
 use index_files::indexes_in;
 use index_loader::Indexes;
+use records::Recorded;
 use serving::{Refusal, ServingFault, serve_clients};
 use sessions::Sessions;
 use std::alloc::Global;
@@ -52,14 +56,16 @@ fn attempt<'a, T: Files<File = File> + Net + Clock, R: Feed, W: Outlet>(
     };
     match job {
         Job::Plain => serve_plain(alloc, input, output)?,
-        Job::Stdio(sources) => serve_input(rt, alloc, sources, input, output)?,
-        Job::Trace(sources) => replay_input(rt, alloc, sources, input, output)?,
-        Job::Tcp(sources, listening) => {
-            let place = Place::Port(listening.port);
-            serve_live(rt, alloc, sources, place, one_by_one(listening))?
+        Job::Stdio(sources, recording) => {
+            serve_input(rt, alloc, sources, recording, input, output)?
         }
-        Job::Serve(sources, place, limits) => {
-            serve_live(rt, alloc, sources, place, at_once(limits))?
+        Job::Trace(sources) => replay_input(rt, alloc, sources, input, output)?,
+        Job::Tcp(sources, recording, listening) => {
+            let place = Place::Port(listening.port);
+            serve_live(rt, alloc, sources, recording, place, one_by_one(listening))?
+        }
+        Job::Serve(sources, recording, place, limits) => {
+            serve_live(rt, alloc, sources, recording, place, at_once(limits))?
         }
     }
     Ok(())
@@ -79,17 +85,48 @@ fn serve_plain<'a, R: Feed, W: Outlet>(
     serve_stdio(alloc, &Indexes::new(), labels, input, output)
 }
 
-/// Serves the standard streams over the files that are named.
+/// Serves the standard streams over the files that are named, and records what happens.
 #[inline(never)]
-fn serve_input<'a, T: Files, R: Feed, W: Outlet>(
+fn serve_input<'a, T: Files<File = File>, R: Feed, W: Outlet>(
     rt: &T,
     alloc: Global,
     sources: Sources<'a>,
+    recording: Option<Recording<'a>>,
     input: &mut R,
     output: &mut W,
 ) -> Result<(), Failure<'a>> {
     let (indexes, labels) = files_of(rt, alloc, sources)?;
-    serve_stdio(alloc, &indexes, labels, input, output)
+    match recording {
+        Some(recording) => {
+            let gateway = beginning(alloc, &indexes, labels);
+            record_input(rt, alloc, gateway, recording, input, output)
+        }
+        None => serve_stdio(alloc, &indexes, labels, input, output),
+    }
+}
+
+/// Serves the standard streams by a gateway whose events are recorded.
+#[inline(never)]
+fn record_input<'a, T: Files<File = File>, R: Feed, W: Outlet>(
+    rt: &T,
+    alloc: Global,
+    gateway: Gateway<'_>,
+    recording: Recording<'a>,
+    input: &mut R,
+    output: &mut W,
+) -> Result<(), Failure<'a>> {
+    let mut gateway = recorded(rt, alloc, gateway, recording)?;
+    serve_over(&mut gateway, input, output)?;
+    whole(&gateway)
+}
+
+/// Whether all that happened is recorded.
+fn whole<'a, J: Outlet>(gateway: &Recorded<'_, J>) -> Result<(), Failure<'a>> {
+    if gateway.is_whole() {
+        Ok(())
+    } else {
+        Err(Failure::Record)
+    }
 }
 
 /// Plays a trace over the files that are named.
@@ -105,22 +142,56 @@ fn replay_input<'a, T: Files, R: Feed, W: Outlet>(
     replay(alloc, &indexes, labels, input, output)
 }
 
-/// Serves live clients over the files that are named, from no document on.
+/// Serves live clients over the files that are named, and records what happens.
 #[inline(never)]
 fn serve_live<'a, T: Files<File = File> + Net + Clock>(
     rt: &T,
     alloc: Global,
     sources: Sources<'a>,
+    recording: Option<Recording<'a>>,
     place: Place<'a>,
     limits: serving::Limits,
 ) -> Result<(), Failure<'a>> {
     let (indexes, labels) = files_of(rt, alloc, sources)?;
-    let mut sessions = Sessions::new(alloc, beginning(alloc, &indexes, labels));
-    match serve_clients(rt, alloc, &mut sessions, served_at(place), limits) {
+    let gateway = beginning(alloc, &indexes, labels);
+    match recording {
+        Some(recording) => record_live(rt, alloc, gateway, recording, place, limits),
+        None => serve(rt, alloc, &mut Sessions::new(alloc, gateway), place, limits),
+    }
+}
+
+/// Serves live clients by a gateway whose events are recorded.
+#[inline(never)]
+fn record_live<'a, T: Files<File = File> + Net + Clock>(
+    rt: &T,
+    alloc: Global,
+    gateway: Gateway<'_>,
+    recording: Recording<'a>,
+    place: Place<'a>,
+    limits: serving::Limits,
+) -> Result<(), Failure<'a>> {
+    let gateway = recorded(rt, alloc, gateway, recording)?;
+    let mut sessions = Sessions::new(alloc, gateway);
+    serve(rt, alloc, &mut sessions, place, limits)?;
+    whole(sessions.gateway())
+}
+
+/// Serves live clients of a gateway on which no connection is open.
+fn serve<'a, T: Files<File = File> + Net + Clock, G: KeepsEvents + Drop>(
+    rt: &T,
+    alloc: Global,
+    sessions: &mut Sessions<G>,
+    place: Place<'a>,
+    limits: serving::Limits,
+) -> Result<(), Failure<'a>>
+    requires { sessions.old.clients ≡ replicate connections None }
+{
+    match serve_clients(rt, alloc, sessions, served_at(place), limits) {
         Ok(()) => Ok(()),
         Err(ServingFault::Listen) => Err(cannot_listen(place)),
         Err(ServingFault::Accept) => Err(Failure::Accept),
         Err(ServingFault::Poll) => Err(Failure::Poll),
+        Err(ServingFault::Unkept) => Err(Failure::Record),
         Err(ServingFault::OutOfMemory) => Err(Failure::OutOfMemory),
     }
 }

@@ -1,14 +1,15 @@
 //! Serving the standard streams: one connection, from an input to an output.
-ghost use Rattle.std.specs.Prelude.{◌≡◌, ◌+◌, ◌≢◌, Err};
+ghost use Rattle.std.specs.Prelude.{◌≡◌, ◌+◌, ◌≢◌, Err, None};
 ghost use Rattle.gateway.specs.Reading.{ReadUp};
-ghost use Rattle.gateway.specs.Serving.{run_ended, write_failures_of};
+ghost use Rattle.gateway.specs.Events.{Opening, gate_fault};
+ghost use Rattle.gateway.specs.Serving.{RunGives, run_ended, write_failures_of};
 ghost use Rattle.gateway.specs.RunFault.TheVariants.{NotFree};
 ghost use Rattle.gate.specs.Serving.{beginning, run_answer, Served};
 
 use crate::beginning::beginning;
 use crate::failure::Failure;
 use enc_names::Labels;
-use gateway::{Feed, Outlet, RunFault, run};
+use gateway::{Feed, KeepsEvents, Outlet, RunFault, run};
 use index_loader::Indexes;
 use std::alloc::Global;
 
@@ -33,7 +34,28 @@ pub fn serve_stdio<'a, R: Feed, W: Outlet>(
     ensures write_failures { (W.took output.new).failures ≡ (W.took output.old).failures + write_failures_of (run_answer result) }
 {
     let mut gateway = beginning(alloc, indexes, labels);
-    match run(&mut gateway, 0, input, output) {
+    serve_over(&mut gateway, input, output)
+}
+
+/// Serves one connection as `serve_stdio` does, by a gateway that is there already, as one that
+/// records its events.
+///
+/// # Errors
+///
+/// And what was read can't be recorded.
+pub fn serve_over<'a, G: KeepsEvents, R: Feed, W: Outlet>(
+    gateway: &mut G,
+    input: &mut R,
+    output: &mut W,
+) -> Result<(), Failure<'a>>
+    requires { gate_fault (G.traffic gateway.old).lines (Opening 0) ≡ None }
+    ensures is_free { run_answer result ≢ Err NotFree }
+    ensures runs { RunGives (run_answer result) 0 (G.traffic gateway.old) (G.traffic gateway.new) (R.seen input.old) (R.seen input.new)
+        (W.took output.old).written (W.took output.new).written }
+    ensures reads { ReadUp (run_ended (run_answer result)) (R.seen input.old) (R.seen input.new) }
+    ensures write_failures { (W.took output.new).failures ≡ (W.took output.old).failures + write_failures_of (run_answer result) }
+{
+    match run(gateway, 0, input, output) {
         Ok(()) => Ok(()),
         Err(fault) => Err(failure_of(fault)),
     }
@@ -47,6 +69,7 @@ fn failure_of<'a>(fault: RunFault) -> Failure<'a>
     match fault {
         RunFault::Read => Failure::Read,
         RunFault::Write => Failure::Write,
+        RunFault::Unkept => Failure::Record,
         RunFault::TooManyReads => Failure::TooManyReads,
         RunFault::NotFree => unreachable!(),
     }

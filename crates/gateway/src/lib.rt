@@ -7,9 +7,9 @@ mod laws;
 mod traces;
 
 pub use connections::{
-    CONNECTIONS, Event, GateFault, Gateway, Out, RunFault, law_replies_in_order, run,
+    CONNECTIONS, Event, GateFault, Gateway, KeepsEvents, Out, RunFault, law_replies_in_order, run,
 };
-pub use devices::{Failed, Feed, FromRead, MemFeed, MemOutlet, Outlet, ToWrite, write_all};
+pub use devices::{Failed, Feed, FromRead, MemFeed, MemOutlet, Outlet, Stop, ToWrite, write_all};
 pub use laws::law_traces_in_order;
 pub use line_protocol::ReplyLine;
 pub use traces::{TraceFault, trace};

@@ -1,4 +1,6 @@
+mod Closing
+mod Events
 mod Lines
 mod Played
 mod Playing
-mod Recorded
+mod ReadThrough

@@ -1,4 +1,5 @@
 pub mod Codes
 pub mod Lines
+pub mod Losses
 pub mod Playing
 pub mod Records

@@ -1,5 +1,9 @@
 -- A record that is played, part by part.
 use Rattle.std.specs.Prelude.{◌≡◌, ℕ, ◌+◌, List, [], ◌∷◌, ◌++◌, length, take, Result, Ok, Err}
+use Rattle.devices.specs.Devices.{Reads}
+use Rattle.devices.specs.Reading.{ReadSo}
+use Rattle.devices.specs.declared.reading.Stop.{Stop}
+use Rattle.devices.specs.declared.reading.Stop.TheVariants as stop
 use Rattle.connections.specs.Traffic.{Traffic}
 use Rattle.connections.specs.Lines.{complete, unfinished}
 use Rattle.connections.specs.Clients.{Numbered, OccurAll}
@@ -43,6 +47,11 @@ PlayStops OutOfMemory bytes was = Unit {0}
 abbrev pub PlaysFront : Result ℕ PlayFault → List ℕ → Traffic → Traffic → Place → Place → Type 0
 PlaysFront (Ok n) bytes old new was is = PlaysOn (take n bytes) old new was is
 PlaysFront (Err fault) bytes old new was is = PlayStops fault bytes was
+
+-- All that was read was played, by the answer; or a line of it can't be.
+abbrev pub PlaysRead : {A : Type 0} → Result A (Stop PlayFault) → Reads → Reads → Traffic → Traffic → Place → Place → Type 0
+PlaysRead (Err (stop.Taker fault)) first last old new was is = ReadSo (λ read. PlayStops fault read was) first last
+PlaysRead r first last old new was is = ReadSo (λ read. PlaysOn read old new was is) first last
 
 -- ---- laws
 

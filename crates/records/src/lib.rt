@@ -4,9 +4,14 @@
 
 mod laws;
 mod line;
+mod loss;
 mod player;
+mod read_through;
 mod record;
+mod recorded;
 
 pub use laws::{law_playing, law_records};
 pub use player::{PlayFault, Player};
+pub use read_through::play;
 pub use record::{EventFault, Record};
+pub use recorded::Recorded;

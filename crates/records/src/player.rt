@@ -25,6 +25,8 @@ pub enum PlayFault {
 pub struct Player {
     line: Vec<u8>,
     whole: u64,
+    /// How many lines were played. Contracts don't see it.
+    lines: u64,
     alloc: Global,
 }
 
@@ -52,6 +54,7 @@ impl Player {
         Player {
             line: Vec::new(alloc),
             whole: 0,
+            lines: 0,
             alloc,
         }
     }
@@ -62,6 +65,11 @@ impl Player {
         ensures { result ≡ self.now.whole }
     {
         self.whole
+    }
+
+    /// The number of the line that is begun, counted from 1.
+    pub fn number(&self) -> u64 {
+        self.lines.saturating_add(1)
     }
 
     /// Takes bytes up to and with the first line feed, and plays the line that they complete without
@@ -93,6 +101,7 @@ impl Player {
             Err(fault) => return Err(fault),
         }
         self.whole += self.line.len() as u64 + 1;
+        self.lines = self.lines.saturating_add(1);
         self.line.clear();
         Ok(end + 1)
     }

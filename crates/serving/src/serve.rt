@@ -6,6 +6,7 @@ ghost use Rattle.serving.specs.Resting.{Seated};
 
 use crate::listener::{Listener, Place};
 use crate::server::{Limits, Refusal, Server};
+use connections::KeepsEvents;
 use sessions::{Sessions, law_acts_in_a_row};
 use std::alloc::Global;
 use std::fs::{File, Files};
@@ -22,6 +23,8 @@ pub enum ServingFault {
     Accept,
     /// The system doesn't report what is new.
     Poll,
+    /// What came from a client can't be kept.
+    Unkept,
     /// Memory ran out before the first client.
     OutOfMemory,
 }
@@ -31,12 +34,12 @@ pub enum ServingFault {
 ///
 /// # Errors
 ///
-/// It can't listen there, and has left all as it was; a client can't be let in, where that ends it; or
-/// the system reports no events.
-pub fn serve_clients<R: Files<File = File> + Net + Clock>(
+/// It can't listen there, and has left all as it was; a client can't be let in, where that ends it;
+/// what came from one can't be kept; or the system reports no events.
+pub fn serve_clients<R: Files<File = File> + Net + Clock, G: KeepsEvents + Drop>(
     rt: &R,
     alloc: Global,
-    sessions: &mut Sessions<'_>,
+    sessions: &mut Sessions<G>,
     place: Place<'_>,
     limits: Limits,
 ) -> Result<(), ServingFault>
@@ -55,11 +58,11 @@ pub fn serve_clients<R: Files<File = File> + Net + Clock>(
 }
 
 /// Serves those who come by a listener.
-fn serve_at<R: Net + Clock>(
+fn serve_at<R: Net + Clock, G: KeepsEvents + Drop>(
     rt: &R,
     alloc: Global,
     listener: &mut Listener,
-    sessions: &mut Sessions<'_>,
+    sessions: &mut Sessions<G>,
     limits: Limits,
 ) -> Result<(), ServingFault>
     requires { sessions.old.clients ≡ replicate connections None }
@@ -74,10 +77,10 @@ fn serve_at<R: Net + Clock>(
 }
 
 /// Runs a server to its end.
-fn run<K: Clock>(
+fn run<K: Clock, G: KeepsEvents + Drop>(
     clock: &K,
     listener: &Listener,
-    sessions: &mut Sessions<'_>,
+    sessions: &mut Sessions<G>,
     server: Server,
 ) -> Result<(), ServingFault>
     requires { Seated server.peers sessions.old }

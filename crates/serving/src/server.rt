@@ -11,7 +11,7 @@ use crate::listener::Listener;
 use crate::peer::Peer;
 use crate::peers::Peers;
 use crate::serve::{ServingFault, fault_of};
-use connections::CONNECTIONS;
+use connections::{CONNECTIONS, KeepsEvents};
 use mio::{Events, Poll, Token};
 use sessions::{Advance, JoinFault, Sessions, law_acts_in_a_row};
 use std::alloc::Global;
@@ -74,6 +74,8 @@ pub struct Server {
     is_asked: bool,
     /// Whether one couldn't be let in although there is a place.
     is_refused: bool,
+    /// Whether something came from a client that can't be kept.
+    is_unkept: bool,
     /// What is left of the limits: how many more clients are let in.
     limits: Limits,
     /// Since when no client is there, once that was looked at.
@@ -100,18 +102,19 @@ impl Server {
             peers: Peers::new(),
             is_asked: true,
             is_refused: false,
+            is_unkept: false,
             limits,
             alone_since: None,
         })
     }
 
-    /// Serves until the last client has gone, or none has come for too long. It is given up after
-    /// 2^64 - 1 waits.
-    pub fn run<K: Clock>(
+    /// Serves until the last client has gone, or none has come for too long, or what came from one can't
+    /// be kept. It is given up after 2^64 - 1 waits.
+    pub fn run<K: Clock, G: KeepsEvents + Drop>(
         &mut self,
         clock: &K,
         listener: &Listener,
-        sessions: &mut Sessions<'_>,
+        sessions: &mut Sessions<G>,
     ) -> Result<(), ServingFault>
         requires { Seated self.old.peers sessions.old }
         ensures went { Went self.old.limits self.new.limits sessions.old sessions.new }
@@ -122,6 +125,9 @@ impl Server {
         law_acts_in_a_row();
         for _ in 0..u64::MAX {
             let busy = self.rounds(listener, sessions);
+            if self.is_unkept {
+                return Err(ServingFault::Unkept);
+            }
             match self.next(clock, busy)? {
                 Next::Wait(most) => self.wait(most)?,
                 Next::End => return Ok(()),
@@ -133,7 +139,11 @@ impl Server {
 
     /// Goes round until nothing moves, or often enough to ask the system what is new. Returns whether
     /// something may still move, and then something did.
-    fn rounds(&mut self, listener: &Listener, sessions: &mut Sessions<'_>) -> bool
+    fn rounds<G: KeepsEvents + Drop>(
+        &mut self,
+        listener: &Listener,
+        sessions: &mut Sessions<G>,
+    ) -> bool
         requires { Seated self.old.peers sessions.old }
         ensures went { Went self.old.limits self.new.limits sessions.old sessions.new }
         ensures acted { result ≡ true → Acted sessions.old sessions.new }
@@ -150,7 +160,11 @@ impl Server {
     }
 
     /// Lets in who waits, has each client take a step, and returns whether anything moved.
-    fn round(&mut self, listener: &Listener, sessions: &mut Sessions<'_>) -> bool
+    fn round<G: KeepsEvents + Drop>(
+        &mut self,
+        listener: &Listener,
+        sessions: &mut Sessions<G>,
+    ) -> bool
         requires { Seated self.old.peers sessions.old }
         ensures went { Went self.old.limits self.new.limits sessions.old sessions.new }
         ensures acted { result ≡ true → Acted sessions.old sessions.new }
@@ -164,7 +178,7 @@ impl Server {
     }
 
     /// Has each client take a step, and returns whether one moved or has gone.
-    fn steps(&mut self, sessions: &mut Sessions<'_>) -> bool
+    fn steps<G: KeepsEvents + Drop>(&mut self, sessions: &mut Sessions<G>) -> bool
         requires { Seated self.old.peers sessions.old }
         ensures went { Stepped sessions.old sessions.new }
         ensures acted { result ≡ true → Acted sessions.old sessions.new }
@@ -182,7 +196,7 @@ impl Server {
     }
 
     /// Has a client take a step, and returns whether it moved or has gone.
-    fn step(&mut self, sessions: &mut Sessions<'_>, c: u8) -> bool
+    fn step<G: KeepsEvents + Drop>(&mut self, sessions: &mut Sessions<G>, c: u8) -> bool
         requires small { c < connections }
         requires seated { Seated self.old.peers sessions.old }
         ensures acts { ByActsOf c sessions.old sessions.new }
@@ -221,12 +235,21 @@ impl Server {
                 sessions.leave(c);
                 true
             }
+            Advance::Unkept => {
+                self.is_unkept = true;
+                sessions.leave(c);
+                true
+            }
         }
     }
 
     /// Lets in who waits at the listener, if there is a place, and returns whether somebody came. The
     /// place is taken first, so that nobody is let in for whom there is none.
-    fn let_in(&mut self, listener: &Listener, sessions: &mut Sessions<'_>) -> bool
+    fn let_in<G: KeepsEvents + Drop>(
+        &mut self,
+        listener: &Listener,
+        sessions: &mut Sessions<G>,
+    ) -> bool
         requires { Seated self.old.peers sessions.old }
         ensures came { result ≡ true → Came self.old.limits self.new.limits sessions.old sessions.new }
         ensures nobody { result ≡ false → (self.new.limits ≡ self.old.limits) × (sessions.new ≡ sessions.old) }

@@ -1,13 +1,18 @@
 -- One act, as a call makes it.
 use Rattle.std.proofs.Common.{lt-ltb, set-set, eq-eqb, ◌≢◌, zero, suc}
-use Rattle.std.proofs.lemmas.List.{take-append-drop, length-take}
+use Rattle.std.proofs.lemmas.List.{take-append-drop, length-take, set-get_or}
 use Rattle.devices.specs.declared.reading.TheConstants.{READ_BUFFER}
 use Rattle.sessions.specs.Advances.{Advanced, HasInput, Moves, are_steps_of}
 use Rattle.sessions.specs.Reaching.{came, went}
 use Rattle.sessions.proofs.Others.{others_kept, there}
 use Rattle.sessions.specs.declared.sessions.Advance.{Advance}
 use Rattle.sessions.specs.declared.sessions.Advance.TheVariants.{Moved}
+use Rattle.std.specs.Prelude.{Err}
 use Rattle.std.specs.Option.{is_some, option_map}
+use Rattle.connections.specs.Events.{TakeFaultIs}
+use Rattle.connections.specs.declared.gateway.GateFault.{GateFault}
+use Rattle.connections.specs.declared.gateway.TakeFault.{TakeFault}
+use Rattle.connections.specs.declared.gateway.TakeFault.TheVariants.{Refused}
 use Rattle.sessions.proofs.Prelude.{◌≡◌, ℕ, ◌<◌, ◌≤◌, ◌==◌, Bool, true, false, List, [], ◌∷◌, ◌++◌, length, drop, take, Option, None, Some, slice_set, refl, sym, ap, ◌∙◌, subst, inl, inr, arith, append-nil, get_or-set_other, get_or-set_same, eqb_tells, eqb-true}
 use Rattle.sessions.proofs.Prelude.{Traffic, Partial, Received, Happening, Opening, Bringing, Closing, connections, at_number, unless_open, unless_closed, unless_bad_number, gate_fault, Took, with_line, Numbered, or_empty}
 use Rattle.sessions.proofs.Prelude.{Client, Hall, client_at, fresh_client, Act, Joins, Sends, Asks, Gets, Leaves, with_client, Acts, Did, Matches, Present, number_within}
@@ -32,6 +37,10 @@ open_some None h = cc
 pub map_some : {A B : Type 0} (f : A → B) (x : Option A) → is_some (option_map f x) ≡ is_some x
 map_some f (Some x) = refl
 map_some f None = refl
+
+-- an event that nothing refuses isn't refused
+pub not_refused : (A : Type 0) (f : TakeFault) (why : GateFault) (e : Happening) (fault : Option GateFault) → f ≡ Refused why → TakeFaultIs {A = A} (Err f) e fault → fault ≡ None → ⊥
+not_refused A f why e fault is told none = let no : fault ≡ Some why = subst (λ x. TakeFaultIs {A = A} (Err x) e fault) is told in cc
 
 -- a client that is there may bring and go
 pub may_bring : (t : Traffic) (cs : List (Option Client)) (c : ℕ) (bytes : List ℕ) (client : Client) → Matches t cs → c < connections → at_number cs c ≡ Some client → gate_fault t.lines (Bringing c bytes) ≡ None
@@ -166,6 +175,21 @@ module _ (t : Traffic) (cs ds : List (Option Client)) (c : ℕ) (session after :
     },
   )
 
+-- ---- a client is taken out and put back
+
+module _ (t u : Traffic) (cs ds : List (Option Client)) (c : ℕ) (session : Client) (same : u ≡ t) (is : Some session ≡ at_number cs c) (put : ds ≡ slice_set (slice_set cs c None) c (Some session)) where
+  back : ds ≡ cs
+  back = put ∙ set-set cs c None (Some session) ∙ ap (λ x. slice_set cs c x) is ∙ set-get_or cs c None
+
+  pub put_back : ◌≡◌ {A = Hall} (record { traffic = u; clients = ds }) (record { traffic = t; clients = cs })
+  put_back =
+      let f : Traffic → Hall = λ x. record { traffic = x; clients = ds } in
+      let g : List (Option Client) → Hall = λ x. record { traffic = t; clients = x } in
+      ap f same ∙ ap g back
+
+  pub back_match : Matches t cs → Matches u ds
+  back_match m = rw (same, back) m
+
 -- ---- steps
 
 module _ (answer : Advance) (c : ℕ) (old new : Hall) (received_old received_new sent_old sent_new : List ℕ) where
@@ -189,6 +213,9 @@ module _ (answer : Advance) (c : ℕ) (old new : Hall) (received_old received_ne
   pub advance_asks : HasInput c old → Did old (Asks c ∷ []) new → received_new ≡ received_old → sent_new ≡ sent_old → Advanced answer c old new received_old received_new sent_old sent_new
   advance_asks some did received sent =
       advanced (Asks c ∷ []) (rw here refl) (λ _. inr (inl (refl, some))) did (received ∙ sym (append-nil received_old)) (sent ∙ sym (append-nil sent_old))
+
+  pub advance_none : (answer ≡ Moved → ⊥) → new ≡ old → received_new ≡ received_old ++ [] → sent_new ≡ sent_old ++ [] → Advanced answer c old new received_old received_new sent_old sent_new
+  advance_none still same received sent = advanced [] refl (λ m. absurd (still m)) (subst (Did old []) (sym same) (did_none old)) received sent
 
   pub advance_gets : (bytes : List ℕ) → (answer ≡ Moved → bytes ≢ []) → Did old (Gets c bytes ∷ []) new → received_new ≡ received_old → sent_new ≡ sent_old ++ bytes
       → Advanced answer c old new received_old received_new sent_old sent_new

@@ -1,12 +1,12 @@
 //! The clients of a gateway.
-ghost use Rattle.std.specs.Prelude.{◌≡◌, ◌≢◌, ◌⊎◌, ℕ, ◌<◌, ◌≤◌, List, [], ◌∷◌, length, take, None, Some, Err, replicate, IfOk, MatchOption, IsSome, option_map};
+ghost use Rattle.std.specs.Prelude.{◌≡◌, ◌≢◌, ◌⊎◌, ℕ, ◌<◌, ◌≤◌, true, false, List, [], ◌∷◌, length, take, None, Some, Err, replicate, IfOk, MatchOption, IsSome, option_map};
 ghost use Rattle.connections.specs.Events.{connections, at_number};
 ghost use Rattle.sessions.specs.Sessions.{AreTaken, Client, Hall, client_at, fresh_client, Joins, Sends, Asks, Gets, Leaves, Did, Present};
 ghost use Rattle.sessions.specs.Advances.{Advanced, Rests};
 
 use crate::seat::Seat;
 use crate::slots::Slots;
-use connections::{CONNECTIONS, Event, Gateway, Out, law_events};
+use connections::{CONNECTIONS, Event, KeepsEvents, Out, TakeFault, law_events};
 use devices::{Arrival, Failed, READ_BUFFER, Wire};
 use std::alloc::Global;
 use std::marker::Model;
@@ -29,19 +29,21 @@ pub enum Advance {
     Waits,
     /// Its device has reported the end, or failed.
     Over,
+    /// The gateway can't keep what came from it.
+    Unkept,
 }
 
 /// A gateway and its clients. Contracts see the gateway's traffic and, for each client that is
 /// connected, what came from it and isn't taken yet, and what isn't sent to it yet.
-pub struct Sessions<'i> {
-    gateway: Gateway<'i>,
+pub struct Sessions<G: KeepsEvents + Drop> {
+    gateway: G,
     slots: Slots,
     alloc: Global,
     /// What is read into; one for all, so that none has to be cleared for each read.
     buffer: [u8; READ_BUFFER],
 }
 
-impl<'i> Model for Sessions<'i> {
+impl<G: KeepsEvents + Drop> Model for Sessions<G> {
     ghost use Rattle.sessions.specs.Sessions.{Hall, Matches};
     ghost use Rattle.sessions.specs.Codes.{hall_code};
 
@@ -49,13 +51,13 @@ impl<'i> Model for Sessions<'i> {
 
     ghost coded = { hall_code };
 
-    ghost view = { λ a. record { traffic = a.gateway; clients = a.slots } };
+    ghost view = { λ a. record { traffic = G.traffic a.gateway; clients = a.slots } };
 
-    ghost invariant = { λ a. Matches a.gateway a.slots };
+    ghost invariant = { λ a. Matches (G.traffic a.gateway) a.slots };
 }
 
 // Written out: where it is derived, each crate above proves anew what becomes of all that is dropped.
-impl Drop for Sessions<'_> {
+impl<G: KeepsEvents + Drop> Drop for Sessions<G> {
     fn drop(self) {
         let Sessions {
             gateway: _,
@@ -66,11 +68,11 @@ impl Drop for Sessions<'_> {
     }
 }
 
-impl<'i> Sessions<'i> {
+impl<G: KeepsEvents + Drop> Sessions<G> {
     /// The sessions of a gateway on which no connection is open, with no client.
-    pub fn new(alloc: Global, gateway: Gateway<'i>) -> Sessions<'i>
-        requires { gateway.lines ≡ replicate connections None }
-        ensures traffic { result.traffic ≡ gateway.entry }
+    pub fn new(alloc: Global, gateway: G) -> Sessions<G>
+        requires { (G.traffic gateway).lines ≡ replicate connections None }
+        ensures traffic { result.traffic ≡ G.traffic gateway }
         ensures clients { result.clients ≡ replicate connections None }
     {
         Sessions {
@@ -79,6 +81,13 @@ impl<'i> Sessions<'i> {
             alloc,
             buffer: [0; READ_BUFFER],
         }
+    }
+
+    /// The gateway.
+    pub fn gateway(&self) -> &G
+        ensures { G.traffic result.now ≡ self.now.traffic }
+    {
+        &self.gateway
     }
 
     /// The lowest number below `places` at which there is no client.
@@ -125,7 +134,8 @@ impl<'i> Sessions<'i> {
         let c = seat.number();
         match self.gateway.event(Event::Open(c)) {
             Ok(_) => {}
-            Err(_) => unreachable!(),
+            Err(TakeFault::Refused(_)) => unreachable!(),
+            Err(TakeFault::Unkept) => unreachable!(),
         }
         self.slots.put(c, Some(seat.session()));
     }
@@ -143,7 +153,8 @@ impl<'i> Sessions<'i> {
         }
         match self.gateway.event(Event::Close(c)) {
             Ok(_) => {}
-            Err(_) => unreachable!(),
+            Err(TakeFault::Refused(_)) => unreachable!(),
+            Err(TakeFault::Unkept) => unreachable!(),
         }
         self.slots.put(c, None);
     }
@@ -156,6 +167,7 @@ impl<'i> Sessions<'i> {
         ensures step { Advanced result c self.old self.new (W.received wire.old) (W.received wire.new) (W.sent wire.old) (W.sent wire.new) }
         ensures rests { result ≡ Advance.Waits → Rests (client_at self.new c) (W.is_empty wire.new) (W.is_full wire.new) }
         ensures over { result ≡ Advance.Over → (client_at self.old c ≡ None) ⊎ W.is_over wire.new }
+        ensures unkept { result ≡ Advance.Unkept → self.new ≡ self.old }
     {
         let Some(session) = self.slots.at(c) else {
             return Advance::Over;
@@ -164,8 +176,11 @@ impl<'i> Sessions<'i> {
             return self.write_to(c, wire);
         }
         if !session.input().is_empty() {
-            self.ask(c);
-            return Advance::Moved;
+            return if self.ask(c) {
+                Advance::Moved
+            } else {
+                Advance::Unkept
+            };
         }
         self.read_from(c, wire)
     }
@@ -176,6 +191,7 @@ impl<'i> Sessions<'i> {
         ensures step { Advanced result c self.old self.new (W.received wire.old) (W.received wire.new) (W.sent wire.old) (W.sent wire.new) }
         ensures rests { result ≡ Advance.Waits → Rests (client_at self.new c) (W.is_empty wire.new) (W.is_full wire.new) }
         ensures over { result ≡ Advance.Over → (client_at self.old c ≡ None) ⊎ W.is_over wire.new }
+        ensures kept { result ≢ Advance.Unkept }
     {
         let Some(mut session) = self.slots.take(c) else {
             unreachable!()
@@ -195,10 +211,11 @@ impl<'i> Sessions<'i> {
         advance
     }
 
-    /// Takes what came from a client.
-    fn ask(&mut self, c: u8)
+    /// Takes what came from a client, and returns whether it could: what can't be kept isn't taken.
+    fn ask(&mut self, c: u8) -> bool
         requires { (input : List ℕ) × Present self.old c (record { input = input; unsent = [] }) }
-        ensures { Did self.old (Asks c ∷ []) self.new }
+        ensures asks { result ≡ true → Did self.old (Asks c ∷ []) self.new }
+        ensures unkept { result ≡ false → self.new ≡ self.old }
     {
         law_events();
         let Some(mut session) = self.slots.take(c) else {
@@ -206,9 +223,14 @@ impl<'i> Sessions<'i> {
         };
         match self.gateway.event(Event::Bytes(c, session.input())) {
             Ok(Out { taken, reply }) => session.take(taken, reply),
-            Err(_) => unreachable!(),
+            Err(TakeFault::Refused(_)) => unreachable!(),
+            Err(TakeFault::Unkept) => {
+                self.slots.put(c, Some(session));
+                return false;
+            }
         }
         self.slots.put(c, Some(session));
+        true
     }
 
     /// Reads once from a client.
@@ -217,6 +239,7 @@ impl<'i> Sessions<'i> {
         ensures step { Advanced result c self.old self.new (W.received wire.old) (W.received wire.new) (W.sent wire.old) (W.sent wire.new) }
         ensures rests { result ≡ Advance.Waits → Rests (client_at self.new c) (W.is_empty wire.new) (W.is_full wire.new) }
         ensures over { result ≡ Advance.Over → (client_at self.old c ≡ None) ⊎ W.is_over wire.new }
+        ensures kept { result ≢ Advance.Unkept }
     {
         let count = match wire.read(&mut self.buffer) {
             Ok(Arrival::Bytes(count)) => count,

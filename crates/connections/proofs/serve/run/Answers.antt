@@ -4,38 +4,38 @@ use Rattle.connections.proofs.serve.run.Goals as goal
 
 pub close-requires : goal.close-requires
 close-requires g c =
-    still_open g.G.TakesEvents.traffic g.W.Outlet.took _ _
+    still_open g.G.KeepsEvents.traffic g.W.Outlet.took _ _
     (record { c = c.args.c }, c.open.new.gateway, c.args.writer.now) (c.pump-result.new.taker, c.pump-result.new.on, c.pump-result.new.writer)
     c.in_ok-open.ensures.is_open (Unit {0}) c.pump-result.result c.pump-result.ensures.takes
 
 pub returns-in-Ok-clause-runs : goal.returns-in-Ok-clause-runs
 returns-in-Ok-clause-runs g c =
-    (runs_fine g.G.TakesEvents.traffic g.W.Outlet.took _ _
+    (runs_fine g.G.KeepsEvents.traffic g.W.Outlet.took _ _
     (record { c = c.args.c }, c.open.new.gateway, c.args.writer.now) (c.pump-result.new.taker, c.pump-result.new.on, c.pump-result.new.writer)
-    c.in_ok-open.ensures.is_open (g.G.TakesEvents.traffic c.args.gateway.now) (g.G.TakesEvents.traffic c.close.new.gateway)
+    c.in_ok-open.ensures.is_open (g.G.KeepsEvents.traffic c.args.gateway.now) (g.G.KeepsEvents.traffic c.close.new.gateway)
     (record { small = c.in_ok-open.ensures.number; is = c.in_ok-open.ensures.opened }) (record { small = c.close.ensures.number; is = c.close.ensures.closed })
     c.in-Ok.ensures.takes).0
 
 pub returns-in-Ok-clause-write_failures : goal.returns-in-Ok-clause-write_failures
 returns-in-Ok-clause-write_failures g c =
-    (runs_fine g.G.TakesEvents.traffic g.W.Outlet.took _ _
+    (runs_fine g.G.KeepsEvents.traffic g.W.Outlet.took _ _
     (record { c = c.args.c }, c.open.new.gateway, c.args.writer.now) (c.pump-result.new.taker, c.pump-result.new.on, c.pump-result.new.writer)
-    c.in_ok-open.ensures.is_open (g.G.TakesEvents.traffic c.args.gateway.now) (g.G.TakesEvents.traffic c.close.new.gateway)
+    c.in_ok-open.ensures.is_open (g.G.KeepsEvents.traffic c.args.gateway.now) (g.G.KeepsEvents.traffic c.close.new.gateway)
     (record { small = c.in_ok-open.ensures.number; is = c.in_ok-open.ensures.opened }) (record { small = c.close.ensures.number; is = c.close.ensures.closed })
     c.in-Ok.ensures.takes).1 ∙ sym (add-zero _)
 
 pub returns-in-Err-clause-runs : goal.returns-in-Err-clause-runs
 returns-in-Err-clause-runs g c =
-    rw c.fault_of.ensures (runs_stopped g.G.TakesEvents.traffic g.W.Outlet.took _ _
+    rw c.fault_of.ensures (runs_stopped g.G.KeepsEvents.traffic g.W.Outlet.took _ _
     (record { c = c.args.c }, c.open.new.gateway, c.args.writer.now) (c.pump-result.new.taker, c.pump-result.new.on, c.pump-result.new.writer)
-    c.in_ok-open.ensures.is_open (g.G.TakesEvents.traffic c.args.gateway.now) (g.G.TakesEvents.traffic c.close.new.gateway)
+    c.in_ok-open.ensures.is_open (g.G.KeepsEvents.traffic c.args.gateway.now) (g.G.KeepsEvents.traffic c.close.new.gateway)
     (record { small = c.in_ok-open.ensures.number; is = c.in_ok-open.ensures.opened }) (record { small = c.close.ensures.number; is = c.close.ensures.closed })
     (Unit {0}) (Unit {0}) c.in-Err.stop c.in-Err.ensures.takes).0
 
 pub returns-in-Err-clause-write_failures : goal.returns-in-Err-clause-write_failures
 returns-in-Err-clause-write_failures g c =
-    rw c.fault_of.ensures (runs_stopped g.G.TakesEvents.traffic g.W.Outlet.took _ _
+    rw c.fault_of.ensures (runs_stopped g.G.KeepsEvents.traffic g.W.Outlet.took _ _
     (record { c = c.args.c }, c.open.new.gateway, c.args.writer.now) (c.pump-result.new.taker, c.pump-result.new.on, c.pump-result.new.writer)
-    c.in_ok-open.ensures.is_open (g.G.TakesEvents.traffic c.args.gateway.now) (g.G.TakesEvents.traffic c.close.new.gateway)
+    c.in_ok-open.ensures.is_open (g.G.KeepsEvents.traffic c.args.gateway.now) (g.G.KeepsEvents.traffic c.close.new.gateway)
     (record { small = c.in_ok-open.ensures.number; is = c.in_ok-open.ensures.opened }) (record { small = c.close.ensures.number; is = c.close.ensures.closed })
     (Unit {0}) (Unit {0}) c.in-Err.stop c.in-Err.ensures.takes).1

@@ -1,6 +1,6 @@
 use Rattle.records.proofs.Lines.{lines_are_events, records_are_cut}
 use Rattle.records.proofs.Played.{records_go_on, records_are_played, cuts_are_played}
-use Rattle.records.proofs.Recorded.{events_are_recorded}
+use Rattle.records.proofs.Events.{events_are_recorded}
 use Rattle.records.proofs.laws.law_records.Goals as goal
 
 pub returns-clause-lines : goal.returns-clause-lines

@@ -3,17 +3,17 @@ use Rattle.devices.specs.declared.device.Failed.{Failed}
 use Rattle.connections.proofs.Took.{took_within, delivered_written, delivered_unwritten}
 use Rattle.connections.proofs.serve.ConnectionTaker.take.Goals as goal
 
-pub returns-in-Ok-clause-bound : goal.returns-in-Ok-clause-bound
-returns-in-Ok-clause-bound g c = took_within _ _ _ _ _ _ c.bring-taken.ensures.step
+pub returns-in-Ok-write_reply-clause-bound : goal.returns-in-Ok-write_reply-clause-bound
+returns-in-Ok-write_reply-clause-bound g c = took_within _ _ _ _ _ _ c.in-Ok.ensures.step
 
-pub returns-in-Ok-clause-takes : goal.returns-in-Ok-clause-takes
-returns-in-Ok-clause-takes g c = (
+pub returns-in-Ok-write_reply-clause-takes : goal.returns-in-Ok-write_reply-clause-takes
+returns-in-Ok-write_reply-clause-takes g c = (
   refl,
-  delivered_written (Unit {0}) Failed c.in-Ok.field-0 _ _ _ _ _ _ (g.W.Outlet.took c.args.writer.now) (g.W.Outlet.took c.write_reply.new.writer)
-      c.bring-taken.ensures.step c.requires.ready c.bring-taken.ensures.count c.in-Ok.ensures.writes c.in-Ok.ensures.failures,
+  delivered_written (Unit {0}) Failed c.in-Ok-write_reply.field-0 _ _ _ _ _ _ (g.W.Outlet.took c.args.writer.now) (g.W.Outlet.took c.write_reply.new.writer)
+      c.in-Ok.ensures.step c.requires.ready c.event.ensures.count c.in-Ok-write_reply.ensures.writes c.in-Ok-write_reply.ensures.failures,
 )
 
 pub returns-in-Err-clause-takes : goal.returns-in-Err-clause-takes
 returns-in-Err-clause-takes g c =
     delivered_unwritten (Unit {0}) Failed c.in-Err.field-0 _ _ _ _ _ _ (g.W.Outlet.took c.args.writer.now) (g.W.Outlet.took c.write_reply.new.writer)
-    c.bring-taken.ensures.step c.requires.ready c.bring-taken.ensures.count c.in-Err.ensures.writes c.in-Err.ensures.failures
+    c.in-Ok.ensures.step c.requires.ready c.event.ensures.count c.in-Err.ensures.writes c.in-Err.ensures.failures

@@ -6,6 +6,9 @@ use Rattle.serving.proofs.server.Server.run.Goals as goal
 pub loop-init : goal.loop-init
 loop-init g c = record { went = acting.went_nowhere c.law_acts_in_a_row.ensures _ _; seated = c.requires }
 
+pub returns-then-self-clause-went : goal.returns-then-self-clause-went
+returns-then-self-clause-went g c = acting.went_then c.law_acts_in_a_row.ensures _ _ _ _ _ _ c.loop.invariant.went c.rounds-busy.ensures.went
+
 pub returns-in_err-most-clause-went : goal.returns-in_err-most-clause-went
 returns-in_err-most-clause-went g c = acting.went_on c.law_acts_in_a_row.ensures _ _ _ _ _ _ _ c.loop.invariant.went c.rounds-busy.ensures.went c.next.ensures.limits
 

@@ -4,7 +4,7 @@ use Rattle.serving.specs.Resting.{NoMore, RestBelow, Seated}
 use Rattle.serving.proofs.server.Server.steps.Given as goal
 
 abbrev pub invariant-loop-c : goal.invariant-loop-c
-invariant-loop-c l = record {
+invariant-loop-c g l = record {
   went : Stepped l.initial.sessions l.sessions;
   acted : l.moved ≡ true → Acted l.initial.sessions l.sessions;
   rest : l.moved ≡ false → RestBelow l.c l.self.peers l.sessions;
