@@ -1,5 +1,5 @@
 -- Acts in a row.
-use Rattle.std.proofs.Common.{◌≡◌, ◌≢◌, ℕ, ◌+◌, ◌-◌, ◌==◌, Bool, true, false, ◌&&◌, ◌||◌, List, [], ◌∷◌, ◌++◌, Option, None, Some, Result, Ok, Err, zero, suc, replicate, slice_index_or, refl, ap, ◌∙◌, subst, sym, inl, inr, arith}
+use Rattle.std.proofs.Common.{◌≡◌, ◌≢◌, ◌⊎◌, ℕ, ◌+◌, ◌-◌, ◌==◌, Bool, true, false, ◌&&◌, ◌||◌, List, [], ◌∷◌, ◌++◌, Option, None, Some, Result, Ok, Err, zero, suc, replicate, slice_index_or, refl, ap, ◌∙◌, subst, sym, inl, inr, arith}
 use Rattle.std.specs.Option.{option_map, is_some, IsSome}
 use Rattle.std.specs.Result.{OnOk}
 use Rattle.connections.specs.Events.{connections}
@@ -130,6 +130,31 @@ gone row c peers old mid new peer seated is stays before left = then_left row c 
 pub by_acts : (c : ℕ) (old new : Hall) → ActedOf c old new → ByActsOf c old new
 by_acts c old new it = record { acts = it.acts; own = it.own; did = it.did }
 
+-- ---- one step after another of a client
+
+pub no_acts : ActsInARow → (c : ℕ) (h : Hall) → ByActsOf c h h
+no_acts row c h = record { acts = []; own = refl; did = row.none h }
+
+pub acts_then : ActsInARow → (c : ℕ) (old mid new : Hall) → ByActsOf c old mid → ByActsOf c mid new → ByActsOf c old new
+acts_then row c old mid new before later = record {
+  acts = before.acts ++ later.acts;
+  own = acts_append c before.acts later.acts before.own later.own;
+  did = row.more old mid new before.acts later.acts before.did later.did;
+}
+
+pub acts_then_acted : ActsInARow → (c : ℕ) (old mid new : Hall) → ByActsOf c old mid → ActedOf c mid new → ActedOf c old new
+acts_then_acted row c old mid new before later = record {
+  acts = before.acts ++ later.acts;
+  some = some_back before.acts later.acts later.some;
+  own = acts_append c before.acts later.acts before.own later.own;
+  did = row.more old mid new before.acts later.acts before.did later.did;
+}
+
+-- a client that is over was never there, or its socket is
+pub over_since : (before now : Option Client) (Over : Type 0) → is_some now ≡ is_some before → (now ≡ None) ⊎ Over → (is_some before ≡ false) ⊎ Over
+over_since before now Over stays (inl none) = inl (sym stays ∙ ap is_some none)
+over_since before now Over stays (inr over) = inr over
+
 -- ---- clients that are there
 
 pub stood : ActsInARow → (h : Hall) → Stepped h h
@@ -247,9 +272,6 @@ pub round_acted : ActsInARow → (came moved : Bool) (before after : Limits) (ol
 round_acted row true moved before after old mid new one nobody steps acts h =
     let it = one refl in acted_in_front row old mid new steps.acts (record { acts = Joins it.c ∷ []; some = λ e. cc; did = it.did }) steps.did
 round_acted row false moved before after old mid new one nobody steps acts h = subst (λ x. Acted x new) (nobody refl).1 (acts h)
-
-pub rounds_acted : ActsInARow → (before after : Limits) (old mid new : Hall) → Went before after old mid → Acted mid new → Acted old new
-rounds_acted row before after old mid new went acts = acted_behind row old mid new went.acts went.did acts
 
 -- ---- serving
 

@@ -1,5 +1,5 @@
 //! The loop: who takes a step, and when there is nothing to do but wait.
-ghost use Rattle.std.specs.Prelude.{◌≡◌, ◌≢◌, ◌⊎◌, ◌*◌, ◌<◌, ◌≤◌, true, false, ℕ, Ok, Err, None, replicate, IfOk, OnOk, OnErr, IsNone, IsSome};
+ghost use Rattle.std.specs.Prelude.{◌≡◌, ◌≢◌, ◌⊎◌, ◌*◌, ◌<◌, ◌≤◌, true, false, ℕ, Ok, Err, None, Some, is_some, replicate, IfOk, OnOk, OnErr, IsNone, IsSome};
 ghost use Rattle.std.specs.Duration.{as_nanos};
 ghost use Rattle.connections.specs.Events.{connections};
 ghost use Rattle.sessions.specs.Sessions.{Hall, client_at};
@@ -26,7 +26,7 @@ const LISTENER: Token = Token(CONNECTIONS);
 const EVENTS: usize = CONNECTIONS + 1;
 
 /// How many steps each client has at most before the system is asked what is new.
-const ROUNDS: u32 = 4;
+const STEPS: u32 = 4;
 
 /// After how many seconds a client that couldn't be let in is let in again.
 const RETRY_SECONDS: u64 = 1;
@@ -54,7 +54,7 @@ pub enum Refusal {
     End,
 }
 
-/// What the loop does after its rounds.
+/// What the loop does after a round.
 enum Next {
     /// Asks what is new, and waits for it, at most so long, or without a limit.
     Wait(Option<Duration>),
@@ -124,7 +124,7 @@ impl Server {
     {
         law_acts_in_a_row();
         for _ in 0..u64::MAX {
-            let busy = self.rounds(listener, sessions);
+            let busy = self.round(listener, sessions);
             if self.is_unkept {
                 return Err(ServingFault::Unkept);
             }
@@ -137,29 +137,8 @@ impl Server {
         Err(ServingFault::Poll)
     }
 
-    /// Goes round until nothing moves, or often enough to ask the system what is new. Returns whether
-    /// something may still move, and then something did.
-    fn rounds<G: KeepsEvents + Drop>(
-        &mut self,
-        listener: &Listener,
-        sessions: &mut Sessions<G>,
-    ) -> bool
-        requires { Seated self.old.peers sessions.old }
-        ensures went { Went self.old.limits self.new.limits sessions.old sessions.new }
-        ensures acted { result ≡ true → Acted sessions.old sessions.new }
-        ensures rest { result ≡ false → AllRest self.new sessions.new }
-        ensures seated { Seated self.new.peers sessions.new }
-    {
-        law_acts_in_a_row();
-        for _ in 1..ROUNDS {
-            if !self.round(listener, sessions) {
-                return false;
-            }
-        }
-        self.round(listener, sessions)
-    }
-
-    /// Lets in who waits, has each client take a step, and returns whether anything moved.
+    /// Lets in who waits, has each client take its steps, and returns whether something may still move,
+    /// and then something did.
     fn round<G: KeepsEvents + Drop>(
         &mut self,
         listener: &Listener,
@@ -177,7 +156,7 @@ impl Server {
         came | moved
     }
 
-    /// Has each client take a step, and returns whether one moved or has gone.
+    /// Has each client take its steps, and returns whether one may go on or has gone.
     fn steps<G: KeepsEvents + Drop>(&mut self, sessions: &mut Sessions<G>) -> bool
         requires { Seated self.old.peers sessions.old }
         ensures went { Stepped sessions.old sessions.new }
@@ -195,7 +174,7 @@ impl Server {
         moved
     }
 
-    /// Has a client take a step, and returns whether it moved or has gone.
+    /// Has a client take its steps, and returns whether it may go on or has gone.
     fn step<G: KeepsEvents + Drop>(&mut self, sessions: &mut Sessions<G>, c: u8) -> bool
         requires small { c < connections }
         requires seated { Seated self.old.peers sessions.old }
@@ -215,7 +194,7 @@ impl Server {
         let Some(mut peer) = self.peers.take(c) else {
             return false;
         };
-        match sessions.advance(c, &mut peer) {
+        match advance_on(sessions, c, &mut peer) {
             Advance::Moved => {
                 self.peers.put(c, peer);
                 true
@@ -316,7 +295,7 @@ impl Server {
         }
     }
 
-    /// What to do after rounds. Nobody waits where something may still move, and where nothing may, all
+    /// What to do after a round. Nobody waits where something may still move, and where nothing may, all
     /// do; it ends by itself only where no client is there.
     fn next<K: Clock>(&mut self, clock: &K, busy: bool) -> Result<Next, ServingFault>
         ensures awake { busy ≡ true → IfOk result (WaitsFor 0) }
@@ -400,6 +379,26 @@ impl Server {
         self.peers.note_all(&self.events);
         Ok(())
     }
+}
+
+/// Has a client take its steps one after another, until it has to wait or is over, but not more than
+/// it has at most. Returns what became of it in the last one.
+fn advance_on<G: KeepsEvents + Drop>(sessions: &mut Sessions<G>, c: u8, peer: &mut Peer) -> Advance
+    ensures acts { ByActsOf c sessions.old sessions.new }
+    ensures moved { result ≡ Advance.Moved → ActedOf c sessions.old sessions.new }
+    ensures rests { result ≡ Advance.Waits → RestsOn (client_at sessions.new c) (Some peer.new) }
+    ensures over { result ≡ Advance.Over → (is_some (client_at sessions.old c) ≡ false) ⊎ (peer.new.over ≡ true) }
+    ensures stays { is_some (client_at sessions.new c) ≡ is_some (client_at sessions.old c) }
+    ensures others { (d : ℕ) → d ≢ c → client_at sessions.new d ≡ client_at sessions.old d }
+{
+    law_acts_in_a_row();
+    for _ in 1..STEPS {
+        match sessions.advance(c, peer) {
+            Advance::Moved => continue,
+            advance => return advance,
+        }
+    }
+    sessions.advance(c, peer)
 }
 
 /// Whether the system reported that clients wait at the listener.
