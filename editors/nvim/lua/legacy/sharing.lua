@@ -160,7 +160,8 @@ function Sharing:soon(call)
   end)
 end
 
----Asks what is new. As long as nothing is, Neovim itself has nothing to do: else |CursorHold| would never come.
+---Asks what is new, seldom where no other editor has the file open. As long as nothing is, Neovim itself has nothing to do:
+---else |CursorHold| would never come.
 ---@private
 function Sharing:tick()
   local connection = self.buffer.document.connection
@@ -175,7 +176,7 @@ function Sharing:tick()
     end
     return
   end
-  if self.asked ~= connection then
+  if self.asked ~= connection and (self.presence.others > 0 or self.looks % SELDOM == 0) then
     self.asked = connection
     self.buffer.document:watch(function(moved)
       self.asked = nil
