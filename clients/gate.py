@@ -982,7 +982,8 @@ class Document:
 class Fleet:
     """Several servers, over which documents are spread by their names, so that more of them fit and each server has its
     own processor. All clients that know the same places find a document at the same one. With a place more, one document
-    in so many moves, and all of these to it; with a place less those that were there move, and no other."""
+    in so many moves, and all of these to it; with a place less those that were there move, and no other. Connections are
+    made by `patience` and `again` of `Gate.connect`."""
 
     def __init__(self, places: Sequence[Place], patience: float = 10.0, again: float = 0.0):
         self.places, self._patience, self._again = list(places), patience, again

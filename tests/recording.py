@@ -119,7 +119,7 @@ class Author:
 
 def write(path, number, documents, changes, over, all_rest, said):
     """A process that edits until it is told to end, and says what it knows once all do."""
-    with Gate.connect(path=path, again=LIMIT) as gate:
+    with Gate.connect(path=path, patience=LIMIT, again=LIMIT) as gate:
         author = Author(gate, number, documents, changes)
         said.send(None)
         while not over.is_set():

@@ -1,5 +1,5 @@
 """Records, on the program as it was built: what is in them, and that nothing is lost that was acknowledged, and nothing made
-twice, whenever a connection ends or the program is killed, where there is no memory, and where the disk is full."""
+twice, whenever a connection ends or the program is killed, and where the disk is full."""
 import base64
 import concurrent.futures
 import json
@@ -17,7 +17,7 @@ import time
 import unittest
 
 from program import PROGRAM, SMALL, built
-from recording import DOCUMENTS, Author, Authors, Fault, Gate, Recorder, recording
+from recording import DOCUMENTS, Author, Authors, Gate, Recorder, recording
 from serving import LIMIT, Serving, connected, free_port, line
 from test_again import Relay
 
@@ -29,9 +29,6 @@ WORK, BEGINS = 200_000, 0.03
 AUTHORS = 4
 # The seconds for which authors edit whose connections are cut.
 CUTTING = float(os.environ.get("GATE_CUTTING", "2"))
-
-# What the program may have, in MiB, so that edits are refused, and what the memory is filled by: bytes that cost the most.
-MEMORY, COSTLY = 40, b"\x1b$" * 32_768
 
 # The bytes that a disk has room for, in whole pages.
 DISK = 64 * resource.getpagesize()
@@ -167,7 +164,7 @@ class Recorded(unittest.TestCase):
     def opened(self, rng, labels):
         """The bytes of documents that are opened, in these encodings."""
         begin = {}
-        with Gate.connect(path=self.path) as gate:
+        with Gate.connect(path=self.path, patience=LIMIT) as gate:
             for label, codec, character in DOCUMENTS:
                 if label in labels:
                     begin[label] = "".join(rng.choice([character, "words", "\n"]) for _ in range(30)).encode(codec)
@@ -185,7 +182,7 @@ class Recorded(unittest.TestCase):
         """Each revision of a document is one edit that one author knows to be made, but for those that others edited before it
         was known, and all in their order lead from the bytes with which it was opened to those that the server has. No author
         knows of a later revision."""
-        with Gate.connect(path=self.path) as gate:
+        with Gate.connect(path=self.path, patience=LIMIT) as gate:
             for label, content in begin.items():
                 found = gate.join(label)
                 self.assertEqual([author.copies[label] for author in told], [(found.rev, found.bytes)] * AUTHORS)
@@ -218,7 +215,7 @@ class CutOff(Recorded):
         return relay
 
     def author(self, relay, number, rest):
-        with Gate.connect(path=relay.path, again=LIMIT) as gate:
+        with Gate.connect(path=relay.path, patience=LIMIT, again=LIMIT) as gate:
             author = Author(gate, number, [label for label, *_ in DOCUMENTS], changes=True)
             end = time.monotonic() + CUTTING
             while time.monotonic() < end:
@@ -265,38 +262,6 @@ class Killed(Recorded):
         self.assertGreater(made, 5 * KILLS)
         if "GATE_KILLS" in os.environ:
             print(f"{KILLS} kills: {made} edits, {met} met another's", flush=True)
-
-
-@recording
-class WithoutMemory(Recorded):
-    """The same where memory is bounded, and filled so that edits are refused."""
-
-    def test_nothing_is_lost_where_edits_are_refused(self):
-        rng = random.Random(0)
-        server = self.server(limits=with_little)
-        begin, authors = self.authors(rng, ["utf-8", "shift_jis"], changes=False)
-        with Gate.connect(path=self.path, again=LIMIT) as gate:
-            self.fill(gate)
-            for _ in range(KILLS):
-                server.killed(rng.randint(1, WORK), rng.random() * 0.01)
-            told = authors.told()
-            self.assertGreater(sum(it.refused for it in told), 0)
-            self.nothing_is_lost(begin, told)
-
-    def fill(self, gate):
-        """Opens documents until one is refused."""
-        for number in range(60):
-            try:
-                gate.open(f"costly {number}", "iso-2022-jp", COSTLY)
-            except Fault as fault:
-                self.assertEqual(fault.name, "OutOfMemory")
-                return
-        self.fail("there was memory for all")
-
-
-def with_little():
-    """What a process does so that it has little memory."""
-    resource.setrlimit(resource.RLIMIT_AS, (MEMORY << 20, MEMORY << 20))
 
 
 @recording
