@@ -645,18 +645,23 @@ const WITH_ROOM_FOR_NONE: [(Prefix, Option<&str>); 2] = [
     (Prefix::Nothing, None),
 ];
 
+/// Whether what a piece remembers beside the outcome that was entered last takes at most so many
+/// bytes.
+fn fits(piece: &Piece, most: u64) -> bool {
+    piece.fits(AnyState::Sniffing(Prefix::Ff), most)
+}
+
 /// Of the four outcomes those are forgotten that have no room.
 fn forgets_without_room(rt: &impl Abort, piece: &mut Piece) {
-    let first = AnyState::Sniffing(Prefix::Ff);
     let two = memory_of(piece, Prefix::Nothing).saturating_add(memory_of(piece, Prefix::Fe));
-    assert!(rt; !piece.fits(first, two));
+    assert!(rt; !fits(piece, two));
     piece.forget(two);
     are_remembered(rt, piece, &WITH_ROOM_FOR_TWO);
-    assert!(rt; piece.fits(first, two));
-    assert!(rt; !piece.fits(first, two.saturating_sub(1)));
+    assert!(rt; fits(piece, two));
+    assert!(rt; !fits(piece, two.saturating_sub(1)));
     piece.forget(0);
     are_remembered(rt, piece, &WITH_ROOM_FOR_NONE);
-    assert!(rt; piece.fits(first, 0));
+    assert!(rt; fits(piece, 0));
 }
 
 /// A fifth outcome forgets the one that was entered longest ago.
