@@ -154,7 +154,7 @@ impl OpenRuns {
         });
     }
 
-    /// The items of so many bytes, which take no more memory than they need: as runs, or one by one
+    /// The items of `bytes` bytes, which take no more memory than they need: as runs, or one by one
     /// where runs would take two bytes or more for each byte.
     pub(crate) fn finish(self, bytes: usize) -> Result<ItemRuns, AllocError>
         ensures { IfOk result (λ items. items ≡ items_under_way self.closed.items self.last) }

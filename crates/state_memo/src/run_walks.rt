@@ -53,7 +53,7 @@ pub(crate) fn scalars_until(runs: &[Run], limit: i64) -> u64
     count
 }
 
-/// The number of the item of runs that has code point number `n`, where there are so many.
+/// The number of the item of runs that has code point number `n`, where there is one.
 pub(crate) fn number_in(runs: &[Run], n: u64) -> Option<u64>
     requires { all_scalars (items_of_runs runs.now) < 2 ^ 64 }
     ensures { result ≡ item_of (items_of_runs runs.now) n }

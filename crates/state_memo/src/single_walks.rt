@@ -62,7 +62,7 @@ pub(crate) fn scalars_up_to(shapes: &[Shape], numbers: &[u8], from: i16, limit: 
     count
 }
 
-/// The number of the item that has code point number `n`, where there are so many.
+/// The number of the item that has code point number `n`, where there is one.
 pub(crate) fn number_at(shapes: &[Shape], numbers: &[u8], from: i16, n: u64) -> Option<u64>
     requires named { AreNamed (length shapes.now) numbers.now }
     ensures { result ≡ item_of (single_items from shapes.now numbers.now) n }

@@ -149,7 +149,7 @@ impl Singles {
         )
     }
 
-    /// The number of the item that has code point number `n`, where there are so many.
+    /// The number of the item that has code point number `n`, where there is one.
     pub(crate) fn item_of(&self, n: u64) -> Option<u64>
         ensures { result ≡ item_of self.now n }
     {

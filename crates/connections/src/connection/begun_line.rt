@@ -27,7 +27,7 @@ pub enum Line<'a> {
     Whole(&'a [u8]),
     /// It came in parts.
     Joined(Vec<u8>),
-    /// Its bytes were dropped. There were so many, counted up to the first that is too many.
+    /// Its bytes were dropped: how many, counted up to the first that is too many.
     Dropped(usize),
 }
 
@@ -121,7 +121,7 @@ impl<const LIMIT: usize> BegunLine<LIMIT> {
         }
     }
 
-    /// The bytes are dropped, of which there were so many; their memory is freed.
+    /// The bytes are dropped, `count` of them; their memory is freed.
     fn drop_bytes(&mut self, count: usize)
         ensures { self.new ≡ Dropped count }
     {
@@ -149,7 +149,7 @@ impl<const LIMIT: usize> BegunLine<LIMIT> {
     }
 }
 
-/// Appends bytes to a line that has at most so many. Where there is no memory for the longest line,
+/// Appends bytes to a line that has at most `limit`. Where there is no memory for the longest line,
 /// it takes what it must.
 fn append(line: &mut Vec<u8>, piece: &[u8], limit: usize) -> Result<(), AllocError>
     ensures { line.new.items ≡ (if is_ok result then line.old.items ++ piece.now else line.old.items) }

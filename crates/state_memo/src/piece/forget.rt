@@ -6,7 +6,7 @@ use crate::known::Known;
 use crate::piece::Piece;
 use codec::AnyState;
 
-/// What these outcomes leave of so many bytes of memory, where they don't take more.
+/// What these outcomes leave of `most` bytes of memory, where they don't take more.
 fn room_behind(known: &[Known], most: u64) -> Option<u64>
     ensures some { IfSome result (λ left. memory_of known.now + left ≡ most) }
     ensures none { IfNone result (most < memory_of known.now) }
@@ -22,14 +22,14 @@ fn room_behind(known: &[Known], most: u64) -> Option<u64>
     Some(left)
 }
 
-/// Whether these outcomes take at most so many bytes of memory.
+/// Whether these outcomes take at most `most` bytes of memory.
 fn has_room(known: &[Known], most: u64) -> bool
     ensures { result ≡ nat_le (memory_of known.now) most }
 {
     room_behind(known, most).is_some()
 }
 
-/// How many of these outcomes, from the first on, take at most so many bytes of memory.
+/// How many of these outcomes, from the first on, take at most `most` bytes of memory.
 fn count_fitting(known: &[Known], most: u64) -> usize
     ensures fitting { take result known.now ≡ fitting most known.now }
     ensures within { result ≤ length known.now }
@@ -46,7 +46,7 @@ fn count_fitting(known: &[Known], most: u64) -> usize
 }
 
 impl Piece {
-    /// Whether what is remembered from other states than this one takes at most so many bytes of
+    /// Whether what is remembered from other states than this one takes at most `most` bytes of
     /// memory.
     pub fn fits(&self, state: AnyState, most: u64) -> bool
         ensures { result ≡ nat_le (memory_of (without self.now.known state)) most }
@@ -61,7 +61,7 @@ impl Piece {
         }
     }
 
-    /// Forgets from the last on, but not the first, until those behind the first take at most so many
+    /// Forgets from the last on, but not the first, until those behind the first take at most `most`
     /// bytes of memory.
     pub fn forget(&mut self, most: u64)
         ensures { self.new ≡ record { bytes = self.old.bytes; known = spared most self.old.known } }
