@@ -192,9 +192,11 @@ def weights(size):
     yield "gb18030: 81 30 FF", lambda gate: gate.open("gb18030", filled(b"\x81\x30\xff", size)), 8
     yield "big5: 88 62 and FF", lambda gate: gate.open("big5", filled(b"\x88\x62\xff", size)), 8
     for unit in (b"\x1b\x24", b"\x0e", b"\x21\x21", b"\x31\x20"):
-        name = f"iso-2022-jp: {unit.hex(' ')} in four states, a further document"
-        yield name, lambda gate, unit=unit: in_states(gate, "iso-2022-jp", filled(unit, size), ESCAPES), 8
+        name = f"iso-2022-jp: {unit.hex(' ')} in four states"
+        yield name, lambda gate, unit=unit: (gate.open("iso-2022-jp", filled(unit, size)), in_turn(gate, ESCAPES)), 8
+        yield f"{name}, a further document", lambda gate, unit=unit: in_states(gate, "iso-2022-jp", filled(unit, size), ESCAPES), 8
     for name, data in (("81 20", lambda: filled(b"\x81\x20", size)), ("ordinary", lambda: ordinary(ORDINARY["shift_jis"], size))):
+        yield f"shift_jis: {name} under three marks", lambda gate, data=data: (gate.open("shift_jis", data()), in_turn(gate, MARKS)), 8
         yield f"shift_jis: {name} under three marks, a further document", lambda gate, data=data: in_states(gate, "shift_jis", data(), MARKS), 8
 
 
@@ -247,6 +249,7 @@ def diagnosed(gate, label, data):
 def times(size):
     """What is timed: a name, what takes how many milliseconds, and the most that it may take."""
     yield "iso-2022-jp: a splice at 0 over two states", lambda gate: remembered(gate, "iso-2022-jp", filled(b"\x21\x21", size), ESCAPES[:2]), 15
+    yield "iso-2022-jp: 1B 24, a splice at 0 over four states", lambda gate: remembered(gate, "iso-2022-jp", filled(b"\x1b\x24", size), ESCAPES), 15
     for label in ("shift_jis", "gb18030", "euc-kr", "big5"):
         name = f"{label}: a byte order mark in front of ordinary text taken out again"
         yield name, lambda gate, label=label: undone(gate, label, ordinary(ORDINARY[label], size), MARKS[0]), 15
