@@ -187,7 +187,7 @@ def longest(op: str, **fields: object) -> Callable[["Connecting"], float]:
     def call(connect: Connecting) -> float:
         content, session = opened("utf-8", LIMIT)
         with connect() as talk:
-            for line in session.bytes().splitlines(True):
+            for line in session.sent().splitlines(True):
                 talk.ask(line)
             end = json.loads(talk.ask(STAT))["utf32"]
             return microseconds(talk, [command(op, to=end, **{"from": 0}, **fields)] * 5)[0] / 1e3

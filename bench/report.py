@@ -9,10 +9,12 @@ import pathlib
 import re
 import statistics
 import subprocess
+from typing import Callable, Dict, Iterator, List, Tuple
 
 DOCS = pathlib.Path(__file__).resolve().parent.parent / "docs"
 BEGIN, END = "<!-- figures -->", "<!-- end of figures -->"
-UNITS = {"instructions": "thousands of instructions", "us": "microseconds", "faults": "page faults"}
+CODECS = "## Decoding and encoding alone"
+UNITS = {"instructions": "thousands of instructions", "us": "microseconds", "faults": "page faults", "KiB": "KiB of memory"}
 TITLES = {
     "edits": "Edits: a splice, a text of 100 code points, and the splice that takes it back",
     "changes": "Changes: a range change by line and character, and the one that takes it back",
@@ -22,6 +24,7 @@ TITLES = {
     "texts": "Texts: a 32nd as many code points as the document has bytes, as text and encoded in UTF-8",
     "opening": "Opening: a document opened, ten code points of it, and closed",
     "bulk": "Bulk: a document opened, an eighth of its bytes in code points as text and as UTF-8, its errors",
+    "many": "Many: 64 documents that stay open, each with a short text of it; of each",
     "lists-of-1": "Lists of one change by line and character, and the list that takes it back",
     "lists-of-10": "Lists of ten changes by line and character, and the list that takes them back",
     "line-starts": "The first line of a page of lines that starts anywhere",
@@ -34,39 +37,54 @@ TITLES = {
 }
 
 
+# A row of figures by the names of their columns; and of a table the head of a column, its figure, and the size that it is of.
+Row = Dict[str, str]
+Figure = Callable[[Row], str]
+Column = Tuple[str, Figure, int]
+# The rates at which the texts of an encoding are decoded and encoded.
+Rates = Dict[str, Dict[str, Tuple[int, int]]]
+
 # Of what is measured by time, memory is shown for these alone: what the others hold is the document of the edits.
 WITH_MEMORY = ("edits", "bulk")
+# And for these no floor: it takes less than one run differs from the next.
+WITHOUT_FLOOR = ("pages", "error-pages", "texts")
 
 
-def main():
+def main() -> None:
     words = argparse.ArgumentParser(description=__doc__)
-    words.add_argument("figures", nargs="+", help="what run.py printed, by time, by instructions or by page faults")
-    words.add_argument("--codecs", nargs=2, metavar=("OURS", "THEIRS"), help="what 'speed codecs' and codecs printed")
+    words.add_argument("figures", nargs="+", help="what run.py printed, by time, by instructions, by page faults or by memory")
+    words.add_argument("--codecs", nargs=2, metavar=("OURS", "THEIRS"), help="what 'speed codecs' and codecs printed; else those stay that are there")
     given = words.parse_args()
     files = [rows_of(name) for name in given.figures]
     page = DOCS / "SPEED.md"
     text = page.read_text()
     front, back = text[: text.index(BEGIN)], text[text.index(END) :]
     parts = [part for unit in UNITS for rows in files if unit_of(rows) == unit for part in tables(rows, unit)]
-    if given.codecs:
-        parts += ["## Decoding and encoding alone", codecs(*map(rates_in, given.codecs))]
+    parts += [CODECS, codecs(*map(rates_in, given.codecs))] if given.codecs else kept(text)
     page.write_text(front + "\n\n".join([BEGIN, machine(), *parts]) + "\n\n" + back)
     for rows in files:
         edits = [row for row in rows if row["kind"] == "edits" and row["ratio"]]
-        if unit_of(rows) == "us" and edits:
+        # (a curve has more than one size)
+        if unit_of(rows) == "us" and len({row["bytes"] for row in edits}) > 1:
             draw(edits)
 
 
-def rows_of(name):
+def kept(text: str) -> List[str]:
+    """The rates of codecs that the page has, where none were measured."""
+    figures = text[text.index(BEGIN) : text.index(END)]
+    return [figures[figures.index(CODECS) :].rstrip()] if CODECS in figures else []
+
+
+def rows_of(name: str) -> List[Row]:
     with open(name, newline="") as lines:
         return list(csv.DictReader(lines, delimiter="\t"))
 
 
-def unit_of(rows):
+def unit_of(rows: List[Row]) -> str:
     return next(unit for unit in UNITS if f"gate_{unit}" in rows[0])
 
 
-def tables(rows, unit):
+def tables(rows: List[Row], unit: str) -> Iterator[str]:
     """A heading, and a table for each kind that was measured."""
     yield f"## In {UNITS[unit]}"
     for kind in TITLES:
@@ -75,27 +93,30 @@ def tables(rows, unit):
             yield table(kind, own, unit)
 
 
-def machine():
-    model = re.search(r"model name\s*: (.*)", pathlib.Path("/proc/cpuinfo").read_text()).group(1)
+def machine() -> str:
+    model = re.findall(r"model name\s*: (.*)", pathlib.Path("/proc/cpuinfo").read_text())[0]
     return f"Measured on {datetime.date.today()}: {model}, {os.cpu_count()} processors."
 
 
-def table(kind, rows, unit):
+def table(kind: str, rows: List[Row], unit: str) -> str:
     """What gate takes at the least and the greatest size, and its memory; at the greatest size that both were measured
     with, the faster peer, and how many times gate's cost its is; at the greatest size the floor, and how many times its
     cost gate's is."""
     sizes = sorted({int(row["bytes"]) for row in rows})
     met = max((int(row["bytes"]) for row in rows if row["ratio"]), default=None)
     # Name of the column, its figure, and the size that it is of.
-    columns = [(f"{size // 1024} KiB", lambda row: row[f"gate_{unit}"], size) for size in dict.fromkeys((sizes[0], sizes[-1]))]
+    columns: List[Column] = [(f"{size // 1024} KiB", lambda row: row[f"gate_{unit}"], size) for size in dict.fromkeys((sizes[0], sizes[-1]))]
     if met:
-        faster = lambda row: min(row[f"peer_{unit}"], row[f"typed_{unit}"], key=float)
+        faster: Figure = lambda row: min(row[f"peer_{unit}"], row[f"typed_{unit}"], key=float)
         columns += [("faster peer", faster, met), ("over gate", lambda row: row["ratio"], met)]
-    # A floor that keeps its memory has no page faults.
-    if unit != "faults" and all(row[f"floor_{unit}"] for row in rows):
+    # A floor that keeps its memory has no page faults, and holds no document.
+    is_lost = unit in ("faults", "KiB") or (unit == "us" and kind in WITHOUT_FLOOR)
+    if not is_lost and all(row[f"floor_{unit}"] for row in rows):
         floor = lambda row: float(row[f"floor_{unit}"])
         columns += [("floor", lambda row: f"{floor(row):.2f}", sizes[-1])]
         columns += [("over floor", lambda row: f"{float(row[f'gate_{unit}']) / floor(row):.1f}", sizes[-1])]
+    if unit == "KiB":
+        columns += [("bytes a byte", lambda row: f"{float(row['gate_KiB']) * 1024 / int(row['bytes']):.2f}", sizes[-1])]
     if unit == "us" and kind in WITH_MEMORY:
         columns += [("MB", lambda row: row["gate_MB"], sizes[-1])]
         columns += [("peer's MB", lambda row: row["peer_MB"], met)] if met else []
@@ -107,21 +128,21 @@ def table(kind, rows, unit):
     return "\n".join(lines)
 
 
-def line(cells):
+def line(cells: List[str]) -> str:
     return "| " + " | ".join(cells) + " |"
 
 
-def rates_in(name):
+def rates_in(name: str) -> Rates:
     """The best rates of each encoding and text, decoded and encoded, of all runs in a file."""
-    best = {}
+    best: Rates = {}
     for found in re.finditer(r"(\S+) +(\w+) +(\d+) +(\d+) MB/s", pathlib.Path(name).read_text()):
-        encoding, text, *rates = found.groups()
+        encoding, text, decoded, encoded = found.groups()
         known = best.setdefault(encoding, {}).get(text, (0, 0))
-        best[encoding][text] = tuple(map(max, known, map(int, rates)))
+        best[encoding][text] = (max(known[0], int(decoded)), max(known[1], int(encoded)))
     return best
 
 
-def codecs(ours, theirs):
+def codecs(ours: Rates, theirs: Rates) -> str:
     """MB/s decoded, and how many times encoding_rs's rate it is; for encoding the latter alone."""
     texts = list(next(iter(ours.values())))
     heads = ["encoding", *(f"{text} decoded" for text in texts), *(f"{text} encoded" for text in texts)]
@@ -134,7 +155,7 @@ def codecs(ours, theirs):
     return "\n".join(lines)
 
 
-def draw(rows):
+def draw(rows: List[Row]) -> None:
     """One curve a program: the geometric mean over the encodings at each size."""
     points = []
     for size in sorted({int(row["bytes"]) for row in rows}):

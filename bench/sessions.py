@@ -3,7 +3,7 @@
 import base64
 import json
 import random
-from collections import namedtuple
+from typing import Callable, Dict, List, NamedTuple, Tuple
 
 # Ordinary text of each encoding: words of its usual letters, with spaces, digits, tags and line ends.
 SAMPLES = {
@@ -23,6 +23,9 @@ ERRORS = {"utf-16le": b"\x00\xd8"}
 ANY_ERROR = b"\xff"
 ERRING = tuple(label for label in SAMPLES if label != "windows-1251")
 
+# What makes a session of rounds, by an encoding, how many bytes a document has, and how many rounds there are.
+Sessions = Callable[[str, int, int], bytes]
+
 # The most bytes of a document, and how many a document here lacks to them, for what its session puts in.
 LIMIT, SPARE = 16_777_216, 4096
 
@@ -30,13 +33,14 @@ LIMIT, SPARE = 16_777_216, 4096
 PART = 2_097_152
 
 
-def document(label, size, seed=1, error=b""):
+def document(label: str, size: int, seed: int = 1, error: bytes = b"") -> bytes:
     """Bytes of about this size, cut into lines; they decode without errors, but for one of these at each line's end."""
     text, codec = SAMPLES[label]
     size = min(size, LIMIT - SPARE)
     words = text.split(" ")
     rng = random.Random(f"{label} {size} {seed}")
-    parts, length = [], 0
+    parts: List[bytes] = []
+    length = 0
     while length < size:
         line = " ".join(rng.choice(words) for _ in range(rng.randrange(3, 15)))
         part = line.encode(codec, "ignore") + error + "\r\n".encode(codec)
@@ -47,29 +51,29 @@ def document(label, size, seed=1, error=b""):
     return b"".join(parts)
 
 
-def b64(data):
+def b64(data: bytes) -> str:
     return base64.b64encode(data).decode()
 
 
 class Session:
     """Commands with numbers in a row, and the revision that the next edit names."""
 
-    def __init__(self):
-        self.lines = []
+    def __init__(self) -> None:
+        self.lines: List[str] = []
         self.revision = 0
 
-    def add(self, op, **fields):
+    def add(self, op: str, **fields: object) -> None:
         self.lines.append(json.dumps({"id": len(self.lines), "op": op, **fields}, ensure_ascii=False))
 
-    def edit(self, op, **fields):
+    def edit(self, op: str, **fields: object) -> None:
         self.add(op, rev=self.revision, **fields)
         self.revision += 1
 
-    def bytes(self):
+    def sent(self) -> bytes:
         return "".join(line + "\n" for line in self.lines).encode()
 
 
-def edits(label, size, count):
+def edits(label: str, size: int, count: int) -> bytes:
     """Splices of ASCII letters behind line ends, each with a short text behind it, taken back by the next."""
     data, session = opened(label, size)
     rng = random.Random(f"edits {label} {size}")
@@ -80,10 +84,10 @@ def edits(label, size, count):
         session.edit("splice", doc="d", at=at, **{"del": 0}, bytes=b64(letter))
         session.add("text", doc="d", **{"from": 100, "to": 200})
         session.edit("splice", doc="d", at=at, **{"del": len(letter)}, bytes="")
-    return session.bytes()
+    return session.sent()
 
 
-def changes(label, size, count):
+def changes(label: str, size: int, count: int) -> bytes:
     """Changes by line and character, each taken back by the next."""
     data, session = opened(label, size)
     lines = len(line_starts(label, data))
@@ -93,10 +97,10 @@ def changes(label, size, count):
         start, end = {"line": line, "character": 0}, {"line": line, "character": 2}
         session.edit("change", doc="d", range={"start": start, "end": start}, text="ab")
         session.edit("change", doc="d", range={"start": start, "end": end}, text="")
-    return session.bytes()
+    return session.sent()
 
 
-def positions(label, size, count):
+def positions(label: str, size: int, count: int) -> bytes:
     """Positions and offsets in each unit in a document that stays as it is."""
     data, session = opened(label, size)
     session.add("stat", doc="d")
@@ -106,10 +110,10 @@ def positions(label, size, count):
     for n in range(count):
         session.add("offset", doc="d", line=rng.randrange(lines), character=0, unit=units[n % 3])
         session.add("position", doc="d", offset=rng.randrange(len(data) // 4), unit=units[n % 3])
-    return session.bytes()
+    return session.sent()
 
 
-def pages(label, size, count):
+def pages(label: str, size: int, count: int) -> bytes:
     """Pages of a thousand lines, and ranges of a thousand code points in UTF-8."""
     data, session = opened(label, size)
     session.add("stat", doc="d")
@@ -119,20 +123,20 @@ def pages(label, size, count):
         session.add("lines", doc="d", **{"from": rng.randrange(lines), "max": 1000})
         start = rng.randrange(len(data) // 8)
         session.add("encode", doc="d", **{"from": start, "to": start + 1000}, label="utf-8")
-    return session.bytes()
+    return session.sent()
 
 
-def error_pages(label, size, count):
+def error_pages(label: str, size: int, count: int) -> bytes:
     """Pages of a thousand errors, in a document with an error on each line."""
     data, session = opened(label, size, ERRORS.get(label, ANY_ERROR))
     errors = len(line_starts(label, data))
     rng = random.Random(f"error pages {label} {size}")
     for _ in range(count):
         session.add("errors", doc="d", **{"from": rng.randrange(errors), "max": 1000})
-    return session.bytes()
+    return session.sent()
 
 
-def texts(label, size, count):
+def texts(label: str, size: int, count: int) -> bytes:
     """Long ranges of code points, each as text and in UTF-8."""
     _, session = opened(label, size)
     session.add("stat", doc="d")
@@ -142,10 +146,10 @@ def texts(label, size, count):
         of = {"from": start, "to": start + size // 32}
         session.add("text", doc="d", **of)
         session.add("encode", doc="d", **of, label="utf-8")
-    return session.bytes()
+    return session.sent()
 
 
-def openings(label, size, count):
+def openings(label: str, size: int, count: int) -> bytes:
     """Documents opened one after another, each with a short text of it, and closed."""
     data = b64(document(label, size))
     session = Session()
@@ -153,10 +157,10 @@ def openings(label, size, count):
         session.add("open", doc="d", label=label, bytes=data)
         session.add("text", doc="d", **{"from": 0, "to": 10})
         session.add("close", doc="d")
-    return session.bytes()
+    return session.sent()
 
 
-def bulk(label, size, count):
+def bulk(label: str, size: int, count: int) -> bytes:
     """Documents opened one after another: a long text of each, the same range in UTF-8, and its errors."""
     data = document(label, size)
     session = Session()
@@ -166,13 +170,23 @@ def bulk(label, size, count):
         session.add("text", doc=name, **{"from": 0, "to": size // 8})
         session.add("encode", doc=name, **{"from": 0, "to": size // 8}, label="utf-8")
         session.add("errors", doc=name, **{"from": 0, "max": 100})
-    return session.bytes()
+    return session.sent()
 
 
-def lists(of):
+def many(label: str, size: int, count: int) -> bytes:
+    """Documents that stay open, each with a short text of it, by which all of it is decoded."""
+    data = b64(document(label, size))
+    session = Session()
+    for n in range(count):
+        session.add("open", doc=f"d{n}", label=label, bytes=data)
+        session.add("text", doc=f"d{n}", **{"from": 0, "to": 10})
+    return session.sent()
+
+
+def lists(of: int) -> Sessions:
     """Lists of so many changes by line and character, each list taken back by the next."""
 
-    def session_of(label, size, count):
+    def session_of(label: str, size: int, count: int) -> bytes:
         data, session = opened(label, size)
         lines = len(line_starts(label, data))
         rng = random.Random(f"lists of {of} {label} {size}")
@@ -184,67 +198,67 @@ def lists(of):
             taken = [{"range": {"start": start, "end": end}, "text": ""} for start, end in zip(starts, ends)]
             session.edit("changes", doc="d", changes=put)
             session.edit("changes", doc="d", changes=taken)
-        return session.bytes()
+        return session.sent()
 
     return session_of
 
 
-def line_starts_asked(label, size, count):
+def line_starts_asked(label: str, size: int, count: int) -> bytes:
     """The first line of a page that starts anywhere."""
     data, session = opened(label, size)
     lines = len(line_starts(label, data))
     rng = random.Random(f"line starts {label} {size}")
     for _ in range(count):
         session.add("lines", doc="d", **{"from": rng.randrange(lines), "max": 1})
-    return session.bytes()
+    return session.sent()
 
 
-def error_starts_asked(label, size, count):
+def error_starts_asked(label: str, size: int, count: int) -> bytes:
     """The first error of a page that starts anywhere, in a document with an error on each line."""
     data, session = opened(label, size, ERRORS.get(label, ANY_ERROR))
     errors = len(line_starts(label, data))
     rng = random.Random(f"error starts {label} {size}")
     for _ in range(count):
         session.add("errors", doc="d", **{"from": rng.randrange(errors), "max": 1})
-    return session.bytes()
+    return session.sent()
 
 
-def last_bytes(label, size, count):
+def last_bytes(label: str, size: int, count: int) -> bytes:
     """The last thousand bytes."""
     data, session = opened(label, size)
     for _ in range(count):
         session.add("source", doc="d", at=len(data) - 1000, len=1000)
-    return session.bytes()
+    return session.sent()
 
 
-def last_text(label, size, count):
+def last_text(label: str, size: int, count: int) -> bytes:
     """The last thousand code points."""
     data, session = opened(label, size)
     end = len(data.decode(SAMPLES[label][1]))
     for _ in range(count):
         session.add("text", doc="d", **{"from": end - 1000, "to": end})
-    return session.bytes()
+    return session.sent()
 
 
-def put_in_front(letter_of):
+def put_in_front(letter_of: Callable[[str], bytes]) -> Sessions:
     """Splices of the same bytes at the front, each taken back by the next."""
 
-    def session_of(label, size, count):
+    def session_of(label: str, size: int, count: int) -> bytes:
         _, session = opened(label, size)
         put = letter_of(label)
         for _ in range(count):
             session.edit("splice", doc="d", at=0, **{"del": 0}, bytes=b64(put))
             session.edit("splice", doc="d", at=0, **{"del": len(put)}, bytes="")
-        return session.bytes()
+        return session.sent()
 
     return session_of
 
 
-def letter(label):
+def letter(label: str) -> bytes:
     return "a".encode("utf-16-le" if label == "utf-16le" else "ascii")
 
 
-def opened(label, size, error=b""):
+def opened(label: str, size: int, error: bytes = b"") -> Tuple[bytes, Session]:
     """The bytes of a document, and a session that opens it, by parts where it is long, and has its text made."""
     data = document(label, size, error=error)
     session = Session()
@@ -255,7 +269,7 @@ def opened(label, size, error=b""):
     return data, session
 
 
-def line_starts(label, data):
+def line_starts(label: str, data: bytes) -> List[int]:
     """Places behind a line end, where a letter can be put in: every encoding is in its first state there."""
     end = "\r\n".encode("utf-16-le") if label == "utf-16le" else b"\r\n"
     places, at = [], data.find(end)
@@ -272,26 +286,37 @@ PEER_SIZES = ("64K", "256K", "1M", "2M")
 # Those at which what grows with a document shows.
 GROWING = ("64K", "2M", "16M")
 
-# How many rounds each program takes: the peer's are the first of gate's, and none of what it doesn't know.
-Rounds = namedtuple("Rounds", "gate peer")
-# What its session is, its rounds, and the sizes and encodings that it is measured with.
-Kind = namedtuple("Kind", "session rounds sizes encodings", defaults=(PEER_SIZES, tuple(SAMPLES)))
+class Rounds(NamedTuple):
+    """How many rounds each program takes: the peer's are the first of gate's, and none of what it doesn't know."""
+
+    gate: int
+    peer: int
 
 
-def of_gate(session, rounds, encodings=tuple(SAMPLES)):
+class Kind(NamedTuple):
+    """What its session is, its rounds, and the sizes and encodings that it is measured with."""
+
+    session: Sessions
+    rounds: Rounds
+    sizes: Tuple[str, ...] = PEER_SIZES
+    encodings: Tuple[str, ...] = tuple(SAMPLES)
+
+
+def of_gate(session: Sessions, rounds: int, encodings: Tuple[str, ...] = tuple(SAMPLES)) -> Kind:
     """A kind that gate alone is measured with."""
     return Kind(session, Rounds(rounds, 0), GROWING, encodings)
 
 
-KINDS = {
-    "edits": Kind(edits, Rounds(2000, 50), (*PEER_SIZES, "16M")),
-    "changes": Kind(changes, Rounds(2000, 30), (*PEER_SIZES, "16M")),
+KINDS: Dict[str, Kind] = {
+    "edits": Kind(edits, Rounds(2000, 10), (*PEER_SIZES, "16M")),
+    "changes": Kind(changes, Rounds(2000, 5), (*PEER_SIZES, "16M")),
     "positions": Kind(positions, Rounds(5000, 5000)),
-    "pages": Kind(pages, Rounds(200, 200)),
-    "error-pages": Kind(error_pages, Rounds(200, 200), encodings=ERRING),
-    "texts": Kind(texts, Rounds(100, 100)),
-    "opening": Kind(openings, Rounds(40, 40), ("64K", "2M")),
+    "pages": Kind(pages, Rounds(600, 600)),
+    "error-pages": Kind(error_pages, Rounds(600, 600), encodings=ERRING),
+    "texts": Kind(texts, Rounds(300, 300)),
+    "opening": Kind(openings, Rounds(20, 20), ("64K", "2M")),
     "bulk": Kind(bulk, Rounds(10, 10)),
+    "many": Kind(many, Rounds(64, 64), ("64K", "2M")),
     "lists-of-1": Kind(lists(1), Rounds(2000, 30), GROWING),
     "lists-of-10": Kind(lists(10), Rounds(500, 3), GROWING),
     "line-starts": of_gate(line_starts_asked, 20_000),
