@@ -23,7 +23,7 @@ errors_few (p ∷ ps) =
     let place : Place = record { from = p.from; to = p.to } in
     omega (arith, length-append (error_place p.item place) (error_places ps), error-counted p.item place, one_few (is_an_error p.item), errors_few ps)
 
--- the units of code points of which each has at most so many
+-- the units of code points of which each has at most `most`
 units_few : (width : ℕ → ℕ) (most : ℕ) → ((c : ℕ) → width c ≤ most) → (cs : List ℕ) → total_width width cs ≤ most * length cs
 units_few width most each [] = omega arith
 units_few width most each (c ∷ cs) = grind (arith, each c, units_few width most each cs)

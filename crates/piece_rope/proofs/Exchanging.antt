@@ -30,7 +30,7 @@ made-in ps fresh behind first last order within =
     cc (take-append-le first (take last ps) behind (omega (arith, long, order)), take-take first last ps order, drop_at (take last ps) behind last long) in
     e
 
--- so many taken out in front of a run, which gives way to others
+-- n taken out in front of a run, which gives way to others
 exchanged-in : (ps back : List Entry) (first last n : ℕ) → first + n ≤ last → last ≤ length ps → (now : List Entry) → now ≡ take first ps ++ drop (last - n) ps
     → with_run now first (first + n) back ≡ take first ps ++ (back ++ drop last ps)
 exchanged-in ps back first last n order within now now_is =

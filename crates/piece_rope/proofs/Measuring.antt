@@ -21,7 +21,7 @@ sized-at least [] k p s at = absurd cc
 sized-at least (x ∷ ps) zero p s at = let e : x ≡ p = cc in rw (← e) (s.0, s.1)
 sized-at least (x ∷ ps) (suc k) p s at = sized-at least ps k p s.2 at
 
--- a step further, by at most so many bytes
+-- a step further, by at most `longest` bytes
 pub before-step : (ps : List Entry) (k : ℕ) → AreSized 1 ps → bytes_before ps (suc k) ≤ bytes_before ps k + longest
 before-step ps k s = elim (cases_lt k (length ps)) [
   | inl l ↦ let p = element ps k l in omega (arith, bytes-next ps k p.0 p.1, (sized-at 1 ps k p.0 s p.1).1)

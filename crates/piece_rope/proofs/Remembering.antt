@@ -1,14 +1,14 @@
 -- What a piece remembers stays its own.
-use Rattle.std.proofs.Common.{◌≡◌, ◌≤◌, ◌-◌, ℕ, refl, sym, ap, ◌∙◌, zero, suc, Bool, true, false, ◌&&◌, nat_le, List, [], ◌∷◌, take, length-append, Option, Some, None, option_map, cond, arith}
-use Rattle.std.proofs.lemmas.List.Sums.{sum_by-cons, sum_by-take-le}
+use Rattle.std.proofs.Common.{◌≡◌, ◌≤◌, ◌-◌, ℕ, refl, sym, ap, ◌∙◌, zero, suc, Bool, true, false, nat_le, List, [], ◌∷◌, take, drop, length, length-append, Option, Some, None, option_map, cond, arith}
+use Rattle.std.proofs.lemmas.List.Sums.{sum_by-cons}
 use Rattle.state_memo.specs.declared.known.Known.{Known}
 use Rattle.piece_rope.proofs.Prelude.{feed, AnyState, AnyDecoding, any, Outcome, Contents, contents_of, outcome_of, ending_of, sum_of, Memo}
 use Rattle.state_memo.specs.Memo.{fitting, memory_of, put_first, spared}
-use Rattle.piece_rope.specs.Chain.{others_of}
-use Rattle.piece_rope.specs.Room.{all_beside, beside, has_room, pared, room_in}
-use Rattle.piece_rope.proofs.Prelude.{is_some, same_state, recalled, without, installed, entered, Entry, AreRight, IsOwn, IsRenewed, Chain, bytes_of, le-leb, leb-true}
+use Rattle.piece_rope.specs.Chain.{known_then}
+use Rattle.piece_rope.specs.Entry.{here_of, outcome_or}
+use Rattle.piece_rope.specs.Room.{all_beside, beside, piece_room, room_in}
+use Rattle.piece_rope.proofs.Prelude.{is_some, same_state, recalled, without, installed, entered, Entry, AreRight, IsOwn, IsRenewed, Chain, bytes_of, leb-true}
 use Rattle.piece_rope.proofs.Chaining.{Laws}
-use Rattle.piece_rope.proofs.Lists.{take-take}
 
 module _ (d : AnyDecoding) (laws : Laws d) (bytes : List ℕ) where
   right-pick : (b : Bool) (x y : List Known) → AreRight d bytes x → AreRight d bytes y → AreRight d bytes (cond b x y)
@@ -47,6 +47,10 @@ module _ (d : AnyDecoding) (laws : Laws d) (bytes : List ℕ) where
   right-fitting most (k ∷ ks) r =
       right-pick (nat_le k.outcome.memory most) (k ∷ fitting (most - k.outcome.memory) ks) [] (r.0, right-fitting (most - k.outcome.memory) ks r.1) tt
 
+  right-rest : (ks : List Known) → AreRight d bytes ks → AreRight d bytes (drop 1 ks)
+  right-rest [] r = tt
+  right-rest (k ∷ ks) r = r.1
+
   pub exit-recalled : (ks : List Known) (s : AnyState) (o : Outcome) → AreRight d bytes ks → recalled ks s ≡ Some o → o.exit ≡ (feed (any d) s bytes).state
   exit-recalled ks s o r found = ap (λ (x : Contents). x.exit) (right-recalled ks s o r found) ∙ laws.exit s bytes
 
@@ -76,10 +80,6 @@ module _ (d : AnyDecoding) (laws : Laws d) where
   recalled-entered : (ks : List Known) (t s : AnyState) → recalled (entered ks t) s ≡ recalled ks s
   recalled-entered ks t s = recalled-put (recalled ks t) ks t s refl
 
-behind-first : (b : Bool) (x y : List Known) → b ≡ true → cond b x y ≡ x
-behind-first true x y e = refl
-behind-first false x y e = absurd cc
-
 -- what has room
 abbrev memory : Known → ℕ
 memory k = k.outcome.memory
@@ -93,97 +93,87 @@ memory-fitting most [] = omega arith
 memory-fitting most (k ∷ ks) =
     room-for (nat_le k.outcome.memory most) k (fitting (most - k.outcome.memory) ks) most refl (memory-fitting (most - k.outcome.memory) ks)
 
-memory-take : (n : ℕ) (ks : List Known) → memory_of (take n ks) ≤ memory_of ks
-memory-take n ks = sum_by-take-le memory ks n
+several-by : (b : Bool) (k : Known) (rest : List Known) (most : ℕ) → nat_le k.outcome.memory most ≡ b → memory_of rest ≤ most - k.outcome.memory
+    → 2 ≤ length (k ∷ drop 1 (cond b (k ∷ rest) [])) → memory_of (k ∷ drop 1 (cond b (k ∷ rest) [])) ≤ most
+several-by true k rest most fits few several = omega (arith, leb-true k.outcome.memory most fits, few, sum_by-cons memory k rest)
+several-by false k rest most fits few several = absurd (omega (arith, several))
 
-fitting-all : (most : ℕ) (ks : List Known) → memory_of ks ≤ most → fitting most ks ≡ ks
-fitting-all most [] few = refl
-fitting-all most (k ∷ ks) few =
-    let all = sum_by-cons memory k ks in
-    behind-first (nat_le k.outcome.memory most) (k ∷ fitting (most - k.outcome.memory) ks) [] (le-leb k.outcome.memory most (omega (arith, few, all)))
-    ∙ ap (λ (xs : List Known). k ∷ xs) (fitting-all (most - k.outcome.memory) ks (omega (arith, few, all)))
+-- several that were spared have room together
+several-spared : (most : ℕ) (ks : List Known) → 2 ≤ length (spared most ks) → memory_of (spared most ks) ≤ most
+several-spared most [] several = omega arith
+several-spared most (k ∷ ks) several =
+    several-by (nat_le k.outcome.memory most) k (fitting (most - k.outcome.memory) ks) most refl (memory-fitting (most - k.outcome.memory) ks) several
 
-take-either : (b : Bool) (n : ℕ) (k : Known) (xs ys : List Known) → take n xs ≡ ys → take (suc n) (cond b (k ∷ xs) []) ≡ cond b (k ∷ ys) []
-take-either true n k xs ys e = ap (λ (zs : List Known). k ∷ zs) e
-take-either false n k xs ys e = refl
+fewer : (b : Bool) (k : Known) (ks rest : List Known) → memory_of rest ≤ memory_of ks → memory_of (cond b ks (k ∷ rest)) ≤ memory_of (k ∷ ks)
+fewer true k ks rest few = omega (arith, sum_by-cons memory k ks)
+fewer false k ks rest few = omega (arith, few, sum_by-cons memory k ks, sum_by-cons memory k rest)
 
-take-fitting : (n most : ℕ) (ks : List Known) → take n (fitting most ks) ≡ fitting most (take n ks)
-take-fitting zero most ks = refl
-take-fitting (suc n) most [] = refl
-take-fitting (suc n) most (k ∷ ks) =
-    take-either (nat_le k.outcome.memory most) n k (fitting (most - k.outcome.memory) ks) (fitting (most - k.outcome.memory) (take n ks)) (take-fitting n (most - k.outcome.memory) ks)
+memory-without : (ks : List Known) (s : AnyState) → memory_of (without ks s) ≤ memory_of ks
+memory-without [] s = omega arith
+memory-without (k ∷ ks) s = fewer (same_state k.entry s) k ks (without ks s) (memory-without ks s)
+
+sole : (b : Bool) (k : Known) (most : ℕ) → is_some (cond b (Some k.outcome) None) ≡ true → memory_of (cond b [] (k ∷ [])) ≤ most
+sole true k most known = omega arith
+sole false k most known = absurd cc
+
+-- where several have room together, and a sole one is that of this state, the others have room
+room-beside : (ks : List Known) (s : AnyState) (most : ℕ) → is_some (recalled ks s) ≡ true → (2 ≤ length ks → memory_of ks ≤ most) → memory_of (without ks s) ≤ most
+room-beside [] s most known room = omega arith
+room-beside (k ∷ []) s most known room = sole (same_state k.entry s) k most known
+room-beside (k ∷ l ∷ ks) s most known room = omega (arith, room (omega arith), memory-without (k ∷ l ∷ ks) s)
 
 -- what is put first is found
 found-first : (b : Bool) (o : Outcome) (rest : Option Outcome) → b ≡ true → cond b (Some o) rest ≡ Some o
 found-first true o rest e = refl
 found-first false o rest e = absurd cc
 
+there : (r : Option Outcome) (x : Contents) → option_map contents_of r ≡ Some x → is_some r ≡ true
+there None x e = absurd cc
+there (Some o) x e = refl
+
 module _ (d : AnyDecoding) (laws : Laws d) where
-  -- a piece whose first outcome is that from the state in which it is entered, and whose others have room
-  own-first : (bytes : List ℕ) (s : AnyState) (o : Outcome) (rest : List Known) → contents_of o ≡ outcome_of d s bytes → AreRight d bytes rest → memory_of rest ≤ room_in bytes
+  -- a piece whose first outcome is that from the state in which it is entered, and which has room for all where these are several
+  own-first : (bytes : List ℕ) (s : AnyState) (o : Outcome) (rest : List Known) → contents_of o ≡ outcome_of d s bytes → AreRight d bytes rest
+      → (2 ≤ length (record { entry = s; outcome = o } ∷ rest) → memory_of (record { entry = s; outcome = o } ∷ rest) ≤ room_in bytes)
       → IsOwn d (record { piece = record { bytes = bytes; known = record { entry = s; outcome = o } ∷ rest }; entry = s })
   own-first bytes s o rest is right room = record {
     right = (is, right);
     here_is = ap (option_map contents_of) (found-first (same_state s s) o (recalled rest s) (laws.same s)) ∙ ap Some is;
-    lean = rw (behind-first (same_state s s) rest (record { entry = s; outcome = o } ∷ without rest s) (laws.same s)) room;
+    lean = room;
   }
 
   -- what else it remembers, as far as there is room
   own-spared : (bytes : List ℕ) (s : AnyState) (o : Outcome) (ks : List Known) → contents_of o ≡ outcome_of d s bytes → AreRight d bytes ks
-      → IsOwn d (record { piece = record { bytes = bytes; known = record { entry = s; outcome = o } ∷ fitting (room_in bytes) ks }; entry = s })
+      → IsOwn d (record { piece = record { bytes = bytes; known = spared (piece_room bytes) (record { entry = s; outcome = o } ∷ ks) }; entry = s })
   own-spared bytes s o ks is right =
-      own-first bytes s o (fitting (room_in bytes) ks) is (right-fitting d laws bytes (room_in bytes) ks right) (memory-fitting (room_in bytes) ks)
-
-  own-shared : (p : Entry) (s : AnyState) (o : Outcome) → IsOwn d p → recalled p.piece.known s ≡ Some o → has_room p s ≡ true → IsOwn d (record { piece = p.piece; entry = s })
-  own-shared p s o own found room = record {
-    right = own.right;
-    here_is = ap (option_map contents_of) found ∙ ap Some (right-recalled d laws p.piece.bytes p.piece.known s o own.right found);
-    lean = leb-true _ _ room;
-  }
-
-  -- the last one entered stays among what is remembered, and this one comes first
-  first-two : (p : Entry) (s : AnyState) (o : Outcome) → recalled p.piece.known s ≡ Some o
-      → entered (entered p.piece.known p.entry) s ≡ record { entry = s; outcome = o } ∷ without (entered p.piece.known p.entry) s
-  first-two p s o found =
-      let ks = entered p.piece.known p.entry in
-      ap (λ (r : Option Outcome). put_first r ks s) (recalled-entered d laws p.piece.known p.entry s ∙ found)
-
-  trimmed-is : (p : Entry) (s : AnyState) (o : Outcome) → recalled p.piece.known s ≡ Some o
-      → spared (room_in p.piece.bytes) (entered (entered p.piece.known p.entry) s) ≡ record { entry = s; outcome = o } ∷ fitting (room_in p.piece.bytes) (without (entered p.piece.known p.entry) s)
-  trimmed-is p s o found = ap (spared (room_in p.piece.bytes)) (first-two p s o found)
-
-  own-trimmed : (p : Entry) (s : AnyState) (o : Outcome) → IsOwn d p → recalled p.piece.known s ≡ Some o
-      → IsOwn d (record { piece = record { bytes = p.piece.bytes; known = spared (room_in p.piece.bytes) (entered (entered p.piece.known p.entry) s) }; entry = s })
-  own-trimmed p s o own found =
-      let ks = without (entered p.piece.known p.entry) s in
-      rw (trimmed-is p s o found) (own-spared p.piece.bytes s o ks (right-recalled d laws p.piece.bytes p.piece.known s o own.right found)
-      (right-without d laws p.piece.bytes (entered p.piece.known p.entry) s (right-entered d laws p.piece.bytes p.piece.known p.entry own.right)))
-
-  own-by : (b : Bool) (p : Entry) (s : AnyState) (o : Outcome) → IsOwn d p → recalled p.piece.known s ≡ Some o → has_room p s ≡ b
-      → IsOwn d (record { piece = cond b p.piece (record { bytes = p.piece.bytes; known = spared (room_in p.piece.bytes) (entered (entered p.piece.known p.entry) s) }); entry = s })
-  own-by true p s o own found room = own-shared p s o own found room
-  own-by false p s o own found room = own-trimmed p s o own found
+      let all : List Known = record { entry = s; outcome = o } ∷ ks in
+      let room = piece_room bytes in
+      own-first bytes s o (drop 1 (fitting room all)) is (right-rest d laws bytes (fitting room all) (right-fitting d laws bytes room all (is, right)))
+      (λ several. omega (arith, several-spared room all several))
 
   -- a piece entered in a state that it remembers
-  pub own-pared : (p : Entry) (m : Memo) (s : AnyState) (o : Outcome) → IsOwn d p → recalled p.piece.known s ≡ Some o → m ≡ pared p s → IsOwn d (record { piece = m; entry = s })
-  own-pared p m s o own found is = rw is (own-by (has_room p s) p s o own found refl)
+  pub own-shared : (p : Entry) (m : Memo) (s : AnyState) (o : Outcome) → IsOwn d p → recalled p.piece.known s ≡ Some o → m ≡ p.piece → IsOwn d (record { piece = m; entry = s })
+  own-shared p m s o own found is = rw is (record {
+    right = own.right;
+    here_is = ap (option_map contents_of) found ∙ ap Some (right-recalled d laws p.piece.bytes p.piece.known s o own.right found);
+    lean = own.lean;
+  })
 
-  pub known-pared : (p : Entry) (m : Memo) (s : AnyState) (o : Outcome) → recalled p.piece.known s ≡ Some o → m ≡ pared p s → is_some (recalled m.known s) ≡ true
-  known-pared p m s o found is = rw is (known-by (has_room p s))
-    where
-      known-by : (b : Bool) → is_some (recalled (cond b p.piece (record { bytes = p.piece.bytes; known = spared (room_in p.piece.bytes) (entered (entered p.piece.known p.entry) s) })).known s) ≡ true
-      known-by true = ap is_some found
-      known-by false = ap (λ (ks : List Known). is_some (recalled ks s)) (trimmed-is p s o found)
-          ∙ ap is_some (found-first (same_state s s) o (recalled (fitting (room_in p.piece.bytes) (without (entered p.piece.known p.entry) s)) s) (laws.same s))
+  pub known-shared : (p : Entry) (m : Memo) (s : AnyState) (o : Outcome) → recalled p.piece.known s ≡ Some o → m ≡ p.piece → is_some (recalled m.known s) ≡ true
+  known-shared p m s o found is = rw is (ap is_some found)
+
+  -- what is found first once it was computed
+  found-computed : (room : ℕ) (ks : List Known) (s : AnyState) (o : Outcome) → recalled (spared room (installed ks s o)) s ≡ Some o
+  found-computed room ks s o =
+      found-first (same_state s s) o (recalled (drop 1 (fitting room (record { entry = s; outcome = o } ∷ take 3 (without ks s)))) s) (laws.same s)
 
   pub known-computed : (p : Entry) (m : Memo) (s : AnyState) (o : Outcome)
-      → m ≡ record { bytes = p.piece.bytes; known = spared (room_in p.piece.bytes) (installed (entered p.piece.known p.entry) s o) } → is_some (recalled m.known s) ≡ true
-  known-computed p m s o is =
-      rw is (ap is_some (found-first (same_state s s) o (recalled (fitting (room_in p.piece.bytes) (take 3 (without (entered p.piece.known p.entry) s))) s) (laws.same s)))
+      → m ≡ record { bytes = p.piece.bytes; known = spared (piece_room p.piece.bytes) (installed (entered p.piece.known p.entry) s o) } → is_some (recalled m.known s) ≡ true
+  known-computed p m s o is = rw is (ap is_some (found-computed (piece_room p.piece.bytes) (entered p.piece.known p.entry) s o))
 
   -- and in one from which it was computed
   pub own-computed : (p : Entry) (m : Memo) (s : AnyState) (o : Outcome) → IsOwn d p → contents_of o ≡ outcome_of d s p.piece.bytes
-      → m ≡ record { bytes = p.piece.bytes; known = spared (room_in p.piece.bytes) (installed (entered p.piece.known p.entry) s o) } → IsOwn d (record { piece = m; entry = s })
+      → m ≡ record { bytes = p.piece.bytes; known = spared (piece_room p.piece.bytes) (installed (entered p.piece.known p.entry) s o) } → IsOwn d (record { piece = m; entry = s })
   own-computed p m s o own is m_is =
       let ks = without (entered p.piece.known p.entry) s in
       rw m_is (own-spared p.piece.bytes s o (take 3 ks) is
@@ -192,18 +182,20 @@ module _ (d : AnyDecoding) (laws : Laws d) where
   -- a new piece
   pub own-made : (bytes : List ℕ) (m : Memo) (s : AnyState) (o : Outcome) → contents_of o ≡ outcome_of d s bytes → m ≡ record { bytes = bytes; known = installed [] s o }
       → IsOwn d (record { piece = m; entry = s })
-  own-made bytes m s o is m_is = rw m_is (own-first bytes s o [] is tt (omega arith))
+  own-made bytes m s o is m_is = rw m_is (own-first bytes s o [] is tt (λ several. absurd (omega (arith, several))))
 
   -- what pieces in a row remember beside has room in all their bytes
   pub all-lean : (s : AnyState) (ps : List Entry) → Chain d s ps → all_beside ps ≤ room_in (bytes_of ps)
   all-lean s [] c = omega arith
   all-lean s (p ∷ ps) c =
-      omega (arith, c.1.lean, all-lean (feed (any d) s p.piece.bytes).state ps c.2, sum_by-cons beside p ps, length-append p.piece.bytes (bytes_of ps))
+      let own = c.1 in
+      let room = room-beside p.piece.known p.entry (room_in p.piece.bytes) (there (recalled p.piece.known p.entry) (outcome_of d p.entry p.piece.bytes) own.here_is) own.lean in
+      omega (arith, room, all-lean (feed (any d) s p.piece.bytes).state ps c.2, sum_by-cons beside p ps, length-append p.piece.bytes (bytes_of ps))
 
 -- a piece that remembers an outcome more, and forgets then what has no room
 pub made-spared : (moved more less made : Memo) (bytes : List ℕ) (known : List Known) (s : AnyState) (o : Outcome) (room : ℕ) → moved ≡ record { bytes = bytes; known = known }
-    → more ≡ record { bytes = moved.bytes; known = installed moved.known s o } → room ≡ room_in bytes → less ≡ record { bytes = more.bytes; known = spared room more.known } → made ≡ less
-    → made ≡ record { bytes = bytes; known = spared (room_in bytes) (installed known s o) }
+    → more ≡ record { bytes = moved.bytes; known = installed moved.known s o } → room ≡ piece_room bytes → less ≡ record { bytes = more.bytes; known = spared room more.known } → made ≡ less
+    → made ≡ record { bytes = bytes; known = spared (piece_room bytes) (installed known s o) }
 made-spared moved more less made bytes known s o room moved_is more_is room_is less_is made_is =
     let all : more ≡ record { bytes = bytes; known = installed known s o } = more_is ∙ ap (λ (m : Memo). record { bytes = m.bytes; known = installed m.known s o }) moved_is in
     made_is
@@ -211,70 +203,34 @@ made-spared moved more less made bytes known s o room moved_is more_is room_is l
     ∙ ap (λ (m : Memo). record { bytes = m.bytes; known = spared room m.known }) all
     ∙ ap (λ (n : ℕ). record { bytes = bytes; known = spared n (installed known s o) }) room_is
 
--- what else the piece remembered is still there, as far as there is room
-present : (r : Option Outcome) (o : Outcome) (b : Bool) (x y : List Known) → r ≡ Some o → b ≡ true → cond (is_some r && b) x y ≡ x
-present (Some z) o true x y e f = refl
-present (Some z) o false x y e f = absurd cc
-present None o b x y e f = absurd cc
+-- what the piece remembers then
+present : (r : Option Outcome) (o : Outcome) (x y : List Known) → r ≡ Some o → cond (is_some r) x y ≡ x
+present (Some z) o x y e = refl
+present None o x y e = absurd cc
 
-absent : (r : Option Outcome) (b : Bool) (x y : List Known) → r ≡ None → cond (is_some r && b) x y ≡ y
-absent None b x y e = refl
-absent (Some z) b x y e = absurd cc
-
-crowded : (r : Bool) (b : Bool) (x y : List Known) → b ≡ false → cond (r && b) x y ≡ y
-crowded true false x y e = refl
-crowded false false x y e = refl
-crowded r true x y e = absurd cc
+absent : (r : Option Outcome) (x y : List Known) → r ≡ None → cond (is_some r) x y ≡ y
+absent None x y e = refl
+absent (Some z) x y e = absurd cc
 
 module _ (d : AnyDecoding) (laws : Laws d) where
-  renewed-shared : (p : Entry) (s : AnyState) (o : Outcome) → recalled p.piece.known s ≡ Some o → has_room p s ≡ true → IsRenewed p (record { piece = p.piece; entry = s })
-  renewed-shared p s o found room =
-      let ks = without p.piece.known s in
-      record {
-        bytes = refl;
-        others = sym (fitting-all (room_in p.piece.bytes) (take 3 ks) (omega (arith, leb-true (memory_of ks) (room_in p.piece.bytes) room, memory-take 3 ks)))
-            ∙ ap (λ (xs : List Known). fitting (room_in p.piece.bytes) (take 3 xs))
-            (sym (present (recalled p.piece.known s) o (has_room p s) ks (without (entered p.piece.known p.entry) s) found room));
-      }
+  -- what it remembers once this is computed
+  abbrev then_known : Entry → AnyState → Outcome → List Known
+  then_known p s o = spared (piece_room p.piece.bytes) (installed (entered p.piece.known p.entry) s o)
 
-  -- behind its first outcome a piece has these, as far as there is room
-  renewed-first : (p : Entry) (s : AnyState) (o : Outcome) (ks : List Known) → others_of p s ≡ ks
-      → IsRenewed p (record { piece = record { bytes = p.piece.bytes; known = record { entry = s; outcome = o } ∷ fitting (room_in p.piece.bytes) ks }; entry = s })
-  renewed-first p s o ks is =
-      let rest = fitting (room_in p.piece.bytes) ks in
-      record {
-        bytes = refl;
-        others = ap (λ (xs : List Known). take 3 xs) (behind-first (same_state s s) rest (record { entry = s; outcome = o } ∷ without rest s) (laws.same s))
-            ∙ take-fitting 3 (room_in p.piece.bytes) ks
-            ∙ ap (λ (xs : List Known). fitting (room_in p.piece.bytes) (take 3 xs)) (sym is);
-      }
-
-  renewed-trimmed : (p : Entry) (s : AnyState) (o : Outcome) → recalled p.piece.known s ≡ Some o → has_room p s ≡ false
-      → IsRenewed p (record { piece = record { bytes = p.piece.bytes; known = spared (room_in p.piece.bytes) (entered (entered p.piece.known p.entry) s) }; entry = s })
-  renewed-trimmed p s o found room =
-      let ks = without (entered p.piece.known p.entry) s in
-      rw (trimmed-is d laws p s o found) (renewed-first p s o ks (crowded (is_some (recalled p.piece.known s)) (has_room p s) (without p.piece.known s) ks room))
-
-  renewed-by : (b : Bool) (p : Entry) (s : AnyState) (o : Outcome) → recalled p.piece.known s ≡ Some o → has_room p s ≡ b
-      → IsRenewed p (record { piece = cond b p.piece (record { bytes = p.piece.bytes; known = spared (room_in p.piece.bytes) (entered (entered p.piece.known p.entry) s) }); entry = s })
-  renewed-by true p s o found room = renewed-shared p s o found room
-  renewed-by false p s o found room = renewed-trimmed p s o found room
-
-  pub renewed-pared : (p : Entry) (m : Memo) (s : AnyState) (o : Outcome) → recalled p.piece.known s ≡ Some o → m ≡ pared p s → IsRenewed p (record { piece = m; entry = s })
-  renewed-pared p m s o found is = rw is (renewed-by (has_room p s) p s o found refl)
+  pub renewed-shared : (p : Entry) (m : Memo) (s : AnyState) (o : Outcome) → recalled p.piece.known s ≡ Some o → m ≡ p.piece → IsRenewed p (record { piece = m; entry = s })
+  renewed-shared p m s o found is = rw is (record {
+    bytes = refl;
+    known = sym (present (recalled p.piece.known s) o p.piece.known (then_known p s (here_of (record { piece = p.piece; entry = s }))) found);
+  })
 
   pub renewed-computed : (p : Entry) (m : Memo) (s : AnyState) (o : Outcome) → recalled p.piece.known s ≡ None
-      → m ≡ record { bytes = p.piece.bytes; known = spared (room_in p.piece.bytes) (installed (entered p.piece.known p.entry) s o) } → IsRenewed p (record { piece = m; entry = s })
+      → m ≡ record { bytes = p.piece.bytes; known = spared (piece_room p.piece.bytes) (installed (entered p.piece.known p.entry) s o) } → IsRenewed p (record { piece = m; entry = s })
   renewed-computed p m s o none is =
-      let ks = without (entered p.piece.known p.entry) s in
-      let room = room_in p.piece.bytes in
+      let here = ap (outcome_or s) (found-computed d laws (piece_room p.piece.bytes) (entered p.piece.known p.entry) s o) in
       rw is (record {
         bytes = refl;
-        others = ap (λ (xs : List Known). take 3 xs)
-            (behind-first (same_state s s) (fitting room (take 3 ks)) (record { entry = s; outcome = o } ∷ without (fitting room (take 3 ks)) s) (laws.same s))
-            ∙ take-fitting 3 room (take 3 ks)
-            ∙ ap (fitting room) (take-take 3 3 ks (omega arith))
-            ∙ ap (λ (xs : List Known). fitting room (take 3 xs)) (sym (absent (recalled p.piece.known s) (has_room p s) (without p.piece.known s) ks none));
+        known = ap (then_known p s) (sym here)
+            ∙ sym (absent (recalled p.piece.known s) p.piece.known (then_known p s (outcome_or s (recalled (then_known p s o) s))) none);
       })
 
 pub ending-exit : (d : AnyDecoding) (s : AnyState) (o : Outcome) → contents_of o ≡ ending_of d s → o.exit ≡ s

@@ -1,11 +1,12 @@
 -- Pieces in a row, each entered in the state behind those before it.
-use Rattle.std.specs.Prelude.{◌≡◌, ◌≤◌, ℕ, List, [], ◌∷◌, take, flat_map, Some, is_some, option_map, ◌&&◌, if◌then◌else◌}
+use Rattle.std.specs.Prelude.{◌≡◌, ◌≤◌, ℕ, List, [], ◌∷◌, length, flat_map, Some, is_some, option_map, if◌then◌else◌}
 use Rattle.state_memo.specs.Decoding.{feed, AnyDecoding, AnyState, any}
 use Rattle.state_memo.specs.declared.known.Known.{Known}
 use Rattle.state_memo.specs.Outcome.{contents_of, outcome_of}
-use Rattle.state_memo.specs.Memo.{recalled, without, entered, fitting}
-use Rattle.piece_rope.specs.Entry.{Entry, here}
-use Rattle.piece_rope.specs.Room.{beside, has_room, room_in}
+use Rattle.state_memo.specs.declared.outcome.Outcome.{Outcome}
+use Rattle.state_memo.specs.Memo.{entered, installed, memory_of, recalled, spared}
+use Rattle.piece_rope.specs.Entry.{Entry, here, here_of}
+use Rattle.piece_rope.specs.Room.{piece_room, room_in}
 
 -- the bytes of pieces, in order
 abbrev pub bytes_of : List Entry → List ℕ
@@ -16,11 +17,11 @@ abbrev pub AreRight : AnyDecoding → List ℕ → List Known → Type 0
 AreRight d bytes [] = Unit {0}
 AreRight d bytes (k ∷ ks) = (contents_of k.outcome ≡ outcome_of d k.entry bytes) × AreRight d bytes ks
 
--- the piece remembers its own outcomes alone, and among them that from the state in which it is entered, and the others have room
+-- the piece remembers its own outcomes alone, and among them that from the state in which it is entered; several have room together
 pub record IsOwn (d : AnyDecoding) (p : Entry) : Type 0 where
   pub right : AreRight d p.piece.bytes p.piece.known
   pub here_is : option_map contents_of (here p) ≡ Some (outcome_of d p.entry p.piece.bytes)
-  pub lean : beside p ≤ room_in p.piece.bytes
+  pub lean : 2 ≤ length p.piece.known → memory_of p.piece.known ≤ room_in p.piece.bytes
 
 -- each piece is entered in the state behind the one before, the first in `s`, and remembers its own outcomes
 abbrev pub Chain : AnyDecoding → AnyState → List Entry → Type 0
@@ -41,15 +42,16 @@ renewed ps [] = ps
 renewed [] (r ∷ rs) = []
 renewed (p ∷ ps) (r ∷ rs) = renew p r ∷ renewed ps rs
 
--- what it remembers from states other than this one: as it was where this one is among them and the others have room, and else that from where it
--- is entered first
-abbrev pub others_of : Entry → AnyState → List Known
-others_of p s = if is_some (recalled p.piece.known s) && has_room p s then without p.piece.known s else without (entered p.piece.known p.entry) s
+-- what it remembers once it is entered in a state from where it decodes to this: what it did, where that state is among it; else this first, then
+-- what it decodes to from the state in which it was entered, and then the others, but for a fifth and as far as all have room together
+abbrev pub known_then : Entry → AnyState → Outcome → List Known
+known_then p s o =
+    if is_some (recalled p.piece.known s) then p.piece.known else spared (piece_room p.piece.bytes) (installed (entered p.piece.known p.entry) s o)
 
--- it keeps its bytes, and what it remembers from other states, but for a fifth and as far as there is room
+-- it keeps its bytes
 pub record IsRenewed (p r : Entry) : Type 0 where
   pub bytes : r.piece.bytes ≡ p.piece.bytes
-  pub others : take 3 (without r.piece.known r.entry) ≡ fitting (room_in p.piece.bytes) (take 3 (others_of p r.entry))
+  pub known : r.piece.known ≡ known_then p r.entry (here_of r)
 
 -- so does each of the first pieces
 abbrev pub AreRenewed : List Entry → List Entry → Type 0

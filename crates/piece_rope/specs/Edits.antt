@@ -54,7 +54,7 @@ splice_fault bytes at del ins =
 unfoldable pub source_fault : List ℕ → ℕ → ℕ → Option DocFault
 source_fault bytes at len = if nat_le (at + len) (length bytes) then None else Some OutOfRange
 
--- what refuses a range of so many, and a number among so many
+-- what refuses a range in a list of n, and a number in it
 unfoldable pub range_fault : ℕ → ℕ → ℕ → Option DocFault
 range_fault count i j = if nat_le i j && nat_le j count then None else Some OutOfRange
 

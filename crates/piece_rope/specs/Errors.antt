@@ -29,7 +29,7 @@ abbrev pub last_from : ℕ → ℕ → List Entry → ℕ
 last_from base from [] = from
 last_from base from (p ∷ ps) = last_from (base + (here_of p).sum.bytes) (last_at base from (here_of p).items) ps
 
--- the errors of all pieces and of the end behind them, behind a byte order mark of so many bytes
+-- the errors of all pieces and of the end behind them, behind a byte order mark, whose length comes first
 abbrev pub all_errors : ℕ → List Entry → Outcome → List Place
 all_errors bom ps tail = errors_from 0 bom ps ++ errors_at (sums_of ps).bytes (last_from 0 bom ps) tail.items
 

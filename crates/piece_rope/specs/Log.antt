@@ -27,7 +27,7 @@ abbrev pub tail_before : Outcome → List LoggedEdit → Outcome
 tail_before tail [] = tail
 tail_before tail (e ∷ es) = e.tail
 
--- an edit can be taken back, where there is room for so many pieces
+-- an edit can be taken back, where there is room for `room` pieces
 pub record GoesBack (room : ℕ) (ps : List Entry) (e : LoggedEdit) : Type 0 where
   pub within : e.first + e.put ≤ length ps
   pub room_is : length (before_edit ps e) ≤ room
@@ -38,7 +38,7 @@ abbrev pub GoBack : ℕ → List Entry → List LoggedEdit → Type 0
 GoBack room ps [] = Unit {0}
 GoBack room ps (e ∷ es) = GoBack room ps es × GoesBack room (before_all ps es) e
 
--- so many pieces have room
+-- the number of pieces that have room
 abbrev pub room_of : Listed Entry → ℕ
 room_of ps = length ps.items + ps.spare
 

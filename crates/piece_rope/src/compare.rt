@@ -42,7 +42,7 @@ fn made_counted(edited: Edited<'_>, most: u64) -> Option<u64>
     Some(left)
 }
 
-/// Whether the text that the edit would leave has so many code points. Only numbers are read.
+/// Whether the text that the edit would leave has `wanted` code points. Only numbers are read.
 fn has_scalars(edited: Edited<'_>, wanted: u64) -> bool
     ensures { Decides result (length (text_in (edited_parts edited.entry.pieces.now.items edited.entry.edit.now)) ≡ wanted) }
 {

@@ -4,7 +4,6 @@ ghost use Rattle.state_memo.specs.Decoding.{feed, any, AnyState};
 ghost use Rattle.piece_rope.specs.Chain.{IsOwn, IsRenewed};
 ghost use Rattle.piece_rope.specs.Entry.{here_of};
 ghost use Rattle.piece_rope.specs.Laws.{IsLawful};
-ghost use Rattle.piece_rope.specs.Room.{pared};
 
 use crate::limits::room_in;
 use state_memo::{AnyDecoder, AnyState, Meter, OutOfMemory, Outcome, Piece, Sum};
@@ -59,28 +58,9 @@ impl Entered {
         Ok((Entered { piece, entry }, exit))
     }
 
-    /// The piece as it is, where what it remembers from other states than this one has room. Else a
-    /// piece of its own, which shares bytes and outcomes with this one: the one from this state first,
-    /// then that from the state in which this piece is entered, and others as far as there is room.
-    fn pared(&self, alloc: Global, entry: AnyState) -> Result<Rc<Piece>, OutOfMemory>
-        ensures { IfOk result (λ p. p.value ≡ pared self.now entry) }
-    {
-        let (sought, next, last) = (entry, entry, self.entry);
-        let room = room_in(self.bytes());
-        if self.piece.fits(sought, room) {
-            return Ok(self.piece.clone()?);
-        }
-        let mut piece = self.piece.copy()?;
-        piece.move_first(last);
-        piece.move_first(next);
-        piece.forget(room);
-        Ok(Rc::new(alloc, piece)?)
-    }
-
     /// The piece entered in another state, and the state behind it then; this one stays as it is.
-    /// Where the piece remembers what it decodes to from there, it is shared, but for what has no room
-    /// then. Else it is a piece of its own, which shares bytes and remembered outcomes with this one, as
-    /// far as these have room.
+    /// Where the piece remembers what it decodes to from there, it is shared. Else it is a piece of its
+    /// own, which shares bytes and remembered outcomes with this one, as far as all have room together.
     pub(crate) fn renewed(
         &self,
         alloc: Global,
@@ -97,10 +77,10 @@ impl Entered {
         ensures meter_most { meter.new ≤ meter.old + length self.now.piece.bytes }
         ensures meter_least { meter.old ≤ meter.new }
     {
-        let (sought, found, from, new, last) = (entry, entry, entry, entry, self.entry);
+        let (sought, from, new, last) = (entry, entry, entry, self.entry);
         if let Some(outcome) = self.piece.peek(sought) {
             let exit = outcome.exit;
-            let shared = self.pared(alloc, found)?;
+            let shared = self.piece.clone()?;
             return Ok((
                 Entered {
                     piece: shared,

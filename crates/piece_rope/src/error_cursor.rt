@@ -69,6 +69,41 @@ fn go_to(runs: &mut Runs<'_>, base: u64, from: u64, n: u64) -> (u64, u64)
     ensures there { IfSome (slice_get runs.new 0) (λ run. result.1 < errors_in (items_of_run run)) }
     ensures few { IfSome (slice_get runs.new 0) (λ _. result.1 + 1 < 2 ^ 64) }
 {
+    let Some(listed) = runs.as_listed() else {
+        return go_on_to(runs, base, from, n);
+    };
+    let (rest, begin, left) = go_along(listed, base, from, n);
+    *runs = Runs::listed(rest);
+    (begin, left)
+}
+
+/// The same over runs that are a slice, which is left from the run with that error on.
+// In the loops over errors.
+#[inline(always)]
+fn go_along<'r>(runs: &'r [Run], base: u64, from: u64, n: u64) -> (&'r [Run], u64, u64)
+    ensures same { drop result.2 (errors_at base result.1 (items_of_runs result.0.now)) ≡ drop n (errors_at base from (items_of_runs runs.now)) }
+    ensures there { IfSome (slice_get result.0.now 0) (λ run. result.2 < errors_in (items_of_run run)) }
+    ensures few { IfSome (slice_get result.0.now 0) (λ _. result.2 + 1 < 2 ^ 64) }
+{
+    let (mut rest, mut begin, mut left) = (runs, from, n);
+    'runs: while let Some((run, later)) = rest.split_first() {
+        let count = run.errors();
+        if left < count {
+            break;
+        }
+        left -= count;
+        begin = base.saturating_add_signed(i64::from(run.last));
+        rest = later;
+    }
+    (rest, begin, left)
+}
+
+/// The same over any runs.
+fn go_on_to(runs: &mut Runs<'_>, base: u64, from: u64, n: u64) -> (u64, u64)
+    ensures same { drop result.1 (errors_at base result.0 (items_of_runs runs.new)) ≡ drop n (errors_at base from (items_of_runs runs.old)) }
+    ensures there { IfSome (slice_get runs.new 0) (λ run. result.1 < errors_in (items_of_run run)) }
+    ensures few { IfSome (slice_get runs.new 0) (λ _. result.1 + 1 < 2 ^ 64) }
+{
     let (mut begin, mut left) = (from, n);
     'runs: while let Some(run) = runs.first() {
         let count = run.errors();

@@ -17,7 +17,7 @@ pub(crate) struct Fresh {
     pub exit: AnyState,
 }
 
-/// How many bytes the next piece takes of so many.
+/// How many bytes the next piece takes where `len` are left.
 fn part_of(len: usize) -> usize
     ensures within { result ≤ len }
     ensures small { result ≤ longest }

@@ -2,7 +2,7 @@
 ghost use Rattle.std.specs.Prelude.{◌≡◌, ◌+◌, ◌≤◌, length, IfOk, OnOk};
 ghost use Rattle.piece_rope.specs.Chain.{bytes_of};
 ghost use Rattle.piece_rope.specs.Edits.{Faults, document_limit, source_fault, splice_fault, spliced};
-ghost use Rattle.piece_rope.specs.Room.{room_in};
+ghost use Rattle.piece_rope.specs.Room.{piece_room};
 ghost use Rattle.piece_rope.specs.Sizes.{AreCounted};
 
 use crate::fault::DocFault;
@@ -18,16 +18,15 @@ pub const LONGEST_PIECE: usize = 2_048;
 /// The fewest bytes that a piece has in a document of several pieces.
 pub const SHORTEST_PIECE: usize = 512;
 
-/// How many bytes of memory a document remembers outcomes in for each of its bytes, at most, beside
-/// those from the states in which its pieces are entered.
-const MOST_REMEMBERED: u64 = 2;
+/// How many bytes of memory a piece of several outcomes remembers them in for each of its bytes, at
+/// most: the one from the state in which it is entered and the others.
+const MOST_REMEMBERED: u64 = 6;
 
-/// How many bytes of memory a piece of these bytes may remember outcomes in, beside that from the state
-/// in which it is entered.
+/// How many bytes of memory a piece of these bytes may remember several outcomes in.
 pub(crate) fn room_in(bytes: &[u8]) -> u64
-    ensures { result ≡ room_in bytes.now }
+    ensures { result ≡ piece_room bytes.now }
 {
-    bytes.len() as u64 * MOST_REMEMBERED
+    (bytes.len() as u64).saturating_mul(MOST_REMEMBERED)
 }
 
 /// Where a splice cuts the bytes, as sizes in memory: from and to. Refused with `OutOfRange` and

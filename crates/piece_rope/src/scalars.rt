@@ -40,7 +40,7 @@ fn offset_of(text: &str, n: u64) -> Option<usize>
     Some(at)
 }
 
-/// The first `n` code points of the text and those behind them, where it has so many.
+/// The first `n` code points of the text and those behind them; `None` where it has fewer.
 pub(crate) fn split_at_scalar(text: &str, n: u64) -> Option<(&str, &str)>
     ensures variant { is_some result ≡ nat_le n (length (chars text.now)) }
     ensures front { IfSome result (λ x. x.0.now ≡ encode_utf8_all (take n (chars text.now))) }

@@ -27,7 +27,7 @@ lead-encode c rest =
     (λ h1. cond_both (nat_lt c 65536) _ _ (Led rest) (λ h. let n : c < 65536 = grind (arith, nat_tests) in led rest (224 + c / 4096) (next (c / 64) ∷ next c ∷ []) (three (c / 4096) (omega arith)))
     (λ h2. led rest (240 + c / 262144) (next (c / 4096) ∷ next (c / 64) ∷ next c ∷ []) (four (c / 262144)))))
 
--- a text that begins with this byte begins with a code point of so many bytes
+-- the text begins with a code point, whose first byte is `lead`
 pub record IsNext (bytes : List ℕ) (lead : ℕ) : Type 0 where
   pub code_point : ℕ
   pub rest : List ℕ

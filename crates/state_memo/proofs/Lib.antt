@@ -16,4 +16,3 @@ pub mod SingleWalks
 pub mod Splitting
 pub mod Walking
 pub mod Walks
-pub mod Weighing

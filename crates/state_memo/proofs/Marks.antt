@@ -108,13 +108,13 @@ ends-none f (x ∷ xs) h = let some = slice_get-get_or (x ∷ xs) (length (x ∷
 -- ---- a text's bytes as they are read
 
 pub first-read : (text bytes : List ℕ) (b : ℕ) → IsUtf8 text → bytes ≡ text → Some b ≡ slice_get bytes 0 → (b == lf) ≡ begins_lf (chars text)
-first-read text bytes b spelt same e = first-is bytes b (sym e) ∙ ap begins_lf same ∙ first-lf text spelt
+first-read text bytes b valid same e = first-is bytes b (sym e) ∙ ap begins_lf same ∙ first-lf text valid
 
 pub none-read : (text bytes : List ℕ) → IsUtf8 text → bytes ≡ text → None ≡ slice_get bytes 0 → false ≡ begins_lf (chars text)
-none-read text bytes spelt same e = first-none bytes (sym e) ∙ ap begins_lf same ∙ first-lf text spelt
+none-read text bytes valid same e = first-none bytes (sym e) ∙ ap begins_lf same ∙ first-lf text valid
 
 pub last-read : (f : Bool) (text bytes : List ℕ) (b : ℕ) → IsUtf8 text → bytes ≡ text → Some b ≡ slice_get bytes (length bytes - 1) → (b == cr) ≡ ends_cr f (chars text)
-last-read f text bytes b spelt same e = sym (ends-last f bytes b (sym e)) ∙ ap (ends_cr f) same ∙ ends-bytes f text spelt
+last-read f text bytes b valid same e = sym (ends-last f bytes b (sym e)) ∙ ap (ends_cr f) same ∙ ends-bytes f text valid
 
 pub none-last : (f : Bool) (text bytes : List ℕ) → IsUtf8 text → bytes ≡ text → None ≡ slice_get bytes (length bytes - 1) → f ≡ ends_cr f (chars text)
-none-last f text bytes spelt same e = sym (ends-none f bytes (sym e)) ∙ ap (ends_cr f) same ∙ ends-bytes f text spelt
+none-last f text bytes valid same e = sym (ends-none f bytes (sym e)) ∙ ap (ends_cr f) same ∙ ends-bytes f text valid

@@ -47,7 +47,7 @@ cut-at text k at u w =
 same-some : (x y : ℕ) → Some x ≡ Some y → x ≡ y
 same-some x y e = cc
 
--- where a text has so many code points
+-- where a text has n code points
 pub scalar-cut : (text : List ℕ) (n at : ℕ) → IsUtf8 text → n ≤ length (chars text) → Some at ≡ scalar_place (chars text) n → IsCut text n at
 scalar-cut text n at u few e =
     cut-at text n at u (same-some _ _ (e ∙ cond-true (nat_le n (length (chars text))) (Some (total_width utf8_width (take n (chars text)))) None (grind (arith, nat_tests, few))))

@@ -51,10 +51,10 @@ until-more kind step width more last same =
 pub at-start : (from : ℤ) → from ≡ from +ℤ pos 0
 at-start from = omega (arith, ints)
 
--- so many bytes at the front are code points whose items were taken: those of the closed runs, and the last `more` and one of the run that is open
+-- `at` bytes at the front are code points whose items were taken: those of the closed runs, and the last `more` and one of the run that is open
 pub record IsWalked (stride : Stride) (kind : ItemKind) (output : OutputState) (text : List ℕ) (from : ℤ) (before : List Ended) (capacity at : ℕ) (closed : List Run) (count : ℕ) (last : ℤ) (more step : ℕ) : Type 0 where
   pub within : at ≤ length text
-  pub spelt : IsUtf8 (drop at text)
+  pub valid : IsUtf8 (drop at text)
   pub front : List ℕ
   pub parts : chars text ≡ front ++ chars (drop at text)
   pub place : last ≡ from +ℤ pos (run_width stride front)
@@ -74,9 +74,9 @@ fits text rest at c parts =
     let some = (len_utf8_bounds c).0 in
     omega (arith, all, some)
 
--- a code point begins behind so many bytes, which by its first byte has so many, and as long an item
+-- a code point begins behind `at` bytes, which by its first byte has `len`, and whose item has `width`
 pub record IsItemAt (stride : Stride) (text : List ℕ) (at len width : ℕ) : Type 0 where
-  pub spelt : IsUtf8 (drop at text)
+  pub valid : IsUtf8 (drop at text)
   pub some : at < length text
   pub len_is : len ≡ continuation_len (get_or text at 0) + 1
   pub wide : (c : ℕ) → len ≡ len_utf8 c → width ≡ width_of stride c
@@ -84,8 +84,8 @@ pub record IsItemAt (stride : Stride) (text : List ℕ) (at len width : ℕ) : T
 -- by the lengths of items
 pub item-at : {stride : Stride} {bytes text : List ℕ} {at len : ℕ} (widths : List ℕ) → ((c : ℕ) → get_or widths (len_utf8 c - 1) 0 ≡ width_of stride c) → bytes ≡ text → at < length bytes → IsUtf8 (drop at text)
     → len ≡ continuation_len (get_or bytes at 0) + 1 → IsItemAt stride text at len (get_or widths (len - 1) 0)
-item-at {at = at} widths widths_are same some spelt len_is = record {
-  spelt = spelt;
+item-at {at = at} widths widths_are same some valid len_is = record {
+  valid = valid;
   some = omega (arith, some, ap length same);
   len_is = len_is ∙ ap (λ (bs : List ℕ). continuation_len (get_or bs at 0) + 1) same;
   wide = λ c e. ap (λ (n : ℕ). get_or widths (n - 1) 0) e ∙ widths_are c;
@@ -96,7 +96,7 @@ wide-of stride widths widths_are c e = ap (λ (n : ℕ). get_or widths (n - 1) 0
 
 module _ {stride : Stride} {text : List ℕ} {at len width : ℕ} (here : IsItemAt stride text at len width) where
   next : IsNext (drop at text) (get_or text at 0)
-  next = next-is (drop at text) (get_or text at 0) here.spelt (omega (arith, length-drop at text, here.some)) (ap (λ (n : ℕ). get_or text n 0) (omega arith) ∙ sym (get_or-drop at text 0 0))
+  next = next-is (drop at text) (get_or text at 0) here.valid (omega (arith, length-drop at text, here.some)) (ap (λ (n : ℕ). get_or text n 0) (omega arith) ∙ sym (get_or-drop at text 0 0))
 
   long : len ≡ len_utf8 next.code_point
   long = here.len_is ∙ next.len
@@ -107,11 +107,11 @@ module _ {stride : Stride} {text : List ℕ} {at len width : ℕ} (here : IsItem
   pub next-within : at + len ≤ length text
   next-within = omega (arith, long, fits text next.rest at next.code_point next.parts)
 
-  next-spelt : IsUtf8 (drop (at + len) text)
-  next-spelt = rw behind (IsUtf8-past_char (drop at text) next.rest next.code_point here.spelt next.parts)
+  next-valid : IsUtf8 (drop (at + len) text)
+  next-valid = rw behind (IsUtf8-past_char (drop at text) next.rest next.code_point here.valid next.parts)
 
   next-parts : chars (drop at text) ≡ next.code_point ∷ chars (drop (at + len) text)
-  next-parts = chars_past_char (drop at text) next.rest next.code_point here.spelt next.parts ∙ ap (λ (bs : List ℕ). next.code_point ∷ chars bs) (sym behind)
+  next-parts = chars_past_char (drop at text) next.rest next.code_point here.valid next.parts ∙ ap (λ (bs : List ℕ). next.code_point ∷ chars bs) (sym behind)
 
   one-less : length (chars (drop at text)) ≡ suc (length (chars (drop (at + len) text)))
   one-less = ap length next-parts
@@ -156,7 +156,7 @@ module _ {stride : Stride} {text : List ℕ} {at len width : ℕ} (here : IsItem
           → IsWalked stride kind output text from before capacity (at + len) closed count end more step
       next-walked before taken capacity count room closed end more step end_is taken_is items_are some few = record {
         within = next-within;
-        spelt = next-spelt;
+        valid = next-valid;
         front = front ++ next.code_point ∷ [];
         parts = next-front;
         place = end_is ∙ next-place;
@@ -257,7 +257,7 @@ module _ (stride : Stride) (kind : ItemKind) (output : OutputState) (text : List
   walked-alike (suc n) at more last alike held =
       let first = alike 0 (omega arith) in
       let item : IsItemAt stride text at len width = record {
-        spelt = held.spelt;
+        valid = held.valid;
         some = subst (λ (m : ℕ). m < length text) (omega arith) first.0;
         len_is = subst (λ (m : ℕ). len ≡ continuation_len (get_or text m 0) + 1) (omega arith) first.1;
         wide = wide;
@@ -268,7 +268,7 @@ module _ (stride : Stride) (kind : ItemKind) (output : OutputState) (text : List
       (walked-at stride kind output text from before capacity (at + len + n * len) (at + suc n * len) closed count ((last +ℤ pos width) +ℤ pos (n * width)) (last +ℤ pos (suc n * width)) (more + 1 + n) width (omega (arith, ints, all)) (omega arith)
       (walked-alike n (at + len) (more + 1) (last +ℤ pos width) (alike-behind text at len n alike) next))
 
--- so many code points that are alike go on with the open run
+-- n code points that are alike go on with the open run
 pub walked-run : {stride : Stride} {text : List ℕ} {at len width : ℕ} → ((c : ℕ) → len ≡ len_utf8 c → width ≡ width_of stride c)
     → {kind : ItemKind} {output : OutputState} {from last : ℤ} {before : List Ended} {capacity count more step : ℕ} {closed : List Run} → IsWalked stride kind output text from before capacity at closed count last more step
     → ((end : ℤ) → item_of_kind kind end ≡ record { scalars = 1; end = end; error = false; output = output })
@@ -277,7 +277,7 @@ pub walked-run : {stride : Stride} {text : List ℕ} {at len width : ℕ} → ((
 walked-run {stride} {text} {at} {len} {width} wide {kind} {output} {from} {last} {before} {capacity} {count} {more} {step} {closed} held one n end end_is same alike =
     let stepped : IsWalked stride kind output text from before capacity at closed count last more width = record {
       within = held.within;
-      spelt = held.spelt;
+      valid = held.valid;
       front = held.front;
       parts = held.parts;
       place = held.place;

@@ -20,12 +20,12 @@ pub record IsSumOf (cs : List ℕ) (items : List Ended) (s : Sum) : Type 0 where
   pub cr_last : s.cr_last ≡ ends_cr false cs
   pub counted : length cs ≡ all_scalars items
 
--- what so many bytes can give: seven items more than bytes, and eight bytes of UTF-8 an item
+-- what the bytes of a sum can give: seven items more than bytes, and eight bytes of UTF-8 an item
 pub record IsBounded (s : Sum) : Type 0 where
   pub utf8 : s.utf8 ≤ 8 * s.bytes + 64
   pub errors : s.errors ≤ 8 * s.bytes + 64
 
--- what was gathered over so many bytes can be an outcome's text and items
+-- what was gathered over `bytes` bytes can be an outcome's text and items
 pub record IsDone (bytes : ℕ) (g : Gathered) : Type 0 where
   pub counted : length g.text ≡ all_scalars g.items
   pub bounded : IsBounded (sum_of bytes g.text g.items)

@@ -1,5 +1,5 @@
 -- A piece and the outcomes that it remembers.
-use Rattle.std.specs.Prelude.{◌≡◌, ℕ, ◌-◌, ◌<◌, nat_le, option_map, slice_get, Bool, List, [], ◌∷◌, take, length, Option, Some, None, if◌then◌else◌}
+use Rattle.std.specs.Prelude.{◌≡◌, ℕ, ◌-◌, ◌<◌, nat_le, option_map, slice_get, Bool, List, [], ◌∷◌, take, drop, length, Option, Some, None, if◌then◌else◌}
 use Rattle.std.specs.List.{remove, sum_by}
 use Rattle.codec.specs.declared.state.AnyState.{AnyState}
 use Rattle.codec.specs.contracts.state.AnyStatePartialEq.TheImpl as any
@@ -41,15 +41,15 @@ entered ks s = put_first (recalled ks s) ks s
 abbrev pub memory_of : List Known → ℕ
 memory_of ks = sum_by (λ (k : Known). k.outcome.memory) ks
 
--- as many of the first as take at most so many bytes together
+-- as many of the first as take at most `most` bytes together
 abbrev pub fitting : ℕ → List Known → List Known
 fitting most [] = []
 fitting most (k ∷ ks) = if nat_le k.outcome.memory most then k ∷ fitting (most - k.outcome.memory) ks else []
 
--- the first, and as many behind it as take at most so many bytes together
+-- the first, and where it takes at most `most` bytes, as many behind it as take no more together with it
 abbrev pub spared : ℕ → List Known → List Known
 spared most [] = []
-spared most (k ∷ ks) = k ∷ fitting most ks
+spared most (k ∷ ks) = k ∷ drop 1 (fitting most (k ∷ ks))
 
 -- the place of the outcome that is remembered for the state
 pub record IsSlot (ks : List Known) (s : AnyState) (i : ℕ) : Type 0 where

@@ -40,7 +40,7 @@ output_in _ = output.Ascii
 abbrev pub item_of_kind : ItemKind → ℤ → Ended
 item_of_kind kind end = record { scalars = scalars_of kind; end = end; error = error_of kind; output = output_in kind }
 
--- so many items of a kind, the last of which ends here
+-- n items of a kind, `step` bytes apart, the last of which ends at `last`
 abbrev pub items_until : ItemKind → ℕ → ℤ → ℕ → List Ended
 items_until kind step last zero = []
 items_until kind step last (suc n) = items_until kind step (last -ℤ pos step) n ++ item_of_kind kind last ∷ []

@@ -14,7 +14,7 @@ no_shape = record { step = 0; kind = AsciiOne }
 abbrev pub shapes_of : List Shape → List ℕ → List Shape
 shapes_of shapes numbers = map (λ k. get_or shapes k no_shape) numbers
 
--- there are so many shapes that each number names one
+-- each number names one of n shapes
 abbrev pub AreNamed : ℕ → List ℕ → Type 0
 AreNamed n [] = Unit {0}
 AreNamed n (k ∷ ks) = (k < n) × AreNamed n ks

@@ -12,7 +12,7 @@ use Rattle.state_memo.specs.Lines.{begins_lf}
 use Rattle.state_memo.specs.TextFacts.{marks-few, scalars-few, utf16-few, lf-counts, cr-counts}
 use Rattle.state_memo.specs.SumFacts.{no_flag, lf_joins, cr_joins}
 
--- the numbers of a part of a document: of so many bytes, with these code points and items
+-- the numbers of a part of a document: of `bytes` bytes, with these code points and items
 unfoldable pub sum_of : ℕ → List ℕ → List Ended → Sum
 sum_of bytes cs items = record {
   bytes = bytes;

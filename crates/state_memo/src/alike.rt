@@ -88,7 +88,7 @@ fn others_in_16(bytes: &[u8]) -> u64
         .to_bitmask()
 }
 
-/// How many code points at the front have so many bytes, two or more: mostly fewer than begin in
+/// How many code points at the front have `len` bytes each, two or more: mostly fewer than begin in
 /// sixteen bytes, which are seen at once.
 #[inline(always)]
 fn wide_front(bytes: &[u8], len: usize) -> u16
@@ -105,7 +105,7 @@ fn wide_front(bytes: &[u8], len: usize) -> u16
     at_most_a_run(wide_run(bytes, len, seen))
 }
 
-/// How many code points at the front have so many bytes, of those that lie in the first sixteen.
+/// How many code points at the front have `len` bytes each, of those that lie in the first sixteen.
 #[inline(always)]
 fn front_in_16(bytes: &[u8], len: usize) -> usize
     requires room { 16 ≤ length bytes.now }
@@ -130,7 +130,7 @@ fn outside_in_16(bytes: &[u8], low: u8, high: u8) -> u64
     (lanes.simd_lt(Simd::splat(low)) | lanes.simd_ge(Simd::splat(high))).to_bitmask()
 }
 
-/// A mask with a bit for each byte, of sixteen, at which one of code points of so many bytes begins.
+/// A mask with a bit for each byte, of sixteen, at which one of code points of `len` bytes begins.
 #[inline(always)]
 fn firsts_of(len: usize) -> u64
     requires { (2 ≤ len) × (len ≤ 4) }
@@ -143,7 +143,7 @@ fn firsts_of(len: usize) -> u64
     }
 }
 
-/// The first bytes of code points of so many bytes of UTF-8: from the first of these on, below the second.
+/// The first bytes of code points of `len` bytes of UTF-8: from the first of these on, below the second.
 #[inline(always)]
 fn leads_of(len: usize) -> (u8, u8)
     requires { (2 ≤ len) × (len ≤ 4) }
@@ -156,7 +156,7 @@ fn leads_of(len: usize) -> (u8, u8)
     }
 }
 
-/// How many code points at the front have so many bytes, two or more, of which some were seen.
+/// How many code points at the front have `len` bytes each, two or more, of which `seen` were seen.
 // Once in a while: the loop over the runs has the registers to itself.
 #[inline(never)]
 fn wide_run(bytes: &[u8], len: usize, seen: usize) -> usize

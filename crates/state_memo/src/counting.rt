@@ -11,8 +11,7 @@ use crate::sum::Sum;
 use lane_ascii::count_line_ends;
 use lane_utf::count_utf16_of;
 
-/// The numbers of a part of a document of so many bytes, whose text has so many code points, by two
-/// passes over the text; `erring` says whether one of the items may be an error.
+/// The numbers of a part of a document, by its length in bytes and by two passes over its text; `erring` says whether one of the items may be an error.
 pub(crate) fn sum_of(
     bytes: usize,
     text: &str,

@@ -1,5 +1,5 @@
 //! The sink in which a piece's outcome is gathered.
-ghost use Rattle.std.specs.Prelude.{◌≡◌, ◌≤◌, ◌+◌, [], ◌∷◌, ◌++◌, ◌^◌, pos, ◌+ℤ◌, ◌<ℤ◌, false, length, fold, IfOk, OnOk, OnErr};
+ghost use Rattle.std.specs.Prelude.{◌≡◌, ◌≤◌, ◌+◌, [], ◌∷◌, ◌++◌, ◌^◌, pos, ◌+ℤ◌, ◌<ℤ◌, false, length, fold, string_bytes, IfOk, OnOk, OnErr};
 ghost use Rattle.std.specs.Str.{chars};
 ghost use Rattle.decoder_core.specs.Bulk.{run_width};
 ghost use Rattle.decoder_core.specs.Text.{item_code_points};
@@ -86,7 +86,7 @@ impl Gathering {
         Ok(())
     }
 
-    /// Takes a text of so many code points whose items are one run.
+    /// Takes a text of `count` code points whose items are one run.
     fn take_run(&mut self, text: &str, count: usize, run: Run) -> Result<(), OutOfMemory>
         requires { count ≡ length (chars text.now) }
         ensures ok { OnOk result (self.new ≡ with_more self.old (chars text.now) (items_of_run run)) }
@@ -103,8 +103,8 @@ impl Gathering {
         Ok(())
     }
 
-    /// Takes a text of so many code points, which are items without gaps from that place on. Its
-    /// runs are as many at most.
+    /// Takes a text whose code points are items without gaps from a place on. It has at most as many
+    /// runs as code points.
     fn take_runs(
         &mut self,
         text: &str,
@@ -142,7 +142,7 @@ impl Gathering {
         Ok(())
     }
 
-    /// The outcome of so many bytes.
+    /// The outcome of the part of `bytes` bytes that was decoded.
     pub(crate) fn finish(self, bytes: usize, exit: AnyState) -> Result<Outcome, OutOfMemory>
         requires { IsDone bytes self }
         ensures { IfOk result (λ o. contents_of o ≡ record { text = self.text; items = self.items; exit = exit; sum = sum_of bytes self.text self.items }) }
@@ -153,9 +153,8 @@ impl Gathering {
             scalars,
             erring,
         } = self;
-        let mut written = text.finish()?;
-        written.shrink_to_fit();
-        let text = Text::new(*written.allocator(), written)?;
+        let written = text.finish()?;
+        let text = Text::new(*written.allocator(), fitted_text(written)?)?;
         let items = items.finish(bytes)?;
         let sum = sum_of(bytes, text.as_str(), scalars, &items, erring);
         let memory = sum.utf8.saturating_add(items.memory());
@@ -202,6 +201,17 @@ impl<S: Outputs> Sink<S> for Gathering {
         self.take_runs(text, count, from, stride, output)?;
         Ok(())
     }
+}
+
+/// The text in as much memory as it takes. One with room behind it is copied: a block that is cut
+/// leaves its end, which is mostly too small for what is kept next.
+fn fitted_text(text: String) -> Result<String, AllocError>
+    ensures { IfOk result (λ same. string_bytes same ≡ string_bytes text) }
+{
+    if text.capacity() == text.len() {
+        return Ok(text);
+    }
+    String::from_str(*text.allocator(), text.as_str())
 }
 
 /// Whether an item may be an error, of items of which one may be and those of this kind.

@@ -47,7 +47,7 @@ impl OpenRuns {
         }
     }
 
-    /// Makes room for the items of so many runs.
+    /// Makes room for the items of `runs` runs.
     // In the loop over the bytes.
     #[inline(always)]
     pub(crate) fn reserve(&mut self, runs: usize) -> Result<(), AllocError>
@@ -57,7 +57,7 @@ impl OpenRuns {
         self.closed.reserve(runs)
     }
 
-    /// Makes room for the items of so many runs, and where there is none yet, for those of a piece.
+    /// Makes room for the items of `runs` runs, and where there is none yet, for those of a piece.
     pub(crate) fn reserve_for(&mut self, runs: usize) -> Result<(), AllocError>
         ensures same { items_under_way self.new.closed.items self.new.last ≡ items_under_way self.old.closed.items self.old.last }
         ensures room { OnOk result (vec_len self.new.closed + runs ≤ vec_capacity self.new.closed) }
@@ -172,9 +172,18 @@ impl OpenRuns {
         {
             return ItemRuns::single(alloc, singles);
         }
-        runs.shrink_to_fit();
-        ItemRuns::listed(alloc, runs)
+        ItemRuns::listed(alloc, fitted_runs(runs)?)
     }
+}
+
+/// The runs in as much memory as they take. Those with room behind them are copied, as a text is.
+fn fitted_runs(runs: Vec<Run>) -> Result<Vec<Run>, AllocError>
+    ensures { IfOk result (λ same. same.items ≡ runs.items) }
+{
+    if runs.capacity() == runs.len() {
+        return Ok(runs);
+    }
+    Vec::from_slice(*runs.allocator(), runs.as_slice())
 }
 
 /// How items are kept: in runs, or one by one where these are short.
@@ -298,7 +307,7 @@ impl ItemRuns {
         }
     }
 
-    /// The number of the item that has code point number `n`, where there are so many.
+    /// The number of the item that has code point number `n`, if any has.
     pub(crate) fn item_of(&self, n: u64) -> Option<u64>
         requires { all_scalars self.now < 2 ^ 64 }
         ensures { result ≡ item_of self.now n }

@@ -79,7 +79,7 @@ impl Clone for Text {
 }
 
 /// What a piece decodes to from a state. Its facts are that the numbers are those of the text and
-/// the items, that these aren't more than so many bytes can give, and that it takes the memory of its
+/// the items, that these aren't more than the piece's bytes can give, and that it takes the memory of its
 /// text at least.
 #[derive(Drop)]
 pub struct Outcome {

@@ -12,7 +12,7 @@ use decoder_core::Stride;
 use iso2022jp::OutputState;
 use lane_utf::count_scalars;
 
-/// How many code points a text has whose items have so many bytes together.
+/// How many code points a text has whose items have `width` bytes together.
 pub(crate) fn count_of(text: &str, width: usize, stride: Stride) -> usize
     requires { width ≡ run_width stride (chars text.now) }
     ensures { result ≡ length (chars text.now) }
@@ -23,8 +23,8 @@ pub(crate) fn count_of(text: &str, width: usize, stride: Stride) -> usize
     }
 }
 
-/// The run of so many items of so many bytes together that are the code points of a text, where each
-/// is as long as the others; the last one ends there.
+/// The run of `count` items of `width` bytes together that are the code points of a text, where all
+/// are of one length; the last one ends at the text's end.
 pub(crate) fn even_run(
     count: usize,
     width: usize,
@@ -46,7 +46,7 @@ pub(crate) fn even_run(
     })
 }
 
-/// The length of each of so many items of so many bytes together, where all are as short as can be, or
+/// The common length of `count` items of `width` bytes together, where all are as short as can be, or
 /// as long.
 fn even_width(count: usize, width: usize, stride: Stride) -> Option<u8>
     ensures { (cs : List ℕ) → count ≡ length cs → width ≡ run_width stride cs
@@ -71,7 +71,7 @@ fn is_twice(number: usize, half: usize) -> bool
     number % 2 == 0 && number / 2 == half
 }
 
-/// Where the first of the items begins that have so many bytes together.
+/// Where the first of items begins that have `width` bytes together and end at `end`.
 pub(crate) fn first_place(width: usize, end: i64) -> Option<i16>
     ensures from { IfSome result (λ from. from ≡ end -ℤ pos width) }
     ensures fits { IfSome result (λ from. (from +ℤ pos width) <ℤ pos (2 ^ 15)) }

@@ -19,7 +19,7 @@ pub struct Run {
     pub kind: ItemKind,
 }
 
-/// The end of an item so long behind one that ends there.
+/// The end of an item of `width` bytes behind one that ends at `last`.
 // In the loop over the bytes.
 #[inline(always)]
 pub(crate) fn end_behind(last: i16, width: u8) -> i16
@@ -29,7 +29,7 @@ pub(crate) fn end_behind(last: i16, width: u8) -> i16
     last + i16::from(width)
 }
 
-/// The end of the last of so many items so long each, behind one that ends there.
+/// The end of the last of `count` items of `width` bytes each, behind one that ends at `last`.
 // In the loop over the bytes.
 #[inline(always)]
 pub(crate) fn end_behind_all(last: i16, count: u16, width: u8) -> i16
@@ -39,8 +39,8 @@ pub(crate) fn end_behind_all(last: i16, count: u16, width: u8) -> i16
     (i32::from(last) + i32::from(count) * i32::from(width)) as i16
 }
 
-/// Whether an item so long goes on with a run: with any where one item stands, since the next says
-/// how far apart they end.
+/// Whether an item of `width` bytes goes on with a run: with one of a single item any does, since the
+/// second says how far apart they end.
 // In the loop over the bytes.
 #[inline(always)]
 pub(crate) fn goes_on(more: u16, step: u8, width: u8) -> bool
@@ -68,7 +68,7 @@ impl Run {
         }
     }
 
-    // The end of the item behind which so many stand.
+    // The end of the item behind which `behind` more stand.
     #[inline(always)]
     fn end_at(self, behind: u64) -> i64
         requires { behind ≤ self.more }
@@ -203,7 +203,7 @@ impl Run {
         (u64::from(more) + 1).saturating_sub(run.past(limit)) * u64::from(kind.scalars())
     }
 
-    /// The number of the item that has code point number `n`, where there are so many.
+    /// The number of the item that has code point number `n`, if any has.
     pub fn item_of(self, n: u64) -> Option<u64>
         ensures some { IfSome result (λ k. item_of (items_of_run self) n ≡ Some k) }
         ensures none { IfNone result (all_scalars (items_of_run self) ≤ n) }

@@ -1,5 +1,5 @@
 //! Runs one after the other.
-ghost use Rattle.std.specs.Prelude.{◌≡◌, drop, slice_get};
+ghost use Rattle.std.specs.Prelude.{◌≡◌, drop, slice_get, IfSome};
 
 use crate::run::Run;
 use crate::single_runs::SingleRuns;
@@ -23,7 +23,7 @@ impl<'r> Model for Runs<'r> {
 
 impl<'r> Runs<'r> {
     /// These runs.
-    pub(crate) fn listed(runs: &'r [Run]) -> Runs<'r>
+    pub fn listed(runs: &'r [Run]) -> Runs<'r>
         ensures { result ≡ runs.now }
     {
         Runs {
@@ -39,6 +39,19 @@ impl<'r> Runs<'r> {
         Runs {
             listed: &[],
             singles,
+        }
+    }
+
+    /// Those that are left as a slice, where they are in one: a walk over it is shorter.
+    // Once for a walk.
+    #[inline(always)]
+    pub fn as_listed(&self) -> Option<&'r [Run]>
+        ensures { IfSome result (λ runs. self.now ≡ runs.now) }
+    {
+        if self.singles.is_done() {
+            Some(self.listed)
+        } else {
+            None
         }
     }
 

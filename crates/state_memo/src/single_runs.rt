@@ -1,5 +1,5 @@
 //! Runs of items that are kept one by one.
-ghost use Rattle.std.specs.Prelude.{◌≡◌, ◌^◌, [], drop, length, slice_get, pos, ◌+ℤ◌, ◌<ℤ◌};
+ghost use Rattle.std.specs.Prelude.{◌≡◌, ◌^◌, [], true, drop, length, slice_get, pos, ◌+ℤ◌, ◌<ℤ◌};
 ghost use Rattle.state_memo.specs.Singles.{AreNamed, all_steps, shapes_of, single_runs};
 
 use crate::run::{Run, end_behind};
@@ -54,6 +54,14 @@ impl<'r> SingleRuns<'r> {
             numbers: &[],
             end: 0,
         }
+    }
+
+    /// Whether none is left.
+    #[inline(always)]
+    pub(crate) fn is_done(&self) -> bool
+        ensures { result ≡ true → self.now ≡ [] }
+    {
+        self.numbers.is_empty()
     }
 
     /// The first one.

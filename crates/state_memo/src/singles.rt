@@ -40,17 +40,29 @@ impl Model for Singles {
     } };
 }
 
+/// How many items these runs have, so that there is room for them at once.
+fn items_in(runs: &[Run]) -> usize {
+    let mut count: usize = 0;
+    'runs: for run in runs {
+        count = count
+            .saturating_add(usize::from(run.more))
+            .saturating_add(1);
+    }
+    count
+}
+
 impl Singles {
-    /// No item, where the first one's step is counted from there.
-    fn new(alloc: Global, from: i16) -> Singles
-        ensures { result ≡ [] }
+    /// No item, with room for `count`, where the first one's step is counted from there.
+    fn with_room(alloc: Global, count: usize, from: i16) -> Option<Singles>
+        ensures { IfSome result (λ singles. singles ≡ []) }
     {
-        Singles {
+        let numbers = Vec::with_capacity(alloc, count).ok()?;
+        Some(Singles {
             shapes: Vec::new(alloc),
-            numbers: Vec::new(alloc),
+            numbers,
             from,
             last: from,
-        }
+        })
     }
 
     /// The items of runs, where there is memory for them, no step is too long, and shapes are few.
@@ -58,11 +70,10 @@ impl Singles {
         ensures { IfSome result (λ singles. singles ≡ items_of_runs runs.now) }
     {
         let from = i16::try_from(runs.first()?.item(0)?.end).ok()?;
-        let mut singles = Singles::new(alloc, from);
+        let mut singles = Singles::with_room(alloc, items_in(runs), from)?;
         'runs: for run in runs {
             singles.put_run(*run)?;
         }
-        singles.shrink();
         Some(singles)
     }
 
@@ -89,14 +100,6 @@ impl Singles {
         self.numbers.push_reserved(number);
         self.last = last;
         Some(())
-    }
-
-    /// Gives back the memory that isn't needed.
-    fn shrink(&mut self)
-        ensures { self.new ≡ self.old }
-    {
-        self.shapes.shrink_to_fit();
-        self.numbers.shrink_to_fit();
     }
 
     /// How many bytes of memory they take.

@@ -8,8 +8,8 @@ impl Doc<'_> {
     ghost use Rattle.piece_rope.specs.Bounds.{HasFew};
     ghost use Rattle.piece_rope.specs.Edits.{document_limit};
 
-    /// The document's bytes are within the limit (`bytes`), and its numbers within what so many
-    /// bytes can give (`text`). The call does nothing.
+    /// The document's bytes are within the limit (`bytes`), and its numbers within what as many
+    /// bytes can give at most (`text`). The call does nothing.
     pub fn law_bounds(&self)
         ensures bytes { length self.now.bytes ≤ document_limit }
         ensures text { HasFew self.now }

@@ -1,21 +1,21 @@
 use Rattle.piece_rope.proofs.Prelude.{◌≡◌, ap, ◌∙◌, rules, Some, None, Contents, Memo, any, feed, recalled, entered, installed, outcome_of, Entry}
 use Rattle.state_memo.specs.Memo.{spared}
-use Rattle.piece_rope.specs.Room.{pared, room_in}
+use Rattle.piece_rope.specs.Room.{piece_room}
 use Rattle.piece_rope.proofs.Chaining.{laws_of}
-use Rattle.piece_rope.proofs.Remembering.{own-pared, own-computed, exit-recalled, known-computed, known-pared, made-spared, renewed-computed, renewed-pared}
+use Rattle.piece_rope.proofs.Remembering.{own-shared, own-computed, exit-recalled, known-computed, known-shared, made-spared, renewed-computed, renewed-shared}
 use Rattle.piece_rope.proofs.entered.Entered.renewed.Goals as goal
 
 pub returns-in-Some-clause-renewed : goal.returns-in-Some-clause-renewed
 returns-in-Some-clause-renewed c =
     let found : recalled c.args.self.now.piece.known c.args.entry ≡ Some c.in-Some.outcome.now = search rules in
-    let is : c.in_ok-shared.shared.value ≡ pared c.args.self.now c.args.entry = search rules in
-    renewed-pared c.args.decoder.now (laws_of c.args.decoder.now c.requires.lawful) c.args.self.now c.in_ok-shared.shared.value c.args.entry c.in-Some.outcome.now found is
+    let is : c.in_ok-shared.shared.value ≡ c.args.self.now.piece = search rules in
+    renewed-shared c.args.decoder.now (laws_of c.args.decoder.now c.requires.lawful) c.args.self.now c.in_ok-shared.shared.value c.args.entry c.in-Some.outcome.now found is
 
 pub returns-in-Some-clause-own : goal.returns-in-Some-clause-own
 returns-in-Some-clause-own c =
     let found : recalled c.args.self.now.piece.known c.args.entry ≡ Some c.in-Some.outcome.now = search rules in
-    let is : c.in_ok-shared.shared.value ≡ pared c.args.self.now c.args.entry = search rules in
-    own-pared c.args.decoder.now (laws_of c.args.decoder.now c.requires.lawful) c.args.self.now c.in_ok-shared.shared.value c.args.entry c.in-Some.outcome.now c.requires.own found is
+    let is : c.in_ok-shared.shared.value ≡ c.args.self.now.piece = search rules in
+    own-shared c.args.decoder.now (laws_of c.args.decoder.now c.requires.lawful) c.args.self.now c.in_ok-shared.shared.value c.args.entry c.in-Some.outcome.now c.requires.own found is
 
 pub returns-in-Some-clause-exit : goal.returns-in-Some-clause-exit
 returns-in-Some-clause-exit c =
@@ -33,20 +33,20 @@ returns-clause-exit c =
 
 -- what the piece is that was computed
 made : (c : goal.In_ok-piece-2) → c.in_ok-piece-2.piece.value
-    ≡ record { bytes = c.args.self.now.piece.bytes; known = spared (room_in c.args.self.now.piece.bytes) (installed (entered c.args.self.now.piece.known c.args.self.now.entry) c.args.entry c.in_ok-outcome.outcome) }
+    ≡ record { bytes = c.args.self.now.piece.bytes; known = spared (piece_room c.args.self.now.piece.bytes) (installed (entered c.args.self.now.piece.known c.args.self.now.entry) c.args.entry c.in_ok-outcome.outcome) }
 made c =
     let is : c.in_ok-piece.piece ≡ c.args.self.now.piece = search rules in
     let from = ap (λ (x : Entry). x.entry) c.self.view_is in
     let moved : c.move_first.new.self ≡ record { bytes = c.args.self.now.piece.bytes; known = entered c.args.self.now.piece.known c.args.self.now.entry } = cc in
-    let room : c.room_in.result ≡ room_in c.args.self.now.piece.bytes = c.room_in.ensures ∙ ap room_in c.bytes.ensures in
+    let room : c.room_in.result ≡ piece_room c.args.self.now.piece.bytes = c.room_in.ensures ∙ ap piece_room c.bytes.ensures in
     made-spared c.move_first.new.self c.install.new.self c.forget.new.self c.in_ok-piece-2.piece.value c.args.self.now.piece.bytes
     (entered c.args.self.now.piece.known c.args.self.now.entry) c.args.entry c.in_ok-outcome.outcome c.room_in.result moved c.install.ensures room c.forget.ensures c.in_ok-piece-2.ensures.ok
 
 pub invariant_of-result : goal.invariant_of-result
 invariant_of-result c =
     let found : recalled c.args.self.now.piece.known c.args.entry ≡ Some c.in-Some.outcome.now = search rules in
-    let is : c.in_ok-shared.shared.value ≡ pared c.args.self.now c.args.entry = search rules in
-    known-pared c.args.decoder.now (laws_of c.args.decoder.now c.requires.lawful) c.args.self.now c.in_ok-shared.shared.value c.args.entry c.in-Some.outcome.now found is
+    let is : c.in_ok-shared.shared.value ≡ c.args.self.now.piece = search rules in
+    known-shared c.args.decoder.now (laws_of c.args.decoder.now c.requires.lawful) c.args.self.now c.in_ok-shared.shared.value c.args.entry c.in-Some.outcome.now found is
 
 pub invariant_of-result-2 : goal.invariant_of-result-2
 invariant_of-result-2 c =

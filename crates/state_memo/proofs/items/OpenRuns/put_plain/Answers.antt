@@ -62,27 +62,27 @@ items-init c =
 
 pub push_reserved-requires : goal.push_reserved-requires
 push_reserved-requires c =
-    walked-some (item-at c.widths_of-widths.result c.widths_of-widths.ensures c.as_bytes-bytes.ensures.value c.items-test.true c.items.invariant.spelt refl) _ _ c.items.invariant.room
+    walked-some (item-at c.widths_of-widths.result c.widths_of-widths.ensures c.as_bytes-bytes.ensures.value c.items-test.true c.items.invariant.valid refl) _ _ c.items.invariant.room
 
 pub end_behind-last-requires-in-items : goal.end_behind-last-requires-in-items
 end_behind-last-requires-in-items c =
-    let here = item-at c.widths_of-widths.result c.widths_of-widths.ensures c.as_bytes-bytes.ensures.value c.items-test.true c.items.invariant.spelt c.scalar_len-len.ensures in
+    let here = item-at c.widths_of-widths.result c.widths_of-widths.ensures c.as_bytes-bytes.ensures.value c.items-test.true c.items.invariant.valid c.scalar_len-len.ensures in
     walked-fits here c.items.invariant _ _ (to_z-of_z {w = w16} c.ranges.from) c.requires.fits
 
 pub overflow_add-at-in-items : goal.overflow_add-at-in-items
 overflow_add-at-in-items c =
-    let within = next-within (item-at c.widths_of-widths.result c.widths_of-widths.ensures c.as_bytes-bytes.ensures.value c.items-test.true c.items.invariant.spelt c.scalar_len-len.ensures) in
+    let within = next-within (item-at c.widths_of-widths.result c.widths_of-widths.ensures c.as_bytes-bytes.ensures.value c.items-test.true c.items.invariant.valid c.scalar_len-len.ensures) in
     search (rules, within)
 
 pub alike_at-behind-requires : goal.alike_at-behind-requires
 alike_at-behind-requires c =
-    let within = next-within (item-at c.widths_of-widths.result c.widths_of-widths.ensures c.as_bytes-bytes.ensures.value c.items-test.true c.items.invariant.spelt c.scalar_len-len.ensures) in
+    let within = next-within (item-at c.widths_of-widths.result c.widths_of-widths.ensures c.as_bytes-bytes.ensures.value c.items-test.true c.items.invariant.valid c.scalar_len-len.ensures) in
     search (rules, within)
 
 pub end_behind_all-last-requires-in-items : goal.end_behind_all-last-requires-in-items
 end_behind_all-last-requires-in-items c =
     let begun =
-    walked-new (item-at c.widths_of-widths.result c.widths_of-widths.ensures c.as_bytes-bytes.ensures.value c.items-test.true c.items.invariant.spelt c.scalar_len-len.ensures) c.items.invariant c.one-kind.ensures
+    walked-new (item-at c.widths_of-widths.result c.widths_of-widths.ensures c.as_bytes-bytes.ensures.value c.items-test.true c.items.invariant.valid c.scalar_len-len.ensures) c.items.invariant c.one-kind.ensures
     (to_z w16 (of_z w16 c.end_behind-last-in-items.result)) (search rules) _ _ _ _ refl c.push_reserved.ensures.items c.push_reserved.ensures.len c.push_reserved.ensures.capacity in
     walked-below
     (walked-from (wide-of c.args.stride c.widths_of-widths.result c.widths_of-widths.ensures) begun c.one-kind.ensures c.alike_at-behind.result.count _ refl
@@ -92,7 +92,7 @@ end_behind_all-last-requires-in-items c =
 pub overflow_add-at-in-items-2 : goal.overflow_add-at-in-items-2
 overflow_add-at-in-items-2 c =
     let begun =
-    walked-new (item-at c.widths_of-widths.result c.widths_of-widths.ensures c.as_bytes-bytes.ensures.value c.items-test.true c.items.invariant.spelt c.scalar_len-len.ensures) c.items.invariant c.one-kind.ensures
+    walked-new (item-at c.widths_of-widths.result c.widths_of-widths.ensures c.as_bytes-bytes.ensures.value c.items-test.true c.items.invariant.valid c.scalar_len-len.ensures) c.items.invariant c.one-kind.ensures
     (to_z w16 (of_z w16 c.end_behind-last-in-items.result)) (search rules) _ _ _ _ refl c.push_reserved.ensures.items c.push_reserved.ensures.len c.push_reserved.ensures.capacity in
     let within = (walked-from {len = c.alike_at-behind.result.len} (wide-of c.args.stride c.widths_of-widths.result c.widths_of-widths.ensures) begun c.one-kind.ensures c.alike_at-behind.result.count _ refl
     (alike-in _ c.args.text.now _ _ c.alike_at-behind.result.count c.alike_at-behind.result.count _ c.as_bytes-bytes.ensures.value (omega arith) c.alike_at-behind.ensures.alike)).within in
@@ -101,7 +101,7 @@ overflow_add-at-in-items-2 c =
 pub items-preserved : goal.items-preserved
 items-preserved c =
     let begun =
-    walked-new (item-at c.widths_of-widths.result c.widths_of-widths.ensures c.as_bytes-bytes.ensures.value c.items-test.true c.items.invariant.spelt c.scalar_len-len.ensures) c.items.invariant c.one-kind.ensures
+    walked-new (item-at c.widths_of-widths.result c.widths_of-widths.ensures c.as_bytes-bytes.ensures.value c.items-test.true c.items.invariant.valid c.scalar_len-len.ensures) c.items.invariant c.one-kind.ensures
     (to_z w16 (of_z w16 c.end_behind-last-in-items.result)) (search rules) _ _ _ _ refl c.push_reserved.ensures.items c.push_reserved.ensures.len c.push_reserved.ensures.capacity in
     walked-joined (walked-from {len = c.alike_at-behind.result.len} (wide-of c.args.stride c.widths_of-widths.result c.widths_of-widths.ensures) begun c.one-kind.ensures c.alike_at-behind.result.count _ refl
     (alike-in _ c.args.text.now _ _ c.alike_at-behind.result.count c.alike_at-behind.result.count _ c.as_bytes-bytes.ensures.value (omega arith) c.alike_at-behind.ensures.alike)) _ _ _ _ (search rules) (search rules) (search rules) (search rules)

@@ -1,6 +1,6 @@
 use Rattle.std.proofs.Common.{◌≡◌, drop, length}
 use Rattle.piece_rope.proofs.Prelude.{items_of_runs, errors_at}
-use Rattle.piece_rope.proofs.error_cursor.go_to.Given as goal
+use Rattle.piece_rope.proofs.error_cursor.go_on_to.Given as goal
 
 abbrev pub invariant-runs : goal.invariant-runs
 invariant-runs l = drop l.left (errors_at l.base l.begin (items_of_runs l.runs)) ≡ drop l.n (errors_at l.base l.from (items_of_runs l.initial.runs))

@@ -2,7 +2,7 @@ use Rattle.std.proofs.Common.{◌-◌, ap, sym, ◌∙◌, ℕ, List, drop, arit
 use Rattle.state_memo.specs.declared.run.Run.{Run}
 use Rattle.piece_rope.proofs.Prelude.{items_of_runs, errors_at}
 use Rattle.piece_rope.proofs.Erring.{run-passed-at}
-use Rattle.piece_rope.proofs.error_cursor.go_to.Goals as goal
+use Rattle.piece_rope.proofs.error_cursor.go_on_to.Goals as goal
 
 pub runs-preserved : goal.runs-preserved
 runs-preserved c =

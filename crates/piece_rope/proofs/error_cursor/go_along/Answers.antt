@@ -1,0 +1,15 @@
+use Rattle.std.proofs.Common.{◌-◌, ap, sym, ◌∙◌, ℕ, List, drop, slice_get, arith, rules}
+use Rattle.state_memo.specs.declared.run.Run.{Run}
+use Rattle.piece_rope.proofs.Prelude.{items_of_runs, errors_at}
+use Rattle.piece_rope.proofs.Erring.{run-passed-at}
+use Rattle.piece_rope.proofs.error_cursor.go_along.Goals as goal
+
+pub runs-preserved : goal.runs-preserved
+runs-preserved c =
+    let cut = c.in-Some.ensures.cases.0 in
+    let begin = c.saturating_add_signed-begin.result in
+    let left = c.runs.left - c.errors-count.result in
+    ap (λ (rs : List Run). drop left (errors_at c.args.base begin (items_of_runs rs))) (sym (ap (λ (rs : List Run). drop 1 rs) cut))
+    ∙ run-passed-at c.args.base c.runs.begin c.runs.left c.runs.rest.now c.in-Some.run'.now (ap (λ (rs : List Run). slice_get rs 0) cut) begin left
+    (ap (λ (n : ℕ). c.runs.left - n) c.errors-count.ensures) (omega (arith, c.if-left-count.false, c.errors-count.ensures)) (search rules)
+    ∙ c.runs.invariant
