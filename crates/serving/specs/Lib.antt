@@ -1,2 +1,4 @@
 pub mod Acting
+pub mod Polls
 pub mod Resting
+pub mod Spins

@@ -6,9 +6,11 @@ mod listener;
 mod lock;
 mod peer;
 mod peers;
+mod polls;
 mod serve;
 mod server;
 mod socket_file;
+mod spin;
 
 pub use listener::Place;
 pub use serve::{ServingFault, serve_clients};

@@ -1,16 +1,21 @@
 //! The loop: who takes a step, and when there is nothing to do but wait.
-ghost use Rattle.std.specs.Prelude.{◌≡◌, ◌≢◌, ◌⊎◌, ◌*◌, ◌<◌, ◌≤◌, true, false, ℕ, Ok, Err, None, Some, is_some, replicate, IfOk, OnOk, OnErr, IsNone, IsSome};
+ghost use Rattle.std.specs.Prelude.{◌≡◌, ◌≢◌, ◌⊎◌, ◌*◌, ◌<◌, ◌≤◌, ◌∷◌, [], ◌++◌, true, false, ℕ, Ok, Err, None, Some, is_some, replicate, IfOk, OnOk, OnErr, IsNone, IsSome};
 ghost use Rattle.std.specs.Duration.{as_nanos};
 ghost use Rattle.connections.specs.Events.{connections};
 ghost use Rattle.sessions.specs.Sessions.{Hall, client_at};
 ghost use Rattle.serving.specs.declared.server.TheConstants.{RETRY_SECONDS};
 ghost use Rattle.serving.specs.Acting.{Acted, ActedOf, ByActsOf, Came, Stepped, Went, limits_behind};
+ghost use Rattle.serving.specs.Polls.{at_once, nanos, waits_of};
 ghost use Rattle.serving.specs.Resting.{AllRest, AreNone, Ends, NoMore, OthersKept, RestBelow, RestsOn, Seated, WaitsAtMost, WaitsFor, WaitsSome, peer_at};
+ghost use Rattle.serving.specs.Spins.{Asks, Finds, Waits};
+ghost use Rattle.serving.specs.declared.spin.TheConstants.{SPINS};
 
 use crate::listener::Listener;
 use crate::peer::Peer;
 use crate::peers::Peers;
+use crate::polls::Polls;
 use crate::serve::{ServingFault, fault_of};
+use crate::spin::{SPINS, Spin};
 use connections::{CONNECTIONS, KeepsEvents};
 use mio::{Events, Poll, Token};
 use sessions::{Advance, JoinFault, Sessions, law_acts_in_a_row};
@@ -80,6 +85,10 @@ pub struct Server {
     limits: Limits,
     /// Since when no client is there, once that was looked at.
     alone_since: Option<Instant>,
+    /// When it spins before it sleeps.
+    spin: Spin,
+    /// How long each poll may wait, for contracts alone.
+    polls: Polls,
 }
 
 impl Server {
@@ -105,6 +114,8 @@ impl Server {
             is_unkept: false,
             limits,
             alone_since: None,
+            spin: Spin::new(),
+            polls: Polls::Empty,
         })
     }
 
@@ -366,12 +377,54 @@ impl Server {
         }
     }
 
-    /// Waits until something is new, at most so long, and notes what is.
+    /// Waits until something is new, at most so long, and notes what is. Where it may sleep without a
+    /// limit it may spin before: a client that was just answered often sends its next command sooner
+    /// than a server that sleeps is awake.
     fn wait(&mut self, most: Option<Duration>) -> Result<(), ServingFault>
+        ensures waits { OnOk result (Waits (nanos most) self.old self.new) }
         ensures fault { result ≢ Err ServingFault.Accept }
         ensures seated { (h : Hall) → Seated self.old.peers h → Seated self.new.peers h }
         ensures limits { self.new.limits ≡ self.old.limits }
     {
+        if most.is_some() || !self.spin.is_due() {
+            return self.ask(most);
+        }
+        let found = self.spins()?;
+        self.spin.note(found);
+        if found {
+            return Ok(());
+        }
+        self.ask(None)
+    }
+
+    /// Asks the system what is new without waiting, as often as it may, until something is, and returns
+    /// whether something was.
+    fn spins(&mut self) -> Result<bool, ServingFault>
+        ensures found { result ≡ Ok true → Finds self.old self.new }
+        ensures vain { result ≡ Ok false → waits_of self.new.polls ≡ waits_of self.old.polls ++ at_once SPINS }
+        ensures spin { self.new.spin ≡ self.old.spin }
+        ensures fault { result ≢ Err ServingFault.Accept }
+        ensures seated { (h : Hall) → Seated self.old.peers h → Seated self.new.peers h }
+        ensures limits { self.new.limits ≡ self.old.limits }
+    {
+        for _ in 0..SPINS {
+            self.ask(Some(Duration::from_secs(0)))?;
+            if !self.events.is_empty() {
+                return Ok(true);
+            }
+        }
+        Ok(false)
+    }
+
+    /// Asks the system what is new, waits for it at most so long, and notes what is.
+    fn ask(&mut self, most: Option<Duration>) -> Result<(), ServingFault>
+        ensures asks { Asks (nanos most) self.old self.new }
+        ensures spin { self.new.spin ≡ self.old.spin }
+        ensures fault { result ≢ Err ServingFault.Accept }
+        ensures seated { (h : Hall) → Seated self.old.peers h → Seated self.new.peers h }
+        ensures limits { self.new.limits ≡ self.old.limits }
+    {
+        self.polls.push(most);
         if let Err(error) = self.poll.poll(&mut self.events, most) {
             return Err(fault_of(&error, ServingFault::Poll));
         }

@@ -1,0 +1,23 @@
+-- How long calls that ask the system what is new may wait.
+use Rattle.std.specs.Prelude.{ℕ, List, [], ◌∷◌, ◌++◌, Option, Some, replicate}
+use Rattle.std.specs.Option.{option_map}
+use Rattle.std.specs.Duration.{as_nanos}
+use Rattle.std.specs.declared.time.Duration.{Duration}
+use Rattle.serving.specs.declared.polls.Polls.{Polls, fold-Polls}
+use Rattle.serving.specs.declared.polls.Polls.TheOpen.{Polls-F}
+
+-- so long, in nanoseconds, or without a limit
+abbrev pub nanos : Option Duration → Option ℕ
+nanos most = option_map as_nanos most
+
+abbrev one_more : Polls-F (List (Option ℕ)) → List (Option ℕ)
+one_more Polls-F.Empty = []
+one_more (Polls-F.Then before most) = before.value ++ nanos most.value ∷ []
+
+-- how long each may wait, the first at the front
+abbrev pub waits_of : Polls → List (Option ℕ)
+waits_of = fold-Polls (List (Option ℕ)) one_more
+
+-- so many that don't wait
+abbrev pub at_once : ℕ → List (Option ℕ)
+at_once n = replicate n (Some 0)
